@@ -1,0 +1,93 @@
+-- The answer to each question about a sheet, for every sequence of bytes and every room; the board's output.
+-- Document 01, "Refusals in checking order" and "Text".
+use Prim.Native.Nat.{ℕ}
+use mathlib.Core.Bool.{Bool, _||_}
+use mathlib.Core.List.{List, [], _∷_, _++_}
+use lib.ListN.{length}
+use lib.Dec.{ltb, leb}
+use Rattle.definitions.specs.declared.Refusal.{Refusal}
+use Rattle.definitions.specs.declared.Style.{Style}
+use Rattle.definitions.specs.declared.Style.the-variants.{Plain}
+use Rattle.definitions.specs.Outcome.{Outcome, refused, accepted, _>>=_, mapOutcome, refuseIf}
+use Rattle.definitions.specs.Utf8.{utf8}
+use Rattle.definitions.specs.Name.{Name}
+use Rattle.definitions.specs.Prop.{Prop, AtomUse, renameProp}
+use Rattle.definitions.specs.Sheet.{nameOf, goal, steps}
+use Rattle.definitions.specs.Tree.{propOf, conclusionOf, ProofTreeConclusion, renameConclusion}
+use Rattle.definitions.specs.Admission.{admitted}
+use Rattle.definitions.specs.Term.{ProofTerm, renameTerm, annotationCount, atomList, datatypeList}
+use Rattle.definitions.specs.Export.{export, checking}
+use Rattle.definitions.specs.Text.{text, decimal}
+use Rattle.definitions.specs.Comparison.{conclusionAlphaEq}
+
+-- an atom list in numbers: name number and parameter count for each atom
+unfoldable pub atomNumbers : List (AtomUse ℕ) → List ℕ
+atomNumbers [] = []
+atomNumbers (a ∷ uses) = a .name ∷ a .count ∷ atomNumbers uses
+
+-- 16: the lent output is shorter than the answer, judged last
+unfoldable pub inRoom : ℕ → Outcome (List ℕ) → Outcome (List ℕ)
+inRoom room outcome = do
+  a ← outcome
+  _ ← refuseIf (ltb room (length a)) 16 0
+  accepted a
+
+-- the board program lends so many bytes
+unfoldable pub boardRoom : ℕ
+boardRoom = 65536
+
+-- `refused R at P` and a newline
+unfoldable pub refusalLine : Refusal → List ℕ
+refusalLine r = utf8 "refused " ++ (decimal (r .number) ++ (utf8 " at " ++ (decimal (r .place) ++ utf8 "\n")))
+
+unfoldable pub printed : Outcome (List ℕ) → List ℕ
+printed (refused r) = refusalLine r
+printed (accepted a) = a
+
+-- Of a sheet's bytes:
+module _ (s : List ℕ) where
+  -- the sheet's term over its names' numbers, or the first of refusals 1 to 15: the root's place is checking
+  unfoldable pub sheetTerm : Outcome (ProofTerm ℕ)
+  sheetTerm = do
+    root ← admitted s
+    export root checking
+
+  -- the same term over names as bytes
+  unfoldable pub namedTerm : Outcome (ProofTerm Name)
+  namedTerm = mapOutcome (renameTerm (nameOf s)) sheetTerm
+
+  unfoldable pub goalProp : Prop Name
+  goalProp = renameProp (nameOf s) (propOf s (goal s))
+
+  -- the text, given room
+  unfoldable pub sheetText : Style → Outcome (List ℕ)
+  sheetText style = mapOutcome (λ t. text style t goalProp) namedTerm
+
+  -- the plain text and the strict text in a room of bytes
+  unfoldable pub textAnswer : Style → ℕ → Outcome (List ℕ)
+  textAnswer style room = inRoom room (sheetText style)
+
+  -- the lists, without the goal's entries, in a room of numbers
+  unfoldable pub atomsAnswer : ℕ → Outcome (List ℕ)
+  atomsAnswer room = inRoom room (mapOutcome (λ t. atomNumbers (atomList t)) sheetTerm)
+
+  unfoldable pub datatypesAnswer : ℕ → Outcome (List ℕ)
+  datatypesAnswer room = inRoom room (mapOutcome datatypeList sheetTerm)
+
+  -- the label count
+  unfoldable pub labelCount : Outcome ℕ
+  labelCount = mapOutcome annotationCount sheetTerm
+
+  unfoldable pub namedConclusion : ℕ → ProofTreeConclusion Name
+  namedConclusion k = renameConclusion (nameOf s) (conclusionOf s k)
+
+  -- the comparison of two steps' conclusions; 17: it names a step not below S
+  unfoldable pub comparison : ℕ → ℕ → Outcome Bool
+  comparison i j = do
+    _ ← admitted s
+    _ ← refuseIf (leb (steps s) i || leb (steps s) j) 17 0
+    conclusionAlphaEq (namedConclusion i) (namedConclusion j)
+
+  -- what the board program prints
+  unfoldable pub boardOutput : List ℕ
+  boardOutput = printed (textAnswer Plain boardRoom)

@@ -1,0 +1,84 @@
+-- Comparison as the Rust decides it (source documents 002 and 005), with refusals 18 and 19 where it panics, stopping at a no.
+-- Document 01, "Refusals in checking order".
+use Prim.Native.Nat.{ℕ}
+use mathlib.Core.Bool.{Bool, true, false, _&&_, _||_, not, cond}
+use mathlib.Core.Option.{Option, none, some}
+use mathlib.Core.List.{List, [], _∷_}
+use lib.ListN.{length}
+use lib.Dec.{eqb}
+use Rattle.definitions.specs.Outcome.{Outcome, refused, accepted, refuse, _>>=_, refuseIf}
+use Rattle.definitions.specs.Name.{Name, eqName}
+use Rattle.definitions.specs.Prop.{Prop, True, False, Binary, Atom, Quantified, PropParameter, Uninstantiated, Instantiated, Connective, eqConnective, Quantifier, eqQuantifier, Sides, Applied, Scope, isTrue, isFalse, asBinary, asAtom, asQuantified}
+use Rattle.definitions.specs.Tree.{Identifier, ProofTreeConclusion, PropIsTrue, TypeJudgement}
+
+unfoldable pub no : Outcome Bool
+no = accepted false
+
+-- goes on after a yes only: after a no the other side is not visited
+unfoldable pub andAlso : Outcome Bool → Outcome Bool → Outcome Bool
+andAlso (refused r) rest = refused r
+andAlso (accepted true) rest = rest
+andAlso (accepted false) rest = no
+
+-- two bound objects that stand for each other, the left proposition's and the right's
+pub record Binding : Type 0 where
+  pub left : Name
+  pub right : Name
+
+-- two uninstantiated parameters, by the latest binding that has either; 19 where there is none
+unfoldable pub boundAlike : List Binding → Name → Name → Outcome Bool
+boundAlike [] x y = refuse 19 0
+boundAlike (b ∷ bs) x y =
+    cond (eqName (b .left) x || eqName (b .right) y) (accepted (eqName (b .left) x && eqName (b .right) y)) (boundAlike bs x y)
+
+unfoldable pub alphaEqParameter : List Binding → PropParameter Name → PropParameter Name → Outcome Bool
+alphaEqParameter bs (Uninstantiated x) (Uninstantiated y) = boundAlike bs x y
+alphaEqParameter bs (Uninstantiated x) (Instantiated y j) = no
+alphaEqParameter bs (Instantiated x i) (Uninstantiated y) = no
+alphaEqParameter bs (Instantiated x i) (Instantiated y j) = accepted (eqName x y && eqb i j)
+
+-- in order, as far as the shorter list goes
+unfoldable pub alphaEqParameters : List Binding → List (PropParameter Name) → List (PropParameter Name) → Outcome Bool
+alphaEqParameters bs [] qs = accepted true
+alphaEqParameters bs (p ∷ ps) [] = accepted true
+alphaEqParameters bs (p ∷ ps) (q ∷ qs) = andAlso (alphaEqParameter bs p q) (alphaEqParameters bs ps qs)
+
+-- two atoms: names, then parameter counts (18), then parameters
+unfoldable pub alphaEqAtom : List Binding → Name → List (PropParameter Name) → Name → List (PropParameter Name) → Outcome Bool
+alphaEqAtom bs a ps b qs = andAlso (accepted (eqName a b)) (do
+  _ ← refuseIf (not (eqb (length ps) (length qs))) 18 0
+  alphaEqParameters bs ps qs)
+
+-- under bindings, the latest first; a proposition of another form is a no
+unfoldable pub alphaEqUnder : List Binding → Prop Name → Prop Name → Outcome Bool
+alphaEqUnder bs True r = accepted (isTrue r)
+alphaEqUnder bs False r = accepted (isFalse r)
+alphaEqUnder bs (Binary c p q) r =
+    elim (asBinary r) [
+      | none ↦ no
+      | some a ↦
+          andAlso (accepted (eqConnective c (a .connective)))
+          (andAlso (alphaEqUnder bs p (a .left)) (alphaEqUnder bs q (a .right)))
+    ]
+alphaEqUnder bs (Atom a ps) r = elim (asAtom r) [ none ↦ no | some b ↦ alphaEqAtom bs a ps (b .atom) (b .parameters) ]
+alphaEqUnder bs (Quantified q x t p) r =
+    elim (asQuantified r) [
+      | none ↦ no
+      | some a ↦
+          andAlso (accepted (eqQuantifier q (a .quantifier)))
+          (andAlso (accepted (eqName t (a .datatype)))
+          (alphaEqUnder (record { left = x; right = a .object } ∷ bs) p (a .body)))
+    ]
+
+unfoldable pub alphaEq : Prop Name → Prop Name → Outcome Bool
+alphaEq p q = alphaEqUnder [] p q
+
+unfoldable pub eqIdentifier : Identifier Name → Identifier Name → Bool
+eqIdentifier x y = eqName (x .name) (y .name) && eqb (x .uniqueId) (y .uniqueId)
+
+-- two conclusions
+unfoldable pub conclusionAlphaEq : ProofTreeConclusion Name → ProofTreeConclusion Name → Outcome Bool
+conclusionAlphaEq (PropIsTrue p) (PropIsTrue q) = alphaEq p q
+conclusionAlphaEq (PropIsTrue p) (TypeJudgement y u) = no
+conclusionAlphaEq (TypeJudgement x t) (PropIsTrue q) = no
+conclusionAlphaEq (TypeJudgement x t) (TypeJudgement y u) = accepted (eqIdentifier x y && eqName t u)

@@ -1,0 +1,168 @@
+-- Document 01's drawings marked ●: each with its sheet, a question and the answer that document 01 gives.
+use Prim.Native.Nat.{ℕ}
+use Prim.Native.String.{String}
+use mathlib.Core.Bool.{Bool, true, false}
+use mathlib.Core.List.{List, [], _∷_, map}
+use Rattle.definitions.specs.declared.Style.{Style}
+use Rattle.definitions.specs.declared.Style.the-variants.{Plain, Strict}
+use Rattle.definitions.specs.Utf8.{utf8}
+use Rattle.definitions.specs.Outcome.{Outcome, accepted, refuse, mapOutcome}
+use Rattle.definitions.specs.Prop.{Prop, True, False, And, Or, Impl, Atom, ForAll, Uninstantiated}
+use Rattle.definitions.specs.Tree.{Identifier, ProofTreeRule, AndIntro, AndElimFst, AndElimSnd, TrueIntro, ImplIntro, ImplElim, Ident, OrIntroFst, OrElim, Sorry, AlphaEquivalent}
+use Rattle.definitions.specs.Encode.{noIdentifier, encodeRule, encodePropIsTrue, encodeSheet}
+use Rattle.definitions.specs.Answers.{textAnswer, atomsAnswer, datatypesAnswer, labelCount, comparison, boardRoom}
+use mathlib.Core.List.{_++_}
+
+-- a question about a sheet; texts and lists are lent the board's room
+pub data Question : Type 0 where
+  text : Style → Question
+  atoms datatypes labels : Question
+  compare : ℕ → ℕ → Question
+
+pub data Answer : Type 0 where
+  bytes numbers : List ℕ → Answer
+  count : ℕ → Answer
+  yesNo : Bool → Answer
+
+unfoldable pub ask : Question → List ℕ → Outcome Answer
+ask (text style) s = mapOutcome bytes (textAnswer s style boardRoom)
+ask atoms s = mapOutcome numbers (atomsAnswer s boardRoom)
+ask datatypes s = mapOutcome numbers (datatypesAnswer s boardRoom)
+ask labels s = mapOutcome count (labelCount s)
+ask (compare i j) s = mapOutcome yesNo (comparison s i j)
+
+pub record Drawing : Type 0 where
+  pub sheet : List ℕ
+  pub question : Question
+  pub answer : Outcome Answer
+
+unfoldable pub drawing : List ℕ → Question → Outcome Answer → Drawing
+drawing s q a = record { sheet = s; question = q; answer = a }
+
+-- the answers that document 01 gives
+unfoldable pub prints : String → Outcome Answer
+prints t = accepted (bytes (utf8 t))
+
+unfoldable pub lists : List ℕ → Outcome Answer
+lists ns = accepted (numbers ns)
+
+unfoldable pub counts : ℕ → Outcome Answer
+counts n = accepted (count n)
+
+unfoldable pub says : Bool → Outcome Answer
+says b = accepted (yesNo b)
+
+-- the atom of a name's number, without parameters
+unfoldable pub letter : ℕ → Prop ℕ
+letter a = Atom a []
+
+-- the identifier of a name's number, with id 0
+unfoldable pub the : ℕ → Identifier ℕ
+the x = record { name = x; uniqueId = 0 }
+
+-- the step of a rule over so many premisses that concludes the proposition of a number; by how many identifiers it names
+unfoldable pub step : ProofTreeRule → ℕ → ℕ → List ℕ
+step r n prop = encodeRule r n noIdentifier noIdentifier ++ encodePropIsTrue prop
+
+unfoldable pub stepNaming : ProofTreeRule → ℕ → ℕ → ℕ → List ℕ
+stepNaming r x n prop = encodeRule r n (the x) noIdentifier ++ encodePropIsTrue prop
+
+unfoldable pub stepNamingTwo : ProofTreeRule → ℕ → ℕ → ℕ → ℕ → List ℕ
+stepNamingTwo r x y n prop = encodeRule r n (the x) (the y) ++ encodePropIsTrue prop
+
+-- names, propositions, the goal's number and steps as one sheet
+unfoldable pub sheet : List String → List (Prop ℕ) → ℕ → List (List ℕ) → List ℕ
+sheet names props goal steps = encodeSheet (map utf8 names) props goal steps
+
+unfoldable pub smallest : List ℕ
+smallest =
+    0x00 ∷ 0x00 ∷ 0x00 ∷ 0x00 ∷ 0x01 ∷ 0x00 ∷ 0x01 ∷ 0x00 ∷ 0x01 ∷ 0x00 ∷ 0x00 ∷ 0x00
+    ∷ 0x00 ∷ 0x00 ∷ 0x01 ∷ 0x00
+    ∷ 0x03
+    ∷ 0x00 ∷ 0x00 ∷ 0x00 ∷ 0x00 ∷ 0x00 ∷ 0x00 ∷ 0x00 ∷ 0x00 ∷ 0x00 ∷ 0x00 ∷ 0x00 ∷ 0x00 ∷ 0x00 ∷ 0x00 ∷ 0x00 ∷ 0x00 ∷ 0x00
+    ∷ 0x00 ∷ []
+
+-- ImplIntro u, OrIntroFst, Ident u; goal A ⊃ A ∨ B
+unfoldable pub second : List ℕ
+second =
+    sheet ("A" ∷ "B" ∷ "u" ∷ [])
+    (Impl (letter 0) (Or (letter 0) (letter 1)) ∷ Or (letter 0) (letter 1) ∷ letter 0 ∷ []) 0
+    (stepNaming Ident 2 0 2 ∷ step OrIntroFst 1 1 ∷ stepNaming ImplIntro 2 1 0 ∷ [])
+
+unfoldable pub rootSorry : List ℕ
+rootSorry = sheet [] (True ∷ []) 0 (step Sorry 0 0 ∷ [])
+
+-- AndElimFst over Sorry of A ∧ B
+unfoldable pub fstOfSorry : List ℕ
+fstOfSorry =
+    sheet ("A" ∷ "B" ∷ []) (And (letter 0) (letter 1) ∷ letter 0 ∷ []) 1 (step Sorry 0 0 ∷ step AndElimFst 1 1 ∷ [])
+
+-- the same with AlphaEquivalent between, concluding B ∧ A
+unfoldable pub fstOfAlphaEquivalent : List ℕ
+fstOfAlphaEquivalent =
+    sheet ("A" ∷ "B" ∷ []) (And (letter 0) (letter 1) ∷ letter 1 ∷ And (letter 1) (letter 0) ∷ []) 1
+    (step Sorry 0 0 ∷ step AlphaEquivalent 1 2 ∷ step AndElimFst 1 1 ∷ [])
+
+-- Ident u, ImplIntro u, Ident v, ImplElim; step 1 concludes the proposition of the given number: A, or A ⊃ A
+unfoldable pub applied : ℕ → List ℕ
+applied conclusion =
+    sheet ("A" ∷ "u" ∷ "v" ∷ []) (letter 0 ∷ Impl (letter 0) (letter 0) ∷ []) 0
+    (stepNaming Ident 1 0 0 ∷ stepNaming ImplIntro 1 1 conclusion ∷ stepNaming Ident 2 0 0 ∷ step ImplElim 2 0 ∷ [])
+
+-- AndElimSnd over AndIntro of OrIntroFst (A ∨ B, Ident a) and TrueIntro
+unfoldable pub sndOfPair : List ℕ
+sndOfPair =
+    sheet ("A" ∷ "B" ∷ "a" ∷ [])
+    (letter 0 ∷ Or (letter 0) (letter 1) ∷ True ∷ And (Or (letter 0) (letter 1)) True ∷ []) 2
+    (stepNaming Ident 2 0 0 ∷ step OrIntroFst 1 1 ∷ step TrueIntro 0 2 ∷ step AndIntro 2 3 ∷ step AndElimSnd 1 2 ∷ [])
+
+-- ImplElim of an OrElim and Ident c
+unfoldable pub caseApplied : List ℕ
+caseApplied =
+    sheet ("h" ∷ "x" ∷ "a" ∷ "y" ∷ "b" ∷ "c" ∷ []) (True ∷ []) 0
+    (stepNaming Ident 0 0 0 ∷ stepNaming Ident 2 0 0 ∷ stepNaming Ident 4 0 0 ∷ stepNamingTwo OrElim 1 3 3 0
+    ∷ stepNaming Ident 5 0 0 ∷ step ImplElim 2 0 ∷ [])
+
+unfoldable pub alphaEquivalentAlone : List ℕ
+alphaEquivalentAlone = sheet [] (True ∷ []) 0 (step AlphaEquivalent 0 0 ∷ [])
+
+-- AndElimFst over Sorry of a proposition over A and B, so that the text prints it as a label
+unfoldable pub labelOf : Prop ℕ → List ℕ
+labelOf p = sheet ("A" ∷ "B" ∷ []) (p ∷ []) 0 (step Sorry 0 0 ∷ step AndElimFst 1 0 ∷ [])
+
+-- AndIntro over Sorry of each of two propositions over P, T, x and y: steps 0 and 1 conclude them
+unfoldable pub sorries : Prop ℕ → Prop ℕ → List ℕ
+sorries p q =
+    sheet ("P" ∷ "T" ∷ "x" ∷ "y" ∷ []) (p ∷ q ∷ []) 0 (step Sorry 0 0 ∷ step Sorry 0 1 ∷ step AndIntro 2 0 ∷ [])
+
+-- P of the object of a name's number
+unfoldable pub ofObject : ℕ → Prop ℕ
+ofObject x = Atom 0 (Uninstantiated x ∷ [])
+
+unfoldable pub drawings : List Drawing
+drawings =
+    drawing smallest (text Plain) (prints "\n\n\n()")
+    ∷ drawing second (text Plain) (prints "atom A;\natom B;\n\n\nfn u => inl u")
+    ∷ drawing rootSorry (text Plain) (prints "\n\n\nsorry")
+    ∷ drawing rootSorry labels (counts 0)
+    ∷ drawing fstOfSorry (text Plain) (prints "atom A;\natom B;\n\n\nfst (sorry: A ∧ B)")
+    ∷ drawing fstOfSorry atoms (lists (0 ∷ 0 ∷ 1 ∷ 0 ∷ []))
+    ∷ drawing fstOfAlphaEquivalent (text Plain) (prints "atom A;\natom B;\n\n\nfst (sorry: A ∧ B)")
+    ∷ drawing (applied 1) (text Plain) (prints "atom A;\n\n\n(fn u: A => u) v")
+    ∷ drawing (applied 0) (text Plain) (refuse 14 1)
+    ∷ drawing sndOfPair (text Plain) (prints "atom A;\natom B;\n\n\nsnd (inl a: A ∨ B, ())")
+    ∷ drawing caseApplied (text Plain) (prints "\n\n\ncase h of inl x => a, inr y => b c")
+    ∷ drawing caseApplied (text Strict) (prints "\n\n\n(case h of inl x => a, inr y => b) c")
+    ∷ drawing alphaEquivalentAlone (text Plain) (refuse 12 0)
+    ∷ drawing (labelOf (Impl (Impl (letter 0) False) False)) (text Plain) (prints "atom A;\n\n\nfst (sorry: ¬¬A)")
+    ∷ drawing (labelOf (Impl (And (letter 0) (letter 1)) False)) (text Plain)
+    (prints "atom A;\natom B;\n\n\nfst (sorry: ¬(A ∧ B))")
+    ∷ drawing (sorries (ForAll 2 1 (ofObject 2)) (ForAll 3 1 (ofObject 3))) (compare 0 1) (says true)
+    ∷ drawing (sorries (ForAll 2 1 (ForAll 3 1 (ofObject 2))) (ForAll 2 1 (ForAll 2 1 (ofObject 2)))) (compare 0 1) (says false)
+    ∷ []
+
+unfoldable pub asked : Drawing → Outcome Answer
+asked d = ask (d .question) (d .sheet)
+
+unfoldable pub expected : Drawing → Outcome Answer
+expected d = d .answer

@@ -1,0 +1,22 @@
+-- Document 01 as definitions: what a reader has to believe, in document 01's order.
+pub mod Utf8
+pub mod Outcome
+pub mod Name
+pub mod Prop
+pub mod Code
+pub mod Sheet
+pub mod Tree
+pub mod Admission
+pub mod Term
+pub mod Export
+pub mod Display
+pub mod Text
+pub mod Comparison
+pub mod AlphaEquality
+pub mod Answers
+pub mod CheckingRules
+pub mod Sound
+pub mod Labels
+pub mod Accuracy
+pub mod Encode
+pub mod Drawings

@@ -1,0 +1,44 @@
+-- What a question about a sheet comes to: a value, or one refusal with its number and its place.
+-- Document 01, "Refusals in checking order".
+use Prim.Native.Nat.{ℕ, zero, suc}
+use mathlib.Core.Bool.{Bool, true, false}
+use mathlib.Core.Option.{Option, none, some}
+use Rattle.definitions.specs.declared.Refusal.{Refusal}
+
+pub data Outcome (A : Type 0) : Type 0 where
+  refused : Refusal → Outcome A
+  accepted : A → Outcome A
+
+-- the refusal of that number at that place
+unfoldable pub refuse : {A : Type 0} → ℕ → ℕ → Outcome A
+refuse number place = refused (record { number = number; place = place })
+
+-- a refusal ends the checks; a value goes on to the next
+unfoldable pub _>>=_ : {A B : Type 0} → Outcome A → (A → Outcome B) → Outcome B
+_>>=_ (refused r) next = refused r
+_>>=_ (accepted a) next = next a
+
+-- the same outcome, with its value changed
+unfoldable pub mapOutcome : {A B : Type 0} → (A → B) → Outcome A → Outcome B
+mapOutcome f (refused r) = refused r
+mapOutcome f (accepted a) = accepted (f a)
+
+-- refused where the test holds
+unfoldable pub refuseIf : Bool → ℕ → ℕ → Outcome (Unit {0})
+refuseIf true number place = refuse number place
+refuseIf false number place = accepted tt
+
+-- the lowest place below the count at which the test holds
+unfoldable pub lowest : (ℕ → Bool) → ℕ → Option ℕ
+lowest test zero = none
+lowest test (suc count) =
+    elim (lowest test count) [ some place ↦ some place | none ↦ elim (test count) [ true ↦ some count | false ↦ none ] ]
+
+-- refused at that place, if there is one
+unfoldable pub refuseAt : Option ℕ → ℕ → Outcome (Unit {0})
+refuseAt none number = accepted tt
+refuseAt (some place) number = refuse number place
+
+-- refused at the lowest place below the count at which the test holds
+unfoldable pub refuseLowest : (ℕ → Bool) → ℕ → ℕ → Outcome (Unit {0})
+refuseLowest test count number = refuseAt (lowest test count) number

@@ -1,0 +1,76 @@
+-- The text: declarations, then the term (source document 005). Document 01, "Text".
+use Prim.Native.Nat.{ℕ, zero, suc, _+_, _/_, _%_}
+use mathlib.Core.Bool.{Bool, true, false, _&&_, _||_, cond}
+use mathlib.Core.List.{List, [], _∷_, _++_, map}
+use lib.Dec.{eqb, ltb}
+use Rattle.definitions.specs.declared.Style.{Style}
+use Rattle.definitions.specs.Utf8.{utf8}
+use Rattle.definitions.specs.Name.{Name, eqName}
+use Rattle.definitions.specs.Prop.{Prop, AtomUse, getAtoms, getDatatypes}
+use Rattle.definitions.specs.Term.{ProofTerm, atomList, datatypeList}
+use Rattle.definitions.specs.Display.{displayTerm}
+
+-- the last digit of a number
+unfoldable pub lastDigit : ℕ → List ℕ
+lastDigit n = (48 + n % 10) ∷ []
+
+-- the digits of a number of at most so many digits
+unfoldable pub digits : ℕ → ℕ → List ℕ
+digits zero n = []
+digits (suc most) n = elim (ltb n 10) [ true ↦ lastDigit n | false ↦ digits most (n / 10) ++ lastDigit n ]
+
+-- a number in decimal, without leading zeros: n has at most n + 1 digits
+unfoldable pub decimal : ℕ → List ℕ
+decimal n = digits (suc n) n
+
+module _ {A : Type 0} (same : A → A → Bool) where
+  unfoldable pub occurs : A → List A → Bool
+  occurs a [] = false
+  occurs a (b ∷ bs) = same a b || occurs a bs
+
+  -- those that stand neither in `seen` nor further left
+  unfoldable pub firstsAfter : List A → List A → List A
+  firstsAfter seen [] = []
+  firstsAfter seen (a ∷ rest) = cond (occurs a seen) (firstsAfter seen rest) (a ∷ firstsAfter (a ∷ seen) rest)
+
+  -- first occurrences only
+  unfoldable pub firsts : List A → List A
+  firsts l = firstsAfter [] l
+
+-- by name bytes and count
+unfoldable pub eqAtomUse : AtomUse Name → AtomUse Name → Bool
+eqAtomUse a b = eqName (a .name) (b .name) && eqb (a .count) (b .count)
+
+-- `atom P;` or `atom P(2);`
+unfoldable pub atomDeclaration : AtomUse Name → List ℕ
+atomDeclaration a =
+    utf8 "atom " ++ (a .name ++ (cond (eqb (a .count) 0) [] (utf8 "(" ++ (decimal (a .count) ++ utf8 ")")) ++ utf8 ";"))
+
+-- `datatype T;`
+unfoldable pub datatypeDeclaration : Name → List ℕ
+datatypeDeclaration t = utf8 "datatype " ++ (t ++ utf8 ";")
+
+unfoldable pub followingLines : List (List ℕ) → List ℕ
+followingLines [] = []
+followingLines (l ∷ ls) = utf8 "\n" ++ (l ++ followingLines ls)
+
+-- joined by a newline
+unfoldable pub joinLines : List (List ℕ) → List ℕ
+joinLines [] = []
+joinLines (l ∷ ls) = l ++ followingLines ls
+
+unfoldable pub atomDeclarations : List (AtomUse Name) → List ℕ
+atomDeclarations uses = joinLines (map atomDeclaration (firsts eqAtomUse uses))
+
+unfoldable pub datatypeDeclarations : List Name → List ℕ
+datatypeDeclarations ts = joinLines (map datatypeDeclaration (firsts eqName ts))
+
+-- what stands before the term: the declarations of the lists and then the goal
+unfoldable pub heading : ProofTerm Name → Prop Name → List ℕ
+heading t goal =
+    atomDeclarations (atomList t ++ getAtoms goal)
+    ++ (utf8 "\n" ++ (datatypeDeclarations (datatypeList t ++ getDatatypes goal) ++ utf8 "\n\n"))
+
+-- the text of a term under a goal
+unfoldable pub text : Style → ProofTerm Name → Prop Name → List ℕ
+text s t goal = heading t goal ++ displayTerm s t

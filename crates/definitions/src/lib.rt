@@ -1,0 +1,13 @@
+// The types that every layer shares with the definitions.
+
+// A refusal of document 01: its number, 1 to 19, and its place.
+pub struct Refusal {
+    pub number: u8,
+    pub place: u16,
+}
+
+// How a text is asked for: as the Rust prints it, or with document 01's one more bracket.
+pub enum Style {
+    Plain,
+    Strict,
+}
