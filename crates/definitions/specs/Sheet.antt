@@ -45,6 +45,37 @@ stepSize = 18
 unfoldable pub numberAt : List ℕ → ℕ → ℕ
 numberAt s i = getD s i 0 + 256 * getD s (i + 1) 0
 
+-- Of pairs of offset and length: the offset, the length and the end of the pair of a number, and the end of the one before,
+-- which is 0 for the first.
+module _ (pairs : List ℕ) where
+  unfoldable pub pairOffset : ℕ → ℕ
+  pairOffset i = numberAt pairs (pairSize * i)
+
+  unfoldable pub pairLength : ℕ → ℕ
+  pairLength i = numberAt pairs (pairSize * i + 2)
+
+  unfoldable pub pairEnd : ℕ → ℕ
+  pairEnd i = pairOffset i + pairLength i
+
+  unfoldable pub lastEnd : ℕ → ℕ
+  lastEnd zero = 0
+  lastEnd (suc i) = pairEnd i
+
+  -- the bytes that the pair of a number marks: a name in the text, or a proposition's code
+  unfoldable pub marked : List ℕ → ℕ → List ℕ
+  marked bytes i = take (pairLength i) (drop (pairOffset i) bytes)
+
+-- Of step records: a step's rule byte, its premiss count, and the numbers that follow, at offsets 2 to 16.
+module _ (records : List ℕ) where
+  unfoldable pub ruleByte : ℕ → ℕ
+  ruleByte k = getD records (stepSize * k) 0
+
+  unfoldable pub premissCount : ℕ → ℕ
+  premissCount k = getD records (stepSize * k + 1) 0
+
+  unfoldable pub stepNumber : ℕ → ℕ → ℕ
+  stepNumber k at = numberAt records (stepSize * k + at)
+
 -- Of a sheet's bytes:
 module _ (s : List ℕ) where
   -- the six header numbers: T, N, C, P, S and the goal
@@ -74,18 +105,18 @@ module _ (s : List ℕ) where
       || (ltb steps 1 || ltb stepLimit steps)
       || leb propositions goal
 
-  -- where each part begins: N pairs, P pairs, S steps, T text bytes, C code bytes
-  unfoldable pub namePairs : ℕ
-  namePairs = headerSize
+  -- where each part begins, and where the last one ends: N pairs, P pairs, S steps, T text bytes, C code bytes
+  unfoldable pub namePairsStart : ℕ
+  namePairsStart = headerSize
 
-  unfoldable pub propositionPairs : ℕ
-  propositionPairs = namePairs + pairSize * names
+  unfoldable pub propositionPairsStart : ℕ
+  propositionPairsStart = namePairsStart + pairSize * names
 
-  unfoldable pub stepRecords : ℕ
-  stepRecords = propositionPairs + pairSize * propositions
+  unfoldable pub stepsStart : ℕ
+  stepsStart = propositionPairsStart + pairSize * propositions
 
   unfoldable pub textStart : ℕ
-  textStart = stepRecords + stepSize * steps
+  textStart = stepsStart + stepSize * steps
 
   unfoldable pub codeStart : ℕ
   codeStart = textStart + textLength
@@ -93,37 +124,22 @@ module _ (s : List ℕ) where
   unfoldable pub sheetLength : ℕ
   sheetLength = codeStart + codeLength
 
-  -- the pair of a number, of those that begin at an offset: its offset, its length, its end
-  unfoldable pub pairOffset : ℕ → ℕ → ℕ
-  pairOffset pairs i = numberAt s (pairs + pairSize * i)
+  -- the parts
+  unfoldable pub namePairs : List ℕ
+  namePairs = take (pairSize * names) (drop namePairsStart s)
 
-  unfoldable pub pairLength : ℕ → ℕ → ℕ
-  pairLength pairs i = numberAt s (pairs + pairSize * i + 2)
+  unfoldable pub propositionPairs : List ℕ
+  propositionPairs = take (pairSize * propositions) (drop propositionPairsStart s)
 
-  unfoldable pub pairEnd : ℕ → ℕ → ℕ
-  pairEnd pairs i = pairOffset pairs i + pairLength pairs i
+  unfoldable pub stepRecords : List ℕ
+  stepRecords = take (stepSize * steps) (drop stepsStart s)
 
-  -- the end of the pair before; 0 before the first
-  unfoldable pub lastEnd : ℕ → ℕ → ℕ
-  lastEnd pairs zero = 0
-  lastEnd pairs (suc i) = pairEnd pairs i
+  unfoldable pub textBytes : List ℕ
+  textBytes = take textLength (drop textStart s)
 
-  -- the bytes of a name, and the code of a proposition
+  unfoldable pub codeBytes : List ℕ
+  codeBytes = take codeLength (drop codeStart s)
+
+  -- the bytes of the name of a number
   unfoldable pub nameOf : ℕ → Name
-  nameOf i = take (pairLength namePairs i) (drop (textStart + pairOffset namePairs i) s)
-
-  unfoldable pub codeOf : ℕ → List ℕ
-  codeOf i = take (pairLength propositionPairs i) (drop (codeStart + pairOffset propositionPairs i) s)
-
-  -- a step's record: its rule's byte, its premiss count, and the numbers that follow at offsets 2 to 16
-  unfoldable pub stepStart : ℕ → ℕ
-  stepStart k = stepRecords + stepSize * k
-
-  unfoldable pub ruleByte : ℕ → ℕ
-  ruleByte k = getD s (stepStart k) 0
-
-  unfoldable pub premissCount : ℕ → ℕ
-  premissCount k = getD s (stepStart k + 1) 0
-
-  unfoldable pub stepNumber : ℕ → ℕ → ℕ
-  stepNumber k at = numberAt s (stepStart k + at)
+  nameOf i = marked namePairs textBytes i

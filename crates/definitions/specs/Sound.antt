@@ -9,7 +9,7 @@ use Rattle.definitions.specs.Outcome.{accepted}
 use Rattle.definitions.specs.Name.{Name, eqName}
 use Rattle.definitions.specs.Prop.{Prop, True, False, Binary, Atom, Quantified, And, Or, Impl, PropParameter, Uninstantiated, Instantiated}
 use Rattle.definitions.specs.Sheet.{nameOf, propositions, steps}
-use Rattle.definitions.specs.Tree.{Identifier, ProofTreeRule, AndIntro, AndElimFst, AndElimSnd, TrueIntro, ImplIntro, ImplElim, Ident, OrIntroFst, OrIntroSnd, OrElim, FalsumElim, ForAllIntro, ForAllElim, ExistsIntro, ExistsElim, Sorry, AlphaEquivalent, ProofTreeConclusion, PropIsTrue, TypeJudgement, Step, ProofTree, over, Premisses, none, _and_, renameTree, propOf, ruleOf, conclusionOf}
+use Rattle.definitions.specs.Tree.{Identifier, ProofTreeRule, AndIntro, AndElimFst, AndElimSnd, TrueIntro, ImplIntro, ImplElim, Ident, OrIntroFst, OrIntroSnd, OrElim, FalsumElim, ForAllIntro, ForAllElim, ExistsIntro, ExistsElim, Sorry, AlphaEquivalent, ProofTreeConclusion, PropIsTrue, TypeJudgement, Step, ProofTree, over, Premisses, none, _and_, renameTree, ruleOf, propOf, conclusionOf}
 use Rattle.definitions.specs.Admission.{admitted}
 use Rattle.definitions.specs.CheckingRules.{Context, Entry, lookup}
 

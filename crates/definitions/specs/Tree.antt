@@ -7,7 +7,7 @@ use lib.ListN.{getD, drop}
 use lib.Dec.{eqb}
 use Rattle.definitions.specs.Prop.{Prop, False, renameProp}
 use Rattle.definitions.specs.Code.{decode}
-use Rattle.definitions.specs.Sheet.{names, codeOf, ruleByte, premissCount, stepNumber, steps}
+use Rattle.definitions.specs.Sheet.{marked, ruleByte, premissCount, stepNumber, names, steps, propositionPairs, codeBytes, stepRecords}
 
 pub record Identifier (N : Type 0) : Type 0 where
   pub name : N
@@ -113,47 +113,63 @@ lastTrees zero ts ps = ps
 lastTrees (suc n) [] ps = ps
 lastTrees (suc n) (t ∷ ts) ps = lastTrees n ts (t and ps)
 
--- Of a sheet's bytes:
-module _ (s : List ℕ) where
-  -- the proposition of a number; refusal 7 keeps ⊥ from standing for one that has no code
-  unfoldable pub propOf : ℕ → Prop ℕ
-  propOf i = Option·getD (decode (names s) (codeOf s i)) False
+-- Of step records: the rule of a step
+unfoldable pub ruleIn : List ℕ → ℕ → ProofTreeRule
+ruleIn records k = getD rules (ruleByte records k) Sorry
 
-  unfoldable pub ruleOf : ℕ → ProofTreeRule
-  ruleOf k = getD rules (ruleByte s k) Sorry
+-- Of the count of names, the propositions' pairs and the code bytes: the proposition of a number. Refusal 7 keeps ⊥ from
+-- standing for one that has no code.
+unfoldable pub propIn : ℕ → List ℕ → List ℕ → ℕ → Prop ℕ
+propIn names pairs code i = Option·getD (decode names (marked pairs code i)) False
 
+-- Of these and the step records:
+module _ (names : ℕ) (pairs code records : List ℕ) where
   -- a name and an id
-  unfoldable pub identifierAt : ℕ → ℕ → Identifier ℕ
-  identifierAt k at = record { name = stepNumber s k at; uniqueId = stepNumber s k (at + 2) }
+  unfoldable pub identifierIn : ℕ → ℕ → Identifier ℕ
+  identifierIn k at = record { name = stepNumber records k at; uniqueId = stepNumber records k (at + 2) }
 
   -- kind 0, a proposition number; kind 1, a name, an id and a datatype name
-  unfoldable pub conclusionOf : ℕ → ProofTreeConclusion ℕ
-  conclusionOf k =
-      cond (eqb (stepNumber s k 10) 0) (PropIsTrue (propOf (stepNumber s k 12)))
-      (TypeJudgement (identifierAt k 12) (stepNumber s k 16))
+  unfoldable pub conclusionIn : ℕ → ProofTreeConclusion ℕ
+  conclusionIn k =
+      cond (eqb (stepNumber records k 10) 0) (PropIsTrue (propIn names pairs code (stepNumber records k 12)))
+      (TypeJudgement (identifierIn k 12) (stepNumber records k 16))
 
-  unfoldable pub stepOf : ℕ → Step ℕ
-  stepOf k =
+  unfoldable pub stepIn : ℕ → Step ℕ
+  stepIn k =
       record {
         number = k;
-        rule = ruleOf k;
-        first = identifierAt k 2;
-        second = identifierAt k 6;
-        conclusion = conclusionOf k;
+        rule = ruleIn records k;
+        first = identifierIn k 2;
+        second = identifierIn k 6;
+        conclusion = conclusionIn k;
       }
 
   -- a step over the trees finished before it: its premisses are the last ones
   unfoldable pub stepOver : ℕ → List (ProofTree ℕ) → ProofTree ℕ
-  stepOver k ts = over (stepOf k) (lastTrees (premissCount s k) ts none)
+  stepOver k ts = over (stepIn k) (lastTrees (premissCount records k) ts none)
 
   -- the trees finished before step k, the newest first
   unfoldable pub treesBefore : ℕ → List (ProofTree ℕ)
   treesBefore zero = []
-  treesBefore (suc k) = stepOver k (treesBefore k) ∷ drop (premissCount s k) (treesBefore k)
+  treesBefore (suc k) = stepOver k (treesBefore k) ∷ drop (premissCount records k) (treesBefore k)
 
   -- the tree that step k finishes
+  unfoldable pub treeIn : ℕ → ProofTree ℕ
+  treeIn k = stepOver k (treesBefore k)
+
+-- Of a sheet's bytes:
+module _ (s : List ℕ) where
+  unfoldable pub propOf : ℕ → Prop ℕ
+  propOf i = propIn (names s) (propositionPairs s) (codeBytes s) i
+
+  unfoldable pub ruleOf : ℕ → ProofTreeRule
+  ruleOf k = ruleIn (stepRecords s) k
+
+  unfoldable pub conclusionOf : ℕ → ProofTreeConclusion ℕ
+  conclusionOf k = conclusionIn (names s) (propositionPairs s) (codeBytes s) (stepRecords s) k
+
   unfoldable pub treeOf : ℕ → ProofTree ℕ
-  treeOf k = stepOver k (treesBefore k)
+  treeOf k = treeIn (names s) (propositionPairs s) (codeBytes s) (stepRecords s) k
 
   -- the last step is the root
   unfoldable pub rootOf : ProofTree ℕ
