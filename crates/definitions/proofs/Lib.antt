@@ -1,2 +1,3 @@
 pub mod Everything
+pub mod Lowest
 pub mod Drawings

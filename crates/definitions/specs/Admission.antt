@@ -1,7 +1,7 @@
 -- Refusals 1 to 11: which bytes are a sheet. Document 01, "Refusals in checking order".
 use Prim.Native.Nat.{ℕ, _+_, _-_}
 use mathlib.Core.Bool.{Bool, true, false, _||_, not, cond}
-use mathlib.Core.Option.{none, some}
+use mathlib.Core.Option.{Option, none, some}
 use mathlib.Core.List.{List}
 use lib.ListN.{length}
 use lib.Dec.{ltb, leb, eqb}
@@ -29,9 +29,13 @@ badName pairs text i = not (isName (marked pairs text i))
 unfoldable pub badPropositionPair : List ℕ → ℕ → ℕ → Bool
 badPropositionPair pairs bytes i = misplaced pairs bytes i || eqb (pairLength pairs i) 0
 
+unfoldable pub isNone : {A : Type 0} → Option A → Bool
+isNone none = true
+isNone (some a) = false
+
 -- 7: a proposition's code is not exactly one proposition over its whole length with names below N
 unfoldable pub badCode : ℕ → List ℕ → List ℕ → ℕ → Bool
-badCode names pairs code i = elim (decode names (marked pairs code i)) [ none ↦ true | some p ↦ false ]
+badCode names pairs code i = isNone (decode names (marked pairs code i))
 
 -- 8: a proposition nests deeper than 64
 unfoldable pub deepProposition : ℕ → List ℕ → List ℕ → ℕ → Bool

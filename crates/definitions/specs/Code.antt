@@ -5,7 +5,7 @@ use mathlib.Core.Bool.{cond}
 use mathlib.Core.Option.{Option, none, some}
 use mathlib.Core.List.{List, [], _∷_, _++_}
 use lib.ListN.{length, getD}
-use lib.Dec.{ltb, leb}
+use lib.Dec.{ltb, leb, eqb}
 use Rattle.definitions.specs.Prop.{Prop, True, False, Binary, Atom, Quantified, PropParameter, Uninstantiated, Instantiated, Connective, and, or, impl, connectiveByte, Quantifier, forAll, exists, quantifierByte}
 
 -- what was read, and the bytes after it
@@ -23,8 +23,12 @@ yield a s = some (record { value = a; rest = s })
 unfoldable pub fail : {A : Type 0} → Reading A
 fail s = none
 
+unfoldable pub followedBy : {A B : Type 0} → Option (Read A) → (A → Reading B) → Option (Read B)
+followedBy none next = none
+followedBy (some r) next = next (r .value) (r .rest)
+
 unfoldable pub _>>=_ : {A B : Type 0} → Reading A → (A → Reading B) → Reading B
-_>>=_ m next s = elim (m s) [ none ↦ none | some r ↦ next (r .value) (r .rest) ]
+_>>=_ m next s = followedBy (m s) next
 
 unfoldable pub byte : Reading ℕ
 byte [] = none
@@ -36,6 +40,11 @@ number = do
   low ← byte
   high ← byte
   yield (low + 256 * high)
+
+-- what was read, if it is all
+unfoldable pub whole : {A : Type 0} → Option (Read A) → Option A
+whole none = none
+whole (some r) = cond (eqb (length (r .rest)) 0) (some (r .value)) none
 
 -- an atom has at most so many parameters
 unfoldable pub parameterLimit : ℕ
@@ -112,9 +121,7 @@ module _ (names : ℕ) where
 
   -- exactly one proposition over the whole length
   unfoldable pub decode : List ℕ → Option (Prop ℕ)
-  decode s =
-      elim (proposition (length s) s)
-      [ none ↦ none | some r ↦ elim (r .rest) [ [] ↦ some (r .value) | b ∷ bs ↦ none ] ]
+  decode s = whole (proposition (length s) s)
 
 -- a u16, low byte first
 unfoldable pub u16 : ℕ → List ℕ

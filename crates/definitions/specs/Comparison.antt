@@ -49,29 +49,33 @@ alphaEqAtom bs a ps b qs = andAlso (accepted (eqName a b)) (do
   _ ← refuseIf (not (eqb (length ps) (length qs))) 18 0
   alphaEqParameters bs ps qs)
 
--- under bindings, the latest first; a proposition of another form is a no
-unfoldable pub alphaEqUnder : List Binding → Prop Name → Prop Name → Outcome Bool
-alphaEqUnder bs True r = accepted (isTrue r)
-alphaEqUnder bs False r = accepted (isFalse r)
-alphaEqUnder bs (Binary c p q) r =
-    elim (asBinary r) [
-      | none ↦ no
-      | some a ↦
-          andAlso (accepted (eqConnective c (a .connective)))
-          (andAlso (alphaEqUnder bs p (a .left)) (alphaEqUnder bs q (a .right)))
-    ]
-alphaEqUnder bs (Atom a ps) r = elim (asAtom r) [ none ↦ no | some b ↦ alphaEqAtom bs a ps (b .atom) (b .parameters) ]
-alphaEqUnder bs (Quantified q x t p) r =
-    elim (asQuantified r) [
-      | none ↦ no
-      | some a ↦
-          andAlso (accepted (eqQuantifier q (a .quantifier)))
-          (andAlso (accepted (eqName t (a .datatype)))
-          (alphaEqUnder (record { left = x; right = a .object } ∷ bs) p (a .body)))
-    ]
+-- A proposition of another form than the left one is a no.
+unfoldable pub alphaEqSides : Connective → (Prop Name → Outcome Bool) → (Prop Name → Outcome Bool) → Option (Sides Name) → Outcome Bool
+alphaEqSides c left right none = no
+alphaEqSides c left right (some a) =
+    andAlso (accepted (eqConnective c (a .connective))) (andAlso (left (a .left)) (right (a .right)))
+
+unfoldable pub alphaEqApplied : List Binding → Name → List (PropParameter Name) → Option (Applied Name) → Outcome Bool
+alphaEqApplied bs a ps none = no
+alphaEqApplied bs a ps (some b) = alphaEqAtom bs a ps (b .atom) (b .parameters)
+
+-- quantifiers, then datatypes, then the bodies with the objects bound to each other
+unfoldable pub alphaEqScope : List Binding → Quantifier → Name → Name → (List Binding → Prop Name → Outcome Bool) → Option (Scope Name) → Outcome Bool
+alphaEqScope bs q x t body none = no
+alphaEqScope bs q x t body (some a) =
+    andAlso (accepted (eqQuantifier q (a .quantifier)))
+    (andAlso (accepted (eqName t (a .datatype))) (body (record { left = x; right = a .object } ∷ bs) (a .body)))
+
+-- under bindings, the latest first
+unfoldable pub alphaEqUnder : Prop Name → List Binding → Prop Name → Outcome Bool
+alphaEqUnder True bs r = accepted (isTrue r)
+alphaEqUnder False bs r = accepted (isFalse r)
+alphaEqUnder (Binary c p q) bs r = alphaEqSides c (alphaEqUnder p bs) (alphaEqUnder q bs) (asBinary r)
+alphaEqUnder (Atom a ps) bs r = alphaEqApplied bs a ps (asAtom r)
+alphaEqUnder (Quantified q x t p) bs r = alphaEqScope bs q x t (alphaEqUnder p) (asQuantified r)
 
 unfoldable pub alphaEq : Prop Name → Prop Name → Outcome Bool
-alphaEq p q = alphaEqUnder [] p q
+alphaEq p q = alphaEqUnder p [] q
 
 unfoldable pub eqIdentifier : Identifier Name → Identifier Name → Bool
 eqIdentifier x y = eqName (x .name) (y .name) && eqb (x .uniqueId) (y .uniqueId)

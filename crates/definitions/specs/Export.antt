@@ -75,22 +75,24 @@ unfoldable pub ascriptionLabel : {N : Type 0} → ℕ → ProofTreeConclusion N 
 ascriptionLabel k (PropIsTrue p) = accepted (proposition p)
 ascriptionLabel k (TypeJudgement x d) = refuse 13 k
 
+-- the left side of an implication
+unfoldable pub implicationLabel : {N : Type 0} → ℕ → Option (Sides N) → Outcome (Label N)
+implicationLabel k option.none = refuse 14 k
+implicationLabel k (some a) = cond (eqConnective (a .connective) impl) (accepted (proposition (a .left))) (refuse 14 k)
+
 -- a function's label is the left side of its conclusion, which must be an implication
 unfoldable pub leftLabel : {N : Type 0} → ℕ → ProofTreeConclusion N → Outcome (Label N)
-leftLabel k (PropIsTrue p) =
-    elim (asBinary p) [
-      | option.none ↦ refuse 14 k
-      | some a ↦ cond (eqConnective (a .connective) impl) (accepted (proposition (a .left))) (refuse 14 k)
-    ]
+leftLabel k (PropIsTrue p) = implicationLabel k (asBinary p)
 leftLabel k (TypeJudgement x d) = refuse 14 k
+
+-- the datatype of a ∀
+unfoldable pub universalLabel : {N : Type 0} → ℕ → Option (Scope N) → Outcome (Label N)
+universalLabel k option.none = refuse 15 k
+universalLabel k (some a) = cond (eqQuantifier (a .quantifier) forAll) (accepted (datatype (a .datatype))) (refuse 15 k)
 
 -- or, for ∀, its datatype
 unfoldable pub datatypeLabel : {N : Type 0} → ℕ → ProofTreeConclusion N → Outcome (Label N)
-datatypeLabel k (PropIsTrue p) =
-    elim (asQuantified p) [
-      | option.none ↦ refuse 15 k
-      | some a ↦ cond (eqQuantifier (a .quantifier) forAll) (accepted (datatype (a .datatype))) (refuse 15 k)
-    ]
+datatypeLabel k (PropIsTrue p) = universalLabel k (asQuantified p)
 datatypeLabel k (TypeJudgement x d) = refuse 15 k
 
 -- the term of that number among the premisses' terms

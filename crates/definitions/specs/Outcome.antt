@@ -4,6 +4,8 @@ use Prim.Native.Nat.{ℕ, zero, suc}
 use mathlib.Core.Bool.{Bool, true, false}
 use mathlib.Core.Option.{Option, none, some}
 use Rattle.definitions.specs.declared.Refusal.{Refusal}
+use Rattle.definitions.specs.declared.Found.{Found}
+use Rattle.definitions.specs.declared.Found.the-variants.{Nowhere, At}
 
 pub data Outcome (A : Type 0) : Type 0 where
   refused : Refusal → Outcome A
@@ -28,11 +30,21 @@ unfoldable pub refuseIf : Bool → ℕ → ℕ → Outcome (Unit {0})
 refuseIf true number place = refuse number place
 refuseIf false number place = accepted tt
 
+-- the place that was found already, or else this one if the test holds here
+unfoldable pub firstOf : Option ℕ → Bool → ℕ → Option ℕ
+firstOf (some found) test place = some found
+firstOf none true place = some place
+firstOf none false place = none
+
 -- the lowest place below the count at which the test holds
 unfoldable pub lowest : (ℕ → Bool) → ℕ → Option ℕ
 lowest test zero = none
-lowest test (suc count) =
-    elim (lowest test count) [ some place ↦ some place | none ↦ elim (test count) [ true ↦ some count | false ↦ none ] ]
+lowest test (suc count) = firstOf (lowest test count) (test count) count
+
+-- such a place as the program answers it
+unfoldable pub foundAt : Option ℕ → Found
+foundAt none = Nowhere
+foundAt (some place) = At place
 
 -- refused at that place, if there is one
 unfoldable pub refuseAt : Option ℕ → ℕ → Outcome (Unit {0})

@@ -17,7 +17,9 @@ lastDigit n = (48 + n % 10) ∷ []
 -- the digits of a number of at most so many digits
 unfoldable pub digits : ℕ → ℕ → List ℕ
 digits zero n = []
-digits (suc most) n = elim (ltb n 10) [ true ↦ lastDigit n | false ↦ digits most (n / 10) ++ lastDigit n ]
+digits (suc most) n =
+    let before = digits most (n / 10) in
+    cond (ltb n 10) (lastDigit n) (before ++ lastDigit n)
 
 -- a number in decimal, without leading zeros: n has at most n + 1 digits
 unfoldable pub decimal : ℕ → List ℕ

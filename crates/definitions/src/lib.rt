@@ -11,3 +11,9 @@ pub enum Style {
     Plain,
     Strict,
 }
+
+// The lowest place at which a test holds, if there is one.
+pub enum Found {
+    Nowhere,
+    At(usize),
+}
