@@ -1,2 +1,5 @@
 pub mod Either
+pub mod Upward
 pub mod Ranges
+pub mod Slices
+pub mod Placed

@@ -1,6 +1,8 @@
 -- The header of a sheet's bytes, and where the parts lie, as the program holds them.
 use Prim.Native.Nat.{ℕ, _≤_, _<_}
+use mathlib.Core.Path.{_≡_}
 use mathlib.Core.List.{List}
+use lib.ListN.{length}
 use Rattle.definitions.specs.Sheet as sheet
 use Rattle.definitions.specs.Sheet.{textLimit, nameLimit, codeLimit, propositionLimit, stepLimit}
 use Rattle.sheet.specs.declared.header.Sheet.{Sheet}
@@ -37,3 +39,9 @@ pub record InRange (h : Sheet) : Type 0 where
   pub some-step : 1 ≤ h .steps
   pub steps : h .steps ≤ stepLimit
   pub goal : h .goal < h .propositions
+
+-- these bytes have this header, its numbers lie in their ranges, and the bytes are as many as it says
+pub record HasHeader (s : List ℕ) (h : Sheet) : Type 0 where
+  pub header : h ≡ headerOf s
+  pub in-range : InRange h
+  pub whole : length s ≡ sheet.sheetLength s

@@ -1,2 +1,3 @@
 -- What the contracts of the sheet cite beside document 01's definitions.
 pub mod Header
+pub mod Pairs
