@@ -8,9 +8,10 @@ use lib.ListN.{length, drop, getD}
 use Rattle.definitions.specs.Sheet.{numberAt}
 use Rattle.definitions.specs.Prop.{PropParameter, Connective, and, or, impl, connectiveByte, Quantifier, forAll, exists, quantifierByte}
 use Rattle.definitions.specs.Code.{parameterLimit, u16, encodeParameters, CodableParameters}
+use Rattle.definitions.proofs.Readings.{Bytes}
 use Rattle.prefix_code.specs.Scan.{Stands, Ends, Several}
 use Rattle.prefix_code.specs.Head.{Head, TrueHead, FalseHead, BinaryHead, AtomHead, QuantifiedHead, encodeHead, CodableHead, partsAfter}
-use Rattle.prefix_code.proofs.Positions.{AllBytes, extent, byte-stands, byte-at, number-stands, number-at}
+use Rattle.prefix_code.proofs.Positions.{extent, byte-stands, byte-at, number-stands, number-at}
 
 -- how many parts follow a head
 abbrev pub partCount : Head → ℕ
@@ -174,7 +175,7 @@ module _ (names : ℕ) where
         let (h, g, e) = bare-head (getD l at 0) b in
         (h, (g, byte-stands l at k ∙ ap (λ (s : List ℕ). s ++ drop (at + 1) l) (sym e)))
 
-    module _ (bytes : AllBytes l) (below : numberAt l (at + 1) < names) where
+    module _ (bytes : Bytes l) (below : numberAt l (at + 1) < names) where
       pub atom-stands : (ps : List (PropParameter ℕ)) (rest : List ℕ) → at + 4 ≤ length l → getD l at 0 ≡ 5 → getD l (at + 3) 0 ≤ parameterLimit
           → Stands (Several names (getD l (at + 3) 0)) encodeParameters l (at + 4) ps rest → HeadAt l at (AtomHead (numberAt l (at + 1)) ps) rest
       unfolding Stands Several CodableHead encodeHead u16

@@ -5,3 +5,4 @@ pub mod Parameters
 pub mod Heads
 pub mod Propositions
 pub mod Depth
+pub mod Whole

@@ -8,8 +8,9 @@ use lib.ListN.{length, drop, getD}
 use Rattle.definitions.specs.Sheet.{numberAt}
 use Rattle.definitions.specs.Prop.{PropParameter, Uninstantiated, Instantiated, parameterName}
 use Rattle.definitions.specs.Code.{u16, encodeParameter, encodeParameters, CodableParameter, CodableParameters}
+use Rattle.definitions.proofs.Readings.{Bytes}
 use Rattle.prefix_code.specs.Scan.{Stands, Several}
-use Rattle.prefix_code.proofs.Positions.{AllBytes, byte-stands, byte-at, number-stands, number-at}
+use Rattle.prefix_code.proofs.Positions.{byte-stands, byte-at, number-stands, number-at}
 use Rattle.prefix_code.proofs.Runs.{Run}
 
 module _ (names : ℕ) where
@@ -55,7 +56,7 @@ module _ (names : ℕ) where
         instantiated = λ _. (cc, omega (arith, m .inside), rw five at (m .next));
       }
 
-  module _ (l : List ℕ) (at : ℕ) (bytes : AllBytes l) (below : numberAt l (at + 1) < names) where
+  module _ (l : List ℕ) (at : ℕ) (bytes : Bytes l) (below : numberAt l (at + 1) < names) where
     pub uninstantiated-stands : at + 3 ≤ length l → getD l at 0 ≡ 0 → ParameterAt l at (Uninstantiated (numberAt l (at + 1))) (drop (at + 3) l)
     unfolding Stands encodeParameter CodableParameter
     uninstantiated-stands h b =

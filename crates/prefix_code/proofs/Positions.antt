@@ -8,10 +8,7 @@ use lib.ListN.{length, drop, getD, length-append, length-drop}
 use lib.Seq.{drop-cons, drop-drop, drop-append-seam}
 use Rattle.definitions.specs.Sheet.{numberAt}
 use Rattle.definitions.specs.Code.{u16}
-
--- every element is a byte
-abbrev pub AllBytes : List ℕ → Type 0
-AllBytes l = (i : ℕ) → getD l i 0 < 256
+use Rattle.definitions.proofs.Readings.{Bytes}
 
 -- what stands after a list that stands at a position
 pub after : (l : List ℕ) (at : ℕ) (s rest : List ℕ) → drop at l ≡ s ++ rest → drop (at + length s) l ≡ rest
@@ -35,7 +32,7 @@ byte-at l i b rest e =
     let d = byte-stands l i h in
     record { inside = h; value = cc; next = cc }
 
-pub number-stands : (l : List ℕ) (i : ℕ) → AllBytes l → i + 2 ≤ length l → drop i l ≡ u16 (numberAt l i) ++ drop (i + 2) l
+pub number-stands : (l : List ℕ) (i : ℕ) → Bytes l → i + 2 ≤ length l → drop i l ≡ u16 (numberAt l i) ++ drop (i + 2) l
 unfolding u16 numberAt
 number-stands l i bytes h =
     let low : (getD l i 0 + 256 * getD l (i + 1) 0) % 256 ≡ getD l i 0 = omega (arith, bytes i) in

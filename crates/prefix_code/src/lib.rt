@@ -1,13 +1,22 @@
 // A proposition's prefix code: where it ends, whether it is one, and whether it nests too deep.
 ghost use mathlib.Core.Path.{_≡_};
 ghost use Prim.Native.Nat.{_≤_, _<_};
+ghost use mathlib.Core.Bool.{false, not};
+ghost use mathlib.Core.Option.{Option·getD};
 ghost use lib.ListN.{length};
-ghost use Rattle.definitions.specs.Code.{encodeParameter, CodableParameter, encodeParameters, encode};
+ghost use lib.Dec.{ltb};
+ghost use Rattle.definitions.specs.Sheet.{propositionNestingLimit};
+ghost use Rattle.definitions.specs.Prop.{False, nesting};
+ghost use Rattle.definitions.specs.Code.{encodeParameter, CodableParameter, encodeParameters, encode, decode};
+ghost use Rattle.definitions.specs.Admission.{isNone};
 ghost use Rattle.prefix_code.specs.Scan.{Ends, Scanned, Several, Shallow};
 ghost use Rattle.prefix_code.specs.Head.{encodeHead, CodableHead, partsAfter};
 
 // An atom has at most so many parameters.
 const PARAMETER_LIMIT: u8 = 8;
+
+// A proposition nests at most so deep.
+const NESTING_LIMIT: usize = 64;
 
 // How many propositions follow each head byte.
 const PARTS: [usize; 8] = [0, 0, 2, 2, 2, 0, 1, 1];
@@ -141,4 +150,19 @@ fn shallow_end(code: &[u8], at: usize, names: usize, depth: usize) -> usize
         i = end;
     }
     i
+}
+
+// Is it exactly one proposition over its whole length, with names below `names`? If not, that is refusal 7.
+pub fn is_code(code: &[u8], names: usize) -> bool
+    ensures { λ r. ⌜ r ≡ not (isNone (decode names (now (code .entry)))) ⌝ }
+{
+    scan(code, 0, names) == code.len()
+}
+
+// Does the proposition nest deeper than the limit? That is refusal 8.
+pub fn is_deep(code: &[u8], names: usize) -> bool
+    requires { ⌜ isNone (decode names (now code)) ≡ false ⌝ }
+    ensures { λ r. ⌜ r ≡ ltb propositionNestingLimit (nesting (Option·getD (decode names (now (code .entry))) False)) ⌝ }
+{
+    code.len() < shallow_end(code, 0, names, NESTING_LIMIT)
 }
