@@ -1,3 +1,5 @@
 pub mod Everything
 pub mod Lowest
+pub mod Readings
+pub mod PrefixCode
 pub mod Drawings
