@@ -1,1 +1,5 @@
 pub mod Either
+pub mod LastTrees
+pub mod Premisses
+pub mod Walk
+pub mod Tables

@@ -9,7 +9,8 @@ ghost use Rattle.definitions.specs.Outcome.{lowest, foundAt};
 ghost use Rattle.definitions.specs.Sheet.{stepSize, stepLimit, ruleByte, premissCount, stepNumber};
 ghost use Rattle.definitions.specs.Tree.{rules, Sorry, identifierCount};
 ghost use Rattle.steps.specs.Records.{HasStep, HasSteps};
-ghost use Rattle.definitions.specs.Admission.{noName, notZero, badIdentifier, badPropIsTrue, badTypeJudgement, badConclusion, badStep};
+ghost use Rattle.steps.specs.Tables.{SizeTable, FilledSizes, TreeStart};
+ghost use Rattle.definitions.specs.Admission.{treesLeft, noName, notZero, badIdentifier, badPropIsTrue, badTypeJudgement, badConclusion, badStep};
 
 // The bytes of a step.
 pub const STEP_SIZE: usize = 18;
@@ -114,4 +115,42 @@ pub fn first_bad_step(records: &[u8], steps: usize, names: usize, propositions: 
         }
     }
     Found::Nowhere
+}
+
+// Where the tree of step k starts, if the step finds its premisses: back over each of them by its size.
+fn tree_start(records: &[u8], k: usize, sizes: &[u16]) -> Found
+    requires { ⌜ (HasStep (now records) k) × (k ≤ length (now sizes)) × SizeTable (now records) k (now sizes) ⌝ }
+    ensures { λ r. ⌜ TreeStart (now (records .entry)) k r ⌝ }
+{
+    let premisses = records[STEP_SIZE * k + 1];
+    let mut start = k;
+    for _ in 0..premisses {
+        if start == 0 {
+            return Found::Nowhere;
+        }
+        start -= sizes[start - 1] as usize;
+    }
+    Found::At(start)
+}
+
+// Refusal 10, its first part: the lowest step that finds too few trees. The sizes are those of the steps' trees.
+pub fn fill_sizes(records: &[u8], steps: usize, sizes: &mut [u16]) -> Found
+    requires { ⌜ (HasSteps (now records) steps) × (steps ≤ stepLimit) × (steps ≤ length (now sizes)) ⌝ }
+    ensures { λ r. ⌜ FilledSizes (now (records .entry)) steps (now (sizes .entry)) r (now (sizes .exit)) ⌝ }
+{
+    for k in 0..steps {
+        let Found::At(start) = tree_start(records, k, sizes) else {
+            return Found::At(k);
+        };
+        sizes[k] = (k + 1 - start) as u16;
+    }
+    Found::Nowhere
+}
+
+// Refusal 10, its second part: the last step's tree has not all the steps.
+pub fn leaves_trees(records: &[u8], steps: usize, sizes: &[u16]) -> bool
+    requires { ⌜ (0 < steps) × (steps ≤ length (now sizes)) × SizeTable (now records) steps (now sizes) ⌝ }
+    ensures { λ r. ⌜ ((names : ℕ) (pairs code : List ℕ) → r ≡ treesLeft names pairs code (now (records .entry)) steps) ⌝ }
+{
+    (sizes[steps - 1] as usize) < steps
 }

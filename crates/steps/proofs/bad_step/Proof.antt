@@ -30,7 +30,8 @@ unfolding stepSize
 shared-slice-read-rule c = omega arith
 
 cast-rule : tie.Need-cast-rule
-cast-rule c = omega (arith, c .shared-slice-known2 .given (18 * c .before .before .args .k))
+unfolding stepSize
+cast-rule c = omega (arith, c .shared-slice-known2 .given (stepSize * c .before .before .args .k))
 
 returns : tie.Need-returns
 unfolding badStep ruleByte stepSize rules
