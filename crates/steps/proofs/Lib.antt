@@ -2,4 +2,5 @@ pub mod Either
 pub mod LastTrees
 pub mod Premisses
 pub mod Walk
+pub mod Deepest
 pub mod Tables

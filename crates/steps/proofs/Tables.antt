@@ -9,10 +9,10 @@ use lib.Seq.{getD-set-same, getD-set-other}
 use borrow.Author.Count.{below-more}
 use Rattle.definitions.specs.declared.Found.{Found}
 use Rattle.definitions.specs.declared.Found.the-variants.{At}
-use Rattle.definitions.specs.Tree.{treeIn}
-use Rattle.definitions.specs.Admission.{tooFewTrees}
+use Rattle.definitions.specs.Tree.{height, treeIn}
+use Rattle.definitions.specs.Admission.{tooFewTrees, deepTree}
 use Rattle.steps.specs.Size.{size}
-use Rattle.steps.specs.Tables.{TreeStart, SizeTable}
+use Rattle.steps.specs.Tables.{TreeStart, SizeTable, HeightTable}
 
 -- one more entry
 entries-more : (f : ℕ → ℕ) (table : List ℕ) (k v : ℕ) → k < length table → ((i : ℕ) → i < k → getD table i 0 ≡ f i) → v ≡ f k
@@ -36,4 +36,26 @@ module _ (records table : List ℕ) where
         sizes = λ names pairs code.
             let e = s names pairs code .1 in
             entries-more (λ i. size (treeIn names pairs code records i)) table k (k + 1 - start) h (t .sizes names pairs code) (omega arith);
+      }
+
+  pub size-table-shorter : (m n : ℕ) → m ≤ n → SizeTable records n table → SizeTable records m table
+  size-table-shorter m n h t =
+      record {
+        enough = λ names pairs code k l. t .enough names pairs code k (omega arith);
+        sizes = λ names pairs code k l. t .sizes names pairs code k (omega arith);
+      }
+
+  pub height-table-none : HeightTable records 0 table
+  height-table-none =
+      record { shallow = λ names pairs code k h. absurd (omega arith); heights = λ names pairs code k h. absurd (omega arith) }
+
+  pub height-table-more : (k v : ℕ) → k < length table → HeightTable records k table
+      → ((names : ℕ) (pairs code : List ℕ) → v ≡ height (treeIn names pairs code records k))
+      → ((names : ℕ) (pairs code : List ℕ) → deepTree names pairs code records k ≡ false)
+      → HeightTable records (k + 1) (set table k v)
+  height-table-more k v h t e s =
+      record {
+        shallow = λ names pairs code. below-more (λ i. deepTree names pairs code records i ≡ false) k (t .shallow names pairs code) (s names pairs code);
+        heights = λ names pairs code.
+            entries-more (λ i. height (treeIn names pairs code records i)) table k v h (t .heights names pairs code) (e names pairs code);
       }

@@ -1,6 +1,6 @@
 -- A walk back over the last trees before step k, by the size table: past j trees it stands at step p.
 use Prim.Native.Nat.{ℕ, _+_, _-_, _≤_, _<_}
-use mathlib.Core.Path.{_≡_}
+use mathlib.Core.Path.{_≡_, sym, _∙_}
 use mathlib.Core.Bool.{true, false}
 use mathlib.Core.List.{List, []}
 use native.Mathlib.Omega.{arith}
@@ -45,6 +45,12 @@ module _ {records : List ℕ} {k j p : ℕ} (w : Walk records k j p) where
   walk-out z h names pairs code =
       let n = no-tree-left names pairs code records k j (rw z at (w .seam names pairs code)) in
       lt-ltb (length (treesBefore names pairs code records k)) (premissCount records k) (omega arith)
+
+  -- a step that finds its premisses has them all before step 0 is passed
+  pub walk-in : tooFewTrees 0 [] [] records k ≡ false → j < premissCount records k → 0 < p
+  walk-in e h =
+      let n : p ≡ 0 → ⊥ = λ z. let f = sym e ∙ walk-out z h 0 [] [] in let c : _≡_ {A = ℕ} 0 1 = cc in omega arith in
+      omega arith
 
   -- a walk past all premisses
   pub walk-done : j ≡ premissCount records k → (names : ℕ) (pairs code : List ℕ) → (tooFewTrees names pairs code records k ≡ false) × (p + size (treeIn names pairs code records k) ≡ k + 1)

@@ -3,17 +3,21 @@ use definitions::Found;
 use number::number_at;
 ghost use mathlib.Core.Path.{_≡_};
 ghost use mathlib.Core.List.{List};
-ghost use Prim.Native.Nat.{ℕ, _+_, _*_, _≤_, _<_, max};
+ghost use Prim.Native.Nat;
+ghost use Prim.Native.Nat.{ℕ, _+_, _*_, _≤_, _<_};
 ghost use lib.ListN.{length, getD};
 ghost use Rattle.definitions.specs.Outcome.{lowest, foundAt};
 ghost use Rattle.definitions.specs.Sheet.{stepSize, stepLimit, ruleByte, premissCount, stepNumber};
-ghost use Rattle.definitions.specs.Tree.{rules, Sorry, identifierCount};
+ghost use Rattle.definitions.specs.Tree.{rules, Sorry, identifierCount, height, treeIn};
 ghost use Rattle.steps.specs.Records.{HasStep, HasSteps};
-ghost use Rattle.steps.specs.Tables.{SizeTable, FilledSizes, TreeStart};
-ghost use Rattle.definitions.specs.Admission.{treesLeft, noName, notZero, badIdentifier, badPropIsTrue, badTypeJudgement, badConclusion, badStep};
+ghost use Rattle.steps.specs.Tables.{SizeTable, HeightTable, FilledSizes, TreeStart};
+ghost use Rattle.definitions.specs.Admission.{treesLeft, deepTree, noName, notZero, badIdentifier, badPropIsTrue, badTypeJudgement, badConclusion, badStep};
 
 // The bytes of a step.
 pub const STEP_SIZE: usize = 18;
+
+// The deepest nesting of a tree.
+pub const TREE_NESTING_LIMIT: u16 = 256;
 
 // How many identifiers a rule has, by its byte.
 const IDENTIFIER_COUNTS: [u8; 17] = [0, 0, 0, 0, 1, 0, 1, 0, 0, 2, 0, 1, 0, 0, 2, 0, 0];
@@ -117,12 +121,19 @@ pub fn first_bad_step(records: &[u8], steps: usize, names: usize, propositions: 
     Found::Nowhere
 }
 
+fn premiss_count(records: &[u8], k: usize) -> u8
+    requires { ⌜ HasStep (now records) k ⌝ }
+    ensures { λ r. ⌜ r ≡ premissCount (now (records .entry)) k ⌝ }
+{
+    records[STEP_SIZE * k + 1]
+}
+
 // Where the tree of step k starts, if the step finds its premisses: back over each of them by its size.
 fn tree_start(records: &[u8], k: usize, sizes: &[u16]) -> Found
     requires { ⌜ (HasStep (now records) k) × (k ≤ length (now sizes)) × SizeTable (now records) k (now sizes) ⌝ }
     ensures { λ r. ⌜ TreeStart (now (records .entry)) k r ⌝ }
 {
-    let premisses = records[STEP_SIZE * k + 1];
+    let premisses = premiss_count(records, k);
     let mut start = k;
     for _ in 0..premisses {
         if start == 0 {
@@ -153,4 +164,43 @@ pub fn leaves_trees(records: &[u8], steps: usize, sizes: &[u16]) -> bool
     ensures { λ r. ⌜ ((names : ℕ) (pairs code : List ℕ) → r ≡ treesLeft names pairs code (now (records .entry)) steps) ⌝ }
 {
     (sizes[steps - 1] as usize) < steps
+}
+
+fn max(a: u16, b: u16) -> u16
+    ensures { λ r. ⌜ r ≡ Nat.max a b ⌝ }
+{
+    if a < b { b } else { a }
+}
+
+// The nesting of the tree of step k: one more than that of its deepest premiss.
+fn tree_height(records: &[u8], k: usize, sizes: &[u16], heights: &[u16]) -> u16
+    requires { ⌜ (HasStep (now records) k) × (k ≤ length (now sizes)) × (k ≤ length (now heights)) ⌝ }
+    requires { ⌜ SizeTable (now records) (k + 1) (now sizes) × HeightTable (now records) k (now heights) ⌝ }
+    ensures { λ r. ⌜ ((names : ℕ) (pairs code : List ℕ) → r ≡ height (treeIn names pairs code (now (records .entry)) k)) ⌝ }
+{
+    let premisses = premiss_count(records, k);
+    let mut start = k;
+    let mut deepest = 0;
+    for _ in 0..premisses {
+        let last = start - 1;
+        deepest = max(heights[last], deepest);
+        start -= sizes[last] as usize;
+    }
+    deepest + 1
+}
+
+// Refusal 11: the lowest step whose tree nests too deep. The heights are those of the steps before it.
+pub fn first_deep_tree(records: &[u8], steps: usize, sizes: &[u16], heights: &mut [u16]) -> Found
+    requires { ⌜ (HasSteps (now records) steps) × (steps ≤ length (now sizes)) × (steps ≤ length (now heights)) ⌝ }
+    requires { ⌜ SizeTable (now records) steps (now sizes) ⌝ }
+    ensures { λ r. ⌜ ((names : ℕ) (pairs code : List ℕ) → r ≡ foundAt (lowest (deepTree names pairs code (now (records .entry))) steps)) ⌝ }
+{
+    for k in 0..steps {
+        let height = tree_height(records, k, sizes, heights);
+        if TREE_NESTING_LIMIT < height {
+            return Found::At(k);
+        }
+        heights[k] = height;
+    }
+    Found::Nowhere
 }
