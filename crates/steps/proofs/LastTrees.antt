@@ -1,20 +1,21 @@
--- The last trees of a list, counted one by one: the newest first, and so in front of all that are newer.
+-- The last trees of a list, taken one by one: each stands in front of those that are newer.
 use Prim.Native.Nat.{ℕ, zero, suc, _+_, _≤_}
-use mathlib.Core.Path.{_≡_, refl, sym, ap, _∙_}
+use mathlib.Core.Path.{_≡_, refl}
 use mathlib.Core.List.{List, [], _∷_}
 use native.Mathlib.Omega.{arith}
 use lib.ListN.{length, drop}
-use Rattle.definitions.specs.Tree.{ProofTree, Premisses, none, _and_, count, lastTrees}
+use Rattle.definitions.specs.Tree.{ProofTree, Premisses, _and_, count, lastTrees}
 
--- one more tree stands in front of the last n
-pub one-more : (n : ℕ) {t : ProofTree ℕ} (ts us : List (ProofTree ℕ)) (ps : Premisses ℕ) → drop n ts ≡ t ∷ us → lastTrees (suc n) ts ps ≡ t and lastTrees n ts ps
+-- the next tree of the list stands in front of the last n
+pub one-more : (n : ℕ) {t : ProofTree ℕ} (ts us : List (ProofTree ℕ)) (ps : Premisses ℕ)
+    → drop n ts ≡ t ∷ us → lastTrees (suc n) ts ps ≡ t and lastTrees n ts ps
 unfolding lastTrees
 one-more zero [] us ps e = let z : _≡_ {A = ℕ} 0 1 = cc in absurd (omega arith)
 one-more zero (s ∷ ts) us ps e = cc
 one-more (suc n) [] us ps e = let z : _≡_ {A = ℕ} 0 1 = cc in absurd (omega arith)
 one-more (suc n) (s ∷ ts) us ps e = one-more n ts us (s and ps) e
 
--- where the list ends there is none
+-- past its end there is none
 pub no-more : (n : ℕ) (ts : List (ProofTree ℕ)) (ps : Premisses ℕ) → drop n ts ≡ [] → lastTrees (suc n) ts ps ≡ lastTrees n ts ps
 unfolding lastTrees
 no-more zero [] ps e = refl

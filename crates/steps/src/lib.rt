@@ -3,8 +3,7 @@ use definitions::Found;
 use number::number_at;
 ghost use mathlib.Core.Path.{_≡_};
 ghost use mathlib.Core.List.{List};
-ghost use Prim.Native.Nat;
-ghost use Prim.Native.Nat.{ℕ, _+_, _*_, _≤_, _<_};
+ghost use Prim.Native.Nat.{ℕ, _+_, _≤_, _<_, max};
 ghost use lib.ListN.{length, getD};
 ghost use Rattle.definitions.specs.Outcome.{lowest, foundAt};
 ghost use Rattle.definitions.specs.Sheet.{stepSize, stepLimit, ruleByte, premissCount, stepNumber};
@@ -167,7 +166,7 @@ pub fn leaves_trees(records: &[u8], steps: usize, sizes: &[u16]) -> bool
 }
 
 fn max(a: u16, b: u16) -> u16
-    ensures { λ r. ⌜ r ≡ Nat.max a b ⌝ }
+    ensures { λ r. ⌜ r ≡ max a b ⌝ }
 {
     if a < b { b } else { a }
 }

@@ -14,13 +14,6 @@ use Rattle.steps.proofs.Either.{first-holds, second-decides}
 use Rattle.steps.proofs.bad_step.Statement.{statement}
 use Rattle.steps.proofs.bad_step.Tie as tie
 
--- an identifier tested with the count that was read is tested with the count of the step's rule
-of-the-rule : (names propositions : ℕ) (records : List ℕ) (k at least counted : ℕ) {r : Bool}
-    → counted ≡ identifiers names propositions records k
-    → r ≡ badIdentifier names propositions records k at (leb least counted)
-    → r ≡ badIdentifier names propositions records k at (leb least (identifiers names propositions records k))
-of-the-rule names propositions records k at least counted e h = rw e at h
-
 mul-rule : tie.Need-mul-rule
 unfolding stepSize
 mul-rule c = omega arith
@@ -55,23 +48,23 @@ bad-conclusion-requires c κs = search needs
 returns-2 : tie.Need-returns-2
 unfolding badStep identifiers ruleIn ruleByte stepSize rules
 returns-2 c =
-    second-decides refl (lt-leb _ _ (c .before .before .before .if1 .left))
-    (first-holds _ (of-the-rule _ _ _ _ 2 1 _ (c .before .before .identifier-count .ensures) (c .before .bad-identifier .ensures _)) (c .if2 .taken))
+    rw (← c .before .before .identifier-count .ensures)
+    (second-decides refl (lt-leb _ _ (c .before .before .before .if1 .left)) (first-holds _ (c .before .bad-identifier .ensures _) (c .if2 .taken)))
 
 returns-3 : tie.Need-returns-3
 unfolding badStep identifiers ruleIn ruleByte stepSize rules
 returns-3 c =
-    second-decides refl (lt-leb _ _ (c .before .before .before .before .before .if1 .left))
-    (second-decides (of-the-rule _ _ _ _ 2 1 _ (c .before .before .before .before .identifier-count .ensures) (c .before .before .before .bad-identifier .ensures _)) (c .before .before .if2 .left)
-    (first-holds _ (of-the-rule _ _ _ _ 6 2 _ (c .before .before .before .before .identifier-count .ensures) (c .before .bad-identifier2 .ensures _)) (c .if3 .taken)))
+    rw (← c .before .before .before .before .identifier-count .ensures)
+    (second-decides refl (lt-leb _ _ (c .before .before .before .before .before .if1 .left))
+    (second-decides (c .before .before .before .bad-identifier .ensures _) (c .before .before .if2 .left) (first-holds _ (c .before .bad-identifier2 .ensures _) (c .if3 .taken))))
 
 returns-4 : tie.Need-returns-4
 unfolding badStep identifiers ruleIn ruleByte stepSize rules
 returns-4 c =
-    second-decides refl (lt-leb _ _ (c .before .before .before .before .before .before .if1 .left))
-    (second-decides (of-the-rule _ _ _ _ 2 1 _ (c .before .before .before .before .before .identifier-count .ensures) (c .before .before .before .before .bad-identifier .ensures _)) (c .before .before .before .if2 .left)
-    (second-decides (of-the-rule _ _ _ _ 6 2 _ (c .before .before .before .before .before .identifier-count .ensures) (c .before .before .bad-identifier2 .ensures _)) (c .before .if3 .left)
-    (c .bad-conclusion .ensures)))
+    rw (← c .before .before .before .before .before .identifier-count .ensures)
+    (second-decides refl (lt-leb _ _ (c .before .before .before .before .before .before .if1 .left))
+    (second-decides (c .before .before .before .before .bad-identifier .ensures _) (c .before .before .before .if2 .left)
+    (second-decides (c .before .before .bad-identifier2 .ensures _) (c .before .if3 .left) (c .bad-conclusion .ensures))))
 
 pub bad-step-spec : {M : Type 1} → statement M
 bad-step-spec =

@@ -12,7 +12,7 @@ use Rattle.definitions.specs.Sheet.{premissCount}
 use Rattle.definitions.specs.Tree.{treesBefore, treeIn}
 use Rattle.definitions.specs.Admission.{treesLeft}
 use Rattle.steps.specs.Size.{size}
-use Rattle.steps.proofs.Premisses.{Seam, seam, size-from, below-tree}
+use Rattle.steps.proofs.Premisses.{Seam, seam, tree-steps, below-tree}
 use Rattle.steps.proofs.leaves_trees.Statement.{statement}
 use Rattle.steps.proofs.leaves_trees.Tie as tie
 
@@ -22,12 +22,12 @@ module _ (names : ℕ) (pairs code records : List ℕ) where
       → ltb (size (treeIn names pairs code records k)) (k + 1) ≡ treesLeft names pairs code records (k + 1)
   unfolding treesLeft treesBefore
   left-from k zero s =
-      let n = size-from names pairs code records k 0 s in
+      let n = tree-steps names pairs code records k 0 s in
       let l = ap length (below-tree names pairs code records k 0 s) in
       le-ltb (size (treeIn names pairs code records k)) (k + 1) (omega arith)
       ∙ sym (le-ltb 1 (length (treesBefore names pairs code records (k + 1))) (omega arith))
   left-from k (suc p) s =
-      let n = size-from names pairs code records k (suc p) s in
+      let n = tree-steps names pairs code records k (suc p) s in
       let l = ap length (below-tree names pairs code records k (suc p) s) in
       lt-ltb (size (treeIn names pairs code records k)) (k + 1) (omega arith)
       ∙ sym (lt-ltb 1 (length (treesBefore names pairs code records (k + 1))) (omega arith))

@@ -21,12 +21,14 @@ abbrev μ-loop : tie.MeasureT-loop
 μ-loop records k sizes heights premisses start₀ deepest₀ counter₀ start deepest counter = premisses - counter
 
 -- the sizes of the trees before step k
-sized : (c : tie.In-loop Inv-loop μ-loop) → SizeTable (now (c .before .before .before .before .before .before .args .records)) (c .before .before .before .before .before .before .args .k) (now (c .before .before .before .before .before .before .args .sizes))
-sized c = size-table-shorter _ _ _ _ (omega arith) (c .before .before .before .before .before .before .pre .1 .0)
+sized : (c : tie.Start Inv-loop μ-loop) → SizeTable (now (c .args .records)) (c .args .k) (now (c .args .sizes))
+sized c = size-table-shorter _ _ _ _ (omega arith) (c .pre .1 .0)
 
 -- a premiss that is still to be passed ends before the walk's step
-here : (c : tie.In-loop Inv-loop μ-loop) → 0 < c .before .loop .start
-here c = walk-in (c .before .loop .inv .2) (c .before .before .before .before .before .before .pre .1 .0 .enough 0 [] [] _ (omega arith)) (omega arith)
+before : (c : tie.In-loop Inv-loop μ-loop) → 0 < c .before .loop .start
+before c =
+    walk-in (c .before .loop .inv .2) (c .before .before .before .before .before .before .pre .1 .0 .enough 0 [] [] _ (omega arith))
+    (omega arith)
 
 premiss-count-requires : tie.Need-premiss-count-requires Inv-loop μ-loop
 premiss-count-requires c κs = search needs
@@ -35,13 +37,13 @@ loop-holds : tie.Need-loop-holds Inv-loop μ-loop
 loop-holds c = (c .premiss-count .ensures, omega arith, walk-start _ _, deepest-none _ _)
 
 sub-last : tie.Need-sub-last Inv-loop μ-loop
-sub-last c = here c
+sub-last c = before c
 
 mul-max : tie.Need-mul-max Inv-loop μ-loop
 mul-max c = let l = walk-within (c .before .loop .inv .2) in omega arith
 
 shared-slice-read-max : tie.Need-shared-slice-read-max Inv-loop μ-loop
-shared-slice-read-max c = omega (arith, here (c .before), walk-within (c .before .before .loop .inv .2))
+shared-slice-read-max c = omega (arith, before (c .before), walk-within (c .before .before .loop .inv .2))
 
 max-requires : tie.Need-max-requires Inv-loop μ-loop
 max-requires c κs = search needs
@@ -50,13 +52,13 @@ mul-start : tie.Need-mul-start Inv-loop μ-loop
 mul-start c = let l = walk-within (c .before .before .before .loop .inv .2) in omega arith
 
 shared-slice-read-start : tie.Need-shared-slice-read-start Inv-loop μ-loop
-shared-slice-read-start c = omega (arith, here (c .before .before .before), walk-within (c .before .before .before .before .loop .inv .2))
+shared-slice-read-start c = omega (arith, before (c .before .before .before), walk-within (c .before .before .before .before .loop .inv .2))
 
 cast-start : tie.Need-cast-start Inv-loop μ-loop
 cast-start c = omega (arith, c .shared-slice-known5 .given (c .before .before .before .before .loop .start - 1))
 
 sub-start : tie.Need-sub-start Inv-loop μ-loop
-sub-start c = size-fits (c .before .before .before .before .loop .inv .2) _ (sized (c .before .before .before)) (here (c .before .before .before))
+sub-start c = size-fits (c .before .before .before .before .loop .inv .2) _ (sized (c .before .before .before .before .before .before .before .before .before)) (before (c .before .before .before))
 
 add-counter : tie.Need-add-counter Inv-loop μ-loop
 add-counter c = omega arith
@@ -66,8 +68,9 @@ loop-less c = omega arith
 
 loop-again : tie.Need-loop-again Inv-loop μ-loop
 loop-again c =
-    let n = here (c .before .before .before) in
-    (c .before .before .before .before .loop .inv .0, omega arith, walk-on (c .before .before .before .before .loop .inv .2) _ (sized (c .before .before .before)) n, rw (c .before .max .ensures) (deepest-more _ _ _ _ _ _ (c .before .before .before .before .before .before .before .before .before .pre .1 .1) (c .before .before .before .before .loop .inv .2) n (c .before .before .before .before .loop .inv .3)))
+    let n = before (c .before .before .before) in
+    let w = c .before .before .before .before .loop .inv .2 in
+    (c .before .before .before .before .loop .inv .0, omega arith, walk-on w _ (sized (c .before .before .before .before .before .before .before .before .before)) n, rw (c .before .max .ensures) (deepest-more _ _ _ _ _ _ (c .before .before .before .before .before .before .before .before .before .pre .1 .1) w n (c .before .before .before .before .loop .inv .3)))
 
 add-result : tie.Need-add-result Inv-loop μ-loop
 unfolding treeNestingLimit
