@@ -1,0 +1,6 @@
+pub mod Either
+pub mod LastTrees
+pub mod Premisses
+pub mod Walk
+pub mod Deepest
+pub mod Tables
