@@ -1,11 +1,12 @@
 -- What refusals 4 and 6 have in common, and what they give to the refusals after them.
 use Prim.Native.Nat.{ℕ, _*_, _<_, _≤_}
-use mathlib.Core.Bool.{Bool, _||_}
+use mathlib.Core.Path.{_≡_}
+use mathlib.Core.Bool.{Bool, false, _||_}
 use mathlib.Core.List.{List}
 use lib.ListN.{length}
 use lib.Dec.{ltb}
 use Rattle.definitions.specs.Sheet.{pairSize, pairOffset, pairLength, pairEnd, lastEnd}
-use Rattle.definitions.specs.Admission.{misplaced}
+use Rattle.definitions.specs.Admission.{misplaced, badCode}
 
 -- a pair starts before the last one's end, ends past so many bytes, or has a length outside 1 to the longest
 unfoldable pub badPair : List ℕ → ℕ → ℕ → ℕ → Bool
@@ -23,3 +24,8 @@ pub record GoodPair (pairs : List ℕ) (bytes longest i : ℕ) : Type 0 where
 pub record HasPairs (pairs bytes : List ℕ) (count : ℕ) : Type 0 where
   pub present : pairSize * count ≤ length pairs
   pub ends : (i : ℕ) → i < count → pairEnd pairs i ≤ length bytes
+
+-- so many pairs are there, and each marks a proposition's code
+pub record HasCodes (names : ℕ) (pairs code : List ℕ) (count : ℕ) : Type 0 where
+  pub pairs-within : HasPairs pairs code count
+  pub decoded : (i : ℕ) → i < count → badCode names pairs code i ≡ false

@@ -5,8 +5,10 @@ mod parts;
 
 pub use header::Layout;
 pub use header::Sheet;
+pub use pairs::first_bad_code;
 pub use pairs::first_bad_name;
 pub use pairs::first_bad_pair;
+pub use pairs::first_deep_proposition;
 pub use pairs::marked_bytes;
 pub use parts::code_bytes;
 pub use parts::name_pairs;

@@ -4,13 +4,15 @@ use definitions::Found;
 use identifier::is_name;
 use identifier::pair_length;
 use identifier::pair_offset;
+use prefix_code::is_code;
+use prefix_code::is_deep;
 ghost use mathlib.Core.Path.{_≡_};
 ghost use Prim.Native.Nat.{_+_, _*_, _≤_};
 ghost use lib.ListN.{length};
 ghost use Rattle.definitions.specs.Outcome.{lowest, foundAt};
 ghost use Rattle.definitions.specs.Sheet.{pairSize, pairEnd, marked};
-ghost use Rattle.definitions.specs.Admission.{badName};
-ghost use Rattle.sheet.specs.Pairs.{badPair, HasPairs};
+ghost use Rattle.definitions.specs.Admission.{badName, badCode, deepProposition};
+ghost use Rattle.sheet.specs.Pairs.{badPair, HasPairs, HasCodes};
 
 // Refusals 4 and 6: the lowest pair that starts before the last one's end, ends past so many bytes, or is empty or too long.
 pub fn first_bad_pair(pairs: &[u8], count: usize, bytes: usize, longest: usize) -> Found
@@ -48,6 +50,34 @@ pub fn first_bad_name(pairs: &[u8], text: &[u8], count: usize) -> Found
     for i in 0..count {
         let name = marked_bytes(pairs, text, i);
         if !is_name(name) {
+            return Found::At(i);
+        }
+    }
+    Found::Nowhere
+}
+
+// Refusal 7: the lowest proposition whose code is not exactly one proposition.
+pub fn first_bad_code(pairs: &[u8], code: &[u8], count: usize, names: usize) -> Found
+    requires { ⌜ HasPairs (now pairs) (now code) count ⌝ }
+    ensures { λ r. ⌜ r ≡ foundAt (lowest (badCode names (now (pairs .entry)) (now (code .entry))) count) ⌝ }
+{
+    for i in 0..count {
+        let proposition = marked_bytes(pairs, code, i);
+        if !is_code(proposition, names) {
+            return Found::At(i);
+        }
+    }
+    Found::Nowhere
+}
+
+// Refusal 8: the lowest proposition that nests too deep.
+pub fn first_deep_proposition(pairs: &[u8], code: &[u8], count: usize, names: usize) -> Found
+    requires { ⌜ HasCodes names (now pairs) (now code) count ⌝ }
+    ensures { λ r. ⌜ r ≡ foundAt (lowest (deepProposition names (now (pairs .entry)) (now (code .entry))) count) ⌝ }
+{
+    for i in 0..count {
+        let proposition = marked_bytes(pairs, code, i);
+        if is_deep(proposition, names) {
             return Found::At(i);
         }
     }
