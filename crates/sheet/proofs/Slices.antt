@@ -1,11 +1,11 @@
 -- Where each part lies in the bytes of a sheet that are as many as its header says.
-use Prim.Native.Nat.{ℕ, _+_, _-_, _≤_}
+use Prim.Native.Nat.{ℕ, _+_, _-_, _*_, _≤_}
 use mathlib.Core.Path.{_≡_, refl}
 use mathlib.Core.List.{List}
 use native.Mathlib.Omega.{arith}
 use native.Mathlib.Nat.{add-sub-cancel-left}
-use lib.ListN.{length, take, drop}
-use Rattle.definitions.specs.Sheet.{headerSize, namePairsStart, propositionPairsStart, stepsStart, textStart, codeStart, sheetLength, namePairs, propositionPairs, stepRecords, textBytes, codeBytes}
+use lib.ListN.{length, take, drop, length-take, length-drop}
+use Rattle.definitions.specs.Sheet.{headerSize, pairSize, stepSize, textLength, names, codeLength, propositions, steps, namePairsStart, propositionPairsStart, stepsStart, textStart, codeStart, sheetLength, namePairs, propositionPairs, stepRecords, textBytes, codeBytes}
 use Rattle.sheet.specs.declared.header.Sheet.{Sheet}
 use Rattle.sheet.specs.declared.header.Layout.{Layout}
 use Rattle.sheet.specs.Header.{layoutOf, HasHeader}
@@ -38,3 +38,22 @@ module _ {s : List ℕ} {h : Sheet} (has : HasHeader s h) {l : Layout} (laid : l
   pub code-bytes-part : Part s (l .code) (l .end) (codeBytes s)
   unfolding layoutOf codeBytes sheetLength
   code-bytes-part = rw laid (part s _ _ (omega (arith, has .whole)))
+
+-- how many bytes each part has
+pub record Lengths (s : List ℕ) : Type 0 where
+  pub name-pairs : length (namePairs s) ≡ pairSize * names s
+  pub proposition-pairs : length (propositionPairs s) ≡ pairSize * propositions s
+  pub step-records : length (stepRecords s) ≡ stepSize * steps s
+  pub text-bytes : length (textBytes s) ≡ textLength s
+  pub code-bytes : length (codeBytes s) ≡ codeLength s
+
+pub lengths : (s : List ℕ) → length s ≡ sheetLength s → Lengths s
+unfolding namePairs propositionPairs stepRecords textBytes codeBytes namePairsStart propositionPairsStart stepsStart textStart codeStart sheetLength
+lengths s whole =
+    record {
+      name-pairs = simp (length-take, length-drop) (omega arith);
+      proposition-pairs = simp (length-take, length-drop) (omega arith);
+      step-records = simp (length-take, length-drop) (omega arith);
+      text-bytes = simp (length-take, length-drop) (omega arith);
+      code-bytes = simp (length-take, length-drop) (omega arith);
+    }

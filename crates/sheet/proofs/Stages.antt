@@ -1,0 +1,40 @@
+-- How the checks of a stage, in their order, come to its answer.
+use Prim.Native.Nat.{ℕ}
+use mathlib.Core.Path.{_≡_, refl, sym, _∙_}
+use mathlib.Core.Bool.{Bool, true, false}
+use Rattle.definitions.specs.Outcome.{Outcome, refused, accepted, refuse, _>>=_, refuseIf}
+use Rattle.sheet.specs.declared.header.Sheet.{Sheet}
+use Rattle.sheet.specs.declared.Checked.{Checked}
+use Rattle.sheet.specs.declared.Checked.the-variants.{Accepted, Refused}
+use Rattle.sheet.specs.Checks.{answered}
+
+module _ {b : Bool} (number place : ℕ) where
+  pub refused-if : b ≡ true → refuseIf b number place ≡ refuse number place
+  unfolding refuseIf
+  refused-if e = rw e
+
+  pub not-refused-if : b ≡ false → refuseIf b number place ≡ accepted tt
+  unfolding refuseIf
+  not-refused-if e = rw e
+
+module _ {A : Type 0} (h : Sheet) {m : Outcome A} where
+  -- the last check refuses, or passes
+  pub refused-last : {number place : ℕ} {r : Checked} → m ≡ refuse number place → r ≡ Refused (record { number = number; place = place })
+      → r ≡ answered h m
+  unfolding answered refuse
+  refused-last e q = rw e q
+
+  pub accepted-last : {a : A} → m ≡ accepted a → Accepted h ≡ answered h m
+  unfolding answered
+  accepted-last e = rw e
+
+  -- an earlier one refuses, or leaves it to the rest
+  module _ {B : Type 0} (rest : A → Outcome B) {r : Checked} where
+    pub refused-now : {number place : ℕ} → m ≡ refuse number place → r ≡ Refused (record { number = number; place = place })
+        → r ≡ answered h (_>>=_ m rest)
+    unfolding answered refuse _>>=_
+    refused-now e q = rw e q
+
+    pub passed-on : {a : A} → m ≡ accepted a → r ≡ answered h (rest a) → r ≡ answered h (_>>=_ m rest)
+    unfolding _>>=_
+    passed-on e q = rw e q
