@@ -2,6 +2,8 @@
 use Prim.Native.Nat.{ℕ}
 use mathlib.Core.Path.{_≡_, refl, sym, _∙_}
 use mathlib.Core.Bool.{Bool, true, false}
+use native.Mathlib.Omega.{arith}
+use Rattle.definitions.specs.declared.Refusal.{Refusal}
 use Rattle.definitions.specs.Outcome.{Outcome, refused, accepted, refuse, _>>=_, refuseIf}
 use Rattle.sheet.specs.declared.header.Sheet.{Sheet}
 use Rattle.sheet.specs.declared.Checked.{Checked}
@@ -38,3 +40,6 @@ module _ {A : Type 0} (h : Sheet) {m : Outcome A} where
     pub passed-on : {a : A} → m ≡ accepted a → r ≡ answered h (rest a) → r ≡ answered h (_>>=_ m rest)
     unfolding _>>=_
     passed-on e q = rw e q
+
+pub refused-not-accepted : {r : Checked} {x : Refusal} {h : Sheet} → r ≡ Refused x → r ≡ Accepted h → ⊥
+refused-not-accepted e q = let z : _≡_ {A = ℕ} 0 1 = cc in omega arith

@@ -1,4 +1,4 @@
--- Refusals 1 to 11 in four stages, and what the checks answer.
+-- Refusals 1 to 11 in five stages, and what the checks answer.
 use Prim.Native.Nat.{ℕ, _-_}
 use mathlib.Core.Bool.{not}
 use mathlib.Core.List.{List}
@@ -43,15 +43,18 @@ module _ (s : List ℕ) where
     _ ← refuseLowest (badCode (names s) (propositionPairs s) (codeBytes s)) (propositions s) 7
     refuseLowest (deepProposition (names s) (propositionPairs s) (codeBytes s)) (propositions s) 8
 
-  -- 9 to 11: the steps and their trees
+  -- 9: the steps
   unfoldable pub stepChecks : Outcome (Unit {0})
-  stepChecks =
+  stepChecks = refuseLowest (badStep (names s) (propositions s) (stepRecords s)) (steps s) 9
+
+  -- 10 and 11: the steps' trees
+  unfoldable pub treeChecks : Outcome (Unit {0})
+  treeChecks =
       let n = names s in
       let pairs = propositionPairs s in
       let code = codeBytes s in
       let records = stepRecords s in
       do
-        _ ← refuseLowest (badStep n (propositions s) records) (steps s) 9
         _ ← refuseLowest (tooFewTrees n pairs code records) (steps s) 10
         _ ← refuseIf (treesLeft n pairs code records (steps s)) 10 (steps s - 1)
         refuseLowest (deepTree n pairs code records) (steps s) 11

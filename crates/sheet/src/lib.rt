@@ -22,10 +22,12 @@ use steps::first_bad_step;
 use steps::first_deep_tree;
 use steps::leaves_trees;
 ghost use mathlib.Core.Path.{_≡_};
-ghost use Prim.Native.Nat.{_<_};
+ghost use Prim.Native.Nat.{_<_, _≤_};
 ghost use lib.ListN.{length};
+ghost use Rattle.definitions.specs.Sheet.{stepLimit, steps, stepRecords};
+ghost use Rattle.steps.specs.Tables.{SizeTable};
 ghost use Rattle.sheet.specs.Header.{headerOf, HasHeader};
-ghost use Rattle.sheet.specs.Checks.{answered, headerChecks, nameChecks, propositionChecks, stepChecks};
+ghost use Rattle.sheet.specs.Checks.{answered, headerChecks, nameChecks, propositionChecks, stepChecks, treeChecks};
 
 // What refusals 1 to 11 say of some bytes: the header of a sheet, or the first refusal.
 pub enum Checked {
@@ -72,6 +74,58 @@ fn check_names(s: &[u8], h: Sheet) -> Checked
     }
     if let Found::At(i) = first_bad_name(pairs, text_bytes(s, h), h.names) {
         return refuse(5, i);
+    }
+    Checked::Accepted(h)
+}
+
+// Refusals 6 to 8: the propositions.
+fn check_propositions(s: &[u8], h: Sheet) -> Checked
+    requires { ⌜ HasHeader (now s) h ⌝ }
+    ensures { λ r. ⌜ r ≡ answered h (propositionChecks (now (s .entry))) ⌝ }
+{
+    let pairs = proposition_pairs(s, h);
+    let code = code_bytes(s, h);
+    if let Found::At(i) = first_bad_pair(pairs, h.propositions, h.code_length, h.code_length) {
+        return refuse(6, i);
+    }
+    if let Found::At(i) = first_bad_code(pairs, code, h.propositions, h.names) {
+        return refuse(7, i);
+    }
+    if let Found::At(i) = first_deep_proposition(pairs, code, h.propositions, h.names) {
+        return refuse(8, i);
+    }
+    Checked::Accepted(h)
+}
+
+// Refusal 9: the steps.
+fn check_steps(s: &[u8], h: Sheet) -> Checked
+    requires { ⌜ HasHeader (now s) h ⌝ }
+    ensures { λ r. ⌜ r ≡ answered h (stepChecks (now (s .entry))) ⌝ }
+{
+    let records = step_records(s, h);
+    if let Found::At(k) = first_bad_step(records, h.steps, h.names, h.propositions) {
+        return refuse(9, k);
+    }
+    Checked::Accepted(h)
+}
+
+// Refusals 10 and 11: the steps' trees.
+fn check_trees(s: &[u8], h: Sheet, sizes: &mut [u16]) -> Checked
+    requires { ⌜ (HasHeader (now s) h) × (stepLimit ≤ length (now sizes)) ⌝ }
+    ensures { λ r. ⌜ r ≡ answered h (treeChecks (now (s .entry))) ⌝ }
+    ensures { λ r. ⌜ (r ≡ Checked.Accepted h → SizeTable (stepRecords (now (s .entry))) (steps (now (s .entry))) (now (sizes .exit))) ⌝ }
+{
+    let records = step_records(s, h);
+    let steps = h.steps;
+    if let Found::At(k) = fill_sizes(records, steps, sizes) {
+        return refuse(10, k);
+    }
+    if leaves_trees(records, steps, sizes) {
+        return refuse(10, steps - 1);
+    }
+    let mut heights = [0u16; Sheet::STEP_LIMIT];
+    if let Found::At(k) = first_deep_tree(records, steps, sizes, &mut heights) {
+        return refuse(11, k);
     }
     Checked::Accepted(h)
 }
