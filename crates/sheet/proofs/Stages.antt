@@ -43,3 +43,23 @@ module _ {A : Type 0} (h : Sheet) {m : Outcome A} where
 
 pub refused-not-accepted : {r : Checked} {x : Refusal} {h : Sheet} → r ≡ Refused x → r ≡ Accepted h → ⊥
 refused-not-accepted e q = let z : _≡_ {A = ℕ} 0 1 = cc in omega arith
+
+-- a whole stage refuses
+pub stage-refused : {A B : Type 0} (h : Sheet) (m : Outcome A) (rest : A → Outcome B) {r : Checked} {x : Refusal} → r ≡ answered h m → r ≡ Refused x
+    → r ≡ answered h (_>>=_ m rest)
+unfolding answered _>>=_
+stage-refused h (refused y) rest e q = e
+stage-refused h (accepted a) rest e q = absurd (refused-not-accepted q e)
+
+-- a whole stage accepts, with the header that it was given
+pub stage-accepted : {A : Type 0} (h : Sheet) (m : Outcome A) {r : Checked} {k : Sheet} → r ≡ answered h m → r ≡ Accepted k
+    → (k ≡ h) × (a : A) × (m ≡ accepted a)
+unfolding answered
+stage-accepted h (refused y) e q = absurd (refused-not-accepted e q)
+stage-accepted h (accepted a) e q = (cc, a, refl)
+
+-- after the last stage nothing refuses
+pub stage-last : {A B : Type 0} (h : Sheet) (m : Outcome A) (b : B) {r : Checked} → r ≡ answered h m → r ≡ answered h (_>>=_ m (λ _. accepted b))
+unfolding answered _>>=_
+stage-last h (refused y) b e = e
+stage-last h (accepted a) b e = e

@@ -27,7 +27,7 @@ ghost use lib.ListN.{length};
 ghost use Rattle.definitions.specs.Sheet.{stepLimit, steps, stepRecords};
 ghost use Rattle.steps.specs.Tables.{SizeTable};
 ghost use Rattle.sheet.specs.Header.{headerOf, HasHeader};
-ghost use Rattle.sheet.specs.Checks.{answered, headerChecks, nameChecks, propositionChecks, stepChecks, treeChecks};
+ghost use Rattle.sheet.specs.Checks.{checkedOf, answered, headerChecks, nameChecks, propositionChecks, stepChecks, treeChecks};
 
 // What refusals 1 to 11 say of some bytes: the header of a sheet, or the first refusal.
 pub enum Checked {
@@ -128,4 +128,37 @@ fn check_trees(s: &[u8], h: Sheet, sizes: &mut [u16]) -> Checked
         return refuse(11, k);
     }
     Checked::Accepted(h)
+}
+
+// Refusals 1 to 11 in their order. Where the sheet is accepted, the table has the sizes of the steps' trees.
+pub fn check(s: &[u8], sizes: &mut [u16; Sheet::STEP_LIMIT]) -> Checked
+    ensures { λ r. ⌜ r ≡ checkedOf (now (s .entry)) ⌝ }
+    ensures { λ r. ⌜ ((h : Sheet) → r ≡ Checked.Accepted h
+        → SizeTable (stepRecords (now (s .entry))) (steps (now (s .entry))) (now (sizes .exit))) ⌝ }
+{
+    let header = check_header(s);
+    let Checked::Accepted(h) = header else {
+        return header;
+    };
+    let names = check_names(s, h);
+    let Checked::Accepted(_) = names else {
+        return names;
+    };
+    let propositions = check_propositions(s, h);
+    let Checked::Accepted(_) = propositions else {
+        return propositions;
+    };
+    let steps = check_steps(s, h);
+    let Checked::Accepted(_) = steps else {
+        return steps;
+    };
+    check_trees(s, h, sizes)
+}
+
+// The same with a table of its own.
+pub fn answer(s: &[u8]) -> Checked
+    ensures { λ r. ⌜ r ≡ checkedOf (now (s .entry)) ⌝ }
+{
+    let mut sizes = [0u16; Sheet::STEP_LIMIT];
+    check(s, &mut sizes)
 }
