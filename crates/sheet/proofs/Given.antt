@@ -17,7 +17,8 @@ use Rattle.sheet.proofs.Placed.{good-pair, name-pairs-alike, propositio
 pub ranges : {s : List ℕ} {h : Sheet} → HasHeader s h → InRange (headerOf s)
 ranges has = rw (has .header) at (has .in-range)
 
-good-pairs : {pairs bytes : List ℕ} {count size longest : ℕ} → length pairs ≡ pairSize * count → length bytes ≡ size
+-- good pairs lie within the bytes
+pub good-pairs : {pairs bytes : List ℕ} {count size longest : ℕ} → length pairs ≡ pairSize * count → length bytes ≡ size
     → ((i : ℕ) → i < count → GoodPair pairs size longest i) → HasPairs pairs bytes count
 good-pairs p b good = record { present = omega arith; ends = λ i h. omega (arith, good i h .within) }
 

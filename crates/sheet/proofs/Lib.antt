@@ -8,3 +8,4 @@ pub mod Placed
 pub mod Stages
 pub mod Order
 pub mod Given
+pub mod Admitted

@@ -45,11 +45,15 @@ pub refused-not-accepted : {r : Checked} {x : Refusal} {h : Sheet} → r ≡ Ref
 refused-not-accepted e q = let z : _≡_ {A = ℕ} 0 1 = cc in omega arith
 
 -- a whole stage refuses
+pub stage-refuses : {A : Type 0} (h : Sheet) (m : Outcome A) {r : Checked} {x : Refusal} → r ≡ answered h m → r ≡ Refused x → m ≡ refused x
+unfolding answered
+stage-refuses h (refused y) e q = cc
+stage-refuses h (accepted a) e q = absurd (refused-not-accepted q e)
+
 pub stage-refused : {A B : Type 0} (h : Sheet) (m : Outcome A) (rest : A → Outcome B) {r : Checked} {x : Refusal} → r ≡ answered h m → r ≡ Refused x
     → r ≡ answered h (_>>=_ m rest)
 unfolding answered _>>=_
-stage-refused h (refused y) rest e q = e
-stage-refused h (accepted a) rest e q = absurd (refused-not-accepted q e)
+stage-refused h m rest e q = rw (stage-refuses h m e q) q
 
 -- a whole stage accepts, with the header that it was given
 pub stage-accepted : {A : Type 0} (h : Sheet) (m : Outcome A) {r : Checked} {k : Sheet} → r ≡ answered h m → r ≡ Accepted k

@@ -2,3 +2,4 @@
 pub mod Header
 pub mod Pairs
 pub mod Checks
+pub mod Admitted
