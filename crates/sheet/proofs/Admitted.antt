@@ -1,29 +1,27 @@
 -- What the answer of the checks gives to the layers above.
 use Prim.Native.Nat.{ℕ, zero, suc, _-_, _≤_, _<_}
-use mathlib.Core.Path.{_≡_, refl, sym, ap, _∙_}
-use mathlib.Core.Bool.{Bool, true, false}
+use mathlib.Core.Path.{_≡_, refl, ap, _∙_}
+use mathlib.Core.Bool.{true, false}
 use mathlib.Core.Option.{Option, none, some, Option·getD}
 use mathlib.Core.List.{List, [], _∷_}
 use native.Mathlib.Omega.{arith}
 use lib.ListN.{length, drop}
-use lib.Dec.{ltb, eqb}
 use borrow.Author.Tests.{ltb-false, eqb-true, not-false}
 use Rattle.definitions.specs.declared.Refusal.{Refusal}
 use Rattle.definitions.specs.Name.{isName}
 use Rattle.definitions.specs.Prop.{nesting}
 use Rattle.definitions.specs.Code.{decode}
-use Rattle.definitions.specs.Outcome.{Outcome, refused, accepted, lowest}
+use Rattle.definitions.specs.Outcome.{refused, accepted}
 use Rattle.definitions.specs.Sheet.{pairSize, names, propositions, steps, namePairs, textBytes, propositionPairs, stepRecords, codeBytes, nameOf, marked, premissCount, propositionNestingLimit, treeNestingLimit}
 use Rattle.definitions.specs.Tree.{ProofTree, height, treesBefore, treeIn, propIn, propOf, treeOf, rootOf}
 use Rattle.definitions.specs.Admission.{isNone, badName, badCode, deepProposition, tooFewTrees, treesLeft, deepTree, admitted}
 use Rattle.identifier.specs.Pairs.{PairsWithin}
 use Rattle.steps.specs.Records.{HasSteps}
 use Rattle.sheet.specs.declared.header.Sheet.{Sheet}
-use Rattle.sheet.specs.declared.Checked.{Checked}
 use Rattle.sheet.specs.declared.Checked.the-variants.{Accepted, Refused}
 use Rattle.sheet.specs.Header.{headerOf, InRange, HasHeader}
 use Rattle.sheet.specs.Pairs.{HasPairs, HasCodes}
-use Rattle.sheet.specs.Checks.{answered, checkedOf}
+use Rattle.sheet.specs.Checks.{checkedOf}
 use Rattle.sheet.specs.Admitted.{Admitted}
 use Rattle.sheet.proofs.Outcomes.{each-accepted, test-failed, none-lowest}
 use Rattle.sheet.proofs.Searched.{all-fail}

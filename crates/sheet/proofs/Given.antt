@@ -1,6 +1,6 @@
 -- What a refusal that does not come gives to the checks after it.
 use Prim.Native.Nat.{ℕ, _*_, _<_}
-use mathlib.Core.Path.{_≡_, ap, sym, _∙_}
+use mathlib.Core.Path.{_≡_, ap, _∙_}
 use mathlib.Core.Bool.{false}
 use mathlib.Core.List.{List}
 use native.Mathlib.Omega.{arith}
@@ -11,7 +11,7 @@ use Rattle.definitions.specs.Admission.{badNamePair, badPropositionPair}
 use Rattle.sheet.specs.declared.header.Sheet.{Sheet}
 use Rattle.sheet.specs.Header.{headerOf, InRange, HasHeader}
 use Rattle.sheet.specs.Pairs.{GoodPair, HasPairs}
-use Rattle.sheet.proofs.Slices.{Lengths, lengths}
+use Rattle.sheet.proofs.Slices.{lengths}
 use Rattle.sheet.proofs.Placed.{good-pair, name-pairs-alike, proposition-pairs-alike}
 
 pub ranges : {s : List ℕ} {h : Sheet} → HasHeader s h → InRange (headerOf s)

@@ -1,17 +1,11 @@
 -- Refusals 1 to 11 are the five stages, one after the other.
 use Prim.Native.Nat.{ℕ}
-use mathlib.Core.Path.{_≡_, refl, sym, ap, _∙_}
-use mathlib.Core.Bool.{Bool, true, false, not}
-use mathlib.Core.Option.{Option, none, some}
+use mathlib.Core.Path.{_≡_, refl}
 use mathlib.Core.List.{List}
-use native.Mathlib.Omega.{arith}
-use lib.ListN.{length}
-use lib.Dec.{ltb, eqb}
 use borrow.Author.Tests.{eqb-true, not-false}
-use Rattle.definitions.specs.Outcome.{Outcome, refused, accepted, refuse, _>>=_, refuseIf, lowest, refuseAt, refuseLowest}
+use Rattle.definitions.specs.Outcome.{Outcome, accepted, _>>=_}
 use Rattle.definitions.specs.Tree.{ProofTree, rootOf}
 use Rattle.definitions.specs.Admission.{admitted}
-use Rattle.sheet.specs.declared.header.Sheet.{Sheet}
 use Rattle.sheet.specs.declared.Checked.{Checked}
 use Rattle.sheet.specs.Header.{headerOf, HasHeader}
 use Rattle.sheet.specs.Checks.{answered, checkedOf, headerChecks, nameChecks, propositionChecks, stepChecks, treeChecks}

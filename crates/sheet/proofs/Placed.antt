@@ -1,14 +1,12 @@
 -- A pair is bad exactly where it is not good; what that says for refusals 4 and 6.
-use Prim.Native.Nat.{ℕ, zero, suc, _+_, _*_, _<_, _≤_}
+use Prim.Native.Nat.{ℕ, zero, suc, _+_, _≤_}
 use mathlib.Core.Path.{_≡_, refl, sym, _∙_, fun-ext}
 use mathlib.Core.Bool.{Bool, true, false, or-false}
 use mathlib.Core.List.{List}
 use native.Mathlib.Omega.{arith}
-use native.Mathlib.Numerals.{add-one}
-use lib.ListN.{getD}
 use lib.Dec.{ltb, eqb}
 use borrow.Author.Tests.{ltb-false, le-ltb, ne-eqb}
-use Rattle.definitions.specs.Sheet.{nameLengthLimit, numberAt, pairOffset, pairLength, pairEnd, lastEnd}
+use Rattle.definitions.specs.Sheet.{nameLengthLimit, pairOffset, pairLength, pairEnd, lastEnd}
 use Rattle.definitions.specs.Admission.{misplaced, badNamePair, badPropositionPair}
 use Rattle.sheet.specs.Pairs.{badPair, GoodPair}
 use Rattle.sheet.proofs.Either.{neither, not-false}

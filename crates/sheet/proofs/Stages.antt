@@ -1,6 +1,6 @@
 -- How the checks of a stage, in their order, come to its answer.
 use Prim.Native.Nat.{ℕ}
-use mathlib.Core.Path.{_≡_, refl, sym, _∙_}
+use mathlib.Core.Path.{_≡_, refl}
 use mathlib.Core.Bool.{Bool, true, false}
 use native.Mathlib.Omega.{arith}
 use Rattle.definitions.specs.declared.Refusal.{Refusal}

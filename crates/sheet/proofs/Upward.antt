@@ -4,7 +4,6 @@ use mathlib.Core.Path.{_≡_, refl, sym, ap}
 use mathlib.Core.Bool.{Bool, true, false}
 use mathlib.Core.Option.{none}
 use native.Mathlib.Omega.{arith}
-use Rattle.definitions.specs.declared.Found.{Found}
 use Rattle.definitions.specs.declared.Found.the-variants.{Nowhere, At}
 use Rattle.definitions.specs.Outcome.{lowest, foundAt}
 use Rattle.definitions.proofs.Lowest.{lowest-passed, lowest-found}

@@ -1,16 +1,13 @@
 -- Each stage that accepts hands on to the next; a stage that refuses answers.
 use mathlib.Core.Path.{_≡_, ap, _∙_}
-use mathlib.Core.List.{List}
-use Prim.Native.Nat.{ℕ}
 use native.Mathlib.Omega.{arith}
 use borrow.Author.Needs.{needs}
 use Rattle.definitions.specs.Sheet.{stepLimit}
-use Rattle.sheet.specs.declared.header.Sheet.{Sheet}
 use Rattle.sheet.specs.declared.Checked.{Checked}
 use Rattle.sheet.specs.declared.Checked.the-variants.{Accepted}
 use Rattle.sheet.specs.Header.{HasHeader}
 use Rattle.sheet.specs.Checks.{answered, checkedOf}
-use Rattle.sheet.proofs.Stages.{passed-on, accepted-last, stage-refused, stage-accepted, stage-last, refused-not-accepted}
+use Rattle.sheet.proofs.Stages.{passed-on, stage-refused, stage-accepted, stage-last, refused-not-accepted}
 use Rattle.sheet.proofs.Order.{fromNames, fromPropositions, fromSteps, fromTrees, from-header, header-given}
 use Rattle.sheet.proofs.check.Statement.{statement}
 use Rattle.sheet.proofs.check.Tie as tie

@@ -2,7 +2,6 @@
 use mathlib.Core.Path.{_≡_, sym, _∙_}
 use native.Mathlib.Omega.{arith}
 use borrow.Author.Needs.{needs}
-use Rattle.definitions.specs.declared.Found.the-variants.{Nowhere, At}
 use Rattle.definitions.specs.Outcome.{lowest, foundAt}
 use Rattle.definitions.specs.Sheet.{nameLengthLimit, nameLimit, textLength, names, namePairs, textBytes}
 use Rattle.definitions.specs.Admission.{badNamePair, badName}

@@ -7,7 +7,7 @@ use Rattle.definitions.specs.Outcome.{lowest, foundAt}
 use Rattle.definitions.specs.Sheet.{propositionLimit, codeLength, names, propositions, propositionPairs, codeBytes}
 use Rattle.definitions.specs.Admission.{badPropositionPair, badCode, deepProposition}
 use Rattle.sheet.specs.Header.{headerOf}
-use Rattle.sheet.specs.Pairs.{HasPairs, HasCodes}
+use Rattle.sheet.specs.Pairs.{HasPairs}
 use Rattle.sheet.specs.Checks.{propositionChecks}
 use Rattle.sheet.proofs.Searched.{found-below, refused-at, none-bad, not-refused}
 use Rattle.sheet.proofs.Slices.{lengths}

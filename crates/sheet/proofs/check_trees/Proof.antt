@@ -1,5 +1,4 @@
 -- The sizes of the trees are filled in first; the other two refusals read them.
-use Prim.Native.Nat.{_≤_}
 use mathlib.Core.Path.{_≡_, sym, _∙_}
 use native.Mathlib.Omega.{arith}
 use borrow.Author.Needs.{needs}

@@ -1,9 +1,6 @@
 -- The names are judged in their order.
 use Prim.Native.Nat.{_-_}
-use mathlib.Core.Path.{sym, ap, _∙_}
-use mathlib.Core.Bool.{not}
 use native.Mathlib.Omega.{arith}
-use Rattle.definitions.specs.Name.{isName}
 use Rattle.definitions.specs.Sheet.{pairSize}
 use Rattle.definitions.specs.Admission.{badName}
 use Rattle.sheet.proofs.Upward.{Passed, at-start, onward, found, nowhere}

@@ -1,21 +1,16 @@
 -- The loop keeps the last pair's end beside the number of the next pair.
 use Prim.Native.Nat.{_+_, _*_, _-_}
-use mathlib.Core.Path.{_≡_, refl, sym, ap, _∙_}
+use mathlib.Core.Path.{_≡_, refl}
 use mathlib.Core.Logic.{⊎-elim}
 use native.Mathlib.Omega.{arith}
 use native.Mathlib.Numerals.{add-one}
 use borrow.Author.Tests.{ltb-true, ltb-false}
-use Rattle.definitions.specs.Outcome.{lowest, foundAt}
 use Rattle.definitions.specs.Sheet.{pairSize, numberAt, pairOffset, pairLength, pairEnd, lastEnd}
-use Rattle.sheet.specs.Pairs.{badPair, GoodPair}
+use Rattle.sheet.specs.Pairs.{badPair}
 use Rattle.sheet.proofs.Upward.{Passed, at-start, onward, found, nowhere}
 use Rattle.sheet.proofs.Placed.{good-passes, bad-pair}
 use Rattle.sheet.proofs.pairs.first_bad_pair.Statement.{statement}
 use Rattle.sheet.proofs.pairs.first_bad_pair.Tie as tie
-use Rattle.sheet.proofs.pairs.first_bad_pair.Reads as reads
-use Rattle.sheet.proofs.pairs.first_bad_pair.Lts as lts
-use Rattle.identifier.proofs.pair_length.Reads as pair-length-reads
-use Rattle.identifier.proofs.pair_offset.Reads as pair-offset-reads
 
 abbrev Inv-loop : tie.InvT-loop
 Inv-loop pairs count bytes longest last-end₀ i₀ last-end i =
@@ -24,22 +19,18 @@ Inv-loop pairs count bytes longest last-end₀ i₀ last-end i =
 abbrev μ-loop : tie.MeasureT-loop
 μ-loop pairs count bytes longest last-end₀ i₀ last-end i = count - i
 
--- src/pairs.rt:18:5
 loop-holds : tie.Need-loop-holds Inv-loop μ-loop
 unfolding lastEnd
 loop-holds c = (at-start _ _, refl)
 
--- src/pairs.rt:19:13
 pair-offset-requires : tie.Need-pair-offset-requires Inv-loop μ-loop
 unfolding pairSize
 pair-offset-requires c κs = omega arith
 
--- src/pairs.rt:20:13
 pair-length-requires : tie.Need-pair-length-requires Inv-loop μ-loop
 unfolding pairSize
 pair-length-requires c κs = omega arith
 
--- src/pairs.rt:21:19
 add-end : tie.Need-add-end Inv-loop μ-loop
 unfolding pairOffset pairLength numberAt
 add-end c =
@@ -47,28 +38,23 @@ add-end c =
     let byte = c .before .before .before .before .shared-slice-known .given in
     omega (arith, byte (pairSize * at), byte (pairSize * at + 1), byte (pairSize * at + 2), byte (pairSize * at + 2 + 1))
 
--- src/pairs.rt:23:13
 returns : tie.Need-returns Inv-loop μ-loop
 unfolding pairEnd
 returns c =
     found (c .before .before .before .before .loop .inv .0) (c .before .before .before .loop-test .taken)
     (bad-pair _ _ _ _ λ g. ⊎-elim (λ w. omega arith) (⊎-elim (λ w. omega (arith, ltb-true)) (⊎-elim (λ w. omega (arith, ltb-true)) (λ w. omega (arith, ltb-true)))) (c .if1 .came))
 
--- src/pairs.rt:18:9
 add-i : tie.Need-add-i Inv-loop μ-loop
 add-i c = omega arith
 
--- src/pairs.rt:18:5
 loop-less : tie.Need-loop-less Inv-loop μ-loop
 loop-less c = omega arith
 
--- src/pairs.rt:18:5
 loop-again : tie.Need-loop-again Inv-loop μ-loop
 unfolding pairEnd lastEnd
 loop-again c =
     (onward (c .before .before .before .before .before .before .before .loop .inv .0) (c .before .before .before .before .before .before .loop-test .taken) (good-passes _ _ _ _ (omega (arith, ltb-false))), rw (add-one, lastEnd) (omega arith))
 
--- src/pairs.rt:13:1
 returns-2 : tie.Need-returns-2 Inv-loop μ-loop
 returns-2 c = nowhere (c .before .loop .inv .0) (c .loop-test .left)
 

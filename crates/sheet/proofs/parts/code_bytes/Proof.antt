@@ -1,6 +1,6 @@
 -- The part lies where the layout says.
 use mathlib.Core.Path.{_∙_}
-use Rattle.sheet.proofs.Slices.{Part, code-bytes-part}
+use Rattle.sheet.proofs.Slices.{code-bytes-part}
 use borrow.Author.Needs.{needs}
 use Rattle.sheet.proofs.parts.code_bytes.Statement.{statement}
 use Rattle.sheet.proofs.parts.code_bytes.Tie as tie

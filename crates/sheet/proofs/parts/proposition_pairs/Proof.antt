@@ -1,6 +1,6 @@
 -- The part lies where the layout says.
 use mathlib.Core.Path.{_∙_}
-use Rattle.sheet.proofs.Slices.{Part, proposition-pairs-part}
+use Rattle.sheet.proofs.Slices.{proposition-pairs-part}
 use borrow.Author.Needs.{needs}
 use Rattle.sheet.proofs.parts.proposition_pairs.Statement.{statement}
 use Rattle.sheet.proofs.parts.proposition_pairs.Tie as tie

@@ -1,6 +1,6 @@
 -- The part lies where the layout says.
 use mathlib.Core.Path.{_∙_}
-use Rattle.sheet.proofs.Slices.{Part, step-records-part}
+use Rattle.sheet.proofs.Slices.{step-records-part}
 use borrow.Author.Needs.{needs}
 use Rattle.sheet.proofs.parts.step_records.Statement.{statement}
 use Rattle.sheet.proofs.parts.step_records.Tie as tie

@@ -1,6 +1,6 @@
 -- The part lies where the layout says.
 use mathlib.Core.Path.{_∙_}
-use Rattle.sheet.proofs.Slices.{Part, text-bytes-part}
+use Rattle.sheet.proofs.Slices.{text-bytes-part}
 use borrow.Author.Needs.{needs}
 use Rattle.sheet.proofs.parts.text_bytes.Statement.{statement}
 use Rattle.sheet.proofs.parts.text_bytes.Tie as tie
