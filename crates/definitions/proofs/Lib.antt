@@ -1,3 +1,9 @@
 pub mod Everything
 pub mod Lowest
+pub mod Renaming
+pub mod Labelling
+pub mod Exporting
+pub mod Names
+pub mod Conventions
+pub mod Accuracy
 pub mod Drawings
