@@ -54,3 +54,20 @@ deduced-weakest s d =
       prop = d .prop;
       deduction = weaken nothing (d .deduction);
     }
+
+-- a deduction is of its root's own conclusion
+pub concludes : {v : Convention} {hs : Hypotheses} {z : Step Name} {ps : Premisses Name} {a : Prop Name}
+    → Deduction v hs (over z ps) a → z .conclusion ≡ PropIsTrue a
+concludes (andIntro c d e) = c .conclusion
+concludes (andElimFst c d) = c .conclusion
+concludes (andElimSnd c d) = c .conclusion
+concludes (trueIntro c p) = c .conclusion
+concludes (implIntro c f d) = c .conclusion
+concludes (implElim c d e) = c .conclusion
+concludes (ident c i p) = c .conclusion
+concludes (orIntroFst c d) = c .conclusion
+concludes (orIntroSnd c d) = c .conclusion
+concludes (orElim c d f e g h) = c .conclusion
+concludes (falsumElim c d) = c .conclusion
+concludes (sorry c p) = c .conclusion
+concludes (alphaEquivalent c p d) = c .conclusion

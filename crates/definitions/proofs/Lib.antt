@@ -6,4 +6,5 @@ pub mod Exporting
 pub mod Names
 pub mod Conventions
 pub mod Accuracy
+pub mod SoundDrawing
 pub mod Drawings
