@@ -1,10 +1,12 @@
 pub mod Everything
 pub mod Lowest
+pub mod Names
+pub mod Readings
+pub mod PrefixCode
 pub mod Renaming
 pub mod Labelling
 pub mod Exporting
-pub mod Names
 pub mod Conventions
 pub mod Accuracy
-pub mod SoundDrawing
 pub mod Drawings
+pub mod SoundDrawing
