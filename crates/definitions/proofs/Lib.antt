@@ -1,3 +1,6 @@
 pub mod Everything
 pub mod Lowest
 pub mod Drawings
+pub mod Names
+pub mod Connectives
+pub mod Views
