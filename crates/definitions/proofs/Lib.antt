@@ -4,3 +4,5 @@ pub mod Drawings
 pub mod Names
 pub mod Connectives
 pub mod Views
+pub mod Verdicts
+pub mod AlphaEquality
