@@ -1,8 +1,12 @@
 pub mod Everything
 pub mod Lowest
 pub mod Names
+pub mod Connectives
+pub mod Views
 pub mod Readings
 pub mod PrefixCode
+pub mod Verdicts
+pub mod AlphaEquality
 pub mod Renaming
 pub mod Labelling
 pub mod Exporting
