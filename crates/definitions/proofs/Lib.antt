@@ -1,3 +1,4 @@
 pub mod Everything
 pub mod Lowest
+pub mod Decimal
 pub mod Drawings
