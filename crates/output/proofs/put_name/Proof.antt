@@ -1,4 +1,10 @@
+-- A name lies between its pair's offset and its pair's end.
+use Prim.Native.Nat.{_+_, _-_}
+use mathlib.Core.Path.{_≡_}
+use native.Mathlib.Omega.{arith}
 use borrow.Author.Needs.{needs}
+use Rattle.definitions.specs.Sheet.{pairSize, pairOffset, pairLength, pairEnd, marked}
+use Rattle.output.proofs.Writing as writing
 use Rattle.output.proofs.put_name.Statement.{statement}
 use Rattle.output.proofs.put_name.Tie as tie
 use Rattle.output.proofs.put_name.Reads as reads
@@ -6,53 +12,52 @@ use Rattle.output.proofs.put_name.Lts as lts
 use Rattle.number.proofs.number_at.Reads as number-at-reads
 use Rattle.output.proofs.put_all.Reads as put-all-reads
 
--- src/lib.rt:68:34
 mul-number-at : tie.Need-mul-number-at
-mul-number-at c = ?
+unfolding pairSize
+mul-number-at c = omega arith
 
--- src/lib.rt:68:9
 number-at-requires : tie.Need-number-at-requires
-number-at-requires c κs = ?
+unfolding pairSize
+number-at-requires c κs = omega arith
 
--- src/lib.rt:69:40
 mul-number-at-2 : tie.Need-mul-number-at-2
-mul-number-at-2 c = ?
+unfolding pairSize
+mul-number-at-2 c = omega arith
 
--- src/lib.rt:69:40
 add-number-at : tie.Need-add-number-at
-add-number-at c = ?
+unfolding pairSize
+add-number-at c = omega arith
 
--- src/lib.rt:69:23
 number-at-requires-2 : tie.Need-number-at-requires-2
-number-at-requires-2 c κs = ?
+unfolding pairSize
+number-at-requires-2 c κs = omega arith
 
--- src/lib.rt:69:15
 add-end : tie.Need-add-end
 add-end c = search needs
 
--- src/lib.rt:70:22
 sub-put-all : tie.Need-sub-put-all
 sub-put-all c = search needs
 
--- src/lib.rt:70:22
 part-put-all-start : tie.Need-part-put-all-start
 part-put-all-start c = search needs
 
--- src/lib.rt:70:22
 part-put-all-end : tie.Need-part-put-all-end
-part-put-all-end c = ?
+unfolding pairSize pairOffset pairLength pairEnd
+part-put-all-end c = omega arith
 
--- src/lib.rt:70:5
 put-all-requires : tie.Need-put-all-requires
 put-all-requires c κs = search needs
 
--- src/lib.rt:57:1
 same-length : tie.Need-same-length
-same-length c = search needs
+same-length c = writing.same-length (c .before .before .put-all .ensures)
 
--- src/lib.rt:57:1
 returns : tie.Need-returns
-returns c = ?
+unfolding pairSize pairOffset pairLength marked
+returns c =
+    let start = c .before .before .before .before .before .before .number-at .result in
+    let size = c .before .before .before .before .before .number-at2 .result in
+    let whole : start + size - start ≡ size = omega arith in
+    rw (← c .before .before .before .before .before .before .number-at .ensures .0, ← c .before .before .before .before .before .number-at2 .ensures .0) (rw whole at (c .before .before .put-all .ensures))
 
 pub put-name-spec : {M : Type 1} → statement M
 put-name-spec =
