@@ -14,6 +14,7 @@ use Rattle.output.proofs.put.Reads as put-reads
 use Rattle.output.proofs.+put_decimal.{statement}
 use Rattle.output.proofs.+put_decimal.Tie.{close}
 
+-- the number itself
 abbrev μ-put-decimal : Measures 1 put-decimal-kinds.ps ℕ
 μ-put-decimal κs a = a .1 .1 .0
 

@@ -1,22 +1,25 @@
 -- Each turn of the loop writes one byte more; a dry run gives the position after all bytes.
 use Prim.Native.Nat.{ℕ, _+_, _≤_, _<_, _-_}
-use mathlib.Core.Path.{_≡_, refl, sym}
-use mathlib.Core.Bool.{Bool, true, false}
+use mathlib.Core.Path.{_≡_}
+use mathlib.Core.Bool.{Bool}
 use mathlib.Core.List.{List, [], _∷_}
 use native.Mathlib.Omega.{arith}
 use native.Mathlib.Numerals.{add-one}
 use borrow.Author.Needs.{needs}
 use lib.ListN.{length, take, getD}
 use lib.Seq.{take-length, take-suc}
-use Rattle.output.specs.Wrote.{Wrote, puts}
+use Rattle.output.specs.Wrote.{Wrote}
 use Rattle.output.proofs.Writing as writing
 use Rattle.output.proofs.put_all.Statement.{statement}
 use Rattle.output.proofs.put_all.Tie as tie
-use Rattle.output.proofs.put_all.Reads as reads
-use Rattle.output.proofs.put_all.Lts as lts
-use Rattle.output.proofs.put.Reads as put-reads
 
-one-more : (s : List ℕ) (i : ℕ) {write : Bool} {before mid after : List ℕ} {to at next : ℕ} → i < length s → Wrote (take i s) write before to mid at → Wrote (getD s i 0 ∷ []) write mid at after next → Wrote (take (i + 1) s) write before to after next
+-- what a turn of the loop adds
+one-more :
+    (s : List ℕ) (i : ℕ) {write : Bool} {before mid after : List ℕ} {to at next : ℕ} →
+    i < length s →
+    Wrote (take i s) write before to mid at →
+    Wrote (getD s i 0 ∷ []) write mid at after next →
+    Wrote (take (i + 1) s) write before to after next
 one-more s i h a b = rw (add-one, take-suc s i 0) (writing.then a b)
 
 abbrev Inv-loop : tie.InvT-loop
@@ -41,7 +44,9 @@ loop-less : tie.Need-loop-less Inv-loop μ-loop
 loop-less c = omega arith
 
 loop-again : tie.Need-loop-again Inv-loop μ-loop
-loop-again c = (omega arith, one-more _ _ (c .before .before .before .before .before .loop-test .taken) (c .before .before .before .before .before .before .loop .inv .1) (c .before .before .put .ensures))
+loop-again c =
+    let here : c .before .before .before .before .before .before .loop .i < length (c .before .before .before .before .before .before .before .before .before .before .args .s .now) = omega arith in
+    (omega arith, one-more _ _ here (c .before .before .before .before .before .before .loop .inv .1) (c .before .before .put .ensures))
 
 same-length : tie.Need-same-length Inv-loop μ-loop
 same-length c = writing.same-length (c .before .loop .inv .1)

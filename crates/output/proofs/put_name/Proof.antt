@@ -7,10 +7,6 @@ use Rattle.definitions.specs.Sheet.{pairSize, pairOffset, pairLength, pairEnd, 
 use Rattle.output.proofs.Writing as writing
 use Rattle.output.proofs.put_name.Statement.{statement}
 use Rattle.output.proofs.put_name.Tie as tie
-use Rattle.output.proofs.put_name.Reads as reads
-use Rattle.output.proofs.put_name.Lts as lts
-use Rattle.number.proofs.number_at.Reads as number-at-reads
-use Rattle.output.proofs.put_all.Reads as put-all-reads
 
 mul-number-at : tie.Need-mul-number-at
 unfolding pairSize
