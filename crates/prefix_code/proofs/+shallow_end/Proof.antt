@@ -3,8 +3,7 @@
 use mathlib.Core.Path.{_≡_}
 use native.Mathlib.Nat.{pos-of-ne-zero}
 use native.Mathlib.Omega.{arith}
-use Rattle.definitions.specs.Code.{encode}
-use Rattle.prefix_code.specs.Scan.{Shallow}
+use Rattle.prefix_code.specs.Scan.{shallowCoding}
 use Rattle.prefix_code.proofs.Runs.{Walked, walk-step, walk-stop, walk-end}
 use Rattle.prefix_code.proofs.Propositions.{headed}
 use Rattle.prefix_code.proofs.Depth.{no-flat, shallow-walk, no-shallow}
@@ -31,7 +30,7 @@ shallow-end-below t =
     and 1 shallow-end-kinds.ps (falls 1 shallow-end-kinds.ps _<_ μ-shallow-end t) shallow-end.Pre
 
 abbrev shallow-end-Inv-loop : shallow-end-lts.InvT-loop
-shallow-end-Inv-loop code at names depth i₀ needed₀ i needed = Walked (Shallow names depth) encode (Shallow names (depth - 1)) encode code at i needed
+shallow-end-Inv-loop code at names depth i₀ needed₀ i needed = Walked (shallowCoding names depth) (shallowCoding names (depth - 1)) code at i needed
 
 abbrev shallow-end-μ-loop : shallow-end-lts.MeasureT-loop
 shallow-end-μ-loop code at names depth i₀ needed₀ i needed = needed

@@ -1,9 +1,8 @@
 -- Three bytes and a name below `names` are asked of any parameter, two bytes more of an instantiated one.
-use Prim.Native.Nat.{_+_}
 use mathlib.Core.Path.{_≡_}
 use native.Mathlib.Omega.{arith}
 use lib.ListN.{getD}
-use Rattle.definitions.specs.Code.{encodeParameter, CodableParameter}
+use Rattle.prefix_code.specs.Scan.{parameterCoding}
 use Rattle.prefix_code.proofs.Runs.{no-ends, ends-at}
 use Rattle.prefix_code.proofs.Parameters.{parameter-bytes, uninstantiated-stands, instantiated-stands}
 use borrow.Author.Needs.{needs}
@@ -18,7 +17,7 @@ sub-if1 c = search needs
 
 returns : tie.Need-returns
 returns c =
-    no-ends (CodableParameter _) encodeParameter (c .before .before .args .code .now) (c .before .before .args .at) _ (omega arith)
+    no-ends (parameterCoding _) (c .before .before .args .code .now) (c .before .before .args .at) _ (omega arith)
     (λ p rest s. let b = parameter-bytes _ _ _ p rest s in omega (arith, b .inside))
 
 add-number-at : tie.Need-add-number-at
@@ -29,7 +28,7 @@ number-at-requires c κs = search needs
 
 returns-2 : tie.Need-returns-2
 returns-2 c =
-    no-ends (CodableParameter _) encodeParameter (c .before .before .before .before .args .code .now) (c .before .before .before .before .args .at) _ (omega arith)
+    no-ends (parameterCoding _) (c .before .before .before .before .args .code .now) (c .before .before .before .before .args .at) _ (omega arith)
     (λ p rest s. let b = parameter-bytes _ _ _ p rest s in omega (arith, b .name, b .below, c .before .number-at .ensures .0, c .if2 .taken))
 
 shared-slice-read-kind : tie.Need-shared-slice-read-kind
@@ -40,13 +39,13 @@ add-result c = search needs
 
 returns-3 : tie.Need-returns-3
 returns-3 c =
-    ends-at (CodableParameter _) encodeParameter (c .before .before .before .before .before .before .args .code .now) (c .before .before .before .before .before .before .args .at) _ (c .before .before .before .before .before .before .pre) (omega arith)
+    ends-at (parameterCoding _) (c .before .before .before .before .before .before .args .code .now) (c .before .before .before .before .before .before .args .at) _ (c .before .before .before .before .before .before .pre) (omega arith)
     (λ p rest s. parameter-bytes _ _ _ p rest s .uninstantiated (c .if3 .taken) .1)
     (_, uninstantiated-stands _ _ _ (λ i. omega (arith, c .before .before .before .before .before .shared-slice-known .given i)) (omega (arith, c .before .before .before .number-at .ensures .0, c .before .before .if2 .left)) (omega arith) (c .if3 .taken))
 
 returns-4 : tie.Need-returns-4
 returns-4 c =
-    no-ends (CodableParameter _) encodeParameter (c .before .before .before .before .before .before .before .args .code .now) (c .before .before .before .before .before .before .before .args .at) _ (omega arith)
+    no-ends (parameterCoding _) (c .before .before .before .before .before .before .before .args .code .now) (c .before .before .before .before .before .before .before .args .at) _ (omega arith)
     (λ p rest s. let b = parameter-bytes _ _ _ p rest s in omega (arith, b .kind, c .if4 .taken))
 
 sub-if5 : tie.Need-sub-if5
@@ -54,7 +53,7 @@ sub-if5 c = search needs
 
 returns-5 : tie.Need-returns-5
 returns-5 c =
-    no-ends (CodableParameter _) encodeParameter (c .before .before .before .before .before .before .before .before .args .code .now) (c .before .before .before .before .before .before .before .before .args .at) _ (omega arith)
+    no-ends (parameterCoding _) (c .before .before .before .before .before .before .before .before .args .code .now) (c .before .before .before .before .before .before .before .before .args .at) _ (omega arith)
     (λ p rest s. let b = parameter-bytes _ _ _ p rest s in omega (arith, b .instantiated (omega arith) .1))
 
 add-result-2 : tie.Need-add-result-2
@@ -63,7 +62,7 @@ add-result-2 c = search needs
 returns-6 : tie.Need-returns-6
 returns-6 c =
     let kind : getD (c .before .before .before .before .before .before .before .before .args .code .now) (c .before .before .before .before .before .before .before .before .args .at) 0 ≡ 1 = omega (arith, c .before .before .if3 .left, c .before .if4 .left) in
-    ends-at (CodableParameter _) encodeParameter (c .before .before .before .before .before .before .before .before .args .code .now) (c .before .before .before .before .before .before .before .before .args .at) _ (c .before .before .before .before .before .before .before .before .pre) (omega arith)
+    ends-at (parameterCoding _) (c .before .before .before .before .before .before .before .before .args .code .now) (c .before .before .before .before .before .before .before .before .args .at) _ (c .before .before .before .before .before .before .before .before .pre) (omega arith)
     (λ p rest s. parameter-bytes _ _ _ p rest s .instantiated kind .2)
     (_, instantiated-stands _ _ _ (λ i. omega (arith, c .before .before .before .before .before .before .before .shared-slice-known .given i)) (omega (arith, c .before .before .before .before .before .number-at .ensures .0, c .before .before .before .before .if2 .left)) (omega arith) kind)
 
