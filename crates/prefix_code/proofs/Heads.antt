@@ -164,7 +164,7 @@ module _ (names : ℕ) where
         quantified = λ _. (q, x, t, b);
       }
 
-  -- the head that a byte below 5 is
+  -- the head of a byte below 5
   bare-head : (b : ℕ) → b < 5 → (h : Head) × CodableHead names h × (encodeHead h ≡ b ∷ [])
   unfolding CodableHead encodeHead
   bare-head zero k = (TrueHead, tt, refl)
@@ -173,6 +173,7 @@ module _ (names : ℕ) where
       let (c, e) = connective-of (suc (suc b)) (omega arith) k in (BinaryHead c, tt, ap (λ (n : ℕ). n ∷ []) (sym e))
 
   module _ (l : List ℕ) (at : ℕ) where
+    -- a byte below 5, an atom, a quantifier: the head that the bytes at a position are
     pub bare-stands : at < length l → getD l at 0 < 5 → (h : Head) × HeadAt l at h (drop (at + 1) l)
     unfolding Stands
     bare-stands k b =

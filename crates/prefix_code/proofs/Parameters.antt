@@ -54,6 +54,7 @@ module _ (names : ℕ) where
       }
 
   module _ (l : List ℕ) (at : ℕ) (bytes : Bytes l) (below : numberAt l (at + 1) < names) where
+    -- the parameter that the bytes at a position are
     pub uninstantiated-stands : at + 3 ≤ length l → getD l at 0 ≡ 0 → ParameterAt l at (Uninstantiated (numberAt l (at + 1))) (drop (at + 3) l)
     unfolding Stands encodeParameter CodableParameter
     uninstantiated-stands h b =
