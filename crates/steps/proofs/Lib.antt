@@ -1,0 +1,7 @@
+pub mod Either
+pub mod Search
+pub mod LastTrees
+pub mod Premisses
+pub mod Walk
+pub mod Deepest
+pub mod Tables

@@ -1,0 +1,17 @@
+-- The test is the definition's at the number that was read.
+use mathlib.Core.Path.{ap}
+use lib.Dec.{leb}
+use borrow.Author.Needs.{needs}
+use Rattle.definitions.specs.Admission.{noName}
+use Rattle.steps.proofs.no_name.Statement.{statement}
+use Rattle.steps.proofs.no_name.Tie as tie
+
+step-number-requires : tie.Need-step-number-requires
+step-number-requires c κs = search needs
+
+returns : tie.Need-returns
+unfolding noName
+returns c propositions = ap (leb _) (c .step-number .ensures)
+
+pub no-name-spec : {M : Type 1} → statement M
+no-name-spec = tie.close (tie.spec step-number-requires returns)

@@ -1,0 +1,206 @@
+// The step records of a sheet: refusals 9, 10 and 11, and the sizes of the steps' trees.
+use definitions::Found;
+use number::number_at;
+ghost use Prim.Native.Nat.{ℕ, _+_, _≤_, _<_, max};
+ghost use mathlib.Core.Path.{_≡_};
+ghost use mathlib.Core.List.{List};
+ghost use lib.ListN.{length, getD};
+ghost use Rattle.definitions.specs.Outcome.{lowest, foundAt};
+ghost use Rattle.definitions.specs.Sheet.{stepSize, stepLimit, premissCount, stepNumber};
+ghost use Rattle.definitions.specs.Tree.{rules, Sorry, identifierCount, height, treeIn};
+ghost use Rattle.definitions.specs.Admission.{noName, notZero, badIdentifier, badPropIsTrue, badTypeJudgement, badConclusion};
+ghost use Rattle.definitions.specs.Admission.{badStep, treesLeft, deepTree};
+ghost use Rattle.steps.specs.Records.{HasStep, HasSteps};
+ghost use Rattle.steps.specs.Tables.{TreeStart, SizeTable, FilledSizes, HeightTable};
+
+// The bytes of a step.
+pub const STEP_SIZE: usize = 18;
+
+// The deepest nesting of a tree.
+pub const TREE_NESTING_LIMIT: u16 = 256;
+
+// How many identifiers a rule has, by its byte.
+const IDENTIFIER_COUNTS: [u8; 17] = [0, 0, 0, 0, 1, 0, 1, 0, 0, 2, 0, 1, 0, 0, 2, 0, 0];
+
+// The number at an offset of a step.
+fn step_number(records: &[u8], k: usize, at: usize) -> usize
+    requires { ⌜ (HasStep (now records) k) × (at + 1 < stepSize) ⌝ }
+    ensures { λ r. ⌜ r ≡ stepNumber (now (records .entry)) k at ⌝ }
+{
+    number_at(records, STEP_SIZE * k + at)
+}
+
+// The number at an offset of a step is that of no name.
+fn no_name(records: &[u8], k: usize, at: usize, names: usize) -> bool
+    requires { ⌜ (HasStep (now records) k) × (at + 1 < stepSize) ⌝ }
+    ensures { λ r. ⌜ ((propositions : ℕ) → r ≡ noName names propositions (now (records .entry)) k at) ⌝ }
+{
+    names <= step_number(records, k, at)
+}
+
+// The number at an offset of a step is not 0.
+fn not_zero(records: &[u8], k: usize, at: usize) -> bool
+    requires { ⌜ (HasStep (now records) k) × (at + 1 < stepSize) ⌝ }
+    ensures { λ r. ⌜ ((names propositions : ℕ) → r ≡ notZero names propositions (now (records .entry)) k at) ⌝ }
+{
+    step_number(records, k, at) != 0
+}
+
+// The identifier at an offset of a step has no name where the rule has it, or is not 0 where the rule lacks it.
+fn bad_identifier(records: &[u8], k: usize, at: usize, has: bool, names: usize) -> bool
+    requires { ⌜ (HasStep (now records) k) × (at + 3 < stepSize) ⌝ }
+    ensures { λ r. ⌜ ((propositions : ℕ) → r ≡ badIdentifier names propositions (now (records .entry)) k at has) ⌝ }
+{
+    if has {
+        return no_name(records, k, at, names);
+    }
+    not_zero(records, k, at) || not_zero(records, k, at + 2)
+}
+
+// A conclusion of kind 0: a proposition number, 0, 0.
+fn bad_prop_is_true(records: &[u8], k: usize, propositions: usize) -> bool
+    requires { ⌜ HasStep (now records) k ⌝ }
+    ensures { λ r. ⌜ ((names : ℕ) → r ≡ badPropIsTrue names propositions (now (records .entry)) k) ⌝ }
+{
+    propositions <= step_number(records, k, 12)
+        || (not_zero(records, k, 14) || not_zero(records, k, 16))
+}
+
+// A conclusion of kind 1: a name, an id, a datatype name.
+fn bad_type_judgement(records: &[u8], k: usize, names: usize) -> bool
+    requires { ⌜ HasStep (now records) k ⌝ }
+    ensures { λ r. ⌜ ((propositions : ℕ) → r ≡ badTypeJudgement names propositions (now (records .entry)) k) ⌝ }
+{
+    no_name(records, k, 12, names) || no_name(records, k, 16, names)
+}
+
+fn bad_conclusion(records: &[u8], k: usize, names: usize, propositions: usize) -> bool
+    requires { ⌜ HasStep (now records) k ⌝ }
+    ensures { λ r. ⌜ r ≡ badConclusion names propositions (now (records .entry)) k ⌝ }
+{
+    match step_number(records, k, 10) {
+        0 => bad_prop_is_true(records, k, propositions),
+        1 => bad_type_judgement(records, k, names),
+        _ => true,
+    }
+}
+
+// How many identifiers the rule of a byte has.
+fn identifier_count(rule: usize) -> u8
+    requires { ⌜ rule < length rules ⌝ }
+    ensures { λ r. ⌜ r ≡ identifierCount (getD rules rule Sorry) ⌝ }
+{
+    IDENTIFIER_COUNTS[rule]
+}
+
+// A step's rule, kind, name or proposition number is out of range, or an unused field is not 0.
+fn bad_step(records: &[u8], k: usize, names: usize, propositions: usize) -> bool
+    requires { ⌜ HasStep (now records) k ⌝ }
+    ensures { λ r. ⌜ r ≡ badStep names propositions (now (records .entry)) k ⌝ }
+{
+    let rule = records[STEP_SIZE * k] as usize;
+    if IDENTIFIER_COUNTS.len() <= rule {
+        return true;
+    }
+    let identifiers = identifier_count(rule);
+    bad_identifier(records, k, 2, 1 <= identifiers, names)
+        || (bad_identifier(records, k, 6, 2 <= identifiers, names)
+            || bad_conclusion(records, k, names, propositions))
+}
+
+// Refusal 9: the lowest of the steps that is bad.
+pub fn first_bad_step(records: &[u8], steps: usize, names: usize, propositions: usize) -> Found
+    requires { ⌜ HasSteps (now records) steps ⌝ }
+    ensures { λ r. ⌜ r ≡ foundAt (lowest (badStep names propositions (now (records .entry))) steps) ⌝ }
+{
+    for k in 0..steps {
+        if bad_step(records, k, names, propositions) {
+            return Found::At(k);
+        }
+    }
+    Found::Nowhere
+}
+
+fn premiss_count(records: &[u8], k: usize) -> u8
+    requires { ⌜ HasStep (now records) k ⌝ }
+    ensures { λ r. ⌜ r ≡ premissCount (now (records .entry)) k ⌝ }
+{
+    records[STEP_SIZE * k + 1]
+}
+
+// Where the tree of step k starts, if the step finds its premisses: back over each of them by its size.
+fn tree_start(records: &[u8], k: usize, sizes: &[u16]) -> Found
+    requires { ⌜ (HasStep (now records) k) × (k ≤ length (now sizes)) × SizeTable (now records) k (now sizes) ⌝ }
+    ensures { λ r. ⌜ TreeStart (now (records .entry)) k r ⌝ }
+{
+    let needed = premiss_count(records, k);
+    let mut start = k;
+    for _ in 0..needed {
+        if start == 0 {
+            return Found::Nowhere;
+        }
+        start -= sizes[start - 1] as usize;
+    }
+    Found::At(start)
+}
+
+// Refusal 10, its first part: the lowest step that finds too few trees. The sizes are those of the steps' trees.
+pub fn fill_sizes(records: &[u8], steps: usize, sizes: &mut [u16]) -> Found
+    requires { ⌜ (HasSteps (now records) steps) × (steps ≤ stepLimit) × (steps ≤ length (now sizes)) ⌝ }
+    ensures { λ r. ⌜ FilledSizes (now (records .entry)) steps (now (sizes .entry)) r (now (sizes .exit)) ⌝ }
+{
+    for k in 0..steps {
+        let Found::At(start) = tree_start(records, k, sizes) else {
+            return Found::At(k);
+        };
+        sizes[k] = (k + 1 - start) as u16;
+    }
+    Found::Nowhere
+}
+
+// Refusal 10, its second part: the last step's tree has not all the steps.
+pub fn leaves_trees(records: &[u8], steps: usize, sizes: &[u16]) -> bool
+    requires { ⌜ (0 < steps) × (steps ≤ length (now sizes)) × SizeTable (now records) steps (now sizes) ⌝ }
+    ensures { λ r. ⌜ ((names : ℕ) (pairs code : List ℕ) → r ≡ treesLeft names pairs code (now (records .entry)) steps) ⌝ }
+{
+    (sizes[steps - 1] as usize) < steps
+}
+
+fn max(a: u16, b: u16) -> u16
+    ensures { λ r. ⌜ r ≡ max a b ⌝ }
+{
+    if a < b { b } else { a }
+}
+
+// The nesting of the tree of step k: one more than that of its deepest premiss.
+fn tree_height(records: &[u8], k: usize, sizes: &[u16], heights: &[u16]) -> u16
+    requires { ⌜ (HasStep (now records) k) × (k ≤ length (now sizes)) × (k ≤ length (now heights)) ⌝ }
+    requires { ⌜ SizeTable (now records) (k + 1) (now sizes) × HeightTable (now records) k (now heights) ⌝ }
+    ensures { λ r. ⌜ ((names : ℕ) (pairs code : List ℕ) → r ≡ height (treeIn names pairs code (now (records .entry)) k)) ⌝ }
+{
+    let premisses = premiss_count(records, k);
+    let mut start = k;
+    let mut deepest = 0;
+    for _ in 0..premisses {
+        let last = start - 1;
+        deepest = max(heights[last], deepest);
+        start -= sizes[last] as usize;
+    }
+    deepest + 1
+}
+
+// Refusal 11: the lowest step whose tree nests too deep. The heights are those of the steps before it.
+pub fn first_deep_tree(records: &[u8], steps: usize, sizes: &[u16], heights: &mut [u16]) -> Found
+    requires { ⌜ (HasSteps (now records) steps) × (steps ≤ length (now sizes)) × (steps ≤ length (now heights)) ⌝ }
+    requires { ⌜ SizeTable (now records) steps (now sizes) ⌝ }
+    ensures { λ r. ⌜ ((names : ℕ) (pairs code : List ℕ) → r ≡ foundAt (lowest (deepTree names pairs code (now (records .entry))) steps)) ⌝ }
+{
+    for k in 0..steps {
+        let height = tree_height(records, k, sizes, heights);
+        if TREE_NESTING_LIMIT < height {
+            return Found::At(k);
+        }
+        heights[k] = height;
+    }
+    Found::Nowhere
+}
