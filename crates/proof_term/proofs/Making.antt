@@ -3,14 +3,13 @@ use Prim.Native.Nat.{ℕ, zero, suc, _+_, _*_, _≤_, _<_}
 use mathlib.Core.Path.{_≡_, refl, sym, ap, _∙_}
 use mathlib.Core.List.{List, [], _∷_, _++_, append-assoc}
 use native.Mathlib.Omega.{arith}
-use native.Mathlib.Nat.{add-zero}
 use native.Mathlib.Numerals.{towards-suc}
 use lib.ListN.{length, getD, set, take, drop, length-append, List·getD-append, List·getD-map}
 use lib.Seq.{sets, sets-eq, length-take-le, take-at, drop-at, take-take, getD-append-add}
 use Rattle.definitions.specs.Prop.{Prop}
 use Rattle.definitions.specs.Term.{ProofTerm, Unit}
-use Rattle.proof_term.specs.Records.{recordSize, Form, leaf, unary, binary, ternary, formTerm, forms, recordTerm, recordTermAt, termAt, partAt}
-use Rattle.proof_term.specs.Making.{partCount, Each, Pushed, Kept, Made}
+use Rattle.proof_term.specs.Records.{recordSize, fieldAt, Form, leaf, unary, binary, ternary, formTerm, forms, recordTerm, partCount, recordTermAt, termAt, partAt}
+use Rattle.proof_term.specs.Making.{Each, Pushed, Kept, Made}
 use Rattle.proof_term.proofs.Records.{frame-below, parts-same, part-below, termAt-is}
 
 -- six stores in a row
@@ -35,14 +34,14 @@ kept-then {used} {next} {before} {mid} {after} h p q =
     (sym (take-take (recordSize * used) (recordSize * next) after (omega arith))
     ∙ (ap (take (recordSize * used)) (q .numbers) ∙ (take-take (recordSize * used) (recordSize * next) mid (omega arith) ∙ p .numbers)))
 
-abbrev arity : Form → ℕ
+abbrev pub arity : Form → ℕ
 arity (leaf t) = 0
 arity (unary f) = 1
 arity (binary f) = 2
 arity (ternary f) = 3
 
 -- the parts that a kind counts are those of its form
-part-count : (props : ℕ → Prop ℕ) (kind a b c d e : ℕ) → partCount kind ≡ arity (getD (forms props a b c d e) kind (leaf Unit))
+pub part-count : (props : ℕ → Prop ℕ) (kind a b c d e : ℕ) → partCount kind ≡ arity (getD (forms props a b c d e) kind (leaf Unit))
 part-count props kind a b c d e = List·getD-map arity (forms props a b c d e) kind (leaf Unit)
 
 -- a form looks at the terms of its own parts alone
@@ -85,21 +84,15 @@ module _
         let end : recordSize * used + 6 ≡ recordSize * (used + 1) = omega arith in
         rw (p .stored) (rw end at (stored-beyond before (kind ∷ a ∷ b ∷ c ∷ d ∷ e ∷ []) (recordSize * used) (omega arith)))
 
-    number : (i : ℕ) → i < 6 → getD after (recordSize * used + i) 0 ≡ getD (kind ∷ a ∷ b ∷ c ∷ d ∷ e ∷ []) i 0
-    number i h = rw (p .stored) (stored-number before (kind ∷ a ∷ b ∷ c ∷ d ∷ e ∷ []) (recordSize * used) (omega arith) i h)
+    field : (i : ℕ) → i < recordSize → fieldAt after used i ≡ getD (kind ∷ a ∷ b ∷ c ∷ d ∷ e ∷ []) i 0
+    unfolding fieldAt
+    field i h = rw (p .stored) (stored-number before (kind ∷ a ∷ b ∷ c ∷ d ∷ e ∷ []) (recordSize * used) (omega arith) i h)
 
     -- the term of the record that was stored, over the terms of its parts
-    formed : (props : ℕ → Prop ℕ) (part : ℕ → ProofTerm ℕ) → recordTermAt props part after (recordSize * used) ≡ recordTerm props part kind a b c d e
+    formed : (props : ℕ → Prop ℕ) (part : ℕ → ProofTerm ℕ) → recordTermAt props part after used ≡ recordTerm props part kind a b c d e
     unfolding recordTermAt
-    formed props part = cc (
-      add-zero (recordSize * used),
-      number 0 (omega arith),
-      number 1 (omega arith),
-      number 2 (omega arith),
-      number 3 (omega arith),
-      number 4 (omega arith),
-      number 5 (omega arith),
-    )
+    formed props part =
+        cc (field 0 (omega arith), field 1 (omega arith), field 2 (omega arith), field 3 (omega arith), field 4 (omega arith), field 5 (omega arith))
 
     -- the law of every maker: the record holds the term of its kind, over the terms that its parts had before
     pub made : Each (λ part. part < used) (partCount kind) a b c → Made (λ props part. recordTerm props part kind a b c d e) before used after next

@@ -2,7 +2,7 @@
 use Prim.Native.Nat.{ℕ, zero, suc, _+_, _*_, _≤_, _<_}
 use mathlib.Core.Path.{_≡_}
 use mathlib.Core.List.{List, [], _∷_}
-use lib.ListN.{length, take, drop, getD}
+use lib.ListN.{length, take, drop}
 use lib.Seq.{sets}
 use Rattle.definitions.specs.Prop.{Prop}
 use Rattle.definitions.specs.Term.{ProofTerm}
@@ -13,11 +13,7 @@ pub record Room (records : List ℕ) (used : ℕ) : Type 0 where
   pub room : recordSize * (used + 1) ≤ length records
   pub few : used ≤ 65536
 
--- how many of a record's numbers a, b and c are parts, by its kind
-abbrev pub partCount : ℕ → ℕ
-partCount kind = getD (0 ∷ 2 ∷ 1 ∷ 1 ∷ 1 ∷ 2 ∷ 2 ∷ 1 ∷ 1 ∷ 3 ∷ 1 ∷ 1 ∷ 0 ∷ 0 ∷ []) kind 0
-
--- each of the first ones, as many as the count says, has the property
+-- each of the first numbers, as many as the count says, has the property
 abbrev pub Each : (ℕ → Type 0) → ℕ → ℕ → ℕ → ℕ → Type 0
 Each P zero a b c = Unit {0}
 Each P (suc zero) a b c = P a
