@@ -1,9 +1,9 @@
 -- A record's labels are its own and those of its parts, one part after the other; and they are no more than the term's nodes.
-use Prim.Native.Nat.{ℕ, zero, suc, _+_, _*_, _≤_, _<_}
+use Prim.Native.Nat.{ℕ, zero, suc, _+_, _≤_, _<_}
 use mathlib.Core.Path.{_≡_, refl, sym, ap, _∙_}
 use mathlib.Core.Logic.{by-cases}
 use mathlib.Core.Bool.{Bool, cond, true, false}
-use mathlib.Core.Option.{Option, none, some}
+use mathlib.Core.Option.{none, some}
 use mathlib.Core.List.{List, map}
 use native.Mathlib.Omega.{arith}
 use native.Mathlib.Decide.{decLe}
@@ -13,11 +13,10 @@ use lib.ListN.{getD, set, replicate, List·getD-map}
 use lib.Seq.{getD-set-other}
 use lib.Dec.{eqb}
 use Rattle.definitions.specs.Prop.{Prop, True}
-use Rattle.definitions.specs.Term.{Label, ProofTerm, Ident, Pair, Named, Function, Application, LetIn, Case, TypeAscription, Unit, Sorry, isLabelled, annotationCount}
-use Rattle.proof_term.specs.Records.{recordSize, fieldAt, Form, leaf, unary, binary, ternary, formTerm, forms, labelOf, parameterLabel, recordTerm, partCount, recordTermAt, termAt, partAt}
-use Rattle.proof_term.specs.Counting.{termSize, Small, ownCounts, ownAnnotations}
-use Rattle.proof_term.proofs.Records.{termAt-is, part-below, part-else}
-use Rattle.proof_term.proofs.Making.{arity, part-count}
+use Rattle.definitions.specs.Term.{ProofTerm, Ident, Pair, Named, Function, Application, LetIn, Case, TypeAscription, Unit, Sorry, isLabelled, annotationCount}
+use Rattle.proof_term.specs.Records.{fieldAt, Form, leaf, unary, binary, ternary, formTerm, labelOf, parameterLabel, forms, recordTermAt, partCount, termAt, partAt}
+use Rattle.proof_term.specs.Counting.{termSize, ownCounts, ownAnnotations}
+use Rattle.proof_term.proofs.Records.{arity, part-count, termAt-is, part-below, part-else}
 
 -- the sum of the first values
 sumOf : ℕ → (ℕ → ℕ) → ℕ
@@ -58,42 +57,54 @@ labelled props kind number = go (eqb kind 0)
     go true = refl
     go false = refl
 
-module _ (props : ℕ → Prop ℕ) (part : ℕ → ProofTerm ℕ) (number : ℕ → ℕ) (kind d e : ℕ) where
-  size-is : termSize (recordTerm props part kind (number 1) (number 2) (number 3) d e) ≡ 1 + sumOf (partCount kind) (λ i. termSize (part (number (1 + i))))
-  unfolding termSize sumOf
-  size-is =
-      rw (part-count props kind (number 1) (number 2) (number 3) d e)
-      (same-at (λ form. termSize (formTerm part form (number 1) (number 2) (number 3)))
-      (λ form. 1 + sumOf (arity form) (λ i. termSize (part (number (1 + i)))))
-      (forms props (number 1) (number 2) (number 3) d e) (leaf Unit) refl (simp zero-add) kind)
+-- A record with these numbers, kind by kind: each law is one test over the table of forms.
+module _ (props : ℕ → Prop ℕ) (number : ℕ → ℕ) (d e : ℕ) where
+  abbrev table : List Form
+  table = forms props (number 1) (number 2) (number 3) d e
 
-  own-table : map (λ form. annotationCount (formTerm (λ i. Unit) form (number 1) (number 2) (number 3))) (forms props (number 1) (number 2) (number 3) d e) ≡ ownCounts (number 3)
+  abbrev over : (ℕ → ProofTerm ℕ) → Form → ProofTerm ℕ
+  over part form = formTerm part form (number 1) (number 2) (number 3)
+
+  -- a record is a node, and its parts have the other nodes
+  size-is :
+      (part : ℕ → ProofTerm ℕ) (kind : ℕ) →
+      termSize (over part (getD table kind (leaf Unit))) ≡ 1 + sumOf (partCount kind) (λ i. termSize (part (number (1 + i))))
+  unfolding termSize sumOf
+  size-is part kind =
+      rw (part-count props kind (number 1) (number 2) (number 3) d e)
+      (same-at (λ form. termSize (over part form)) (λ form. 1 + sumOf (arity form) (λ i. termSize (part (number (1 + i)))))
+      table (leaf Unit) refl (simp zero-add) kind)
+
+  own-table : map (λ form. annotationCount (over (λ i. Unit) form)) table ≡ ownCounts (number 3)
   unfolding annotationCount
   own-table = simp (labelled, add-zero)
 
   -- over parts without labels a record has its own labels
-  own-is : annotationCount (recordTerm props (λ i. Unit) kind (number 1) (number 2) (number 3) d e) ≡ ownAnnotations kind (number 3)
+  own-is : (kind : ℕ) → annotationCount (over (λ i. Unit) (getD table kind (leaf Unit))) ≡ ownAnnotations kind (number 3)
   unfolding annotationCount ownAnnotations
-  own-is =
-      sym (List·getD-map (λ form. annotationCount (formTerm (λ i. Unit) form (number 1) (number 2) (number 3))) (forms props (number 1) (number 2) (number 3) d e) kind (leaf Unit))
+  own-is kind =
+      sym (List·getD-map (λ form. annotationCount (over (λ i. Unit) form)) table kind (leaf Unit))
       ∙ ap (λ l. getD l kind 0) own-table
 
+  -- a record has its own labels, and its parts have the others
   count-is :
-      annotationCount (recordTerm props part kind (number 1) (number 2) (number 3) d e)
+      (part : ℕ → ProofTerm ℕ) (kind : ℕ) →
+      annotationCount (over part (getD table kind (leaf Unit)))
       ≡ ownAnnotations kind (number 3) + sumOf (partCount kind) (λ i. annotationCount (part (number (1 + i))))
   unfolding annotationCount sumOf
-  count-is =
-      rw (← own-is, part-count props kind (number 1) (number 2) (number 3) d e)
-      (same-at (λ form. annotationCount (formTerm part form (number 1) (number 2) (number 3)))
-      (λ form. annotationCount (formTerm (λ i. Unit) form (number 1) (number 2) (number 3)) + sumOf (arity form) (λ i. annotationCount (part (number (1 + i)))))
-      (forms props (number 1) (number 2) (number 3) d e) (leaf Unit) refl (simp (zero-add, add-zero)) kind)
+  count-is part kind =
+      rw (← own-is kind, part-count props kind (number 1) (number 2) (number 3) d e)
+      (same-at (λ form. annotationCount (over part form))
+      (λ form. annotationCount (over (λ i. Unit) form) + sumOf (arity form) (λ i. annotationCount (part (number (1 + i)))))
+      table (leaf Unit) refl (simp (zero-add, add-zero)) kind)
 
 -- no other kind has labels of its own
 pub own-else : (kind label : ℕ) → (kind ≡ 4 → ⊥) → (kind ≡ 11 → ⊥) → ownAnnotations kind label ≡ 0
 unfolding ownAnnotations
 own-else kind label h k =
     getD-set-other (set (replicate 14 0) 4 (cond (eqb label 0) 0 1)) 11 kind 1 0 k
-    ∙ (getD-set-other (replicate 14 0) 4 kind (cond (eqb label 0) 0 1) 0 h ∙ zeros 14 kind)
+    ∙ getD-set-other (replicate 14 0) 4 kind (cond (eqb label 0) 0 1) 0 h
+    ∙ zeros 14 kind
   where
     zeros : (n i : ℕ) → _≡_ {A = ℕ} (getD (replicate n 0) i 0) 0
     zeros zero i = refl
@@ -110,10 +121,12 @@ pub counted-none : (props : ℕ → Prop ℕ) (records : List ℕ) (n : ℕ) →
 unfolding counted sumOf
 counted-none props records n = omega arith
 
-pub counted-all : (props : ℕ → Prop ℕ) (records : List ℕ) (n : ℕ) → counted props records n (partCount (fieldAt records n 0)) ≡ annotationCount (termAt props records n)
+pub counted-all :
+    (props : ℕ → Prop ℕ) (records : List ℕ) (n : ℕ) {i : ℕ} → i ≡ partCount (fieldAt records n 0) →
+    counted props records n i ≡ annotationCount (termAt props records n)
 unfolding counted recordTermAt
-counted-all props records n =
-    sym (ap annotationCount (termAt-is props records n) ∙ count-is props (partAt props records n) (fieldAt records n) _ _ _)
+counted-all props records n all =
+    rw (all, termAt-is props records n) (sym (count-is props (fieldAt records n) _ _ (partAt props records n) _))
 
 -- Part i of record n.
 module _ (props : ℕ → Prop ℕ) (records : List ℕ) (n i : ℕ) {part : ℕ} (is : part ≡ fieldAt records n (1 + i)) where
@@ -128,13 +141,13 @@ module _ (props : ℕ → Prop ℕ) (records : List ℕ) (n i : ℕ) {part : ℕ
   unfolding annotationCount
   counted-unit l = counted-more ∙ rw (part-else props records n part l) (omega arith)
 
-  -- a count stays below the size of the term
+  -- no count passes the size of the term
   pub counted-few : i < partCount (fieldAt records n 0) → counted props records n (i + 1) ≤ termSize (termAt props records n)
   unfolding counted
   counted-few h = omega (
     arith,
     sumOf-le (λ j. annotationCount (partAt props records n (fieldAt records n (1 + j)))) (i + 1) (partCount (fieldAt records n 0)) (omega arith),
-    counted-all props records n,
+    counted-all props records n refl,
     few-labels (termAt props records n),
   )
 
@@ -142,7 +155,7 @@ module _ (props : ℕ → Prop ℕ) (records : List ℕ) (n i : ℕ) {part : ℕ
   pub part-size : i < partCount (fieldAt records n 0) → part < n → termSize (termAt props records part) < termSize (termAt props records n)
   unfolding sumOf recordTermAt
   part-size h l =
-      rw (termAt-is props records n, size-is props (partAt props records n) (fieldAt records n) _ _ _, ← part-below props records n part l, is)
+      rw (termAt-is props records n, size-is props (fieldAt records n) _ _ (partAt props records n) _, ← part-below props records n part l, is)
       (omega (arith, sumOf-le (λ j. termSize (partAt props records n (fieldAt records n (1 + j)))) (suc i) (partCount (fieldAt records n 0)) h))
 
 -- few enough parts that the numbers of a record hold them

@@ -6,12 +6,31 @@ use mathlib.Core.Option.{none}
 use mathlib.Core.List.{List, [], _∷_}
 use native.Mathlib.Omega.{arith}
 use native.Mathlib.Decide.{decLt}
-use lib.ListN.{getD, take}
+use lib.ListN.{getD, take, List·getD-map}
 use lib.Seq.{getD-take, take-take}
 use borrow.Author.Tests.{lt-ltb, le-ltb}
 use Rattle.definitions.specs.Prop.{Prop}
 use Rattle.definitions.specs.Term.{ProofTerm, Ident, Function, OrLeft, Unit}
-use Rattle.proof_term.specs.Records.{recordSize, fieldAt, recordTerm, parameterLabel, recordTermAt, earlier, termWithin, termAt, partAt}
+use Rattle.proof_term.specs.Records.{recordSize, fieldAt, Form, leaf, unary, binary, ternary, formTerm, parameterLabel, forms, recordTerm, recordTermAt, partCount, Each, earlier, termWithin, termAt, partAt}
+
+abbrev pub arity : Form → ℕ
+arity (leaf t) = 0
+arity (unary t) = 1
+arity (binary t) = 2
+arity (ternary t) = 3
+
+-- the parts that a kind counts are those of its form
+pub part-count : (props : ℕ → Prop ℕ) (kind a b c d e : ℕ) → partCount kind ≡ arity (getD (forms props a b c d e) kind (leaf Unit))
+part-count props kind a b c d e = List·getD-map arity (forms props a b c d e) kind (leaf Unit)
+
+-- a form looks at the terms of its own parts alone
+pub form-same :
+    (used : ℕ) (f g : ℕ → ProofTerm ℕ) → ((part : ℕ) → part < used → f part ≡ g part) →
+    (form : Form) (a b c : ℕ) → Each (λ part. part < used) (arity form) a b c → formTerm f form a b c ≡ formTerm g form a b c
+form-same used f g same (leaf t) a b c h = refl
+form-same used f g same (unary t) a b c h = ap t (same a h)
+form-same used f g same (binary t) a b c h = cc (same a (h .0), same b (h .1))
+form-same used f g same (ternary t) a b c h = cc (same a (h .0), same b (h .1), same c (h .2))
 
 -- the terms of earlier records decide
 earlier-same : (n : ℕ) {f g : ℕ → ProofTerm ℕ} → ((part : ℕ) → part < n → f part ≡ g part) → earlier n f ≡ earlier n g
@@ -22,8 +41,8 @@ earlier-same n {f} {g} h = fun-ext λ part. by-cases (decLt part n)
 
 -- Two memories with the same first numbers.
 module _ (r s : List ℕ) where
-  fewer : (count m : ℕ) → take count r ≡ take count s → m ≤ count → take m r ≡ take m s
-  fewer count m e h = sym (take-take m count r h) ∙ (ap (take m) e ∙ take-take m count s h)
+  pub fewer : (count m : ℕ) → take count r ≡ take count s → m ≤ count → take m r ≡ take m s
+  fewer count m e h = sym (take-take m count r h) ∙ ap (take m) e ∙ take-take m count s h
 
   same-field :
       (n : ℕ) → take (recordSize * (n + 1)) r ≡ take (recordSize * (n + 1)) s → (i : ℕ) → i < recordSize → fieldAt r n i ≡ fieldAt s n i
@@ -31,7 +50,7 @@ module _ (r s : List ℕ) where
   same-field n e i h =
       let end = recordSize * (n + 1) in
       let at = recordSize * n + i in
-      sym (getD-take end r at 0 (omega arith)) ∙ (ap (λ l. getD l at 0) e ∙ getD-take end s at 0 (omega arith))
+      sym (getD-take end r at 0 (omega arith)) ∙ ap (λ l. getD l at 0) e ∙ getD-take end s at 0 (omega arith)
 
 module _ (props : ℕ → Prop ℕ) (r s : List ℕ) where
   record-same :

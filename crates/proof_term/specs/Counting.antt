@@ -21,7 +21,7 @@ termSize (TypeAscription a l) = 1 + termSize a
 termSize Unit = 1
 termSize Sorry = 1
 
--- record n holds a term of few nodes, as many for every `props`
+-- record n holds a term of at most 65,536 nodes; its labels do not count
 pub record Small (records : List ℕ) (n : ℕ) : Type 0 where
   pub props : ℕ → Prop ℕ
   pub few : termSize (termAt props records n) ≤ 65536

@@ -1,5 +1,5 @@
 -- What it is to make a record in lent memory: what becomes of every number, and the term that the record holds.
-use Prim.Native.Nat.{ℕ, zero, suc, _+_, _*_, _≤_, _<_}
+use Prim.Native.Nat.{ℕ, _+_, _*_, _≤_, _<_}
 use mathlib.Core.Path.{_≡_}
 use mathlib.Core.List.{List, [], _∷_}
 use lib.ListN.{length, take, drop}
@@ -12,13 +12,6 @@ use Rattle.proof_term.specs.Records.{recordSize, termAt}
 pub record Room (records : List ℕ) (used : ℕ) : Type 0 where
   pub room : recordSize * (used + 1) ≤ length records
   pub few : used ≤ 65536
-
--- each of the first numbers, as many as the count says, has the property
-abbrev pub Each : (ℕ → Type 0) → ℕ → ℕ → ℕ → ℕ → Type 0
-Each P zero a b c = Unit {0}
-Each P (suc zero) a b c = P a
-Each P (suc (suc zero)) a b c = P a × P b
-Each P (suc (suc (suc n))) a b c = P a × P b × P c
 
 -- `after` is the memory `before` with the six numbers stored as record `used`, and `next` the number of the record that comes next
 pub record Pushed (kind a b c d e : ℕ) (before : List ℕ) (used : ℕ) (after : List ℕ) (next : ℕ) : Type 0 where

@@ -75,6 +75,13 @@ partCounts = 0 ∷ 2 ∷ 1 ∷ 1 ∷ 1 ∷ 2 ∷ 2 ∷ 1 ∷ 1 ∷ 3 ∷ 1 ∷ 1
 abbrev pub partCount : ℕ → ℕ
 partCount kind = getD partCounts kind 0
 
+-- each of the first numbers, as many as the count says, has the property
+abbrev pub Each : (ℕ → Type 0) → ℕ → ℕ → ℕ → ℕ → Type 0
+Each P zero a b c = Prim.Unit {0}
+Each P (suc zero) a b c = P a
+Each P (suc (suc zero)) a b c = P a × P b
+Each P (suc (suc (suc n))) a b c = P a × P b × P c
+
 -- a part is an earlier record; any other number counts as Unit
 unfoldable pub earlier : ℕ → (ℕ → ProofTerm ℕ) → ℕ → ProofTerm ℕ
 earlier n term part = cond (ltb part n) (term part) Unit

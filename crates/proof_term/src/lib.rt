@@ -4,9 +4,9 @@ ghost use Prim.Native.Nat.{ℕ, _+_, _*_, _≤_, _<_};
 ghost use lib.ListN.{length};
 ghost use Rattle.definitions.specs.Prop.{Prop};
 ghost use Rattle.definitions.specs.Term.{Ident, Pair, ProjectFst, ProjectSnd, Function, Application, LetIn, OrLeft, OrRight, Case, Abort, TypeAscription, Unit, Sorry, annotationCount};
-ghost use Rattle.proof_term.specs.Records.{recordSize, fieldAt, recordTerm, partCount, labelOf, parameterLabel, termAt};
+ghost use Rattle.proof_term.specs.Records.{recordSize, fieldAt, recordTerm, partCount, Each, labelOf, parameterLabel, termAt};
 ghost use Rattle.proof_term.specs.Counting.{Small, ownAnnotations};
-ghost use Rattle.proof_term.specs.Making.{Room, Each, Pushed, Made};
+ghost use Rattle.proof_term.specs.Making.{Room, Pushed, Made};
 
 // The numbers of a record.
 const RECORD_SIZE: usize = 6;
@@ -74,51 +74,51 @@ pub fn push(
     used + 1
 }
 
-// Makes record `used` of any kind.
+// Makes record `used`, of any kind, over earlier records.
 fn make(
     records: &mut [u16],
     used: usize,
-    kind: u16,
+    kind: usize,
     a: u16,
     b: u16,
     c: u16,
     d: u16,
     e: u16,
 ) -> usize
-    requires { ⌜ (recordSize * (used + 1) ≤ length (now records)) × Each (λ part. part < used) (partCount kind) a b c ⌝ }
+    requires { ⌜ (recordSize * (used + 1) ≤ length (now records)) × (kind < 14) × Each (λ part. part < used) (partCount kind) a b c ⌝ }
     ensures { λ r. ⌜ Made (λ props part. recordTerm props part kind a b c d e) (now (records .entry)) used (now (records .exit)) r ⌝ }
 {
-    push(records, used, kind, a, b, c, d, e)
+    push(records, used, kind as u16, a, b, c, d, e)
 }
 
-// The makers: each makes record `used` over earlier records and gives the number of the next one.
+// The makers. Each makes record `used` over earlier records and gives the number of the next one. A label is a kind and a number.
 
 pub fn ident(records: &mut [u16], used: usize, ident: u16) -> usize
     requires { ⌜ recordSize * (used + 1) ≤ length (now records) ⌝ }
     ensures { λ r. ⌜ Made (λ props part. Ident ident) (now (records .entry)) used (now (records .exit)) r ⌝ }
 {
-    make(records, used, IDENT as u16, ident, 0, 0, 0, 0)
+    make(records, used, IDENT, ident, 0, 0, 0, 0)
 }
 
 pub fn pair(records: &mut [u16], used: usize, fst: usize, snd: usize) -> usize
     requires { ⌜ Room (now records) used × (fst < used) × (snd < used) ⌝ }
     ensures { λ r. ⌜ Made (λ props part. Pair (part fst) (part snd)) (now (records .entry)) used (now (records .exit)) r ⌝ }
 {
-    make(records, used, PAIR as u16, fst as u16, snd as u16, 0, 0, 0)
+    make(records, used, PAIR, fst as u16, snd as u16, 0, 0, 0)
 }
 
 pub fn project_fst(records: &mut [u16], used: usize, body: usize) -> usize
     requires { ⌜ Room (now records) used × (body < used) ⌝ }
     ensures { λ r. ⌜ Made (λ props part. ProjectFst (part body)) (now (records .entry)) used (now (records .exit)) r ⌝ }
 {
-    make(records, used, PROJECT_FST as u16, body as u16, 0, 0, 0, 0)
+    make(records, used, PROJECT_FST, body as u16, 0, 0, 0, 0)
 }
 
 pub fn project_snd(records: &mut [u16], used: usize, body: usize) -> usize
     requires { ⌜ Room (now records) used × (body < used) ⌝ }
     ensures { λ r. ⌜ Made (λ props part. ProjectSnd (part body)) (now (records .entry)) used (now (records .exit)) r ⌝ }
 {
-    make(records, used, PROJECT_SND as u16, body as u16, 0, 0, 0, 0)
+    make(records, used, PROJECT_SND, body as u16, 0, 0, 0, 0)
 }
 
 pub fn function(
@@ -132,16 +132,7 @@ pub fn function(
     requires { ⌜ Room (now records) used × (body < used) ⌝ }
     ensures { λ r. ⌜ Made (λ props part. Function param (parameterLabel props kind label) (part body)) (now (records .entry)) used (now (records .exit)) r ⌝ }
 {
-    make(
-        records,
-        used,
-        FUNCTION as u16,
-        body as u16,
-        param,
-        kind,
-        label,
-        0,
-    )
+    make(records, used, FUNCTION, body as u16, param, kind, label, 0)
 }
 
 pub fn application(records: &mut [u16], used: usize, function: usize, applicant: usize) -> usize
@@ -151,7 +142,7 @@ pub fn application(records: &mut [u16], used: usize, function: usize, applicant:
     make(
         records,
         used,
-        APPLICATION as u16,
+        APPLICATION,
         function as u16,
         applicant as u16,
         0,
@@ -174,7 +165,7 @@ pub fn let_in(
     make(
         records,
         used,
-        LET_IN as u16,
+        LET_IN,
         head as u16,
         body as u16,
         first,
@@ -187,14 +178,14 @@ pub fn or_left(records: &mut [u16], used: usize, body: usize) -> usize
     requires { ⌜ Room (now records) used × (body < used) ⌝ }
     ensures { λ r. ⌜ Made (λ props part. OrLeft (part body)) (now (records .entry)) used (now (records .exit)) r ⌝ }
 {
-    make(records, used, OR_LEFT as u16, body as u16, 0, 0, 0, 0)
+    make(records, used, OR_LEFT, body as u16, 0, 0, 0, 0)
 }
 
 pub fn or_right(records: &mut [u16], used: usize, body: usize) -> usize
     requires { ⌜ Room (now records) used × (body < used) ⌝ }
     ensures { λ r. ⌜ Made (λ props part. OrRight (part body)) (now (records .entry)) used (now (records .exit)) r ⌝ }
 {
-    make(records, used, OR_RIGHT as u16, body as u16, 0, 0, 0, 0)
+    make(records, used, OR_RIGHT, body as u16, 0, 0, 0, 0)
 }
 
 pub fn case(
@@ -212,7 +203,7 @@ pub fn case(
     make(
         records,
         used,
-        CASE as u16,
+        CASE,
         head as u16,
         left as u16,
         right as u16,
@@ -225,7 +216,7 @@ pub fn abort(records: &mut [u16], used: usize, body: usize) -> usize
     requires { ⌜ Room (now records) used × (body < used) ⌝ }
     ensures { λ r. ⌜ Made (λ props part. Abort (part body)) (now (records .entry)) used (now (records .exit)) r ⌝ }
 {
-    make(records, used, ABORT as u16, body as u16, 0, 0, 0, 0)
+    make(records, used, ABORT, body as u16, 0, 0, 0, 0)
 }
 
 pub fn type_ascription(
@@ -241,7 +232,7 @@ pub fn type_ascription(
     make(
         records,
         used,
-        TYPE_ASCRIPTION as u16,
+        TYPE_ASCRIPTION,
         body as u16,
         0,
         kind,
@@ -254,14 +245,14 @@ pub fn unit(records: &mut [u16], used: usize) -> usize
     requires { ⌜ recordSize * (used + 1) ≤ length (now records) ⌝ }
     ensures { λ r. ⌜ Made (λ props part. Unit) (now (records .entry)) used (now (records .exit)) r ⌝ }
 {
-    make(records, used, UNIT as u16, 0, 0, 0, 0, 0)
+    make(records, used, UNIT, 0, 0, 0, 0, 0)
 }
 
 pub fn sorry(records: &mut [u16], used: usize) -> usize
     requires { ⌜ recordSize * (used + 1) ≤ length (now records) ⌝ }
     ensures { λ r. ⌜ Made (λ props part. Sorry) (now (records .entry)) used (now (records .exit)) r ⌝ }
 {
-    make(records, used, SORRY as u16, 0, 0, 0, 0, 0)
+    make(records, used, SORRY, 0, 0, 0, 0, 0)
 }
 
 // Number `i` of record `n`, by which it is read; number 0 is the kind.

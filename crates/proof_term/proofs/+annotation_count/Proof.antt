@@ -70,29 +70,17 @@ module _ (t : ℕ) where
 
   annotation-count-requires : lts.Need-annotation-count-requires claims here reads.Post Inv-loop μ-loop
   annotation-count-requires c κs =
-      let small = c .before .before .before .before .before .before .before .before .before .pre .1 .1 in (
-        omega arith,
-        (
-          omega arith,
-          record {
-            props = small .props;
-            few = omega (arith, small .few, part-size (small .props) (c .before .before .before .before .before .before .before .before .before .args .records .now) (c .before .before .before .before .before .before .before .before .before .args .n) (c .before .before .before .loop .i) (c .before .field3 .ensures .0) (omega arith) (c .if1 .taken));
-          },
-        ),
-      )
+      let small = c .before .before .before .before .before .before .before .before .before .pre .1 .1 in
+      let smaller = part-size (small .props) _ _ _ (c .before .field3 .ensures .0) (omega arith) (c .if1 .taken) in
+      (omega arith, (omega arith, record { props = small .props; few = omega (arith, small .few, smaller) }))
 
   add-count : lts.Need-add-count claims here reads.Post Inv-loop μ-loop
   add-count c =
-      let small = c .before .before .before .before .before .before .before .before .before .before .pre .1 .1 in
+      let props = c .before .before .before .before .before .before .before .before .before .before .pre .1 .1 .props in
       let is = c .before .before .field3 .ensures .0 in
-      omega (
-        arith,
-        small .few,
-        c .before .before .before .before .loop .inv .2 (small .props),
-        c .annotation-count .ensures (small .props),
-        counted-part (small .props) (c .before .before .before .before .before .before .before .before .before .before .args .records .now) (c .before .before .before .before .before .before .before .before .before .before .args .n) (c .before .before .before .before .loop .i) is (c .before .if1 .taken),
-        counted-few (small .props) (c .before .before .before .before .before .before .before .before .before .before .args .records .now) (c .before .before .before .before .before .before .before .before .before .before .args .n) (c .before .before .before .before .loop .i) is (omega arith),
-      )
+      let sum = counted-part props _ _ _ is (c .before .if1 .taken) in
+      let few = counted-few props _ _ _ is (omega arith) in
+      omega (arith, c .before .before .before .before .before .before .before .before .before .before .pre .1 .1 .few, c .before .before .before .before .loop .inv .2 props, c .annotation-count .ensures props, sum, few)
 
   add-i : lts.Need-add-i claims here reads.Post Inv-loop μ-loop
   add-i c = omega arith
@@ -101,23 +89,20 @@ module _ (t : ℕ) where
   loop-less c = omega arith
 
   loop-again : lts.Need-loop-again claims here reads.Post Inv-loop μ-loop
-  loop-again c =
-      let records = c .before .before .before .before .before .before .before .before .before .args .records .now in
-      let n = c .before .before .before .before .before .before .before .before .before .args .n in
-      let i = c .before .before .before .loop .i in
-      let is = c .before .field3 .ensures .0 in (
-        c .before .before .before .loop .inv .0,
-        omega arith,
-        λ props. ⊎-elim
-            (λ w. omega (arith, w .2, c .before .before .before .loop .inv .2 props, w .1 .ensures props, counted-part props records n i is (w .0 .taken)))
-            (λ w. omega (arith, w .1, c .before .before .before .loop .inv .2 props, counted-unit props records n i is (w .0 .left)))
-            (c .if1 .came),
-      )
+  loop-again c = (
+    c .before .before .before .loop .inv .0,
+    omega arith,
+    λ props.
+        let is = c .before .field3 .ensures .0 in
+        let sofar = c .before .before .before .loop .inv .2 props in
+        ⊎-elim
+        (λ w. omega (arith, w .2, sofar, w .1 .ensures props, counted-part props _ _ _ is (w .0 .taken)))
+        (λ w. omega (arith, w .1, sofar, counted-unit props _ _ _ is (w .0 .left)))
+        (c .if1 .came),
+  )
 
   returns : lts.Need-returns claims here reads.Post Inv-loop μ-loop
-  returns c = λ props.
-      let all : c .before .loop .i ≡ partCount (fieldAt (c .before .before .before .before .before .before .before .args .records .now) (c .before .before .before .before .before .before .before .args .n) 0) = omega arith in
-      c .before .loop .inv .2 props ∙ rw all (counted-all props _ _)
+  returns c = λ props. c .before .loop .inv .2 props ∙ counted-all props _ _ (omega arith)
 
 pub +annotation-count-spec : {M : Type 1} → statement M
 +annotation-count-spec = close μ λ t. lts.spec (claims t)
