@@ -47,7 +47,7 @@ pub const PROPOSITION: usize = 1;
 
 pub const DATATYPE: usize = 2;
 
-// How many of a record's numbers are parts, by its kind.
+// How many of a record's numbers are parts, for each kind.
 const PART_COUNTS: [usize; 14] = [0, 2, 1, 1, 1, 2, 2, 1, 1, 3, 1, 1, 0, 0];
 
 // Stores record `used` and gives the number of the next one.
@@ -255,7 +255,7 @@ pub fn sorry(records: &mut [u16], used: usize) -> usize
     make(records, used, SORRY, 0, 0, 0, 0, 0)
 }
 
-// Number `i` of record `n`, by which it is read; number 0 is the kind.
+// Number `i` of record `n`; number 0 is the kind.
 pub fn field(records: &[u16], n: usize, i: usize) -> usize
     requires { ⌜ (recordSize * (n + 1) ≤ length (now records)) × (i < recordSize) ⌝ }
     ensures { λ r. ⌜ (r ≡ fieldAt (now (records .entry)) n i) × (r < 65536) ⌝ }
@@ -263,6 +263,7 @@ pub fn field(records: &[u16], n: usize, i: usize) -> usize
     records[RECORD_SIZE * n + i] as usize
 }
 
+// How many parts a record of this kind has; an unknown kind has none.
 fn part_count(kind: usize) -> usize
     ensures { λ r. ⌜ r ≡ partCount kind ⌝ }
 {
