@@ -1,5 +1,17 @@
 pub mod Everything
 pub mod Lowest
+pub mod Decimal
+pub mod Names
+pub mod Connectives
+pub mod Views
 pub mod Readings
 pub mod PrefixCode
+pub mod Verdicts
+pub mod AlphaEquality
+pub mod Renaming
+pub mod Labelling
+pub mod Exporting
+pub mod Conventions
+pub mod Accuracy
 pub mod Drawings
+pub mod SoundDrawing

@@ -27,6 +27,7 @@ unfoldable pub followedBy : {A B : Type 0} → Option (Read A) → (A → Readin
 followedBy none next = none
 followedBy (some r) next = next (r .value) (r .rest)
 
+infixl 10 _>>=_
 unfoldable pub _>>=_ : {A B : Type 0} → Reading A → (A → Reading B) → Reading B
 _>>=_ m next s = followedBy (m s) next
 

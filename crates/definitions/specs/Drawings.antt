@@ -2,7 +2,8 @@
 use Prim.Native.Nat.{ℕ}
 use Prim.Native.String.{String}
 use mathlib.Core.Bool.{Bool, true, false}
-use mathlib.Core.List.{List, [], _∷_, map}
+use mathlib.Core.List.{List, [], _∷_, _++_, map}
+use lib.ListN.{length}
 use Rattle.definitions.specs.declared.Style.{Style}
 use Rattle.definitions.specs.declared.Style.the-variants.{Plain, Strict}
 use Rattle.definitions.specs.Utf8.{utf8}
@@ -11,11 +12,11 @@ use Rattle.definitions.specs.Prop.{Prop, True, False, And, Or, Impl, Ato
 use Rattle.definitions.specs.Tree.{Identifier, ProofTreeRule, AndIntro, AndElimFst, AndElimSnd, TrueIntro, ImplIntro, ImplElim, Ident, OrIntroFst, OrElim, Sorry, AlphaEquivalent}
 use Rattle.definitions.specs.Encode.{noIdentifier, encodeRule, encodePropIsTrue, encodeSheet}
 use Rattle.definitions.specs.Answers.{textAnswer, atomsAnswer, datatypesAnswer, labelCount, comparison, boardRoom}
-use mathlib.Core.List.{_++_}
 
--- a question about a sheet; texts and lists are lent the board's room
+-- a question about a sheet: a text, how many bytes it has, a list, the label count, or a comparison of two steps; texts and
+-- lists are lent the board's room
 pub data Question : Type 0 where
-  text : Style → Question
+  text size : Style → Question
   atoms datatypes labels : Question
   compare : ℕ → ℕ → Question
 
@@ -26,6 +27,7 @@ pub data Answer : Type 0 where
 
 unfoldable pub ask : Question → List ℕ → Outcome Answer
 ask (text style) s = mapOutcome bytes (textAnswer s style boardRoom)
+ask (size style) s = mapOutcome (λ a. count (length a)) (textAnswer s style boardRoom)
 ask atoms s = mapOutcome numbers (atomsAnswer s boardRoom)
 ask datatypes s = mapOutcome numbers (datatypesAnswer s boardRoom)
 ask labels s = mapOutcome count (labelCount s)
@@ -142,7 +144,9 @@ ofObject x = Atom 0 (Uninstantiated x ∷ [])
 unfoldable pub drawings : List Drawing
 drawings =
     drawing smallest (text Plain) (prints "\n\n\n()")
+    ∷ drawing smallest (size Plain) (counts 5)
     ∷ drawing second (text Plain) (prints "atom A;\natom B;\n\n\nfn u => inl u")
+    ∷ drawing second (size Plain) (counts 31)
     ∷ drawing rootSorry (text Plain) (prints "\n\n\nsorry")
     ∷ drawing rootSorry labels (counts 0)
     ∷ drawing fstOfSorry (text Plain) (prints "atom A;\natom B;\n\n\nfst (sorry: A ∧ B)")
@@ -159,6 +163,15 @@ drawings =
     (prints "atom A;\natom B;\n\n\nfst (sorry: ¬(A ∧ B))")
     ∷ drawing (sorries (ForAll 2 1 (ofObject 2)) (ForAll 3 1 (ofObject 3))) (compare 0 1) (says true)
     ∷ drawing (sorries (ForAll 2 1 (ForAll 3 1 (ofObject 2))) (ForAll 2 1 (ForAll 2 1 (ofObject 2)))) (compare 0 1) (says false)
+    ∷ []
+
+-- two sheets that tell right from tempting and wrong, beside those above: names are compared by bytes, and the right sides of
+-- a comparison are not visited after a no on the left, where they would be refused
+unfoldable pub temptations : List Drawing
+temptations =
+    drawing (sheet ("A" ∷ "A" ∷ []) (letter 0 ∷ letter 1 ∷ []) 0 (step Sorry 0 0 ∷ step Sorry 0 1 ∷ step AndIntro 2 0 ∷ []))
+    (compare 0 1) (says true)
+    ∷ drawing (sorries (And True (ofObject 2)) (And False (ofObject 2))) (compare 0 1) (says false)
     ∷ []
 
 unfoldable pub asked : Drawing → Outcome Answer

@@ -95,33 +95,35 @@ unfoldable pub datatypeLabel : {N : Type 0} → ℕ → ProofTreeConclusion N �
 datatypeLabel k (PropIsTrue p) = universalLabel k (asQuantified p)
 datatypeLabel k (TypeJudgement x d) = refuse 15 k
 
--- the term of that number among the premisses' terms
+-- the term that a rule has: its identifiers' names, its parameter's label, and its premisses' terms from the first on
+unfoldable pub ruleTerm : {N : Type 0} → ProofTreeRule → N → N → Option (Label N) → ProofTerm N → ProofTerm N → ProofTerm N → ProofTerm N
+ruleTerm AndIntro x y l a b c = Pair a b
+ruleTerm AndElimFst x y l a b c = ProjectFst a
+ruleTerm AndElimSnd x y l a b c = ProjectSnd a
+ruleTerm TrueIntro x y l a b c = Unit
+ruleTerm ImplIntro x y l a b c = Function x l a
+ruleTerm ImplElim x y l a b c = Application a b
+ruleTerm tree.Ident x y l a b c = term.Ident x
+ruleTerm OrIntroFst x y l a b c = OrLeft a
+ruleTerm OrIntroSnd x y l a b c = OrRight a
+ruleTerm OrElim x y l a b c = Case a x b y c
+ruleTerm FalsumElim x y l a b c = Abort a
+ruleTerm ForAllIntro x y l a b c = Function x l a
+ruleTerm ForAllElim x y l a b c = Application a b
+ruleTerm ExistsIntro x y l a b c = Pair a b
+ruleTerm ExistsElim x y l a b c = LetIn x y a b
+ruleTerm tree.Sorry x y l a b c = term.Sorry
+ruleTerm AlphaEquivalent x y l a b c = a
+
+-- the term of that number among those of the premisses that are read
 unfoldable pub premissTerm : {N : Type 0} → List (ProofTerm N) → ℕ → ProofTerm N
 premissTerm ts i = getD ts i Unit
 
--- the term that a rule has, with its identifiers' names, its parameter's label, and its premisses' terms
-unfoldable pub ruleTerm : {N : Type 0} → ProofTreeRule → N → N → Option (Label N) → List (ProofTerm N) → ProofTerm N
-ruleTerm AndIntro x y l ts = Pair (premissTerm ts 0) (premissTerm ts 1)
-ruleTerm AndElimFst x y l ts = ProjectFst (premissTerm ts 0)
-ruleTerm AndElimSnd x y l ts = ProjectSnd (premissTerm ts 0)
-ruleTerm TrueIntro x y l ts = Unit
-ruleTerm ImplIntro x y l ts = Function x l (premissTerm ts 0)
-ruleTerm ImplElim x y l ts = Application (premissTerm ts 0) (premissTerm ts 1)
-ruleTerm tree.Ident x y l ts = term.Ident x
-ruleTerm OrIntroFst x y l ts = OrLeft (premissTerm ts 0)
-ruleTerm OrIntroSnd x y l ts = OrRight (premissTerm ts 0)
-ruleTerm OrElim x y l ts = Case (premissTerm ts 0) x (premissTerm ts 1) y (premissTerm ts 2)
-ruleTerm FalsumElim x y l ts = Abort (premissTerm ts 0)
-ruleTerm ForAllIntro x y l ts = Function x l (premissTerm ts 0)
-ruleTerm ForAllElim x y l ts = Application (premissTerm ts 0) (premissTerm ts 1)
-ruleTerm ExistsIntro x y l ts = Pair (premissTerm ts 0) (premissTerm ts 1)
-ruleTerm ExistsElim x y l ts = LetIn x y (premissTerm ts 0) (premissTerm ts 1)
-ruleTerm tree.Sorry x y l ts = term.Sorry
-ruleTerm AlphaEquivalent x y l ts = premissTerm ts 0
-
 module _ {N : Type 0} where
+  -- the term of a step, with its parameter's label, over its premisses' terms
   unfoldable pub stepTerm : Step N → Option (Label N) → List (ProofTerm N) → ProofTerm N
-  stepTerm z l ts = ruleTerm (z .rule) (z .first .name) (z .second .name) l ts
+  stepTerm z l ts =
+      ruleTerm (z .rule) (z .first .name) (z .second .name) l (premissTerm ts 0) (premissTerm ts 1) (premissTerm ts 2)
 
   -- the step's term in an inferring place, by the table's last column
   unfoldable pub inferringTerm : Ending → Step N → List (ProofTerm N) → Outcome (ProofTerm N)

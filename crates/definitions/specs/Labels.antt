@@ -70,20 +70,20 @@ unfoldable mutual
 mutual
   pub data Labelled {N : Type 0} : Place → ProofTree N → ProofTerm N → Type 0 where
     -- any other step, and any step in a checking place, adds no label
-    unlabelled : {m : Place} {z : Step N} {ps : Premisses N} {us : List (ProofTerm N)}
+    unlabelled : {m : Place} {z : Step N} {ps : Premisses N} {us : List (ProofTerm N)} {u : ProofTerm N}
         → total (placedTally m (z .rule)) ≡ 0
-        → AllLabelled (places (z .rule) m) ps us
-        → Labelled m (over z ps) (stepTerm z option.none us)
+        → AllLabelled (places (z .rule) m) ps us → u ≡ stepTerm z option.none us
+        → Labelled m (over z ps) u
     -- an injection, abort or sorry is ascribed the step's own conclusion
-    ascribed : {m : Place} {z : Step N} {ps : Premisses N} {us : List (ProofTerm N)} {p : Prop N}
+    ascribed : {m : Place} {z : Step N} {ps : Premisses N} {us : List (ProofTerm N)} {p : Prop N} {u : ProofTerm N}
         → total (placedTally m (z .rule)) ≡ 1 → tally (z .rule) .functions ≡ 0 → z .conclusion ≡ PropIsTrue p
-        → AllLabelled (places (z .rule) m) ps us
-        → Labelled m (over z ps) (TypeAscription (stepTerm z option.none us) (proposition p))
+        → AllLabelled (places (z .rule) m) ps us → u ≡ TypeAscription (stepTerm z option.none us) (proposition p)
+        → Labelled m (over z ps) u
     -- a function's parameter is labelled with the left side of the conclusion
-    function : {m : Place} {z : Step N} {ps : Premisses N} {us : List (ProofTerm N)} {p q : Prop N}
+    function : {m : Place} {z : Step N} {ps : Premisses N} {us : List (ProofTerm N)} {p q : Prop N} {u : ProofTerm N}
         → total (placedTally m (z .rule)) ≡ 1 → tally (z .rule) .functions ≡ 1 → z .conclusion ≡ PropIsTrue (Impl p q)
-        → AllLabelled (places (z .rule) m) ps us
-        → Labelled m (over z ps) (stepTerm z (some (proposition p)) us)
+        → AllLabelled (places (z .rule) m) ps us → u ≡ stepTerm z (some (proposition p)) us
+        → Labelled m (over z ps) u
 
   -- the terms of the premisses that are read, each in its place
   pub data AllLabelled {N : Type 0} : List Place → Premisses N → List (ProofTerm N) → Type 0 where

@@ -16,6 +16,7 @@ unfoldable pub refuse : {A : Type 0} → ℕ → ℕ → Outcome A
 refuse number place = refused (record { number = number; place = place })
 
 -- a refusal ends the checks; a value goes on to the next
+infixl 10 _>>=_
 unfoldable pub _>>=_ : {A B : Type 0} → Outcome A → (A → Outcome B) → Outcome B
 _>>=_ (refused r) next = refused r
 _>>=_ (accepted a) next = next a

@@ -5,11 +5,17 @@ use mathlib.Core.Bool.{false, not, _&&_}
 use mathlib.Core.List.{List, [], _∷_}
 use native.Mathlib.Omega.{arith}
 use native.Mathlib.Numerals.{add-one}
-use lib.Dec.{eqb}
+use lib.Dec.{T, eqb}
 use lib.ListN.{length, getD, drop}
 use lib.Seq.{drop-cons}
 use Rattle.definitions.specs.Name.{ByteClass, letter, digit, underscore, other, byteClass, mayBegin, mayFollow, allMayFollow, isName}
-use Rattle.identifier.specs.Class.{classNumber}
+use Rattle.identifier.specs.Class.{classNumber, ClassTable}
+use Rattle.identifier.proofs.Table.{follows, entry}
+
+-- a table of 256 entries that a computed test finds right is a table of classes
+pub class-table : (table : List ℕ) → length table ≡ 256 → T (follows (λ b. classNumber (byteClass b)) 0 table) → ClassTable table
+unfolding ClassTable
+class-table table e right b h = entry (λ b. classNumber (byteClass b)) table right b (omega arith)
 
 mayBegin-number : (class : ByteClass) → mayBegin class ≡ eqb (classNumber class) 1
 unfolding mayBegin classNumber

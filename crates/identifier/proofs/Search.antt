@@ -1,82 +1,83 @@
--- What the lengths and the bytes of two marked names say of their equality, as a search reads them.
+-- The search for the first name with the bytes of name i: what the lengths and the bytes of name j say of it.
 use Prim.Native.Nat.{ℕ, _+_, _≤_, _<_}
 use mathlib.Core.Path.{_≡_, _∙_, sym}
-use mathlib.Core.Bool.{Bool, true, false}
 use mathlib.Core.List.{List}
-use mathlib.Core.Option.{none}
+use mathlib.Core.Option.{none, some}
 use native.Mathlib.Omega.{arith}
 use lib.ListN.{length, getD, length-take, length-drop}
 use lib.Seq.{getD-take, getD-drop}
-use borrow.Author.Count.{below-more}
-use Rattle.definitions.specs.Name.{eqName}
 use Rattle.definitions.specs.Outcome.{lowest}
 use Rattle.definitions.specs.Sheet.{pairOffset, pairLength, pairEnd, marked}
-use Rattle.identifier.specs.Pairs.{PairsWithin}
+use Rattle.definitions.proofs.Lowest.{lowest-passed, lowest-found}
+use Rattle.identifier.specs.Pairs.{PairsWithin, sameBytes}
 use Rattle.identifier.proofs.Equality.{eqName-lengths, eqName-differ, eqName-alike}
 
--- name j has the bytes of name i
-abbrev pub sameAs : List ℕ → List ℕ → ℕ → ℕ → Bool
-sameAs pairs text i j = eqName (marked pairs text j) (marked pairs text i)
+-- a byte of a name, in the text
+marked-byte : (pairs text : List ℕ) (j k : ℕ) → k < pairLength pairs j
+    → getD (marked pairs text j) k 0 ≡ getD text (pairOffset pairs j + k) 0
+unfolding marked
+marked-byte pairs text j k h = rw (getD-take, getD-drop)
 
--- no name before j has the bytes of name i; name j starts at `start`, is as long as name i, and has its first k bytes
-pub record Comparing (pairs text : List ℕ) (i offset count j start k : ℕ) : Type 0 where
-  pub before : j < i
-  pub passed : lowest (sameAs pairs text i) j ≡ none
-  pub offset-of-i : offset ≡ pairOffset pairs i
-  pub offset-of-j : start ≡ pairOffset pairs j
-  pub length-of-i : count ≡ pairLength pairs i
-  pub length-of-j : count ≡ pairLength pairs j
-  pub up-to : k ≤ count
-  pub bytes : (m : ℕ) → m < k → getD text (start + m) 0 ≡ getD text (offset + m) 0
-
-module _ (pairs text : List ℕ) (i : ℕ) (within : PairsWithin pairs text i) where
+module _ {pairs text : List ℕ} {i : ℕ} (within : PairsWithin pairs text i) where
   marked-length : (j : ℕ) → j ≤ i → length (marked pairs text j) ≡ pairLength pairs j
   unfolding marked pairEnd
   marked-length j h = simp (length-take, length-drop) (omega (arith, within .ends j h))
 
-  marked-byte : (j k : ℕ) {start : ℕ} → start ≡ pairOffset pairs j → k < pairLength pairs j → getD (marked pairs text j) k 0 ≡ getD text (start + k) 0
-  unfolding marked
-  marked-byte j k e h = rw (e, getD-take, getD-drop)
+  -- a name of another length is passed over
+  pub other-length : (j : ℕ) → j < i → lowest (sameBytes pairs text i) j ≡ none
+      → (pairLength pairs j ≡ pairLength pairs i → ⊥)
+      → lowest (sameBytes pairs text i) (j + 1) ≡ none
+  other-length j h passed d =
+      lowest-passed _ j passed
+      (eqName-lengths _ _ (λ e. d (omega (arith, marked-length j (omega arith), marked-length i (omega arith)))))
 
-  -- names of different lengths are not the same
-  pub lengths-differ : (j : ℕ) → j ≤ i → (pairLength pairs j ≡ pairLength pairs i → ⊥) → sameAs pairs text i j ≡ false
-  lengths-differ j h d =
-      eqName-lengths _ _ (λ e. d (omega (arith, marked-length j h, marked-length i (omega arith))))
+-- no name before j has the bytes of name i, and name j, which starts at `start`, is as long
+pub record Candidate (pairs text : List ℕ) (i offset count j start : ℕ) : Type 0 where
+  pub within : PairsWithin pairs text i
+  pub before : j < i
+  pub passed : lowest (sameBytes pairs text i) j ≡ none
+  pub offset-of-i : offset ≡ pairOffset pairs i
+  pub offset-of-j : start ≡ pairOffset pairs j
+  pub length-of-i : count ≡ pairLength pairs i
+  pub length-of-j : count ≡ pairLength pairs j
 
-  module _ {offset count j start k : ℕ} (at : Comparing pairs text i offset count j start k) where
-    -- the next byte of either name lies in the text
-    pub in-text : k < count → (start + k < length text) × (offset + k < length text)
-    unfolding pairEnd
-    in-text h = (omega (arith, within .ends j (omega arith)), omega (arith, within .ends i (omega arith)))
+module _ {pairs text : List ℕ} {i offset count j start : ℕ} (name : Candidate pairs text i offset count j start) where
+  lengths : (length (marked pairs text j) ≡ count) × (length (marked pairs text i) ≡ count)
+  lengths = (
+    omega (arith, marked-length (name .within) j (omega arith)),
+    omega (arith, marked-length (name .within) i (omega arith)),
+  )
 
-    -- names with different bytes at a place are not the same
-    pub bytes-differ : k < count → (getD text (start + k) 0 ≡ getD text (offset + k) 0 → ⊥) → sameAs pairs text i j ≡ false
-    bytes-differ h d =
-        eqName-differ _ _ k
-        (omega (arith, marked-length j (omega arith)))
-        (omega (arith, marked-length i (omega arith)))
-        (λ e. d (sym (marked-byte j k (at .offset-of-j) (omega arith)) ∙ (e ∙ marked-byte i k (at .offset-of-i) (omega arith))))
+  byte-of-j : (k : ℕ) → k < count → getD (marked pairs text j) k 0 ≡ getD text (start + k) 0
+  byte-of-j k h = rw (name .offset-of-j) (marked-byte pairs text j k (omega arith))
 
-    -- one more byte is the same
-    pub one-more : k < count → getD text (start + k) 0 ≡ getD text (offset + k) 0 → Comparing pairs text i offset count j start (k + 1)
-    one-more h e =
-        record {
-          before = at .before;
-          passed = at .passed;
-          offset-of-i = at .offset-of-i;
-          offset-of-j = at .offset-of-j;
-          length-of-i = at .length-of-i;
-          length-of-j = at .length-of-j;
-          up-to = omega arith;
-          bytes = below-more _ _ (at .bytes) e;
-        }
+  byte-of-i : (k : ℕ) → k < count → getD (marked pairs text i) k 0 ≡ getD text (offset + k) 0
+  byte-of-i k h = rw (name .offset-of-i) (marked-byte pairs text i k (omega arith))
 
-    -- all bytes are the same
-    pub bytes-alike : count ≤ k → sameAs pairs text i j ≡ true
-    bytes-alike h =
-        let of-j : length (marked pairs text j) ≡ pairLength pairs j = marked-length j (omega arith) in
-        let of-i : length (marked pairs text i) ≡ pairLength pairs i = marked-length i (omega arith) in
-        eqName-alike _ _ (omega arith)
-        (λ m l.
-        marked-byte j m (at .offset-of-j) (omega arith)
-        ∙ (at .bytes m (omega arith) ∙ sym (marked-byte i m (at .offset-of-i) (omega arith))))
+  -- each byte of the two names lies in the text
+  pub in-text : (k : ℕ) → k < count → (start + k < length text) × (offset + k < length text)
+  unfolding pairEnd
+  in-text k h = (
+    omega (arith, name .within .ends j (omega arith)),
+    omega (arith, name .within .ends i (omega arith)),
+  )
+
+  -- a name with another byte is passed over
+  pub other-byte : (k : ℕ) → k < count → (getD text (start + k) 0 ≡ getD text (offset + k) 0 → ⊥)
+      → lowest (sameBytes pairs text i) (j + 1) ≡ none
+  other-byte k h d =
+      lowest-passed _ j (name .passed)
+      (eqName-differ _ _ k
+      (omega (arith, lengths))
+      (omega (arith, lengths))
+      (λ e. d (sym (byte-of-j k h) ∙ (e ∙ byte-of-i k h))))
+
+  -- a name with the same bytes is the first one
+  pub same-bytes : ((k : ℕ) → k < count → getD text (start + k) 0 ≡ getD text (offset + k) 0)
+      → lowest (sameBytes pairs text i) i ≡ some j
+  same-bytes same =
+      let (of-j, of-i) = lengths in
+      lowest-found _ j i (name .passed)
+      (eqName-alike _ _ (omega arith)
+      (λ k h. let h′ : k < count = omega arith in byte-of-j k h′ ∙ (same k h′ ∙ sym (byte-of-i k h′))))
+      (name .before)

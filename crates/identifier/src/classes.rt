@@ -1,15 +1,17 @@
 // The class of a byte in a name, by a table.
 ghost use mathlib.Core.Path.{_≡_};
 ghost use Rattle.definitions.specs.Name.{byteClass};
-ghost use Rattle.identifier.specs.Class.{classNumber};
+ghost use Rattle.identifier.specs.Class.{classNumber, ClassTable};
 
+// The class of the bytes that no name has.
 pub const OTHER: u8 = 0;
 
+// The class of the bytes that begin a name.
 pub const LETTER: u8 = 1;
 
-// The class of each byte: 0 for one that no name has, 1 for a letter, 2 for a digit, 3 for the underscore.
+// The class of each byte: 0 other, 1 letter, 2 digit, 3 underscore.
 pub const CLASSES: [u8; 256] = [
-    // what stands before `0`
+    // 0 to 47
     0,
     0,
     0,
@@ -69,7 +71,7 @@ pub const CLASSES: [u8; 256] = [
     2,
     2,
     2,
-    // up to `A`
+    // 58 to 64
     0,
     0,
     0,
@@ -104,14 +106,14 @@ pub const CLASSES: [u8; 256] = [
     1,
     1,
     1,
-    // up to `_`
+    // 91 to 94
     0,
     0,
     0,
     0,
     // `_`
     3,
-    // before `a`
+    // 96
     0,
     // `a` to `z`
     1,
@@ -140,7 +142,7 @@ pub const CLASSES: [u8; 256] = [
     1,
     1,
     1,
-    // what stands after `z`
+    // 123 to 255
     0,
     0,
     0,
@@ -276,8 +278,10 @@ pub const CLASSES: [u8; 256] = [
     0,
 ];
 
-pub fn class(b: u8) -> u8
+// The class of a byte, by a table that is lent, since a constant is laid down anew wherever it is named.
+pub fn class(classes: &[u8; 256], b: u8) -> u8
+    requires { ⌜ ClassTable (now classes) ⌝ }
     ensures { λ r. ⌜ r ≡ classNumber (byteClass b) ⌝ }
 {
-    CLASSES[b as usize]
+    classes[b as usize]
 }

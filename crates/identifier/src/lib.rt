@@ -12,8 +12,8 @@ ghost use Prim.Native.Nat.{_+_, _*_, _≤_};
 ghost use lib.ListN.{length};
 ghost use Rattle.definitions.specs.Name.{isName, eqName};
 ghost use Rattle.definitions.specs.Outcome.{lowest, foundAt};
-ghost use Rattle.definitions.specs.Sheet.{pairSize, pairOffset, pairLength, marked};
-ghost use Rattle.identifier.specs.Pairs.{PairsWithin};
+ghost use Rattle.definitions.specs.Sheet.{pairSize, pairOffset, pairLength};
+ghost use Rattle.identifier.specs.Pairs.{PairsWithin, sameBytes};
 
 // Whether each byte is one that its position allows.
 pub fn is_name(name: &[u8]) -> bool
@@ -22,12 +22,13 @@ pub fn is_name(name: &[u8]) -> bool
     if name.len() == 0 {
         return false;
     }
-    if class(name[0]) != LETTER {
+    let classes = CLASSES;
+    if class(&classes, name[0]) != LETTER {
         return false;
     }
     let mut i = 1;
     while i < name.len() {
-        if class(name[i]) == OTHER {
+        if class(&classes, name[i]) == OTHER {
             return false;
         }
         i += 1;
@@ -52,29 +53,29 @@ pub fn same_name(a: &[u8], b: &[u8]) -> bool
     true
 }
 
-// Where the pair of a number starts in the bytes that it marks.
+// The bytes of a pair: its offset and its length, a number each.
+const PAIR_SIZE: usize = 4;
+
+// Where the bytes that pair i marks begin.
 pub fn pair_offset(pairs: &[u8], i: usize) -> usize
     requires { ⌜ pairSize * (i + 1) ≤ length (now pairs) ⌝ }
     ensures { λ r. ⌜ r ≡ pairOffset (now (pairs .entry)) i ⌝ }
 {
-    number_at(pairs, 4 * i)
+    number_at(pairs, PAIR_SIZE * i)
 }
 
-// How many bytes it marks.
+// How many bytes pair i marks.
 pub fn pair_length(pairs: &[u8], i: usize) -> usize
     requires { ⌜ pairSize * (i + 1) ≤ length (now pairs) ⌝ }
     ensures { λ r. ⌜ r ≡ pairLength (now (pairs .entry)) i ⌝ }
 {
-    number_at(pairs, 4 * i + 2)
+    number_at(pairs, PAIR_SIZE * i + 2)
 }
 
 // The first name before number i with the same bytes as name i.
 pub fn first_equal(pairs: &[u8], text: &[u8], i: usize) -> Found
     requires { ⌜ PairsWithin (now pairs) (now text) i ⌝ }
-    ensures { λ r. ⌜ r ≡ foundAt
-        (lowest
-        (λ j. eqName (marked (now (pairs .entry)) (now (text .entry)) j) (marked (now (pairs .entry)) (now (text .entry)) i))
-        i) ⌝ }
+    ensures { λ r. ⌜ r ≡ foundAt (lowest (sameBytes (now (pairs .entry)) (now (text .entry)) i) i) ⌝ }
 {
     let offset = pair_offset(pairs, i);
     let length = pair_length(pairs, i);

@@ -21,8 +21,8 @@ module _ (records : List ℕ) (k : ℕ) where
   unfolding lastTrees heights
   deepest-none = record { nesting = λ names pairs code. refl; shallow = omega arith }
 
-  pub deepest-more : (table : List ℕ) (j p h : ℕ) → HeightTable records k table → Walk records k j p → 0 < p → Deepest records k j h
-      → Deepest records k (j + 1) (max (getD table (p - 1) 0) h)
+  pub deepest-more : (table : List ℕ) (j p h : ℕ) → HeightTable records k table → Walk records k j p → 0 < p
+      → Deepest records k j h → Deepest records k (j + 1) (max (getD table (p - 1) 0) h)
   unfolding deepTree heights
   deepest-more table j p h t w n d =
       let l : p - 1 < k = omega (arith, walk-within w) in

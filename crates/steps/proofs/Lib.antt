@@ -1,4 +1,5 @@
 pub mod Either
+pub mod Search
 pub mod LastTrees
 pub mod Premisses
 pub mod Walk

@@ -2,7 +2,7 @@
 -- step p, where p plus the sizes of those trees is k. So the next tree down is that of step p − 1.
 use Prim.Native.Nat.{ℕ, zero, suc, _+_, _-_, _≤_, _<_}
 use mathlib.Core.Path.{_≡_, refl, ap, _∙_}
-use mathlib.Core.List.{List, [], _∷_}
+use mathlib.Core.List.{List, _∷_}
 use native.Mathlib.Omega.{arith}
 use native.Mathlib.Numerals.{add-one}
 use lib.ListN.{length, drop, length-drop}
@@ -122,6 +122,7 @@ module _ (names : ℕ) (pairs code records : List ℕ) where
   no-tree-left k j s = omega (arith, ap length (s .list), length-drop j (trees k))
 
   -- a step that finds its premisses has as many as it says
-  pub premisses-counted : (k : ℕ) → premissCount records k ≤ length (trees k) → count (last k (premissCount records k)) ≡ premissCount records k
+  pub premisses-counted : (k : ℕ) → premissCount records k ≤ length (trees k)
+      → count (last k (premissCount records k)) ≡ premissCount records k
   unfolding count
   premisses-counted k h = omega (arith, count-last (premissCount records k) (trees k) none h)

@@ -7,7 +7,6 @@ use native.Mathlib.Omega.{arith}
 use lib.ListN.{length, getD, set}
 use lib.Seq.{getD-set-same, getD-set-other}
 use borrow.Author.Count.{below-more}
-use Rattle.definitions.specs.declared.Found.{Found}
 use Rattle.definitions.specs.declared.Found.the-variants.{At}
 use Rattle.definitions.specs.Tree.{height, treeIn}
 use Rattle.definitions.specs.Admission.{tooFewTrees, deepTree}
@@ -32,10 +31,10 @@ module _ (records table : List ℕ) where
   unfolding TreeStart
   size-table-more k start h t s =
       record {
-        enough = λ names pairs code. below-more (λ i. tooFewTrees names pairs code records i ≡ false) k (t .enough names pairs code) (s names pairs code .0);
+        enough = λ names pairs code. below-more _ k (t .enough names pairs code) (s names pairs code .0);
         sizes = λ names pairs code.
             let e = s names pairs code .1 in
-            entries-more (λ i. size (treeIn names pairs code records i)) table k (k + 1 - start) h (t .sizes names pairs code) (omega arith);
+            entries-more (λ i. size (treeIn names pairs code records i)) table k _ h (t .sizes names pairs code) (omega arith);
       }
 
   pub size-table-shorter : (m n : ℕ) → m ≤ n → SizeTable records n table → SizeTable records m table
@@ -55,7 +54,8 @@ module _ (records table : List ℕ) where
       → HeightTable records (k + 1) (set table k v)
   height-table-more k v h t e s =
       record {
-        shallow = λ names pairs code. below-more (λ i. deepTree names pairs code records i ≡ false) k (t .shallow names pairs code) (s names pairs code);
+        shallow = λ names pairs code. below-more _ k (t .shallow names pairs code) (s names pairs code);
         heights = λ names pairs code.
-            entries-more (λ i. height (treeIn names pairs code records i)) table k v h (t .heights names pairs code) (e names pairs code);
+            entries-more (λ i. height (treeIn names pairs code records i)) table k v h (t .heights names pairs code)
+            (e names pairs code);
       }

@@ -1,7 +1,7 @@
 -- A walk back over the last trees before step k, by the size table: past j trees it stands at step p. The premiss counts alone
 -- decide it, so it is the same walk for all names, pairs and code.
 use Prim.Native.Nat.{ℕ, _+_, _-_, _≤_, _<_}
-use mathlib.Core.Path.{_≡_, sym, _∙_}
+use mathlib.Core.Path.{_≡_}
 use mathlib.Core.Bool.{true, false}
 use mathlib.Core.List.{List, []}
 use native.Mathlib.Omega.{arith}

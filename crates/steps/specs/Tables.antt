@@ -21,10 +21,12 @@ TreeStart records k (At start) =
 
 -- each of the first steps finds its premisses, and the table has the size of its tree
 pub record SizeTable (records : List ℕ) (steps : ℕ) (table : List ℕ) : Type 0 where
-  pub enough : (names : ℕ) (pairs code : List ℕ) (k : ℕ) → k < steps → tooFewTrees names pairs code records k ≡ false
-  pub sizes : (names : ℕ) (pairs code : List ℕ) (k : ℕ) → k < steps → getD table k 0 ≡ size (treeIn names pairs code records k)
+  pub enough : (names : ℕ) (pairs code : List ℕ) (k : ℕ)
+      → k < steps → tooFewTrees names pairs code records k ≡ false
+  pub sizes : (names : ℕ) (pairs code : List ℕ) (k : ℕ)
+      → k < steps → getD table k 0 ≡ size (treeIn names pairs code records k)
 
--- the size table is filled up to the first step that finds too few trees, and unchanged past the steps
+-- refusal 10's first part; if no step finds too few trees, the table is filled, and past the steps it is as before
 pub record FilledSizes (records : List ℕ) (steps : ℕ) (before : List ℕ) (r : Found) (after : List ℕ) : Type 0 where
   pub found : (names : ℕ) (pairs code : List ℕ) → r ≡ foundAt (lowest (tooFewTrees names pairs code records) steps)
   pub table : r ≡ Nowhere → SizeTable records steps after
@@ -32,5 +34,7 @@ pub record FilledSizes (records : List ℕ) (steps : ℕ) (before : List ℕ) (r
 
 -- each of the first steps' trees nests at most 256 deep, and the table has its nesting
 pub record HeightTable (records : List ℕ) (steps : ℕ) (table : List ℕ) : Type 0 where
-  pub shallow : (names : ℕ) (pairs code : List ℕ) (k : ℕ) → k < steps → deepTree names pairs code records k ≡ false
-  pub heights : (names : ℕ) (pairs code : List ℕ) (k : ℕ) → k < steps → getD table k 0 ≡ height (treeIn names pairs code records k)
+  pub shallow : (names : ℕ) (pairs code : List ℕ) (k : ℕ)
+      → k < steps → deepTree names pairs code records k ≡ false
+  pub heights : (names : ℕ) (pairs code : List ℕ) (k : ℕ)
+      → k < steps → getD table k 0 ≡ height (treeIn names pairs code records k)

@@ -1,16 +1,17 @@
 // The step records of a sheet: refusals 9, 10 and 11, and the sizes of the steps' trees.
 use definitions::Found;
 use number::number_at;
+ghost use Prim.Native.Nat.{ℕ, _+_, _≤_, _<_, max};
 ghost use mathlib.Core.Path.{_≡_};
 ghost use mathlib.Core.List.{List};
-ghost use Prim.Native.Nat.{ℕ, _+_, _≤_, _<_, max};
 ghost use lib.ListN.{length, getD};
 ghost use Rattle.definitions.specs.Outcome.{lowest, foundAt};
-ghost use Rattle.definitions.specs.Sheet.{stepSize, stepLimit, ruleByte, premissCount, stepNumber};
+ghost use Rattle.definitions.specs.Sheet.{stepSize, stepLimit, premissCount, stepNumber};
 ghost use Rattle.definitions.specs.Tree.{rules, Sorry, identifierCount, height, treeIn};
+ghost use Rattle.definitions.specs.Admission.{noName, notZero, badIdentifier, badPropIsTrue, badTypeJudgement, badConclusion};
+ghost use Rattle.definitions.specs.Admission.{badStep, treesLeft, deepTree};
 ghost use Rattle.steps.specs.Records.{HasStep, HasSteps};
-ghost use Rattle.steps.specs.Tables.{SizeTable, HeightTable, FilledSizes, TreeStart};
-ghost use Rattle.definitions.specs.Admission.{treesLeft, deepTree, noName, notZero, badIdentifier, badPropIsTrue, badTypeJudgement, badConclusion, badStep};
+ghost use Rattle.steps.specs.Tables.{TreeStart, SizeTable, FilledSizes, HeightTable};
 
 // The bytes of a step.
 pub const STEP_SIZE: usize = 18;
@@ -132,9 +133,9 @@ fn tree_start(records: &[u8], k: usize, sizes: &[u16]) -> Found
     requires { ⌜ (HasStep (now records) k) × (k ≤ length (now sizes)) × SizeTable (now records) k (now sizes) ⌝ }
     ensures { λ r. ⌜ TreeStart (now (records .entry)) k r ⌝ }
 {
-    let premisses = premiss_count(records, k);
+    let needed = premiss_count(records, k);
     let mut start = k;
-    for _ in 0..premisses {
+    for _ in 0..needed {
         if start == 0 {
             return Found::Nowhere;
         }

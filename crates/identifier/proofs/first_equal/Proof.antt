@@ -1,24 +1,27 @@
--- The names loop: no name before j has the bytes of name i. The bytes loop: name j has the first k bytes of name i.
-use Prim.Native.Nat.{_≤_, _-_}
+-- The names loop: no name before j has the bytes of name i. The bytes loop: name j is as long as name i, and has its first k bytes.
+use Prim.Native.Nat.{ℕ, _+_, _≤_, _<_, _-_}
 use mathlib.Core.Path.{_≡_, refl, sym, ap}
 use mathlib.Core.Option.{none}
 use native.Mathlib.Omega.{arith}
-use borrow.Author.Needs.{needs}
+use lib.ListN.{getD}
+use borrow.Author.Count.{below-more}
 use Rattle.definitions.specs.Outcome.{lowest, foundAt}
 use Rattle.definitions.specs.Sheet.{pairSize}
-use Rattle.definitions.proofs.Lowest.{lowest-passed, lowest-found}
-use Rattle.identifier.proofs.Search.{sameAs, Comparing, lengths-differ, in-text, bytes-differ, one-more, bytes-alike}
+use Rattle.identifier.specs.Pairs.{sameBytes}
+use Rattle.identifier.proofs.Search.{Candidate, other-length, in-text, other-byte, same-bytes}
 use Rattle.identifier.proofs.first_equal.Statement.{statement}
 use Rattle.identifier.proofs.first_equal.Tie as tie
 
 abbrev Inv-loop : tie.InvT-loop
-Inv-loop pairs text i offset length j₀ earlier k₀ j k = (j ≡ j₀) × Comparing pairs text i offset length j earlier k
+Inv-loop pairs text i offset length j₀ earlier k₀ j k =
+    (j ≡ j₀) × Candidate pairs text i offset length j earlier
+    × (k ≤ length) × ((m : ℕ) → m < k → getD text (earlier + m) 0 ≡ getD text (offset + m) 0)
 
 abbrev μ-loop : tie.MeasureT-loop
 μ-loop pairs text i offset length j₀ earlier k₀ j k = length - k
 
 abbrev Inv-names : tie.InvT-names
-Inv-names pairs text i offset length j₀ j = (j ≤ i) × (lowest (sameAs pairs text i) j ≡ none)
+Inv-names pairs text i offset length j₀ j = (j ≤ i) × (lowest (sameBytes pairs text i) j ≡ none)
 
 abbrev μ-names : tie.MeasureT-names
 μ-names pairs text i offset length j₀ j = i - j
@@ -44,7 +47,15 @@ names-less : tie.Need-names-less Inv-loop μ-loop Inv-names μ-names
 names-less c = omega arith
 
 names-again : tie.Need-names-again Inv-loop μ-loop Inv-names μ-names
-names-again c = (omega arith, lowest-passed _ _ (c .before .before .before .names .inv .1) (lengths-differ _ _ _ (c .before .before .before .before .before .before .before .before .pre) _ (omega arith) (λ e. c .if1 .taken (cc))))
+names-again c = (
+  omega arith,
+  other-length
+      (c .before .before .before .before .before .before .before .before .pre)
+      (c .before .before .before .names .j)
+      (c .before .before .names-test .taken)
+      (c .before .before .before .names .inv .1)
+      (omega arith),
+)
 
 pair-offset-requires-2 : tie.Need-pair-offset-requires-2 Inv-loop μ-loop Inv-names μ-names
 unfolding pairSize
@@ -54,28 +65,29 @@ loop-holds : tie.Need-loop-holds Inv-loop μ-loop Inv-names μ-names
 loop-holds c = (
   refl,
   record {
+    within = c .before .before .before .before .before .before .before .before .before .pre;
     before = c .before .before .before .names-test .taken;
     passed = c .before .before .before .before .names .inv .1;
     offset-of-i = c .before .before .before .before .before .before .pair-offset .ensures;
     offset-of-j = c .pair-offset2 .ensures;
     length-of-i = c .before .before .before .before .before .pair-length .ensures;
-    length-of-j = cc;
-    up-to = omega arith;
-    bytes = λ m h. absurd (omega arith);
+    length-of-j = omega arith;
   },
+  omega arith,
+  λ m h. absurd (omega arith),
 )
 
 add-byte : tie.Need-add-byte Inv-loop μ-loop Inv-names μ-names
-add-byte c = omega (arith, in-text _ _ _ (c .before .before .before .before .before .before .before .before .before .before .before .pre) (c .before .loop .inv .1) (c .loop-test .taken))
+add-byte c = omega (arith, in-text (c .before .loop .inv .1) _ (c .loop-test .taken))
 
 shared-slice-read-byte : tie.Need-shared-slice-read-byte Inv-loop μ-loop Inv-names μ-names
-shared-slice-read-byte c = in-text _ _ _ (c .before .before .before .before .before .before .before .before .before .before .before .before .pre) (c .before .before .loop .inv .1) (c .before .loop-test .taken) .0
+shared-slice-read-byte c = in-text (c .before .before .loop .inv .1) _ (c .before .loop-test .taken) .0
 
 add-wanted : tie.Need-add-wanted Inv-loop μ-loop Inv-names μ-names
-add-wanted c = omega (arith, in-text _ _ _ (c .before .before .before .before .before .before .before .before .before .before .before .before .pre) (c .before .before .loop .inv .1) (c .before .loop-test .taken))
+add-wanted c = omega (arith, in-text (c .before .before .loop .inv .1) _ (c .before .loop-test .taken))
 
 shared-slice-read-wanted : tie.Need-shared-slice-read-wanted Inv-loop μ-loop Inv-names μ-names
-shared-slice-read-wanted c = in-text _ _ _ (c .before .before .before .before .before .before .before .before .before .before .before .before .before .pre) (c .before .before .before .loop .inv .1) (c .before .before .loop-test .taken) .1
+shared-slice-read-wanted c = in-text (c .before .before .before .loop .inv .1) _ (c .before .before .loop-test .taken) .1
 
 add-j-2 : tie.Need-add-j-2 Inv-loop μ-loop Inv-names μ-names
 add-j-2 c = omega arith
@@ -86,7 +98,7 @@ names-less-2 c = omega arith
 names-again-2 : tie.Need-names-again-2 Inv-loop μ-loop Inv-names μ-names
 names-again-2 c = (
   omega arith,
-  lowest-passed _ _ (c .before .before .before .before .loop .inv .1 .passed) (bytes-differ _ _ _ (c .before .before .before .before .before .before .before .before .before .before .before .before .before .before .pre) (c .before .before .before .before .loop .inv .1) (c .before .before .before .loop-test .taken) (c .if2 .taken)),
+  other-byte (c .before .before .before .before .loop .inv .1) _ (c .before .before .before .loop-test .taken) (c .if2 .taken),
 )
 
 add-k : tie.Need-add-k Inv-loop μ-loop Inv-names μ-names
@@ -96,12 +108,15 @@ loop-less : tie.Need-loop-less Inv-loop μ-loop Inv-names μ-names
 loop-less c = omega arith
 
 loop-again : tie.Need-loop-again Inv-loop μ-loop Inv-names μ-names
-loop-again c = (c .before .before .before .before .loop .inv .0, one-more _ _ _ (c .before .before .before .before .before .before .before .before .before .before .before .before .before .before .pre) (c .before .before .before .before .loop .inv .1) (c .before .before .before .loop-test .taken) (c .if2 .left))
+loop-again c =
+    let held = c .before .before .before .before .loop .inv in
+    (held .0, held .1, omega arith, below-more _ _ (held .3) (c .if2 .left))
 
 returns : tie.Need-returns Inv-loop μ-loop Inv-names μ-names
 unfolding foundAt
 returns c =
-    rw (lowest-found _ _ _ (c .before .loop .inv .1 .passed) (bytes-alike _ _ _ (c .before .before .before .before .before .before .before .before .before .before .before .pre) (c .before .loop .inv .1) (c .loop-test .left)) (c .before .loop .inv .1 .before))
+    let held = c .before .loop .inv in
+    rw (same-bytes (held .1) (λ m h. held .3 m (omega arith)))
 
 returns-2 : tie.Need-returns-2 Inv-loop μ-loop Inv-names μ-names
 unfolding foundAt

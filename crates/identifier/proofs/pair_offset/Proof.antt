@@ -1,5 +1,4 @@
 -- The four bytes of the pair lie in the pairs.
-use mathlib.Core.Path.{refl}
 use native.Mathlib.Omega.{arith}
 use Rattle.definitions.specs.Sheet.{pairSize, pairOffset}
 use Rattle.identifier.proofs.pair_offset.Statement.{statement}

@@ -3,6 +3,7 @@ use Prim.Native.Nat.{ℕ, _<_, _≤_, _-_}
 use mathlib.Core.Path.{_≡_, sym}
 use native.Mathlib.Omega.{arith}
 use lib.ListN.{length, getD}
+use denote.Ref.{now}
 use borrow.Author.Count.{below-more}
 use borrow.Author.Needs.{needs}
 use Rattle.identifier.proofs.Equality.{eqName-lengths, eqName-differ, eqName-alike}
@@ -16,7 +17,7 @@ abbrev μ-loop : tie.MeasureT-loop
 μ-loop a b i₀ i = length a - i
 
 returns : tie.Need-returns Inv-loop μ-loop
-returns c = sym (eqName-lengths _ _ (c .if1 .taken))
+returns c = sym (eqName-lengths (now (c .before .args .a)) (now (c .before .args .b)) (omega arith))
 
 loop-holds : tie.Need-loop-holds Inv-loop μ-loop
 loop-holds c = (omega arith, λ k h. absurd (omega arith))
@@ -40,7 +41,11 @@ loop-again : tie.Need-loop-again Inv-loop μ-loop
 loop-again c = (omega arith, below-more _ _ (c .before .before .before .before .loop .inv .1) (c .if2 .left))
 
 returns-3 : tie.Need-returns-3 Inv-loop μ-loop
-returns-3 c = sym (eqName-alike _ _ (c .before .before .if1 .left) (λ k h. c .before .loop .inv .1 k (omega arith)))
+returns-3 c =
+    sym
+    (eqName-alike (now (c .before .before .before .args .a)) (now (c .before .before .before .args .b))
+    (omega arith)
+    (λ k h. c .before .loop .inv .1 k (omega arith)))
 
 pub same-name-spec : {M : Type 1} → statement M
 same-name-spec =

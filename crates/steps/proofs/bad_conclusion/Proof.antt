@@ -11,15 +11,18 @@ use Rattle.steps.proofs.bad_conclusion.Statement.{statement}
 use Rattle.steps.proofs.bad_conclusion.Tie as tie
 
 module _ (names propositions : ℕ) (records : List ℕ) (k : ℕ) where
-  of-kind-0 : stepNumber records k 10 ≡ 0 → badConclusion names propositions records k ≡ badPropIsTrue names propositions records k
+  of-kind-0 : stepNumber records k 10 ≡ 0
+      → badConclusion names propositions records k ≡ badPropIsTrue names propositions records k
   unfolding badConclusion
   of-kind-0 e = rw e
 
-  of-kind-1 : stepNumber records k 10 ≡ 1 → badConclusion names propositions records k ≡ badTypeJudgement names propositions records k
+  of-kind-1 : stepNumber records k 10 ≡ 1
+      → badConclusion names propositions records k ≡ badTypeJudgement names propositions records k
   unfolding badConclusion
   of-kind-1 e = rw e
 
-  of-no-kind : (stepNumber records k 10 ≡ 0 → ⊥) → (stepNumber records k 10 ≡ 1 → ⊥) → badConclusion names propositions records k ≡ true
+  of-no-kind : (stepNumber records k 10 ≡ 0 → ⊥) → (stepNumber records k 10 ≡ 1 → ⊥)
+      → badConclusion names propositions records k ≡ true
   unfolding badConclusion
   of-no-kind n m = rw (ne-eqb _ _ n, ne-eqb _ _ m)
 
@@ -34,10 +37,14 @@ bad-type-judgement-requires : tie.Need-bad-type-judgement-requires
 bad-type-judgement-requires c κs = search needs
 
 returns : tie.Need-returns
-returns c = c .bad-prop-is-true .ensures _ ∙ sym (of-kind-0 _ _ _ _ (sym (c .before .before .step-number .ensures) ∙ c .before .match .keys1))
+returns c =
+    c .bad-prop-is-true .ensures _
+    ∙ sym (of-kind-0 _ _ _ _ (sym (c .before .before .step-number .ensures) ∙ c .before .match .keys1))
 
 returns-2 : tie.Need-returns-2
-returns-2 c = c .bad-type-judgement .ensures _ ∙ sym (of-kind-1 _ _ _ _ (sym (c .before .before .step-number .ensures) ∙ c .before .match .keys2))
+returns-2 c =
+    c .bad-type-judgement .ensures _
+    ∙ sym (of-kind-1 _ _ _ _ (sym (c .before .before .step-number .ensures) ∙ c .before .match .keys2))
 
 returns-3 : tie.Need-returns-3
 returns-3 c =

@@ -10,7 +10,7 @@ no-name-requires c κs = search needs
 
 returns : tie.Need-returns
 unfolding badIdentifier
-returns c = λ propositions. rw (c .before .if1 .taken) (c .no-name .ensures propositions)
+returns c propositions = rw (c .before .if1 .taken) (c .no-name .ensures propositions)
 
 not-zero-requires : tie.Need-not-zero-requires
 not-zero-requires c κs = search needs
@@ -23,11 +23,15 @@ not-zero-requires-2 c κs = search needs
 
 returns-2 : tie.Need-returns-2
 unfolding badIdentifier
-returns-2 c = λ propositions. rw (c .before .before .if1 .left) (first-holds _ (c .before .not-zero .ensures _ propositions) (c .if2 .taken))
+returns-2 c propositions =
+    rw (c .before .before .if1 .left) (first-holds _ (c .before .not-zero .ensures _ propositions) (c .if2 .taken))
 
 returns-3 : tie.Need-returns-3
 unfolding badIdentifier
-returns-3 c = λ propositions. rw (c .before .before .before .if1 .left) (second-decides (c .before .before .not-zero .ensures _ propositions) (c .before .if2 .left) (c .not-zero2 .ensures _ propositions))
+returns-3 c propositions =
+    rw (c .before .before .before .if1 .left)
+    (second-decides (c .before .before .not-zero .ensures _ propositions) (c .before .if2 .left)
+    (c .not-zero2 .ensures _ propositions))
 
 pub bad-identifier-spec : {M : Type 1} → statement M
 bad-identifier-spec =

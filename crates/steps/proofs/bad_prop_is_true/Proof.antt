@@ -27,11 +27,16 @@ returns c names = first-holds _ (ap (leb _) (c .before .step-number .ensures)) (
 
 returns-2 : tie.Need-returns-2
 unfolding badPropIsTrue
-returns-2 c names = second-decides (ap (leb _) (c .before .before .before .step-number .ensures)) (lt-leb _ _ (c .before .before .if1 .left)) (first-holds _ (c .before .not-zero .ensures names _) (c .if2 .taken))
+returns-2 c names =
+    second-decides (ap (leb _) (c .before .before .before .step-number .ensures)) (lt-leb _ _ (c .before .before .if1 .left))
+    (first-holds _ (c .before .not-zero .ensures names _) (c .if2 .taken))
 
 returns-3 : tie.Need-returns-3
 unfolding badPropIsTrue
-returns-3 c names = second-decides (ap (leb _) (c .before .before .before .before .step-number .ensures)) (lt-leb _ _ (c .before .before .before .if1 .left)) (second-decides (c .before .before .not-zero .ensures names _) (c .before .if2 .left) (c .not-zero2 .ensures names _))
+returns-3 c names =
+    second-decides (ap (leb _) (c .before .before .before .before .step-number .ensures))
+    (lt-leb _ _ (c .before .before .before .if1 .left))
+    (second-decides (c .before .before .not-zero .ensures names _) (c .before .if2 .left) (c .not-zero2 .ensures names _))
 
 pub bad-prop-is-true-spec : {M : Type 1} → statement M
 bad-prop-is-true-spec =

@@ -1,15 +1,12 @@
 -- The rule byte is tested first, since the rule says which identifiers the step has.
-use Prim.Native.Nat.{ℕ, _*_}
-use mathlib.Core.Path.{_≡_, refl, sym, _∙_}
-use mathlib.Core.Bool.{Bool}
-use mathlib.Core.List.{List}
+use Prim.Native.Nat.{_*_}
+use mathlib.Core.Path.{refl, sym}
 use native.Mathlib.Omega.{arith}
-use lib.Dec.{leb}
 use borrow.Author.Tests.{le-leb, lt-leb}
 use borrow.Author.Needs.{needs}
 use Rattle.definitions.specs.Sheet.{stepSize, ruleByte}
 use Rattle.definitions.specs.Tree.{rules, ruleIn}
-use Rattle.definitions.specs.Admission.{badIdentifier, identifiers, badStep}
+use Rattle.definitions.specs.Admission.{identifiers, badStep}
 use Rattle.steps.proofs.Either.{first-holds, second-decides}
 use Rattle.steps.proofs.bad_step.Statement.{statement}
 use Rattle.steps.proofs.bad_step.Tie as tie
@@ -49,14 +46,16 @@ returns-2 : tie.Need-returns-2
 unfolding badStep identifiers ruleIn ruleByte stepSize rules
 returns-2 c =
     rw (← c .before .before .identifier-count .ensures)
-    (second-decides refl (lt-leb _ _ (c .before .before .before .if1 .left)) (first-holds _ (c .before .bad-identifier .ensures _) (c .if2 .taken)))
+    (second-decides refl (lt-leb _ _ (c .before .before .before .if1 .left))
+    (first-holds _ (c .before .bad-identifier .ensures _) (c .if2 .taken)))
 
 returns-3 : tie.Need-returns-3
 unfolding badStep identifiers ruleIn ruleByte stepSize rules
 returns-3 c =
     rw (← c .before .before .before .before .identifier-count .ensures)
     (second-decides refl (lt-leb _ _ (c .before .before .before .before .before .if1 .left))
-    (second-decides (c .before .before .before .bad-identifier .ensures _) (c .before .before .if2 .left) (first-holds _ (c .before .bad-identifier2 .ensures _) (c .if3 .taken))))
+    (second-decides (c .before .before .before .bad-identifier .ensures _) (c .before .before .if2 .left)
+    (first-holds _ (c .before .bad-identifier2 .ensures _) (c .if3 .taken))))
 
 returns-4 : tie.Need-returns-4
 unfolding badStep identifiers ruleIn ruleByte stepSize rules

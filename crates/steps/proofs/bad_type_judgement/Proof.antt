@@ -16,11 +16,12 @@ no-name-requires-2 c κs = search needs
 
 returns : tie.Need-returns
 unfolding badTypeJudgement
-returns c = λ propositions. first-holds _ (c .before .no-name .ensures propositions) (c .if1 .taken)
+returns c propositions = first-holds _ (c .before .no-name .ensures propositions) (c .if1 .taken)
 
 returns-2 : tie.Need-returns-2
 unfolding badTypeJudgement
-returns-2 c = λ propositions. second-decides (c .before .before .no-name .ensures propositions) (c .before .if1 .left) (c .no-name2 .ensures propositions)
+returns-2 c propositions =
+    second-decides (c .before .before .no-name .ensures propositions) (c .before .if1 .left) (c .no-name2 .ensures propositions)
 
 pub bad-type-judgement-spec : {M : Type 1} → statement M
 bad-type-judgement-spec =

@@ -1,17 +1,18 @@
 -- The table is filled step by step, up to the first that finds too few trees.
 use Prim.Native.Nat.{ℕ, _-_, _≤_}
-use mathlib.Core.Path.{_≡_, refl, sym, ap, _∙_}
+use mathlib.Core.Path.{_≡_, refl, _∙_}
 use mathlib.Core.Option.{none}
 use mathlib.Core.List.{List, []}
 use native.Mathlib.Omega.{arith}
 use lib.ListN.{length, drop, length-set}
 use lib.Seq.{drop-set-lt}
 use borrow.Author.Needs.{needs}
-use Rattle.definitions.specs.Outcome.{lowest, foundAt}
+use Rattle.definitions.specs.Outcome.{lowest}
 use Rattle.definitions.specs.Sheet.{stepSize, stepLimit}
 use Rattle.definitions.specs.Admission.{tooFewTrees}
-use Rattle.definitions.proofs.Lowest.{lowest-passed, lowest-found}
+use Rattle.definitions.proofs.Lowest.{lowest-passed}
 use Rattle.steps.specs.Tables.{TreeStart, SizeTable}
+use Rattle.steps.proofs.Search.{found-here, found-nowhere}
 use Rattle.steps.proofs.Tables.{size-table-none, size-table-more}
 use Rattle.steps.proofs.fill_sizes.Statement.{statement}
 use Rattle.steps.proofs.fill_sizes.Tie as tie
@@ -32,7 +33,14 @@ abbrev μ-loop : tie.MeasureT-loop
 
 loop-holds : tie.Need-loop-holds Inv-loop μ-loop
 unfolding lowest
-loop-holds c = record { inside = omega arith; long = refl; found = λ names pairs code. refl; table = size-table-none _ _; kept = refl }
+loop-holds c =
+    record {
+      inside = omega arith;
+      long = refl;
+      found = λ names pairs code. refl;
+      table = size-table-none _ _;
+      kept = refl;
+    }
 
 tree-start-requires : tie.Need-tree-start-requires Inv-loop μ-loop
 unfolding stepSize
@@ -48,12 +56,13 @@ same-length : tie.Need-same-length Inv-loop μ-loop
 same-length c = c .before .before .before .before .before .loop .inv .long
 
 returns : tie.Need-returns Inv-loop μ-loop
-unfolding foundAt TreeStart
+unfolding TreeStart
 returns c =
     let f = c .before .before .before .before .before .loop .inv in
+    let l = c .before .before .before .before .loop-test .taken in
     let s = rw (c .enum-told .given .1) at (c .before .before .tree-start .ensures) in
     record {
-      found = λ names pairs code. sym (ap foundAt (lowest-found _ _ _ (f .found names pairs code) (s names pairs code) (c .before .before .before .before .loop-test .taken)));
+      found = λ names pairs code. found-here _ _ _ (f .found names pairs code) (s names pairs code) l;
       table = λ e. let z : _≡_ {A = ℕ} 0 1 = cc in absurd (omega arith);
       kept = f .kept;
     }
@@ -99,12 +108,11 @@ same-length-2 : tie.Need-same-length-2 Inv-loop μ-loop
 same-length-2 c = c .before .loop .inv .long
 
 returns-2 : tie.Need-returns-2 Inv-loop μ-loop
-unfolding foundAt
 returns-2 c =
     let f = c .before .loop .inv in
     let e : c .before .loop .k ≡ c .before .before .before .before .args .steps = omega arith in
     record {
-      found = λ names pairs code. sym (ap foundAt (rw e at (f .found names pairs code)));
+      found = λ names pairs code. found-nowhere _ _ _ (f .found names pairs code) e;
       table = λ r. rw e at (f .table);
       kept = f .kept;
     }

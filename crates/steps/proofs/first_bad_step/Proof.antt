@@ -1,12 +1,13 @@
 -- The search goes up from step 0 and stops at the first that is bad.
 use Prim.Native.Nat.{_≤_, _-_}
-use mathlib.Core.Path.{_≡_, refl, sym, ap, _∙_}
+use mathlib.Core.Path.{_≡_, refl, sym, _∙_}
 use mathlib.Core.Option.{none}
 use native.Mathlib.Omega.{arith}
-use Rattle.definitions.specs.Outcome.{lowest, foundAt}
+use Rattle.definitions.specs.Outcome.{lowest}
 use Rattle.definitions.specs.Sheet.{stepSize}
 use Rattle.definitions.specs.Admission.{badStep}
-use Rattle.definitions.proofs.Lowest.{lowest-passed, lowest-found}
+use Rattle.definitions.proofs.Lowest.{lowest-passed}
+use Rattle.steps.proofs.Search.{found-here, found-nowhere}
 use Rattle.steps.proofs.first_bad_step.Statement.{statement}
 use Rattle.steps.proofs.first_bad_step.Tie as tie
 
@@ -25,8 +26,9 @@ unfolding stepSize
 bad-step-requires c κs = omega arith
 
 returns : tie.Need-returns Inv-loop μ-loop
-unfolding foundAt
-returns c = sym (ap foundAt (lowest-found _ _ _ (c .before .before .before .loop .inv .1) (sym (c .before .bad-step .ensures) ∙ c .if1 .taken) (c .before .before .loop-test .taken)))
+returns c =
+    found-here _ _ _ (c .before .before .before .loop .inv .1) (sym (c .before .bad-step .ensures) ∙ c .if1 .taken)
+    (c .before .before .loop-test .taken)
 
 add-k : tie.Need-add-k Inv-loop μ-loop
 add-k c = omega arith
@@ -35,11 +37,11 @@ loop-less : tie.Need-loop-less Inv-loop μ-loop
 loop-less c = omega arith
 
 loop-again : tie.Need-loop-again Inv-loop μ-loop
-loop-again c = (omega arith, lowest-passed _ _ (c .before .before .before .loop .inv .1) (sym (c .before .bad-step .ensures) ∙ c .if1 .left))
+loop-again c =
+    (omega arith, lowest-passed _ _ (c .before .before .before .loop .inv .1) (sym (c .before .bad-step .ensures) ∙ c .if1 .left))
 
 returns-2 : tie.Need-returns-2 Inv-loop μ-loop
-unfolding foundAt
-returns-2 c = let e : c .before .loop .k ≡ c .before .before .before .args .steps = omega arith in sym (ap foundAt (rw e at (c .before .loop .inv .1)))
+returns-2 c = found-nowhere _ _ _ (c .before .loop .inv .1) (omega arith)
 
 pub first-bad-step-spec : {M : Type 1} → statement M
 first-bad-step-spec =

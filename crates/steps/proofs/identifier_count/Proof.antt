@@ -1,5 +1,4 @@
 -- The table is the identifier counts of all the rules in order, which antt computes.
-use mathlib.Core.List.{map}
 use native.Mathlib.Omega.{arith}
 use lib.ListN.{List·getD-map}
 use Rattle.definitions.specs.Tree.{rules, Sorry, identifierCount}

@@ -48,9 +48,11 @@ cast-result : tie.Need-cast-result
 cast-result c = omega (arith, c .shared-slice-known .given (c .before .args .steps - 1))
 
 returns : tie.Need-returns
-returns c names pairs code = let e : c .before .args .steps - 1 + 1 ≡ c .before .args .steps = omega arith in
-    let t = left-below names pairs code (now (c .before .args .records)) (c .before .args .steps - 1) in
-    rw (c .before .pre .2 .sizes names pairs code (c .before .args .steps - 1) (omega arith)) (rw e at t)
+returns c names pairs code =
+    let last = c .before .args .steps - 1 in
+    let e : last + 1 ≡ c .before .args .steps = omega arith in
+    rw (c .before .pre .2 .sizes names pairs code last (omega arith))
+    (rw e at (left-below names pairs code (now (c .before .args .records)) last))
 
 pub leaves-trees-spec : {M : Type 1} → statement M
 leaves-trees-spec =

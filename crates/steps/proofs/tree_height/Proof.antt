@@ -1,5 +1,5 @@
 -- The walk back over the premisses by the size table meets the deepest of them.
-use Prim.Native.Nat.{_+_, _-_, _≤_, _<_}
+use Prim.Native.Nat.{_-_, _≤_, _<_}
 use mathlib.Core.Path.{_≡_}
 use mathlib.Core.List.{[]}
 use native.Mathlib.Omega.{arith}
@@ -15,7 +15,7 @@ use Rattle.steps.proofs.tree_height.Tie as tie
 
 abbrev Inv-loop : tie.InvT-loop
 Inv-loop records k sizes heights premisses start₀ deepest₀ counter₀ start deepest counter =
-    (premisses ≡ premissCount records k) × (counter ≤ premisses) × Walk records k counter start × Deepest records k counter deepest
+    Walk records k counter start × Deepest records k counter deepest × (counter ≤ premisses) × (premisses ≡ premissCount records k)
 
 abbrev μ-loop : tie.MeasureT-loop
 μ-loop records k sizes heights premisses start₀ deepest₀ counter₀ start deepest counter = premisses - counter
@@ -27,38 +27,41 @@ sized c = size-table-shorter _ _ _ _ (omega arith) (c .pre .1 .0)
 -- a premiss that is still to be passed ends before the walk's step
 before : (c : tie.In-loop Inv-loop μ-loop) → 0 < c .before .loop .start
 before c =
-    walk-in (c .before .loop .inv .2) (c .before .before .before .before .before .before .pre .1 .0 .enough 0 [] [] _ (omega arith))
-    (omega arith)
+    let s = c .before .before .before .before .before .before in
+    walk-in (c .before .loop .inv .0) (s .pre .1 .0 .enough 0 [] [] _ (omega arith)) (omega arith)
 
 premiss-count-requires : tie.Need-premiss-count-requires Inv-loop μ-loop
 premiss-count-requires c κs = search needs
 
 loop-holds : tie.Need-loop-holds Inv-loop μ-loop
-loop-holds c = (c .premiss-count .ensures, omega arith, walk-start _ _, deepest-none _ _)
+loop-holds c = (walk-start _ _, deepest-none _ _, omega arith, c .premiss-count .ensures)
 
 sub-last : tie.Need-sub-last Inv-loop μ-loop
 sub-last c = before c
 
 mul-max : tie.Need-mul-max Inv-loop μ-loop
-mul-max c = let l = walk-within (c .before .loop .inv .2) in omega arith
+mul-max c = omega (arith, walk-within (c .before .loop .inv .0))
 
 shared-slice-read-max : tie.Need-shared-slice-read-max Inv-loop μ-loop
-shared-slice-read-max c = omega (arith, before (c .before), walk-within (c .before .before .loop .inv .2))
+shared-slice-read-max c = omega (arith, before (c .before), walk-within (c .before .before .loop .inv .0))
 
 max-requires : tie.Need-max-requires Inv-loop μ-loop
 max-requires c κs = search needs
 
 mul-start : tie.Need-mul-start Inv-loop μ-loop
-mul-start c = let l = walk-within (c .before .before .before .loop .inv .2) in omega arith
+mul-start c = omega (arith, walk-within (c .before .before .before .loop .inv .0))
 
 shared-slice-read-start : tie.Need-shared-slice-read-start Inv-loop μ-loop
-shared-slice-read-start c = omega (arith, before (c .before .before .before), walk-within (c .before .before .before .before .loop .inv .2))
+shared-slice-read-start c =
+    omega (arith, before (c .before .before .before), walk-within (c .before .before .before .before .loop .inv .0))
 
 cast-start : tie.Need-cast-start Inv-loop μ-loop
 cast-start c = omega (arith, c .shared-slice-known5 .given (c .before .before .before .before .loop .start - 1))
 
 sub-start : tie.Need-sub-start Inv-loop μ-loop
-sub-start c = size-fits (c .before .before .before .before .loop .inv .2) _ (sized (c .before .before .before .before .before .before .before .before .before)) (before (c .before .before .before))
+sub-start c =
+    let s = c .before .before .before .before .before .before .before .before .before in
+    size-fits (c .before .before .before .before .loop .inv .0) _ (sized s) (before (c .before .before .before))
 
 add-counter : tie.Need-add-counter Inv-loop μ-loop
 add-counter c = omega arith
@@ -68,16 +71,21 @@ loop-less c = omega arith
 
 loop-again : tie.Need-loop-again Inv-loop μ-loop
 loop-again c =
-    let n = before (c .before .before .before) in
-    let w = c .before .before .before .before .loop .inv .2 in
-    (c .before .before .before .before .loop .inv .0, omega arith, walk-on w _ (sized (c .before .before .before .before .before .before .before .before .before)) n, rw (c .before .max .ensures) (deepest-more _ _ _ _ _ _ (c .before .before .before .before .before .before .before .before .before .pre .1 .1) w n (c .before .before .before .before .loop .inv .3)))
+    let l = c .before .before .before .before .loop .inv in
+    let s = c .before .before .before .before .before .before .before .before .before in
+    let n = before (c .before .before .before) in (
+      walk-on (l .0) _ (sized s) n,
+      rw (c .before .max .ensures) (deepest-more _ _ _ _ _ _ (s .pre .1 .1) (l .0) n (l .1)),
+      omega arith,
+      l .3,
+    )
 
 add-result : tie.Need-add-result Inv-loop μ-loop
 unfolding treeNestingLimit
-add-result c = omega (arith, c .before .loop .inv .3 .shallow)
+add-result c = omega (arith, c .before .loop .inv .1 .shallow)
 
 returns : tie.Need-returns Inv-loop μ-loop
-returns c = deepest-all _ _ _ _ (omega arith) (c .before .loop .inv .3)
+returns c = deepest-all _ _ _ _ (omega arith) (c .before .loop .inv .1)
 
 pub tree-height-spec : {M : Type 1} → statement M
 tree-height-spec =

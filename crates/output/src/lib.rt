@@ -1,0 +1,75 @@
+// Writing into lent memory. Each function returns the position after what it writes, or a position past the end where that does
+// not fit. A dry run, with `write` false, returns a position by the same rule and leaves the memory as it is.
+use number::number_at;
+ghost use mathlib.Core.List.{[], _∷_};
+ghost use Prim.Native.Nat.{_+_, _*_, _≤_};
+ghost use lib.ListN.{length};
+ghost use Rattle.definitions.specs.Text.{decimal};
+ghost use Rattle.definitions.specs.Sheet.{pairSize, pairEnd, marked};
+ghost use Rattle.output.specs.Wrote.{Wrote};
+
+// The bytes of a pair of offset and length.
+const PAIR_SIZE: usize = 4;
+
+// One byte.
+pub fn put(out: &mut [u8], to: usize, b: u8, write: bool) -> usize
+    ensures { λ r. ⌜ Wrote (b ∷ []) write (now (out .entry)) to (now (out .exit)) r ⌝ }
+{
+    if to < out.len() {
+        if write {
+            out[to] = b;
+        }
+        return to + 1;
+    }
+    out.len() + 1
+}
+
+// All bytes of a slice. A dry run only computes the position.
+pub fn put_all(out: &mut [u8], to: usize, s: &[u8], write: bool) -> usize
+    ensures { λ r. ⌜ Wrote (now (s .entry)) write (now (out .entry)) to (now (out .exit)) r ⌝ }
+{
+    if write {
+        let mut at = to;
+        let mut i = 0;
+        while i < s.len() {
+            at = put(out, at, s[i], write);
+            i += 1;
+        }
+        return at;
+    }
+    if out.len() < to {
+        return out.len() + 1;
+    }
+    if out.len() - to < s.len() {
+        return out.len() + 1;
+    }
+    to + s.len()
+}
+
+// A number in decimal.
+pub fn put_decimal(out: &mut [u8], to: usize, n: u64, write: bool) -> usize
+    ensures { λ r. ⌜ Wrote (decimal n) write (now (out .entry)) to (now (out .exit)) r ⌝ }
+{
+    let mut at = to;
+    if 10 <= n {
+        at = put_decimal(out, to, n / 10, write);
+    }
+    put(out, at, b'0' + (n % 10) as u8, write)
+}
+
+// The bytes of the text that a pair marks.
+pub fn put_name(
+    out: &mut [u8],
+    to: usize,
+    pairs: &[u8],
+    text: &[u8],
+    i: usize,
+    write: bool,
+) -> usize
+    requires { ⌜ (pairSize * (i + 1) ≤ length (now pairs)) × (pairEnd (now pairs) i ≤ length (now text)) ⌝ }
+    ensures { λ r. ⌜ Wrote (marked (now (pairs .entry)) (now (text .entry)) i) write (now (out .entry)) to (now (out .exit)) r ⌝ }
+{
+    let start = number_at(pairs, PAIR_SIZE * i);
+    let end = start + number_at(pairs, PAIR_SIZE * i + 2);
+    put_all(out, to, &text[start..end], write)
+}

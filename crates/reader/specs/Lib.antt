@@ -1,0 +1,2 @@
+-- What is read at a position of a sheet.
+pub mod Reading
