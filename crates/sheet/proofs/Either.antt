@@ -6,6 +6,6 @@ pub neither : (a b : Bool) → a || b ≡ false → (a ≡ false) × (b ≡ fals
 neither true b e = absurd (true≢false e)
 neither false b e = (refl, e)
 
-pub not-false : (b : Bool) → (b ≡ false → ⊥) → b ≡ true
-not-false true h = refl
-not-false false h = absurd (h refl)
+pub holds-unless : (b : Bool) → (b ≡ false → ⊥) → b ≡ true
+holds-unless true refuted = refl
+holds-unless false refuted = absurd (refuted refl)

@@ -9,7 +9,7 @@ use borrow.Author.Tests.{ltb-false, le-ltb, ne-eqb}
 use Rattle.definitions.specs.Sheet.{nameLengthLimit, pairOffset, pairLength, pairEnd, lastEnd}
 use Rattle.definitions.specs.Admission.{misplaced, badNamePair, badPropositionPair}
 use Rattle.sheet.specs.Pairs.{badPair, GoodPair}
-use Rattle.sheet.proofs.Either.{neither, not-false}
+use Rattle.sheet.proofs.Either.{neither, holds-unless}
 
 module _ (pairs : List ℕ) (bytes longest i : ℕ) where
   pub good-pair : badPair pairs bytes longest i ≡ false → GoodPair pairs bytes longest i
@@ -27,10 +27,12 @@ module _ (pairs : List ℕ) (bytes longest i : ℕ) where
 
   pub good-passes : GoodPair pairs bytes longest i → badPair pairs bytes longest i ≡ false
   unfolding badPair misplaced
-  good-passes g = simp (le-ltb _ _ (g .sorted), le-ltb _ _ (g .within), le-ltb _ _ (g .some-byte), le-ltb _ _ (g .not-too-long))
+  good-passes g =
+      simp
+      (le-ltb _ _ (g .sorted), le-ltb _ _ (g .within), le-ltb _ _ (g .some-byte), le-ltb _ _ (g .not-too-long))
 
   pub bad-pair : (GoodPair pairs bytes longest i → ⊥) → badPair pairs bytes longest i ≡ true
-  bad-pair refuted = not-false _ (λ e. refuted (good-pair e))
+  bad-pair refuted = holds-unless _ (λ e. refuted (good-pair e))
 
 -- refusal 4 asks for a length of 1 to 32
 pub name-pairs-alike : (pairs : List ℕ) (bytes : ℕ) → badPair pairs bytes nameLengthLimit ≡ badNamePair pairs bytes
@@ -41,7 +43,8 @@ name-pairs-alike pairs bytes = refl
 no-longer : (pairs : List ℕ) (bytes i : ℕ) → misplaced pairs bytes i ≡ false → pairLength pairs i ≤ bytes
 unfolding misplaced pairEnd
 no-longer pairs bytes i e =
-    let within : ltb bytes (pairOffset pairs i + pairLength pairs i) ≡ false = neither (ltb (pairOffset pairs i) (lastEnd pairs i)) _ e .1 in
+    let ends = ltb bytes (pairOffset pairs i + pairLength pairs i) in
+    let within : ends ≡ false = neither (ltb (pairOffset pairs i) (lastEnd pairs i)) _ e .1 in
     omega (arith, ltb-false)
 
 below-one : (n : ℕ) → ltb n 1 ≡ eqb n 0
@@ -49,10 +52,14 @@ below-one zero = refl
 below-one (suc n) = le-ltb (suc n) 1 (omega arith) ∙ sym (ne-eqb (suc n) 0 (λ e. omega arith))
 
 -- refusal 6 asks for one byte at least
-pub proposition-pairs-alike : (pairs : List ℕ) (bytes longest : ℕ) → bytes ≤ longest → badPair pairs bytes longest ≡ badPropositionPair pairs bytes
+pub proposition-pairs-alike : (pairs : List ℕ) (bytes longest : ℕ) → bytes ≤ longest
+    → badPair pairs bytes longest ≡ badPropositionPair pairs bytes
 unfolding badPair badPropositionPair
 proposition-pairs-alike pairs bytes longest h = fun-ext (λ i. go i (misplaced pairs bytes i) refl)
   where
-    go : (i : ℕ) (b : Bool) → misplaced pairs bytes i ≡ b → badPair pairs bytes longest i ≡ badPropositionPair pairs bytes i
+    go : (i : ℕ) (b : Bool) → misplaced pairs bytes i ≡ b
+        → badPair pairs bytes longest i ≡ badPropositionPair pairs bytes i
     go i true e = rw e
-    go i false e = let short : pairLength pairs i ≤ longest = omega (arith, no-longer pairs bytes i e) in rw (e, le-ltb longest (pairLength pairs i) short, or-false, below-one)
+    go i false e =
+        let short : pairLength pairs i ≤ longest = omega (arith, no-longer pairs bytes i e) in
+        rw (e, le-ltb longest (pairLength pairs i) short, or-false, below-one)

@@ -9,7 +9,7 @@ use borrow.Author.Tests.{ltb-false, leb-true, leb-false, le-ltb, lt-leb}
 use Rattle.definitions.specs.Sheet.{headerOutOfRange}
 use Rattle.sheet.specs.declared.header.Sheet.{Sheet}
 use Rattle.sheet.specs.Header.{headerOf, InRange}
-use Rattle.sheet.proofs.Either.{neither}
+use Rattle.sheet.proofs.Either.{neither, holds-unless}
 
 pub in-range : (s : List ℕ) → headerOutOfRange s ≡ false → InRange (headerOf s)
 unfolding headerOutOfRange headerOf
@@ -35,17 +35,21 @@ in-range s e =
 not-out-of-range : (s : List ℕ) → InRange (headerOf s) → headerOutOfRange s ≡ false
 unfolding headerOutOfRange headerOf
 not-out-of-range s r =
-    simp
-    (le-ltb _ _ (r .text), le-ltb _ _ (r .names), le-ltb _ _ (r .code), le-ltb _ _ (r .some-proposition), le-ltb _ _ (r .propositions), le-ltb _ _ (r .some-step), le-ltb _ _ (r .steps), lt-leb _ _ (r .goal))
+    simp (
+      le-ltb _ _ (r .text),
+      le-ltb _ _ (r .names),
+      le-ltb _ _ (r .code),
+      le-ltb _ _ (r .some-proposition),
+      le-ltb _ _ (r .propositions),
+      le-ltb _ _ (r .some-step),
+      le-ltb _ _ (r .steps),
+      lt-leb _ _ (r .goal),
+    )
 
 module _ (s : List ℕ) {h : Sheet} (of-s : h ≡ headerOf s) where
   -- one number outside its range decides
   pub outside : (InRange h → ⊥) → true ≡ headerOutOfRange s
-  outside refuted = go (headerOutOfRange s) refl
-    where
-      go : (b : Bool) → headerOutOfRange s ≡ b → true ≡ b
-      go true e = refl
-      go false e = absurd (refuted (rw of-s (in-range s e)))
+  outside refuted = sym (holds-unless _ (λ e. refuted (rw of-s (in-range s e))))
 
   -- where the others lie in their ranges, the goal decides
   pub goal-decides : (h .goal < h .propositions → InRange h) → leb (h .propositions) (h .goal) ≡ headerOutOfRange s

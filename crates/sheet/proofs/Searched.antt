@@ -1,10 +1,11 @@
 -- What the answer of a search says of the places, and of the refusal that goes by it.
 use Prim.Native.Nat.{ℕ, zero, suc, _<_}
-use mathlib.Core.Path.{_≡_, refl}
+use mathlib.Core.Path.{_≡_, refl, sym, _∙_}
 use mathlib.Core.Bool.{Bool, true, false}
 use mathlib.Core.Option.{Option, none, some}
 use native.Mathlib.Omega.{arith}
 use native.Mathlib.Decide.{decLt}
+use Rattle.definitions.specs.declared.Found.{Found}
 use Rattle.definitions.specs.declared.Found.the-variants.{Nowhere, At}
 use Rattle.definitions.specs.Outcome.{accepted, refuse, firstOf, lowest, foundAt, refuseAt, refuseLowest}
 
@@ -26,7 +27,8 @@ unfolding lowest firstOf
 all-fail test zero e i h = absurd (omega arith)
 all-fail test (suc count) e i h = go (lowest test count) (test count) refl refl e (all-fail test count)
   where
-    go : (earlier : Option ℕ) (here : Bool) → lowest test count ≡ earlier → test count ≡ here → firstOf earlier here count ≡ none
+    go : (earlier : Option ℕ) (here : Bool) → lowest test count ≡ earlier → test count ≡ here
+        → firstOf earlier here count ≡ none
         → (lowest test count ≡ none → (j : ℕ) → j < count → test j ≡ false) → test i ≡ false
     go (some j) here same at f below = absurd (let z : _≡_ {A = ℕ} 0 1 = cc in omega arith)
     go none true same at f below = absurd (let z : _≡_ {A = ℕ} 0 1 = cc in omega arith)
@@ -47,17 +49,17 @@ answer-none none e = refl
 answer-none (some j) e = absurd (let z : _≡_ {A = ℕ} 0 1 = cc in omega arith)
 
 -- The search found a place, or none.
-module _ (test : ℕ → Bool) (count : ℕ) where
-  pub found-below : {i : ℕ} → At i ≡ foundAt (lowest test count) → i < count
-  found-below e = lowest-below test count (answer-some _ e)
+module _ (test : ℕ → Bool) (count : ℕ) {r : Found} (answer : r ≡ foundAt (lowest test count)) where
+  pub found-below : {i : ℕ} → r ≡ At i → i < count
+  found-below e = lowest-below test count (answer-some _ (sym e ∙ answer))
 
-  pub refused-at : (number : ℕ) {i : ℕ} → At i ≡ foundAt (lowest test count) → refuseLowest test count number ≡ refuse number i
+  pub refused-at : (number : ℕ) {i : ℕ} → r ≡ At i → refuseLowest test count number ≡ refuse number i
   unfolding refuseLowest refuseAt
-  refused-at number e = rw (answer-some _ e)
+  refused-at number e = rw (answer-some _ (sym e ∙ answer))
 
-  pub none-bad : Nowhere ≡ foundAt (lowest test count) → (i : ℕ) → i < count → test i ≡ false
-  none-bad e = all-fail test count (answer-none _ e)
+  pub none-bad : r ≡ Nowhere → (i : ℕ) → i < count → test i ≡ false
+  none-bad e = all-fail test count (answer-none _ (sym e ∙ answer))
 
-  pub not-refused : (number : ℕ) → Nowhere ≡ foundAt (lowest test count) → refuseLowest test count number ≡ accepted tt
+  pub not-refused : (number : ℕ) → r ≡ Nowhere → refuseLowest test count number ≡ accepted tt
   unfolding refuseLowest refuseAt
-  not-refused number e = rw (answer-none _ e)
+  not-refused number e = rw (answer-none _ (sym e ∙ answer))

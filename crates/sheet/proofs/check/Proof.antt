@@ -17,22 +17,31 @@ has-header c =
     let (same, _, passed) = stage-accepted _ _ (c .before .before .before .check-header .ensures) (c .before .header .given .1) in
     rw same (header-given _ passed)
 
-names-on : (c : tie.After-known-told) {r : Checked} → r ≡ answered (c .before .header .given .0 .0) (fromNames (c .before .before .before .before .before .args .s .now)) → r ≡ checkedOf (c .before .before .before .before .before .args .s .now)
+-- What the stages from a place on answer is what all of them do.
+names-on : (c : tie.After-known-told) {r : Checked} →
+    let s = c .before .before .before .before .before .args .s .now in
+    r ≡ answered (c .before .header .given .0 .0) (fromNames s) → r ≡ checkedOf s
 names-on c e =
     let (same, _, passed) = stage-accepted _ _ (c .before .before .before .check-header .ensures) (c .before .header .given .1) in
     from-header _ (passed-on _ _ passed (rw same at e))
 
-propositions-on : (c : tie.After-enum-told2) {r : Checked} → r ≡ answered (c .before .before .before .before .header .given .0 .0) (fromPropositions (c .before .before .before .before .before .before .before .before .args .s .now)) → r ≡ checkedOf (c .before .before .before .before .before .before .before .before .args .s .now)
+propositions-on : (c : tie.After-enum-told2) {r : Checked} →
+    let s = c .before .before .before .before .before .before .before .before .args .s .now in
+    r ≡ answered (c .before .before .before .before .header .given .0 .0) (fromPropositions s) → r ≡ checkedOf s
 unfolding fromNames
 propositions-on c e =
     names-on (c .before .before .before) (passed-on _ _ (stage-accepted _ _ (c .before .before .check-names .ensures) (c .enum-told2 .given .1) .2) e)
 
-steps-on : (c : tie.After-enum-told4) {r : Checked} → r ≡ answered (c .before .before .before .before .before .before .before .header .given .0 .0) (fromSteps (c .before .before .before .before .before .before .before .before .before .before .before .args .s .now)) → r ≡ checkedOf (c .before .before .before .before .before .before .before .before .before .before .before .args .s .now)
+steps-on : (c : tie.After-enum-told4) {r : Checked} →
+    let s = c .before .before .before .before .before .before .before .before .before .before .before .args .s .now in
+    r ≡ answered (c .before .before .before .before .before .before .before .header .given .0 .0) (fromSteps s) → r ≡ checkedOf s
 unfolding fromPropositions
 steps-on c e =
     propositions-on (c .before .before .before) (passed-on _ _ (stage-accepted _ _ (c .before .before .check-propositions .ensures) (c .enum-told4 .given .1) .2) e)
 
-trees-on : (c : tie.After-enum-told6) {r : Checked} → r ≡ answered (c .before .before .before .before .before .before .before .before .before .before .header .given .0 .0) (fromTrees (c .before .before .before .before .before .before .before .before .before .before .before .before .before .before .args .s .now)) → r ≡ checkedOf (c .before .before .before .before .before .before .before .before .before .before .before .before .before .before .args .s .now)
+trees-on : (c : tie.After-enum-told6) {r : Checked} →
+    let s = c .before .before .before .before .before .before .before .before .before .before .before .before .before .before .args .s .now in
+    r ≡ answered (c .before .before .before .before .before .before .before .before .before .before .header .given .0 .0) (fromTrees s) → r ≡ checkedOf s
 unfolding fromSteps
 trees-on c e =
     steps-on (c .before .before .before) (passed-on _ _ (stage-accepted _ _ (c .before .before .check-steps .ensures) (c .enum-told6 .given .1) .2) e)

@@ -1,15 +1,13 @@
 -- The lowest bad step is refused.
-use mathlib.Core.Path.{_≡_, sym, _∙_}
-use native.Mathlib.Omega.{arith}
+use mathlib.Core.Path.{_≡_}
 use borrow.Author.Needs.{needs}
 use Rattle.definitions.specs.Outcome.{lowest, foundAt}
-use Rattle.definitions.specs.Sheet.{stepLimit, names, propositions, steps, stepRecords}
+use Rattle.definitions.specs.Sheet.{names, propositions, steps, stepRecords}
 use Rattle.definitions.specs.Admission.{badStep}
 use Rattle.sheet.specs.Header.{headerOf}
 use Rattle.sheet.specs.Checks.{stepChecks}
 use Rattle.sheet.proofs.Searched.{found-below, refused-at, not-refused}
-use Rattle.sheet.proofs.Slices.{lengths}
-use Rattle.sheet.proofs.Given.{ranges}
+use Rattle.sheet.proofs.Given.{steps-present, step-place}
 use Rattle.sheet.proofs.Stages.{refused-last, accepted-last}
 use Rattle.sheet.proofs.check_steps.Statement.{statement}
 use Rattle.sheet.proofs.check_steps.Tie as tie
@@ -24,26 +22,26 @@ step-records-requires : tie.Need-step-records-requires
 step-records-requires c κs = search needs
 
 first-bad-step-requires : tie.Need-first-bad-step-requires
-unfolding headerOf
-first-bad-step-requires c κs = rw (c .step-records .ensures, c .before .before .pre .header) (omega (arith, lengths _ (c .before .before .pre .whole) .step-records))
+first-bad-step-requires c κs = rw (c .step-records .ensures) (steps-present (c .before .before .pre))
 
 enum-known-k : tie.Need-enum-known-k
 enum-known-k c = search needs
 
 refuse-requires : tie.Need-refuse-requires
-unfolding headerOf stepLimit
-refuse-requires c κs = omega (arith, found-below _ _ (sym (c .before .k .given .1) ∙ step-search (c .before .before .before)), ranges (c .before .before .before .before .before .before .pre) .steps)
+refuse-requires c κs =
+    step-place (c .before .before .before .before .before .before .pre) (found-below _ _ (step-search (c .before .before .before)) (c .before .k .given .1))
 
 returns : tie.Need-returns
 unfolding stepChecks
-returns c = refused-last _ (refused-at _ _ 9 (sym (c .before .before .k .given .1) ∙ step-search (c .before .before .before .before))) (c .refuse .ensures)
+returns c =
+    refused-last _ (refused-at _ _ (step-search (c .before .before .before .before)) 9 (c .before .before .k .given .1)) (c .refuse .ensures)
 
 enum-told : tie.Need-enum-told
 enum-told c = search needs
 
 returns-2 : tie.Need-returns-2
 unfolding stepChecks
-returns-2 c = accepted-last _ (not-refused _ _ 9 (sym (c .enum-told .given .1) ∙ step-search (c .before .before)))
+returns-2 c = accepted-last _ (not-refused _ _ (step-search (c .before .before)) 9 (c .enum-told .given .1))
 
 pub check-steps-spec : {M : Type 1} → statement M
 check-steps-spec =

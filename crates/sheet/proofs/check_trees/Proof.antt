@@ -1,6 +1,8 @@
 -- The sizes of the trees are filled in first; the other two refusals read them.
+use Prim.Native.Nat.{_≤_}
 use mathlib.Core.Path.{_≡_, sym, _∙_}
 use native.Mathlib.Omega.{arith}
+use lib.ListN.{length}
 use borrow.Author.Needs.{needs}
 use Rattle.definitions.specs.Outcome.{lowest, foundAt}
 use Rattle.definitions.specs.Sheet.{stepLimit, names, steps, propositionPairs, stepRecords, codeBytes}
@@ -9,21 +11,22 @@ use Rattle.steps.specs.Tables.{SizeTable, FilledSizes}
 use Rattle.sheet.specs.Header.{headerOf}
 use Rattle.sheet.specs.Checks.{treeChecks}
 use Rattle.sheet.proofs.Searched.{found-below, refused-at, not-refused}
-use Rattle.sheet.proofs.Slices.{lengths}
-use Rattle.sheet.proofs.Given.{ranges}
+use Rattle.sheet.proofs.Given.{steps-present, step-place}
 use Rattle.sheet.proofs.Stages.{refused-if, not-refused-if, refused-last, accepted-last, refused-now, passed-on, refused-not-accepted}
 use Rattle.sheet.proofs.check_trees.Statement.{statement}
 use Rattle.sheet.proofs.check_trees.Tie as tie
 
 filled : (c : tie.After-fill-sizes) →
-    let s = c .before .before .before .before .before .args .s .now in
-    FilledSizes (stepRecords s) (steps s) (c .before .before .before .before .before .args .sizes .now) (c .fill-sizes .result) (c .fill-sizes .last .1 .1 .0)
+    let start = (c .before .before .before .before .before) in
+    let s = start .args .s .now in
+    FilledSizes (stepRecords s) (steps s) (start .args .sizes .now) (c .fill-sizes .result) (c .fill-sizes .last .1 .1 .0)
 unfolding headerOf
 filled c = rw (c .before .before .step-records .ensures, c .before .before .before .before .before .pre .0 .header) at (c .fill-sizes .ensures)
 
 tree-search : (c : tie.After-fill-sizes) →
     let s = c .before .before .before .before .before .args .s .now in
-    c .fill-sizes .result ≡ foundAt (lowest (tooFewTrees (names s) (propositionPairs s) (codeBytes s) (stepRecords s)) (steps s))
+    c .fill-sizes .result
+    ≡ foundAt (lowest (tooFewTrees (names s) (propositionPairs s) (codeBytes s) (stepRecords s)) (steps s))
 tree-search c = filled c .found _ _ _
 
 size-table : (c : tie.After-enum-told) →
@@ -31,35 +34,54 @@ size-table : (c : tie.After-enum-told) →
     SizeTable (stepRecords s) (steps s) (c .before .before .before .before .fill-sizes .last .1 .1 .0)
 size-table c = filled (c .before .before .before .before) .table (c .enum-told .given .1)
 
+-- the table as it was filled, over the steps as the program has them
+program-table : (c : tie.After-enum-told) →
+    let start = (c .before .before .before .before .before .before .before .before .before) in
+    SizeTable (c .before .before .before .before .before .before .step-records .result .now) (start .args .h .steps) (c .before .before .before .before .fill-sizes .last .1 .1 .0)
+unfolding headerOf
+program-table c = rw (c .before .before .before .before .before .before .step-records .ensures, c .before .before .before .before .before .before .before .before .before .pre .0 .header) (size-table c)
+
+table-long-enough : (c : tie.After-enum-told) → c .before .before .before .before .before .before .before .before .before .args .h .steps ≤ length (c .before .before .before .before .fill-sizes .last .1 .1 .0)
+unfolding stepLimit
+table-long-enough c = omega (arith, c .before .before .before .before .before .before .before .before .before .pre .0 .in-range .steps, c .before .before .before .before .before .before .before .before .before .pre .1, c .before .before .before .before .fill-sizes .kept .1 .1 .0)
+
 trees-test : (c : tie.After-leaves-trees) →
     let s = c .before .before .before .before .before .before .before .before .before .before .before .args .s .now in
     treesLeft (names s) (propositionPairs s) (codeBytes s) (stepRecords s) (steps s) ≡ c .leaves-trees .result
 unfolding headerOf
 trees-test c =
-    let s = c .before .before .before .before .before .before .before .before .before .before .before .args .s .now in
-    sym (rw (c .before .before .before .before .before .before .before .before .step-records .ensures, c .before .before .before .before .before .before .before .before .before .before .before .pre .0 .header) at (c .leaves-trees .ensures (names s) (propositionPairs s) (codeBytes s)))
+    let start = (c .before .before .before .before .before .before .before .before .before .before .before) in
+    let s = start .args .s .now in
+    let told = c .leaves-trees .ensures (names s) (propositionPairs s) (codeBytes s) in
+    sym (rw (c .before .before .before .before .before .before .before .before .step-records .ensures, start .pre .0 .header) at told)
 
 height-search : (c : tie.After-first-deep-tree) →
     let s = c .before .before .before .before .before .before .before .before .before .before .before .before .before .before .before .args .s .now in
-    c .first-deep-tree .result ≡ foundAt (lowest (deepTree (names s) (propositionPairs s) (codeBytes s) (stepRecords s)) (steps s))
+    c .first-deep-tree .result
+    ≡ foundAt (lowest (deepTree (names s) (propositionPairs s) (codeBytes s) (stepRecords s)) (steps s))
 unfolding headerOf
 height-search c =
-    let s = c .before .before .before .before .before .before .before .before .before .before .before .before .before .before .before .args .s .now in
-    rw (c .before .before .before .before .before .before .before .before .before .before .before .before .step-records .ensures, c .before .before .before .before .before .before .before .before .before .before .before .before .before .before .before .pre .0 .header) at (c .first-deep-tree .ensures (names s) (propositionPairs s) (codeBytes s))
+    let start = (c .before .before .before .before .before .before .before .before .before .before .before .before .before .before .before) in
+    let s = start .args .s .now in
+    let told = c .first-deep-tree .ensures (names s) (propositionPairs s) (codeBytes s) in
+    rw (c .before .before .before .before .before .before .before .before .before .before .before .before .step-records .ensures, start .pre .0 .header) at told
 
 step-records-requires : tie.Need-step-records-requires
 step-records-requires c κs = search needs
 
 fill-sizes-requires : tie.Need-fill-sizes-requires
-unfolding headerOf stepLimit
-fill-sizes-requires c κs = rw (c .before .step-records .ensures, c .before .before .before .before .pre .0 .header) (omega (arith, lengths _ (c .before .before .before .before .pre .0 .whole) .step-records, ranges (c .before .before .before .before .pre .0) .steps, c .before .before .before .before .pre .1))
+unfolding stepLimit
+fill-sizes-requires c κs =
+    let start = (c .before .before .before .before) in
+    rw (c .before .step-records .ensures)
+    (steps-present (start .pre .0), start .pre .0 .in-range .steps, omega (arith, start .pre .0 .in-range .steps, start .pre .1))
 
 enum-known-k : tie.Need-enum-known-k
 enum-known-k c = search needs
 
 refuse-requires : tie.Need-refuse-requires
-unfolding headerOf stepLimit
-refuse-requires c κs = omega (arith, found-below _ _ (sym (c .before .k .given .1) ∙ tree-search (c .before .before .before .before .before)), ranges (c .before .before .before .before .before .before .before .before .before .before .pre .0) .steps)
+refuse-requires c κs =
+    step-place (c .before .before .before .before .before .before .before .before .before .before .pre .0) (found-below _ _ (tree-search (c .before .before .before .before .before)) (c .before .k .given .1))
 
 same-length : tie.Need-same-length
 same-length c = search needs
@@ -67,7 +89,7 @@ same-length c = search needs
 returns : tie.Need-returns
 unfolding treeChecks
 returns c = (
-  refused-now _ _ (refused-at _ _ 10 (sym (c .before .before .k .given .1) ∙ tree-search (c .before .before .before .before .before .before))) (c .refuse .ensures),
+  refused-now _ _ (refused-at _ _ (tree-search (c .before .before .before .before .before .before)) 10 (c .before .before .k .given .1)) (c .refuse .ensures),
   λ e. absurd (refused-not-accepted (c .refuse .ensures) e),
 )
 
@@ -75,18 +97,15 @@ enum-told : tie.Need-enum-told
 enum-told c = search needs
 
 leaves-trees-requires : tie.Need-leaves-trees-requires
-unfolding headerOf stepLimit
-leaves-trees-requires c κs = (
-  omega (arith, c .before .before .before .before .before .before .before .before .before .before .pre .0 .in-range .some-step),
-  omega (arith, c .before .before .before .before .before .before .before .before .before .before .pre .0 .in-range .steps, c .before .before .before .before .before .before .before .before .before .before .pre .1, c .before .before .before .before .before .fill-sizes .kept .1 .1 .0),
-  rw (c .before .before .before .before .before .before .before .step-records .ensures, c .before .before .before .before .before .before .before .before .before .before .pre .0 .header) (size-table (c .before)),
-)
+leaves-trees-requires c κs =
+    let told = (c .before) in
+    (c .before .before .before .before .before .before .before .before .before .before .pre .0 .in-range .some-step, table-long-enough told, program-table told)
 
 sub-refuse : tie.Need-sub-refuse
 sub-refuse c = search needs
 
 refuse-requires-2 : tie.Need-refuse-requires-2
-unfolding headerOf stepLimit
+unfolding stepLimit
 refuse-requires-2 c κs = omega (arith, c .before .before .before .before .before .before .before .before .before .before .before .before .pre .0 .in-range .steps)
 
 same-length-2 : tie.Need-same-length-2
@@ -95,8 +114,9 @@ same-length-2 c = search needs
 returns-2 : tie.Need-returns-2
 unfolding treeChecks headerOf
 returns-2 c = (
-  passed-on _ _ (not-refused _ _ 10 (sym (c .before .before .before .before .enum-told .given .1) ∙ tree-search (c .before .before .before .before .before .before .before .before)))
-      (refused-now _ _ (refused-if _ _ (trees-test (c .before .before) ∙ c .before .if1 .taken)) (rw (c .before .before .before .before .before .before .before .before .before .before .before .before .before .pre .0 .header) at (c .refuse2 .ensures))),
+  passed-on _ _ (not-refused _ _ (tree-search (c .before .before .before .before .before .before .before .before)) 10 (c .before .before .before .before .enum-told .given .1))
+      (refused-now _ _ (refused-if _ _ (trees-test (c .before .before) ∙ c .before .if1 .taken))
+      (rw (c .before .before .before .before .before .before .before .before .before .before .before .before .before .pre .0 .header) at (c .refuse2 .ensures))),
   λ e. absurd (refused-not-accepted (c .refuse2 .ensures) e),
 )
 
@@ -104,18 +124,19 @@ slice-aggregate-first-deep-tree : tie.Need-slice-aggregate-first-deep-tree
 slice-aggregate-first-deep-tree c = search needs
 
 first-deep-tree-requires : tie.Need-first-deep-tree-requires
-unfolding headerOf stepLimit
-first-deep-tree-requires c κs = (
-  rw (c .before .before .before .before .before .before .before .before .before .before .before .step-records .ensures, c .before .before .before .before .before .before .before .before .before .before .before .before .before .before .pre .0 .header) (omega (arith, lengths _ (c .before .before .before .before .before .before .before .before .before .before .before .before .before .before .pre .0 .whole) .step-records, ranges (c .before .before .before .before .before .before .before .before .before .before .before .before .before .before .pre .0) .steps, c .before .before .before .before .before .before .before .before .before .before .before .before .before .before .pre .1, c .before .before .before .before .before .before .before .before .before .fill-sizes .kept .1 .1 .0)),
-  rw (c .before .before .before .before .before .before .before .before .before .before .before .step-records .ensures, c .before .before .before .before .before .before .before .before .before .before .before .before .before .before .pre .0 .header) (size-table (c .before .before .before .before .before)),
-)
+unfolding stepLimit
+first-deep-tree-requires c κs =
+    let start = (c .before .before .before .before .before .before .before .before .before .before .before .before .before .before) in
+    let told = (c .before .before .before .before .before) in
+    let records = c .before .before .before .before .before .before .before .before .before .before .before .step-records .ensures in
+    ((rw records (steps-present (start .pre .0)), table-long-enough told, start .pre .0 .in-range .steps), program-table told)
 
 enum-known-k-2 : tie.Need-enum-known-k-2
 enum-known-k-2 c = search needs
 
 refuse-requires-3 : tie.Need-refuse-requires-3
-unfolding headerOf stepLimit
-refuse-requires-3 c κs = omega (arith, found-below _ _ (sym (c .before .k2 .given .1) ∙ height-search (c .before .before .before .before)), ranges (c .before .before .before .before .before .before .before .before .before .before .before .before .before .before .before .before .before .before .before .pre .0) .steps)
+refuse-requires-3 c κs =
+    step-place (c .before .before .before .before .before .before .before .before .before .before .before .before .before .before .before .before .before .before .before .pre .0) (found-below _ _ (height-search (c .before .before .before .before)) (c .before .k2 .given .1))
 
 same-length-3 : tie.Need-same-length-3
 same-length-3 c = search needs
@@ -123,9 +144,9 @@ same-length-3 c = search needs
 returns-3 : tie.Need-returns-3
 unfolding treeChecks
 returns-3 c = (
-  passed-on _ _ (not-refused _ _ 10 (sym (c .before .before .before .before .before .before .before .before .before .before .before .enum-told .given .1) ∙ tree-search (c .before .before .before .before .before .before .before .before .before .before .before .before .before .before .before)))
+  passed-on _ _ (not-refused _ _ (tree-search (c .before .before .before .before .before .before .before .before .before .before .before .before .before .before .before)) 10 (c .before .before .before .before .before .before .before .before .before .before .before .enum-told .given .1))
       (passed-on _ _ (not-refused-if _ _ (trees-test (c .before .before .before .before .before .before .before .before .before) ∙ c .before .before .before .before .before .before .before .before .if1 .left))
-      (refused-last _ (refused-at _ _ 11 (sym (c .before .before .k2 .given .1) ∙ height-search (c .before .before .before .before .before))) (c .refuse3 .ensures))),
+      (refused-last _ (refused-at _ _ (height-search (c .before .before .before .before .before)) 11 (c .before .before .k2 .given .1)) (c .refuse3 .ensures))),
   λ e. absurd (refused-not-accepted (c .refuse3 .ensures) e),
 )
 
@@ -138,9 +159,9 @@ same-length-4 c = search needs
 returns-4 : tie.Need-returns-4
 unfolding treeChecks
 returns-4 c = (
-  passed-on _ _ (not-refused _ _ 10 (sym (c .before .before .before .before .before .before .before .before .before .enum-told .given .1) ∙ tree-search (c .before .before .before .before .before .before .before .before .before .before .before .before .before)))
+  passed-on _ _ (not-refused _ _ (tree-search (c .before .before .before .before .before .before .before .before .before .before .before .before .before)) 10 (c .before .before .before .before .before .before .before .before .before .enum-told .given .1))
       (passed-on _ _ (not-refused-if _ _ (trees-test (c .before .before .before .before .before .before .before) ∙ c .before .before .before .before .before .before .if1 .left))
-      (accepted-last _ (not-refused _ _ 11 (sym (c .enum-told2 .given .1) ∙ height-search (c .before .before .before))))),
+      (accepted-last _ (not-refused _ _ (height-search (c .before .before .before)) 11 (c .enum-told2 .given .1)))),
   λ e. size-table (c .before .before .before .before .before .before .before .before .before),
 )
 
