@@ -14,7 +14,8 @@ use Rattle.sheet.proofs.check.Tie as tie
 
 has-header : (c : tie.After-known-told) → HasHeader (c .before .before .before .before .before .args .s .now) (c .before .header .given .0 .0)
 has-header c =
-    let (same, _, passed) = stage-accepted _ _ (c .before .before .before .check-header .ensures) (c .before .header .given .1) in
+    let after-check-header = c .before .before .before in
+    let (same, _, passed) = stage-accepted _ _ (after-check-header .check-header .ensures) (c .before .header .given .1) in
     rw same (header-given _ passed)
 
 -- What the stages from a place on answer is what all of them do.
@@ -22,7 +23,8 @@ names-on : (c : tie.After-known-told) {r : Checked} →
     let s = c .before .before .before .before .before .args .s .now in
     r ≡ answered (c .before .header .given .0 .0) (fromNames s) → r ≡ checkedOf s
 names-on c e =
-    let (same, _, passed) = stage-accepted _ _ (c .before .before .before .check-header .ensures) (c .before .header .given .1) in
+    let after-check-header = c .before .before .before in
+    let (same, _, passed) = stage-accepted _ _ (after-check-header .check-header .ensures) (c .before .header .given .1) in
     from-header _ (passed-on _ _ passed (rw same at e))
 
 propositions-on : (c : tie.After-enum-told2) {r : Checked} →
@@ -30,21 +32,24 @@ propositions-on : (c : tie.After-enum-told2) {r : Checked} →
     r ≡ answered (c .before .before .before .before .header .given .0 .0) (fromPropositions s) → r ≡ checkedOf s
 unfolding fromNames
 propositions-on c e =
-    names-on (c .before .before .before) (passed-on _ _ (stage-accepted _ _ (c .before .before .check-names .ensures) (c .enum-told2 .given .1) .2) e)
+    let after-known-told = c .before .before .before in
+    names-on after-known-told (passed-on _ _ (stage-accepted _ _ (c .before .before .check-names .ensures) (c .enum-told2 .given .1) .2) e)
 
 steps-on : (c : tie.After-enum-told4) {r : Checked} →
     let s = c .before .before .before .before .before .before .before .before .before .before .before .args .s .now in
     r ≡ answered (c .before .before .before .before .before .before .before .header .given .0 .0) (fromSteps s) → r ≡ checkedOf s
 unfolding fromPropositions
 steps-on c e =
-    propositions-on (c .before .before .before) (passed-on _ _ (stage-accepted _ _ (c .before .before .check-propositions .ensures) (c .enum-told4 .given .1) .2) e)
+    let after-enum-told2 = c .before .before .before in
+    propositions-on after-enum-told2 (passed-on _ _ (stage-accepted _ _ (c .before .before .check-propositions .ensures) (c .enum-told4 .given .1) .2) e)
 
 trees-on : (c : tie.After-enum-told6) {r : Checked} →
     let s = c .before .before .before .before .before .before .before .before .before .before .before .before .before .before .args .s .now in
     r ≡ answered (c .before .before .before .before .before .before .before .before .before .before .header .given .0 .0) (fromTrees s) → r ≡ checkedOf s
 unfolding fromSteps
 trees-on c e =
-    steps-on (c .before .before .before) (passed-on _ _ (stage-accepted _ _ (c .before .before .check-steps .ensures) (c .enum-told6 .given .1) .2) e)
+    let after-enum-told4 = c .before .before .before in
+    steps-on after-enum-told4 (passed-on _ _ (stage-accepted _ _ (c .before .before .check-steps .ensures) (c .enum-told6 .given .1) .2) e)
 
 check-header-requires : tie.Need-check-header-requires
 check-header-requires c κs = search needs
@@ -72,13 +77,16 @@ enum-told-3 c = search needs
 
 returns-2 : tie.Need-returns-2
 unfolding fromNames
-returns-2 c = (
-  names-on (c .before .before .before) (stage-refused _ _ _ (c .before .before .check-names .ensures) (c .enum-told3 .given .1)),
-  λ h e. absurd (refused-not-accepted (c .enum-told3 .given .1) e),
-)
+returns-2 c =
+    let after-known-told = c .before .before .before in (
+      names-on after-known-told (stage-refused _ _ _ (c .before .before .check-names .ensures) (c .enum-told3 .given .1)),
+      λ h e. absurd (refused-not-accepted (c .enum-told3 .given .1) e),
+    )
 
 check-propositions-requires : tie.Need-check-propositions-requires
-check-propositions-requires c κs = has-header (c .before .before .before)
+check-propositions-requires c κs =
+    let after-known-told = c .before .before .before in
+    has-header after-known-told
 
 enum-told-4 : tie.Need-enum-told-4
 enum-told-4 c = search needs
@@ -88,13 +96,16 @@ enum-told-5 c = search needs
 
 returns-3 : tie.Need-returns-3
 unfolding fromPropositions
-returns-3 c = (
-  propositions-on (c .before .before .before) (stage-refused _ _ _ (c .before .before .check-propositions .ensures) (c .enum-told5 .given .1)),
-  λ h e. absurd (refused-not-accepted (c .enum-told5 .given .1) e),
-)
+returns-3 c =
+    let after-enum-told2 = c .before .before .before in (
+      propositions-on after-enum-told2 (stage-refused _ _ _ (c .before .before .check-propositions .ensures) (c .enum-told5 .given .1)),
+      λ h e. absurd (refused-not-accepted (c .enum-told5 .given .1) e),
+    )
 
 check-steps-requires : tie.Need-check-steps-requires
-check-steps-requires c κs = has-header (c .before .before .before .before .before .before)
+check-steps-requires c κs =
+    let after-known-told = c .before .before .before .before .before .before in
+    has-header after-known-told
 
 enum-told-6 : tie.Need-enum-told-6
 enum-told-6 c = search needs
@@ -104,14 +115,17 @@ enum-told-7 c = search needs
 
 returns-4 : tie.Need-returns-4
 unfolding fromSteps
-returns-4 c = (
-  steps-on (c .before .before .before) (stage-refused _ _ _ (c .before .before .check-steps .ensures) (c .enum-told7 .given .1)),
-  λ h e. absurd (refused-not-accepted (c .enum-told7 .given .1) e),
-)
+returns-4 c =
+    let after-enum-told4 = c .before .before .before in (
+      steps-on after-enum-told4 (stage-refused _ _ _ (c .before .before .check-steps .ensures) (c .enum-told7 .given .1)),
+      λ h e. absurd (refused-not-accepted (c .enum-told7 .given .1) e),
+    )
 
 check-trees-requires : tie.Need-check-trees-requires
 unfolding stepLimit
-check-trees-requires c κs = (has-header (c .before .before .before .before .before .before .before .before .before .before), omega arith)
+check-trees-requires c κs =
+    let after-known-told = c .before .before .before .before .before .before .before .before .before .before in
+    (has-header after-known-told, omega arith)
 
 returns-5 : tie.Need-returns-5
 unfolding fromTrees

@@ -18,7 +18,9 @@ range-test c = sym (c .out-of-range .ensures _ (c .before .header .ensures))
 
 laid-out : (c : tie.After-layout) → c .layout .result .end ≡ sheetLength (c .before .before .before .before .before .before .args .s .now)
 unfolding layoutOf
-laid-out c = ap (λ (l : Layout). l .end) (c .layout .ensures _ (c .before .before .before .header .ensures))
+laid-out c =
+    let after-header = c .before .before .before in
+    ap (λ (l : Layout). l .end) (c .layout .ensures _ (after-header .header .ensures))
 
 refuse-requires : tie.Need-refuse-requires
 refuse-requires c κs = search needs
@@ -40,7 +42,8 @@ refuse-requires-2 c κs = search needs
 returns-2 : tie.Need-returns-2
 unfolding headerChecks headerSize
 returns-2 c =
-    passed-on _ _ (not-refused-if _ _ (le-ltb _ _ (c .before .before .before .before .if1 .left)))
+    let after-if1 = c .before .before .before .before in
+    passed-on _ _ (not-refused-if _ _ (le-ltb _ _ (after-if1 .if1 .left)))
     (refused-now _ _ (refused-if _ _ (range-test (c .before .before) ∙ c .before .if2 .taken)) (c .refuse2 .ensures))
 
 layout-requires : tie.Need-layout-requires
@@ -52,16 +55,24 @@ refuse-requires-3 c κs = search needs
 returns-3 : tie.Need-returns-3
 unfolding headerChecks headerSize
 returns-3 c =
-    passed-on _ _ (not-refused-if _ _ (le-ltb _ _ (c .before .before .before .before .before .before .before .if1 .left)))
-    (passed-on _ _ (not-refused-if _ _ (range-test (c .before .before .before .before .before) ∙ c .before .before .before .before .if2 .left))
-    (refused-last _ (refused-if _ _ (ap not (ne-eqb _ _ (λ e. c .before .if3 .taken (e ∙ sym (laid-out (c .before .before .before))))))) (c .refuse3 .ensures)))
+    let after-layout = c .before .before .before in
+    let after-if2 = after-layout .before in
+    let after-out-of-range = after-if2 .before in
+    let after-if1 = after-out-of-range .before .before in
+    passed-on _ _ (not-refused-if _ _ (le-ltb _ _ (after-if1 .if1 .left)))
+    (passed-on _ _ (not-refused-if _ _ (range-test after-out-of-range ∙ after-if2 .if2 .left))
+    (refused-last _ (refused-if _ _ (ap not (ne-eqb _ _ (λ e. c .before .if3 .taken (e ∙ sym (laid-out after-layout)))))) (c .refuse3 .ensures)))
 
 returns-4 : tie.Need-returns-4
 unfolding headerChecks headerSize
 returns-4 c =
-    ap Accepted (c .before .before .before .before .before .header .ensures)
-    ∙ passed-on _ _ (not-refused-if _ _ (le-ltb _ _ (c .before .before .before .before .before .before .if1 .left)))
-    (passed-on _ _ (not-refused-if _ _ (range-test (c .before .before .before .before) ∙ c .before .before .before .if2 .left))
+    let after-if2 = c .before .before .before in
+    let after-out-of-range = after-if2 .before in
+    let after-header = after-out-of-range .before in
+    let after-if1 = after-header .before in
+    ap Accepted (after-header .header .ensures)
+    ∙ passed-on _ _ (not-refused-if _ _ (le-ltb _ _ (after-if1 .if1 .left)))
+    (passed-on _ _ (not-refused-if _ _ (range-test after-out-of-range ∙ after-if2 .if2 .left))
     (accepted-last _ (not-refused-if _ _ (ap not (eq-eqb _ _ (c .if3 .left ∙ laid-out (c .before .before)))))))
 
 pub check-header-spec : {M : Type 1} → statement M

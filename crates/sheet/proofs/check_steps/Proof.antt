@@ -16,7 +16,9 @@ step-search : (c : tie.After-first-bad-step) →
     let s = c .before .before .before .args .s .now in
     c .first-bad-step .result ≡ foundAt (lowest (badStep (names s) (propositions s) (stepRecords s)) (steps s))
 unfolding headerOf
-step-search c = rw (c .before .step-records .ensures, c .before .before .before .pre .header) at (c .first-bad-step .ensures)
+step-search c =
+    let start = c .before .before .before in
+    rw (c .before .step-records .ensures, start .pre .header) at (c .first-bad-step .ensures)
 
 step-records-requires : tie.Need-step-records-requires
 step-records-requires c κs = search needs
@@ -29,12 +31,15 @@ enum-known-k c = search needs
 
 refuse-requires : tie.Need-refuse-requires
 refuse-requires c κs =
-    step-place (c .before .before .before .before .before .before .pre) (found-below _ _ (step-search (c .before .before .before)) (c .before .k .given .1))
+    let after-first-bad-step = c .before .before .before in
+    let start = after-first-bad-step .before .before .before in
+    step-place (start .pre) (found-below _ _ (step-search after-first-bad-step) (c .before .k .given .1))
 
 returns : tie.Need-returns
 unfolding stepChecks
 returns c =
-    refused-last _ (refused-at _ _ (step-search (c .before .before .before .before)) 9 (c .before .before .k .given .1)) (c .refuse .ensures)
+    let after-first-bad-step = c .before .before .before .before in
+    refused-last _ (refused-at _ _ (step-search after-first-bad-step) 9 (c .before .before .k .given .1)) (c .refuse .ensures)
 
 enum-told : tie.Need-enum-told
 enum-told c = search needs

@@ -19,14 +19,20 @@ loop-holds c = at-start _ _
 
 marked-bytes-requires : tie.Need-marked-bytes-requires Inv-loop μ-loop
 unfolding pairSize
-marked-bytes-requires c κs = (omega arith, c .before .before .before .before .pre .ends _ (c .loop-test .taken))
+marked-bytes-requires c κs =
+    let start = c .before .before .before .before in
+    (omega arith, start .pre .ends _ (c .loop-test .taken))
 
 is-code-requires : tie.Need-is-code-requires Inv-loop μ-loop
 is-code-requires c κs = tt
 
 returns : tie.Need-returns Inv-loop μ-loop
 unfolding badCode
-returns c = found (c .before .before .before .before .loop .inv) (c .before .before .before .loop-test .taken) (cc (Bool·not-not (badCode (c .before .before .before .before .before .before .before .args .names) (c .before .before .before .before .before .before .before .args .pairs .now) (c .before .before .before .before .before .before .before .args .code .now) (c .before .before .before .before .loop .i))))
+returns c =
+    let after-loop-test = c .before .before .before in
+    let after-loop = after-loop-test .before in
+    let start = after-loop .before .before .before in
+    found (after-loop .loop .inv) (after-loop-test .loop-test .taken) (cc (Bool·not-not (badCode (start .args .names) (start .args .pairs .now) (start .args .code .now) (after-loop .loop .i))))
 
 add-i : tie.Need-add-i Inv-loop μ-loop
 add-i c = omega arith
@@ -36,7 +42,11 @@ loop-less c = omega arith
 
 loop-again : tie.Need-loop-again Inv-loop μ-loop
 unfolding badCode
-loop-again c = onward (c .before .before .before .before .loop .inv) (c .before .before .before .loop-test .taken) (cc (Bool·not-not (badCode (c .before .before .before .before .before .before .before .args .names) (c .before .before .before .before .before .before .before .args .pairs .now) (c .before .before .before .before .before .before .before .args .code .now) (c .before .before .before .before .loop .i))))
+loop-again c =
+    let after-loop-test = c .before .before .before in
+    let after-loop = after-loop-test .before in
+    let start = after-loop .before .before .before in
+    onward (after-loop .loop .inv) (after-loop-test .loop-test .taken) (cc (Bool·not-not (badCode (start .args .names) (start .args .pairs .now) (start .args .code .now) (after-loop .loop .i))))
 
 returns-2 : tie.Need-returns-2 Inv-loop μ-loop
 returns-2 c = nowhere (c .before .loop .inv) (c .loop-test .left)

@@ -34,14 +34,18 @@ pair-length-requires c κs = omega arith
 add-end : tie.Need-add-end Inv-loop μ-loop
 unfolding pairOffset pairLength numberAt
 add-end c =
-    let at = c .before .before .before .loop .i in
-    let byte = c .before .before .before .before .shared-slice-known .given in
+    let after-loop = c .before .before .before in
+    let after-shared-slice-known = after-loop .before in
+    let at = after-loop .loop .i in
+    let byte = after-shared-slice-known .shared-slice-known .given in
     omega (arith, byte (pairSize * at), byte (pairSize * at + 1), byte (pairSize * at + 2), byte (pairSize * at + 2 + 1))
 
 returns : tie.Need-returns Inv-loop μ-loop
 unfolding pairEnd
 returns c =
-    found (c .before .before .before .before .loop .inv .0) (c .before .before .before .loop-test .taken)
+    let after-loop-test = c .before .before .before in
+    let after-loop = after-loop-test .before in
+    found (after-loop .loop .inv .0) (after-loop-test .loop-test .taken)
     (bad-pair _ _ _ _ λ g. ⊎-elim (λ w. omega arith) (⊎-elim (λ w. omega (arith, ltb-true)) (⊎-elim (λ w. omega (arith, ltb-true)) (λ w. omega (arith, ltb-true)))) (c .if1 .came))
 
 add-i : tie.Need-add-i Inv-loop μ-loop
@@ -53,7 +57,9 @@ loop-less c = omega arith
 loop-again : tie.Need-loop-again Inv-loop μ-loop
 unfolding pairEnd lastEnd
 loop-again c =
-    (onward (c .before .before .before .before .before .before .before .loop .inv .0) (c .before .before .before .before .before .before .loop-test .taken) (good-passes _ _ _ _ (omega (arith, ltb-false))), rw (add-one, lastEnd) (omega arith))
+    let after-loop-test = c .before .before .before .before .before .before in
+    let after-loop = after-loop-test .before in
+    (onward (after-loop .loop .inv .0) (after-loop-test .loop-test .taken) (good-passes _ _ _ _ (omega (arith, ltb-false))), rw (add-one, lastEnd) (omega arith))
 
 returns-2 : tie.Need-returns-2 Inv-loop μ-loop
 returns-2 c = nowhere (c .before .loop .inv .0) (c .loop-test .left)

@@ -19,15 +19,22 @@ loop-holds c = at-start _ _
 
 marked-bytes-requires : tie.Need-marked-bytes-requires Inv-loop μ-loop
 unfolding pairSize
-marked-bytes-requires c κs = (omega arith, c .before .before .before .before .pre .pairs-within .ends _ (c .loop-test .taken))
+marked-bytes-requires c κs =
+    let start = c .before .before .before .before in
+    (omega arith, start .pre .pairs-within .ends _ (c .loop-test .taken))
 
 is-deep-requires : tie.Need-is-deep-requires Inv-loop μ-loop
 unfolding badCode
-is-deep-requires c κs = rw (c .marked-bytes .ensures) (c .before .before .before .before .before .pre .decoded _ (c .before .loop-test .taken))
+is-deep-requires c κs =
+    let start = c .before .before .before .before .before in
+    rw (c .marked-bytes .ensures) (start .pre .decoded _ (c .before .loop-test .taken))
 
 returns : tie.Need-returns Inv-loop μ-loop
 unfolding deepProposition propIn
-returns c = found (c .before .before .before .before .loop .inv) (c .before .before .before .loop-test .taken) (cc)
+returns c =
+    let after-loop-test = c .before .before .before in
+    let after-loop = after-loop-test .before in
+    found (after-loop .loop .inv) (after-loop-test .loop-test .taken) (cc)
 
 add-i : tie.Need-add-i Inv-loop μ-loop
 add-i c = omega arith
@@ -37,7 +44,10 @@ loop-less c = omega arith
 
 loop-again : tie.Need-loop-again Inv-loop μ-loop
 unfolding deepProposition propIn
-loop-again c = onward (c .before .before .before .before .loop .inv) (c .before .before .before .loop-test .taken) (cc)
+loop-again c =
+    let after-loop-test = c .before .before .before in
+    let after-loop = after-loop-test .before in
+    onward (after-loop .loop .inv) (after-loop-test .loop-test .taken) (cc)
 
 returns-2 : tie.Need-returns-2 Inv-loop μ-loop
 returns-2 c = nowhere (c .before .loop .inv) (c .loop-test .left)
