@@ -40,7 +40,8 @@ empty [] h = refl
 empty (a ∷ l) h = absurd (omega arith)
 
 -- where no more than one tree is left, it is that of the last step
-only-root : (names : ℕ) (pairs code records : List ℕ) (count : ℕ) → 1 ≤ count → treesLeft names pairs code records count ≡ false
+only-root : (names : ℕ) (pairs code records : List ℕ) (count : ℕ) → 1 ≤ count
+    → treesLeft names pairs code records count ≡ false
     → treesBefore names pairs code records count ≡ treeIn names pairs code records (count - 1) ∷ []
 unfolding treesLeft treesBefore treeIn
 only-root names pairs code records zero h e = absurd (omega arith)
@@ -61,7 +62,8 @@ module _ (s : List ℕ) (i : ℕ) where
   unfolding badCode propOf propIn
   is-proposition e = is-some _ _ e
 
-  nests-at-most : deepProposition (names s) (propositionPairs s) (codeBytes s) i ≡ false → nesting (propOf s i) ≤ propositionNestingLimit
+  nests-at-most : deepProposition (names s) (propositionPairs s) (codeBytes s) i ≡ false
+      → nesting (propOf s i) ≤ propositionNestingLimit
   unfolding deepProposition propOf
   nests-at-most e = ltb-false _ _ e
 
@@ -70,11 +72,13 @@ module _ (s : List ℕ) (i : ℕ) where
   unfolding tooFewTrees
   finds-trees e = ltb-false _ _ e
 
-  is-low : deepTree (names s) (propositionPairs s) (codeBytes s) (stepRecords s) i ≡ false → height (treeOf s i) ≤ treeNestingLimit
+  is-low : deepTree (names s) (propositionPairs s) (codeBytes s) (stepRecords s) i ≡ false
+      → height (treeOf s i) ≤ treeNestingLimit
   unfolding deepTree treeOf
   is-low e = ltb-false _ _ e
 
-last-tree : (s : List ℕ) → InRange (headerOf s) → treesLeft (names s) (propositionPairs s) (codeBytes s) (stepRecords s) (steps s) ≡ false
+last-tree : (s : List ℕ) → InRange (headerOf s)
+    → treesLeft (names s) (propositionPairs s) (codeBytes s) (stepRecords s) (steps s) ≡ false
     → treesBefore (names s) (propositionPairs s) (codeBytes s) (stepRecords s) (steps s) ≡ rootOf s ∷ []
 unfolding headerOf rootOf treeOf
 last-tree s r e = only-root _ _ _ _ (steps s) (r .some-step) e
@@ -150,7 +154,8 @@ module _ {s : List ℕ} (a : Admitted s) where
   unfolding badCode isNone
   has-codes =
       record {
-        pairs-within = good-pairs (lengths s (a .whole) .proposition-pairs) (lengths s (a .whole) .code-bytes) (a .proposition-pair);
+        pairs-within =
+            good-pairs (lengths s (a .whole) .proposition-pairs) (lengths s (a .whole) .code-bytes) (a .proposition-pair);
         decoded = λ i h. rw (a .decoded i h);
       }
 

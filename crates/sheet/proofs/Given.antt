@@ -69,15 +69,18 @@ module _ {s : List ℕ} {h : Sheet} (has : HasHeader s h) where
   unfolding headerOf
   has-name-pairs passed =
       rw (has .header)
-      (good-pairs (lengths s (has .whole) .name-pairs) (lengths s (has .whole) .text-bytes) (λ i l. good-name-pair s i (passed i l)))
+      (good-pairs (lengths s (has .whole) .name-pairs) (lengths s (has .whole) .text-bytes)
+      (λ i l. good-name-pair s i (passed i l)))
 
   -- 6 did not come
-  pub has-proposition-pairs : ((i : ℕ) → i < sheet.propositions s → badPropositionPair (propositionPairs s) (codeLength s) i ≡ false)
+  pub has-proposition-pairs : ((i : ℕ) → i < sheet.propositions s
+      → badPropositionPair (propositionPairs s) (codeLength s) i ≡ false)
       → HasPairs (propositionPairs s) (codeBytes s) (h .propositions)
   unfolding headerOf
   has-proposition-pairs passed =
       rw (has .header)
-      (good-pairs (lengths s (has .whole) .proposition-pairs) (lengths s (has .whole) .code-bytes) (λ i l. good-proposition-pair s i (passed i l)))
+      (good-pairs (lengths s (has .whole) .proposition-pairs) (lengths s (has .whole) .code-bytes)
+      (λ i l. good-proposition-pair s i (passed i l)))
 
   -- nor did 7
   pub has-codes : HasPairs (propositionPairs s) (codeBytes s) (h .propositions)

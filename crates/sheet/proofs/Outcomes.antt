@@ -30,6 +30,7 @@ unfolding refuseAt refuse
 nothing-refused none number e = refl
 nothing-refused (some i) number e = absurd (let z : _≡_ {A = ℕ} 0 1 = cc in omega arith)
 
-pub none-lowest : (test : ℕ → Bool) (count number : ℕ) {a : Unit {0}} → refuseLowest test count number ≡ accepted a → lowest test count ≡ none
+pub none-lowest : (test : ℕ → Bool) (count number : ℕ) {a : Unit {0}} → refuseLowest test count number ≡ accepted a
+    → lowest test count ≡ none
 unfolding refuseLowest
 none-lowest test count number e = nothing-refused _ number e

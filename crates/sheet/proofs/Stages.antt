@@ -21,8 +21,8 @@ module _ {b : Bool} (number place : ℕ) where
 
 module _ {A : Type 0} (h : Sheet) {m : Outcome A} where
   -- the last check refuses, or passes
-  pub refused-last : {number place : ℕ} {r : Checked} → m ≡ refuse number place → r ≡ Refused (record { number = number; place = place })
-      → r ≡ answered h m
+  pub refused-last : {number place : ℕ} {r : Checked} → m ≡ refuse number place
+      → r ≡ Refused (record { number = number; place = place }) → r ≡ answered h m
   unfolding answered refuse
   refused-last e q = rw e q
 
@@ -32,8 +32,8 @@ module _ {A : Type 0} (h : Sheet) {m : Outcome A} where
 
   -- an earlier one refuses, or leaves it to the rest
   module _ {B : Type 0} (rest : A → Outcome B) {r : Checked} where
-    pub refused-now : {number place : ℕ} → m ≡ refuse number place → r ≡ Refused (record { number = number; place = place })
-        → r ≡ answered h (_>>=_ m rest)
+    pub refused-now : {number place : ℕ} → m ≡ refuse number place
+        → r ≡ Refused (record { number = number; place = place }) → r ≡ answered h (_>>=_ m rest)
     unfolding answered refuse _>>=_
     refused-now e q = rw e q
 
@@ -44,26 +44,27 @@ module _ {A : Type 0} (h : Sheet) {m : Outcome A} where
 pub refused-not-accepted : {r : Checked} {x : Refusal} {h : Sheet} → r ≡ Refused x → r ≡ Accepted h → ⊥
 refused-not-accepted e q = let z : _≡_ {A = ℕ} 0 1 = cc in omega arith
 
--- a whole stage refuses
-pub stage-refuses : {A : Type 0} (h : Sheet) (m : Outcome A) {r : Checked} {x : Refusal} → r ≡ answered h m → r ≡ Refused x → m ≡ refused x
-unfolding answered
-stage-refuses h (refused y) e q = cc
-stage-refuses h (accepted a) e q = absurd (refused-not-accepted q e)
+-- What the answer of a whole stage says.
+module _ {A : Type 0} (h : Sheet) {r : Checked} where
+  pub stage-refuses : (m : Outcome A) {x : Refusal} → r ≡ answered h m → r ≡ Refused x → m ≡ refused x
+  unfolding answered
+  stage-refuses (refused y) e q = cc
+  stage-refuses (accepted a) e q = absurd (refused-not-accepted q e)
 
-pub stage-refused : {A B : Type 0} (h : Sheet) (m : Outcome A) (rest : A → Outcome B) {r : Checked} {x : Refusal} → r ≡ answered h m → r ≡ Refused x
-    → r ≡ answered h (_>>=_ m rest)
-unfolding answered _>>=_
-stage-refused h m rest e q = rw (stage-refuses h m e q) q
+  -- an accepted stage has the header that it was given
+  pub stage-accepted : (m : Outcome A) {k : Sheet} → r ≡ answered h m → r ≡ Accepted k → (k ≡ h) × (a : A) × (m ≡ accepted a)
+  unfolding answered
+  stage-accepted (refused y) e q = absurd (refused-not-accepted e q)
+  stage-accepted (accepted a) e q = (cc, a, refl)
 
--- a whole stage accepts, with the header that it was given
-pub stage-accepted : {A : Type 0} (h : Sheet) (m : Outcome A) {r : Checked} {k : Sheet} → r ≡ answered h m → r ≡ Accepted k
-    → (k ≡ h) × (a : A) × (m ≡ accepted a)
-unfolding answered
-stage-accepted h (refused y) e q = absurd (refused-not-accepted e q)
-stage-accepted h (accepted a) e q = (cc, a, refl)
+  -- the refusal of a stage is that of the stages from it on
+  pub stage-refused : {B : Type 0} (m : Outcome A) (rest : A → Outcome B) {x : Refusal} → r ≡ answered h m → r ≡ Refused x
+      → r ≡ answered h (_>>=_ m rest)
+  unfolding answered _>>=_
+  stage-refused m rest e q = rw (stage-refuses m e q) q
 
--- after the last stage nothing refuses
-pub stage-last : {A B : Type 0} (h : Sheet) (m : Outcome A) (b : B) {r : Checked} → r ≡ answered h m → r ≡ answered h (_>>=_ m (λ _. accepted b))
-unfolding answered _>>=_
-stage-last h (refused y) b e = e
-stage-last h (accepted a) b e = e
+  -- after the last stage nothing refuses
+  pub stage-last : {B : Type 0} (m : Outcome A) (b : B) → r ≡ answered h m → r ≡ answered h (_>>=_ m (λ _. accepted b))
+  unfolding answered _>>=_
+  stage-last (refused y) b e = e
+  stage-last (accepted a) b e = e

@@ -27,6 +27,8 @@ pub struct Layout {
 }
 
 impl Sheet {
+    // Document 01's limits: text bytes, names, code bytes, propositions, steps; bytes of a name, parameters of an atom,
+    // nesting of a proposition and of a tree.
     pub const TEXT_LIMIT: usize = 8192;
 
     pub const NAME_LIMIT: usize = 512;

@@ -13,10 +13,12 @@ use Rattle.sheet.proofs.Stages.{refused-if, not-refused-if, refused-las
 use Rattle.sheet.proofs.check_header.Statement.{statement}
 use Rattle.sheet.proofs.check_header.Tie as tie
 
-range-test : (c : tie.After-out-of-range) → headerOutOfRange (c .before .before .before .before .args .s .now) ≡ c .out-of-range .result
+range-test : (c : tie.After-out-of-range)
+    → headerOutOfRange (c .before .before .before .before .args .s .now) ≡ c .out-of-range .result
 range-test c = sym (c .out-of-range .ensures _ (c .before .header .ensures))
 
-laid-out : (c : tie.After-layout) → c .layout .result .end ≡ sheetLength (c .before .before .before .before .before .before .args .s .now)
+laid-out : (c : tie.After-layout)
+    → c .layout .result .end ≡ sheetLength (c .before .before .before .before .before .before .args .s .now)
 unfolding layoutOf
 laid-out c =
     let after-header = c .before .before .before in
@@ -47,7 +49,7 @@ returns-2 c =
     (refused-now _ _ (refused-if _ _ (range-test (c .before .before) ∙ c .before .if2 .taken)) (c .refuse2 .ensures))
 
 layout-requires : tie.Need-layout-requires
-layout-requires c κs = rw (c .before .before .header .ensures) (in-range _ (sym (c .before .out-of-range .ensures _ (c .before .before .header .ensures)) ∙ c .if2 .left))
+layout-requires c κs = rw (c .before .before .header .ensures) (in-range _ (range-test (c .before) ∙ c .if2 .left))
 
 refuse-requires-3 : tie.Need-refuse-requires-3
 refuse-requires-3 c κs = search needs
@@ -61,7 +63,9 @@ returns-3 c =
     let after-if1 = after-out-of-range .before .before in
     passed-on _ _ (not-refused-if _ _ (le-ltb _ _ (after-if1 .if1 .left)))
     (passed-on _ _ (not-refused-if _ _ (range-test after-out-of-range ∙ after-if2 .if2 .left))
-    (refused-last _ (refused-if _ _ (ap not (ne-eqb _ _ (λ e. c .before .if3 .taken (e ∙ sym (laid-out after-layout)))))) (c .refuse3 .ensures)))
+    (refused-last _
+    (refused-if _ _ (ap not (ne-eqb _ _ (λ e. c .before .if3 .taken (e ∙ sym (laid-out after-layout))))))
+    (c .refuse3 .ensures)))
 
 returns-4 : tie.Need-returns-4
 unfolding headerChecks headerSize

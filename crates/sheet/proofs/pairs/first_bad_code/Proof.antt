@@ -32,7 +32,8 @@ returns c =
     let after-loop-test = c .before .before .before in
     let after-loop = after-loop-test .before in
     let start = after-loop .before .before .before in
-    found (after-loop .loop .inv) (after-loop-test .loop-test .taken) (cc (Bool·not-not (badCode (start .args .names) (start .args .pairs .now) (start .args .code .now) (after-loop .loop .i))))
+    let bad = badCode (start .args .names) (start .args .pairs .now) (start .args .code .now) (after-loop .loop .i) in
+    found (after-loop .loop .inv) (after-loop-test .loop-test .taken) (cc (Bool·not-not bad))
 
 add-i : tie.Need-add-i Inv-loop μ-loop
 add-i c = omega arith
@@ -46,7 +47,8 @@ loop-again c =
     let after-loop-test = c .before .before .before in
     let after-loop = after-loop-test .before in
     let start = after-loop .before .before .before in
-    onward (after-loop .loop .inv) (after-loop-test .loop-test .taken) (cc (Bool·not-not (badCode (start .args .names) (start .args .pairs .now) (start .args .code .now) (after-loop .loop .i))))
+    let bad = badCode (start .args .names) (start .args .pairs .now) (start .args .code .now) (after-loop .loop .i) in
+    onward (after-loop .loop .inv) (after-loop-test .loop-test .taken) (cc (Bool·not-not bad))
 
 returns-2 : tie.Need-returns-2 Inv-loop μ-loop
 returns-2 c = nowhere (c .before .loop .inv) (c .loop-test .left)

@@ -46,7 +46,10 @@ returns c =
     let after-loop-test = c .before .before .before in
     let after-loop = after-loop-test .before in
     found (after-loop .loop .inv .0) (after-loop-test .loop-test .taken)
-    (bad-pair _ _ _ _ λ g. ⊎-elim (λ w. omega arith) (⊎-elim (λ w. omega (arith, ltb-true)) (⊎-elim (λ w. omega (arith, ltb-true)) (λ w. omega (arith, ltb-true)))) (c .if1 .came))
+    (bad-pair _ _ _ _ λ g.
+    ⊎-elim (λ w. omega arith)
+    (⊎-elim (λ w. omega (arith, ltb-true)) (⊎-elim (λ w. omega (arith, ltb-true)) (λ w. omega (arith, ltb-true))))
+    (c .if1 .came))
 
 add-i : tie.Need-add-i Inv-loop μ-loop
 add-i c = omega arith
@@ -58,8 +61,10 @@ loop-again : tie.Need-loop-again Inv-loop μ-loop
 unfolding pairEnd lastEnd
 loop-again c =
     let after-loop-test = c .before .before .before .before .before .before in
-    let after-loop = after-loop-test .before in
-    (onward (after-loop .loop .inv .0) (after-loop-test .loop-test .taken) (good-passes _ _ _ _ (omega (arith, ltb-false))), rw (add-one, lastEnd) (omega arith))
+    let after-loop = after-loop-test .before in (
+      onward (after-loop .loop .inv .0) (after-loop-test .loop-test .taken) (good-passes _ _ _ _ (omega (arith, ltb-false))),
+      rw (add-one, lastEnd) (omega arith),
+    )
 
 returns-2 : tie.Need-returns-2 Inv-loop μ-loop
 returns-2 c = nowhere (c .before .loop .inv .0) (c .loop-test .left)

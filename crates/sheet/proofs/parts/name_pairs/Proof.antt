@@ -9,10 +9,10 @@ layout-requires : tie.Need-layout-requires
 layout-requires c κs = search needs
 
 between-requires : tie.Need-between-requires
-between-requires c κs = name-pairs-part (c .before .before .pre) (c .layout .ensures _ (c .before .before .pre .header)) .within
+between-requires c κs = name-pairs-part (c .before .before .pre) (c .layout .ensures) .within
 
 returns : tie.Need-returns
-returns c = c .between .ensures ∙ name-pairs-part (c .before .before .before .pre) (c .before .layout .ensures _ (c .before .before .before .pre .header)) .are
+returns c = c .between .ensures ∙ name-pairs-part (c .before .before .before .pre) (c .before .layout .ensures) .are
 
 pub name-pairs-spec : {M : Type 1} → statement M
 name-pairs-spec = tie.close (tie.spec layout-requires between-requires returns)
