@@ -3,7 +3,7 @@ use Prim.Native.Nat.{ℕ, zero, suc, _+_, _-_, _≤_, _<_}
 use mathlib.Core.Path.{_≡_, refl, sym, ap, _∙_}
 use mathlib.Core.List.{List, [], _∷_, _++_, append-assoc, append-nil, flatMap}
 use native.Mathlib.Omega.{arith}
-use lib.ListN.{length, take, drop, length-append, length-drop}
+use lib.ListN.{length, drop, length-append, length-drop}
 use lib.Seq.{take-at}
 use Rattle.definitions.specs.Prop.{Prop, True, False, Binary, Atom, Quantified, getAtoms, getDatatypes}
 use Rattle.definitions.specs.Code.{followedBy, _>>=_, byte, proposition, u16, encode, Codable}
@@ -15,7 +15,7 @@ use Rattle.prefix_code.proofs.Heads.{HeadAt}
 use Rattle.prefix_code.proofs.Forms.{inside-at}
 use Rattle.prop_lists.specs.declared.Listing.{Listing}
 use Rattle.prop_lists.specs.declared.Listing.the-variants.{Atoms, Datatypes}
-use Rattle.prop_lists.specs.Row.{encodeRow, CodableRow, rowCoding, Row, andAfter, readRow, propositionsFrom}
+use Rattle.prop_lists.specs.Row.{encodeRow, CodableRow, Row, andAfter, readRow, propositionsFrom}
 use Rattle.prop_lists.specs.Entries.{Entry, entries, entriesFrom, atomsFrom, datatypesFrom}
 
 -- A proposition is a head and its parts.

@@ -1,8 +1,8 @@
 -- A walk over the heads of a row: what the bytes of a head say of its entry, and how the walk goes on behind a head.
 use Prim.Native.Nat.{ℕ, _+_, _-_, _≤_, _<_}
-use mathlib.Core.Path.{_≡_, refl, sym, ap, _∙_}
+use mathlib.Core.Path.{_≡_, refl, _∙_}
 use mathlib.Core.Bool.{true, false, cond}
-use mathlib.Core.List.{List, [], _∷_, _++_, flatMap}
+use mathlib.Core.List.{List, [], _∷_, flatMap}
 use native.Mathlib.Omega.{arith}
 use lib.ListN.{length, drop, getD}
 use borrow.Author.Tests.{eqb-true, ltb-true, ne-eqb, lt-ltb, le-ltb}
@@ -17,7 +17,7 @@ use Rattle.prefix_code.proofs.Propositions.{headed}
 use Rattle.prop_lists.specs.declared.Listing.{Listing}
 use Rattle.prop_lists.specs.declared.Listing.the-variants.{Atoms, Datatypes}
 use Rattle.prop_lists.specs.Row.{Row, propositionsFrom, readRow}
-use Rattle.prop_lists.specs.Entries.{Entry, entriesFrom, hasEntry, Bounded, Passed, NextHead, NextEntry}
+use Rattle.prop_lists.specs.Entries.{Entry, entriesFrom, hasEntry, Bounds, Passed, NextHead, NextEntry}
 use Rattle.prop_lists.proofs.Rows.{headEntries, First, first}
 
 -- the entry by the bytes of its head: an atom's name and count, a quantifier's second name
@@ -56,14 +56,14 @@ module _ (names : ℕ) (code : List ℕ) (at : ℕ) where
 
   -- where a head has an entry, its bytes are there and are in bounds
   read-bounds : (h : Head) (rest : List ℕ) (listing : Listing) → HeadAt names code at h rest → hasEntry listing (getD code at 0) ≡ true
-      → (at + width listing ≤ length code) × (Bytes code → Bounded names listing (entryAt listing code at))
+      → (at + width listing ≤ length code) × (Bytes code → Bounds names listing (entryAt listing code at))
   unfolding hasEntry numberAt
   read-bounds h rest Atoms s e =
       let (a, ps, b) = head-bytes names code at h rest s .atom (eqb-true (getD code at 0) 5 e) in
-      (b .inside, λ bytes. (omega arith, omega (arith, bytes (at + 1), bytes (at + 1 + 1)), omega arith))
+      (b .inside, λ bytes. record { below = omega arith; small = omega (arith, bytes (at + 1), bytes (at + 1 + 1)); few = omega arith })
   read-bounds h rest Datatypes s e =
       let (q, x, t, b) = head-bytes names code at h rest s .quantified (ltb-true 5 (getD code at 0) e) in
-      (b .inside, λ bytes. (omega arith, omega (arith, bytes (at + 3), bytes (at + 3 + 1))))
+      (b .inside, λ bytes. record { below = omega arith; small = omega (arith, bytes (at + 3), bytes (at + 3 + 1)) })
 
 module _ (names : ℕ) (listing : Listing) (code : List ℕ) (at end : ℕ) where
   -- the walk starts with no head passed
@@ -98,6 +98,6 @@ module _ (names : ℕ) (listing : Listing) (code : List ℕ) (at end : ℕ) wher
         record {
           forward = omega (arith, headed names code i next ends (omega (arith, head-here .row)) .further);
           row = head-here .row;
-          bounded = read-bounds names code i (head-here .head) (drop next code) listing (head-here .stands) (w .has-entry h) .1 bytes;
+          bounds = read-bounds names code i (head-here .head) (drop next code) listing (head-here .stands) (w .has-entry h) .1 bytes;
           list = w .passed .same ∙ head-here .list listing ∙ rw one refl;
         }

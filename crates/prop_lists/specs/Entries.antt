@@ -1,5 +1,5 @@
 -- The atoms, or the datatypes, of the propositions in a row, and what a walk over the heads says of them.
-use Prim.Native.Nat.{ℕ, _+_, _≤_, _<_}
+use Prim.Native.Nat.{ℕ, _≤_, _<_}
 use mathlib.Core.Path.{_≡_}
 use mathlib.Core.Bool.{Bool, true}
 use mathlib.Core.List.{List, [], _∷_, flatMap}
@@ -15,6 +15,7 @@ use Rattle.prop_lists.specs.declared.NextDatatype.{NextDatatype}
 use Rattle.prop_lists.specs.declared.NextDatatype.the-variants as next-datatype
 use Rattle.prop_lists.specs.Row.{Row, propositionsFrom}
 
+-- what is listed: an atom's name and parameter count, or a datatype's name
 abbrev pub Entry : Listing → Type 0
 Entry Atoms = AtomUse ℕ
 Entry Datatypes = ℕ
@@ -23,7 +24,7 @@ abbrev pub entries : (listing : Listing) → Prop ℕ → List (Entry listing)
 entries Atoms = getAtoms
 entries Datatypes = getDatatypes
 
--- by its byte, a head has an entry: an atom's is 5, a quantifier's 6 or 7
+-- whether a head has an entry, by its byte: an atom's is 5, a quantifier's 6 or 7
 unfoldable pub hasEntry : Listing → ℕ → Bool
 hasEntry Atoms head = eqb head 5
 hasEntry Datatypes head = ltb 5 head
@@ -39,10 +40,19 @@ module _ (names : ℕ) where
   abbrev pub datatypesFrom : List ℕ → ℕ → ℕ → List ℕ
   datatypesFrom = entriesFrom Datatypes
 
-  -- a name's number is below `names` and has 16 bits, and a parameter count is below its limit
-  abbrev pub Bounded : (listing : Listing) → Entry listing → Type 0
-  Bounded Atoms a = (a .name < names) × (a .name < 65536) × (a .count ≤ parameterLimit)
-  Bounded Datatypes t = (t < names) × (t < 65536)
+  -- the bounds that an entry's numbers have by the code
+  pub record AtomBounds (a : AtomUse ℕ) : Type 0 where
+    pub below : a .name < names
+    pub small : a .name < 65536
+    pub few : a .count ≤ parameterLimit
+
+  pub record DatatypeBounds (t : ℕ) : Type 0 where
+    pub below : t < names
+    pub small : t < 65536
+
+  abbrev pub Bounds : (listing : Listing) → Entry listing → Type 0
+  Bounds Atoms = AtomBounds
+  Bounds Datatypes = DatatypeBounds
 
   module _ (listing : Listing) (code : List ℕ) (at end : ℕ) where
     -- no entry stands from `at` up to `i`
@@ -60,9 +70,10 @@ module _ (names : ℕ) where
     pub record NextEntry (entry : Entry listing) (next : ℕ) : Type 0 where
       pub forward : at < next
       pub row : Row names code next end
-      pub bounded : Bounded listing entry
+      pub bounds : Bounds listing entry
       pub list : entriesFrom listing code at end ≡ entry ∷ entriesFrom listing code next end
 
+  -- the answers of the walk: an entry, or the end, where none is left
   abbrev pub GivesAtom : List ℕ → ℕ → ℕ → NextAtom → Type 0
   GivesAtom code at end (next-atom.Atom name count next) =
       NextEntry Atoms code at end (record { name = name; count = count }) next
