@@ -15,7 +15,7 @@ use Rattle.prefix_code.proofs.Heads.{HeadAt}
 use Rattle.prefix_code.proofs.Forms.{inside-at}
 use Rattle.prop_lists.specs.declared.Listing.{Listing}
 use Rattle.prop_lists.specs.declared.Listing.the-variants.{Atoms, Datatypes}
-use Rattle.prop_lists.specs.Row.{encodeRow, CodableRow, Row, andAfter, readRow, propositionsFrom}
+use Rattle.prop_lists.specs.Row.{encodeRow, CodableRow, rowCoding, Row, andAfter, readRow, propositionsFrom}
 use Rattle.prop_lists.specs.Entries.{Entry, entries, entriesFrom, atomsFrom, datatypesFrom}
 
 -- A proposition is a head and its parts.
@@ -144,6 +144,30 @@ pub record First (names : ℕ) (code : List ℕ) (at end next : ℕ) : Type 0 wh
   pub row : Row names code next end
   pub list : (listing : Listing) → entriesFrom names listing code at end ≡ headEntries head listing ++ entriesFrom names listing code next end
 
+module _ (p : Prop ℕ) (ps : List (Prop ℕ)) where
+  -- the code of a row, and its entries: first those of the head, and then those of what stands behind it
+  row-code : encodeRow (p ∷ ps) ≡ encodeHead (headOf p) ++ encodeRow (parts p ++ ps)
+  unfolding flatMap
+  row-code = cc (
+    head-code p,
+    flatMap-append encode (parts p) ps,
+    append-assoc (encodeHead (headOf p)) (encodeRow (parts p)) (encodeRow ps),
+  )
+
+  row-list : (listing : Listing) → flatMap (entries listing) (p ∷ ps) ≡ headEntries (headOf p) listing ++ flatMap (entries listing) (parts p ++ ps)
+  unfolding flatMap
+  row-list listing = cc (
+    head-list p listing,
+    flatMap-append (entries listing) (parts p) ps,
+    append-assoc (headEntries (headOf p) listing) (flatMap (entries listing) (parts p)) (flatMap (entries listing) ps),
+  )
+
+  head-stands : (names : ℕ) (code : List ℕ) (at : ℕ) (rest : List ℕ) → Stands (rowCoding names) code at (p ∷ ps) rest
+      → HeadAt names code at (headOf p) (encodeRow (parts p ++ ps) ++ rest)
+  unfolding Stands CodableRow
+  head-stands names code at rest (g, e) =
+      (head-codable names p (g .0) .0, cc (row-code, append-assoc (encodeHead (headOf p)) (encodeRow (parts p ++ ps)) rest))
+
 module _ (names : ℕ) (code : List ℕ) (at end : ℕ) (row : Row names code at end) (before : at < end) where
   pub first : (next : ℕ) → Ends (headCoding names) code at next → First names code at end next
   unfolding Stands CodableRow flatMap
@@ -152,43 +176,22 @@ module _ (names : ℕ) (code : List ℕ) (at end : ℕ) (row : Row names code at
       go : (ps : List (Prop ℕ)) → row .propositions ≡ ps → First names code at end next
       go [] e = absurd (omega (arith, row-length names code at end row, ap (λ qs. length (encodeRow qs)) e))
       go (p ∷ ps) e =
-          let others : List (Prop ℕ) = parts p ++ ps in
-          let whole = rw e at (row .stands) in
-          let (good-head, good-parts) = head-codable names p (whole .0 .0) in
-          let behind : encodeRow others ≡ encodeRow (parts p) ++ encodeRow ps = flatMap-append encode (parts p) ps in
-          let here : drop at code ≡ encodeHead (headOf p) ++ (encodeRow others ++ drop end code) =
-          cc (
-            whole .1,
-            head-code p,
-            append-assoc (encodeHead (headOf p)) (encodeRow (parts p)) (encodeRow ps),
-            append-assoc (encodeHead (headOf p)) (encodeRow others) (drop end code),
-          )
-          in
-          let size : next ≡ at + length (encodeHead (headOf p)) = ends .found (headOf p) (encodeRow others ++ drop end code) (good-head, here) in
-          let there : drop next code ≡ encodeRow others ++ drop end code = rw size (after code at (encodeHead (headOf p)) (encodeRow others ++ drop end code) here) in
-          let next-row : Row names code next end =
-          record {
-            propositions = others;
-            stands = (codable-append names (parts p) ps good-parts (whole .0 .1), there);
-            forward = omega (
-              arith,
-              extent code at (encodeHead (headOf p)) (encodeRow others ++ drop end code) (omega arith) here,
-              length-append (encodeRow others) (drop end code),
-              length-drop end code,
-            );
+          let whole : Stands (rowCoding names) code at (p ∷ ps) (drop end code) = rw e at (row .stands) in
+          let rest : List ℕ = encodeRow (parts p ++ ps) ++ drop end code in
+          let here = head-stands p ps names code at (drop end code) whole in
+          let size = extent code at (encodeHead (headOf p)) rest (omega arith) (here .1) in
+          let ended : next ≡ at + length (encodeHead (headOf p)) = ends .found (headOf p) rest here in
+          let there : drop next code ≡ rest = rw ended (after code at (encodeHead (headOf p)) rest (here .1)) in
+          let behind : Row names code next end = record {
+            propositions = parts p ++ ps;
+            stands = (codable-append names (parts p) ps (head-codable names p (whole .0 .0) .1) (whole .0 .1), there);
+            forward = omega (arith, length-append (encodeRow (parts p ++ ps)) (drop end code), length-drop end code);
             inside = row .inside;
-          }
-          in
+          } in
           record {
             head = headOf p;
-            stands = (good-head, rw there here);
-            row = next-row;
-            list = λ listing. cc (
-              entries-row names code at end row listing,
-              entries-row names code next end next-row listing,
-              e,
-              head-list p listing,
-              flatMap-append (entries listing) (parts p) ps,
-              append-assoc (headEntries (headOf p) listing) (flatMap (entries listing) (parts p)) (flatMap (entries listing) ps),
-            );
+            stands = rw there here;
+            row = behind;
+            list = λ listing.
+                cc (entries-row names code at end row listing, e, row-list p ps listing, entries-row names code next end behind listing);
           }

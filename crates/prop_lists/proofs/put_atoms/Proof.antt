@@ -12,7 +12,9 @@ use Rattle.prop_lists.proofs.put_atoms.Statement.{statement}
 use Rattle.prop_lists.proofs.put_atoms.Tie as tie
 
 abbrev Inv-loop : tie.InvT-loop
-Inv-loop code at end names out₀ to write i₀ position₀ out i position = Row names code i end × Left (atomNumbers (atomsFrom names code at end)) (atomNumbers (atomsFrom names code i end)) write out₀ to out position
+Inv-loop code at end names out₀ to write i₀ position₀ out i position =
+    Row names code i end
+    × Left (atomNumbers (atomsFrom names code at end)) (atomNumbers (atomsFrom names code i end)) write out₀ to out position
 
 abbrev μ-loop : tie.MeasureT-loop
 μ-loop code at end names out₀ to write i₀ position₀ out i position = end - i

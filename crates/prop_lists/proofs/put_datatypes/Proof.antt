@@ -10,7 +10,9 @@ use Rattle.prop_lists.proofs.put_datatypes.Statement.{statement}
 use Rattle.prop_lists.proofs.put_datatypes.Tie as tie
 
 abbrev Inv-loop : tie.InvT-loop
-Inv-loop code at end names out₀ to write i₀ position₀ out i position = Row names code i end × Left (datatypesFrom names code at end) (datatypesFrom names code i end) write out₀ to out position
+Inv-loop code at end names out₀ to write i₀ position₀ out i position =
+    Row names code i end
+    × Left (datatypesFrom names code at end) (datatypesFrom names code i end) write out₀ to out position
 
 abbrev μ-loop : tie.MeasureT-loop
 μ-loop code at end names out₀ to write i₀ position₀ out i position = end - i
