@@ -1,0 +1,71 @@
+-- The memory closed over the entry that a lookup finds holds the context without that entry.
+use Prim.Native.Nat.{ℕ, zero, suc, _+_, _-_, _*_, _≤_, _<_}
+use mathlib.Core.Path.{_≡_, refl, sym, _∙_}
+use mathlib.Core.Option.{none, some}
+use mathlib.Core.List.{List}
+use native.Mathlib.Omega.{arith}
+use lib.ListN.{length}
+use Rattle.definitions.specs.Outcome.{foundAt}
+use Rattle.definitions.specs.Name.{Name}
+use Rattle.identifier_context.specs.declared.Lookup.{Lookup}
+use Rattle.identifier_context.specs.declared.Removed.the-variants.{Nothing, Latest}
+use Rattle.identifier_context.specs.Memory.{entrySize, entryAt, contextOf}
+use Rattle.identifier_context.specs.Promises.{latestAt, entryFound, closed, closedAt, removedAt, entryRemoved, lengthAfter, admitted, Removes}
+use Rattle.identifier_context.proofs.Stores.{shifted-before, shifted-in}
+use Rattle.identifier_context.proofs.Contexts.{entry-same}
+use Rattle.identifier_context.proofs.LatestEntry.{searched, found-below, found-latest, without-none, without-some}
+use Rattle.identifier_context.proofs.Lookups.{sought-latest, left-without}
+
+module _ (before : List ℕ) (n i : ℕ) (present : entrySize * suc n ≤ length before) (h : i ≤ n) where
+  -- an entry before the one that is taken out stays
+  closed-earlier : (j : ℕ) → j < i → entryAt before j ≡ entryAt (closed before (suc n) i) j
+  unfolding closed
+  closed-earlier j l =
+      entry-same before (closed before (suc n) i) j j
+      (λ k m. sym (shifted-before before (entrySize * i) (entrySize * (suc n - (i + 1))) (omega arith) (entrySize * j + k) (omega arith)))
+
+  -- and a later one is moved down
+  closed-later : (j : ℕ) → i ≤ j → j < n → entryAt before (suc j) ≡ entryAt (closed before (suc n) i) j
+  unfolding closed
+  closed-later j l m =
+      entry-same before (closed before (suc n) i) (suc j) j
+      (λ k below.
+      let into : entrySize * i + (entrySize * (j - i) + k) ≡ entrySize * j + k = omega arith in
+      let from : entrySize * i + entrySize + (entrySize * (j - i) + k) ≡ entrySize * suc j + k = omega arith in
+      sym (rw (into, from) at (shifted-in before (entrySize * i) (entrySize * (suc n - (i + 1))) (omega arith) (entrySize * (j - i) + k) (omega arith))))
+
+module _ {nameOf : ℕ → Name} {lookup : Lookup} {before : List ℕ} where
+  -- where the lookup finds nothing the memory stays
+  pub removes-nothing : {n : ℕ} → latestAt (admitted nameOf lookup) (contextOf before n) ≡ none → Removes nameOf lookup before before n Nothing
+  unfolding closedAt removedAt entryRemoved lengthAfter entryFound foundAt
+  removes-nothing {n} missing =
+      let search = rw missing at (searched (admitted nameOf lookup) before n) in
+      record {
+        memory = rw missing;
+        answer = rw missing;
+        entry = found-latest _ _ search ∙ sought-latest nameOf lookup (contextOf before n);
+        context = sym (without-none _ _ search) ∙ left-without nameOf lookup (contextOf before n);
+      }
+
+  -- else it is closed over the entry that is found
+  pub removes-entry : {n i : ℕ} → entrySize * n ≤ length before → latestAt (admitted nameOf lookup) (contextOf before n) ≡ some i
+      → Removes nameOf lookup before (closed before n i) n (Latest (entryAt before i) (n - 1))
+  unfolding closedAt removedAt entryRemoved lengthAfter entryFound foundAt
+  removes-entry {n = zero} present found =
+      let below = found-below _ _ (rw found at (searched (admitted nameOf lookup) before zero)) in absurd (omega arith)
+  removes-entry {n = suc n} {i} present found =
+      let search = rw found at (searched (admitted nameOf lookup) before (suc n)) in
+      let below : i < suc n = found-below _ _ search in
+      let one-less : suc n - 1 ≡ n = omega arith in
+      record {
+        memory = rw found;
+        answer = rw found;
+        entry = found-latest _ _ search ∙ sought-latest nameOf lookup (contextOf before (suc n));
+        context =
+            rw one-less
+            (sym
+            (without-some _ _ (closed before (suc n) i) n search
+            (closed-earlier before n i present (omega arith))
+            (closed-later before n i present (omega arith)))
+            ∙ left-without nameOf lookup (contextOf before (suc n)));
+      }
