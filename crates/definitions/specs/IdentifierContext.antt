@@ -27,7 +27,7 @@ IdentifierContext = List Entry
 unfoldable pub len : IdentifierContext → ℕ
 len context = length context
 
--- with one more entry, in memory that has room for so many
+-- the context with one more entry, in memory with room for so many
 unfoldable pub insert : ℕ → Entry → IdentifierContext → Outcome IdentifierContext
 insert room e context = do
   _ ← refuseIf (leb room (len context)) 16 0
@@ -47,7 +47,7 @@ module _ (wanted : Entry → Bool) where
 
 -- Of the name of each number:
 module _ (nameOf : ℕ → Name) where
-  -- an entry of that name, and one of that name and id
+  -- an entry has that name, or that name and id
   unfoldable pub hasName : Name → Entry → Bool
   hasName x e = eqName x (nameOf (e .identifier .name))
 
@@ -67,9 +67,9 @@ module _ (nameOf : ℕ → Name) where
   unfoldable pub remove : Identifier Name → IdentifierContext → IdentifierContext
   remove x context = withoutLatest (hasIdentifier x) context
 
-  -- the latest entry of each name, the latest first
   unfoldable pub sameName : Entry → Entry → Bool
   sameName a b = hasName (nameOf (a .identifier .name)) b
 
+  -- the latest entry of each name, the latest first
   unfoldable pub getAllVisible : IdentifierContext → List Entry
   getAllVisible context = firsts sameName context

@@ -1,11 +1,11 @@
 -- The context that lent memory holds is decided by the numbers of its entries.
-use Prim.Native.Nat.{ℕ, zero, suc, _+_, _*_, _≤_, _<_}
+use Prim.Native.Nat.{ℕ, zero, suc, _+_, _*_, _<_}
 use mathlib.Core.Path.{_≡_, refl, ap}
-use mathlib.Core.List.{List, [], _∷_}
+use mathlib.Core.List.{List}
 use native.Mathlib.Omega.{arith}
 use native.Mathlib.Nat.{add-zero}
 use lib.ListN.{length, getD}
-use Rattle.identifier_context.specs.Memory.{entrySize, nameAt, entryOf, entryAt, contextOf}
+use Rattle.identifier_context.specs.Memory.{entrySize, nameAt, entryAt, contextOf}
 
 pub context-length : (entries : List ℕ) (n : ℕ) → length (contextOf entries n) ≡ n
 unfolding contextOf

@@ -1,9 +1,9 @@
 -- The search for the latest entry that a test admits, from the latest entry down: where it ends, what it finds, and what is left without that.
 use Prim.Native.Nat.{ℕ, zero, suc, _≤_, _<_}
-use mathlib.Core.Path.{_≡_, refl, sym, ap, _∙_}
+use mathlib.Core.Path.{_≡_, refl}
 use mathlib.Core.Bool.{Bool, true, false}
 use mathlib.Core.Option.{Option, none, some}
-use mathlib.Core.List.{List, _∷_}
+use mathlib.Core.List.{List}
 use native.Mathlib.Omega.{arith}
 use Rattle.definitions.specs.Outcome.{foundAt}
 use Rattle.definitions.specs.IdentifierContext.{len, latest, withoutLatest}

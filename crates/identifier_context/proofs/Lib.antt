@@ -4,4 +4,6 @@ pub mod LatestEntry
 pub mod Lookups
 pub mod Insertion
 pub mod Removal
+pub mod Firsts
 pub mod Visibility
+pub mod Laws

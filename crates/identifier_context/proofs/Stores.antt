@@ -3,7 +3,6 @@ use Prim.Native.Nat.{ℕ, zero, suc, _+_, _≤_, _<_}
 use mathlib.Core.Path.{_≡_, refl, sym, _∙_}
 use mathlib.Core.List.{List, [], _∷_, _++_}
 use native.Mathlib.Omega.{arith}
-use native.Mathlib.Numerals.{add-one}
 use lib.ListN.{length, getD, take, drop, set, length-drop, length-set, List·getD-append}
 use lib.Seq.{sets, paste, paste-zero, paste-suc, drop-paste, drop-at, length-paste, length-paste-head, length-take-le, getD-set-same, getD-set-other, getD-take, getD-drop}
 use Rattle.identifier_context.specs.Memory.{entrySize}

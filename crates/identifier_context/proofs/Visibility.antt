@@ -1,7 +1,7 @@
 -- Which entries are visible: an entry is where the lookup of its own name finds it, and each in its turn is what `getAllVisible` lists next.
-use Prim.Native.Nat.{ℕ, zero, suc, _+_, _-_, _≤_, _<_}
-use mathlib.Core.Path.{_≡_, refl, sym, ap, _∙_}
-use mathlib.Core.Bool.{Bool, true, false, true≢false, _&&_, _||_, not, or-comm, or-assoc, or-false}
+use Prim.Native.Nat.{ℕ, zero, suc, _-_, _≤_, _<_}
+use mathlib.Core.Path.{_≡_, refl, sym, _∙_}
+use mathlib.Core.Bool.{Bool, true, false, true≢false, _&&_, not}
 use mathlib.Core.Option.{Option, none, some}
 use mathlib.Core.List.{List, [], _∷_, _++_}
 use native.Mathlib.Omega.{arith}
@@ -10,61 +10,16 @@ use lib.ListN.{length, take, drop, getD}
 use lib.Seq.{take-suc, drop-cons}
 use lib.Dec.{eqb}
 use borrow.Author.Tests.{eq-eqb, ne-eqb, not-true, not-false}
-use Rattle.definitions.specs.Name.{Name, eqName}
+use Rattle.definitions.specs.Name.{Name}
 use Rattle.definitions.specs.Text.{occurs, firstsAfter}
-use Rattle.definitions.specs.IdentifierContext.{len, hasName, sameName}
+use Rattle.definitions.specs.IdentifierContext.{len, sameName}
 use Rattle.definitions.specs.IdentifierContext as definition
-use Rattle.definitions.proofs.Names.{eqName-refl, eqName-true}
 use Rattle.identifier_context.specs.declared.Lookup.the-variants.{ByName}
 use Rattle.identifier_context.specs.Memory.{nameAt, entryOf, entryAt, contextOf}
 use Rattle.identifier_context.specs.Promises.{latestAt, admitted, isVisible, visibleBefore}
+use Rattle.identifier_context.proofs.Firsts.{listed, same-self, passed-over}
 use Rattle.identifier_context.proofs.Contexts.{context-length}
 use Rattle.identifier_context.proofs.LatestEntry.{Search, over, passes, ends, searched}
-
-module _ {A : Type 0} (same : A → A → Bool) where
-  occurs-last : (b e : A) (seen : List A) → occurs same b (seen ++ (e ∷ [])) ≡ (occurs same b seen || same b e)
-  unfolding occurs
-  occurs-last b e [] = or-false (same b e)
-  occurs-last b e (x ∷ seen) = rw (occurs-last b e seen) (sym (or-assoc (same b x) (occurs same b seen) (same b e)))
-
-  -- only what occurs in the list of those seen matters
-  firsts-seen : (seen also rest : List A) → ((b : A) → occurs same b seen ≡ occurs same b also)
-      → firstsAfter same seen rest ≡ firstsAfter same also rest
-  unfolding occurs firstsAfter
-  firsts-seen seen also [] alike = refl
-  firsts-seen seen also (a ∷ rest) alike =
-      rw (alike a, firsts-seen seen also rest alike, firsts-seen (a ∷ seen) (a ∷ also) rest (λ b. rw (alike b)))
-
-  -- one that does not occur there is listed next
-  listed : (seen : List A) (e : A) (rest : List A) → occurs same e seen ≡ false
-      → firstsAfter same seen (e ∷ rest) ≡ e ∷ firstsAfter same (seen ++ (e ∷ [])) rest
-  unfolding occurs firstsAfter
-  listed seen e rest new =
-      rw (new, firsts-seen (e ∷ seen) (seen ++ (e ∷ [])) rest (λ b. or-comm (same b e) (occurs same b seen) ∙ sym (occurs-last b e seen)))
-
-module _ (nameOf : ℕ → Name) where
-  same-self : (e : definition.Entry) → sameName nameOf e e ≡ true
-  unfolding sameName hasName
-  same-self e = eqName-refl (nameOf (e .identifier .name))
-
-  -- entries of one name occur in the same lists
-  occurs-alike : (a b : definition.Entry) → nameOf (a .identifier .name) ≡ nameOf (b .identifier .name) → (seen : List definition.Entry)
-      → occurs (sameName nameOf) a seen ≡ occurs (sameName nameOf) b seen
-  unfolding occurs sameName
-  occurs-alike a b same [] = refl
-  occurs-alike a b same (x ∷ seen) = rw (same, occurs-alike a b same seen)
-
-  -- one that occurs there is passed over
-  passed-over : (seen : List definition.Entry) (e : definition.Entry) (rest : List definition.Entry) → occurs (sameName nameOf) e seen ≡ true
-      → firstsAfter (sameName nameOf) seen (e ∷ rest) ≡ firstsAfter (sameName nameOf) (seen ++ (e ∷ [])) rest
-  unfolding firstsAfter sameName hasName
-  passed-over seen e rest old =
-      rw old (firsts-seen (sameName nameOf) seen (seen ++ (e ∷ [])) rest (λ b. go b (sameName nameOf b e) refl))
-    where
-      go : (b : definition.Entry) (t : Bool) → sameName nameOf b e ≡ t
-          → occurs (sameName nameOf) b seen ≡ occurs (sameName nameOf) b (seen ++ (e ∷ []))
-      go b true h = rw (occurs-last (sameName nameOf) b e seen, h, occurs-alike b e (eqName-true h) seen, old)
-      go b false h = rw (occurs-last (sameName nameOf) b e seen, h) (sym (or-false _))
 
 -- an index was found, and it is this one
 unfoldable pub isAt : Option ℕ → ℕ → Bool

@@ -4,9 +4,9 @@ use mathlib.Core.Bool.{cond}
 use mathlib.Core.List.{List, [], _∷_}
 use lib.ListN.{length, getD}
 use lib.Dec.{eqb}
+use Rattle.definitions.specs.Sheet.{pairSize, pairEnd}
 use Rattle.definitions.specs.IdentifierContext.{EntryType, proposition, datatype, IdentifierContext}
 use Rattle.definitions.specs.IdentifierContext as definition
-use Rattle.identifier.specs.Pairs.{PairsWithin}
 use Rattle.identifier_context.specs.declared.Entry.{Entry}
 
 -- the numbers of an entry
@@ -23,7 +23,7 @@ entryOf e = record { identifier = record { name = e .name; uniqueId = e .id }; t
 
 -- Of the lent memory:
 module _ (entries : List ℕ) where
-  -- the name of the entry of an index
+  -- the name's number in the entry of an index
   unfoldable pub nameAt : ℕ → ℕ
   nameAt i = getD entries (entrySize * i) 0
 
@@ -37,12 +37,17 @@ module _ (entries : List ℕ) where
         number = getD entries (entrySize * i + 3) 0;
       }
 
-  -- the context of the first entries
+  -- the context of the first n entries
   unfoldable pub contextOf : ℕ → IdentifierContext
   contextOf zero = []
   contextOf (suc n) = entryOf (entryAt n) ∷ contextOf n
 
--- What each operation asks of the memory, its count and the sheet's names: the entries are there, and so are their names.
-pub record Holds (pairs text entries : List ℕ) (len : ℕ) : Type 0 where
-  pub present : entrySize * len ≤ length entries
-  pub named : (i : ℕ) → i < len → PairsWithin pairs text (nameAt entries i)
+-- A number that the sheet's checks admit as a name: its pair is there, and ends within the text.
+pub record NameWithin (pairs text : List ℕ) (name : ℕ) : Type 0 where
+  pub present : pairSize * (name + 1) ≤ length pairs
+  pub ends : pairEnd pairs name ≤ length text
+
+-- What an operation asks of the lent memory: the first n entries are there, and their names are names.
+pub record Holds (pairs text entries : List ℕ) (n : ℕ) : Type 0 where
+  pub present : entrySize * n ≤ length entries
+  pub named : (i : ℕ) → i < n → NameWithin pairs text (nameAt entries i)

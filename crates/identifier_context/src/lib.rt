@@ -6,13 +6,12 @@ use identifier::pair_length;
 use identifier::pair_offset;
 use identifier::same_name;
 ghost use mathlib.Core.Path.{_≡_};
-ghost use Prim.Native.Nat.{_+_, _*_, _≤_, _<_};
+ghost use Prim.Native.Nat.{_+_, _-_, _*_, _≤_, _<_};
 ghost use lib.ListN.{length};
 ghost use Rattle.definitions.specs.Name.{eqName};
 ghost use Rattle.definitions.specs.Sheet.{marked};
-ghost use Rattle.identifier.specs.Pairs.{PairsWithin};
-ghost use Rattle.identifier_context.specs.Memory.{Holds, entrySize, nameAt, entryOf, entryAt, contextOf};
-ghost use Rattle.identifier_context.specs.Promises.{Inserts, Finds, Removes, nameAsked, admitted, shifted, isVisible, visibleBefore, visibleFrom};
+ghost use Rattle.identifier_context.specs.Memory.{NameWithin, Holds, entrySize, nameAt, entryOf, entryAt, contextOf};
+ghost use Rattle.identifier_context.specs.Promises.{Inserts, Finds, Removes, nameAsked, admitted, shifted, closed, isVisible, visibleBefore, visibleFrom};
 
 // The numbers of an entry.
 pub const ENTRY_SIZE: usize = 4;
@@ -77,7 +76,7 @@ pub fn entry_at(entries: &[u16], i: usize) -> Entry
 
 // The bytes of the name of a number.
 fn name_bytes<'a>(pairs: &[u8], text: &'a [u8], name: u16) -> &'a [u8]
-    requires { ⌜ PairsWithin (now pairs) (now text) name ⌝ }
+    requires { ⌜ NameWithin (now pairs) (now text) name ⌝ }
     ensures { λ r. ⌜ now r ≡ marked (now (pairs .entry)) (now (text .entry)) name ⌝ }
 {
     let start = pair_offset(pairs, name as usize);
@@ -87,7 +86,7 @@ fn name_bytes<'a>(pairs: &[u8], text: &'a [u8], name: u16) -> &'a [u8]
 
 // Whether two numbers stand for the same name.
 fn same_bytes(pairs: &[u8], text: &[u8], a: u16, b: u16) -> bool
-    requires { ⌜ PairsWithin (now pairs) (now text) a × PairsWithin (now pairs) (now text) b ⌝ }
+    requires { ⌜ NameWithin (now pairs) (now text) a × NameWithin (now pairs) (now text) b ⌝ }
     ensures { λ r. ⌜ r ≡ eqName
         (marked (now (pairs .entry)) (now (text .entry)) a)
         (marked (now (pairs .entry)) (now (text .entry)) b) ⌝ }
@@ -98,9 +97,10 @@ fn same_bytes(pairs: &[u8], text: &[u8], a: u16, b: u16) -> bool
 // Whether a lookup admits the entry of an index.
 fn admits(entries: &[u16], i: usize, pairs: &[u8], text: &[u8], lookup: Lookup) -> bool
     requires { ⌜ (entrySize * (i + 1) ≤ length (now entries))
-        × PairsWithin (now pairs) (now text) (nameAt (now entries) i)
-        × PairsWithin (now pairs) (now text) (nameAsked lookup) ⌝ }
-    ensures { λ r. ⌜ r ≡ admitted (marked (now (pairs .entry)) (now (text .entry))) lookup (entryOf (entryAt (now (entries .entry)) i)) ⌝ }
+        × NameWithin (now pairs) (now text) (nameAt (now entries) i)
+        × NameWithin (now pairs) (now text) (nameAsked lookup) ⌝ }
+    ensures { λ r. ⌜ r ≡ admitted (marked (now (pairs .entry)) (now (text .entry))) lookup
+        (entryOf (entryAt (now (entries .entry)) i)) ⌝ }
 {
     let entry = entry_at(entries, i);
     match lookup {
@@ -116,34 +116,38 @@ fn admits(entries: &[u16], i: usize, pairs: &[u8], text: &[u8], lookup: Lookup) 
 
 // The index of the latest entry that a lookup admits.
 fn find(entries: &[u16], len: usize, pairs: &[u8], text: &[u8], lookup: Lookup) -> Found
-    requires { ⌜ Holds (now pairs) (now text) (now entries) len × PairsWithin (now pairs) (now text) (nameAsked lookup) ⌝ }
+    requires { ⌜ Holds (now pairs) (now text) (now entries) len × NameWithin (now pairs) (now text) (nameAsked lookup) ⌝ }
     ensures { λ r. ⌜ Finds (marked (now (pairs .entry)) (now (text .entry))) lookup (now (entries .entry)) len r ⌝ }
 {
-    let mut i = len;
-    while 0 < i {
-        i -= 1;
+    let mut left = len;
+    while 0 < left {
+        let i = left - 1;
         if admits(entries, i, pairs, text, lookup) {
             return Found::At(i);
         }
+        left -= 1;
     }
     Found::Nowhere
 }
 
+// The index of the latest entry of a name.
 pub fn get_by_name(entries: &[u16], len: usize, pairs: &[u8], text: &[u8], name: u16) -> Found
-    requires { ⌜ Holds (now pairs) (now text) (now entries) len × PairsWithin (now pairs) (now text) name ⌝ }
+    requires { ⌜ Holds (now pairs) (now text) (now entries) len × NameWithin (now pairs) (now text) name ⌝ }
     ensures { λ r. ⌜ Finds (marked (now (pairs .entry)) (now (text .entry))) (Lookup.ByName name) (now (entries .entry)) len r ⌝ }
 {
     find(entries, len, pairs, text, Lookup::ByName(name))
 }
 
+// The index of the latest entry of a name and an id.
 pub fn get(entries: &[u16], len: usize, pairs: &[u8], text: &[u8], name: u16, id: u16) -> Found
-    requires { ⌜ Holds (now pairs) (now text) (now entries) len × PairsWithin (now pairs) (now text) name ⌝ }
-    ensures { λ r. ⌜ Finds (marked (now (pairs .entry)) (now (text .entry))) (Lookup.ByIdentifier name id) (now (entries .entry)) len r ⌝ }
+    requires { ⌜ Holds (now pairs) (now text) (now entries) len × NameWithin (now pairs) (now text) name ⌝ }
+    ensures { λ r. ⌜ Finds (marked (now (pairs .entry)) (now (text .entry))) (Lookup.ByIdentifier name id)
+        (now (entries .entry)) len r ⌝ }
 {
     find(entries, len, pairs, text, Lookup::ByIdentifier(name, id))
 }
 
-// Moves numbers one entry down, to a place and those after it.
+// Replaces so many numbers, from a place on, by those that stand one entry later.
 fn shift_down(entries: &mut [u16], at: usize, count: usize)
     requires { ⌜ at + entrySize + count ≤ length (now entries) ⌝ }
     ensures { λ r. ⌜ now (entries .exit) ≡ shifted (now (entries .entry)) at count ⌝ }
@@ -155,6 +159,17 @@ fn shift_down(entries: &mut [u16], at: usize, count: usize)
     }
 }
 
+// Takes out the entry of an index.
+fn take_out(entries: &mut [u16], len: usize, i: usize) -> Removed
+    requires { ⌜ (i < len) × (entrySize * len ≤ length (now entries)) ⌝ }
+    ensures { λ r. ⌜ (r ≡ Removed.Latest (entryAt (now (entries .entry)) i) (len - 1))
+        × (now (entries .exit) ≡ closed (now (entries .entry)) len i) ⌝ }
+{
+    let entry = entry_at(entries, i);
+    shift_down(entries, ENTRY_SIZE * i, ENTRY_SIZE * (len - (i + 1)));
+    Removed::Latest(entry, len - 1)
+}
+
 // Takes out the latest entry that a lookup admits.
 fn remove_latest(
     entries: &mut [u16],
@@ -163,17 +178,17 @@ fn remove_latest(
     text: &[u8],
     lookup: Lookup,
 ) -> Removed
-    requires { ⌜ Holds (now pairs) (now text) (now entries) len × PairsWithin (now pairs) (now text) (nameAsked lookup) ⌝ }
-    ensures { λ r. ⌜ Removes (marked (now (pairs .entry)) (now (text .entry))) lookup (now (entries .entry)) (now (entries .exit)) len r ⌝ }
+    requires { ⌜ Holds (now pairs) (now text) (now entries) len × NameWithin (now pairs) (now text) (nameAsked lookup) ⌝ }
+    ensures { λ r. ⌜ Removes (marked (now (pairs .entry)) (now (text .entry))) lookup
+        (now (entries .entry)) (now (entries .exit)) len r ⌝ }
 {
     let Found::At(i) = find(entries, len, pairs, text, lookup) else {
         return Removed::Nothing;
     };
-    let entry = entry_at(entries, i);
-    shift_down(entries, ENTRY_SIZE * i, ENTRY_SIZE * (len - (i + 1)));
-    Removed::Latest(entry, len - 1)
+    take_out(entries, len, i)
 }
 
+// Takes out the latest entry of a name.
 pub fn remove_by_name(
     entries: &mut [u16],
     len: usize,
@@ -181,12 +196,14 @@ pub fn remove_by_name(
     text: &[u8],
     name: u16,
 ) -> Removed
-    requires { ⌜ Holds (now pairs) (now text) (now entries) len × PairsWithin (now pairs) (now text) name ⌝ }
-    ensures { λ r. ⌜ Removes (marked (now (pairs .entry)) (now (text .entry))) (Lookup.ByName name) (now (entries .entry)) (now (entries .exit)) len r ⌝ }
+    requires { ⌜ Holds (now pairs) (now text) (now entries) len × NameWithin (now pairs) (now text) name ⌝ }
+    ensures { λ r. ⌜ Removes (marked (now (pairs .entry)) (now (text .entry))) (Lookup.ByName name)
+        (now (entries .entry)) (now (entries .exit)) len r ⌝ }
 {
     remove_latest(entries, len, pairs, text, Lookup::ByName(name))
 }
 
+// Takes out the latest entry of a name and an id.
 pub fn remove(
     entries: &mut [u16],
     len: usize,
@@ -195,8 +212,9 @@ pub fn remove(
     name: u16,
     id: u16,
 ) -> Removed
-    requires { ⌜ Holds (now pairs) (now text) (now entries) len × PairsWithin (now pairs) (now text) name ⌝ }
-    ensures { λ r. ⌜ Removes (marked (now (pairs .entry)) (now (text .entry))) (Lookup.ByIdentifier name id) (now (entries .entry)) (now (entries .exit)) len r ⌝ }
+    requires { ⌜ Holds (now pairs) (now text) (now entries) len × NameWithin (now pairs) (now text) name ⌝ }
+    ensures { λ r. ⌜ Removes (marked (now (pairs .entry)) (now (text .entry))) (Lookup.ByIdentifier name id)
+        (now (entries .entry)) (now (entries .exit)) len r ⌝ }
 {
     remove_latest(entries, len, pairs, text, Lookup::ByIdentifier(name, id))
 }
@@ -219,15 +237,16 @@ pub fn next_visible(entries: &[u16], len: usize, pairs: &[u8], text: &[u8], befo
     ensures { λ r. ⌜ visibleFrom (marked (now (pairs .entry)) (now (text .entry))) (now (entries .entry)) len r
         ≡ visibleBefore (marked (now (pairs .entry)) (now (text .entry))) (contextOf (now (entries .entry)) len) before ⌝ }
 {
-    let mut i = before;
-    if len < i {
-        i = len;
+    let mut left = before;
+    if len < left {
+        left = len;
     }
-    while 0 < i {
-        i -= 1;
-        if is_visible(entries, len, pairs, text, i) {
-            return Found::At(i);
+    while 0 < left {
+        let next = left - 1;
+        if is_visible(entries, len, pairs, text, next) {
+            return Found::At(next);
         }
+        left -= 1;
     }
     Found::Nowhere
 }

@@ -1,13 +1,7 @@
--- A name is asked for by its bytes; an entry with another id is not the one of a name and an id.
-use mathlib.Core.Path.{_≡_, sym}
-use mathlib.Core.Bool.{and-false, and-true}
-use borrow.Author.Tests.{eq-eqb, ne-eqb}
-use Rattle.definitions.specs.Tree.{renameIdentifier}
-use Rattle.definitions.specs.Comparison.{eqIdentifier}
-use Rattle.definitions.specs.IdentifierContext.{hasName, hasIdentifier}
-use Rattle.identifier_context.specs.Memory.{entryOf, entryAt}
-use Rattle.identifier_context.specs.Promises.{identifierOf, admitted}
+-- The name that is asked for is in the lookup, and the entry's numbers are those of the index.
 use borrow.Author.Needs.{needs}
+use Rattle.identifier_context.specs.Memory.{entryAt}
+use Rattle.identifier_context.proofs.Lookups.{admits-name, admits-no-other-id, admits-identifier}
 use Rattle.identifier_context.proofs.admits.Statement.{statement}
 use Rattle.identifier_context.proofs.admits.Tie as tie
 
@@ -19,26 +13,31 @@ enum-known-lookup c = search needs
 
 same-bytes-requires : tie.Need-same-bytes-requires
 unfolding entryAt
-same-bytes-requires c κs = (rw (c .before .lookup .given .1) at (c .before .before .before .before .before .before .before .pre .2), rw (c .before .before .before .entry-at .ensures) (c .before .before .before .before .before .before .before .pre .1))
+same-bytes-requires c κs =
+    let pre = c .before .before .before .before .before .before .before .pre in
+    (rw (c .before .lookup .given .1) at (pre .2), rw (c .before .before .before .entry-at .ensures) (pre .1))
 
 enum-known-lookup-2 : tie.Need-enum-known-lookup-2
 enum-known-lookup-2 c = search needs
 
 returns : tie.Need-returns
-unfolding admitted hasIdentifier eqIdentifier renameIdentifier identifierOf entryOf entryAt
-returns c = rw (c .before .before .before .lookup2 .given .1, ne-eqb _ _ (λ e. c .if1 .taken (rw (c .before .before .before .before .before .entry-at .ensures) (sym e))), and-false)
+returns c =
+    admits-no-other-id _ _ _ (c .before .before .before .lookup2 .given .1) (c .before .before .before .before .before .entry-at .ensures) (c .if1 .taken)
 
 same-bytes-requires-2 : tie.Need-same-bytes-requires-2
 unfolding entryAt
-same-bytes-requires-2 c κs = (rw (c .before .before .before .lookup2 .given .1) at (c .before .before .before .before .before .before .before .before .before .pre .2), rw (c .before .before .before .before .before .entry-at .ensures) (c .before .before .before .before .before .before .before .before .before .pre .1))
+same-bytes-requires-2 c κs =
+    let pre = c .before .before .before .before .before .before .before .before .before .pre in
+    (rw (c .before .before .before .lookup2 .given .1) at (pre .2), rw (c .before .before .before .before .before .entry-at .ensures) (pre .1))
 
 returns-2 : tie.Need-returns-2
-unfolding admitted hasName entryOf entryAt
-returns-2 c = rw (c .before .before .lookup .given .1) (rw (c .before .before .before .before .entry-at .ensures) at (c .same-bytes .ensures))
+returns-2 c =
+    admits-name _ _ _ (c .before .before .lookup .given .1) (c .before .before .before .before .entry-at .ensures) (c .same-bytes .ensures)
 
 returns-3 : tie.Need-returns-3
-unfolding admitted hasIdentifier eqIdentifier renameIdentifier identifierOf entryOf entryAt
-returns-3 c = rw (c .before .before .before .before .lookup2 .given .1, eq-eqb _ _ (sym (rw (c .before .before .before .before .before .before .entry-at .ensures) at (c .before .if1 .left))), and-true) (rw (c .before .before .before .before .before .before .entry-at .ensures) at (c .same-bytes2 .ensures))
+returns-3 c =
+    admits-identifier _ _ _ (c .before .before .before .before .lookup2 .given .1)
+    (c .before .before .before .before .before .before .entry-at .ensures) (c .before .if1 .left) (c .same-bytes2 .ensures)
 
 pub admits-spec : {M : Type 1} → statement M
 admits-spec =

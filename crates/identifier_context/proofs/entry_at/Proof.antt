@@ -1,7 +1,7 @@
 -- The four reads are the entry's numbers.
 use mathlib.Core.Path.{refl}
-use Rattle.identifier_context.specs.Memory.{nameAt, entryAt}
 use borrow.Author.Needs.{needs}
+use Rattle.identifier_context.specs.Memory.{nameAt, entryAt}
 use Rattle.identifier_context.proofs.entry_at.Tie as tie
 use Rattle.identifier_context.proofs.entry_at.Statement.{statement}
 

@@ -2,13 +2,13 @@
 use native.Mathlib.Omega.{arith}
 use native.Mathlib.Numerals.{add-one, add-two, add-three}
 use lib.ListN.{length-set}
-use Rattle.identifier_context.proofs.Insertion.{inserts-nothing, inserts-entry}
 use borrow.Author.Needs.{needs}
+use Rattle.identifier_context.proofs.Insertion.{inserts-nothing, inserts-entry}
 use Rattle.identifier_context.proofs.insert.Statement.{statement}
 use Rattle.identifier_context.proofs.insert.Tie as tie
 
 returns : tie.Need-returns
-returns c = inserts-nothing (c .if1 .taken)
+returns c = inserts-nothing (omega arith)
 
 mul-at : tie.Need-mul-at
 mul-at c = search needs
@@ -53,7 +53,7 @@ same-length : tie.Need-same-length
 same-length c = search needs
 
 returns-2 : tie.Need-returns-2
-returns-2 c = simp (add-one, add-two, add-three) (inserts-entry _ _ _ (c .if1 .left))
+returns-2 c = simp (add-one, add-two, add-three) (inserts-entry _ _ _ (omega arith))
 
 pub insert-spec : {M : Type 1} → statement M
 insert-spec =

@@ -1,9 +1,8 @@
 -- The lookup of the entry's own name finds this entry or a later one.
-use mathlib.Core.Path.{sym, _∙_}
+use borrow.Author.Needs.{needs}
 use Rattle.identifier_context.specs.Memory.{entryAt}
 use Rattle.identifier_context.proofs.Lookups.{index-found, index-missing}
 use Rattle.identifier_context.proofs.Visibility.{isAt, visible-at}
-use borrow.Author.Needs.{needs}
 use Rattle.identifier_context.proofs.is_visible.Statement.{statement}
 use Rattle.identifier_context.proofs.is_visible.Tie as tie
 
@@ -12,7 +11,9 @@ entry-at-requires c κs = search needs
 
 find-requires : tie.Need-find-requires
 unfolding entryAt
-find-requires c κs = (c .before .before .before .before .pre .0, rw (c .entry-at .ensures) (c .before .before .before .before .pre .0 .named _ (c .before .before .before .before .pre .1)))
+find-requires c κs =
+    let pre = c .before .before .before .before .pre in
+    (pre .0, rw (c .entry-at .ensures) (pre .0 .named _ (pre .1)))
 
 enum-known-latest : tie.Need-enum-known-latest
 enum-known-latest c = search needs
@@ -24,13 +25,13 @@ returns : tie.Need-returns
 unfolding isAt entryAt
 returns c =
     let index = rw (c .before .before .before .entry-at .ensures) at (c .before .before .find .ensures .index) in
-    visible-at _ _ (c .before .before .before .before .before .before .before .pre .1) (index-missing _ (sym (c .enum-told .given .1) ∙ index))
+    visible-at _ _ (c .before .before .before .before .before .before .before .pre .1) (index-missing _ (c .enum-told .given .1) index)
 
 returns-2 : tie.Need-returns-2
 unfolding isAt entryAt
 returns-2 c =
     let index = rw (c .before .before .before .before .entry-at .ensures) at (c .before .before .before .find .ensures .index) in
-    visible-at _ _ (c .before .before .before .before .before .before .before .before .pre .1) (index-found _ (sym (c .before .latest .given .1) ∙ index))
+    visible-at _ _ (c .before .before .before .before .before .before .before .before .pre .1) (index-found _ (c .before .latest .given .1) index)
 
 pub is-visible-spec : {M : Type 1} → statement M
 is-visible-spec =

@@ -1,10 +1,9 @@
 -- The pair of the number marks a part of the text.
 use Prim.Native.Nat.{_+_, _-_}
 use mathlib.Core.Path.{_≡_}
-use native.Mathlib.Nat.{le-refl}
 use native.Mathlib.Omega.{arith}
-use Rattle.definitions.specs.Sheet.{pairEnd, marked}
 use borrow.Author.Needs.{needs}
+use Rattle.definitions.specs.Sheet.{pairEnd, marked}
 use Rattle.identifier_context.proofs.name_bytes.Statement.{statement}
 use Rattle.identifier_context.proofs.name_bytes.Tie as tie
 
@@ -16,7 +15,7 @@ pair-length-requires c κs = search needs
 
 add-end : tie.Need-add-end
 unfolding pairEnd
-add-end c = omega (arith, c .before .before .before .before .pre .ends (c .before .before .before .before .args .name) (le-refl _))
+add-end c = omega (arith, c .before .before .before .before .pre .ends)
 
 sub-result : tie.Need-sub-result
 sub-result c = search needs
@@ -26,12 +25,13 @@ part-result-start c = search needs
 
 part-result-end : tie.Need-part-result-end
 unfolding pairEnd
-part-result-end c = omega (arith, c .before .before .before .before .pre .ends (c .before .before .before .before .args .name) (le-refl _))
+part-result-end c = omega (arith, c .before .before .before .before .pre .ends)
 
 returns : tie.Need-returns
 unfolding marked
 returns c =
-    let size : c .before .before .pair-offset .result + c .before .pair-length .result - c .before .before .pair-offset .result ≡ c .before .pair-length .result = omega arith in
+    let start = c .before .before .pair-offset .result in
+    let size : start + c .before .pair-length .result - start ≡ c .before .pair-length .result = omega arith in
     rw (size, c .before .before .pair-offset .ensures, c .before .pair-length .ensures)
 
 pub name-bytes-spec : {M : Type 1} → statement M

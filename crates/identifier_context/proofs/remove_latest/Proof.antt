@@ -1,10 +1,7 @@
--- The entry of the index that is found is read, and the later ones are moved over it.
-use mathlib.Core.Path.{sym, _∙_}
-use native.Mathlib.Omega.{arith}
-use Rattle.identifier_context.specs.Promises.{closed}
+-- The entry of the index that the lookup finds is taken out.
+use borrow.Author.Needs.{needs}
 use Rattle.identifier_context.proofs.Lookups.{index-found, index-missing}
 use Rattle.identifier_context.proofs.Removal.{removes-nothing, removes-entry}
-use borrow.Author.Needs.{needs}
 use Rattle.identifier_context.proofs.remove_latest.Statement.{statement}
 use Rattle.identifier_context.proofs.remove_latest.Tie as tie
 
@@ -21,37 +18,20 @@ same-length : tie.Need-same-length
 same-length c = search needs
 
 returns : tie.Need-returns
-returns c = removes-nothing (index-missing _ (sym (c .enum-told .given .1) ∙ c .before .before .find .ensures .index))
+returns c = removes-nothing (index-missing _ (c .enum-told .given .1) (c .before .before .find .ensures .index))
 
-entry-at-requires : tie.Need-entry-at-requires
-entry-at-requires c κs = omega (arith, c .before .before .before .before .before .before .before .before .before .pre .0 .present, c .before .before .before .before .find .ensures .below _ (c .before .before .i .given .1))
-
-mul-shift-down : tie.Need-mul-shift-down
-mul-shift-down c = omega (arith, c .before .before .before .before .before .before .before .before .before .before .before .pre .0 .present, c .before .before .before .before .before .before .find .ensures .below _ (c .before .before .before .before .i .given .1))
-
-add-shift-down : tie.Need-add-shift-down
-add-shift-down c = omega (arith, c .before .before .before .before .before .before .find .ensures .below _ (c .before .before .before .before .i .given .1))
-
-sub-shift-down : tie.Need-sub-shift-down
-sub-shift-down c = omega (arith, c .before .before .before .before .before .before .find .ensures .below _ (c .before .before .before .before .i .given .1))
-
-mul-shift-down-2 : tie.Need-mul-shift-down-2
-mul-shift-down-2 c = search needs
-
-shift-down-requires : tie.Need-shift-down-requires
-shift-down-requires c κs = omega (arith, c .before .before .before .before .before .before .before .before .before .before .before .pre .0 .present, c .before .before .before .before .before .before .find .ensures .below _ (c .before .before .before .before .i .given .1))
-
-sub-t16 : tie.Need-sub-t16
-sub-t16 c = omega (arith, c .before .before .before .before .before .before .before .before .before .find .ensures .below _ (c .before .before .before .before .before .before .before .i .given .1))
+take-out-requires : tie.Need-take-out-requires
+take-out-requires c κs =
+    (c .before .before .before .before .find .ensures .below _ (c .before .before .i .given .1), c .before .before .before .before .before .before .before .before .before .pre .0 .present)
 
 same-length-2 : tie.Need-same-length-2
 same-length-2 c = search needs
 
 returns-2 : tie.Need-returns-2
-unfolding closed
 returns-2 c =
-    rw (c .before .before .shift-down .ensures, c .before .before .before .before .entry-at .ensures)
-    (removes-entry (c .before .before .before .before .before .before .before .before .before .before .before .before .before .before .pre .0 .present) (index-found _ (sym (c .before .before .before .before .before .before .before .i .given .1) ∙ c .before .before .before .before .before .before .before .before .before .find .ensures .index)))
+    rw (c .before .before .take-out .ensures .0, c .before .before .take-out .ensures .1)
+    (removes-entry (c .before .before .before .before .before .before .before .before .before .before .before .before .pre .0 .present)
+    (index-found _ (c .before .before .before .before .before .i .given .1) (c .before .before .before .before .before .before .before .find .ensures .index)))
 
 pub remove-latest-spec : {M : Type 1} → statement M
 remove-latest-spec =
@@ -62,12 +42,6 @@ remove-latest-spec =
     enum-told
     same-length
     returns
-    entry-at-requires
-    mul-shift-down
-    add-shift-down
-    sub-shift-down
-    mul-shift-down-2
-    shift-down-requires
-    sub-t16
+    take-out-requires
     same-length-2
     returns-2)

@@ -1,5 +1,4 @@
 -- The names' bytes are compared.
-use mathlib.Core.Path.{_≡_}
 use borrow.Author.Needs.{needs}
 use Rattle.identifier_context.proofs.same_bytes.Statement.{statement}
 use Rattle.identifier_context.proofs.same_bytes.Tie as tie

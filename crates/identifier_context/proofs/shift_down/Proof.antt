@@ -1,12 +1,12 @@
 -- The invariant: so many numbers are moved.
-use Prim.Native.Nat.{suc, _+_, _-_, _≤_}
+use Prim.Native.Nat.{_-_, _≤_}
 use mathlib.Core.Path.{_≡_, refl}
 use native.Mathlib.Omega.{arith}
 use native.Mathlib.Numerals.{add-one}
 use lib.ListN.{length, length-set}
+use borrow.Author.Needs.{needs}
 use Rattle.identifier_context.specs.Promises.{shifted}
 use Rattle.identifier_context.proofs.Stores.{shifted-none, shifted-more}
-use borrow.Author.Needs.{needs}
 use Rattle.identifier_context.proofs.shift_down.Statement.{statement}
 use Rattle.identifier_context.proofs.shift_down.Tie as tie
 
