@@ -5,12 +5,16 @@ use mathlib.Core.List.{List}
 use native.Mathlib.Omega.{arith}
 use native.Mathlib.Nat.{add-zero}
 use lib.ListN.{length, getD}
-use Rattle.identifier_context.specs.Memory.{entrySize, nameAt, entryAt, contextOf}
+use Rattle.identifier_context.specs.Memory.{entrySize, nameAt, entryAt, contextOf, Holds}
 
 pub context-length : (entries : List ℕ) (n : ℕ) → length (contextOf entries n) ≡ n
 unfolding contextOf
 context-length entries zero = refl
 context-length entries (suc n) = ap suc (context-length entries n)
+
+-- lent memory holds the empty context, whatever its numbers are
+pub empty-holds : {pairs text entries : List ℕ} → Holds pairs text entries 0
+empty-holds = record { present = omega arith; named = λ i h. absurd (omega arith) }
 
 module _ (a b : List ℕ) where
   -- two entries are the same where their four numbers are
