@@ -1,0 +1,11 @@
+pub mod Either
+pub mod Outcomes
+pub mod Upward
+pub mod Searched
+pub mod Ranges
+pub mod Slices
+pub mod Placed
+pub mod Stages
+pub mod Order
+pub mod Given
+pub mod Admitted

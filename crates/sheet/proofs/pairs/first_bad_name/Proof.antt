@@ -1,0 +1,56 @@
+-- The names are judged in their order.
+use Prim.Native.Nat.{_-_}
+use native.Mathlib.Omega.{arith}
+use Rattle.definitions.specs.Sheet.{pairSize}
+use Rattle.definitions.specs.Admission.{badName}
+use Rattle.sheet.proofs.Upward.{Passed, at-start, onward, found, nowhere}
+use Rattle.sheet.proofs.pairs.first_bad_name.Statement.{statement}
+use Rattle.sheet.proofs.pairs.first_bad_name.Tie as tie
+
+abbrev Inv-loop : tie.InvT-loop
+Inv-loop pairs text count i₀ i = Passed (badName pairs text) count i
+
+abbrev μ-loop : tie.MeasureT-loop
+μ-loop pairs text count i₀ i = count - i
+
+loop-holds : tie.Need-loop-holds Inv-loop μ-loop
+loop-holds c = at-start _ _
+
+marked-bytes-requires : tie.Need-marked-bytes-requires Inv-loop μ-loop
+unfolding pairSize
+marked-bytes-requires c κs = (omega arith, c .before .before .before .before .pre .ends _ (c .loop-test .taken))
+
+is-name-requires : tie.Need-is-name-requires Inv-loop μ-loop
+is-name-requires c κs = tt
+
+returns : tie.Need-returns Inv-loop μ-loop
+unfolding badName
+returns c = found (c .before .before .before .before .loop .inv) (c .before .before .before .loop-test .taken) (cc)
+
+add-i : tie.Need-add-i Inv-loop μ-loop
+add-i c = omega arith
+
+loop-less : tie.Need-loop-less Inv-loop μ-loop
+loop-less c = omega arith
+
+loop-again : tie.Need-loop-again Inv-loop μ-loop
+unfolding badName
+loop-again c = onward (c .before .before .before .before .loop .inv) (c .before .before .before .loop-test .taken) (cc)
+
+returns-2 : tie.Need-returns-2 Inv-loop μ-loop
+returns-2 c = nowhere (c .before .loop .inv) (c .loop-test .left)
+
+pub first-bad-name-spec : {M : Type 1} → statement M
+first-bad-name-spec =
+    tie.close
+    (tie.spec
+    Inv-loop
+    μ-loop
+    loop-holds
+    marked-bytes-requires
+    is-name-requires
+    returns
+    add-i
+    loop-less
+    loop-again
+    returns-2)

@@ -1,0 +1,75 @@
+-- The loop keeps the last pair's end beside the number of the next pair.
+use Prim.Native.Nat.{_+_, _*_, _-_}
+use mathlib.Core.Path.{_≡_, refl}
+use mathlib.Core.Logic.{⊎-elim}
+use native.Mathlib.Omega.{arith}
+use native.Mathlib.Numerals.{add-one}
+use borrow.Author.Tests.{ltb-true, ltb-false}
+use Rattle.definitions.specs.Sheet.{pairSize, numberAt, pairOffset, pairLength, pairEnd, lastEnd}
+use Rattle.sheet.specs.Pairs.{badPair}
+use Rattle.sheet.proofs.Upward.{Passed, at-start, onward, found, nowhere}
+use Rattle.sheet.proofs.Placed.{good-passes, bad-pair}
+use Rattle.sheet.proofs.pairs.first_bad_pair.Statement.{statement}
+use Rattle.sheet.proofs.pairs.first_bad_pair.Tie as tie
+
+abbrev Inv-loop : tie.InvT-loop
+Inv-loop pairs count bytes longest last-end₀ i₀ last-end i =
+    (Passed (badPair pairs bytes longest) count i) × (last-end ≡ lastEnd pairs i)
+
+abbrev μ-loop : tie.MeasureT-loop
+μ-loop pairs count bytes longest last-end₀ i₀ last-end i = count - i
+
+loop-holds : tie.Need-loop-holds Inv-loop μ-loop
+unfolding lastEnd
+loop-holds c = (at-start _ _, refl)
+
+pair-offset-requires : tie.Need-pair-offset-requires Inv-loop μ-loop
+unfolding pairSize
+pair-offset-requires c κs = omega arith
+
+pair-length-requires : tie.Need-pair-length-requires Inv-loop μ-loop
+unfolding pairSize
+pair-length-requires c κs = omega arith
+
+add-end : tie.Need-add-end Inv-loop μ-loop
+unfolding pairOffset pairLength numberAt
+add-end c =
+    let at = c .before .before .before .loop .i in
+    let byte = c .before .before .before .before .shared-slice-known .given in
+    omega (arith, byte (pairSize * at), byte (pairSize * at + 1), byte (pairSize * at + 2), byte (pairSize * at + 2 + 1))
+
+returns : tie.Need-returns Inv-loop μ-loop
+unfolding pairEnd
+returns c =
+    found (c .before .before .before .before .loop .inv .0) (c .before .before .before .loop-test .taken)
+    (bad-pair _ _ _ _ λ g. ⊎-elim (λ w. omega arith) (⊎-elim (λ w. omega (arith, ltb-true)) (⊎-elim (λ w. omega (arith, ltb-true)) (λ w. omega (arith, ltb-true)))) (c .if1 .came))
+
+add-i : tie.Need-add-i Inv-loop μ-loop
+add-i c = omega arith
+
+loop-less : tie.Need-loop-less Inv-loop μ-loop
+loop-less c = omega arith
+
+loop-again : tie.Need-loop-again Inv-loop μ-loop
+unfolding pairEnd lastEnd
+loop-again c =
+    (onward (c .before .before .before .before .before .before .before .loop .inv .0) (c .before .before .before .before .before .before .loop-test .taken) (good-passes _ _ _ _ (omega (arith, ltb-false))), rw (add-one, lastEnd) (omega arith))
+
+returns-2 : tie.Need-returns-2 Inv-loop μ-loop
+returns-2 c = nowhere (c .before .loop .inv .0) (c .loop-test .left)
+
+pub first-bad-pair-spec : {M : Type 1} → statement M
+first-bad-pair-spec =
+    tie.close
+    (tie.spec
+    Inv-loop
+    μ-loop
+    loop-holds
+    pair-offset-requires
+    pair-length-requires
+    add-end
+    returns
+    add-i
+    loop-less
+    loop-again
+    returns-2)

@@ -1,0 +1,18 @@
+-- The part lies where the layout says.
+use mathlib.Core.Path.{_∙_}
+use Rattle.sheet.proofs.Slices.{name-pairs-part}
+use borrow.Author.Needs.{needs}
+use Rattle.sheet.proofs.parts.name_pairs.Statement.{statement}
+use Rattle.sheet.proofs.parts.name_pairs.Tie as tie
+
+layout-requires : tie.Need-layout-requires
+layout-requires c κs = search needs
+
+between-requires : tie.Need-between-requires
+between-requires c κs = name-pairs-part (c .before .before .pre) (c .layout .ensures _ (c .before .before .pre .header)) .within
+
+returns : tie.Need-returns
+returns c = c .between .ensures ∙ name-pairs-part (c .before .before .before .pre) (c .before .layout .ensures _ (c .before .before .before .pre .header)) .are
+
+pub name-pairs-spec : {M : Type 1} → statement M
+name-pairs-spec = tie.close (tie.spec layout-requires between-requires returns)
