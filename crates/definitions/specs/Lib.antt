@@ -13,6 +13,7 @@ pub mod Display
 pub mod Text
 pub mod Comparison
 pub mod AlphaEquality
+pub mod IdentifierContext
 pub mod Answers
 pub mod CheckingRules
 pub mod Sound

@@ -1,0 +1,9 @@
+pub mod Stores
+pub mod Contexts
+pub mod LatestEntry
+pub mod Lookups
+pub mod Insertion
+pub mod Removal
+pub mod Firsts
+pub mod Visibility
+pub mod Laws
