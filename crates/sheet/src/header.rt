@@ -45,14 +45,14 @@ impl Sheet {
 
     pub const PROPOSITION_NESTING_LIMIT: usize = 64;
 
-    pub const TREE_NESTING_LIMIT: usize = 256;
+    pub const TREE_NESTING_LIMIT: usize = steps::TREE_NESTING_LIMIT as usize;
 
     // The bytes of the header, of a pair of offset and length, and of a step.
     pub const HEADER_SIZE: usize = 12;
 
     pub const PAIR_SIZE: usize = 4;
 
-    pub const STEP_SIZE: usize = 18;
+    pub const STEP_SIZE: usize = steps::STEP_SIZE;
 
     // The header of these bytes.
     pub fn header(s: &[u8]) -> Self
