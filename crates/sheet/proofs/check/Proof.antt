@@ -12,7 +12,8 @@ use Rattle.sheet.proofs.Order.{fromNames, fromPropositions, fromSteps, 
 use Rattle.sheet.proofs.check.Statement.{statement}
 use Rattle.sheet.proofs.check.Tie as tie
 
-has-header : (c : tie.After-known-told) → HasHeader (c .before .before .before .before .before .args .s .now) (c .before .header .given .0 .0)
+has-header : (c : tie.After-known-told)
+    → HasHeader (c .before .before .before .before .before .args .s .now) (c .before .header .given .0 .0)
 has-header c =
     let after-check-header = c .before .before .before in
     let (same, _, passed) = stage-accepted _ _ (after-check-header .check-header .ensures) (c .before .header .given .1) in
@@ -33,7 +34,8 @@ propositions-on : (c : tie.After-enum-told2) {r : Checked} →
 unfolding fromNames
 propositions-on c e =
     let after-known-told = c .before .before .before in
-    names-on after-known-told (passed-on _ _ (stage-accepted _ _ (c .before .before .check-names .ensures) (c .enum-told2 .given .1) .2) e)
+    let (_, _, passed) = stage-accepted _ _ (c .before .before .check-names .ensures) (c .enum-told2 .given .1) in
+    names-on after-known-told (passed-on _ _ passed e)
 
 steps-on : (c : tie.After-enum-told4) {r : Checked} →
     let s = c .before .before .before .before .before .before .before .before .before .before .before .args .s .now in
@@ -41,7 +43,8 @@ steps-on : (c : tie.After-enum-told4) {r : Checked} →
 unfolding fromPropositions
 steps-on c e =
     let after-enum-told2 = c .before .before .before in
-    propositions-on after-enum-told2 (passed-on _ _ (stage-accepted _ _ (c .before .before .check-propositions .ensures) (c .enum-told4 .given .1) .2) e)
+    let (_, _, passed) = stage-accepted _ _ (c .before .before .check-propositions .ensures) (c .enum-told4 .given .1) in
+    propositions-on after-enum-told2 (passed-on _ _ passed e)
 
 trees-on : (c : tie.After-enum-told6) {r : Checked} →
     let s = c .before .before .before .before .before .before .before .before .before .before .before .before .before .before .args .s .now in
@@ -49,7 +52,8 @@ trees-on : (c : tie.After-enum-told6) {r : Checked} →
 unfolding fromSteps
 trees-on c e =
     let after-enum-told4 = c .before .before .before in
-    steps-on after-enum-told4 (passed-on _ _ (stage-accepted _ _ (c .before .before .check-steps .ensures) (c .enum-told6 .given .1) .2) e)
+    let (_, _, passed) = stage-accepted _ _ (c .before .before .check-steps .ensures) (c .enum-told6 .given .1) in
+    steps-on after-enum-told4 (passed-on _ _ passed e)
 
 check-header-requires : tie.Need-check-header-requires
 check-header-requires c κs = search needs

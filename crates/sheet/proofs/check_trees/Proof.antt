@@ -45,15 +45,20 @@ size-table c =
 
 -- the table as it was filled, over the steps as the program has them
 program-table : (c : tie.After-enum-told) →
-    let start = c .before .before .before .before .before .before .before .before .before in
-    SizeTable (c .before .before .before .before .before .before .step-records .result .now) (start .args .h .steps) (c .before .before .before .before .fill-sizes .last .1 .1 .0)
+    let after-fill-sizes = c .before .before .before .before in
+    let after-step-records = after-fill-sizes .before .before in
+    let start = after-step-records .before .before .before in
+    SizeTable (after-step-records .step-records .result .now) (start .args .h .steps) (after-fill-sizes .fill-sizes .last .1 .1 .0)
 unfolding headerOf
 program-table c =
     let after-step-records = c .before .before .before .before .before .before in
     let start = after-step-records .before .before .before in
     rw (after-step-records .step-records .ensures, start .pre .0 .header) (size-table c)
 
-table-long-enough : (c : tie.After-enum-told) → c .before .before .before .before .before .before .before .before .before .args .h .steps ≤ length (c .before .before .before .before .fill-sizes .last .1 .1 .0)
+table-long-enough : (c : tie.After-enum-told) →
+    let after-fill-sizes = c .before .before .before .before in
+    let start = after-fill-sizes .before .before .before .before .before in
+    start .args .h .steps ≤ length (after-fill-sizes .fill-sizes .last .1 .1 .0)
 unfolding stepLimit
 table-long-enough c =
     let after-fill-sizes = c .before .before .before .before in
@@ -95,8 +100,11 @@ fill-sizes-requires : tie.Need-fill-sizes-requires
 unfolding stepLimit
 fill-sizes-requires c κs =
     let start = c .before .before .before .before in
-    rw (c .before .step-records .ensures)
-    (steps-present (start .pre .0), start .pre .0 .in-range .steps, omega (arith, start .pre .0 .in-range .steps, start .pre .1))
+    rw (c .before .step-records .ensures) (
+      steps-present (start .pre .0),
+      start .pre .0 .in-range .steps,
+      omega (arith, start .pre .0 .in-range .steps, start .pre .1),
+    )
 
 enum-known-k : tie.Need-enum-known-k
 enum-known-k c = search needs
@@ -158,7 +166,10 @@ first-deep-tree-requires c κs =
     let after-step-records = after-enum-told .before .before .before .before .before .before in
     let start = after-step-records .before .before .before in
     let records = after-step-records .step-records .ensures in
-    ((rw records (steps-present (start .pre .0)), table-long-enough after-enum-told, start .pre .0 .in-range .steps), program-table after-enum-told)
+    let present = steps-present (start .pre .0) in (
+      (rw records present, table-long-enough after-enum-told, start .pre .0 .in-range .steps),
+      program-table after-enum-told,
+    )
 
 enum-known-k-2 : tie.Need-enum-known-k-2
 enum-known-k-2 c = search needs
