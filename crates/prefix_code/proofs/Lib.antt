@@ -1,0 +1,8 @@
+-- The laws of codes in bytes.
+pub mod Positions
+pub mod Runs
+pub mod Parameters
+pub mod Heads
+pub mod Propositions
+pub mod Depth
+pub mod Whole

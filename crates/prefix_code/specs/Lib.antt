@@ -1,0 +1,3 @@
+-- What the functions over prefix code say.
+pub mod Scan
+pub mod Head

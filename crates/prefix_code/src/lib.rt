@@ -1,0 +1,168 @@
+// A proposition's prefix code: where it ends, whether it is one, and whether it nests too deep.
+ghost use mathlib.Core.Path.{_≡_};
+ghost use Prim.Native.Nat.{_≤_, _<_};
+ghost use mathlib.Core.Bool.{false, not};
+ghost use mathlib.Core.Option.{Option·getD};
+ghost use lib.ListN.{length};
+ghost use lib.Dec.{ltb};
+ghost use Rattle.definitions.specs.Sheet.{propositionNestingLimit};
+ghost use Rattle.definitions.specs.Prop.{False, nesting};
+ghost use Rattle.definitions.specs.Code.{encodeParameter, CodableParameter, encodeParameters, encode, decode};
+ghost use Rattle.definitions.specs.Admission.{isNone};
+ghost use Rattle.prefix_code.specs.Scan.{Ends, Scanned, Several, Shallow};
+ghost use Rattle.prefix_code.specs.Head.{encodeHead, CodableHead, partsAfter};
+
+// An atom has at most so many parameters.
+const PARAMETER_LIMIT: u8 = 8;
+
+// A proposition nests at most so deep.
+const NESTING_LIMIT: usize = 64;
+
+// How many propositions follow each head byte.
+const PARTS: [usize; 8] = [0, 0, 2, 2, 2, 0, 1, 1];
+
+// Where the parameter at `at` ends, and past the end of the code if none stands there.
+pub fn parameter_end(code: &[u8], at: usize, names: usize) -> usize
+    requires { ⌜ at ≤ length (now code) ⌝ }
+    ensures { λ r. ⌜ Ends (CodableParameter names) encodeParameter (now (code .entry)) at r ⌝ }
+{
+    let none = code.len() + 1;
+    if code.len() - at < 3 {
+        return none;
+    }
+    if names <= number::number_at(code, at + 1) {
+        return none;
+    }
+    let kind = code[at];
+    if kind == 0 {
+        return at + 3;
+    }
+    if 1 < kind {
+        return none;
+    }
+    if code.len() - at < 5 {
+        return none;
+    }
+    at + 5
+}
+
+// Where so many parameters from `at` on end, and past the end of the code if fewer stand there.
+pub fn parameters_end(code: &[u8], at: usize, count: usize, names: usize) -> usize
+    requires { ⌜ at ≤ length (now code) ⌝ }
+    ensures { λ r. ⌜ Ends (Several names count) encodeParameters (now (code .entry)) at r ⌝ }
+{
+    let mut i = at;
+    let mut needed = count;
+    while 0 < needed {
+        let end = parameter_end(code, i, names);
+        if code.len() < end {
+            return end;
+        }
+        needed -= 1;
+        i = end;
+    }
+    i
+}
+
+// Where the head at `at` ends, and past the end of the code if none stands there.
+pub fn head_end(code: &[u8], at: usize, names: usize) -> usize
+    requires { ⌜ at ≤ length (now code) ⌝ }
+    ensures { λ r. ⌜ Ends (CodableHead names) encodeHead (now (code .entry)) at r ⌝ }
+{
+    let none = code.len() + 1;
+    if code.len() <= at {
+        return none;
+    }
+    let head = code[at];
+    if head < 5 {
+        return at + 1;
+    }
+    if 7 < head {
+        return none;
+    }
+    if code.len() - at < 4 {
+        return none;
+    }
+    if names <= number::number_at(code, at + 1) {
+        return none;
+    }
+    if head == 5 {
+        let count = code[at + 3];
+        if PARAMETER_LIMIT < count {
+            return none;
+        }
+        return parameters_end(code, at + 4, count as usize, names);
+    }
+    if code.len() - at < 5 {
+        return none;
+    }
+    if names <= number::number_at(code, at + 3) {
+        return none;
+    }
+    at + 5
+}
+
+// How many propositions follow a head byte.
+pub fn parts_after(head: u8) -> usize
+    requires { ⌜ head < 8 ⌝ }
+    ensures { λ r. ⌜ r ≡ partsAfter head ⌝ }
+{
+    PARTS[head as usize]
+}
+
+// Where the proposition at `at` ends, and past the end of the code if none stands there.
+pub fn scan(code: &[u8], at: usize, names: usize) -> usize
+    requires { ⌜ at ≤ length (now code) ⌝ }
+    ensures { λ r. ⌜ Scanned names (now (code .entry)) at r ⌝ }
+{
+    let mut i = at;
+    let mut needed: usize = 1;
+    while 0 < needed {
+        let end = head_end(code, i, names);
+        if code.len() < end {
+            return end;
+        }
+        needed = needed - 1 + parts_after(code[i]);
+        i = end;
+    }
+    i
+}
+
+// Where the proposition at `at` ends if it nests at most so deep, and past the end of the code if none such stands there.
+fn shallow_end(code: &[u8], at: usize, names: usize, depth: usize) -> usize
+    requires { ⌜ at ≤ length (now code) ⌝ }
+    ensures { λ r. ⌜ Ends (Shallow names depth) encode (now (code .entry)) at r ⌝ }
+{
+    if depth == 0 {
+        return code.len() + 1;
+    }
+    let mut i = head_end(code, at, names);
+    if code.len() < i {
+        return i;
+    }
+    let mut needed = parts_after(code[at]);
+    while 0 < needed {
+        let end = shallow_end(code, i, names, depth - 1);
+        if code.len() < end {
+            return end;
+        }
+        needed -= 1;
+        i = end;
+    }
+    i
+}
+
+// Is it exactly one proposition over its whole length, with names below `names`? If not, that is refusal 7.
+pub fn is_code(code: &[u8], names: usize) -> bool
+    ensures { λ r. ⌜ r ≡ not (isNone (decode names (now (code .entry)))) ⌝ }
+{
+    scan(code, 0, names) == code.len()
+}
+
+// Does the proposition nest deeper than the limit? That is refusal 8.
+pub fn is_deep(code: &[u8], names: usize) -> bool
+    requires { ⌜ isNone (decode names (now code)) ≡ false ⌝ }
+    ensures { λ r. ⌜ r ≡ ltb propositionNestingLimit (nesting (Option·getD (decode names (now (code .entry))) False)) ⌝ }
+{
+    code.len() < shallow_end(code, 0, names, NESTING_LIMIT)
+}
