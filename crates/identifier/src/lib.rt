@@ -1,0 +1,102 @@
+// Names, after the Rust's identifier.rs: which bytes are one, when two are the same, and where a name stood first.
+mod classes;
+
+pub use classes::CLASSES;
+use classes::LETTER;
+use classes::OTHER;
+use classes::class;
+use definitions::Found;
+use number::number_at;
+ghost use mathlib.Core.Path.{_≡_};
+ghost use Prim.Native.Nat.{_+_, _*_, _≤_};
+ghost use lib.ListN.{length};
+ghost use Rattle.definitions.specs.Name.{isName, eqName};
+ghost use Rattle.definitions.specs.Outcome.{lowest, foundAt};
+ghost use Rattle.definitions.specs.Sheet.{pairSize, pairOffset, pairLength};
+ghost use Rattle.identifier.specs.Pairs.{PairsWithin, sameBytes};
+
+// Whether each byte is one that its position allows.
+pub fn is_name(name: &[u8]) -> bool
+    ensures { λ r. ⌜ r ≡ isName (now (name .entry)) ⌝ }
+{
+    if name.len() == 0 {
+        return false;
+    }
+    let classes = CLASSES;
+    if class(&classes, name[0]) != LETTER {
+        return false;
+    }
+    let mut i = 1;
+    while i < name.len() {
+        if class(&classes, name[i]) == OTHER {
+            return false;
+        }
+        i += 1;
+    }
+    true
+}
+
+// Whether two names have the same bytes.
+pub fn same_name(a: &[u8], b: &[u8]) -> bool
+    ensures { λ r. ⌜ r ≡ eqName (now (a .entry)) (now (b .entry)) ⌝ }
+{
+    if a.len() != b.len() {
+        return false;
+    }
+    let mut i = 0;
+    while i < a.len() {
+        if a[i] != b[i] {
+            return false;
+        }
+        i += 1;
+    }
+    true
+}
+
+// The bytes of a pair: its offset and its length, a number each.
+const PAIR_SIZE: usize = 4;
+
+// Where the bytes that pair i marks begin.
+pub fn pair_offset(pairs: &[u8], i: usize) -> usize
+    requires { ⌜ pairSize * (i + 1) ≤ length (now pairs) ⌝ }
+    ensures { λ r. ⌜ r ≡ pairOffset (now (pairs .entry)) i ⌝ }
+{
+    number_at(pairs, PAIR_SIZE * i)
+}
+
+// How many bytes pair i marks.
+pub fn pair_length(pairs: &[u8], i: usize) -> usize
+    requires { ⌜ pairSize * (i + 1) ≤ length (now pairs) ⌝ }
+    ensures { λ r. ⌜ r ≡ pairLength (now (pairs .entry)) i ⌝ }
+{
+    number_at(pairs, PAIR_SIZE * i + 2)
+}
+
+// The first name before number i with the same bytes as name i.
+pub fn first_equal(pairs: &[u8], text: &[u8], i: usize) -> Found
+    requires { ⌜ PairsWithin (now pairs) (now text) i ⌝ }
+    ensures { λ r. ⌜ r ≡ foundAt (lowest (sameBytes (now (pairs .entry)) (now (text .entry)) i) i) ⌝ }
+{
+    let offset = pair_offset(pairs, i);
+    let length = pair_length(pairs, i);
+    let mut j = 0;
+    'names: while j < i {
+        if pair_length(pairs, j) != length {
+            j += 1;
+            continue 'names;
+        }
+        let earlier = pair_offset(pairs, j);
+        let mut k = 0;
+        while k < length {
+            let byte = text[earlier + k];
+            let wanted = text[offset + k];
+            if byte != wanted {
+                j += 1;
+                continue 'names;
+            }
+            k += 1;
+        }
+        return Found::At(j);
+    }
+    Found::Nowhere
+}
