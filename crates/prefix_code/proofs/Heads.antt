@@ -33,6 +33,24 @@ unfolding quantifierByte partsAfter
 quantifier-byte forAll = (omega arith, omega arith, refl)
 quantifier-byte exists = (omega arith, omega arith, refl)
 
+-- the connective and the quantifier of a byte
+pub connective-of : (b : ℕ) → 2 ≤ b → b < 5 → (c : Connective) × (b ≡ connectiveByte c)
+unfolding connectiveByte
+connective-of b low high = go (decLt b 3) (decLt b 4)
+  where
+    go : Dec (b < 3) → Dec (b < 4) → (c : Connective) × (b ≡ connectiveByte c)
+    go (yes h) k = (and, omega arith)
+    go (no h) (yes k) = (or, omega arith)
+    go (no h) (no k) = (impl, omega arith)
+
+pub quantifier-of : (b : ℕ) → 5 < b → b < 8 → (q : Quantifier) × (b ≡ quantifierByte q)
+unfolding quantifierByte
+quantifier-of b low high = go (decLt b 7)
+  where
+    go : Dec (b < 7) → (q : Quantifier) × (b ≡ quantifierByte q)
+    go (yes k) = (forAll, omega arith)
+    go (no k) = (exists, omega arith)
+
 module _ (names : ℕ) where
   abbrev pub HeadAt : List ℕ → ℕ → Head → List ℕ → Type 0
   HeadAt = Stands (CodableHead names) encodeHead
@@ -150,23 +168,13 @@ module _ (names : ℕ) where
         quantified = λ _. (q, x, t, b);
       }
 
-  -- the head that a byte below 5 is, and the quantifier of a byte above
+  -- the head that a byte below 5 is
   bare-head : (b : ℕ) → b < 5 → (h : Head) × CodableHead names h × (encodeHead h ≡ b ∷ [])
-  unfolding CodableHead encodeHead connectiveByte
+  unfolding CodableHead encodeHead
   bare-head zero k = (TrueHead, tt, refl)
   bare-head (suc zero) k = (FalseHead, tt, refl)
-  bare-head (suc (suc zero)) k = (BinaryHead and, tt, refl)
-  bare-head (suc (suc (suc zero))) k = (BinaryHead or, tt, refl)
-  bare-head (suc (suc (suc (suc zero)))) k = (BinaryHead impl, tt, refl)
-  bare-head (suc (suc (suc (suc (suc b))))) k = absurd (omega arith)
-
-  quantifier-of : (b : ℕ) → 5 < b → b < 8 → (q : Quantifier) × (b ≡ quantifierByte q)
-  unfolding quantifierByte
-  quantifier-of b low high = go (decLt b 7)
-    where
-      go : Dec (b < 7) → (q : Quantifier) × (b ≡ quantifierByte q)
-      go (yes k) = (forAll, omega arith)
-      go (no k) = (exists, omega arith)
+  bare-head (suc (suc b)) k =
+      let (c, e) = connective-of (suc (suc b)) (omega arith) k in (BinaryHead c, tt, ap (λ (n : ℕ). n ∷ []) (sym e))
 
   module _ (l : List ℕ) (at : ℕ) where
     pub bare-stands : at < length l → getD l at 0 < 5 → (h : Head) × HeadAt l at h (drop (at + 1) l)

@@ -4,5 +4,6 @@ pub mod Runs
 pub mod Parameters
 pub mod Heads
 pub mod Propositions
+pub mod Forms
 pub mod Depth
 pub mod Whole
