@@ -1,13 +1,12 @@
 -- Each pair of a sheet's propositions marks the code of one, and since no two overlap, their ends can be filled in one after the other.
 use Prim.Native.Nat.{ℕ, zero, suc, _+_, _≤_, _<_}
 use mathlib.Core.Path.{_≡_, refl, sym, ap, _∙_}
-use mathlib.Core.Bool.{Bool, true, false}
+use mathlib.Core.Bool.{false}
 use mathlib.Core.Logic.{by-cases}
 use mathlib.Core.Option.{Option, none, some, Option·getD}
-use mathlib.Core.List.{List, _++_}
+use mathlib.Core.List.{List}
 use native.Mathlib.Omega.{arith}
 use native.Mathlib.Decide.{decLt}
-use native.Mathlib.Numerals.{add-one}
 use lib.ListN.{length, take, drop, getD, length-drop, length-take, take-append-drop, List·getD-eq-default}
 use lib.Seq.{getD-take, getD-drop}
 use Rattle.definitions.specs.Prop.{Prop, False}
@@ -18,7 +17,7 @@ use Rattle.definitions.specs.Admission.{isNone}
 use Rattle.definitions.proofs.PrefixCode.{Bytes, encode-decode}
 use Rattle.prefix_code.specs.Scan.{Stands, At}
 use Rattle.prop.specs.PropAt.{propAt, Present}
-use Rattle.prop.specs.Ends.{EndsOf, Known, Filled, Marked}
+use Rattle.prop.specs.Ends.{Known, Filled, Marked}
 use Rattle.prop.proofs.Reading.{prop-at, present}
 use Rattle.prop.proofs.Filling.{ends-kept}
 
@@ -76,9 +75,12 @@ module _ (names : ℕ) (pairs code : List ℕ) (count : ℕ) (bytes : Bytes code
   -- one more proposition's ends are filled in
   pub one-more : (i : ℕ) (ends table : List ℕ) (r : ℕ) → i < count
       → Filled (propAt names code (pairOffset pairs i)) ends (pairOffset pairs i) table r
-      → ((j : ℕ) → j < i → EndsOf ends (pairOffset pairs j) (propAt names code (pairOffset pairs j)))
-      → (j : ℕ) → j < i + 1 → EndsOf table (pairOffset pairs j) (propAt names code (pairOffset pairs j))
+      → ((j : ℕ) → j < i → Known names code ends (pairOffset pairs j))
+      → (j : ℕ) → j < i + 1 → Known names code table (pairOffset pairs j)
   one-more i ends table r h w others j k = by-cases (decLt j i)
-      (λ g. ends-kept table ends (pairOffset pairs j) (propAt names code (pairOffset pairs j))
-          (λ n low high. w .earlier n (omega (arith, apart j i g h, size-in j (omega arith)))) (others j g))
-      (λ g. let same : j ≡ i = omega arith in rw same (w .filled))
+      (λ g. record {
+        present = others j g .present;
+        ends = ends-kept table ends (pairOffset pairs j) (propAt names code (pairOffset pairs j))
+            (λ n low high. w .earlier n (omega (arith, apart j i g h, size-in j (omega arith)))) (others j g .ends);
+      })
+      (λ g. let same : j ≡ i = omega arith in rw same (record { present = present-in i h; ends = w .filled }))

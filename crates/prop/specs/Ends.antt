@@ -24,9 +24,9 @@ EndsOf ends at (Atom a ps) = EndAt ends at (Atom a ps)
 EndsOf ends at (Quantified q x t p) = EndAt ends at (Quantified q x t p) × EndsOf ends (at + 5) p
 
 -- a proposition stands at `at`, and the table has its ends
-pub record Known (names : ℕ) (code ends : List ℕ) (at : ℕ) : Type 0 where
+pub record Known (names : ℕ) (code table : List ℕ) (at : ℕ) : Type 0 where
   pub present : Present names code at
-  pub ends : EndsOf ends at (propAt names code at)
+  pub ends : EndsOf table at (propAt names code at)
 
 -- the table is as long as the code, whose positions fit its entries
 pub record Room (code ends : List ℕ) : Type 0 where
