@@ -1,16 +1,17 @@
 -- How deep a proposition nests, by its head and its parts.
-use Prim.Native.Nat.{ℕ, zero, suc, _+_, _-_, max, _≤_, _<_}
+use Prim.Native.Nat.{ℕ, zero, suc, _-_, _≤_, _<_}
 use mathlib.Core.Path.{_≡_}
 use mathlib.Core.List.{List}
 use native.Mathlib.Omega.{arith}
-use lib.ListN.{length, drop, getD}
+use lib.ListN.{length, getD}
 use Rattle.definitions.specs.Prop.{Prop, True, False, Binary, Atom, Quantified, nesting}
-use Rattle.definitions.specs.Code.{encode, Codable}
-use Rattle.prefix_code.specs.Scan.{Stands, Ends, Shallow}
-use Rattle.prefix_code.specs.Head.{encodeHead, CodableHead, partsAfter}
-use Rattle.prefix_code.proofs.Runs.{Run, run-of, no-ends, Walked}
+use Rattle.definitions.specs.Code.{Codable}
+use Rattle.prefix_code.specs.Scan.{Stands, Ends, Shallow, shallowCoding}
+use Rattle.prefix_code.specs.Head.{CodableHead, headCoding, partsAfter}
+use Rattle.prefix_code.proofs.Runs.{run-of, no-ends, Walked}
 use Rattle.prefix_code.proofs.Propositions.{Layer, head-walk, no-head}
 
+-- those that nest at most so deep have parts that nest less deep by one
 pub shallow-layer : (names depth : ℕ) → Layer names (Shallow names (suc depth)) (Shallow names depth)
 unfolding Shallow Codable CodableHead nesting
 shallow-layer names depth = record {
@@ -31,20 +32,21 @@ nesting-positive (Quantified q x t p) = omega arith
 
 module _ (names : ℕ) (l : List ℕ) (at r : ℕ) where
   -- none nests 0 deep
-  pub no-flat : (depth : ℕ) → depth ≡ 0 → length l < r → Ends (Shallow names depth) encode l at r
+  pub no-flat : (depth : ℕ) → depth ≡ 0 → length l < r → Ends (shallowCoding names depth) l at r
   unfolding Stands Shallow
-  no-flat depth z h = no-ends (Shallow names depth) encode l at r h (λ p rest s. omega (arith, nesting-positive p, s .0 .1))
+  no-flat depth z h = no-ends (shallowCoding names depth) l at r h (λ p rest s. omega (arith, nesting-positive p, s .0 .1))
 
-  pub shallow-walk : (depth : ℕ) → 0 < depth → at ≤ length l → Ends (CodableHead names) encodeHead l at r → r ≤ length l
-      → Walked (Shallow names depth) encode (Shallow names (depth - 1)) encode l at r (partsAfter (getD l at 0))
+  -- behind the head its parts follow, and without a head there is no proposition
+  pub shallow-walk : (depth : ℕ) → 0 < depth → at ≤ length l → Ends (headCoding names) l at r → r ≤ length l
+      → Walked (shallowCoding names depth) (shallowCoding names (depth - 1)) l at r (partsAfter (getD l at 0))
   shallow-walk zero z start e h = absurd (omega arith)
   shallow-walk (suc depth) z start e h =
       let less : suc depth - 1 ≡ depth = omega arith in
       rw less (head-walk names (Shallow names (suc depth)) (Shallow names depth) (shallow-layer names depth) l at r start e h)
 
-  pub no-shallow : (depth : ℕ) → 0 < depth → at ≤ length l → Ends (CodableHead names) encodeHead l at r → length l < r
-      → Ends (Shallow names depth) encode l at r
+  pub no-shallow : (depth : ℕ) → 0 < depth → at ≤ length l → Ends (headCoding names) l at r → length l < r
+      → Ends (shallowCoding names depth) l at r
   no-shallow zero z start e h = absurd (omega arith)
   no-shallow (suc depth) z start e h =
-      no-ends (Shallow names (suc depth)) encode l at r h
-      (λ p rest s. no-head names (Shallow names (suc depth)) (Shallow names depth) (shallow-layer names depth) l at r start e h rest (run-of (Shallow names (suc depth)) encode l at p rest s))
+      no-ends (shallowCoding names (suc depth)) l at r h
+      (λ p rest s. no-head names (Shallow names (suc depth)) (Shallow names depth) (shallow-layer names depth) l at r start e h rest (run-of (shallowCoding names (suc depth)) l at p rest s))

@@ -8,8 +8,8 @@ use native.Mathlib.Decide.{decLt}
 use lib.ListN.{length, drop, getD, List·getD-eq-default}
 use Rattle.definitions.specs.Prop.{Prop, True, False, Binary, Atom, Quantified, PropParameter, Connective, and, or, impl, connectiveByte, Quantifier, forAll, exists, quantifierByte}
 use Rattle.definitions.specs.Code.{u16, encode, Codable}
-use Rattle.prefix_code.specs.Scan.{Stands, At}
-use Rattle.prefix_code.specs.Head.{encodeHead, CodableHead, AtomHead, QuantifiedHead}
+use Rattle.prefix_code.specs.Scan.{Stands, At, propositionCoding}
+use Rattle.prefix_code.specs.Head.{encodeHead, CodableHead}
 use Rattle.prefix_code.proofs.Positions.{after, extent, byte-at}
 use Rattle.prefix_code.proofs.Runs.{run-of}
 use Rattle.prefix_code.proofs.Heads.{AtomBytes, atom-bytes, QuantifiedBytes, quantified-bytes, connective-of, quantifier-of, head-bytes}
@@ -60,10 +60,10 @@ module _ (names : ℕ) (l : List ℕ) (at : ℕ) (rest : List ℕ) where
 
   form-at : (p : Prop ℕ) → At names l at p rest → FormAt (getD l at 0) p
   unfolding Stands encode Codable encodeHead CodableHead u16
-  form-at True (g, e) = rw (byte-at l at 0 rest e .value) refl
-  form-at False (g, e) = rw (byte-at l at 1 rest e .value) refl
+  form-at True (g, e) = rw (byte-at l at (at + 1) 0 rest (omega arith) e .value) refl
+  form-at False (g, e) = rw (byte-at l at (at + 1) 1 rest (omega arith) e .value) refl
   form-at (Binary c p q) (g, e) =
-      let b = byte-at l at (connectiveByte c) (encode p ++ encode q ++ rest) e in
+      let b = byte-at l at (at + 1) (connectiveByte c) (encode p ++ encode q ++ rest) (omega arith) e in
       let next : drop (at + 1) l ≡ encode p ++ (encode q ++ rest) = cc (b .next, append-assoc (encode p) (encode q) rest) in
       rw (b .value) (binary-form c (Binary c p q) .1 (record {
         connective = c;
@@ -93,7 +93,7 @@ module _ (names : ℕ) (l : List ℕ) (at : ℕ) (rest : List ℕ) where
     pub inside-at : (at < length l) × (at + length (encode p) ≤ length l)
     unfolding Stands
     inside-at =
-        let run = run-of (Codable names) encode l at p rest s in
+        let run = run-of (propositionCoding names) l at p rest s in
         let (h, ys, g, e, r) = head-run names (Codable names) (Codable names) (codable-layer names) (drop at l) rest .0 run in
         let inside = head-bytes names l at h ys (g, e) .inside in
         (inside, omega (arith, extent l at (encode p) rest (omega arith) (s .1)))

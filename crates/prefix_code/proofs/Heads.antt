@@ -1,5 +1,5 @@
 -- What the bytes at a position say of the head whose code stands there, and the other way round.
-use Prim.Native.Nat.{ℕ, zero, suc, _+_, _-_, _≤_, _<_}
+use Prim.Native.Nat.{ℕ, zero, suc, _+_, _≤_, _<_}
 use mathlib.Core.Path.{_≡_, refl, sym, ap, _∙_}
 use mathlib.Core.List.{List, [], _∷_, _++_}
 use native.Mathlib.Omega.{arith}
@@ -7,10 +7,10 @@ use native.Mathlib.Decide.{decLt}
 use lib.ListN.{length, drop, getD}
 use Rattle.definitions.specs.Sheet.{numberAt}
 use Rattle.definitions.specs.Prop.{PropParameter, Connective, and, or, impl, connectiveByte, Quantifier, forAll, exists, quantifierByte}
-use Rattle.definitions.specs.Code.{parameterLimit, u16, encodeParameters, CodableParameters}
+use Rattle.definitions.specs.Code.{parameterLimit, u16, encodeParameters}
 use Rattle.definitions.proofs.Readings.{Bytes}
-use Rattle.prefix_code.specs.Scan.{Stands, Ends, Several}
-use Rattle.prefix_code.specs.Head.{Head, TrueHead, FalseHead, BinaryHead, AtomHead, QuantifiedHead, encodeHead, CodableHead, partsAfter}
+use Rattle.prefix_code.specs.Scan.{Stands, Ends, Several, parametersCoding}
+use Rattle.prefix_code.specs.Head.{Head, TrueHead, FalseHead, BinaryHead, AtomHead, QuantifiedHead, encodeHead, CodableHead, headCoding, partsAfter}
 use Rattle.prefix_code.proofs.Positions.{extent, byte-stands, byte-at, number-stands, number-at}
 
 -- how many parts follow a head
@@ -53,7 +53,7 @@ quantifier-of b low high = go (decLt b 7)
 
 module _ (names : ℕ) where
   abbrev pub HeadAt : List ℕ → ℕ → Head → List ℕ → Type 0
-  HeadAt = Stands (CodableHead names) encodeHead
+  HeadAt = Stands (headCoding names)
 
   -- an atom: byte 5, name, count, parameters
   pub record AtomBytes (l : List ℕ) (at a : ℕ) (ps : List (PropParameter ℕ)) (rest : List ℕ) : Type 0 where
@@ -63,16 +63,14 @@ module _ (names : ℕ) where
     pub below : a < names
     pub count : getD l (at + 3) 0 ≡ length ps
     pub few : length ps ≤ parameterLimit
-    pub parameters : Stands (CodableParameters names) encodeParameters l (at + 4) ps rest
+    pub parameters : Stands (parametersCoding names (getD l (at + 3) 0)) l (at + 4) ps rest
 
   pub atom-bytes : (l : List ℕ) (at a : ℕ) (ps : List (PropParameter ℕ)) (rest : List ℕ) → HeadAt l at (AtomHead a ps) rest → AtomBytes l at a ps rest
-  unfolding Stands encodeHead CodableHead u16
+  unfolding Stands Several encodeHead CodableHead u16
   atom-bytes l at a ps rest (g, e) =
-      let head = byte-at l at 5 (u16 a ++ (length ps ∷ (encodeParameters ps ++ rest))) e in
-      let name = number-at l (at + 1) a (length ps ∷ (encodeParameters ps ++ rest)) (head .next) in
-      let three : at + 1 + 2 ≡ at + 3 = omega arith in
-      let count = byte-at l (at + 3) (length ps) (encodeParameters ps ++ rest) (rw three at (name .next)) in
-      let four : at + 3 + 1 ≡ at + 4 = omega arith in
+      let head = byte-at l at (at + 1) 5 (u16 a ++ (length ps ∷ (encodeParameters ps ++ rest))) (omega arith) e in
+      let name = number-at l (at + 1) (at + 3) a (length ps ∷ (encodeParameters ps ++ rest)) (omega arith) (head .next) in
+      let count = byte-at l (at + 3) (at + 4) (length ps) (encodeParameters ps ++ rest) (omega arith) (name .next) in
       record {
         byte = head .value;
         inside = omega (arith, count .inside);
@@ -80,7 +78,7 @@ module _ (names : ℕ) where
         below = g .0;
         count = count .value;
         few = g .1;
-        parameters = (g .2, rw four at (count .next));
+        parameters = ((g .2, sym (count .value)), count .next);
       }
 
   -- a quantifier: its byte, object name, datatype name
@@ -97,11 +95,9 @@ module _ (names : ℕ) where
       → QuantifiedBytes l at q x t rest
   unfolding Stands encodeHead CodableHead u16
   quantified-bytes l at q x t rest (g, e) =
-      let head = byte-at l at (quantifierByte q) (u16 x ++ (u16 t ++ rest)) e in
-      let object = number-at l (at + 1) x (u16 t ++ rest) (head .next) in
-      let three : at + 1 + 2 ≡ at + 3 = omega arith in
-      let datatype = number-at l (at + 3) t rest (rw three at (object .next)) in
-      let five : at + 3 + 2 ≡ at + 5 = omega arith in
+      let head = byte-at l at (at + 1) (quantifierByte q) (u16 x ++ (u16 t ++ rest)) (omega arith) e in
+      let object = number-at l (at + 1) (at + 3) x (u16 t ++ rest) (omega arith) (head .next) in
+      let datatype = number-at l (at + 3) (at + 5) t rest (omega arith) (object .next) in
       record {
         byte = head .value;
         inside = omega (arith, datatype .inside);
@@ -109,7 +105,7 @@ module _ (names : ℕ) where
         object-below = g .0;
         datatype = datatype .value;
         datatype-below = g .1;
-        next = rw five at (datatype .next);
+        next = datatype .next;
       }
 
   -- what follows from the head byte
@@ -124,7 +120,7 @@ module _ (names : ℕ) where
 
   bare-bytes : (l : List ℕ) (at : ℕ) (h : Head) (rest : List ℕ) (b : ℕ) → drop at l ≡ b ∷ rest → b < 5 → partCount h ≡ partsAfter b → HeadBytes l at h rest
   bare-bytes l at h rest b e k n =
-      let head = byte-at l at b rest e in
+      let head = byte-at l at (at + 1) b rest (omega arith) e in
       let value : getD l at 0 ≡ b = head .value in
       record {
         inside = head .inside;
@@ -168,7 +164,7 @@ module _ (names : ℕ) where
         quantified = λ _. (q, x, t, b);
       }
 
-  -- the head that a byte below 5 is
+  -- the head of a byte below 5
   bare-head : (b : ℕ) → b < 5 → (h : Head) × CodableHead names h × (encodeHead h ≡ b ∷ [])
   unfolding CodableHead encodeHead
   bare-head zero k = (TrueHead, tt, refl)
@@ -177,22 +173,21 @@ module _ (names : ℕ) where
       let (c, e) = connective-of (suc (suc b)) (omega arith) k in (BinaryHead c, tt, ap (λ (n : ℕ). n ∷ []) (sym e))
 
   module _ (l : List ℕ) (at : ℕ) where
+    -- a byte below 5, an atom, a quantifier: the head that the bytes at a position are
     pub bare-stands : at < length l → getD l at 0 < 5 → (h : Head) × HeadAt l at h (drop (at + 1) l)
     unfolding Stands
     bare-stands k b =
         let (h, g, e) = bare-head (getD l at 0) b in
-        (h, (g, byte-stands l at k ∙ ap (λ (s : List ℕ). s ++ drop (at + 1) l) (sym e)))
+        (h, (g, byte-stands l at (at + 1) (omega arith) k ∙ ap (λ (s : List ℕ). s ++ drop (at + 1) l) (sym e)))
 
     module _ (bytes : Bytes l) (below : numberAt l (at + 1) < names) where
       pub atom-stands : (ps : List (PropParameter ℕ)) (rest : List ℕ) → at + 4 ≤ length l → getD l at 0 ≡ 5 → getD l (at + 3) 0 ≤ parameterLimit
-          → Stands (Several names (getD l (at + 3) 0)) encodeParameters l (at + 4) ps rest → HeadAt l at (AtomHead (numberAt l (at + 1)) ps) rest
+          → Stands (parametersCoding names (getD l (at + 3) 0)) l (at + 4) ps rest → HeadAt l at (AtomHead (numberAt l (at + 1)) ps) rest
       unfolding Stands Several CodableHead encodeHead u16
       atom-stands ps rest k b few (g, e) =
-          let three : at + 1 + 2 ≡ at + 3 = omega arith in
-          let four : at + 3 + 1 ≡ at + 4 = omega arith in
-          let head = byte-stands l at (omega arith) in
-          let name = rw three at (number-stands l (at + 1) bytes (omega arith)) in
-          let count = rw four at (byte-stands l (at + 3) (omega arith)) in
+          let head = byte-stands l at (at + 1) (omega arith) (omega arith) in
+          let name = number-stands l (at + 1) (at + 3) (omega arith) bytes (omega arith) in
+          let count = byte-stands l (at + 3) (at + 4) (omega arith) (omega arith) in
           let counted : length ps ≡ getD l (at + 3) 0 = g .1 in
           ((below, rw counted few, g .0), cc)
 
@@ -201,23 +196,21 @@ module _ (names : ℕ) where
       unfolding Stands CodableHead encodeHead u16
       quantified-stands k low high datatype-below =
           let (q, b) = quantifier-of (getD l at 0) low high in
-          let three : at + 1 + 2 ≡ at + 3 = omega arith in
-          let five : at + 3 + 2 ≡ at + 5 = omega arith in
-          let head = byte-stands l at (omega arith) in
-          let object = rw three at (number-stands l (at + 1) bytes (omega arith)) in
-          let datatype = rw five at (number-stands l (at + 3) bytes (omega arith)) in
+          let head = byte-stands l at (at + 1) (omega arith) (omega arith) in
+          let object = number-stands l (at + 1) (at + 3) (omega arith) bytes (omega arith) in
+          let datatype = number-stands l (at + 3) (at + 5) (omega arith) bytes (omega arith) in
           (QuantifiedHead q (numberAt l (at + 1)) (numberAt l (at + 3)), ((below, datatype-below), cc))
 
       -- an atom ends where its parameters end
       pub atom-ends : (r : ℕ) → at + 4 ≤ length l → getD l at 0 ≡ 5 → getD l (at + 3) 0 ≤ parameterLimit
-          → Ends (Several names (getD l (at + 3) 0)) encodeParameters l (at + 4) r → Ends (CodableHead names) encodeHead l at r
+          → Ends (parametersCoding names (getD l (at + 3) 0)) l (at + 4) r → Ends (headCoding names) l at r
       unfolding Stands Several encodeHead u16
       atom-ends r k b few ends = record {
         found = λ h rest s.
             let (a, ps, t) = head-bytes l at h rest s .atom b in
             let p = t .parameters in
             omega
-            (arith, ends .found ps rest ((p .0, sym (t .count)), p .1), extent l at (encodeHead h) rest (omega arith) (s .1), extent l (at + 4) (encodeParameters ps) rest k (p .1));
+            (arith, ends .found ps rest p, extent l at (encodeHead h) rest (omega arith) (s .1), extent l (at + 4) (encodeParameters ps) rest k (p .1));
         only = λ h.
             let (ps, rest, s, e) = ends .only h in
             (AtomHead (numberAt l (at + 1)) ps, rest, atom-stands ps rest k b few s, omega arith);

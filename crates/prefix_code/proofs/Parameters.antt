@@ -9,13 +9,13 @@ use Rattle.definitions.specs.Sheet.{numberAt}
 use Rattle.definitions.specs.Prop.{PropParameter, Uninstantiated, Instantiated, parameterName}
 use Rattle.definitions.specs.Code.{u16, encodeParameter, encodeParameters, CodableParameter, CodableParameters}
 use Rattle.definitions.proofs.Readings.{Bytes}
-use Rattle.prefix_code.specs.Scan.{Stands, Several}
+use Rattle.prefix_code.specs.Scan.{Stands, Several, parameterCoding, parametersCoding}
 use Rattle.prefix_code.proofs.Positions.{byte-stands, byte-at, number-stands, number-at}
 use Rattle.prefix_code.proofs.Runs.{Run}
 
 module _ (names : ℕ) where
   abbrev pub ParameterAt : List ℕ → ℕ → PropParameter ℕ → List ℕ → Type 0
-  ParameterAt = Stands (CodableParameter names) encodeParameter
+  ParameterAt = Stands (parameterCoding names)
 
   -- the bytes of a parameter that stands at a position
   pub record ParameterBytes (l : List ℕ) (at : ℕ) (p : PropParameter ℕ) (rest : List ℕ) : Type 0 where
@@ -30,55 +30,50 @@ module _ (names : ℕ) where
   pub parameter-bytes : (l : List ℕ) (at : ℕ) (p : PropParameter ℕ) (rest : List ℕ) → ParameterAt l at p rest → ParameterBytes l at p rest
   unfolding Stands encodeParameter CodableParameter parameterName u16
   parameter-bytes l at (Uninstantiated x) rest (g, e) =
-      let b = byte-at l at 0 (u16 x ++ rest) e in
-      let n = number-at l (at + 1) x rest (b .next) in
-      let three : at + 1 + 2 ≡ at + 3 = omega arith in
+      let b = byte-at l at (at + 1) 0 (u16 x ++ rest) (omega arith) e in
+      let n = number-at l (at + 1) (at + 3) x rest (omega arith) (b .next) in
       record {
         inside = omega (arith, n .inside);
         name = n .value;
         below = g;
         kind = omega (arith, b .value);
-        uninstantiated = λ _. (ap Uninstantiated (sym (n .value)), rw three at (n .next));
+        uninstantiated = λ _. (ap Uninstantiated (sym (n .value)), n .next);
         instantiated = λ h. absurd (omega (arith, b .value));
       }
   parameter-bytes l at (Instantiated x i) rest (g, e) =
-      let b = byte-at l at 1 (u16 x ++ (u16 i ++ rest)) e in
-      let n = number-at l (at + 1) x (u16 i ++ rest) (b .next) in
-      let three : at + 1 + 2 ≡ at + 3 = omega arith in
-      let m = number-at l (at + 3) i rest (rw three at (n .next)) in
-      let five : at + 3 + 2 ≡ at + 5 = omega arith in
+      let b = byte-at l at (at + 1) 1 (u16 x ++ (u16 i ++ rest)) (omega arith) e in
+      let n = number-at l (at + 1) (at + 3) x (u16 i ++ rest) (omega arith) (b .next) in
+      let m = number-at l (at + 3) (at + 5) i rest (omega arith) (n .next) in
       record {
         inside = omega (arith, n .inside);
         name = n .value;
         below = g .0;
         kind = omega (arith, b .value);
         uninstantiated = λ h. absurd (omega (arith, b .value));
-        instantiated = λ _. (cc, omega (arith, m .inside), rw five at (m .next));
+        instantiated = λ _. (cc, omega (arith, m .inside), m .next);
       }
 
   module _ (l : List ℕ) (at : ℕ) (bytes : Bytes l) (below : numberAt l (at + 1) < names) where
+    -- the parameter that the bytes at a position are
     pub uninstantiated-stands : at + 3 ≤ length l → getD l at 0 ≡ 0 → ParameterAt l at (Uninstantiated (numberAt l (at + 1))) (drop (at + 3) l)
     unfolding Stands encodeParameter CodableParameter
     uninstantiated-stands h b =
-        let three : at + 1 + 2 ≡ at + 3 = omega arith in
-        let first = byte-stands l at (omega arith) in
-        let name = rw three at (number-stands l (at + 1) bytes (omega arith)) in
+        let kind = byte-stands l at (at + 1) (omega arith) (omega arith) in
+        let name = number-stands l (at + 1) (at + 3) (omega arith) bytes (omega arith) in
         (below, cc)
 
     pub instantiated-stands : at + 5 ≤ length l → getD l at 0 ≡ 1
         → ParameterAt l at (Instantiated (numberAt l (at + 1)) (numberAt l (at + 3))) (drop (at + 5) l)
     unfolding Stands encodeParameter CodableParameter u16 numberAt
     instantiated-stands h b =
-        let three : at + 1 + 2 ≡ at + 3 = omega arith in
-        let five : at + 3 + 2 ≡ at + 5 = omega arith in
-        let first = byte-stands l at (omega arith) in
-        let name = rw three at (number-stands l (at + 1) bytes (omega arith)) in
-        let id = rw five at (number-stands l (at + 3) bytes (omega arith)) in
+        let kind = byte-stands l at (at + 1) (omega arith) (omega arith) in
+        let name = number-stands l (at + 1) (at + 3) (omega arith) bytes (omega arith) in
+        let id = number-stands l (at + 3) (at + 5) (omega arith) bytes (omega arith) in
         ((below, omega (arith, bytes (at + 3), bytes (at + 3 + 1))), cc)
 
   -- a list of parameters is a run of them
   parameters-run : (ps : List (PropParameter ℕ)) (rest : List ℕ) → CodableParameters names ps
-      → Run (CodableParameter names) encodeParameter (length ps) (encodeParameters ps ++ rest) rest
+      → Run (parameterCoding names) (length ps) (encodeParameters ps ++ rest) rest
   unfolding CodableParameters encodeParameters
   parameters-run [] rest g = refl
   parameters-run (p ∷ ps) rest g = (
@@ -89,7 +84,7 @@ module _ (names : ℕ) where
     parameters-run ps rest (g .1),
   )
 
-  run-parameters : (n : ℕ) (xs rest : List ℕ) → Run (CodableParameter names) encodeParameter n xs rest
+  run-parameters : (n : ℕ) (xs rest : List ℕ) → Run (parameterCoding names) n xs rest
       → (ps : List (PropParameter ℕ)) × Several names n ps × (xs ≡ encodeParameters ps ++ rest)
   unfolding Several CodableParameters encodeParameters
   run-parameters zero xs rest r = ([], (tt, refl), r)
@@ -101,12 +96,12 @@ module _ (names : ℕ) where
       )
 
   pub several-run : (count : ℕ) (xs rest : List ℕ)
-      → Run (Several names count) encodeParameters 1 xs rest ↔ Run (CodableParameter names) encodeParameter count xs rest
+      → Run (parametersCoding names count) 1 xs rest ↔ Run (parameterCoding names) count xs rest
   unfolding Several
   several-run count xs rest = (forth, back)
     where
-      forth : Run (Several names count) encodeParameters 1 xs rest → Run (CodableParameter names) encodeParameter count xs rest
+      forth : Run (parametersCoding names count) 1 xs rest → Run (parameterCoding names) count xs rest
       forth (ps, ys, (g, n), e, t) = rw (e, ← n, ← t) (parameters-run ps ys g)
 
-      back : Run (CodableParameter names) encodeParameter count xs rest → Run (Several names count) encodeParameters 1 xs rest
+      back : Run (parameterCoding names) count xs rest → Run (parametersCoding names count) 1 xs rest
       back r = let (ps, s, e) = run-parameters count xs rest r in (ps, rest, s, e, refl)

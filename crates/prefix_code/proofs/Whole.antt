@@ -1,30 +1,30 @@
 -- What the end of the code at 0 says of all the bytes: what they decode to, and how deep that nests.
-use Prim.Native.Nat.{ℕ, _+_, _≤_, _<_}
+use Prim.Native.Nat.{ℕ, _<_}
 use mathlib.Core.Path.{_≡_, refl, sym, ap, _∙_}
-use mathlib.Core.Bool.{Bool, true, false, not}
+use mathlib.Core.Bool.{false, not}
 use mathlib.Core.Option.{Option, none, some, Option·getD}
-use mathlib.Core.List.{List, [], _∷_, _++_, append-nil}
+use mathlib.Core.List.{List, [], _∷_, append-nil}
 use native.Mathlib.Omega.{arith}
 use native.Mathlib.Decide.{decLt}
 use lib.ListN.{length, length-append}
 use lib.Dec.{eqb, ltb}
 use borrow.Author.Tests.{eq-eqb, ne-eqb, lt-ltb, le-ltb}
 use Rattle.definitions.specs.Prop.{Prop, False, nesting}
-use Rattle.definitions.specs.Code.{encode, decode, Codable}
+use Rattle.definitions.specs.Code.{encode, decode}
 use Rattle.definitions.specs.Admission.{isNone}
 use Rattle.definitions.proofs.PrefixCode.{Bytes, decode-encode, encode-decode, encode-injective}
-use Rattle.prefix_code.specs.Scan.{Stands, Ends, Scanned, Shallow}
+use Rattle.prefix_code.specs.Scan.{Stands, Ends, At, Scanned, Shallow, shallowCoding}
 
 module _ (names : ℕ) (l : List ℕ) (bytes : Bytes l) where
   -- bytes that decode are the code of what they decode to
-  decoded : (p : Prop ℕ) → decode names l ≡ some p → Stands (Codable names) encode l 0 p []
+  decoded : (p : Prop ℕ) → decode names l ≡ some p → At names l 0 p []
   unfolding Stands
   decoded p e =
       let w = encode-decode names l p bytes e in
       (w .1, sym (append-nil (encode p) ∙ w .0))
 
   -- a code over the whole length decodes
-  whole-decodes : (p : Prop ℕ) (rest : List ℕ) → Stands (Codable names) encode l 0 p rest → length (encode p) ≡ length l → decode names l ≡ some p
+  whole-decodes : (p : Prop ℕ) (rest : List ℕ) → At names l 0 p rest → length (encode p) ≡ length l → decode names l ≡ some p
   unfolding Stands
   whole-decodes p [] (g, e) h = rw (e, append-nil) (decode-encode names p g)
   whole-decodes p (x ∷ rest) (g, e) h = absurd (omega (arith, simp length-append at (ap length e)))
@@ -45,7 +45,7 @@ module _ (names : ℕ) (l : List ℕ) (bytes : Bytes l) where
           omega arith
       go (some p) e = eq-eqb r (length l) (omega (arith, s .found p [] (decoded p e), decoded-length p e))
 
-  pub shallow-whole : (depth r : ℕ) → isNone (decode names l) ≡ false → Ends (Shallow names depth) encode l 0 r
+  pub shallow-whole : (depth r : ℕ) → isNone (decode names l) ≡ false → Ends (shallowCoding names depth) l 0 r
       → ltb (length l) r ≡ ltb depth (nesting (Option·getD (decode names l) False))
   unfolding isNone Stands Shallow
   shallow-whole depth r is s = go (decode names l) refl is
@@ -54,7 +54,7 @@ module _ (names : ℕ) (l : List ℕ) (bytes : Bytes l) where
       go none e n = let z : _≡_ {A = ℕ} 0 1 = cc in absurd (omega arith)
       go (some p) e n = by (decLt (length l) r) (decLt depth (nesting p))
         where
-          whole : Stands (Codable names) encode l 0 p []
+          whole : At names l 0 p []
           whole = decoded p e
 
           by : Dec (length l < r) → Dec (depth < nesting p) → ltb (length l) r ≡ ltb depth (nesting p)

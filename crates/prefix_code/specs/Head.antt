@@ -4,6 +4,7 @@ use mathlib.Core.List.{List, [], _∷_, _++_}
 use lib.ListN.{length, getD}
 use Rattle.definitions.specs.Prop.{PropParameter, Connective, connectiveByte, Quantifier, quantifierByte}
 use Rattle.definitions.specs.Code.{parameterLimit, u16, encodeParameters, CodableParameters}
+use Rattle.prefix_code.specs.Scan.{Coding}
 
 pub data Head : Type 0 where
   TrueHead FalseHead : Head
@@ -26,6 +27,9 @@ CodableHead names FalseHead = Unit {0}
 CodableHead names (BinaryHead c) = Unit {0}
 CodableHead names (AtomHead a ps) = (a < names) × (length ps ≤ parameterLimit) × CodableParameters names ps
 CodableHead names (QuantifiedHead q x t) = (x < names) × (t < names)
+
+abbrev pub headCoding : ℕ → Coding Head
+headCoding names = record { Fits = CodableHead names; code = encodeHead }
 
 -- how many parts follow a head byte
 unfoldable pub partsAfter : ℕ → ℕ

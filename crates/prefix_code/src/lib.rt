@@ -7,10 +7,10 @@ ghost use lib.ListN.{length};
 ghost use lib.Dec.{ltb};
 ghost use Rattle.definitions.specs.Sheet.{propositionNestingLimit};
 ghost use Rattle.definitions.specs.Prop.{False, nesting};
-ghost use Rattle.definitions.specs.Code.{encodeParameter, CodableParameter, encodeParameters, encode, decode};
+ghost use Rattle.definitions.specs.Code.{decode};
 ghost use Rattle.definitions.specs.Admission.{isNone};
-ghost use Rattle.prefix_code.specs.Scan.{Ends, Scanned, Several, Shallow};
-ghost use Rattle.prefix_code.specs.Head.{encodeHead, CodableHead, partsAfter};
+ghost use Rattle.prefix_code.specs.Scan.{Ends, Scanned, parameterCoding, parametersCoding, shallowCoding};
+ghost use Rattle.prefix_code.specs.Head.{headCoding, partsAfter};
 
 // An atom has at most so many parameters.
 const PARAMETER_LIMIT: u8 = 8;
@@ -24,7 +24,7 @@ const PARTS: [usize; 8] = [0, 0, 2, 2, 2, 0, 1, 1];
 // Where the parameter at `at` ends, and past the end of the code if none stands there.
 pub fn parameter_end(code: &[u8], at: usize, names: usize) -> usize
     requires { ⌜ at ≤ length (now code) ⌝ }
-    ensures { λ r. ⌜ Ends (CodableParameter names) encodeParameter (now (code .entry)) at r ⌝ }
+    ensures { λ r. ⌜ Ends (parameterCoding names) (now (code .entry)) at r ⌝ }
 {
     let none = code.len() + 1;
     if code.len() - at < 3 {
@@ -49,7 +49,7 @@ pub fn parameter_end(code: &[u8], at: usize, names: usize) -> usize
 // Where so many parameters from `at` on end, and past the end of the code if fewer stand there.
 pub fn parameters_end(code: &[u8], at: usize, count: usize, names: usize) -> usize
     requires { ⌜ at ≤ length (now code) ⌝ }
-    ensures { λ r. ⌜ Ends (Several names count) encodeParameters (now (code .entry)) at r ⌝ }
+    ensures { λ r. ⌜ Ends (parametersCoding names count) (now (code .entry)) at r ⌝ }
 {
     let mut i = at;
     let mut needed = count;
@@ -67,7 +67,7 @@ pub fn parameters_end(code: &[u8], at: usize, count: usize, names: usize) -> usi
 // Where the head at `at` ends, and past the end of the code if none stands there.
 pub fn head_end(code: &[u8], at: usize, names: usize) -> usize
     requires { ⌜ at ≤ length (now code) ⌝ }
-    ensures { λ r. ⌜ Ends (CodableHead names) encodeHead (now (code .entry)) at r ⌝ }
+    ensures { λ r. ⌜ Ends (headCoding names) (now (code .entry)) at r ⌝ }
 {
     let none = code.len() + 1;
     if code.len() <= at {
@@ -131,7 +131,7 @@ pub fn scan(code: &[u8], at: usize, names: usize) -> usize
 // Where the proposition at `at` ends if it nests at most so deep, and past the end of the code if none such stands there.
 fn shallow_end(code: &[u8], at: usize, names: usize, depth: usize) -> usize
     requires { ⌜ at ≤ length (now code) ⌝ }
-    ensures { λ r. ⌜ Ends (Shallow names depth) encode (now (code .entry)) at r ⌝ }
+    ensures { λ r. ⌜ Ends (shallowCoding names depth) (now (code .entry)) at r ⌝ }
 {
     if depth == 0 {
         return code.len() + 1;

@@ -1,14 +1,13 @@
 -- The loop's invariant: a shallow proposition stands from `at` on exactly where the needed parts, less deep by one, stand from `i` on.
 -- The calls end by the depth.
+use Prim.Native.Nat.{ℕ, _-_, _<_}
 use mathlib.Core.Path.{_≡_}
 use native.Mathlib.Nat.{pos-of-ne-zero}
 use native.Mathlib.Omega.{arith}
-use Rattle.definitions.specs.Code.{encode}
-use Rattle.prefix_code.specs.Scan.{Shallow}
+use Rattle.prefix_code.specs.Scan.{shallowCoding}
 use Rattle.prefix_code.proofs.Runs.{Walked, walk-step, walk-stop, walk-end}
 use Rattle.prefix_code.proofs.Propositions.{headed}
 use Rattle.prefix_code.proofs.Depth.{no-flat, shallow-walk, no-shallow}
-use Prim.Native.Nat.{ℕ, _-_, _<_}
 use borrow.Fn.Kinds.{In}
 use borrow.Fn.PlainCycle.{Measures, is, falls, and}
 use Rattle.prefix_code.proofs.shallow_end.Reads as shallow-end
@@ -31,7 +30,7 @@ shallow-end-below t =
     and 1 shallow-end-kinds.ps (falls 1 shallow-end-kinds.ps _<_ μ-shallow-end t) shallow-end.Pre
 
 abbrev shallow-end-Inv-loop : shallow-end-lts.InvT-loop
-shallow-end-Inv-loop code at names depth i₀ needed₀ i needed = Walked (Shallow names depth) encode (Shallow names (depth - 1)) encode code at i needed
+shallow-end-Inv-loop code at names depth i₀ needed₀ i needed = Walked (shallowCoding names depth) (shallowCoding names (depth - 1)) code at i needed
 
 abbrev shallow-end-μ-loop : shallow-end-lts.MeasureT-loop
 shallow-end-μ-loop code at names depth i₀ needed₀ i needed = needed
@@ -66,23 +65,23 @@ shallow-end-sub-shallow-end : (t : ℕ) → shallow-end-lts.Need-sub-shallow-end
 shallow-end-sub-shallow-end t c = pos-of-ne-zero (c .before .before .before .before .before .before .if1 .left)
 
 shallow-end-shallow-end-requires : (t : ℕ) → shallow-end-lts.Need-shallow-end-requires (shallow-end-claims t) (shallow-end-at t) shallow-end.Post shallow-end-Inv-loop shallow-end-μ-loop
-shallow-end-shallow-end-requires t c κs = (omega (arith, c .before .before .before .before .before .before .before .before .pre .0, pos-of-ne-zero (c .before .before .before .before .before .before .if1 .left)), c .before .loop .inv .inside)
+shallow-end-shallow-end-requires t c κs = (omega (arith, pos-of-ne-zero (c .before .before .before .before .before .before .if1 .left)), c .before .loop .inv .inside)
 
 shallow-end-returns-3 : (t : ℕ) → shallow-end-lts.Need-returns-3 (shallow-end-claims t) (shallow-end-at t) shallow-end.Post shallow-end-Inv-loop shallow-end-μ-loop
 shallow-end-returns-3 t c = walk-stop _ _ _ _ _ (c .before .before .before .loop .inv) (c .before .before .loop-test .taken) (c .before .shallow-end .ensures) (c .if3 .taken)
 
 shallow-end-sub-needed : (t : ℕ) → shallow-end-lts.Need-sub-needed (shallow-end-claims t) (shallow-end-at t) shallow-end.Post shallow-end-Inv-loop shallow-end-μ-loop
-shallow-end-sub-needed t c = omega (arith, c .before .before .loop-test .taken)
+shallow-end-sub-needed t c = omega arith
 
 shallow-end-loop-less : (t : ℕ) → shallow-end-lts.Need-loop-less (shallow-end-claims t) (shallow-end-at t) shallow-end.Post shallow-end-Inv-loop shallow-end-μ-loop
-shallow-end-loop-less t c = omega (arith, c .before .before .loop-test .taken)
+shallow-end-loop-less t c = omega arith
 
 shallow-end-loop-again : (t : ℕ) → shallow-end-lts.Need-loop-again (shallow-end-claims t) (shallow-end-at t) shallow-end.Post shallow-end-Inv-loop shallow-end-μ-loop
 shallow-end-loop-again t c = walk-step _ _ _ _ _ (c .before .before .before .loop .inv) (c .before .before .loop-test .taken) (c .before .shallow-end .ensures) (c .if3 .left)
 
 shallow-end-returns-4 : (t : ℕ) → shallow-end-lts.Need-returns-4 (shallow-end-claims t) (shallow-end-at t) shallow-end.Post shallow-end-Inv-loop shallow-end-μ-loop
 shallow-end-returns-4 t c =
-    let none : c .before .loop .needed ≡ 0 = omega (arith, c .loop-test .left) in
+    let none : c .before .loop .needed ≡ 0 = omega arith in
     walk-end _ _ _ (c .before .before .before .before .before .before .before .before .pre .1) (rw none at (c .before .loop .inv))
 
 pub +shallow-end-spec : {M : Type 1} → statement M

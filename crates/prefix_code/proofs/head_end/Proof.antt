@@ -1,9 +1,7 @@
 -- A byte below 5 is a head by itself; an atom ends where its parameters end; a quantifier has two names below `names`.
-use Prim.Native.Nat.{_+_, _<_}
 use native.Mathlib.Omega.{arith}
-use lib.ListN.{getD}
 use Rattle.definitions.specs.Code.{parameterLimit}
-use Rattle.prefix_code.specs.Head.{encodeHead, CodableHead}
+use Rattle.prefix_code.specs.Head.{headCoding}
 use Rattle.prefix_code.proofs.Runs.{no-ends, ends-at}
 use Rattle.prefix_code.proofs.Heads.{head-bytes, bare-stands, atom-ends, quantified-stands}
 use borrow.Author.Needs.{needs}
@@ -15,8 +13,8 @@ add-none c = search needs
 
 returns : tie.Need-returns
 returns c =
-    no-ends (CodableHead _) encodeHead (c .before .before .args .code .now) (c .before .before .args .at) _ (omega arith)
-    (λ h rest s. let b = head-bytes _ _ _ h rest s in omega (arith, b .inside, c .if1 .taken))
+    no-ends (headCoding _) _ _ _ (omega arith)
+    (λ h rest s. let b = head-bytes _ _ _ h rest s in omega arith)
 
 shared-slice-read-head : tie.Need-shared-slice-read-head
 shared-slice-read-head c = search needs
@@ -26,21 +24,21 @@ add-result c = search needs
 
 returns-2 : tie.Need-returns-2
 returns-2 c =
-    ends-at (CodableHead _) encodeHead (c .before .before .before .before .args .code .now) (c .before .before .before .before .args .at) _ (c .before .before .before .before .pre) (omega arith)
-    (λ h rest s. head-bytes _ _ _ h rest s .bare (c .if2 .taken)) (bare-stands _ _ _ (c .before .before .if1 .left) (c .if2 .taken))
+    ends-at (headCoding _) _ _ _ (omega arith) (omega arith)
+    (λ h rest s. head-bytes _ _ _ h rest s .bare (omega arith)) (bare-stands _ _ _ (omega arith) (omega arith))
 
 returns-3 : tie.Need-returns-3
 returns-3 c =
-    no-ends (CodableHead _) encodeHead (c .before .before .before .before .before .args .code .now) (c .before .before .before .before .before .args .at) _ (omega arith)
-    (λ h rest s. let b = head-bytes _ _ _ h rest s in omega (arith, b .known, c .if3 .taken))
+    no-ends (headCoding _) _ _ _ (omega arith)
+    (λ h rest s. let b = head-bytes _ _ _ h rest s in omega arith)
 
 sub-if4 : tie.Need-sub-if4
 sub-if4 c = search needs
 
 returns-4 : tie.Need-returns-4
 returns-4 c =
-    no-ends (CodableHead _) encodeHead (c .before .before .before .before .before .before .args .code .now) (c .before .before .before .before .before .before .args .at) _ (omega arith)
-    (λ h rest s. let b = head-bytes _ _ _ h rest s in omega (arith, b .named (c .before .before .if2 .left) .0))
+    no-ends (headCoding _) _ _ _ (omega arith)
+    (λ h rest s. let b = head-bytes _ _ _ h rest s in omega (arith, b .named (omega arith) .0))
 
 add-number-at : tie.Need-add-number-at
 add-number-at c = search needs
@@ -50,8 +48,8 @@ number-at-requires c κs = search needs
 
 returns-5 : tie.Need-returns-5
 returns-5 c =
-    no-ends (CodableHead _) encodeHead (c .before .before .before .before .before .before .before .before .args .code .now) (c .before .before .before .before .before .before .before .before .args .at) _ (omega arith)
-    (λ h rest s. let b = head-bytes _ _ _ h rest s in omega (arith, b .named (c .before .before .before .before .if2 .left) .1, c .before .number-at .ensures .0, c .if5 .taken))
+    no-ends (headCoding _) _ _ _ (omega arith)
+    (λ h rest s. let b = head-bytes _ _ _ h rest s in omega (arith, b .named (omega arith) .1))
 
 add-count : tie.Need-add-count
 add-count c = search needs
@@ -62,8 +60,8 @@ shared-slice-read-count c = search needs
 returns-6 : tie.Need-returns-6
 unfolding parameterLimit
 returns-6 c =
-    no-ends (CodableHead _) encodeHead (c .before .before .before .before .before .before .before .before .before .before .before .args .code .now) (c .before .before .before .before .before .before .before .before .before .before .before .args .at) _ (omega arith)
-    (λ h rest s. let (a, ps, b) = head-bytes _ _ _ h rest s .atom (c .before .before .if6 .taken) in omega (arith, b .count, b .few, c .if7 .taken))
+    no-ends (headCoding _) _ _ _ (omega arith)
+    (λ h rest s. let (a, ps, b) = head-bytes _ _ _ h rest s .atom (omega arith) in omega arith)
 
 add-parameters-end : tie.Need-add-parameters-end
 add-parameters-end c = search needs
@@ -77,16 +75,16 @@ parameters-end-requires c κs = search needs
 returns-7 : tie.Need-returns-7
 unfolding parameterLimit
 returns-7 c =
-    atom-ends _ _ _ (λ i. omega (arith, c .before .before .before .before .before .before .before .before .before .before .before .shared-slice-known .given i)) (omega (arith, c .before .before .before .before .before .number-at .ensures .0, c .before .before .before .before .if5 .left)) _ (omega arith)
-    (c .before .before .before .if6 .taken) (c .before .if7 .left) (c .parameters-end .ensures)
+    atom-ends _ _ _ (λ i. omega (arith, c .before .before .before .before .before .before .before .before .before .before .before .shared-slice-known .given i)) (omega arith) _ (omega arith)
+    (omega arith) (omega arith) (c .parameters-end .ensures)
 
 sub-if8 : tie.Need-sub-if8
 sub-if8 c = search needs
 
 returns-8 : tie.Need-returns-8
 returns-8 c =
-    no-ends (CodableHead _) encodeHead (c .before .before .before .before .before .before .before .before .before .before .args .code .now) (c .before .before .before .before .before .before .before .before .before .before .args .at) _ (omega arith)
-    (λ h rest s. let (q, x, t, b) = head-bytes _ _ _ h rest s .quantified (omega arith) in omega (arith, b .inside))
+    no-ends (headCoding _) _ _ _ (omega arith)
+    (λ h rest s. let (q, x, t, b) = head-bytes _ _ _ h rest s .quantified (omega arith) in omega arith)
 
 add-number-at-2 : tie.Need-add-number-at-2
 add-number-at-2 c = search needs
@@ -96,19 +94,18 @@ number-at-requires-2 c κs = search needs
 
 returns-9 : tie.Need-returns-9
 returns-9 c =
-    no-ends (CodableHead _) encodeHead (c .before .before .before .before .before .before .before .before .before .before .before .before .args .code .now) (c .before .before .before .before .before .before .before .before .before .before .before .before .args .at) _ (omega arith)
-    (λ h rest s. let (q, x, t, b) = head-bytes _ _ _ h rest s .quantified (omega arith) in omega (arith, b .datatype, b .datatype-below, c .before .number-at2 .ensures .0, c .if9 .taken))
+    no-ends (headCoding _) _ _ _ (omega arith)
+    (λ h rest s. let (q, x, t, b) = head-bytes _ _ _ h rest s .quantified (omega arith) in omega arith)
 
 add-result-2 : tie.Need-add-result-2
 add-result-2 c = search needs
 
 returns-10 : tie.Need-returns-10
 returns-10 c =
-    let quantified : 5 < getD (c .before .before .before .before .before .before .before .before .before .before .before .before .args .code .now) (c .before .before .before .before .before .before .before .before .before .before .before .before .args .at) 0 = omega (arith, c .before .before .before .before .before .before .before .before .if2 .left, c .before .before .before .if6 .left) in
-    ends-at (CodableHead _) encodeHead (c .before .before .before .before .before .before .before .before .before .before .before .before .args .code .now) (c .before .before .before .before .before .before .before .before .before .before .before .before .args .at) _ (c .before .before .before .before .before .before .before .before .before .before .before .before .pre) (omega arith)
-    (λ h rest s. let (q, x, t, b) = head-bytes _ _ _ h rest s .quantified quantified in b .next)
-    (quantified-stands _ _ _ (λ i. omega (arith, c .before .before .before .before .before .before .before .before .before .before .before .shared-slice-known .given i)) (omega (arith, c .before .before .before .before .before .number-at .ensures .0, c .before .before .before .before .if5 .left)) (omega arith)
-    quantified (omega (arith, c .before .before .before .before .before .before .before .if3 .left)) (omega (arith, c .before .number-at2 .ensures .0, c .if9 .left)))
+    ends-at (headCoding _) _ _ _ (omega arith) (omega arith)
+    (λ h rest s. let (q, x, t, b) = head-bytes _ _ _ h rest s .quantified (omega arith) in b .next)
+    (quantified-stands _ _ _ (λ i. omega (arith, c .before .before .before .before .before .before .before .before .before .before .before .shared-slice-known .given i)) (omega arith) (omega arith)
+    (omega arith) (omega arith) (omega arith))
 
 pub head-end-spec : {M : Type 1} → statement M
 head-end-spec =

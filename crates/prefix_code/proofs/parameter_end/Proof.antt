@@ -1,9 +1,6 @@
 -- Three bytes and a name below `names` are asked of any parameter, two bytes more of an instantiated one.
-use Prim.Native.Nat.{_+_}
-use mathlib.Core.Path.{_≡_}
 use native.Mathlib.Omega.{arith}
-use lib.ListN.{getD}
-use Rattle.definitions.specs.Code.{encodeParameter, CodableParameter}
+use Rattle.prefix_code.specs.Scan.{parameterCoding}
 use Rattle.prefix_code.proofs.Runs.{no-ends, ends-at}
 use Rattle.prefix_code.proofs.Parameters.{parameter-bytes, uninstantiated-stands, instantiated-stands}
 use borrow.Author.Needs.{needs}
@@ -18,8 +15,8 @@ sub-if1 c = search needs
 
 returns : tie.Need-returns
 returns c =
-    no-ends (CodableParameter _) encodeParameter (c .before .before .args .code .now) (c .before .before .args .at) _ (omega arith)
-    (λ p rest s. let b = parameter-bytes _ _ _ p rest s in omega (arith, b .inside))
+    no-ends (parameterCoding _) _ _ _ (omega arith)
+    (λ p rest s. let b = parameter-bytes _ _ _ p rest s in omega arith)
 
 add-number-at : tie.Need-add-number-at
 add-number-at c = search needs
@@ -29,8 +26,8 @@ number-at-requires c κs = search needs
 
 returns-2 : tie.Need-returns-2
 returns-2 c =
-    no-ends (CodableParameter _) encodeParameter (c .before .before .before .before .args .code .now) (c .before .before .before .before .args .at) _ (omega arith)
-    (λ p rest s. let b = parameter-bytes _ _ _ p rest s in omega (arith, b .name, b .below, c .before .number-at .ensures .0, c .if2 .taken))
+    no-ends (parameterCoding _) _ _ _ (omega arith)
+    (λ p rest s. let b = parameter-bytes _ _ _ p rest s in omega arith)
 
 shared-slice-read-kind : tie.Need-shared-slice-read-kind
 shared-slice-read-kind c = search needs
@@ -40,21 +37,21 @@ add-result c = search needs
 
 returns-3 : tie.Need-returns-3
 returns-3 c =
-    ends-at (CodableParameter _) encodeParameter (c .before .before .before .before .before .before .args .code .now) (c .before .before .before .before .before .before .args .at) _ (c .before .before .before .before .before .before .pre) (omega arith)
-    (λ p rest s. parameter-bytes _ _ _ p rest s .uninstantiated (c .if3 .taken) .1)
-    (_, uninstantiated-stands _ _ _ (λ i. omega (arith, c .before .before .before .before .before .shared-slice-known .given i)) (omega (arith, c .before .before .before .number-at .ensures .0, c .before .before .if2 .left)) (omega arith) (c .if3 .taken))
+    ends-at (parameterCoding _) _ _ _ (omega arith) (omega arith)
+    (λ p rest s. parameter-bytes _ _ _ p rest s .uninstantiated (omega arith) .1)
+    (_, uninstantiated-stands _ _ _ (λ i. omega (arith, c .before .before .before .before .before .shared-slice-known .given i)) (omega arith) (omega arith) (omega arith))
 
 returns-4 : tie.Need-returns-4
 returns-4 c =
-    no-ends (CodableParameter _) encodeParameter (c .before .before .before .before .before .before .before .args .code .now) (c .before .before .before .before .before .before .before .args .at) _ (omega arith)
-    (λ p rest s. let b = parameter-bytes _ _ _ p rest s in omega (arith, b .kind, c .if4 .taken))
+    no-ends (parameterCoding _) _ _ _ (omega arith)
+    (λ p rest s. let b = parameter-bytes _ _ _ p rest s in omega arith)
 
 sub-if5 : tie.Need-sub-if5
 sub-if5 c = search needs
 
 returns-5 : tie.Need-returns-5
 returns-5 c =
-    no-ends (CodableParameter _) encodeParameter (c .before .before .before .before .before .before .before .before .args .code .now) (c .before .before .before .before .before .before .before .before .args .at) _ (omega arith)
+    no-ends (parameterCoding _) _ _ _ (omega arith)
     (λ p rest s. let b = parameter-bytes _ _ _ p rest s in omega (arith, b .instantiated (omega arith) .1))
 
 add-result-2 : tie.Need-add-result-2
@@ -62,10 +59,9 @@ add-result-2 c = search needs
 
 returns-6 : tie.Need-returns-6
 returns-6 c =
-    let kind : getD (c .before .before .before .before .before .before .before .before .args .code .now) (c .before .before .before .before .before .before .before .before .args .at) 0 ≡ 1 = omega (arith, c .before .before .if3 .left, c .before .if4 .left) in
-    ends-at (CodableParameter _) encodeParameter (c .before .before .before .before .before .before .before .before .args .code .now) (c .before .before .before .before .before .before .before .before .args .at) _ (c .before .before .before .before .before .before .before .before .pre) (omega arith)
-    (λ p rest s. parameter-bytes _ _ _ p rest s .instantiated kind .2)
-    (_, instantiated-stands _ _ _ (λ i. omega (arith, c .before .before .before .before .before .before .before .shared-slice-known .given i)) (omega (arith, c .before .before .before .before .before .number-at .ensures .0, c .before .before .before .before .if2 .left)) (omega arith) kind)
+    ends-at (parameterCoding _) _ _ _ (omega arith) (omega arith)
+    (λ p rest s. parameter-bytes _ _ _ p rest s .instantiated (omega arith) .2)
+    (_, instantiated-stands _ _ _ (λ i. omega (arith, c .before .before .before .before .before .before .before .shared-slice-known .given i)) (omega arith) (omega arith) (omega arith))
 
 pub parameter-end-spec : {M : Type 1} → statement M
 parameter-end-spec =

@@ -2,15 +2,14 @@
 use mathlib.Core.Path.{_≡_}
 use native.Mathlib.Omega.{arith}
 use lib.ListN.{drop}
-use Rattle.definitions.specs.Code.{encodeParameter, encodeParameters, CodableParameter}
-use Rattle.prefix_code.specs.Scan.{Several}
+use Rattle.prefix_code.specs.Scan.{parameterCoding, parametersCoding}
 use Rattle.prefix_code.proofs.Runs.{Walked, walk-step, walk-stop, walk-end}
 use Rattle.prefix_code.proofs.Parameters.{several-run}
 use Rattle.prefix_code.proofs.parameters_end.Statement.{statement}
 use Rattle.prefix_code.proofs.parameters_end.Tie as tie
 
 abbrev Inv-loop : tie.InvT-loop
-Inv-loop code at count names i₀ needed₀ i needed = Walked (Several names count) encodeParameters (CodableParameter names) encodeParameter code at i needed
+Inv-loop code at count names i₀ needed₀ i needed = Walked (parametersCoding names count) (parameterCoding names) code at i needed
 
 abbrev μ-loop : tie.MeasureT-loop
 μ-loop code at count names i₀ needed₀ i needed = needed

@@ -34,7 +34,7 @@ parts-after-requires : tie.Need-parts-after-requires Inv-loop μ-loop
 parts-after-requires c κs = headed _ _ _ _ (c .before .before .head-end .ensures) (c .before .if1 .left) .known
 
 add-needed : tie.Need-add-needed Inv-loop μ-loop
-add-needed c = omega (arith, headed _ _ _ _ (c .before .before .before .head-end .ensures) (c .before .before .if1 .left), c .parts-after .ensures)
+add-needed c = omega (arith, headed _ _ _ _ (c .before .before .before .head-end .ensures) (c .before .before .if1 .left))
 
 loop-less : tie.Need-loop-less Inv-loop μ-loop
 loop-less c = omega (arith, headed _ _ _ _ (c .before .before .before .head-end .ensures) (c .before .before .if1 .left))
