@@ -8,7 +8,7 @@ use lib.Seq.{getD-set-same, getD-set-other}
 use Rattle.definitions.specs.Prop.{Prop, True, False, Binary, Atom, Quantified, connectiveByte}
 use Rattle.definitions.specs.Code.{u16, encode, Codable}
 use Rattle.prefix_code.specs.Scan.{Stands, At, Ends}
-use Rattle.prefix_code.specs.Head.{Head, TrueHead, FalseHead, BinaryHead, AtomHead, QuantifiedHead, encodeHead, CodableHead, partsAfter}
+use Rattle.prefix_code.specs.Head.{Head, TrueHead, FalseHead, BinaryHead, AtomHead, QuantifiedHead, encodeHead, CodableHead, headCoding, partsAfter}
 use Rattle.prefix_code.proofs.Positions.{after}
 use Rattle.prefix_code.proofs.Heads.{partCount, HeadAt, head-bytes}
 use Rattle.prop.specs.PropAt.{propAt, Present}
@@ -122,7 +122,7 @@ module _ (names : ℕ) (l : List ℕ) where
     so-far : Between p at before ends i todo
 
   -- behind the head all parts are needed
-  pub filling-starts : (p : Prop ℕ) (at : ℕ) (rest before : List ℕ) (i : ℕ) → At names l at p rest → Ends (CodableHead names) encodeHead l at i
+  pub filling-starts : (p : Prop ℕ) (at : ℕ) (rest before : List ℕ) (i : ℕ) → At names l at p rest → Ends (headCoding names) l at i
       → Filling p at before before i (partsAfter (getD l at 0))
   filling-starts p at rest before i s e =
       let z = split at p rest s in

@@ -2,3 +2,5 @@
 pub mod Reading
 pub mod Filling
 pub mod Marks
+pub mod Parts
+pub mod Shown
