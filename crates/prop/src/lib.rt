@@ -19,7 +19,7 @@ ghost use Rattle.definitions.specs.Display.{wrap, wrapsLeft, wrapsRight, connec
 ghost use Rattle.output.specs.Wrote.{Wrote};
 ghost use Rattle.prop.specs.PropAt.{propAt};
 ghost use Rattle.prop.specs.Ends.{Known, Fillable, Filled, AllFillable};
-ghost use Rattle.prop.specs.Printing.{namedProp, Named, Printable, Legible, sign};
+ghost use Rattle.prop.specs.Printing.{namedProp, Named, AtomPrintable, Printable, Legible, sign};
 
 // The bytes of a pair of offset and length.
 const PAIR_SIZE: usize = 4;
@@ -111,4 +111,140 @@ fn put_sign(out: &mut [u8], to: usize, head: u8, write: bool) -> usize
     let start = SIGN_SIZE * head as usize;
     let end = start + SIGN_SIZE;
     put_all(out, to, &signs[start..end], write)
+}
+
+// A connective with a blank on each side.
+fn put_connective(out: &mut [u8], to: usize, head: u8, write: bool) -> usize
+    requires { ⌜ head < 8 ⌝ }
+    ensures { λ r. ⌜ ((c : Connective) → head ≡ connectiveByte c →
+        Wrote (connectiveText c) write (now (out .entry)) to (now (out .exit)) r) ⌝ }
+{
+    let start = put(out, to, b' ', write);
+    let end = put_sign(out, start, head, write);
+    put(out, end, b' ', write)
+}
+
+// A quantifier with its object and its datatype, up to its body.
+fn put_quantifier(
+    out: &mut [u8],
+    to: usize,
+    head: u8,
+    pairs: &[u8],
+    text: &[u8],
+    object: usize,
+    datatype: usize,
+    write: bool,
+) -> usize
+    requires { ⌜ head < 8 ⌝ }
+    requires { ⌜ Named (now pairs) (now text) object ⌝ }
+    requires { ⌜ Named (now pairs) (now text) datatype ⌝ }
+    ensures { λ r. ⌜ ((q : Quantifier) → head ≡ quantifierByte q →
+        Wrote (quantifierText q ++ (marked (now (pairs .entry)) (now (text .entry)) object ++ (utf8 ":" ++
+        (marked (now (pairs .entry)) (now (text .entry)) datatype ++ utf8 ". ")))) write (now (out .entry)) to (now (out .exit)) r) ⌝ }
+{
+    let signed = put_sign(out, to, head, write);
+    let bound = put_name(out, signed, pairs, text, object, write);
+    let colon = put(out, bound, b':', write);
+    let typed = put_name(out, colon, pairs, text, datatype, write);
+    put_all(out, typed, b". ", write)
+}
+
+// An atom with its parameters.
+fn put_atom(
+    out: &mut [u8],
+    to: usize,
+    code: &[u8],
+    pairs: &[u8],
+    text: &[u8],
+    names: usize,
+    at: usize,
+    write: bool,
+) -> usize
+    requires { ⌜ AtomPrintable names (now code) (now pairs) (now text) at ⌝ }
+    ensures { λ r. ⌜ Wrote (displayProp (namedProp names (now (code .entry)) (now (pairs .entry)) (now (text .entry)) at))
+        write (now (out .entry)) to (now (out .exit)) r ⌝ }
+{
+    let named = put_name(out, to, pairs, text, number_at(code, at + 1), write);
+    let count = code[at + 3];
+    if count == 0 {
+        return named;
+    }
+    let mut end = put(out, named, b'(', write);
+    let mut i = at + 4;
+    let mut needed = count;
+    while 0 < needed {
+        end = put_name(out, end, pairs, text, number_at(code, i + 1), write);
+        i = parameter_end(code, i, names);
+        needed -= 1;
+        if 0 < needed {
+            end = put_all(out, end, b", ", write);
+        }
+    }
+    put(out, end, b')', write)
+}
+
+// The proposition at `at`, in brackets if it binds less strongly than `least`.
+fn part(
+    out: &mut [u8],
+    to: usize,
+    code: &[u8],
+    ends: &[u16],
+    pairs: &[u8],
+    text: &[u8],
+    names: usize,
+    at: usize,
+    least: usize,
+    write: bool,
+) -> usize
+    requires { ⌜ Printable names (now code) (now ends) (now pairs) (now text) at ⌝ }
+    ensures { λ r. ⌜ Wrote
+        (wrap (ltb (Rattle.definitions.specs.Display.precedence (namedProp names (now (code .entry)) (now (pairs .entry)) (now (text .entry)) at)) least)
+        (displayProp (namedProp names (now (code .entry)) (now (pairs .entry)) (now (text .entry)) at)))
+        write (now (out .entry)) to (now (out .exit)) r ⌝ }
+{
+    if precedence(code, ends, at) < least {
+        let start = put(out, to, b'(', write);
+        let end = print(out, start, code, ends, pairs, text, names, at, write);
+        return put(out, end, b')', write);
+    }
+    print(out, to, code, ends, pairs, text, names, at, write)
+}
+
+// The proposition at `at`.
+pub fn print(
+    out: &mut [u8],
+    to: usize,
+    code: &[u8],
+    ends: &[u16],
+    pairs: &[u8],
+    text: &[u8],
+    names: usize,
+    at: usize,
+    write: bool,
+) -> usize
+    requires { ⌜ Printable names (now code) (now ends) (now pairs) (now text) at ⌝ }
+    ensures { λ r. ⌜ Wrote (displayProp (namedProp names (now (code .entry)) (now (pairs .entry)) (now (text .entry)) at))
+        write (now (out .entry)) to (now (out .exit)) r ⌝ }
+{
+    let head = code[at];
+    if head < 2 {
+        return put_sign(out, to, head, write);
+    }
+    if head == ATOM {
+        return put_atom(out, to, code, pairs, text, names, at, write);
+    }
+    if ATOM < head {
+        let object = number_at(code, at + 1);
+        let datatype = number_at(code, at + 3);
+        let body = put_quantifier(out, to, head, pairs, text, object, datatype, write);
+        return print(out, body, code, ends, pairs, text, names, at + 5, write);
+    }
+    if precedence(code, ends, at) == ATOM_STRENGTH {
+        let negated = put_all(out, to, b"\xC2\xAC", write);
+        return part(out, negated, code, ends, pairs, text, names, at + 1, ATOM_STRENGTH, write);
+    }
+    let left = part(out, to, code, ends, pairs, text, names, at + 1, left_strength(head), write);
+    let connective = put_connective(out, left, head, write);
+    let right = ends[at + 1] as usize;
+    part(out, connective, code, ends, pairs, text, names, right, right_strength(head), write)
 }
