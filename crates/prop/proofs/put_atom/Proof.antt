@@ -1,115 +1,95 @@
+-- The loop's invariant: a part of the atom's text is written, and the other one lists the parameters from i on.
+use mathlib.Core.Path.{refl}
+use native.Mathlib.Omega.{arith}
+use Rattle.definitions.specs.Sheet.{marked}
+use Rattle.output.proofs.Writing.{same-length as written-length, then}
+use Rattle.prop.proofs.Atoms.{Listing, atom-name, bare-atom, full-atom, listing-starts, parameter-name, listing-last, listing-comma, listing-ends}
 use Rattle.prop.proofs.put_atom.Statement.{statement}
 use Rattle.prop.proofs.put_atom.Tie as tie
-use Rattle.prop.proofs.put_atom.Reads as reads
-use Rattle.prop.proofs.put_atom.Lts as lts
-use Rattle.number.proofs.number_at.Reads as number-at-reads
-use Rattle.output.proofs.put.Reads as put-reads
-use Rattle.output.proofs.put_all.Reads as put-all-reads
-use Rattle.output.proofs.put_name.Reads as put-name-reads
-use Rattle.prefix_code.proofs.parameter_end.Reads as parameter-end-reads
 
 abbrev Inv-loop : tie.InvT-loop
-Inv-loop out₀ to code pairs text names at write named count end₀ i₀ needed₀ t14 out end i needed =
-    ?
+Inv-loop out₀ to code pairs text names at write named count end₀ i₀ needed₀ t14 out end i needed = Listing (marked pairs text) names code at write out₀ end₀ out i end needed
 
 abbrev μ-loop : tie.MeasureT-loop
-μ-loop out₀ to code pairs text names at write named count end₀ i₀ needed₀ t14 out end i needed = ?
+μ-loop out₀ to code pairs text names at write named count end₀ i₀ needed₀ t14 out end i needed = needed
 
--- src/lib.rt:167:64
 add-number-at : tie.Need-add-number-at Inv-loop μ-loop
-add-number-at c = ?
+add-number-at c = omega (arith, atom-name (c .before .before .before .before .before .pre .present) (c .before .before .before .before .before .pre .byte))
 
--- src/lib.rt:167:48
 number-at-requires : tie.Need-number-at-requires Inv-loop μ-loop
-number-at-requires c κs = ?
+number-at-requires c κs = omega (arith, atom-name (c .before .before .before .before .before .pre .present) (c .before .before .before .before .before .pre .byte))
 
--- src/lib.rt:167:9
 put-name-requires : tie.Need-put-name-requires Inv-loop μ-loop
-put-name-requires c κs = ?
+put-name-requires c κs = 
+    let named = c .before .before .before .before .before .before .pre .named (c .number-at .result) (rw (c .number-at .ensures .0) (atom-name (c .before .before .before .before .before .before .pre .present) (c .before .before .before .before .before .before .pre .byte) .below)) in
+    (named .there, named .within)
 
--- src/lib.rt:168:22
 add-count : tie.Need-add-count Inv-loop μ-loop
-add-count c = ?
+add-count c = omega (arith, atom-name (c .before .before .before .before .before .before .before .before .before .pre .present) (c .before .before .before .before .before .before .before .before .before .pre .byte))
 
--- src/lib.rt:168:17
 shared-slice-read-count : tie.Need-shared-slice-read-count Inv-loop μ-loop
-shared-slice-read-count c = ?
+shared-slice-read-count c = omega (arith, atom-name (c .before .before .before .before .before .before .before .before .before .before .pre .present) (c .before .before .before .before .before .before .before .before .before .before .pre .byte))
 
--- src/lib.rt:170:9
 same-length : tie.Need-same-length Inv-loop μ-loop
-same-length c = ?
+same-length c = written-length (c .before .before .before .before .put-name .ensures)
 
--- src/lib.rt:170:9
 returns : tie.Need-returns Inv-loop μ-loop
-returns c = ?
+returns c = rw (← (bare-atom _ _ _ _ (c .before .before .before .before .before .before .before .before .before .before .before .pre .present) (c .before .before .before .before .before .before .before .before .before .before .before .pre .byte) (c .if1 .taken)), ← (c .before .before .before .before .before .number-at .ensures .0)) (c .before .before .before .before .put-name .ensures)
 
--- src/lib.rt:172:9
 put-requires : tie.Need-put-requires Inv-loop μ-loop
-put-requires c κs = ?
+put-requires c κs = tt
 
--- src/lib.rt:173:17
 add-i : tie.Need-add-i Inv-loop μ-loop
-add-i c = ?
+add-i c = omega (arith, atom-name (c .before .before .before .before .before .before .before .before .before .before .before .before .before .before .before .pre .present) (c .before .before .before .before .before .before .before .before .before .before .before .before .before .before .before .pre .byte))
 
--- src/lib.rt:175:5
 loop-holds : tie.Need-loop-holds Inv-loop μ-loop
-loop-holds c = ?
+loop-holds c = listing-starts _ _ _ _ (c .before .before .before .before .before .before .before .before .before .before .before .before .before .before .before .pre .present) (c .before .before .before .before .before .before .before .before .before .before .before .before .before .before .before .pre .byte) _ _ _
 
--- src/lib.rt:176:63
 add-number-at-2 : tie.Need-add-number-at-2 Inv-loop μ-loop
-add-number-at-2 c = ?
+add-number-at-2 c = omega (arith, parameter-name _ _ _ _ (c .before .before .loop .inv) (c .before .loop-test .taken))
 
--- src/lib.rt:176:47
 number-at-requires-2 : tie.Need-number-at-requires-2 Inv-loop μ-loop
-number-at-requires-2 c κs = ?
+number-at-requires-2 c κs = omega (arith, parameter-name _ _ _ _ (c .before .before .loop .inv) (c .before .loop-test .taken))
 
--- src/lib.rt:176:9
 put-name-requires-2 : tie.Need-put-name-requires-2 Inv-loop μ-loop
-put-name-requires-2 c κs = ?
+put-name-requires-2 c κs = 
+    let named = c .before .before .before .before .before .before .before .before .before .before .before .before .before .before .before .before .before .before .before .pre .named (c .number-at2 .result) (rw (c .number-at2 .ensures .0) (parameter-name _ _ _ _ (c .before .before .before .loop .inv) (c .before .before .loop-test .taken) .below)) in
+    (named .there, named .within)
 
--- src/lib.rt:177:9
 parameter-end-requires : tie.Need-parameter-end-requires Inv-loop μ-loop
-parameter-end-requires c κs = ?
+parameter-end-requires c κs = omega (arith, parameter-name _ _ _ _ (c .before .before .before .before .before .before .loop .inv) (c .before .before .before .before .before .loop-test .taken))
 
--- src/lib.rt:178:9
 sub-needed : tie.Need-sub-needed Inv-loop μ-loop
-sub-needed c = ?
+sub-needed c = omega (arith, c .before .before .before .before .before .before .loop-test .taken)
 
--- src/lib.rt:180:37
 slice-aggregate-put-all : tie.Need-slice-aggregate-put-all Inv-loop μ-loop
-slice-aggregate-put-all c = ?
+slice-aggregate-put-all c = refl
 
--- src/lib.rt:180:13
 put-all-requires : tie.Need-put-all-requires Inv-loop μ-loop
-put-all-requires c κs = ?
+put-all-requires c κs = tt
 
--- src/lib.rt:175:5
 loop-less : tie.Need-loop-less Inv-loop μ-loop
-loop-less c = ?
+loop-less c = omega (arith, c .before .before .before .before .before .before .before .before .before .before .before .before .loop-test .taken)
 
--- src/lib.rt:175:5
 loop-again : tie.Need-loop-again Inv-loop μ-loop
-loop-again c = ?
+loop-again c = listing-comma _ _ _ _ (c .before .before .before .before .before .before .before .before .before .before .before .before .before .loop .inv) (c .before .before .before .before .before .before .before .before .before .before .before .before .loop-test .taken) (c .before .before .before .before .before .before .parameter-end .ensures) (rw (c .before .before .before .before .before .before .before .before .before .before .number-at2 .ensures .0) at (c .before .before .before .before .before .before .before .before .before .put-name2 .ensures)) (c .before .before .before .before .before .if2 .taken) (c .before .before .put-all .ensures)
 
--- src/lib.rt:175:5
 loop-less-2 : tie.Need-loop-less-2 Inv-loop μ-loop
-loop-less-2 c = ?
+loop-less-2 c = omega (arith, c .before .before .before .before .before .before .before .loop-test .taken)
 
--- src/lib.rt:175:5
 loop-again-2 : tie.Need-loop-again-2 Inv-loop μ-loop
-loop-again-2 c = ?
+loop-again-2 c = listing-last _ _ _ _ (c .before .before .before .before .before .before .before .before .loop .inv) (c .before .before .before .before .before .before .before .loop-test .taken) (c .before .parameter-end .ensures) (rw (c .before .before .before .before .before .number-at2 .ensures .0) at (c .before .before .before .before .put-name2 .ensures)) (c .if2 .left)
 
--- src/lib.rt:183:5
 put-requires-2 : tie.Need-put-requires-2 Inv-loop μ-loop
-put-requires-2 c κs = ?
+put-requires-2 c κs = tt
 
--- src/lib.rt:153:1
-same-length-2 : tie.Need-same-length-2 Inv-loop μ-loop
-same-length-2 c = ?
-
--- src/lib.rt:153:1
 returns-2 : tie.Need-returns-2 Inv-loop μ-loop
-returns-2 c = ?
+returns-2 c =
+    rw (← (full-atom _ _ _ _ (c .before .before .before .before .before .before .before .before .before .before .before .before .before .before .before .before .before .before .before .before .before .pre .present) (c .before .before .before .before .before .before .before .before .before .before .before .before .before .before .before .before .before .before .before .before .before .pre .byte) (c .before .before .before .before .before .before .before .before .before .before .if1 .left)), ← (c .before .before .before .before .before .before .before .before .before .before .before .before .before .before .before .number-at .ensures .0))
+    (then (c .before .before .before .before .before .before .before .before .before .before .before .before .before .before .put-name .ensures) (then (c .before .before .before .before .before .before .before .before .put .ensures) (then (listing-ends _ _ _ _ (c .before .before .before .before .before .loop .inv) (c .before .before .before .before .loop-test .left)) (c .before .before .put2 .ensures))))
+
+same-length-2 : tie.Need-same-length-2 Inv-loop μ-loop
+same-length-2 c = written-length (returns-2 c)
 
 pub put-atom-spec : {M : Type 1} → statement M
 put-atom-spec =
