@@ -84,7 +84,7 @@ module _ (f : ℕ → Name) where
   leaf (Quantified q x t p) h = absurd (omega (arith, quantifier-byte q .0))
 
   module _ (names : ℕ) (l ends : List ℕ) (at : ℕ) where
-    -- the proposition, its left side, which is also what a quantifier.. 
+    -- the proposition, its left side, which is also what a quantifier..
     abbrev named : ℕ → Prop Name
     named i = renameProp f (propAt names l i)
 
@@ -127,7 +127,7 @@ module _ (f : ℕ → Name) where
       unfolding displayProp
       negation-text h =
           let negation : isNegation (b .connective) (named middle) ≡ true =
-              sym (negation-strength (b .connective) (named (at + 1)) (named middle)) ∙ eq-eqb _ 999 (rw binary at h) in
+          sym (negation-strength (b .connective) (named (at + 1)) (named middle)) ∙ eq-eqb _ 999 (rw binary at h) in
           rw (binary, negation)
 
       pub binary-text : (precedence (named at) ≡ 999 → ⊥)
@@ -137,5 +137,5 @@ module _ (f : ℕ → Name) where
       unfolding displayProp
       binary-text h =
           let negation : isNegation (b .connective) (named middle) ≡ false =
-              sym (negation-strength (b .connective) (named (at + 1)) (named middle)) ∙ ne-eqb _ 999 (rw binary at h) in
+          sym (negation-strength (b .connective) (named (at + 1)) (named middle)) ∙ ne-eqb _ 999 (rw binary at h) in
           rw (binary, negation)

@@ -1,4 +1,4 @@
-// Propositions, after the Rust's prop.rs.
+// Propositions, after the Rust's prop.rs: where the code of each part ends, how strongly a proposition binds, and its text.
 use number::number_at;
 use output::put;
 use output::put_all;
@@ -26,23 +26,35 @@ const PAIR_SIZE: usize = 4;
 
 // Head bytes.
 const FALSE: u8 = 1;
+
+const AND: u8 = 2;
+
 const IMPL: u8 = 4;
+
 const ATOM: u8 = 5;
 
-// How strongly each head binds; an implication of ⊥, which is printed as a negation, binds as strongly as an atom.
-const STRENGTH: [usize; 8] = [999, 999, 4, 3, 2, 999, 1, 1];
+// How strongly each head binds. An implication of ⊥ is printed as a negation, and binds as strongly as an atom.
 const ATOM_STRENGTH: usize = 999;
+
 const IMPL_STRENGTH: usize = 2;
+
+const STRENGTH: [usize; 8] = [
+    ATOM_STRENGTH,
+    ATOM_STRENGTH,
+    4,
+    3,
+    IMPL_STRENGTH,
+    ATOM_STRENGTH,
+    1,
+    1,
+];
 
 // How strongly the sides of each connective must bind to stand without brackets.
 const LEFT: [usize; 5] = [0, 0, 4, 3, 3];
+
 const RIGHT: [usize; 5] = [0, 0, 5, 4, 2];
 
-// The sign of each head, in three bytes: ⊤ ⊥ ∧ ∨ ⊃, none for an atom, ∀ ∃.
-const SIGNS: [u8; 24] = [
-    0xE2, 0x8A, 0xA4, 0xE2, 0x8A, 0xA5, 0xE2, 0x88, 0xA7, 0xE2, 0x88, 0xA8, 0xE2, 0x8A, 0x83, 0x20, 0x20, 0x20, 0xE2, 0x88, 0x80,
-    0xE2, 0x88, 0x83,
-];
+// The bytes of a sign.
 const SIGN_SIZE: usize = 3;
 
 // Fills in where the proposition at `at` ends, and where each of its parts does, each at its start.
@@ -72,7 +84,7 @@ pub fn fill_all_ends(pairs: &[u8], code: &[u8], count: usize, names: usize, ends
     }
 }
 
-// How strongly the proposition at `at` binds.
+// How strongly the proposition at `at` binds, whatever its names are.
 pub fn precedence(code: &[u8], ends: &[u16], at: usize) -> usize
     requires { ⌜ Legible (now code) (now ends) at ⌝ }
     ensures { λ r. ⌜ ((names : ℕ) (f : ℕ → Name) → Known names (now (code .entry)) (now (ends .entry)) at →
@@ -89,6 +101,7 @@ pub fn precedence(code: &[u8], ends: &[u16], at: usize) -> usize
     IMPL_STRENGTH
 }
 
+// How strongly a connective's left side must bind to stand without brackets.
 fn left_strength(head: u8) -> usize
     requires { ⌜ head < 5 ⌝ }
     ensures { λ r. ⌜ ((c : Connective) (strength : ℕ) → head ≡ connectiveByte c → ltb strength r ≡ wrapsLeft c strength) ⌝ }
@@ -96,6 +109,7 @@ fn left_strength(head: u8) -> usize
     LEFT[head as usize]
 }
 
+// The same for its right side.
 fn right_strength(head: u8) -> usize
     requires { ⌜ head < 5 ⌝ }
     ensures { λ r. ⌜ ((c : Connective) (strength : ℕ) → head ≡ connectiveByte c → ltb strength r ≡ wrapsRight c strength) ⌝ }
@@ -103,11 +117,13 @@ fn right_strength(head: u8) -> usize
     RIGHT[head as usize]
 }
 
+// The sign of a head: ⊤ ⊥ ∧ ∨ ⊃, blanks for an atom, ∀ ∃.
 fn put_sign(out: &mut [u8], to: usize, head: u8, write: bool) -> usize
     requires { ⌜ head < 8 ⌝ }
     ensures { λ r. ⌜ Wrote (sign head) write (now (out .entry)) to (now (out .exit)) r ⌝ }
 {
-    let signs = SIGNS;
+    let signs =
+        *b"\xE2\x8A\xA4\xE2\x8A\xA5\xE2\x88\xA7\xE2\x88\xA8\xE2\x8A\x83   \xE2\x88\x80\xE2\x88\x83";
     let start = SIGN_SIZE * head as usize;
     let end = start + SIGN_SIZE;
     put_all(out, to, &signs[start..end], write)
@@ -227,7 +243,7 @@ pub fn print(
         write (now (out .entry)) to (now (out .exit)) r ⌝ }
 {
     let head = code[at];
-    if head < 2 {
+    if head < AND {
         return put_sign(out, to, head, write);
     }
     if head == ATOM {
@@ -239,12 +255,16 @@ pub fn print(
         let body = put_quantifier(out, to, head, pairs, text, object, datatype, write);
         return print(out, body, code, ends, pairs, text, names, at + 5, write);
     }
+    let left = at + 1;
     if precedence(code, ends, at) == ATOM_STRENGTH {
-        let negated = put_all(out, to, b"\xC2\xAC", write);
-        return part(out, negated, code, ends, pairs, text, names, at + 1, ATOM_STRENGTH, write);
+        let least = ATOM_STRENGTH;
+        let not = put_all(out, to, b"\xC2\xAC", write);
+        return part(out, not, code, ends, pairs, text, names, left, least, write);
     }
-    let left = part(out, to, code, ends, pairs, text, names, at + 1, left_strength(head), write);
-    let connective = put_connective(out, left, head, write);
-    let right = ends[at + 1] as usize;
-    part(out, connective, code, ends, pairs, text, names, right, right_strength(head), write)
+    let least = left_strength(head);
+    let end = part(out, to, code, ends, pairs, text, names, left, least, write);
+    let to = put_connective(out, end, head, write);
+    let right = ends[left] as usize;
+    let least = right_strength(head);
+    part(out, to, code, ends, pairs, text, names, right, least, write)
 }

@@ -44,12 +44,12 @@ fill-ends-parts-after-requires : (t : ℕ) → fill-ends-lts.Need-parts-after-re
 fill-ends-parts-after-requires t c κs = inside (c .before .before .before .before .pre .1 .present) .known
 
 fill-ends-loop-holds : (t : ℕ) → fill-ends-lts.Need-loop-holds (fill-ends-claims t) (fill-ends-at t) fill-ends.Post fill-ends-Inv-loop fill-ends-μ-loop
-fill-ends-loop-holds t c = 
+fill-ends-loop-holds t c =
     let parts = c .parts-after .ensures in
     rw parts (filling-starts _ _ _ _ _ _ _ (c .before .before .before .before .before .pre .1 .present .stands) (c .before .before .head-end .ensures))
 
 fill-ends-fill-ends-requires : (t : ℕ) → fill-ends-lts.Need-fill-ends-requires (fill-ends-claims t) (fill-ends-at t) fill-ends.Post fill-ends-Inv-loop fill-ends-μ-loop
-fill-ends-fill-ends-requires t c κs = 
+fill-ends-fill-ends-requires t c κs =
     let next = filling-next _ _ (c .before .before .loop .inv) (c .before .loop-test .taken) in
     let further = filling-further _ _ (c .before .before .loop .inv) in
     (omega (arith, c .before .before .before .before .before .before .before .before .pre .0, inside next), record { present = next; room = record { same = filling-size _ _ (c .before .before .loop .inv) ∙ c .before .before .before .before .before .before .before .before .pre .1 .room .same; short = c .before .before .before .before .before .before .before .before .pre .1 .room .short } })
@@ -64,7 +64,7 @@ fill-ends-loop-again : (t : ℕ) → fill-ends-lts.Need-loop-again (fill-ends-cl
 fill-ends-loop-again t c = filling-steps _ _ (c .before .before .before .before .before .loop .inv) (c .before .before .before .before .loop-test .taken) (c .before .before .fill-ends .kept .1 .1 .1 .0) (c .before .before .fill-ends .ensures)
 
 fill-ends-returns : (t : ℕ) → fill-ends-lts.Need-returns (fill-ends-claims t) (fill-ends-at t) fill-ends.Post fill-ends-Inv-loop fill-ends-μ-loop
-fill-ends-returns t c = 
+fill-ends-returns t c =
     let none : c .before .loop .needed ≡ 0 = omega (arith, c .loop-test .left) in
     filling-ends _ _ (rw none at (c .before .loop .inv)) (omega (arith, filling-size _ _ (c .before .loop .inv), inside (c .before .before .before .before .before .before .before .pre .1 .present), c .before .before .before .before .before .before .before .pre .1 .room))
 

@@ -85,7 +85,7 @@ part-put-requires-2 t c κs = tt
 
 part-returns : (t : ℕ) → part-lts.Need-returns (part-claims t) (part-at t) part.Post
 unfolding wrap
-part-returns t c = 
+part-returns t c =
     rw (bracketed (c .before .before .before .before .before .before .before .before .before .before .before .before .before .precedence .ensures _ (marked (c .before .before .before .before .before .before .before .before .before .before .before .before .before .before .before .before .before .before .before .args .pairs .now) (c .before .before .before .before .before .before .before .before .before .before .before .before .before .before .before .before .before .before .before .args .text .now)) (c .before .before .before .before .before .before .before .before .before .before .before .before .before .before .before .before .before .before .before .pre .1 .known)) (c .before .before .before .before .before .before .before .before .before .before .before .before .if1 .taken))
     (then (c .before .before .before .before .before .before .before .before .before .before .put .ensures) (then (c .before .before .before .before .before .before .print .ensures) (c .before .before .put2 .ensures)))
 
@@ -136,7 +136,7 @@ print-number-at-requires-2 : (t : ℕ) → print-lts.Need-number-at-requires-2 (
 print-number-at-requires-2 t c κs = omega (arith, inside (quantified-parts _ _ _ _ (c .before .before .before .before .before .before .before .before .before .before .pre .1 .known) (c .before .if3 .taken) .body .present))
 
 print-put-quantifier-requires : (t : ℕ) → print-lts.Need-put-quantifier-requires (print-claims t) (print-at t) print.Post
-print-put-quantifier-requires t c κs = 
+print-put-quantifier-requires t c κs =
     let q = quantified-parts _ _ _ _ (c .before .before .before .before .before .before .before .before .before .before .before .before .pre .1 .known) (c .before .before .before .if3 .taken) in (
       inside (c .before .before .before .before .before .before .before .before .before .before .before .before .pre .1 .known .present) .known,
       (c .before .before .before .before .before .before .before .before .before .before .before .before .pre .1 .named (c .before .before .number-at .result) (rw (c .before .before .number-at .ensures .0) (q .object)), c .before .before .before .before .before .before .before .before .before .before .before .before .pre .1 .named (c .before .number-at2 .result) (rw (c .before .number-at2 .ensures .0) (q .datatype))),
@@ -149,13 +149,16 @@ print-print-requires : (t : ℕ) → print-lts.Need-print-requires (print-claims
 print-print-requires t c κs = (omega (arith, c .before .before .before .before .before .before .before .before .before .before .before .before .before .before .before .before .pre .0, inside (c .before .before .before .before .before .before .before .before .before .before .before .before .before .before .before .before .pre .1 .known .present)), record { known = quantified-parts _ _ _ _ (c .before .before .before .before .before .before .before .before .before .before .before .before .before .before .before .before .pre .1 .known) (c .before .before .before .before .before .before .before .if3 .taken) .body; named = c .before .before .before .before .before .before .before .before .before .before .before .before .before .before .before .before .pre .1 .named })
 
 print-returns-3 : (t : ℕ) → print-lts.Need-returns-3 (print-claims t) (print-at t) print.Post
-print-returns-3 t c = 
+print-returns-3 t c =
     let q = quantified-parts _ _ _ _ (c .before .before .before .before .before .before .before .before .before .before .before .before .before .before .before .before .before .before .before .pre .1 .known) (c .before .before .before .before .before .before .before .before .before .before .if3 .taken) in
     rw (← (quantified-text _ _ _ _ _ q), ← (c .before .before .before .before .before .before .before .before .before .number-at .ensures .0), ← (c .before .before .before .before .before .before .before .before .number-at2 .ensures .0))
     (then (c .before .before .before .before .before .before .put-quantifier .ensures (q .quantifier) (q .byte)) (c .before .before .print .ensures))
 
 print-same-length-3 : (t : ℕ) → print-lts.Need-same-length-3 (print-claims t) (print-at t) print.Post
 print-same-length-3 t c = same-length (print-returns-3 t c)
+
+print-add-left : (t : ℕ) → print-lts.Need-add-left (print-claims t) (print-at t) print.Post
+print-add-left t c = omega (arith, inside (c .before .before .before .before .before .before .before .before .before .pre .1 .known .present))
 
 print-precedence-requires : (t : ℕ) → print-lts.Need-precedence-requires (print-claims t) (print-at t) print.Post
 print-precedence-requires t c κs = record { names = _; known = c .before .before .before .before .before .before .before .before .before .pre .1 .known }
@@ -166,14 +169,13 @@ print-slice-aggregate-put-all t c = refl
 print-put-all-requires : (t : ℕ) → print-lts.Need-put-all-requires (print-claims t) (print-at t) print.Post
 print-put-all-requires t c κs = tt
 
-print-add-part : (t : ℕ) → print-lts.Need-add-part (print-claims t) (print-at t) print.Post
-print-add-part t c = omega (arith, inside (c .before .before .before .before .before .before .before .before .before .before .before .before .before .before .before .before .before .pre .1 .known .present))
-
 print-part-requires : (t : ℕ) → print-lts.Need-part-requires (print-claims t) (print-at t) print.Post
-print-part-requires t c κs = (omega (arith, c .before .before .before .before .before .before .before .before .before .before .before .before .before .before .before .before .before .pre .0, inside (binary-here (c .before .before .before .before .before .before .before .before .before .before .before .before .before .before .before .before .before .pre .1 .known) (c .before .before .before .before .before .before .before .before .before .before .if1 .left) (c .before .before .before .before .before .before .before .before .before .if2 .left) (c .before .before .before .before .before .before .before .before .if3 .left) .left .present)), record { known = binary-here (c .before .before .before .before .before .before .before .before .before .before .before .before .before .before .before .before .before .pre .1 .known) (c .before .before .before .before .before .before .before .before .before .before .if1 .left) (c .before .before .before .before .before .before .before .before .before .if2 .left) (c .before .before .before .before .before .before .before .before .if3 .left) .left; named = c .before .before .before .before .before .before .before .before .before .before .before .before .before .before .before .before .before .pre .1 .named })
+print-part-requires t c κs =
+    let b = binary-here (c .before .before .before .before .before .before .before .before .before .before .before .before .before .before .before .before .before .pre .1 .known) (c .before .before .before .before .before .before .before .before .before .before .if1 .left) (c .before .before .before .before .before .before .before .before .before .if2 .left) (c .before .before .before .before .before .before .before .before .if3 .left) in
+    (omega (arith, c .before .before .before .before .before .before .before .before .before .before .before .before .before .before .before .before .before .pre .0, inside (b .left .present)), record { known = b .left; named = c .before .before .before .before .before .before .before .before .before .before .before .before .before .before .before .before .before .pre .1 .named })
 
 print-returns-4 : (t : ℕ) → print-lts.Need-returns-4 (print-claims t) (print-at t) print.Post
-print-returns-4 t c = 
+print-returns-4 t c =
     let b = binary-here (c .before .before .before .before .before .before .before .before .before .before .before .before .before .before .before .before .before .before .before .before .pre .1 .known) (c .before .before .before .before .before .before .before .before .before .before .before .before .before .if1 .left) (c .before .before .before .before .before .before .before .before .before .before .before .before .if2 .left) (c .before .before .before .before .before .before .before .before .before .before .before .if3 .left) in
     let strength = c .before .before .before .before .before .before .before .before .before .before .precedence .ensures _ (marked (c .before .before .before .before .before .before .before .before .before .before .before .before .before .before .before .before .before .before .before .before .args .pairs .now) (c .before .before .before .before .before .before .before .before .before .before .before .before .before .before .before .before .before .before .before .before .args .text .now)) (c .before .before .before .before .before .before .before .before .before .before .before .before .before .before .before .before .before .before .before .before .pre .1 .known) in
     rw (← (negation-text _ _ _ _ _ b (sym strength ∙ c .before .before .before .before .before .before .before .before .before .if4 .taken))) (then (c .before .before .before .before .before .before .put-all .ensures) (c .before .before .part .ensures))
@@ -181,20 +183,16 @@ print-returns-4 t c =
 print-same-length-4 : (t : ℕ) → print-lts.Need-same-length-4 (print-claims t) (print-at t) print.Post
 print-same-length-4 t c = same-length (print-returns-4 t c)
 
-print-add-part-2 : (t : ℕ) → print-lts.Need-add-part-2 (print-claims t) (print-at t) print.Post
-print-add-part-2 t c = omega (arith, inside (c .before .before .before .before .before .before .before .before .before .before .before .before .pre .1 .known .present))
-
 print-left-strength-requires : (t : ℕ) → print-lts.Need-left-strength-requires (print-claims t) (print-at t) print.Post
-print-left-strength-requires t c κs = omega (arith, c .before .before .before .before .if2 .left, c .before .before .before .if3 .left)
+print-left-strength-requires t c κs = omega (arith, c .before .before .before .if2 .left, c .before .before .if3 .left)
 
 print-part-requires-2 : (t : ℕ) → print-lts.Need-part-requires-2 (print-claims t) (print-at t) print.Post
-print-part-requires-2 t c κs = (omega (arith, c .before .before .before .before .before .before .before .before .before .before .before .before .before .pre .0, inside (binary-here (c .before .before .before .before .before .before .before .before .before .before .before .before .before .pre .1 .known) (c .before .before .before .before .before .before .if1 .left) (c .before .before .before .before .before .if2 .left) (c .before .before .before .before .if3 .left) .left .present)), record { known = binary-here (c .before .before .before .before .before .before .before .before .before .before .before .before .before .pre .1 .known) (c .before .before .before .before .before .before .if1 .left) (c .before .before .before .before .before .if2 .left) (c .before .before .before .before .if3 .left) .left; named = c .before .before .before .before .before .before .before .before .before .before .before .before .before .pre .1 .named })
+print-part-requires-2 t c κs =
+    let b = binary-here (c .before .before .before .before .before .before .before .before .before .before .before .before .before .pre .1 .known) (c .before .before .before .before .before .before .if1 .left) (c .before .before .before .before .before .if2 .left) (c .before .before .before .before .if3 .left) in
+    (omega (arith, c .before .before .before .before .before .before .before .before .before .before .before .before .before .pre .0, inside (b .left .present)), record { known = b .left; named = c .before .before .before .before .before .before .before .before .before .before .before .before .before .pre .1 .named })
 
 print-put-connective-requires : (t : ℕ) → print-lts.Need-put-connective-requires (print-claims t) (print-at t) print.Post
 print-put-connective-requires t c κs = inside (c .before .before .before .before .before .before .before .before .before .before .before .before .before .before .before .before .before .pre .1 .known .present) .known
-
-print-add-right : (t : ℕ) → print-lts.Need-add-right (print-claims t) (print-at t) print.Post
-print-add-right t c = omega (arith, inside (c .before .before .before .before .before .before .before .before .before .before .before .before .before .before .before .before .before .before .before .before .pre .1 .known .present))
 
 print-mul-right : (t : ℕ) → print-lts.Need-mul-right (print-claims t) (print-at t) print.Post
 print-mul-right t c = omega (arith, inside (c .before .before .before .before .before .before .before .before .before .before .before .before .before .before .before .before .before .before .before .before .pre .1 .known .present))
@@ -206,19 +204,19 @@ print-cast-right : (t : ℕ) → print-lts.Need-cast-right (print-claims t) (pri
 print-cast-right t c = omega (arith, c .shared-slice-known6 .given (c .before .before .before .before .before .before .before .before .before .before .before .before .before .before .before .before .before .before .before .before .before .args .at + 1))
 
 print-right-strength-requires : (t : ℕ) → print-lts.Need-right-strength-requires (print-claims t) (print-at t) print.Post
-print-right-strength-requires t c κs = omega (arith, c .before .before .before .before .before .before .before .before .before .before .before .before .before .before .if2 .left, c .before .before .before .before .before .before .before .before .before .before .before .before .before .if3 .left)
+print-right-strength-requires t c κs = omega (arith, c .before .before .before .before .before .before .before .before .before .before .before .before .before .if2 .left, c .before .before .before .before .before .before .before .before .before .before .before .before .if3 .left)
 
 print-part-requires-3 : (t : ℕ) → print-lts.Need-part-requires-3 (print-claims t) (print-at t) print.Post
-print-part-requires-3 t c κs = 
+print-part-requires-3 t c κs =
     let b = binary-here (c .before .before .before .before .before .before .before .before .before .before .before .before .before .before .before .before .before .before .before .before .before .before .before .pre .1 .known) (c .before .before .before .before .before .before .before .before .before .before .before .before .before .before .before .before .if1 .left) (c .before .before .before .before .before .before .before .before .before .before .before .before .before .before .before .if2 .left) (c .before .before .before .before .before .before .before .before .before .before .before .before .before .before .if3 .left) in
     (omega (arith, c .before .before .before .before .before .before .before .before .before .before .before .before .before .before .before .before .before .before .before .before .before .before .before .pre .0, inside (b .right .present), b .order), record { known = b .right; named = c .before .before .before .before .before .before .before .before .before .before .before .before .before .before .before .before .before .before .before .before .before .before .before .pre .1 .named })
 
 print-returns-5 : (t : ℕ) → print-lts.Need-returns-5 (print-claims t) (print-at t) print.Post
-print-returns-5 t c = 
+print-returns-5 t c =
     let b = binary-here (c .before .before .before .before .before .before .before .before .before .before .before .before .before .before .before .before .before .before .before .before .before .before .before .before .before .before .pre .1 .known) (c .before .before .before .before .before .before .before .before .before .before .before .before .before .before .before .before .before .before .before .if1 .left) (c .before .before .before .before .before .before .before .before .before .before .before .before .before .before .before .before .before .before .if2 .left) (c .before .before .before .before .before .before .before .before .before .before .before .before .before .before .before .before .before .if3 .left) in
     let byte = b .byte in
     let strength = c .before .before .before .before .before .before .before .before .before .before .before .before .before .before .before .before .precedence .ensures _ (marked (c .before .before .before .before .before .before .before .before .before .before .before .before .before .before .before .before .before .before .before .before .before .before .before .before .before .before .args .pairs .now) (c .before .before .before .before .before .before .before .before .before .before .before .before .before .before .before .before .before .before .before .before .before .before .before .before .before .before .args .text .now)) (c .before .before .before .before .before .before .before .before .before .before .before .before .before .before .before .before .before .before .before .before .before .before .before .before .before .before .pre .1 .known) in
-    rw (← (binary-text _ _ _ _ _ b (λ e. c .before .before .before .before .before .before .before .before .before .before .before .before .before .before .before .if4 .left (strength ∙ e))), ← (c .before .before .before .before .before .before .before .before .before .before .before .before .before .left-strength .ensures (b .connective)), ← (c .before .before .before .right-strength .ensures (b .connective)))
+    rw (← (binary-text _ _ _ _ _ b (λ e. c .before .before .before .before .before .before .before .before .before .before .before .before .before .before .before .if4 .left (strength ∙ e))), ← (c .before .before .before .before .before .before .before .before .before .before .before .before .before .before .left-strength .ensures (b .connective)), ← (c .before .before .before .before .right-strength .ensures (b .connective)))
     (then (c .before .before .before .before .before .before .before .before .before .before .before .before .part2 .ensures) (then (c .before .before .before .before .before .before .before .before .put-connective .ensures (b .connective) byte) (c .before .before .part3 .ensures)))
 
 print-same-length-5 : (t : ℕ) → print-lts.Need-same-length-5 (print-claims t) (print-at t) print.Post
@@ -256,18 +254,16 @@ pub +part+print-spec : {M : Type 1} → statement M
     (print-print-requires t)
     (print-same-length-3 t)
     (print-returns-3 t)
+    (print-add-left t)
     (print-precedence-requires t)
     (print-slice-aggregate-put-all t)
     (print-put-all-requires t)
-    (print-add-part t)
     (print-part-requires t)
     (print-same-length-4 t)
     (print-returns-4 t)
-    (print-add-part-2 t)
     (print-left-strength-requires t)
     (print-part-requires-2 t)
     (print-put-connective-requires t)
-    (print-add-right t)
     (print-mul-right t)
     (print-shared-slice-read-right t)
     (print-cast-right t)

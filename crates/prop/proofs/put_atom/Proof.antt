@@ -20,7 +20,7 @@ number-at-requires : tie.Need-number-at-requires Inv-loop μ-loop
 number-at-requires c κs = omega (arith, atom-name (c .before .before .before .before .before .pre .present) (c .before .before .before .before .before .pre .byte))
 
 put-name-requires : tie.Need-put-name-requires Inv-loop μ-loop
-put-name-requires c κs = 
+put-name-requires c κs =
     let named = c .before .before .before .before .before .before .pre .named (c .number-at .result) (rw (c .number-at .ensures .0) (atom-name (c .before .before .before .before .before .before .pre .present) (c .before .before .before .before .before .before .pre .byte) .below)) in
     (named .there, named .within)
 
@@ -52,7 +52,7 @@ number-at-requires-2 : tie.Need-number-at-requires-2 Inv-loop μ-loop
 number-at-requires-2 c κs = omega (arith, parameter-name _ _ _ _ (c .before .before .loop .inv) (c .before .loop-test .taken))
 
 put-name-requires-2 : tie.Need-put-name-requires-2 Inv-loop μ-loop
-put-name-requires-2 c κs = 
+put-name-requires-2 c κs =
     let named = c .before .before .before .before .before .before .before .before .before .before .before .before .before .before .before .before .before .before .before .pre .named (c .number-at2 .result) (rw (c .number-at2 .ensures .0) (parameter-name _ _ _ _ (c .before .before .before .loop .inv) (c .before .before .loop-test .taken) .below)) in
     (named .there, named .within)
 
