@@ -1,6 +1,6 @@
 -- The text of an atom: its name, and the names of its parameters one after the other.
 use Prim.Native.Nat.{ℕ, _+_, _-_, _≤_, _<_}
-use mathlib.Core.Path.{_≡_, refl, sym, ap, _∙_}
+use mathlib.Core.Path.{_≡_, refl, sym, _∙_}
 use mathlib.Core.Bool.{Bool}
 use mathlib.Core.List.{List, [], _∷_, _++_, map, append-assoc, append-nil}
 use native.Mathlib.Nat.{pos-of-ne-zero}
@@ -10,7 +10,7 @@ use Rattle.definitions.specs.Utf8.{utf8}
 use Rattle.definitions.specs.Name.{Name}
 use Rattle.definitions.specs.Prop.{Prop, True, False, Binary, Atom, Quantified, PropParameter, Uninstantiated, Instantiated, parameterName, renameParameter, renameProp}
 use Rattle.definitions.specs.Code.{encodeParameter, encodeParameters, CodableParameters}
-use Rattle.definitions.specs.Sheet.{numberAt, marked}
+use Rattle.definitions.specs.Sheet.{numberAt}
 use Rattle.definitions.specs.Display.{followingParameters, displayParameters, displayProp}
 use Rattle.output.specs.Wrote.{Wrote}
 use Rattle.output.proofs.Writing.{then, none as nothing}

@@ -30,7 +30,7 @@ pub record AtomPrintable (names : ℕ) (code pairs text : List ℕ) (at : ℕ) :
   pub byte : getD code at 0 ≡ 5
   pub named : (n : ℕ) → n < names → Named pairs text n
 
--- the same for some count of names, as far as the strength goes
+-- a proposition stands at `at` with its ends in the table, whatever the count of names is
 pub record Legible (code ends : List ℕ) (at : ℕ) : Type 0 where
   pub names : ℕ
   pub known : Known names code ends at

@@ -9,7 +9,6 @@ use prefix_code::parts_after;
 ghost use mathlib.Core.Path.{_≡_};
 ghost use mathlib.Core.List.{_++_};
 ghost use Prim.Native.Nat.{ℕ, _<_};
-ghost use lib.ListN.{getD};
 ghost use lib.Dec.{ltb};
 ghost use Rattle.definitions.specs.Utf8.{utf8};
 ghost use Rattle.definitions.specs.Name.{Name};
@@ -181,13 +180,12 @@ fn put_atom(
         write (now (out .entry)) to (now (out .exit)) r ⌝ }
 {
     let named = put_name(out, to, pairs, text, number_at(code, at + 1), write);
-    let count = code[at + 3];
-    if count == 0 {
+    let mut needed = code[at + 3];
+    if needed == 0 {
         return named;
     }
     let mut end = put(out, named, b'(', write);
     let mut i = at + 4;
-    let mut needed = count;
     while 0 < needed {
         end = put_name(out, end, pairs, text, number_at(code, i + 1), write);
         i = parameter_end(code, i, names);
@@ -199,7 +197,7 @@ fn put_atom(
     put(out, end, b')', write)
 }
 
-// The proposition at `at`, in brackets if it binds less strongly than `least`.
+// The text of the proposition at `at`, in brackets if it binds less strongly than `least`.
 fn part(
     out: &mut [u8],
     to: usize,
@@ -226,7 +224,7 @@ fn part(
     print(out, to, code, ends, pairs, text, names, at, write)
 }
 
-// The proposition at `at`.
+// The text of the proposition at `at`.
 pub fn print(
     out: &mut [u8],
     to: usize,

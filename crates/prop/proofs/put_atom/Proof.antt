@@ -1,4 +1,4 @@
--- The loop's invariant: a part of the atom's text is written, and the other one lists the parameters from i on.
+-- The loop's invariant: a part of the list of parameters is written, and the other part lists those from i on.
 use mathlib.Core.Path.{refl}
 use native.Mathlib.Omega.{arith}
 use Rattle.definitions.specs.Sheet.{marked}
@@ -8,10 +8,10 @@ use Rattle.prop.proofs.put_atom.Statement.{statement}
 use Rattle.prop.proofs.put_atom.Tie as tie
 
 abbrev Inv-loop : tie.InvT-loop
-Inv-loop out₀ to code pairs text names at write named count end₀ i₀ needed₀ t14 out end i needed = Listing (marked pairs text) names code at write out₀ end₀ out i end needed
+Inv-loop out₀ to code pairs text names at write named needed₀ end₀ i₀ t13 out needed end i = Listing (marked pairs text) names code at write out₀ end₀ out i end needed
 
 abbrev μ-loop : tie.MeasureT-loop
-μ-loop out₀ to code pairs text names at write named count end₀ i₀ needed₀ t14 out end i needed = needed
+μ-loop out₀ to code pairs text names at write named needed₀ end₀ i₀ t13 out needed end i = needed
 
 add-number-at : tie.Need-add-number-at Inv-loop μ-loop
 add-number-at c = omega (arith, atom-name (c .before .before .before .before .before .pre .present) (c .before .before .before .before .before .pre .byte))
@@ -24,11 +24,11 @@ put-name-requires c κs =
     let named = c .before .before .before .before .before .before .pre .named (c .number-at .result) (rw (c .number-at .ensures .0) (atom-name (c .before .before .before .before .before .before .pre .present) (c .before .before .before .before .before .before .pre .byte) .below)) in
     (named .there, named .within)
 
-add-count : tie.Need-add-count Inv-loop μ-loop
-add-count c = omega (arith, atom-name (c .before .before .before .before .before .before .before .before .before .pre .present) (c .before .before .before .before .before .before .before .before .before .pre .byte))
+add-needed : tie.Need-add-needed Inv-loop μ-loop
+add-needed c = omega (arith, atom-name (c .before .before .before .before .before .before .before .before .before .pre .present) (c .before .before .before .before .before .before .before .before .before .pre .byte))
 
-shared-slice-read-count : tie.Need-shared-slice-read-count Inv-loop μ-loop
-shared-slice-read-count c = omega (arith, atom-name (c .before .before .before .before .before .before .before .before .before .before .pre .present) (c .before .before .before .before .before .before .before .before .before .before .pre .byte))
+shared-slice-read-needed : tie.Need-shared-slice-read-needed Inv-loop μ-loop
+shared-slice-read-needed c = omega (arith, atom-name (c .before .before .before .before .before .before .before .before .before .before .pre .present) (c .before .before .before .before .before .before .before .before .before .before .pre .byte))
 
 same-length : tie.Need-same-length Inv-loop μ-loop
 same-length c = written-length (c .before .before .before .before .put-name .ensures)
@@ -100,8 +100,8 @@ put-atom-spec =
     add-number-at
     number-at-requires
     put-name-requires
-    add-count
-    shared-slice-read-count
+    add-needed
+    shared-slice-read-needed
     same-length
     returns
     put-requires
