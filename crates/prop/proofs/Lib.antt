@@ -2,3 +2,6 @@
 pub mod Reading
 pub mod Filling
 pub mod Marks
+pub mod Parts
+pub mod Shown
+pub mod Atoms
