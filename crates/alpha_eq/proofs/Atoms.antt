@@ -51,9 +51,9 @@ module _ (pairs text memory : List ℕ) (depth : ℕ) (code : List ℕ) (i j : �
   module _ {x y : ℕ} {same : Bool} (x-at : x ≡ numberAt code (i + 1)) (y-at : y ≡ numberAt code (j + 1)) (named : same ≡ eqName (marked pairs text x) (marked pairs text y)) where
     atom-outcome : {names : ℕ} (two : Two (formCoding ofApplied) code i j names)
         → alphaEqAtomIn pairs text memory depth (two .left) (two .right)
-            ≡ andAlso (accepted same)
-                (_>>=_ (refuseIf (not (eqb (getD code (i + 3) 0) (getD code (j + 3) 0))) 18 0)
-                (λ _. alphaEqParametersIn pairs text memory depth (two .left .parameters) (two .right .parameters)))
+        ≡ andAlso (accepted same)
+        (_>>=_ (refuseIf (not (eqb (getD code (i + 3) 0) (getD code (j + 3) 0))) 18 0)
+        (λ _. alphaEqParametersIn pairs text memory depth (two .left .parameters) (two .right .parameters)))
     unfolding alphaEqAtomIn alphaEqAtom alphaEqParametersIn
     atom-outcome two =
         let b = two-atoms two in

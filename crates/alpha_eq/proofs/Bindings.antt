@@ -12,6 +12,7 @@ use Rattle.definitions.specs.Outcome.{accepted, refuse}
 use Rattle.definitions.specs.Name.{Name, eqName}
 use Rattle.definitions.specs.Sheet.{marked}
 use Rattle.definitions.specs.Comparison.{boundAlike}
+use Rattle.identifier.specs.Pairs.{PairsWithin}
 use Rattle.alpha_eq.specs.Bindings.{bindingAt, bindingsOf, Bound, Kept}
 use Rattle.alpha_eq.specs.Comparing.{boundAlikeIn}
 
@@ -38,12 +39,11 @@ bindings-same nameOf before after zero kept = refl
 bindings-same nameOf before after (suc k) kept =
     rw (kept .same (2 * k) (omega arith), kept .same (2 * k + 1) (omega arith), bindings-same nameOf before after k (record { same = λ m h. kept .same m (omega arith) }))
 
-pub bound-kept : {names : ℕ} {pairs text before after : List ℕ} {depth : ℕ} → Kept depth before after → length after ≡ length before
-    → Bound names pairs text before depth → Bound names pairs text after depth
+pub bound-kept : {pairs text before after : List ℕ} {depth : ℕ} → Kept depth before after → length after ≡ length before
+    → Bound pairs text before depth → Bound pairs text after depth
 bound-kept kept long bound = record {
-  named = bound .named;
   present = omega (arith, bound .present);
-  below = λ k h. rw (kept .same k h) (bound .below k h);
+  named = λ k h. rw (kept .same k h) (bound .named k h);
 }
 
 pub kept-all : {depth : ℕ} {memory : List ℕ} → Kept depth memory memory
@@ -79,15 +79,14 @@ unfolding bindingsOf bindingAt
 bindings-pushed nameOf memory depth x y room =
     rw (add-one depth, pushed-left memory depth x y room, pushed-right memory depth x y room, bindings-same nameOf memory (pushed memory depth x y) depth (kept-pushed memory depth x y room))
 
-pub bound-pushed : {names : ℕ} {pairs text memory : List ℕ} {depth x y : ℕ} → 2 * (depth + 1) ≤ length memory → x < names → y < names
-    → Bound names pairs text memory depth → Bound names pairs text (pushed memory depth x y) (depth + 1)
-bound-pushed {names} {memory} {depth} {x} {y} room x-below y-below bound = record {
-  named = bound .named;
+pub bound-pushed : {pairs text memory : List ℕ} {depth x y : ℕ} → 2 * (depth + 1) ≤ length memory → PairsWithin pairs text x → PairsWithin pairs text y
+    → Bound pairs text memory depth → Bound pairs text (pushed memory depth x y) (depth + 1)
+bound-pushed {pairs} {text} {memory} {depth} {x} {y} room x-named y-named bound = record {
   present = simp length-set (omega arith);
-  below = λ k h. go k h (decLt k (2 * depth)) (decLt k (2 * depth + 1));
+  named = λ k h. go k h (decLt k (2 * depth)) (decLt k (2 * depth + 1));
 }
   where
-    go : (k : ℕ) → k < 2 * (depth + 1) → Dec (k < 2 * depth) → Dec (k < 2 * depth + 1) → getD (pushed memory depth x y) k 0 < names
-    go k h (yes before) _ = rw (kept-pushed memory depth x y room .same k before) (bound .below k before)
-    go k h (no before) (yes first) = let here : k ≡ 2 * depth = omega arith in rw (here, pushed-left memory depth x y room) x-below
-    go k h (no before) (no first) = let here : k ≡ 2 * depth + 1 = omega arith in rw (here, pushed-right memory depth x y room) y-below
+    go : (k : ℕ) → k < 2 * (depth + 1) → Dec (k < 2 * depth) → Dec (k < 2 * depth + 1) → PairsWithin pairs text (getD (pushed memory depth x y) k 0)
+    go k h (yes before) _ = rw (kept-pushed memory depth x y room .same k before) (bound .named k before)
+    go k h (no before) (yes first) = let here : k ≡ 2 * depth = omega arith in rw (here, pushed-left memory depth x y room) x-named
+    go k h (no before) (no first) = let here : k ≡ 2 * depth + 1 = omega arith in rw (here, pushed-right memory depth x y room) y-named

@@ -11,18 +11,19 @@ use Rattle.prefix_code.specs.Scan.{propositionCoding}
 use Rattle.alpha_eq.specs.declared.Answer.{Answer}
 use Rattle.alpha_eq.specs.declared.Compared.{Compared}
 use Rattle.alpha_eq.specs.Bindings.{bindingsOf}
-use Rattle.alpha_eq.specs.Comparing.{outcomeOf, alphaEqUnderIn, Answers, Nested, Admitted, Decides}
+use Rattle.alpha_eq.specs.Comparing.{outcomeOf, alphaEqUnderIn, Answers, WithRoom, TwoPropositions, Decides}
 use Rattle.alpha_eq.proofs.Outcomes.{told, told-compared}
 
 module _ {code : List ℕ} {i j : ℕ} {pairs text : List ℕ} where
   -- there is room for the bindings of a proposition that nests no deeper than the limit
-  pub nested-admitted : (memory : List ℕ) → 2 * propositionNestingLimit ≤ length memory → Admitted code i j pairs text
-      → Nested (λ p. p) code i j pairs text memory 0
+  pub nested-admitted : (memory : List ℕ) → 2 * propositionNestingLimit ≤ length memory → TwoPropositions code i j pairs text
+      → WithRoom (λ p. p) code i j pairs text memory 0
   nested-admitted memory room admitted = record {
     forms = record {
       names = admitted .names;
       two = admitted .two;
-      bound = record { named = admitted .named; present = omega arith; below = λ k h. absurd (omega arith) };
+      named = admitted .named;
+      bound = record { present = omega arith; named = λ k h. absurd (omega arith) };
     };
     room = omega (arith, admitted .shallow);
   }

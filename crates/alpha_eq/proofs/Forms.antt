@@ -21,7 +21,7 @@ use Rattle.prefix_code.proofs.Forms.{inside-at, binary-at, atom-at, quantified-
 use Rattle.alpha_eq.specs.declared.Compared.{Compared}
 use Rattle.alpha_eq.specs.declared.Compared.the-variants.{Same, Different}
 use Rattle.alpha_eq.specs.Bindings.{bindingsOf}
-use Rattle.alpha_eq.specs.Comparing.{compared, alphaEqUnderIn, alphaEqSidesIn, alphaEqAtomIn, alphaEqScopeIn, ofSides, ofApplied, ofScope, formCoding, Two, Comparable, Answers, Nested}
+use Rattle.alpha_eq.specs.Comparing.{compared, alphaEqUnderIn, alphaEqSidesIn, alphaEqAtomIn, alphaEqScopeIn, ofSides, ofApplied, ofScope, formCoding, Two, Comparable, Answers, WithRoom}
 
 -- the byte in front of a proposition's code
 abbrev frontByte : {N : Type 0} → Prop N → ℕ
@@ -73,7 +73,7 @@ fronts-differ (Quantified q x t p) bs r differ = go (asQuantified r) refl
     go (some a) e = rw (ne-eqb (quantifierByte q) (quantifierByte (a .quantifier)) (λ same. differ (same ∙ sym (ap frontByte (asQuantified-some a e)))))
 
 module _ (pairs text memory : List ℕ) (depth : ℕ) (code : List ℕ) (i j : ℕ) where
-  pub nested-inside : Nested (λ p. p) code i j pairs text memory depth → (i < length code) × (j < length code)
+  pub nested-inside : WithRoom (λ p. p) code i j pairs text memory depth → (i < length code) × (j < length code)
   nested-inside asked =
       let two = asked .forms .two in
       let names = asked .forms .names in
@@ -96,7 +96,7 @@ module _ (pairs text memory : List ℕ) (depth : ℕ) (code : List ℕ) (i j : �
     where
       go : (names : ℕ) (two : Two propositionCoding code i j names) → Dec (getD code i 0 < 1)
           → Same (i + 1) (j + 1)
-              ≡ compared (alphaEqUnderIn pairs text memory depth (two .left) (two .right)) (i + length (encode (two .left))) (j + length (encode (two .right)))
+          ≡ compared (alphaEqUnderIn pairs text memory depth (two .left) (two .right)) (i + length (encode (two .left))) (j + length (encode (two .right)))
       go names two (yes h) =
           rw (true-at names code i (two .left-rest) (two .left) (two .left-at) (omega arith), true-at names code j (two .right-rest) (two .right) (two .right-at) (omega arith))
       go names two (no h) =
@@ -150,12 +150,12 @@ module _ {A : Type 0} (make : A → Prop ℕ) {code : List ℕ} {i j : ℕ} (for
     right-at = subst (λ (p : Prop ℕ). At names code j p (two .right-rest)) (right-parts two .1) (two .right-at);
   }
 
-  pub nested-forms : {pairs text memory : List ℕ} {depth : ℕ} → Nested (λ p. p) code i j pairs text memory depth → Nested make code i j pairs text memory depth
+  pub nested-forms : {pairs text memory : List ℕ} {depth : ℕ} → WithRoom (λ p. p) code i j pairs text memory depth → WithRoom make code i j pairs text memory depth
   unfolding two-forms
   nested-forms {memory} {depth} asked =
       let two = asked .forms .two in
       record {
-        forms = record { names = asked .forms .names; two = two-forms two; bound = asked .forms .bound };
+        forms = record { names = asked .forms .names; two = two-forms two; named = asked .forms .named; bound = asked .forms .bound };
         room = subst (λ (p : Prop ℕ). 2 * (depth + nesting p) ≤ length memory) (left-parts two .1) (asked .room);
       }
 

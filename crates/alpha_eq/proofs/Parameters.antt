@@ -50,7 +50,7 @@ module _ (pairs text memory : List ℕ) (depth : ℕ) (code : List ℕ) (i j : �
     where
       go : (names : ℕ) (two : Two parameterCoding code i j names) → Dec (getD code i 0 < 1)
           → Different ≡ compared (alphaEqParameterIn pairs text memory depth (two .left) (two .right))
-              (i + length (encodeParameter (two .left))) (j + length (encodeParameter (two .right)))
+          (i + length (encodeParameter (two .left))) (j + length (encodeParameter (two .right)))
       go names two (yes h) =
           let b = two-bytes two in
           rw (b .left .uninstantiated (omega arith) .0, b .right .instantiated (omega arith) .0)
@@ -124,7 +124,7 @@ module _ (pairs text memory : List ℕ) (depth : ℕ) (code : List ℕ) where
 
   cons-outcome : {ps qs others rest : List (PropParameter ℕ)} {p q : PropParameter ℕ} → ps ≡ p ∷ others → qs ≡ q ∷ rest
       → alphaEqParametersIn pairs text memory depth ps qs
-          ≡ andAlso (alphaEqParameterIn pairs text memory depth p q) (alphaEqParametersIn pairs text memory depth others rest)
+      ≡ andAlso (alphaEqParameterIn pairs text memory depth p q) (alphaEqParametersIn pairs text memory depth others rest)
   unfolding alphaEqParameterIn alphaEqParametersIn alphaEqParameters
   cons-outcome e f = rw (e, f)
 
@@ -163,7 +163,12 @@ module _ (pairs text memory : List ℕ) (depth : ℕ) (code : List ℕ) where
       is-suc = omega arith
 
       pub first-asked : Comparable parameterCoding code left right pairs text memory depth
-      first-asked = record { names = held .asked .names; two = first-two (needed - 1) is-suc (held .asked .two); bound = held .asked .bound }
+      first-asked = record {
+        names = held .asked .names;
+        two = first-two (needed - 1) is-suc (held .asked .two);
+        named = held .asked .named;
+        bound = held .asked .bound;
+      }
 
       -- a no or a refusal of the first two is the answer
       pub first-stops : {r : Compared} → Answers parameterCoding code left right (alphaEqParameterIn pairs text memory depth) r → Stops r
@@ -185,6 +190,7 @@ module _ (pairs text memory : List ℕ) (depth : ℕ) (code : List ℕ) where
             asked = record {
               names = held .asked .names;
               two = other-two (needed - 1) is-suc (held .asked .two) (at .1) (at .2);
+              named = held .asked .named;
               bound = held .asked .bound;
             };
             decides = λ r later. held .decides r (record {

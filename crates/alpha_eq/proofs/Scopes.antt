@@ -18,7 +18,7 @@ use Rattle.prefix_code.proofs.Heads.{QuantifiedBytes, quantified-bytes}
 use Rattle.alpha_eq.specs.declared.Compared.{Compared}
 use Rattle.alpha_eq.specs.declared.Compared.the-variants.{Same, Different}
 use Rattle.alpha_eq.specs.Bindings.{bindingsOf}
-use Rattle.alpha_eq.specs.Comparing.{compared, alphaEqUnderIn, alphaEqScopeIn, ofScope, formCoding, Two, Comparable, Answers, Nested}
+use Rattle.alpha_eq.specs.Comparing.{compared, alphaEqUnderIn, alphaEqScopeIn, ofScope, formCoding, Two, Comparable, Answers, WithRoom}
 use Rattle.alpha_eq.proofs.Bindings.{pushed, bindings-pushed, bound-pushed}
 
 -- the bytes of a quantifier with its names, and where the body stands
@@ -65,16 +65,21 @@ module _ (pairs text memory : List ℕ) (depth : ℕ) (code : List ℕ) (i j : �
     -- with one byte in front the quantifiers are equal
     scope-outcome : {names : ℕ} (two : Two (formCoding ofScope) code i j names)
         → alphaEqScopeIn pairs text memory depth (two .left) (two .right)
-            ≡ andAlso (accepted same)
-                (alphaEqUnder (renameProp (marked pairs text) (two .left .body))
-                (record { left = marked pairs text (two .left .object); right = marked pairs text (two .right .object) } ∷ bindingsOf (marked pairs text) memory depth)
-                (renameProp (marked pairs text) (two .right .body)))
+        ≡ andAlso (accepted same)
+        (alphaEqUnder (renameProp (marked pairs text) (two .left .body))
+        (record { left = marked pairs text (two .left .object); right = marked pairs text (two .right .object) } ∷ bindingsOf (marked pairs text) memory depth)
+        (renameProp (marked pairs text) (two .right .body)))
     unfolding alphaEqScopeIn alphaEqScope andAlso asQuantified renameProp eqQuantifier
     scope-outcome two =
         let b = two-scopes two in
-        rw
-        (eq-eqb (quantifierByte (two .left .quantifier)) (quantifierByte (two .right .quantifier)) (sym (b .left .bytes .byte) ∙ (fronts ∙ b .right .bytes .byte)),
-        named, t-at, u-at, b .left .bytes .datatype, b .right .bytes .datatype)
+        rw (
+          eq-eqb (quantifierByte (two .left .quantifier)) (quantifierByte (two .right .quantifier)) (sym (b .left .bytes .byte) ∙ (fronts ∙ b .right .bytes .byte)),
+          named,
+          t-at,
+          u-at,
+          b .left .bytes .datatype,
+          b .right .bytes .datatype,
+        )
 
     -- different datatypes: no
     pub other-datatype : same ≡ false → Answers (formCoding ofScope) code i j (alphaEqScopeIn pairs text memory depth) Different
@@ -82,7 +87,7 @@ module _ (pairs text memory : List ℕ) (depth : ℕ) (code : List ℕ) (i j : �
     other-datatype e = record { answer = λ names two. rw (scope-outcome two, e) }
 
     -- else the bodies decide
-    pub bodies-decide : {x y : ℕ} {r : Compared} → Nested ofScope code i j pairs text memory depth → same ≡ true
+    pub bodies-decide : {x y : ℕ} {r : Compared} → WithRoom ofScope code i j pairs text memory depth → same ≡ true
         → x ≡ numberAt code (i + 1) → y ≡ numberAt code (j + 1)
         → Answers propositionCoding code (i + 5) (j + 5) (alphaEqUnderIn pairs text (pushed memory depth x y) (depth + 1)) r
         → Answers (formCoding ofScope) code i j (alphaEqScopeIn pairs text memory depth) r
@@ -100,8 +105,8 @@ module _ (pairs text memory : List ℕ) (depth : ℕ) (code : List ℕ) (i j : �
           (rw (bindings-pushed (marked pairs text) memory depth x y room) at body);
     }
 
-  pub nested-bodies : {x y : ℕ} → Nested ofScope code i j pairs text memory depth → x ≡ numberAt code (i + 1) → y ≡ numberAt code (j + 1)
-      → Nested (λ p. p) code (i + 5) (j + 5) pairs text (pushed memory depth x y) (depth + 1)
+  pub nested-bodies : {x y : ℕ} → WithRoom ofScope code i j pairs text memory depth → x ≡ numberAt code (i + 1) → y ≡ numberAt code (j + 1)
+      → WithRoom (λ p. p) code (i + 5) (j + 5) pairs text (pushed memory depth x y) (depth + 1)
   unfolding two-bodies nesting
   nested-bodies asked x-at y-at =
       let b = two-scopes (asked .forms .two) in
@@ -109,7 +114,8 @@ module _ (pairs text memory : List ℕ) (depth : ℕ) (code : List ℕ) (i j : �
         forms = record {
           names = asked .forms .names;
           two = two-bodies (asked .forms .two);
-          bound = bound-pushed (omega (arith, asked .room)) (omega arith) (omega arith) (asked .forms .bound);
+          named = asked .forms .named;
+          bound = bound-pushed (omega (arith, asked .room)) (asked .forms .named _ (rw (x-at, b .left .bytes .object) (b .left .bytes .object-below))) (asked .forms .named _ (rw (y-at, b .right .bytes .object) (b .right .bytes .object-below))) (asked .forms .bound);
         };
         room = simp length-set (omega (arith, asked .room));
       }

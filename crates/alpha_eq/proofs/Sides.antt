@@ -16,7 +16,7 @@ use borrow.Author.Tests.{eq-eqb}
 use Rattle.alpha_eq.specs.declared.Compared.{Compared}
 use Rattle.alpha_eq.specs.declared.Compared.the-variants.{Same}
 use Rattle.alpha_eq.specs.Bindings.{Kept}
-use Rattle.alpha_eq.specs.Comparing.{compared, alphaEqUnderIn, alphaEqSidesIn, ofSides, formCoding, Two, Comparable, Answers, Nested}
+use Rattle.alpha_eq.specs.Comparing.{compared, alphaEqUnderIn, alphaEqSidesIn, ofSides, formCoding, Two, Comparable, Answers, WithRoom}
 use Rattle.alpha_eq.proofs.Outcomes.{Stops, yes-ends, stopped, followed}
 use Rattle.alpha_eq.proofs.Bindings.{bindings-same, bound-kept}
 
@@ -75,20 +75,20 @@ module _ {names : ℕ} {code : List ℕ} {i j : ℕ} (two : Two (formCoding ofSi
   -- with one byte in front the connectives are equal
   sides-outcome : (pairs text memory : List ℕ) (depth : ℕ) → getD code i 0 ≡ getD code j 0
       → alphaEqSidesIn pairs text memory depth (two .left) (two .right)
-          ≡ andAlso (alphaEqUnderIn pairs text memory depth (two .left .left) (two .right .left))
-              (alphaEqUnderIn pairs text memory depth (two .left .right) (two .right .right))
+      ≡ andAlso (alphaEqUnderIn pairs text memory depth (two .left .left) (two .right .left))
+      (alphaEqUnderIn pairs text memory depth (two .left .right) (two .right .right))
   unfolding alphaEqSidesIn alphaEqUnderIn alphaEqSides andAlso asBinary renameProp eqConnective
   sides-outcome pairs text memory depth fronts =
       rw (eq-eqb (connectiveByte (two .left .connective)) (connectiveByte (two .right .connective)) (sym (on-left .byte) ∙ (fronts ∙ on-right .byte)))
 
 module _ (pairs text memory : List ℕ) (depth : ℕ) (code : List ℕ) (i j : ℕ) where
-  pub sides-inside : Nested ofSides code i j pairs text memory depth → (i < length code) × (j < length code)
+  pub sides-inside : WithRoom ofSides code i j pairs text memory depth → (i < length code) × (j < length code)
   sides-inside asked = (on-left (asked .forms .two) .inside, on-right (asked .forms .two) .inside)
 
-  pub nested-lefts : Nested ofSides code i j pairs text memory depth → Nested (λ p. p) code (i + 1) (j + 1) pairs text memory depth
+  pub nested-lefts : WithRoom ofSides code i j pairs text memory depth → WithRoom (λ p. p) code (i + 1) (j + 1) pairs text memory depth
   unfolding two-lefts nesting
   nested-lefts asked = record {
-    forms = record { names = asked .forms .names; two = two-lefts (asked .forms .two); bound = asked .forms .bound };
+    forms = record { names = asked .forms .names; two = two-lefts (asked .forms .two); named = asked .forms .named; bound = asked .forms .bound };
     room = omega (arith, asked .room);
   }
 
@@ -115,8 +115,8 @@ module _ (pairs text memory : List ℕ) (depth : ℕ) (code : List ℕ) (i j : �
             (rw (bindings-same (marked pairs text) memory after depth kept) at (rights .answer names (two-rights two at-left at-right))));
       }
 
-      pub nested-rights : {after : List ℕ} → Nested ofSides code i j pairs text memory depth → Kept depth memory after → length after ≡ length memory
-          → Nested (λ p. p) code a b pairs text after depth
+      pub nested-rights : {after : List ℕ} → WithRoom ofSides code i j pairs text memory depth → Kept depth memory after → length after ≡ length memory
+          → WithRoom (λ p. p) code a b pairs text after depth
       unfolding two-lefts two-rights nesting
       nested-rights asked kept long =
           let at = yes-ends _ _ _ (lefts .answer (asked .forms .names) (two-lefts (asked .forms .two))) in
@@ -124,11 +124,12 @@ module _ (pairs text memory : List ℕ) (depth : ℕ) (code : List ℕ) (i j : �
             forms = record {
               names = asked .forms .names;
               two = two-rights (asked .forms .two) (at .1) (at .2);
+              named = asked .forms .named;
               bound = bound-kept kept long (asked .forms .bound);
             };
             room = omega (arith, asked .room);
           }
 
-      pub rights-after : Nested ofSides code i j pairs text memory depth → (i < a) × (j < b)
+      pub rights-after : WithRoom ofSides code i j pairs text memory depth → (i < a) × (j < b)
       unfolding two-lefts
       rights-after asked = let at = yes-ends _ _ _ (lefts .answer (asked .forms .names) (two-lefts (asked .forms .two))) in (omega arith, omega arith)

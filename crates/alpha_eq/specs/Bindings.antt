@@ -18,19 +18,11 @@ module _ (nameOf : ℕ → Name) (memory : List ℕ) where
   bindingsOf zero = []
   bindingsOf (suc k) = bindingAt k ∷ bindingsOf k
 
--- each name number below `names` marks bytes of the text, and so many bindings, of such numbers, are in the memory
-pub record Bound (names : ℕ) (pairs text memory : List ℕ) (depth : ℕ) : Type 0 where
-  pub named : (n : ℕ) → n < names → PairsWithin pairs text n
+-- so many bindings are in the memory, and their numbers mark names of the text
+pub record Bound (pairs text memory : List ℕ) (depth : ℕ) : Type 0 where
   pub present : 2 * depth ≤ length memory
-  pub below : (k : ℕ) → k < 2 * depth → getD memory k 0 < names
+  pub named : (k : ℕ) → k < 2 * depth → PairsWithin pairs text (getD memory k 0)
 
 -- so many bindings are as they were
 pub record Kept (depth : ℕ) (before after : List ℕ) : Type 0 where
   pub same : (k : ℕ) → k < 2 * depth → getD after k 0 ≡ getD before k 0
-
--- and two more names are such numbers
-pub record Bindable (pairs text memory : List ℕ) (depth x y : ℕ) : Type 0 where
-  pub names : ℕ
-  pub bound : Bound names pairs text memory depth
-  pub x-below : x < names
-  pub y-below : y < names

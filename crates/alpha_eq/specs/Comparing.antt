@@ -100,24 +100,25 @@ module _ {A : Type 0} (coding : ℕ → Coding A) (code : List ℕ) (i j : ℕ) 
     pub right-rest : List ℕ
     pub right-at : Stands (coding names) code j right right-rest
 
-  -- two such things are there, with what their names and the bindings ask
+  -- two such things are there; their names and those of the bindings lie in the text
   pub record Comparable (pairs text memory : List ℕ) (depth : ℕ) : Type 0 where
     pub names : ℕ
     pub two : Two names
-    pub bound : Bound names pairs text memory depth
+    pub named : (n : ℕ) → n < names → PairsWithin pairs text n
+    pub bound : Bound pairs text memory depth
 
   -- `r` answers the outcome of whatever two are there
   pub record Answers (outcome : A → A → Outcome Bool) (r : Compared) : Type 0 where
     pub answer : (names : ℕ) (two : Two names)
         → r ≡ compared (outcome (two .left) (two .right)) (i + length (coding names .code (two .left))) (j + length (coding names .code (two .right)))
 
--- two propositions of a form, with room for the bindings of the left one's quantifiers
-pub record Nested {A : Type 0} (make : A → Prop ℕ) (code : List ℕ) (i j : ℕ) (pairs text memory : List ℕ) (depth : ℕ) : Type 0 where
+-- two propositions of a form, with room in memory for the bindings of the left one's quantifiers
+pub record WithRoom {A : Type 0} (make : A → Prop ℕ) (code : List ℕ) (i j : ℕ) (pairs text memory : List ℕ) (depth : ℕ) : Type 0 where
   pub forms : Comparable (formCoding make) code i j pairs text memory depth
   pub room : 2 * (depth + nesting (make (forms .two .left))) ≤ length memory
 
--- two propositions of a sheet that refusals 1 to 8 admit
-pub record Admitted (code : List ℕ) (i j : ℕ) (pairs text : List ℕ) : Type 0 where
+-- two propositions, the left one nesting no deeper than those of a sheet do, whose names lie in the text
+pub record TwoPropositions (code : List ℕ) (i j : ℕ) (pairs text : List ℕ) : Type 0 where
   pub names : ℕ
   pub two : Two propositionCoding code i j names
   pub named : (n : ℕ) → n < names → PairsWithin pairs text n

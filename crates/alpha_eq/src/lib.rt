@@ -12,8 +12,8 @@ ghost use Rattle.definitions.specs.Name.{eqName};
 ghost use Rattle.definitions.specs.Sheet.{marked};
 ghost use Rattle.identifier.specs.Pairs.{PairsWithin};
 ghost use Rattle.prefix_code.specs.Scan.{propositionCoding, parameterCoding};
-ghost use Rattle.alpha_eq.specs.Bindings.{Bindable, Kept};
-ghost use Rattle.alpha_eq.specs.Comparing.{outcomeOf, compared, ofSides, ofApplied, ofScope, formCoding, severalCoding, boundAlikeIn, alphaEqParameterIn, alphaEqParametersIn, alphaEqAtomIn, alphaEqUnderIn, alphaEqSidesIn, alphaEqScopeIn, Comparable, Answers, Nested, Admitted, Decides};
+ghost use Rattle.alpha_eq.specs.Bindings.{Bound, Kept};
+ghost use Rattle.alpha_eq.specs.Comparing.{outcomeOf, compared, ofSides, ofApplied, ofScope, formCoding, severalCoding, boundAlikeIn, alphaEqParameterIn, alphaEqParametersIn, alphaEqAtomIn, alphaEqUnderIn, alphaEqSidesIn, alphaEqScopeIn, Comparable, Answers, WithRoom, TwoPropositions, Decides};
 
 // What the walk over two codes answers: a yes with the ends of both, a no, or a refusal.
 pub enum Compared {
@@ -28,6 +28,18 @@ pub enum Answer {
     No,
     Refused(Refusal),
 }
+
+// Two atoms of one name have different parameter counts.
+const DIFFERENT_COUNTS: Refusal = Refusal {
+    number: 18,
+    place: 0,
+};
+
+// Two uninstantiated parameters meet with neither bound on its side.
+const UNBOUND: Refusal = Refusal {
+    number: 19,
+    place: 0,
+};
 
 // Whether the names of two numbers have the same bytes.
 fn same_bytes(pairs: &[u8], text: &[u8], a: usize, b: usize) -> bool
@@ -63,7 +75,8 @@ fn bound_alike(
     x: usize,
     y: usize,
 ) -> Answer
-    requires { ⌜ Bindable (now pairs) (now text) (now bindings) depth x y ⌝ }
+    requires { ⌜ Bound (now pairs) (now text) (now bindings) depth ⌝ }
+    requires { ⌜ PairsWithin (now pairs) (now text) x × PairsWithin (now pairs) (now text) y ⌝ }
     ensures { λ r. ⌜ outcomeOf r ≡ boundAlikeIn (now (pairs .entry)) (now (text .entry)) (now (bindings .entry)) depth x y ⌝ }
 {
     let mut unseen = depth;
@@ -82,10 +95,7 @@ fn bound_alike(
         }
         unseen -= 1;
     }
-    Answer::Refused(Refusal {
-        number: 19,
-        place: 0,
-    })
+    Answer::Refused(UNBOUND)
 }
 
 // The parameters at i and j.
@@ -112,10 +122,10 @@ fn alpha_eq_parameter(
         let answer = bound_alike(bindings, depth, pairs, text, x, y);
         return with_ends(answer, i + 3, j + 3);
     }
-    let same = same_bytes(pairs, text, x, y);
+    let same_object = same_bytes(pairs, text, x, y);
     let id = number_at(code, i + 3);
     let other_id = number_at(code, j + 3);
-    if !same {
+    if !same_object {
         return Compared::Different;
     }
     if id != other_id {
@@ -143,9 +153,9 @@ fn alpha_eq_parameters(
     let mut right = j;
     let mut needed = count;
     while 0 < needed {
-        let first = alpha_eq_parameter(code, left, right, pairs, text, bindings, depth);
-        let Compared::Same(left_end, right_end) = first else {
-            return first;
+        let next = alpha_eq_parameter(code, left, right, pairs, text, bindings, depth);
+        let Compared::Same(left_end, right_end) = next else {
+            return next;
         };
         left = left_end;
         right = right_end;
@@ -168,19 +178,27 @@ fn alpha_eq_atom(
     ensures { λ r. ⌜ Answers (formCoding ofApplied) (now (code .entry)) i j
         (alphaEqAtomIn (now (pairs .entry)) (now (text .entry)) (now (bindings .entry)) depth) r ⌝ }
 {
-    let same = same_bytes(pairs, text, number_at(code, i + 1), number_at(code, j + 1));
+    let a = number_at(code, i + 1);
+    let b = number_at(code, j + 1);
+    let same_atom = same_bytes(pairs, text, a, b);
     let count = code[i + 3];
     let other_count = code[j + 3];
-    if !same {
+    if !same_atom {
         return Compared::Different;
     }
     if count != other_count {
-        return Compared::Refused(Refusal {
-            number: 18,
-            place: 0,
-        });
+        return Compared::Refused(DIFFERENT_COUNTS);
     }
-    alpha_eq_parameters(code, i + 4, j + 4, count as usize, pairs, text, bindings, depth)
+    alpha_eq_parameters(
+        code,
+        i + 4,
+        j + 4,
+        count as usize,
+        pairs,
+        text,
+        bindings,
+        depth,
+    )
 }
 
 // The propositions of one connective at i and j: the left sides, and after a yes the right ones.
@@ -193,17 +211,17 @@ fn alpha_eq_sides(
     bindings: &mut [u16],
     depth: usize,
 ) -> Compared
-    requires { ⌜ Nested ofSides (now code) i j (now pairs) (now text) (now bindings) depth ⌝ }
+    requires { ⌜ WithRoom ofSides (now code) i j (now pairs) (now text) (now bindings) depth ⌝ }
     requires { ⌜ getD (now code) i 0 ≡ getD (now code) j 0 ⌝ }
     ensures { λ r. ⌜ Answers (formCoding ofSides) (now (code .entry)) i j
         (alphaEqSidesIn (now (pairs .entry)) (now (text .entry)) (now (bindings .entry)) depth) r ⌝ }
     ensures { λ r. ⌜ Kept depth (now (bindings .entry)) (now (bindings .exit)) ⌝ }
 {
     let left = alpha_eq_under(code, i + 1, j + 1, pairs, text, bindings, depth);
-    let Compared::Same(left_end, right_end) = left else {
+    let Compared::Same(i_end, j_end) = left else {
         return left;
     };
-    alpha_eq_under(code, left_end, right_end, pairs, text, bindings, depth)
+    alpha_eq_under(code, i_end, j_end, pairs, text, bindings, depth)
 }
 
 // The propositions of one quantifier at i and j: datatypes, then the bodies with the objects bound to each other.
@@ -216,14 +234,15 @@ fn alpha_eq_scope(
     bindings: &mut [u16],
     depth: usize,
 ) -> Compared
-    requires { ⌜ Nested ofScope (now code) i j (now pairs) (now text) (now bindings) depth ⌝ }
+    requires { ⌜ WithRoom ofScope (now code) i j (now pairs) (now text) (now bindings) depth ⌝ }
     requires { ⌜ getD (now code) i 0 ≡ getD (now code) j 0 ⌝ }
     ensures { λ r. ⌜ Answers (formCoding ofScope) (now (code .entry)) i j
         (alphaEqScopeIn (now (pairs .entry)) (now (text .entry)) (now (bindings .entry)) depth) r ⌝ }
     ensures { λ r. ⌜ Kept depth (now (bindings .entry)) (now (bindings .exit)) ⌝ }
 {
-    let same = same_bytes(pairs, text, number_at(code, i + 3), number_at(code, j + 3));
-    if !same {
+    let t = number_at(code, i + 3);
+    let u = number_at(code, j + 3);
+    if !same_bytes(pairs, text, t, u) {
         return Compared::Different;
     }
     bindings[2 * depth] = number_at(code, i + 1) as u16;
@@ -231,7 +250,8 @@ fn alpha_eq_scope(
     alpha_eq_under(code, i + 5, j + 5, pairs, text, bindings, depth + 1)
 }
 
-// The propositions at i and j under so many bindings.
+// The propositions at i and j under so many bindings, by the byte in front: 0 ⊤, 1 ⊥, 2 to 4 a connective, 5 an atom, then a
+// quantifier.
 pub fn alpha_eq_under(
     code: &[u8],
     i: usize,
@@ -241,7 +261,7 @@ pub fn alpha_eq_under(
     bindings: &mut [u16],
     depth: usize,
 ) -> Compared
-    requires { ⌜ Nested (λ p. p) (now code) i j (now pairs) (now text) (now bindings) depth ⌝ }
+    requires { ⌜ WithRoom (λ p. p) (now code) i j (now pairs) (now text) (now bindings) depth ⌝ }
     ensures { λ r. ⌜ Answers propositionCoding (now (code .entry)) i j
         (alphaEqUnderIn (now (pairs .entry)) (now (text .entry)) (now (bindings .entry)) depth) r ⌝ }
     ensures { λ r. ⌜ Kept depth (now (bindings .entry)) (now (bindings .exit)) ⌝ }
@@ -267,7 +287,7 @@ const BINDINGS: usize = 128;
 
 // Are the propositions at i and j the same up to the names of their bound objects?
 pub fn alpha_eq(code: &[u8], i: usize, j: usize, pairs: &[u8], text: &[u8]) -> Answer
-    requires { ⌜ Admitted (now code) i j (now pairs) (now text) ⌝ }
+    requires { ⌜ TwoPropositions (now code) i j (now pairs) (now text) ⌝ }
     ensures { λ r. ⌜ Decides (now (code .entry)) i j (marked (now (pairs .entry)) (now (text .entry))) r ⌝ }
 {
     let mut bindings = [0u16; BINDINGS];

@@ -83,8 +83,8 @@ alpha-eq-scope-number-at-requires-2 t c κs = omega (arith, two-scopes (c .befor
 -- src/lib.rt:225:9
 alpha-eq-scope-same-bytes-requires : (t : ℕ) → alpha-eq-scope-lts.Need-same-bytes-requires (alpha-eq-scope-claims t) (alpha-eq-scope-at t) alpha-eq-scope.Post
 alpha-eq-scope-same-bytes-requires t c κs = (
-  c .before .before .before .before .before .before .pre .1 .0 .forms .bound .named (c .before .number-at .result) (omega (arith, two-scopes (c .before .before .before .before .before .before .pre .1 .0 .forms .two))),
-  c .before .before .before .before .before .before .pre .1 .0 .forms .bound .named (c .number-at2 .result) (omega (arith, two-scopes (c .before .before .before .before .before .before .pre .1 .0 .forms .two))),
+  c .before .before .before .before .before .before .pre .1 .0 .forms .named (c .before .number-at .result) (omega (arith, two-scopes (c .before .before .before .before .before .before .pre .1 .0 .forms .two))),
+  c .before .before .before .before .before .before .pre .1 .0 .forms .named (c .number-at2 .result) (omega (arith, two-scopes (c .before .before .before .before .before .before .pre .1 .0 .forms .two))),
 )
 
 -- src/lib.rt:227:9

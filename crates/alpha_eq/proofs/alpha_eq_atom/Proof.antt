@@ -29,8 +29,8 @@ number-at-requires-2 c κs = omega (arith, two-atoms (c .before .before .before 
 -- src/lib.rt:171:9
 same-bytes-requires : tie.Need-same-bytes-requires
 same-bytes-requires c κs = (
-  c .before .before .before .before .before .before .pre .bound .named (c .before .number-at .result) (omega (arith, two-atoms (c .before .before .before .before .before .before .pre .two))),
-  c .before .before .before .before .before .before .pre .bound .named (c .number-at2 .result) (omega (arith, two-atoms (c .before .before .before .before .before .before .pre .two))),
+  c .before .before .before .before .before .before .pre .named (c .before .number-at .result) (omega (arith, two-atoms (c .before .before .before .before .before .before .pre .two))),
+  c .before .before .before .before .before .before .pre .named (c .number-at2 .result) (omega (arith, two-atoms (c .before .before .before .before .before .before .pre .two))),
 )
 
 -- src/lib.rt:172:22
@@ -71,7 +71,7 @@ cast-alpha-eq-parameters c = omega (arith, c .before .before .before .shared-sli
 
 -- src/lib.rt:183:5
 alpha-eq-parameters-requires : tie.Need-alpha-eq-parameters-requires
-alpha-eq-parameters-requires c κs = record { names = c .before .before .before .before .before .before .before .before .before .before .before .pre .names; two = two-lists (c .if2 .left) (c .before .before .before .before .before .before .before .before .before .before .before .pre .two); bound = c .before .before .before .before .before .before .before .before .before .before .before .pre .bound }
+alpha-eq-parameters-requires c κs = record { names = c .before .before .before .before .before .before .before .before .before .before .before .pre .names; named = c .before .before .before .before .before .before .before .before .before .before .before .pre .named; two = two-lists (c .if2 .left) (c .before .before .before .before .before .before .before .before .before .before .before .pre .two); bound = c .before .before .before .before .before .before .before .before .before .before .before .pre .bound }
 
 -- src/lib.rt:158:1
 returns-3 : tie.Need-returns-3

@@ -42,12 +42,13 @@ number-at-requires-2 c κs = omega (arith, two-bytes (c .before .before .before 
 
 -- src/lib.rt:112:13
 bound-alike-requires : tie.Need-bound-alike-requires
-bound-alike-requires c κs = record {
-  names = c .before .before .before .before .before .before .before .before .before .before .pre .names;
-  bound = c .before .before .before .before .before .before .before .before .before .before .pre .bound;
-  x-below = omega (arith, two-bytes (c .before .before .before .before .before .before .before .before .before .before .pre .two));
-  y-below = omega (arith, two-bytes (c .before .before .before .before .before .before .before .before .before .before .pre .two));
-}
+bound-alike-requires c κs = (
+  c .before .before .before .before .before .before .before .before .before .before .pre .bound,
+  (
+    c .before .before .before .before .before .before .before .before .before .before .pre .named (c .before .before .number-at .result) (omega (arith, two-bytes (c .before .before .before .before .before .before .before .before .before .before .pre .two))),
+    c .before .before .before .before .before .before .before .before .before .before .pre .named (c .before .number-at2 .result) (omega (arith, two-bytes (c .before .before .before .before .before .before .before .before .before .before .pre .two))),
+  ),
+)
 
 -- src/lib.rt:113:34
 add-with-ends : tie.Need-add-with-ends
@@ -68,8 +69,8 @@ returns-2 c = uninstantiated-both _ _ _ _ _ _ _ (omega arith) (omega arith) (c .
 -- src/lib.rt:115:9
 same-bytes-requires : tie.Need-same-bytes-requires
 same-bytes-requires c κs = (
-  c .before .before .before .before .before .before .before .before .before .before .pre .bound .named (c .before .before .number-at .result) (omega (arith, two-bytes (c .before .before .before .before .before .before .before .before .before .before .pre .two))),
-  c .before .before .before .before .before .before .before .before .before .before .pre .bound .named (c .before .number-at2 .result) (omega (arith, two-bytes (c .before .before .before .before .before .before .before .before .before .before .pre .two))),
+  c .before .before .before .before .before .before .before .before .before .before .pre .named (c .before .before .number-at .result) (omega (arith, two-bytes (c .before .before .before .before .before .before .before .before .before .before .pre .two))),
+  c .before .before .before .before .before .before .before .before .before .before .pre .named (c .before .number-at2 .result) (omega (arith, two-bytes (c .before .before .before .before .before .before .before .before .before .before .pre .two))),
 )
 
 -- src/lib.rt:116:30

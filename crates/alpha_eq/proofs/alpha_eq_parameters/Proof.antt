@@ -23,8 +23,8 @@ alpha-eq-parameter-requires : tie.Need-alpha-eq-parameter-requires Inv-loop μ-l
 alpha-eq-parameter-requires c κs = first-asked _ _ _ _ _ (c .before .loop .inv) (c .loop-test .taken)
 
 -- src/lib.rt:147:28
-enum-known-first : tie.Need-enum-known-first Inv-loop μ-loop
-enum-known-first c = search needs
+enum-known-next : tie.Need-enum-known-next Inv-loop μ-loop
+enum-known-next c = search needs
 
 -- src/lib.rt:148:13
 returns : tie.Need-returns Inv-loop μ-loop
@@ -40,7 +40,7 @@ loop-less c = omega arith
 
 -- src/lib.rt:145:5
 loop-again : tie.Need-loop-again Inv-loop μ-loop
-loop-again c = others-left _ _ _ _ _ (c .before .before .before .before .before .loop .inv) (c .before .before .before .before .loop-test .taken) (rw (c .before .first .given .1) at (c .before .before .before .alpha-eq-parameter .ensures))
+loop-again c = others-left _ _ _ _ _ (c .before .before .before .before .before .loop .inv) (c .before .before .before .before .loop-test .taken) (rw (c .before .next .given .1) at (c .before .before .before .alpha-eq-parameter .ensures))
 
 -- src/lib.rt:128:1
 returns-2 : tie.Need-returns-2 Inv-loop μ-loop
@@ -54,7 +54,7 @@ alpha-eq-parameters-spec =
     μ-loop
     loop-holds
     alpha-eq-parameter-requires
-    enum-known-first
+    enum-known-next
     returns
     sub-needed
     loop-less

@@ -44,8 +44,7 @@ cast-same-bytes c = omega (arith, c .shared-slice-known4 .given (2 * (c .before 
 -- src/lib.rt:72:13
 same-bytes-requires : tie.Need-same-bytes-requires Inv-loop μ-loop
 same-bytes-requires c κs =
-    let b = c .before .before .before .before .before .before .pre .bound in
-    (b .named _ (b .below (2 * (c .before .before .loop .unseen - 1)) (omega arith)), b .named _ (c .before .before .before .before .before .before .pre .x-below))
+    (c .before .before .before .before .before .before .pre .0 .named (2 * (c .before .before .loop .unseen - 1)) (omega arith), c .before .before .before .before .before .before .pre .1 .0)
 
 -- src/lib.rt:73:56
 add-same-bytes : tie.Need-add-same-bytes Inv-loop μ-loop
@@ -66,8 +65,7 @@ cast-same-bytes-2 c = omega (arith, c .shared-slice-known5 .given (2 * (c .befor
 -- src/lib.rt:73:13
 same-bytes-requires-2 : tie.Need-same-bytes-requires-2 Inv-loop μ-loop
 same-bytes-requires-2 c κs =
-    let b = c .before .before .before .before .before .before .before .before .pre .bound in
-    (b .named _ (b .below (2 * (c .before .before .before .before .loop .unseen - 1) + 1) (omega arith)), b .named _ (c .before .before .before .before .before .before .before .before .pre .y-below))
+    (c .before .before .before .before .before .before .before .before .pre .0 .named (2 * (c .before .before .before .before .loop .unseen - 1) + 1) (omega arith), c .before .before .before .before .before .before .before .before .pre .1 .1)
 
 -- src/lib.rt:76:17
 returns : tie.Need-returns Inv-loop μ-loop
