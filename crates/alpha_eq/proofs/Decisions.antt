@@ -1,11 +1,10 @@
 -- A comparison starts with no binding, and its answer is the outcome that the walk tells.
 use Prim.Native.Nat.{ℕ, _*_, _≤_}
-use mathlib.Core.Path.{_≡_, sym, ap, _∙_}
+use mathlib.Core.Path.{_≡_, ap, _∙_}
 use mathlib.Core.List.{List}
 use native.Mathlib.Omega.{arith}
 use lib.ListN.{length}
 use Rattle.definitions.specs.Sheet.{propositionNestingLimit, marked}
-use Rattle.definitions.specs.Prop.{Prop}
 use Rattle.definitions.specs.Comparison.{alphaEq}
 use Rattle.prefix_code.specs.Scan.{propositionCoding}
 use Rattle.alpha_eq.specs.declared.Answer.{Answer}
@@ -16,16 +15,16 @@ use Rattle.alpha_eq.proofs.Outcomes.{told, told-compared}
 
 module _ {code : List ℕ} {i j : ℕ} {pairs text : List ℕ} where
   -- there is room for the bindings of a proposition that nests no deeper than the limit
-  pub nested-admitted : (memory : List ℕ) → 2 * propositionNestingLimit ≤ length memory → TwoPropositions code i j pairs text
+  pub room-at-first : (memory : List ℕ) → 2 * propositionNestingLimit ≤ length memory → TwoPropositions code i j pairs text
       → WithRoom (λ p. p) code i j pairs text memory 0
-  nested-admitted memory room admitted = record {
+  room-at-first memory room propositions = record {
     forms = record {
-      names = admitted .names;
-      two = admitted .two;
-      named = admitted .named;
+      names = propositions .names;
+      two = propositions .two;
+      named = propositions .named;
       bound = record { present = omega arith; named = λ k h. absurd (omega arith) };
     };
-    room = omega (arith, admitted .shallow);
+    room = omega (arith, propositions .shallow);
   }
 
 pub decides : (pairs text memory code : List ℕ) (i j : ℕ) {answer : Answer} {r : Compared} → outcomeOf answer ≡ told r

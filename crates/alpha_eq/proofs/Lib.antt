@@ -2,9 +2,10 @@
 pub mod Names
 pub mod Bindings
 pub mod Outcomes
+pub mod Standing
 pub mod Parameters
 pub mod Atoms
-pub mod Forms
 pub mod Sides
 pub mod Scopes
+pub mod Forms
 pub mod Decisions

@@ -1,8 +1,8 @@
--- Two parameters are compared by their bytes, and of two lists of parameters the first ones decide or what is left does.
+-- Two parameters are compared by their bytes. Of two lists of parameters the first two decide, and after a yes the others do.
 use Prim.Native.Nat.{ℕ, suc, _+_, _-_, _≤_, _<_}
-use mathlib.Core.Path.{_≡_, refl, sym, _∙_, ap}
+use mathlib.Core.Path.{_≡_, refl}
 use mathlib.Core.Bool.{Bool, _&&_}
-use mathlib.Core.List.{List, [], _∷_, _++_, map, append-assoc}
+use mathlib.Core.List.{List, [], _∷_, _++_, append-assoc}
 use native.Mathlib.Omega.{arith}
 use native.Mathlib.Decide.{decLt}
 use lib.ListN.{length, drop, getD, length-append}
@@ -10,7 +10,7 @@ use lib.Dec.{eqb}
 use Rattle.definitions.specs.Outcome.{Outcome, accepted}
 use Rattle.definitions.specs.Name.{eqName}
 use Rattle.definitions.specs.Sheet.{numberAt, marked}
-use Rattle.definitions.specs.Prop.{PropParameter, Uninstantiated, Instantiated, renameParameter}
+use Rattle.definitions.specs.Prop.{PropParameter, renameParameter}
 use Rattle.definitions.specs.Code.{u16, encodeParameter, encodeParameters, CodableParameters}
 use Rattle.definitions.specs.Comparison.{no as a-no, andAlso, alphaEqParameter, alphaEqParameters}
 use Rattle.prefix_code.specs.Scan.{Stands, Several, parameterCoding, parametersCoding}
@@ -18,28 +18,20 @@ use Rattle.prefix_code.proofs.Positions.{after}
 use Rattle.prefix_code.proofs.Parameters.{ParameterBytes, parameter-bytes}
 use Rattle.alpha_eq.specs.declared.Compared.{Compared}
 use Rattle.alpha_eq.specs.declared.Compared.the-variants.{Same, Different}
-use Rattle.alpha_eq.specs.Comparing.{compared, boundAlikeIn, alphaEqParameterIn, alphaEqParametersIn, severalCoding, Two, Comparable, Answers}
+use Rattle.alpha_eq.specs.Comparing.{compared, boundAlikeIn, alphaEqParameterIn, alphaEqParametersIn, severalCoding, Standing, endOf, Two, Comparable, Answers}
 use Rattle.alpha_eq.proofs.Outcomes.{Stops, yes-ends, stopped, followed}
+use Rattle.alpha_eq.proofs.Standing.{moved}
 
--- the bytes of two parameters that stand at i and j
-pub record TwoBytes (names : ℕ) (code : List ℕ) (i j : ℕ) (two : Two parameterCoding code i j names) : Type 0 where
-  pub left : ParameterBytes names code i (two .left) (two .left-rest)
-  pub right : ParameterBytes names code j (two .right) (two .right-rest)
+module _ {names : ℕ} {code : List ℕ} {at : ℕ} (s : Standing parameterCoding names code at) where
+  pub parameter-at : ParameterBytes names code at (s .value) (s .rest)
+  parameter-at = parameter-bytes names code at (s .value) (s .rest) (s .stands)
 
-pub two-bytes : {names : ℕ} {code : List ℕ} {i j : ℕ} (two : Two parameterCoding code i j names) → TwoBytes names code i j two
-two-bytes {names} {code} {i} {j} two = record {
-  left = parameter-bytes names code i (two .left) (two .left-rest) (two .left-at);
-  right = parameter-bytes names code j (two .right) (two .right-rest) (two .right-at);
-}
-
--- two of one kind, which is not 0, have ids
-pub two-ids : {names : ℕ} {code : List ℕ} {i j : ℕ} → Two parameterCoding code i j names → getD code i 0 ≡ getD code j 0 → (getD code i 0 ≡ 0 → ⊥)
-    → (getD code i 0 ≡ 1) × (getD code j 0 ≡ 1) × (i + 5 ≤ length code) × (j + 5 ≤ length code)
-two-ids {code} {i} {j} two same other =
-    let b = two-bytes two in
-    let one : getD code i 0 ≡ 1 = omega arith in
-    let also : getD code j 0 ≡ 1 = omega arith in
-    (one, also, b .left .instantiated one .1, b .right .instantiated also .1)
+  -- one of a kind that is not 0 has an id
+  pub id-at : (getD code at 0 ≡ 0 → ⊥) → (getD code at 0 ≡ 1) × (at + 5 ≤ length code)
+  id-at other =
+      let b = parameter-at in
+      let one : getD code at 0 ≡ 1 = omega arith in
+      (one, b .instantiated one .1)
 
 module _ (pairs text memory : List ℕ) (depth : ℕ) (code : List ℕ) (i j : ℕ) where
   -- of different kinds: no
@@ -49,14 +41,15 @@ module _ (pairs text memory : List ℕ) (depth : ℕ) (code : List ℕ) (i j : �
   other-kind differ = record { answer = λ names two. go names two (decLt (getD code i 0) 1) }
     where
       go : (names : ℕ) (two : Two parameterCoding code i j names) → Dec (getD code i 0 < 1)
-          → Different ≡ compared (alphaEqParameterIn pairs text memory depth (two .left) (two .right))
-          (i + length (encodeParameter (two .left))) (j + length (encodeParameter (two .right)))
+          → Different ≡ compared (alphaEqParameterIn pairs text memory depth (two .left .value) (two .right .value)) (endOf (two .left)) (endOf (two .right))
       go names two (yes h) =
-          let b = two-bytes two in
-          rw (b .left .uninstantiated (omega arith) .0, b .right .instantiated (omega arith) .0)
+          let l = parameter-at (two .left) in
+          let r = parameter-at (two .right) in
+          rw (l .uninstantiated (omega arith) .0, r .instantiated (omega arith) .0)
       go names two (no h) =
-          let b = two-bytes two in
-          rw (b .left .instantiated (omega arith) .0, b .right .uninstantiated (omega arith) .0)
+          let l = parameter-at (two .left) in
+          let r = parameter-at (two .right) in
+          rw (l .instantiated (omega arith) .0, r .uninstantiated (omega arith) .0)
 
   -- two uninstantiated ones: by the bindings
   pub uninstantiated-both : {x y : ℕ} {outcome : Outcome Bool} {r : Compared} → getD code i 0 ≡ 0 → getD code j 0 ≡ 0
@@ -66,8 +59,7 @@ module _ (pairs text memory : List ℕ) (depth : ℕ) (code : List ℕ) (i j : �
   unfolding boundAlikeIn alphaEqParameterIn alphaEqParameter renameParameter encodeParameter u16
   uninstantiated-both h k x-at y-at decided e = record {
     answer = λ names two.
-        let b = two-bytes two in
-        rw (b .left .uninstantiated h .0, b .right .uninstantiated k .0, ← x-at, ← y-at, ← decided) e;
+        rw (parameter-at (two .left) .uninstantiated h .0, parameter-at (two .right) .uninstantiated k .0, ← x-at, ← y-at, ← decided) e;
   }
 
   -- two instantiated ones: by names and ids
@@ -76,43 +68,45 @@ module _ (pairs text memory : List ℕ) (depth : ℕ) (code : List ℕ) (i j : �
       → same ≡ eqName (marked pairs text x) (marked pairs text y) → r ≡ compared (accepted (same && eqb id other)) (i + 5) (j + 5)
       → Answers parameterCoding code i j (alphaEqParameterIn pairs text memory depth) r
   unfolding alphaEqParameterIn alphaEqParameter renameParameter encodeParameter u16
-  instantiated-both h k x-at y-at id-at other-at named e = record {
+  instantiated-both h k x-at y-at id-here other-here named e = record {
     answer = λ names two.
-        let b = two-bytes two in
-        rw (b .left .instantiated h .0, b .right .instantiated k .0, ← x-at, ← y-at, ← id-at, ← other-at, ← named) e;
+        rw
+        (parameter-at (two .left) .instantiated h .0, parameter-at (two .right) .instantiated k .0, ← x-at, ← y-at, ← id-here, ← other-here, ← named)
+        e;
   }
 
--- the first of some parameters, and the others
-record First (names : ℕ) (l : List ℕ) (at n : ℕ) (ps : List (PropParameter ℕ)) (rest : List ℕ) : Type 0 where
-  first : PropParameter ℕ
-  others : List (PropParameter ℕ)
-  is : ps ≡ first ∷ others
-  first-at : Stands (parameterCoding names) l at first (encodeParameters others ++ rest)
-  others-at : Stands (parametersCoding names n) l (at + length (encodeParameter first)) others rest
+-- the first of some parameters that stand at a position, and the others
+record First (names : ℕ) (code : List ℕ) (at n : ℕ) (ps : List (PropParameter ℕ)) : Type 0 where
+  first : Standing parameterCoding names code at
+  others : Standing (severalCoding n) names code (endOf first)
+  is : ps ≡ first .value ∷ others .value
 
-first-of : (names : ℕ) (l : List ℕ) (at k n : ℕ) (ps : List (PropParameter ℕ)) (rest : List ℕ) → k ≡ suc n
-    → Stands (parametersCoding names k) l at ps rest → First names l at n ps rest
+first-of : (names : ℕ) (code : List ℕ) (at k n : ℕ) (ps : List (PropParameter ℕ)) (rest : List ℕ) → k ≡ suc n
+    → Stands (parametersCoding names k) code at ps rest → First names code at n ps
 unfolding Stands Several CodableParameters encodeParameters
-first-of names l at k n [] rest e ((g, c), d) = absurd (omega arith)
-first-of names l at k n (p ∷ ps) rest e ((g, c), d) =
-    let next : drop at l ≡ encodeParameter p ++ (encodeParameters ps ++ rest) = cc (append-assoc (encodeParameter p) (encodeParameters ps) rest) in
+first-of names code at k n [] rest more ((g, c), d) = absurd (omega arith)
+first-of names code at k n (p ∷ ps) rest more ((g, c), d) =
+    let next : drop at code ≡ encodeParameter p ++ (encodeParameters ps ++ rest) = cc (append-assoc (encodeParameter p) (encodeParameters ps) rest) in
     record {
-      first = p;
-      others = ps;
+      first = record { value = p; rest = encodeParameters ps ++ rest; stands = (g .0, next) };
+      others = record {
+        value = ps;
+        rest = rest;
+        stands = ((g .1, omega arith), after code at (encodeParameter p) (encodeParameters ps ++ rest) next);
+      };
       is = refl;
-      first-at = (g .0, next);
-      others-at = ((g .1, omega arith), after l at (encodeParameter p) (encodeParameters ps ++ rest) next);
     }
-
-no-parameters : (names : ℕ) (l : List ℕ) (at k : ℕ) → k ≡ 0 → (ps : List (PropParameter ℕ)) (rest : List ℕ) → Stands (parametersCoding names k) l at ps rest → ps ≡ []
-unfolding Stands Several
-no-parameters names l at k none [] rest s = refl
-no-parameters names l at k none (p ∷ ps) rest ((g, c), d) = absurd (omega arith)
 
 cons-length : {ps others : List (PropParameter ℕ)} {p : PropParameter ℕ} → ps ≡ p ∷ others
     → length (encodeParameters ps) ≡ length (encodeParameter p) + length (encodeParameters others)
 unfolding encodeParameters
 cons-length {others} {p} e = rw e (length-append (encodeParameter p) (encodeParameters others))
+
+no-parameters : (names : ℕ) (code : List ℕ) (at k : ℕ) (ps : List (PropParameter ℕ)) (rest : List ℕ) → k ≡ 0
+    → Stands (parametersCoding names k) code at ps rest → ps ≡ []
+unfolding Stands Several
+no-parameters names code at k [] rest none s = refl
+no-parameters names code at k (p ∷ ps) rest none ((g, c), d) = absurd (omega arith)
 
 -- Of two lists of parameters, so many each:
 module _ (pairs text memory : List ℕ) (depth : ℕ) (code : List ℕ) where
@@ -128,44 +122,18 @@ module _ (pairs text memory : List ℕ) (depth : ℕ) (code : List ℕ) where
   unfolding alphaEqParameterIn alphaEqParametersIn alphaEqParameters
   cons-outcome e f = rw (e, f)
 
-  -- the first two of some, and the others
-  module _ {names left right k : ℕ} (n : ℕ) (is-suc : k ≡ suc n) (two : Two (severalCoding k) code left right names) where
-    on-left : First names code left n (two .left) (two .left-rest)
-    on-left = first-of names code left k n (two .left) (two .left-rest) is-suc (two .left-at)
-
-    on-right : First names code right n (two .right) (two .right-rest)
-    on-right = first-of names code right k n (two .right) (two .right-rest) is-suc (two .right-at)
-
-    first-two : Two parameterCoding code left right names
-    first-two = record {
-      left = on-left .first;
-      left-rest = encodeParameters (on-left .others) ++ two .left-rest;
-      left-at = on-left .first-at;
-      right = on-right .first;
-      right-rest = encodeParameters (on-right .others) ++ two .right-rest;
-      right-at = on-right .first-at;
-    }
-
-    other-two : {a b : ℕ} → a ≡ left + length (encodeParameter (on-left .first)) → b ≡ right + length (encodeParameter (on-right .first))
-        → Two (severalCoding n) code a b names
-    other-two at-left at-right = record {
-      left = on-left .others;
-      left-rest = two .left-rest;
-      left-at = rw at-left (on-left .others-at);
-      right = on-right .others;
-      right-rest = two .right-rest;
-      right-at = rw at-right (on-right .others-at);
-    }
-
   module _ {i j count left right needed : ℕ} (held : Remaining i j count left right needed) where
     module _ (more : 0 < needed) where
-      is-suc : needed ≡ suc (needed - 1)
-      is-suc = omega arith
+      parts : {names at : ℕ} (s : Standing (severalCoding needed) names code at) → First names code at (needed - 1) (s .value)
+      parts {names} {at} s = first-of names code at needed (needed - 1) (s .value) (s .rest) (omega arith) (s .stands)
+
+      first-two : {names : ℕ} → Two (severalCoding needed) code left right names → Two parameterCoding code left right names
+      first-two two = record { left = parts (two .left) .first; right = parts (two .right) .first }
 
       pub first-asked : Comparable parameterCoding code left right pairs text memory depth
       first-asked = record {
         names = held .asked .names;
-        two = first-two (needed - 1) is-suc (held .asked .two);
+        two = first-two (held .asked .two);
         named = held .asked .named;
         bound = held .asked .bound;
       }
@@ -176,31 +144,31 @@ module _ (pairs text memory : List ℕ) (depth : ℕ) (code : List ℕ) where
       unfolding first-two
       first-stops {r} first s = held .decides r (record {
         answer = λ names two.
-            rw (cons-outcome (on-left (needed - 1) is-suc two .is) (on-right (needed - 1) is-suc two .is))
-            (stopped _ _ _ s (first .answer names (first-two (needed - 1) is-suc two)) _ _ _);
+            rw (cons-outcome (parts (two .left) .is) (parts (two .right) .is)) (stopped _ _ _ s (first .answer names (first-two two)) _ _ _);
       })
 
       -- after a yes the others are left
       pub others-left : {a b : ℕ} → Answers parameterCoding code left right (alphaEqParameterIn pairs text memory depth) (Same a b)
           → Remaining i j count a b (needed - 1)
-      unfolding first-two other-two
+      unfolding first-two
       others-left first =
-          let at = yes-ends _ _ _ (first .answer (held .asked .names) (first-two (needed - 1) is-suc (held .asked .two))) in
+          let two = held .asked .two in
+          let at = yes-ends _ _ _ (first .answer (held .asked .names) (first-two two)) in
           record {
             asked = record {
               names = held .asked .names;
-              two = other-two (needed - 1) is-suc (held .asked .two) (at .1) (at .2);
+              two = record { left = moved (at .1) (parts (two .left) .others); right = moved (at .2) (parts (two .right) .others) };
               named = held .asked .named;
               bound = held .asked .bound;
             };
             decides = λ r later. held .decides r (record {
               answer = λ names two.
-                  let l = on-left (needed - 1) is-suc two in
-                  let m = on-right (needed - 1) is-suc two in
-                  let (accepts, at-left, at-right) = yes-ends _ _ _ (first .answer names (first-two (needed - 1) is-suc two)) in
+                  let l = parts (two .left) in
+                  let m = parts (two .right) in
+                  let (accepts, left-end, right-end) = yes-ends _ _ _ (first .answer names (first-two two)) in
                   rw (cons-outcome (l .is) (m .is))
                   (followed _ _ accepts (omega (arith, cons-length (l .is))) (omega (arith, cons-length (m .is)))
-                  (later .answer names (other-two (needed - 1) is-suc two at-left at-right)));
+                  (later .answer names (record { left = moved left-end (l .others); right = moved right-end (m .others) })));
             });
           }
 
@@ -209,7 +177,11 @@ module _ (pairs text memory : List ℕ) (depth : ℕ) (code : List ℕ) where
     unfolding alphaEqParametersIn alphaEqParameters encodeParameters compared
     none-left none = held .decides (Same left right) (record {
       answer = λ names two.
-          let at-left : left ≡ left + 0 = omega arith in
-          let at-right : right ≡ right + 0 = omega arith in
-          rw (no-parameters names code left needed none (two .left) (two .left-rest) (two .left-at), no-parameters names code right needed none (two .right) (two .right-rest) (two .right-at)) (cc);
+          let left-end : left ≡ left + 0 = omega arith in
+          let right-end : right ≡ right + 0 = omega arith in
+          rw (
+            no-parameters names code left needed (two .left .value) (two .left .rest) none (two .left .stands),
+            no-parameters names code right needed (two .right .value) (two .right .rest) none (two .right .stands),
+          )
+          (cc);
     })

@@ -9,7 +9,7 @@ use Rattle.definitions.specs.Name.{Name}
 use Rattle.definitions.specs.Sheet.{marked, propositionNestingLimit}
 use Rattle.definitions.specs.Prop.{Prop, Binary, Atom, Quantified, PropParameter, Sides, Applied, Scope, nesting, asBinary, asQuantified, renameParameter, renameProp}
 use Rattle.definitions.specs.Code.{encode, Codable}
-use Rattle.definitions.specs.Comparison.{Binding, boundAlike, alphaEqParameter, alphaEqParameters, alphaEqAtom, alphaEqSides, alphaEqScope, alphaEqUnder, alphaEq}
+use Rattle.definitions.specs.Comparison.{boundAlike, alphaEqParameter, alphaEqParameters, alphaEqAtom, alphaEqSides, alphaEqScope, alphaEqUnder, alphaEq}
 use Rattle.prefix_code.specs.Scan.{Coding, Stands, propositionCoding, parametersCoding}
 use Rattle.identifier.specs.Pairs.{PairsWithin}
 use Rattle.alpha_eq.specs.declared.Answer.{Answer}
@@ -90,17 +90,23 @@ module _ (pairs text memory : List ℕ) (depth : ℕ) where
       (alphaEqUnder (renameProp (marked pairs text) (a .body)))
       (asQuantified (renameProp (marked pairs text) (ofScope b)))
 
-module _ {A : Type 0} (coding : ℕ → Coding A) (code : List ℕ) (i j : ℕ) where
-  -- two things, of names below `names`, whose codes stand at i and at j
-  pub record Two (names : ℕ) : Type 0 where
-    pub left : A
-    pub left-rest : List ℕ
-    pub left-at : Stands (coding names) code i left left-rest
-    pub right : A
-    pub right-rest : List ℕ
-    pub right-at : Stands (coding names) code j right right-rest
+-- something of names below `names` whose code stands at a position
+pub record Standing {A : Type 0} (coding : ℕ → Coding A) (names : ℕ) (code : List ℕ) (at : ℕ) : Type 0 where
+  pub value : A
+  pub rest : List ℕ
+  pub stands : Stands (coding names) code at value rest
 
-  -- two such things are there; their names and those of the bindings lie in the text
+-- where its code ends
+abbrev pub endOf : {A : Type 0} {coding : ℕ → Coding A} {names : ℕ} {code : List ℕ} {at : ℕ} → Standing coding names code at → ℕ
+endOf {coding} {names} {at} s = at + length (coding names .code (s .value))
+
+module _ {A : Type 0} (coding : ℕ → Coding A) (code : List ℕ) (i j : ℕ) where
+  -- two such things, at i and at j
+  pub record Two (names : ℕ) : Type 0 where
+    pub left : Standing coding names code i
+    pub right : Standing coding names code j
+
+  -- two are there; their names and those of the bindings lie in the text
   pub record Comparable (pairs text memory : List ℕ) (depth : ℕ) : Type 0 where
     pub names : ℕ
     pub two : Two names
@@ -110,21 +116,21 @@ module _ {A : Type 0} (coding : ℕ → Coding A) (code : List ℕ) (i j : ℕ) 
   -- `r` answers the outcome of whatever two are there
   pub record Answers (outcome : A → A → Outcome Bool) (r : Compared) : Type 0 where
     pub answer : (names : ℕ) (two : Two names)
-        → r ≡ compared (outcome (two .left) (two .right)) (i + length (coding names .code (two .left))) (j + length (coding names .code (two .right)))
+        → r ≡ compared (outcome (two .left .value) (two .right .value)) (endOf (two .left)) (endOf (two .right))
 
 -- two propositions of a form, with room in memory for the bindings of the left one's quantifiers
 pub record WithRoom {A : Type 0} (make : A → Prop ℕ) (code : List ℕ) (i j : ℕ) (pairs text memory : List ℕ) (depth : ℕ) : Type 0 where
   pub forms : Comparable (formCoding make) code i j pairs text memory depth
-  pub room : 2 * (depth + nesting (make (forms .two .left))) ≤ length memory
+  pub room : 2 * (depth + nesting (make (forms .two .left .value))) ≤ length memory
 
 -- two propositions, the left one nesting no deeper than those of a sheet do, whose names lie in the text
 pub record TwoPropositions (code : List ℕ) (i j : ℕ) (pairs text : List ℕ) : Type 0 where
   pub names : ℕ
   pub two : Two propositionCoding code i j names
   pub named : (n : ℕ) → n < names → PairsWithin pairs text n
-  pub shallow : nesting (two .left) ≤ propositionNestingLimit
+  pub shallow : nesting (two .left .value) ≤ propositionNestingLimit
 
 -- `r` answers the comparison of whatever two propositions are there
 pub record Decides (code : List ℕ) (i j : ℕ) (nameOf : ℕ → Name) (r : Answer) : Type 0 where
   pub answer : (names : ℕ) (two : Two propositionCoding code i j names)
-      → outcomeOf r ≡ alphaEq (renameProp nameOf (two .left)) (renameProp nameOf (two .right))
+      → outcomeOf r ≡ alphaEq (renameProp nameOf (two .left .value)) (renameProp nameOf (two .right .value))
