@@ -4,7 +4,7 @@ use mathlib.Core.Path.{_≡_, refl}
 use mathlib.Core.Bool.{Bool, true, false, not}
 use mathlib.Core.List.{List}
 use native.Mathlib.Omega.{arith}
-use lib.ListN.{length, getD, length-map}
+use lib.ListN.{getD, length-map}
 use lib.Dec.{eqb}
 use borrow.Author.Tests.{eq-eqb, ne-eqb}
 use Rattle.definitions.specs.Outcome.{accepted, refuse, refuseIf, _>>=_}
@@ -12,7 +12,7 @@ use Rattle.definitions.specs.Name.{eqName}
 use Rattle.definitions.specs.Sheet.{numberAt, marked}
 use Rattle.definitions.specs.Code.{u16, encode, Codable}
 use Rattle.definitions.specs.Comparison.{no, andAlso, alphaEqAtom}
-use Rattle.prefix_code.specs.Scan.{Stands, parametersCoding}
+use Rattle.prefix_code.specs.Scan.{Stands}
 use Rattle.prefix_code.specs.Head.{encodeHead, CodableHead}
 use Rattle.prefix_code.proofs.Heads.{AtomBytes, atom-bytes}
 use Rattle.alpha_eq.specs.declared.Compared.{Compared}

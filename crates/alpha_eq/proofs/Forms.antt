@@ -77,14 +77,15 @@ front-at : {names : ℕ} {code : List ℕ} {at : ℕ} (nameOf : ℕ → Name) (s
 unfolding Stands
 front-at {code} {at} nameOf s = front-stands code at (s .value) (s .rest) (s .stands .1) ∙ sym (front-renamed nameOf (s .value))
 
-module _ (pairs text memory : List ℕ) (depth : ℕ) (code : List ℕ) (i j : ℕ) where
-  pub inside : WithRoom (λ p. p) code i j pairs text memory depth → (i < length code) × (j < length code)
-  inside asked =
-      let names = asked .forms .names in
-      let l = asked .forms .two .left in
-      let r = asked .forms .two .right in
-      (inside-at names code i (l .rest) (l .value) (l .stands) .0, inside-at names code j (r .rest) (r .value) (r .stands) .0)
+pub inside : {pairs text memory : List ℕ} {depth : ℕ} {code : List ℕ} {i j : ℕ} → WithRoom (λ p. p) code i j pairs text memory depth
+    → (i < length code) × (j < length code)
+inside {code} {i} {j} asked =
+    let names = asked .forms .names in
+    let l = asked .forms .two .left in
+    let r = asked .forms .two .right in
+    (inside-at names code i (l .rest) (l .value) (l .stands) .0, inside-at names code j (r .rest) (r .value) (r .stands) .0)
 
+module _ (pairs text memory : List ℕ) (depth : ℕ) (code : List ℕ) (i j : ℕ) where
   pub other-front : (getD code i 0 ≡ getD code j 0 → ⊥) → Answers propositionCoding code i j (alphaEqUnderIn pairs text memory depth) Different
   unfolding compared alphaEqUnderIn
   other-front differ = record {

@@ -108,10 +108,9 @@ unfolding Stands Several
 no-parameters names code at k [] rest none s = refl
 no-parameters names code at k (p ∷ ps) rest none ((g, c), d) = absurd (omega arith)
 
--- Of two lists of parameters, so many each:
-module _ (pairs text memory : List ℕ) (depth : ℕ) (code : List ℕ) where
-  -- what is left to compare, from `left` and `right` on, decides the comparison from i and j on
-  pub record Remaining (i j count left right needed : ℕ) : Type 0 where
+module _ (pairs text memory : List ℕ) (depth : ℕ) where
+  -- what is left to compare, so many parameters from `left` and `right` on, decides the comparison from i and j on
+  pub record Remaining (code : List ℕ) (i j count left right needed : ℕ) : Type 0 where
     pub asked : Comparable (severalCoding needed) code left right pairs text memory depth
     pub decides : (r : Compared) → Answers (severalCoding needed) code left right (alphaEqParametersIn pairs text memory depth) r
         → Answers (severalCoding count) code i j (alphaEqParametersIn pairs text memory depth) r
@@ -122,66 +121,67 @@ module _ (pairs text memory : List ℕ) (depth : ℕ) (code : List ℕ) where
   unfolding alphaEqParameterIn alphaEqParametersIn alphaEqParameters
   cons-outcome e f = rw (e, f)
 
-  module _ {i j count left right needed : ℕ} (held : Remaining i j count left right needed) where
-    module _ (more : 0 < needed) where
-      parts : {names at : ℕ} (s : Standing (severalCoding needed) names code at) → First names code at (needed - 1) (s .value)
-      parts {names} {at} s = first-of names code at needed (needed - 1) (s .value) (s .rest) (omega arith) (s .stands)
+module _ {pairs text memory : List ℕ} {depth : ℕ} {code : List ℕ} {i j count left right needed : ℕ}
+    (held : Remaining pairs text memory depth code i j count left right needed) where
+  module _ (more : 0 < needed) where
+    parts : {names at : ℕ} (s : Standing (severalCoding needed) names code at) → First names code at (needed - 1) (s .value)
+    parts {names} {at} s = first-of names code at needed (needed - 1) (s .value) (s .rest) (omega arith) (s .stands)
 
-      first-two : {names : ℕ} → Two (severalCoding needed) code left right names → Two parameterCoding code left right names
-      first-two two = record { left = parts (two .left) .first; right = parts (two .right) .first }
+    first-two : {names : ℕ} → Two (severalCoding needed) code left right names → Two parameterCoding code left right names
+    first-two two = record { left = parts (two .left) .first; right = parts (two .right) .first }
 
-      pub first-asked : Comparable parameterCoding code left right pairs text memory depth
-      first-asked = record {
-        names = held .asked .names;
-        two = first-two (held .asked .two);
-        named = held .asked .named;
-        bound = held .asked .bound;
-      }
+    pub first-asked : Comparable parameterCoding code left right pairs text memory depth
+    first-asked = record {
+      names = held .asked .names;
+      two = first-two (held .asked .two);
+      named = held .asked .named;
+      bound = held .asked .bound;
+    }
 
-      -- a no or a refusal of the first two is the answer
-      pub first-stops : {r : Compared} → Answers parameterCoding code left right (alphaEqParameterIn pairs text memory depth) r → Stops r
-          → Answers (severalCoding count) code i j (alphaEqParametersIn pairs text memory depth) r
-      unfolding first-two
-      first-stops {r} first s = held .decides r (record {
-        answer = λ names two.
-            rw (cons-outcome (parts (two .left) .is) (parts (two .right) .is)) (stopped _ _ _ s (first .answer names (first-two two)) _ _ _);
-      })
-
-      -- after a yes the others are left
-      pub others-left : {a b : ℕ} → Answers parameterCoding code left right (alphaEqParameterIn pairs text memory depth) (Same a b)
-          → Remaining i j count a b (needed - 1)
-      unfolding first-two
-      others-left first =
-          let two = held .asked .two in
-          let at = yes-ends _ _ _ (first .answer (held .asked .names) (first-two two)) in
-          record {
-            asked = record {
-              names = held .asked .names;
-              two = record { left = moved (at .1) (parts (two .left) .others); right = moved (at .2) (parts (two .right) .others) };
-              named = held .asked .named;
-              bound = held .asked .bound;
-            };
-            decides = λ r later. held .decides r (record {
-              answer = λ names two.
-                  let l = parts (two .left) in
-                  let m = parts (two .right) in
-                  let (accepts, left-end, right-end) = yes-ends _ _ _ (first .answer names (first-two two)) in
-                  rw (cons-outcome (l .is) (m .is))
-                  (followed _ _ accepts (omega (arith, cons-length (l .is))) (omega (arith, cons-length (m .is)))
-                  (later .answer names (record { left = moved left-end (l .others); right = moved right-end (m .others) })));
-            });
-          }
-
-    -- where none are left that is a yes
-    pub none-left : needed ≡ 0 → Answers (severalCoding count) code i j (alphaEqParametersIn pairs text memory depth) (Same left right)
-    unfolding alphaEqParametersIn alphaEqParameters encodeParameters compared
-    none-left none = held .decides (Same left right) (record {
+    -- a no or a refusal of the first two is the answer
+    pub first-stops : {r : Compared} → Answers parameterCoding code left right (alphaEqParameterIn pairs text memory depth) r → Stops r
+        → Answers (severalCoding count) code i j (alphaEqParametersIn pairs text memory depth) r
+    unfolding first-two
+    first-stops {r} first s = held .decides r (record {
       answer = λ names two.
-          let left-end : left ≡ left + 0 = omega arith in
-          let right-end : right ≡ right + 0 = omega arith in
-          rw (
-            no-parameters names code left needed (two .left .value) (two .left .rest) none (two .left .stands),
-            no-parameters names code right needed (two .right .value) (two .right .rest) none (two .right .stands),
-          )
-          (cc);
+          rw (cons-outcome pairs text memory depth (parts (two .left) .is) (parts (two .right) .is)) (stopped _ _ _ s (first .answer names (first-two two)) _ _ _);
     })
+
+    -- after a yes the others are left
+    pub others-left : {a b : ℕ} → Answers parameterCoding code left right (alphaEqParameterIn pairs text memory depth) (Same a b)
+        → Remaining pairs text memory depth code i j count a b (needed - 1)
+    unfolding first-two
+    others-left first =
+        let two = held .asked .two in
+        let at = yes-ends _ _ _ (first .answer (held .asked .names) (first-two two)) in
+        record {
+          asked = record {
+            names = held .asked .names;
+            two = record { left = moved (at .1) (parts (two .left) .others); right = moved (at .2) (parts (two .right) .others) };
+            named = held .asked .named;
+            bound = held .asked .bound;
+          };
+          decides = λ r later. held .decides r (record {
+            answer = λ names two.
+                let l = parts (two .left) in
+                let m = parts (two .right) in
+                let (accepts, left-end, right-end) = yes-ends _ _ _ (first .answer names (first-two two)) in
+                rw (cons-outcome pairs text memory depth (l .is) (m .is))
+                (followed _ _ accepts (omega (arith, cons-length (l .is))) (omega (arith, cons-length (m .is)))
+                (later .answer names (record { left = moved left-end (l .others); right = moved right-end (m .others) })));
+          });
+        }
+
+  -- where none are left that is a yes
+  pub none-left : needed ≡ 0 → Answers (severalCoding count) code i j (alphaEqParametersIn pairs text memory depth) (Same left right)
+  unfolding alphaEqParametersIn alphaEqParameters encodeParameters compared
+  none-left none = held .decides (Same left right) (record {
+    answer = λ names two.
+        let left-end : left ≡ left + 0 = omega arith in
+        let right-end : right ≡ right + 0 = omega arith in
+        rw (
+          no-parameters names code left needed (two .left .value) (two .left .rest) none (two .left .stands),
+          no-parameters names code right needed (two .right .value) (two .right .rest) none (two .right .stands),
+        )
+        (cc);
+  })

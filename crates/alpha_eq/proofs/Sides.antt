@@ -74,61 +74,62 @@ module _ {names : ℕ} {code : List ℕ} {i j : ℕ} (two : Two (formCoding ofSi
       let r = sides-at (two .right) in
       rw (eq-eqb (connectiveByte (two .left .value .connective)) (connectiveByte (two .right .value .connective)) (sym (l .byte) ∙ (fronts ∙ r .byte)))
 
-module _ (pairs text memory : List ℕ) (depth : ℕ) (code : List ℕ) (i j : ℕ) where
-  module _ (asked : WithRoom ofSides code i j pairs text memory depth) where
-    pub sides-inside : (i < length code) × (j < length code)
-    sides-inside = (sides-at (asked .forms .two .left) .inside, sides-at (asked .forms .two .right) .inside)
+-- what the comparison of the left sides asks
+module _ {pairs text memory : List ℕ} {depth : ℕ} {code : List ℕ} {i j : ℕ} (asked : WithRoom ofSides code i j pairs text memory depth) where
+  pub sides-inside : (i < length code) × (j < length code)
+  sides-inside = (sides-at (asked .forms .two .left) .inside, sides-at (asked .forms .two .right) .inside)
 
-    pub lefts-asked : WithRoom (λ p. p) code (i + 1) (j + 1) pairs text memory depth
+  pub lefts-asked : WithRoom (λ p. p) code (i + 1) (j + 1) pairs text memory depth
+  unfolding nesting
+  lefts-asked = record {
+    forms = record {
+      names = asked .forms .names;
+      two = two-lefts (asked .forms .two);
+      named = asked .forms .named;
+      bound = asked .forms .bound;
+    };
+    room = omega (arith, asked .room);
+  }
+
+  -- and, after a yes, that of the right ones
+  module _ {a b : ℕ} (lefts : Answers propositionCoding code (i + 1) (j + 1) (alphaEqUnderIn pairs text memory depth) (Same a b)) where
+    pub rights-after : i < a
+    rights-after = let at = yes-ends _ _ _ (lefts .answer (asked .forms .names) (two-lefts (asked .forms .two))) in omega arith
+
+    pub rights-asked : {after : List ℕ} → Kept depth memory after → length after ≡ length memory
+        → WithRoom (λ p. p) code a b pairs text after depth
     unfolding nesting
-    lefts-asked = record {
-      forms = record {
-        names = asked .forms .names;
-        two = two-lefts (asked .forms .two);
-        named = asked .forms .named;
-        bound = asked .forms .bound;
-      };
-      room = omega (arith, asked .room);
-    }
+    rights-asked kept long =
+        let at = yes-ends _ _ _ (lefts .answer (asked .forms .names) (two-lefts (asked .forms .two))) in
+        record {
+          forms = record {
+            names = asked .forms .names;
+            two = two-rights (asked .forms .two) (at .1) (at .2);
+            named = asked .forms .named;
+            bound = bound-kept kept long (asked .forms .bound);
+          };
+          room = omega (arith, asked .room);
+        }
 
-  module _ (fronts : getD code i 0 ≡ getD code j 0) where
-    -- a no or a refusal of the left sides is the answer
-    pub lefts-stop : {r : Compared} → Answers propositionCoding code (i + 1) (j + 1) (alphaEqUnderIn pairs text memory depth) r → Stops r
-        → Answers (formCoding ofSides) code i j (alphaEqSidesIn pairs text memory depth) r
-    lefts-stop lefts s = record {
-      answer = λ names two.
-          rw (sides-outcome two pairs text memory depth fronts) (stopped _ _ _ s (lefts .answer names (two-lefts two)) _ _ _);
-    }
+module _ (pairs text memory : List ℕ) (depth : ℕ) (code : List ℕ) (i j : ℕ) (fronts : getD code i 0 ≡ getD code j 0) where
+  -- a no or a refusal of the left sides is the answer
+  pub lefts-stop : {r : Compared} → Answers propositionCoding code (i + 1) (j + 1) (alphaEqUnderIn pairs text memory depth) r → Stops r
+      → Answers (formCoding ofSides) code i j (alphaEqSidesIn pairs text memory depth) r
+  lefts-stop lefts s = record {
+    answer = λ names two.
+        rw (sides-outcome two pairs text memory depth fronts) (stopped _ _ _ s (lefts .answer names (two-lefts two)) _ _ _);
+  }
 
-    -- after a yes the right sides decide
-    module _ {a b : ℕ} (lefts : Answers propositionCoding code (i + 1) (j + 1) (alphaEqUnderIn pairs text memory depth) (Same a b)) where
-      pub rights-decide : {after : List ℕ} {r : Compared} → Kept depth memory after
-          → Answers propositionCoding code a b (alphaEqUnderIn pairs text after depth) r
-          → Answers (formCoding ofSides) code i j (alphaEqSidesIn pairs text memory depth) r
-      unfolding alphaEqUnderIn
-      rights-decide {after} kept rights = record {
-        answer = λ names two.
-            let (accepts, at-left, at-right) = yes-ends _ _ _ (lefts .answer names (two-lefts two)) in
-            rw (sides-outcome two pairs text memory depth fronts)
-            (followed _ _ accepts (omega (arith, sides-end (two .left))) (omega (arith, sides-end (two .right)))
-            (rw (bindings-same (marked pairs text) memory after depth kept) at (rights .answer names (two-rights two at-left at-right))));
-      }
-
-      module _ (asked : WithRoom ofSides code i j pairs text memory depth) where
-        pub rights-asked : {after : List ℕ} → Kept depth memory after → length after ≡ length memory
-            → WithRoom (λ p. p) code a b pairs text after depth
-        unfolding nesting
-        rights-asked kept long =
-            let at = yes-ends _ _ _ (lefts .answer (asked .forms .names) (two-lefts (asked .forms .two))) in
-            record {
-              forms = record {
-                names = asked .forms .names;
-                two = two-rights (asked .forms .two) (at .1) (at .2);
-                named = asked .forms .named;
-                bound = bound-kept kept long (asked .forms .bound);
-              };
-              room = omega (arith, asked .room);
-            }
-
-        pub rights-after : i < a
-        rights-after = let at = yes-ends _ _ _ (lefts .answer (asked .forms .names) (two-lefts (asked .forms .two))) in omega arith
+  -- after a yes the right sides decide
+  pub rights-decide : {a b : ℕ} {after : List ℕ} {r : Compared}
+      → Answers propositionCoding code (i + 1) (j + 1) (alphaEqUnderIn pairs text memory depth) (Same a b) → Kept depth memory after
+      → Answers propositionCoding code a b (alphaEqUnderIn pairs text after depth) r
+      → Answers (formCoding ofSides) code i j (alphaEqSidesIn pairs text memory depth) r
+  unfolding alphaEqUnderIn
+  rights-decide {after} lefts kept rights = record {
+    answer = λ names two.
+        let (accepts, at-left, at-right) = yes-ends _ _ _ (lefts .answer names (two-lefts two)) in
+        rw (sides-outcome two pairs text memory depth fronts)
+        (followed _ _ accepts (omega (arith, sides-end (two .left))) (omega (arith, sides-end (two .right)))
+        (rw (bindings-same (marked pairs text) memory after depth kept) at (rights .answer names (two-rights two at-left at-right))));
+  }

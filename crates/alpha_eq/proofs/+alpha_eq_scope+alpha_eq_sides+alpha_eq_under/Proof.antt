@@ -94,13 +94,13 @@ alpha-eq-scope-cast-bindings : (t : ℕ) → alpha-eq-scope-lts.Need-cast-bindin
 alpha-eq-scope-cast-bindings t c = omega arith
 
 alpha-eq-scope-mul-bindings : (t : ℕ) → alpha-eq-scope-lts.Need-mul-bindings (alpha-eq-scope-claims t) (alpha-eq-scope-at t) alpha-eq-scope.Post
-alpha-eq-scope-mul-bindings t c = omega (arith, room-here _ _ _ _ _ _ _ (c .before .before .before .before .before .before .before .before .before .pre .1 .0))
+alpha-eq-scope-mul-bindings t c = omega (arith, room-here (c .before .before .before .before .before .before .before .before .before .pre .1 .0))
 
 alpha-eq-scope-mul-bindings-2 : (t : ℕ) → alpha-eq-scope-lts.Need-mul-bindings-2 (alpha-eq-scope-claims t) (alpha-eq-scope-at t) alpha-eq-scope.Post
-alpha-eq-scope-mul-bindings-2 t c = omega (arith, room-here _ _ _ _ _ _ _ (c .before .before .before .before .before .before .before .before .before .pre .1 .0))
+alpha-eq-scope-mul-bindings-2 t c = omega (arith, room-here (c .before .before .before .before .before .before .before .before .before .pre .1 .0))
 
 alpha-eq-scope-slice-write-bindings : (t : ℕ) → alpha-eq-scope-lts.Need-slice-write-bindings (alpha-eq-scope-claims t) (alpha-eq-scope-at t) alpha-eq-scope.Post
-alpha-eq-scope-slice-write-bindings t c = omega (arith, room-here _ _ _ _ _ _ _ (c .before .before .before .before .before .before .before .before .before .pre .1 .0))
+alpha-eq-scope-slice-write-bindings t c = omega (arith, room-here (c .before .before .before .before .before .before .before .before .before .pre .1 .0))
 
 alpha-eq-scope-add-number-at-4 : (t : ℕ) → alpha-eq-scope-lts.Need-add-number-at-4 (alpha-eq-scope-claims t) (alpha-eq-scope-at t) alpha-eq-scope.Post
 alpha-eq-scope-add-number-at-4 t c = omega (arith, scope-at (c .before .before .before .before .before .before .before .before .before .pre .1 .0 .forms .two .right))
@@ -112,16 +112,16 @@ alpha-eq-scope-cast-bindings-2 : (t : ℕ) → alpha-eq-scope-lts.Need-cast-bind
 alpha-eq-scope-cast-bindings-2 t c = omega arith
 
 alpha-eq-scope-mul-bindings-3 : (t : ℕ) → alpha-eq-scope-lts.Need-mul-bindings-3 (alpha-eq-scope-claims t) (alpha-eq-scope-at t) alpha-eq-scope.Post
-alpha-eq-scope-mul-bindings-3 t c = omega (arith, room-here _ _ _ _ _ _ _ (c .before .before .before .before .before .before .before .before .before .before .pre .1 .0))
+alpha-eq-scope-mul-bindings-3 t c = omega (arith, room-here (c .before .before .before .before .before .before .before .before .before .before .pre .1 .0))
 
 alpha-eq-scope-add-bindings : (t : ℕ) → alpha-eq-scope-lts.Need-add-bindings (alpha-eq-scope-claims t) (alpha-eq-scope-at t) alpha-eq-scope.Post
-alpha-eq-scope-add-bindings t c = omega (arith, room-here _ _ _ _ _ _ _ (c .before .before .before .before .before .before .before .before .before .before .pre .1 .0))
+alpha-eq-scope-add-bindings t c = omega (arith, room-here (c .before .before .before .before .before .before .before .before .before .before .pre .1 .0))
 
 alpha-eq-scope-mul-bindings-4 : (t : ℕ) → alpha-eq-scope-lts.Need-mul-bindings-4 (alpha-eq-scope-claims t) (alpha-eq-scope-at t) alpha-eq-scope.Post
-alpha-eq-scope-mul-bindings-4 t c = omega (arith, room-here _ _ _ _ _ _ _ (c .before .before .before .before .before .before .before .before .before .before .pre .1 .0))
+alpha-eq-scope-mul-bindings-4 t c = omega (arith, room-here (c .before .before .before .before .before .before .before .before .before .before .pre .1 .0))
 
 alpha-eq-scope-slice-write-bindings-2 : (t : ℕ) → alpha-eq-scope-lts.Need-slice-write-bindings-2 (alpha-eq-scope-claims t) (alpha-eq-scope-at t) alpha-eq-scope.Post
-alpha-eq-scope-slice-write-bindings-2 t c = simp length-set (omega (arith, room-here _ _ _ _ _ _ _ (c .before .before .before .before .before .before .before .before .before .before .pre .1 .0)))
+alpha-eq-scope-slice-write-bindings-2 t c = simp length-set (omega (arith, room-here (c .before .before .before .before .before .before .before .before .before .before .pre .1 .0)))
 
 alpha-eq-scope-add-alpha-eq-under : (t : ℕ) → alpha-eq-scope-lts.Need-add-alpha-eq-under (alpha-eq-scope-claims t) (alpha-eq-scope-at t) alpha-eq-scope.Post
 alpha-eq-scope-add-alpha-eq-under t c = omega (arith, scope-at (c .before .before .before .before .before .before .before .before .before .before .pre .1 .0 .forms .two .left))
@@ -130,25 +130,25 @@ alpha-eq-scope-add-alpha-eq-under-2 : (t : ℕ) → alpha-eq-scope-lts.Need-add-
 alpha-eq-scope-add-alpha-eq-under-2 t c = omega (arith, scope-at (c .before .before .before .before .before .before .before .before .before .before .pre .1 .0 .forms .two .right))
 
 alpha-eq-scope-add-alpha-eq-under-3 : (t : ℕ) → alpha-eq-scope-lts.Need-add-alpha-eq-under-3 (alpha-eq-scope-claims t) (alpha-eq-scope-at t) alpha-eq-scope.Post
-alpha-eq-scope-add-alpha-eq-under-3 t c = omega (arith, room-here _ _ _ _ _ _ _ (c .before .before .before .before .before .before .before .before .before .before .before .pre .1 .0))
+alpha-eq-scope-add-alpha-eq-under-3 t c = omega (arith, room-here (c .before .before .before .before .before .before .before .before .before .before .before .pre .1 .0))
 
 alpha-eq-scope-alpha-eq-under-requires : (t : ℕ) → alpha-eq-scope-lts.Need-alpha-eq-under-requires (alpha-eq-scope-claims t) (alpha-eq-scope-at t) alpha-eq-scope.Post
-alpha-eq-scope-alpha-eq-under-requires t c κs = (omega (arith, c .before .before .before .before .before .before .before .before .before .before .before .pre .0, scope-at (c .before .before .before .before .before .before .before .before .before .before .before .pre .1 .0 .forms .two .left)), bodies-asked _ _ _ _ _ _ _ (c .before .before .before .before .before .before .before .before .before .before .before .pre .1 .0) (c .before .before .number-at3 .ensures .0) (c .before .number-at4 .ensures .0))
+alpha-eq-scope-alpha-eq-under-requires t c κs = (omega (arith, c .before .before .before .before .before .before .before .before .before .before .before .pre .0, scope-at (c .before .before .before .before .before .before .before .before .before .before .before .pre .1 .0 .forms .two .left)), bodies-asked (c .before .before .before .before .before .before .before .before .before .before .before .pre .1 .0) (c .before .before .number-at3 .ensures .0) (c .before .number-at4 .ensures .0))
 
 alpha-eq-scope-same-length : (t : ℕ) → alpha-eq-scope-lts.Need-same-length (alpha-eq-scope-claims t) (alpha-eq-scope-at t) alpha-eq-scope.Post
 alpha-eq-scope-same-length t c = c .before .before .alpha-eq-under .kept .1 .1 .1 .1 .1 .0 ∙ simp length-set
 
 alpha-eq-scope-returns-2 : (t : ℕ) → alpha-eq-scope-lts.Need-returns-2 (alpha-eq-scope-claims t) (alpha-eq-scope-at t) alpha-eq-scope.Post
-alpha-eq-scope-returns-2 t c = (bodies-decide _ _ _ _ _ _ _ (c .before .before .before .before .before .before .before .before .before .before .before .before .before .before .pre .1 .1) (c .before .before .before .before .before .before .before .before .before .number-at .ensures .0) (c .before .before .before .before .before .before .before .before .number-at2 .ensures .0) (c .before .before .before .before .before .before .before .same-bytes .ensures) (room-here _ _ _ _ _ _ _ (c .before .before .before .before .before .before .before .before .before .before .before .before .before .before .pre .1 .0)) (not-false _ (c .before .before .before .before .before .before .if1 .left)) (c .before .before .before .before .before .number-at3 .ensures .0) (c .before .before .before .before .number-at4 .ensures .0) (c .before .before .alpha-eq-under .ensures .0), kept-trans (kept-pushed _ _ _ _ (room-here _ _ _ _ _ _ _ (c .before .before .before .before .before .before .before .before .before .before .before .before .before .before .pre .1 .0))) (kept-fewer (c .before .before .alpha-eq-under .ensures .1)))
+alpha-eq-scope-returns-2 t c = (bodies-decide _ _ _ _ _ _ _ (c .before .before .before .before .before .before .before .before .before .before .before .before .before .before .pre .1 .1) (c .before .before .before .before .before .before .before .before .before .number-at .ensures .0) (c .before .before .before .before .before .before .before .before .number-at2 .ensures .0) (c .before .before .before .before .before .before .before .same-bytes .ensures) (room-here (c .before .before .before .before .before .before .before .before .before .before .before .before .before .before .pre .1 .0)) (not-false _ (c .before .before .before .before .before .before .if1 .left)) (c .before .before .before .before .before .number-at3 .ensures .0) (c .before .before .before .before .number-at4 .ensures .0) (c .before .before .alpha-eq-under .ensures .0), kept-trans (kept-pushed _ _ _ _ (room-here (c .before .before .before .before .before .before .before .before .before .before .before .before .before .before .pre .1 .0))) (kept-fewer (c .before .before .alpha-eq-under .ensures .1)))
 
 alpha-eq-sides-add-alpha-eq-under : (t : ℕ) → alpha-eq-sides-lts.Need-add-alpha-eq-under (alpha-eq-sides-claims t) (alpha-eq-sides-at t) alpha-eq-sides.Post
-alpha-eq-sides-add-alpha-eq-under t c = omega (arith, sides-inside _ _ _ _ _ _ _ (c .before .before .before .before .pre .1 .0))
+alpha-eq-sides-add-alpha-eq-under t c = omega (arith, sides-inside (c .before .before .before .before .pre .1 .0))
 
 alpha-eq-sides-add-alpha-eq-under-2 : (t : ℕ) → alpha-eq-sides-lts.Need-add-alpha-eq-under-2 (alpha-eq-sides-claims t) (alpha-eq-sides-at t) alpha-eq-sides.Post
-alpha-eq-sides-add-alpha-eq-under-2 t c = omega (arith, sides-inside _ _ _ _ _ _ _ (c .before .before .before .before .pre .1 .0))
+alpha-eq-sides-add-alpha-eq-under-2 t c = omega (arith, sides-inside (c .before .before .before .before .pre .1 .0))
 
 alpha-eq-sides-alpha-eq-under-requires : (t : ℕ) → alpha-eq-sides-lts.Need-alpha-eq-under-requires (alpha-eq-sides-claims t) (alpha-eq-sides-at t) alpha-eq-sides.Post
-alpha-eq-sides-alpha-eq-under-requires t c κs = (omega (arith, c .before .before .before .before .before .pre .0, sides-inside _ _ _ _ _ _ _ (c .before .before .before .before .before .pre .1 .0)), lefts-asked _ _ _ _ _ _ _ (c .before .before .before .before .before .pre .1 .0))
+alpha-eq-sides-alpha-eq-under-requires t c κs = (omega (arith, c .before .before .before .before .before .pre .0, sides-inside (c .before .before .before .before .before .pre .1 .0)), lefts-asked (c .before .before .before .before .before .pre .1 .0))
 
 alpha-eq-sides-enum-known-left : (t : ℕ) → alpha-eq-sides-lts.Need-enum-known-left (alpha-eq-sides-claims t) (alpha-eq-sides-at t) alpha-eq-sides.Post
 alpha-eq-sides-enum-known-left t c = search needs
@@ -159,12 +159,8 @@ alpha-eq-sides-same-length t c = search needs
 alpha-eq-sides-returns : (t : ℕ) → alpha-eq-sides-lts.Need-returns (alpha-eq-sides-claims t) (alpha-eq-sides-at t) alpha-eq-sides.Post
 alpha-eq-sides-returns t c = (lefts-stop _ _ _ _ _ _ _ (c .before .before .before .before .before .before .before .before .before .pre .1 .1) (c .before .before .before .alpha-eq-under .ensures .0) (stops _ (c .match .keys2)), c .before .before .before .alpha-eq-under .ensures .1)
 
-alpha-eq-sides-alpha-eq-under-requires-2 :
-    (t : ℕ) → alpha-eq-sides-lts.Need-alpha-eq-under-requires-2 (
-      alpha-eq-under-below t,
-      alpha-eq-under.Post,
-    ) (alpha-eq-sides-at t) alpha-eq-sides.Post
-alpha-eq-sides-alpha-eq-under-requires-2 t c κs = let lefts = rw (c .before .before .left .given .1) at (c .before .before .before .before .before .before .alpha-eq-under .ensures .0) in (omega (arith, c .before .before .before .before .before .before .before .before .before .before .before .before .pre .0, sides-inside _ _ _ _ _ _ _ (c .before .before .before .before .before .before .before .before .before .before .before .before .pre .1 .0), rights-after _ _ _ _ _ _ _ (c .before .before .before .before .before .before .before .before .before .before .before .before .pre .1 .1) lefts (c .before .before .before .before .before .before .before .before .before .before .before .before .pre .1 .0)), rights-asked _ _ _ _ _ _ _ (c .before .before .before .before .before .before .before .before .before .before .before .before .pre .1 .1) lefts (c .before .before .before .before .before .before .before .before .before .before .before .before .pre .1 .0) (c .before .before .before .before .before .before .alpha-eq-under .ensures .1) (c .before .before .before .before .before .before .alpha-eq-under .kept .1 .1 .1 .1 .1 .0))
+alpha-eq-sides-alpha-eq-under-requires-2 : (t : ℕ) → alpha-eq-sides-lts.Need-alpha-eq-under-requires-2 (alpha-eq-sides-claims t) (alpha-eq-sides-at t) alpha-eq-sides.Post
+alpha-eq-sides-alpha-eq-under-requires-2 t c κs = let lefts = rw (c .before .before .left .given .1) at (c .before .before .before .before .before .before .alpha-eq-under .ensures .0) in (omega (arith, c .before .before .before .before .before .before .before .before .before .before .before .before .pre .0, sides-inside (c .before .before .before .before .before .before .before .before .before .before .before .before .pre .1 .0), rights-after (c .before .before .before .before .before .before .before .before .before .before .before .before .pre .1 .0) lefts), rights-asked (c .before .before .before .before .before .before .before .before .before .before .before .before .pre .1 .0) lefts (c .before .before .before .before .before .before .alpha-eq-under .ensures .1) (c .before .before .before .before .before .before .alpha-eq-under .kept .1 .1 .1 .1 .1 .0))
 
 alpha-eq-sides-same-length-2 : (t : ℕ) → alpha-eq-sides-lts.Need-same-length-2 (alpha-eq-sides-claims t) (alpha-eq-sides-at t) alpha-eq-sides.Post
 alpha-eq-sides-same-length-2 t c = search needs
@@ -173,19 +169,19 @@ alpha-eq-sides-returns-2 : (t : ℕ) → alpha-eq-sides-lts.Need-returns-2 (alph
 alpha-eq-sides-returns-2 t c = let lefts = rw (c .before .before .before .before .before .left .given .1) at (c .before .before .before .before .before .before .before .before .before .alpha-eq-under .ensures .0) in (rights-decide _ _ _ _ _ _ _ (c .before .before .before .before .before .before .before .before .before .before .before .before .before .before .before .pre .1 .1) lefts (c .before .before .before .before .before .before .before .before .before .alpha-eq-under .ensures .1) (c .before .before .alpha-eq-under2 .ensures .0), kept-trans (c .before .before .before .before .before .before .before .before .before .alpha-eq-under .ensures .1) (c .before .before .alpha-eq-under2 .ensures .1))
 
 alpha-eq-under-shared-slice-read-head : (t : ℕ) → alpha-eq-under-lts.Need-shared-slice-read-head (alpha-eq-under-claims t) (alpha-eq-under-at t) alpha-eq-under.Post
-alpha-eq-under-shared-slice-read-head t c = omega (arith, inside _ _ _ _ _ _ _ (c .before .before .before .before .before .pre .1))
+alpha-eq-under-shared-slice-read-head t c = omega (arith, inside (c .before .before .before .before .before .pre .1))
 
 alpha-eq-under-shared-slice-read-if1 : (t : ℕ) → alpha-eq-under-lts.Need-shared-slice-read-if1 (alpha-eq-under-claims t) (alpha-eq-under-at t) alpha-eq-under.Post
-alpha-eq-under-shared-slice-read-if1 t c = omega (arith, inside _ _ _ _ _ _ _ (c .before .before .before .before .before .before .pre .1))
+alpha-eq-under-shared-slice-read-if1 t c = omega (arith, inside (c .before .before .before .before .before .before .pre .1))
 
 alpha-eq-under-returns : (t : ℕ) → alpha-eq-under-lts.Need-returns (alpha-eq-under-claims t) (alpha-eq-under-at t) alpha-eq-under.Post
 alpha-eq-under-returns t c = (other-front _ _ _ _ _ _ _ (c .if1 .taken), kept-all)
 
 alpha-eq-under-add-t13 : (t : ℕ) → alpha-eq-under-lts.Need-add-t13 (alpha-eq-under-claims t) (alpha-eq-under-at t) alpha-eq-under.Post
-alpha-eq-under-add-t13 t c = omega (arith, inside _ _ _ _ _ _ _ (c .before .before .before .before .before .before .before .before .pre .1))
+alpha-eq-under-add-t13 t c = omega (arith, inside (c .before .before .before .before .before .before .before .before .pre .1))
 
 alpha-eq-under-add-t14 : (t : ℕ) → alpha-eq-under-lts.Need-add-t14 (alpha-eq-under-claims t) (alpha-eq-under-at t) alpha-eq-under.Post
-alpha-eq-under-add-t14 t c = omega (arith, inside _ _ _ _ _ _ _ (c .before .before .before .before .before .before .before .before .pre .1))
+alpha-eq-under-add-t14 t c = omega (arith, inside (c .before .before .before .before .before .before .before .before .pre .1))
 
 alpha-eq-under-returns-2 : (t : ℕ) → alpha-eq-under-lts.Need-returns-2 (alpha-eq-under-claims t) (alpha-eq-under-at t) alpha-eq-under.Post
 alpha-eq-under-returns-2 t c = (same-leaf _ _ _ _ _ _ _ (c .before .if1 .left) (c .if2 .taken), kept-all)
@@ -247,8 +243,7 @@ pub +alpha-eq-scope+alpha-eq-sides+alpha-eq-under-spec : {M : Type 1} → statem
     (alpha-eq-scope-alpha-eq-under-requires t)
     (alpha-eq-scope-same-length t)
     (alpha-eq-scope-returns-2 t))
-    (λ t. alpha-eq-sides-lts.spec
-    (alpha-eq-under-below t, alpha-eq-under.Post)
+    (λ t. alpha-eq-sides-lts.spec (alpha-eq-sides-claims t)
     (alpha-eq-sides-at t)
     alpha-eq-sides.Post
     (alpha-eq-sides-add-alpha-eq-under t)

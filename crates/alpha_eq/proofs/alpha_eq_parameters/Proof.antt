@@ -15,13 +15,13 @@ loop-holds : tie.Need-loop-holds Inv-loop μ-loop
 loop-holds c = record { asked = (c .before .before .before .before .pre); decides = λ r h. h }
 
 alpha-eq-parameter-requires : tie.Need-alpha-eq-parameter-requires Inv-loop μ-loop
-alpha-eq-parameter-requires c κs = first-asked _ _ _ _ _ (c .before .loop .inv) (c .loop-test .taken)
+alpha-eq-parameter-requires c κs = first-asked (c .before .loop .inv) (c .loop-test .taken)
 
 enum-known-next : tie.Need-enum-known-next Inv-loop μ-loop
 enum-known-next c = search needs
 
 returns : tie.Need-returns Inv-loop μ-loop
-returns c = first-stops _ _ _ _ _ (c .before .before .before .loop .inv) (c .before .before .loop-test .taken) (c .before .alpha-eq-parameter .ensures) (stops _ (c .match .keys2))
+returns c = first-stops (c .before .before .before .loop .inv) (c .before .before .loop-test .taken) (c .before .alpha-eq-parameter .ensures) (stops _ (c .match .keys2))
 
 sub-needed : tie.Need-sub-needed Inv-loop μ-loop
 sub-needed c = omega arith
@@ -30,10 +30,10 @@ loop-less : tie.Need-loop-less Inv-loop μ-loop
 loop-less c = omega arith
 
 loop-again : tie.Need-loop-again Inv-loop μ-loop
-loop-again c = others-left _ _ _ _ _ (c .before .before .before .before .before .loop .inv) (c .before .before .before .before .loop-test .taken) (rw (c .before .next .given .1) at (c .before .before .before .alpha-eq-parameter .ensures))
+loop-again c = others-left (c .before .before .before .before .before .loop .inv) (c .before .before .before .before .loop-test .taken) (rw (c .before .next .given .1) at (c .before .before .before .alpha-eq-parameter .ensures))
 
 returns-2 : tie.Need-returns-2 Inv-loop μ-loop
-returns-2 c = none-left _ _ _ _ _ (c .before .loop .inv) (omega arith)
+returns-2 c = none-left (c .before .loop .inv) (omega arith)
 
 pub alpha-eq-parameters-spec : {M : Type 1} → statement M
 alpha-eq-parameters-spec =
