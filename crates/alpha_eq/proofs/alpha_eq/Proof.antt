@@ -1,3 +1,4 @@
+-- The bindings of 64 quantifiers fit into the local array, and each variant of the walk's answer gives the outcome that it tells.
 use mathlib.Core.Path.{refl, sym, ap}
 use borrow.Author.Needs.{needs}
 use lib.Dec.{lit≤}

@@ -1,3 +1,4 @@
+-- The numbers that are read are those of the two atoms, so that each return is one case of their comparison.
 use Prim.Native.Nat.{_+_}
 use native.Mathlib.Omega.{arith}
 use borrow.Author.Tests.{not-true, not-false}
@@ -19,8 +20,10 @@ number-at-requires-2 c κs = omega (arith, atom-at (c .before .before .before .b
 
 same-bytes-requires : tie.Need-same-bytes-requires
 same-bytes-requires c κs = (
-  c .before .before .before .before .before .before .pre .named (c .before .number-at .result) (omega (arith, atom-at (c .before .before .before .before .before .before .pre .two .left))),
-  c .before .before .before .before .before .before .pre .named (c .number-at2 .result) (omega (arith, atom-at (c .before .before .before .before .before .before .pre .two .right))),
+  c .before .before .before .before .before .before .pre .named (c .before .number-at .result)
+      (omega (arith, atom-at (c .before .before .before .before .before .before .pre .two .left))),
+  c .before .before .before .before .before .before .pre .named (c .number-at2 .result)
+      (omega (arith, atom-at (c .before .before .before .before .before .before .pre .two .right))),
 )
 
 add-count : tie.Need-add-count
@@ -36,25 +39,39 @@ shared-slice-read-other-count : tie.Need-shared-slice-read-other-count
 shared-slice-read-other-count c = omega (arith, atom-at (c .before .before .before .before .before .before .before .before .before .pre .two .right))
 
 returns : tie.Need-returns
-returns c = other-name _ _ _ _ _ _ _ (c .before .before .before .before .before .number-at .ensures .0) (c .before .before .before .before .number-at2 .ensures .0) (c .before .before .before .same-bytes .ensures) (not-true _ (c .if1 .taken))
+returns c =
+    other-name _ _ _ _ _ _ _ (c .before .before .before .before .before .number-at .ensures .0)
+    (c .before .before .before .before .number-at2 .ensures .0) (c .before .before .before .same-bytes .ensures) (not-true _ (c .if1 .taken))
 
 returns-2 : tie.Need-returns-2
-returns-2 c = other-count _ _ _ _ _ _ _ (c .before .before .before .before .before .before .number-at .ensures .0) (c .before .before .before .before .before .number-at2 .ensures .0) (c .before .before .before .before .same-bytes .ensures) (not-false _ (c .before .if1 .left)) (c .if2 .taken)
+returns-2 c =
+    other-count _ _ _ _ _ _ _ (c .before .before .before .before .before .before .number-at .ensures .0)
+    (c .before .before .before .before .before .number-at2 .ensures .0) (c .before .before .before .before .same-bytes .ensures)
+    (not-false _ (c .before .if1 .left)) (c .if2 .taken)
 
 add-alpha-eq-parameters : tie.Need-add-alpha-eq-parameters
-add-alpha-eq-parameters c = omega (arith, atom-at (c .before .before .before .before .before .before .before .before .before .before .before .pre .two .left))
+add-alpha-eq-parameters c =
+    omega (arith, atom-at (c .before .before .before .before .before .before .before .before .before .before .before .pre .two .left))
 
 add-alpha-eq-parameters-2 : tie.Need-add-alpha-eq-parameters-2
-add-alpha-eq-parameters-2 c = omega (arith, atom-at (c .before .before .before .before .before .before .before .before .before .before .before .pre .two .right))
+add-alpha-eq-parameters-2 c =
+    omega (arith, atom-at (c .before .before .before .before .before .before .before .before .before .before .before .pre .two .right))
 
 cast-alpha-eq-parameters : tie.Need-cast-alpha-eq-parameters
-cast-alpha-eq-parameters c = omega (arith, c .before .before .before .shared-slice-known5 .given (c .before .before .before .before .before .before .before .before .before .before .before .args .i + 3))
+cast-alpha-eq-parameters c =
+    omega
+    (arith, c .before .before .before .shared-slice-known5 .given (c .before .before .before .before .before .before .before .before .before .before .before .args .i + 3))
 
 alpha-eq-parameters-requires : tie.Need-alpha-eq-parameters-requires
-alpha-eq-parameters-requires c κs = record { names = c .before .before .before .before .before .before .before .before .before .before .before .pre .names; named = c .before .before .before .before .before .before .before .before .before .before .before .pre .named; two = two-lists (c .if2 .left) (c .before .before .before .before .before .before .before .before .before .before .before .pre .two); bound = c .before .before .before .before .before .before .before .before .before .before .before .pre .bound }
+alpha-eq-parameters-requires c κs =
+    record
+    { names = c .before .before .before .before .before .before .before .before .before .before .before .pre .names; named = c .before .before .before .before .before .before .before .before .before .before .before .pre .named; two = two-lists (c .if2 .left) (c .before .before .before .before .before .before .before .before .before .before .before .pre .two); bound = c .before .before .before .before .before .before .before .before .before .before .before .pre .bound }
 
 returns-3 : tie.Need-returns-3
-returns-3 c = by-parameters _ _ _ _ _ _ _ (c .before .before .before .before .before .before .before .number-at .ensures .0) (c .before .before .before .before .before .before .number-at2 .ensures .0) (c .before .before .before .before .before .same-bytes .ensures) (not-false _ (c .before .before .if1 .left)) (c .before .if2 .left) (c .alpha-eq-parameters .ensures)
+returns-3 c =
+    by-parameters _ _ _ _ _ _ _ (c .before .before .before .before .before .before .before .number-at .ensures .0)
+    (c .before .before .before .before .before .before .number-at2 .ensures .0) (c .before .before .before .before .before .same-bytes .ensures)
+    (not-false _ (c .before .before .if1 .left)) (c .before .if2 .left) (c .alpha-eq-parameters .ensures)
 
 pub alpha-eq-atom-spec : {M : Type 1} → statement M
 alpha-eq-atom-spec =

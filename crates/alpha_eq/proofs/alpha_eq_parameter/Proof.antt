@@ -1,8 +1,9 @@
+-- The bytes that are read are those of the two parameters, so that each return is one case of their comparison.
 use native.Mathlib.Omega.{arith}
 use borrow.Author.Needs.{needs}
 use borrow.Author.Tests.{not-true, not-false, eq-eqb, ne-eqb}
 use Rattle.alpha_eq.specs.Comparing.{compared}
-use Rattle.alpha_eq.proofs.Parameters.{parameter-at, id-at, other-kind, uninstantiated-both, instantiated-both}
+use Rattle.alpha_eq.proofs.Parameters.{parameter-at, id-at, names-within, other-kind, uninstantiated-both, instantiated-both}
 use Rattle.alpha_eq.proofs.alpha_eq_parameter.Statement.{statement}
 use Rattle.alpha_eq.proofs.alpha_eq_parameter.Tie as tie
 
@@ -30,68 +31,90 @@ number-at-requires-2 c κs = omega (arith, parameter-at (c .before .before .befo
 bound-alike-requires : tie.Need-bound-alike-requires
 bound-alike-requires c κs = (
   c .before .before .before .before .before .before .before .before .before .before .pre .bound,
-  (
-    c .before .before .before .before .before .before .before .before .before .before .pre .named (c .before .before .number-at .result) (omega (arith, parameter-at (c .before .before .before .before .before .before .before .before .before .before .pre .two .left))),
-    c .before .before .before .before .before .before .before .before .before .before .pre .named (c .before .number-at2 .result) (omega (arith, parameter-at (c .before .before .before .before .before .before .before .before .before .before .pre .two .right))),
-  ),
+  names-within (c .before .before .before .before .before .before .before .before .before .before .pre) (c .before .before .number-at .ensures .0)
+      (c .before .number-at2 .ensures .0),
 )
 
 add-with-ends : tie.Need-add-with-ends
-add-with-ends c = omega (arith, parameter-at (c .before .before .before .before .before .before .before .before .before .before .before .pre .two .left))
+add-with-ends c =
+    omega (arith, parameter-at (c .before .before .before .before .before .before .before .before .before .before .before .pre .two .left))
 
 add-with-ends-2 : tie.Need-add-with-ends-2
-add-with-ends-2 c = omega (arith, parameter-at (c .before .before .before .before .before .before .before .before .before .before .before .pre .two .right))
+add-with-ends-2 c =
+    omega (arith, parameter-at (c .before .before .before .before .before .before .before .before .before .before .before .pre .two .right))
 
 with-ends-requires : tie.Need-with-ends-requires
 with-ends-requires c κs = search needs
 
 returns-2 : tie.Need-returns-2
-returns-2 c = uninstantiated-both _ _ _ _ _ _ _ (omega arith) (omega arith) (c .before .before .before .before .number-at .ensures .0) (c .before .before .before .number-at2 .ensures .0) (c .before .bound-alike .ensures) (c .with-ends .ensures)
+returns-2 c =
+    uninstantiated-both _ _ _ _ _ _ _ (omega arith) (omega arith) (c .before .before .before .before .number-at .ensures .0)
+    (c .before .before .before .number-at2 .ensures .0) (c .before .bound-alike .ensures) (c .with-ends .ensures)
 
 same-bytes-requires : tie.Need-same-bytes-requires
-same-bytes-requires c κs = (
-  c .before .before .before .before .before .before .before .before .before .before .pre .named (c .before .before .number-at .result) (omega (arith, parameter-at (c .before .before .before .before .before .before .before .before .before .before .pre .two .left))),
-  c .before .before .before .before .before .before .before .before .before .before .pre .named (c .before .number-at2 .result) (omega (arith, parameter-at (c .before .before .before .before .before .before .before .before .before .before .pre .two .right))),
-)
+same-bytes-requires c κs =
+    names-within (c .before .before .before .before .before .before .before .before .before .before .pre) (c .before .before .number-at .ensures .0)
+    (c .before .number-at2 .ensures .0)
 
 add-number-at-3 : tie.Need-add-number-at-3
-add-number-at-3 c = omega (arith, id-at (c .before .before .before .before .before .before .before .before .before .before .before .pre .two .left) (c .before .if2 .left))
+add-number-at-3 c =
+    omega
+    (arith, id-at (c .before .before .before .before .before .before .before .before .before .before .before .pre .two .left) (c .before .if2 .left))
 
 number-at-requires-3 : tie.Need-number-at-requires-3
-number-at-requires-3 c κs = omega (arith, id-at (c .before .before .before .before .before .before .before .before .before .before .before .pre .two .left) (c .before .if2 .left))
+number-at-requires-3 c κs =
+    omega
+    (arith, id-at (c .before .before .before .before .before .before .before .before .before .before .before .pre .two .left) (c .before .if2 .left))
 
 add-number-at-4 : tie.Need-add-number-at-4
-add-number-at-4 c = omega (arith, id-at (c .before .before .before .before .before .before .before .before .before .before .before .before .pre .two .right) (omega arith))
+add-number-at-4 c =
+    omega
+    (arith, id-at (c .before .before .before .before .before .before .before .before .before .before .before .before .pre .two .right) (omega arith))
 
 number-at-requires-4 : tie.Need-number-at-requires-4
-number-at-requires-4 c κs = omega (arith, id-at (c .before .before .before .before .before .before .before .before .before .before .before .before .pre .two .right) (omega arith))
+number-at-requires-4 c κs =
+    omega
+    (arith, id-at (c .before .before .before .before .before .before .before .before .before .before .before .before .pre .two .right) (omega arith))
 
 returns-3 : tie.Need-returns-3
 unfolding compared
 returns-3 c =
     let here = id-at (c .before .before .before .before .before .before .before .before .before .before .before .before .before .before .pre .two .left) (c .before .before .before .before .if2 .left) in
     let there = id-at (c .before .before .before .before .before .before .before .before .before .before .before .before .before .before .pre .two .right) (omega arith) in
-    instantiated-both _ _ _ _ _ _ _ (here .0) (there .0) (c .before .before .before .before .before .before .number-at .ensures .0) (c .before .before .before .before .before .number-at2 .ensures .0) (c .before .before .number-at3 .ensures .0) (c .before .number-at4 .ensures .0) (c .before .before .before .same-bytes .ensures) (rw (not-true (c .before .before .before .same-bytes .result) (c .if3 .taken)))
+    instantiated-both _ _ _ _ _ _ _ (here .0) (there .0) (c .before .before .before .before .before .before .number-at .ensures .0)
+    (c .before .before .before .before .before .number-at2 .ensures .0) (c .before .before .number-at3 .ensures .0)
+    (c .before .number-at4 .ensures .0) (c .before .before .before .same-bytes .ensures)
+    (rw (not-true (c .before .before .before .same-bytes .result) (c .if3 .taken)))
 
 returns-4 : tie.Need-returns-4
 unfolding compared
 returns-4 c =
     let here = id-at (c .before .before .before .before .before .before .before .before .before .before .before .before .before .before .before .pre .two .left) (c .before .before .before .before .before .if2 .left) in
     let there = id-at (c .before .before .before .before .before .before .before .before .before .before .before .before .before .before .before .pre .two .right) (omega arith) in
-    instantiated-both _ _ _ _ _ _ _ (here .0) (there .0) (c .before .before .before .before .before .before .before .number-at .ensures .0) (c .before .before .before .before .before .before .number-at2 .ensures .0) (c .before .before .before .number-at3 .ensures .0) (c .before .before .number-at4 .ensures .0) (c .before .before .before .before .same-bytes .ensures) (rw (not-false (c .before .before .before .before .same-bytes .result) (c .before .if3 .left), ne-eqb (c .before .before .before .number-at3 .result) (c .before .before .number-at4 .result) (c .if4 .taken)))
+    instantiated-both _ _ _ _ _ _ _ (here .0) (there .0) (c .before .before .before .before .before .before .before .number-at .ensures .0)
+    (c .before .before .before .before .before .before .number-at2 .ensures .0) (c .before .before .before .number-at3 .ensures .0)
+    (c .before .before .number-at4 .ensures .0) (c .before .before .before .before .same-bytes .ensures)
+    (rw (not-false (c .before .before .before .before .same-bytes .result) (c .before .if3 .left), ne-eqb (c .before .before .before .number-at3 .result) (c .before .before .number-at4 .result) (c .if4 .taken)))
 
 add-t19 : tie.Need-add-t19
-add-t19 c = omega (arith, id-at (c .before .before .before .before .before .before .before .before .before .before .before .before .before .before .before .pre .two .left) (c .before .before .before .before .before .if2 .left))
+add-t19 c =
+    omega
+    (arith, id-at (c .before .before .before .before .before .before .before .before .before .before .before .before .before .before .before .pre .two .left) (c .before .before .before .before .before .if2 .left))
 
 add-t22 : tie.Need-add-t22
-add-t22 c = omega (arith, id-at (c .before .before .before .before .before .before .before .before .before .before .before .before .before .before .before .pre .two .right) (omega arith))
+add-t22 c =
+    omega
+    (arith, id-at (c .before .before .before .before .before .before .before .before .before .before .before .before .before .before .before .pre .two .right) (omega arith))
 
 returns-5 : tie.Need-returns-5
 unfolding compared
 returns-5 c =
     let here = id-at (c .before .before .before .before .before .before .before .before .before .before .before .before .before .before .before .pre .two .left) (c .before .before .before .before .before .if2 .left) in
     let there = id-at (c .before .before .before .before .before .before .before .before .before .before .before .before .before .before .before .pre .two .right) (omega arith) in
-    instantiated-both _ _ _ _ _ _ _ (here .0) (there .0) (c .before .before .before .before .before .before .before .number-at .ensures .0) (c .before .before .before .before .before .before .number-at2 .ensures .0) (c .before .before .before .number-at3 .ensures .0) (c .before .before .number-at4 .ensures .0) (c .before .before .before .before .same-bytes .ensures) (rw (not-false (c .before .before .before .before .same-bytes .result) (c .before .if3 .left), eq-eqb (c .before .before .before .number-at3 .result) (c .before .before .number-at4 .result) (c .if4 .left)))
+    instantiated-both _ _ _ _ _ _ _ (here .0) (there .0) (c .before .before .before .before .before .before .before .number-at .ensures .0)
+    (c .before .before .before .before .before .before .number-at2 .ensures .0) (c .before .before .before .number-at3 .ensures .0)
+    (c .before .before .number-at4 .ensures .0) (c .before .before .before .before .same-bytes .ensures)
+    (rw (not-false (c .before .before .before .before .same-bytes .result) (c .before .if3 .left), eq-eqb (c .before .before .before .number-at3 .result) (c .before .before .number-at4 .result) (c .if4 .left)))
 
 pub alpha-eq-parameter-spec : {M : Type 1} → statement M
 alpha-eq-parameter-spec =

@@ -1,3 +1,4 @@
+-- The invariant: the parameters that are left decide the comparison. The measure is their count.
 use native.Mathlib.Omega.{arith}
 use borrow.Author.Needs.{needs}
 use Rattle.alpha_eq.proofs.Outcomes.{stops}
@@ -21,7 +22,9 @@ enum-known-next : tie.Need-enum-known-next Inv-loop μ-loop
 enum-known-next c = search needs
 
 returns : tie.Need-returns Inv-loop μ-loop
-returns c = first-stops (c .before .before .before .loop .inv) (c .before .before .loop-test .taken) (c .before .alpha-eq-parameter .ensures) (stops _ (c .match .keys2))
+returns c =
+    first-stops (c .before .before .before .loop .inv) (c .before .before .loop-test .taken) (c .before .alpha-eq-parameter .ensures)
+    (stops _ (c .match .keys2))
 
 sub-needed : tie.Need-sub-needed Inv-loop μ-loop
 sub-needed c = omega arith
@@ -30,7 +33,9 @@ loop-less : tie.Need-loop-less Inv-loop μ-loop
 loop-less c = omega arith
 
 loop-again : tie.Need-loop-again Inv-loop μ-loop
-loop-again c = others-left (c .before .before .before .before .before .loop .inv) (c .before .before .before .before .loop-test .taken) (rw (c .before .next .given .1) at (c .before .before .before .alpha-eq-parameter .ensures))
+loop-again c =
+    others-left (c .before .before .before .before .before .loop .inv) (c .before .before .before .before .loop-test .taken)
+    (rw (c .before .next .given .1) at (c .before .before .before .alpha-eq-parameter .ensures))
 
 returns-2 : tie.Need-returns-2 Inv-loop μ-loop
 returns-2 c = none-left (c .before .loop .inv) (omega arith)

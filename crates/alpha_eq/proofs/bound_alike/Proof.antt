@@ -1,3 +1,4 @@
+-- The invariant: the bindings not yet seen, the earlier ones, decide as all of them do.
 use Prim.Native.Nat.{_+_, _-_, _*_, _≤_}
 use mathlib.Core.Path.{_≡_, refl, sym, _∙_}
 use native.Mathlib.Omega.{arith}
@@ -33,8 +34,10 @@ cast-same-bytes : tie.Need-cast-same-bytes Inv-loop μ-loop
 cast-same-bytes c = omega (arith, c .shared-slice-known4 .given (2 * (c .before .before .loop .unseen - 1)))
 
 same-bytes-requires : tie.Need-same-bytes-requires Inv-loop μ-loop
-same-bytes-requires c κs =
-    (c .before .before .before .before .before .before .pre .0 .named (2 * (c .before .before .loop .unseen - 1)) (omega arith), c .before .before .before .before .before .before .pre .1 .0)
+same-bytes-requires c κs = (
+  c .before .before .before .before .before .before .pre .0 .named (2 * (c .before .before .loop .unseen - 1)) (omega arith),
+  c .before .before .before .before .before .before .pre .1 .0,
+)
 
 add-same-bytes : tie.Need-add-same-bytes Inv-loop μ-loop
 add-same-bytes c = search needs
@@ -49,20 +52,32 @@ cast-same-bytes-2 : tie.Need-cast-same-bytes-2 Inv-loop μ-loop
 cast-same-bytes-2 c = omega (arith, c .shared-slice-known5 .given (2 * (c .before .before .before .before .loop .unseen - 1) + 1))
 
 same-bytes-requires-2 : tie.Need-same-bytes-requires-2 Inv-loop μ-loop
-same-bytes-requires-2 c κs =
-    (c .before .before .before .before .before .before .before .before .pre .0 .named (2 * (c .before .before .before .before .loop .unseen - 1) + 1) (omega arith), c .before .before .before .before .before .before .before .before .pre .1 .1)
+same-bytes-requires-2 c κs = (
+  c .before .before .before .before .before .before .before .before .pre .0 .named (2 * (c .before .before .before .before .loop .unseen - 1) + 1)
+      (omega arith),
+  c .before .before .before .before .before .before .before .before .pre .1 .1,
+)
 
 returns : tie.Need-returns Inv-loop μ-loop
 unfolding outcomeOf
-returns c = sym (latest-binding _ _ _ _ _ _ (c .before .before .before .before .before .before .loop-test .taken) (sym (c .before .if1 .taken) ∙ c .before .before .before .before .same-bytes .ensures) (sym (c .if2 .taken) ∙ c .before .before .same-bytes2 .ensures)) ∙ c .before .before .before .before .before .before .before .loop .inv .1
+returns c =
+    sym
+    (latest-binding _ _ _ _ _ _ (c .before .before .before .before .before .before .loop-test .taken) (sym (c .before .if1 .taken) ∙ c .before .before .before .before .same-bytes .ensures) (sym (c .if2 .taken) ∙ c .before .before .same-bytes2 .ensures))
+    ∙ c .before .before .before .before .before .before .before .loop .inv .1
 
 returns-2 : tie.Need-returns-2 Inv-loop μ-loop
 unfolding outcomeOf
-returns-2 c = sym (latest-binding _ _ _ _ _ _ (c .before .before .before .before .before .before .loop-test .taken) (sym (c .before .if1 .taken) ∙ c .before .before .before .before .same-bytes .ensures) (sym (c .if2 .left) ∙ c .before .before .same-bytes2 .ensures)) ∙ c .before .before .before .before .before .before .before .loop .inv .1
+returns-2 c =
+    sym
+    (latest-binding _ _ _ _ _ _ (c .before .before .before .before .before .before .loop-test .taken) (sym (c .before .if1 .taken) ∙ c .before .before .before .before .same-bytes .ensures) (sym (c .if2 .left) ∙ c .before .before .same-bytes2 .ensures))
+    ∙ c .before .before .before .before .before .before .before .loop .inv .1
 
 returns-3 : tie.Need-returns-3 Inv-loop μ-loop
 unfolding outcomeOf
-returns-3 c = sym (latest-binding _ _ _ _ _ _ (c .before .before .before .before .before .before .loop-test .taken) (sym (c .before .if1 .left) ∙ c .before .before .before .before .same-bytes .ensures) (sym (c .if3 .taken) ∙ c .before .before .same-bytes2 .ensures)) ∙ c .before .before .before .before .before .before .before .loop .inv .1
+returns-3 c =
+    sym
+    (latest-binding _ _ _ _ _ _ (c .before .before .before .before .before .before .loop-test .taken) (sym (c .before .if1 .left) ∙ c .before .before .before .before .same-bytes .ensures) (sym (c .if3 .taken) ∙ c .before .before .same-bytes2 .ensures))
+    ∙ c .before .before .before .before .before .before .before .loop .inv .1
 
 sub-unseen : tie.Need-sub-unseen Inv-loop μ-loop
 sub-unseen c = search needs
@@ -71,7 +86,12 @@ loop-less : tie.Need-loop-less Inv-loop μ-loop
 loop-less c = search needs
 
 loop-again : tie.Need-loop-again Inv-loop μ-loop
-loop-again c = (omega arith, sym (latest-binding _ _ _ _ _ _ (c .before .before .before .before .before .before .loop-test .taken) (sym (c .before .if1 .left) ∙ c .before .before .before .before .same-bytes .ensures) (sym (c .if3 .left) ∙ c .before .before .same-bytes2 .ensures)) ∙ c .before .before .before .before .before .before .before .loop .inv .1)
+loop-again c = (
+  omega arith,
+  sym
+      (latest-binding _ _ _ _ _ _ (c .before .before .before .before .before .before .loop-test .taken) (sym (c .before .if1 .left) ∙ c .before .before .before .before .same-bytes .ensures) (sym (c .if3 .left) ∙ c .before .before .same-bytes2 .ensures))
+      ∙ c .before .before .before .before .before .before .before .loop .inv .1,
+)
 
 returns-4 : tie.Need-returns-4 Inv-loop μ-loop
 unfolding outcomeOf refuse

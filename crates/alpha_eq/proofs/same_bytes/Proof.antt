@@ -1,3 +1,4 @@
+-- Each name lies between its pair's offset and its pair's end.
 use borrow.Author.Needs.{needs}
 use native.Mathlib.Omega.{arith}
 use Rattle.alpha_eq.proofs.Names.{ends-within, marked-part}
@@ -44,7 +45,10 @@ same-name-requires : tie.Need-same-name-requires
 same-name-requires c κs = search needs
 
 returns : tie.Need-returns
-returns c = rw (marked-part _ _ _ (c .before .before .before .before .before .before .pair-offset .ensures) (c .before .before .before .before .before .pair-length .ensures), marked-part _ _ _ (c .before .before .before .before .pair-offset2 .ensures) (c .before .before .before .pair-length2 .ensures)) at (c .same-name .ensures)
+returns c =
+    rw
+    (marked-part _ _ _ (c .before .before .before .before .before .before .pair-offset .ensures) (c .before .before .before .before .before .pair-length .ensures), marked-part _ _ _ (c .before .before .before .before .pair-offset2 .ensures) (c .before .before .before .pair-length2 .ensures))
+    at (c .same-name .ensures)
 
 pub same-bytes-spec : {M : Type 1} → statement M
 same-bytes-spec =

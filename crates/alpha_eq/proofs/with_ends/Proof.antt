@@ -1,3 +1,4 @@
+-- Each variant of the answer gives its case of the outcome.
 use borrow.Author.Needs.{needs}
 use Rattle.alpha_eq.specs.Comparing.{outcomeOf, compared}
 use Rattle.alpha_eq.proofs.with_ends.Statement.{statement}
