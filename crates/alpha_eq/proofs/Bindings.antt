@@ -37,7 +37,8 @@ pub bindings-same : (nameOf : ℕ → Name) (before after : List ℕ) (depth : �
 unfolding bindingsOf bindingAt
 bindings-same nameOf before after zero kept = refl
 bindings-same nameOf before after (suc k) kept =
-    rw (kept .same (2 * k) (omega arith), kept .same (2 * k + 1) (omega arith), bindings-same nameOf before after k (record { same = λ m h. kept .same m (omega arith) }))
+    let earlier = bindings-same nameOf before after k (record { same = λ m h. kept .same m (omega arith) }) in
+    rw (kept .same (2 * k) (omega arith), kept .same (2 * k + 1) (omega arith), earlier)
 
 pub bound-kept : {pairs text before after : List ℕ} {depth : ℕ} → Kept depth before after → length after ≡ length before
     → Bound pairs text before depth → Bound pairs text after depth
@@ -77,7 +78,8 @@ pub bindings-pushed : (nameOf : ℕ → Name) (memory : List ℕ) (depth x y : �
     → bindingsOf nameOf (pushed memory depth x y) (depth + 1) ≡ record { left = nameOf x; right = nameOf y } ∷ bindingsOf nameOf memory depth
 unfolding bindingsOf bindingAt
 bindings-pushed nameOf memory depth x y room =
-    rw (add-one depth, pushed-left memory depth x y room, pushed-right memory depth x y room, bindings-same nameOf memory (pushed memory depth x y) depth (kept-pushed memory depth x y room))
+    let earlier = bindings-same nameOf memory (pushed memory depth x y) depth (kept-pushed memory depth x y room) in
+    rw (add-one depth, pushed-left memory depth x y room, pushed-right memory depth x y room, earlier)
 
 pub bound-pushed : {pairs text memory : List ℕ} {depth x y : ℕ} → 2 * (depth + 1) ≤ length memory → PairsWithin pairs text x → PairsWithin pairs text y
     → Bound pairs text memory depth → Bound pairs text (pushed memory depth x y) (depth + 1)

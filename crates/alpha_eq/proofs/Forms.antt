@@ -149,7 +149,8 @@ module _ {A : Type 0} (make : A → Prop ℕ) {code : List ℕ} {i j : ℕ} (for
   unfolding Stands
   form-of {names} {at} s here =
       let (a, is) = form .parts s here in
-      (record { value = a; rest = s .rest; stands = subst (λ (p : Prop ℕ). Stands (propositionCoding names) code at p (s .rest)) is (s .stands) }, is)
+      let stands = subst (λ (p : Prop ℕ). Stands (propositionCoding names) code at p (s .rest)) is (s .stands) in
+      (record { value = a; rest = s .rest; stands = stands }, is)
 
   module _ {names : ℕ} (two : Two propositionCoding code i j names) where
     left-form : (t : Standing (formCoding make) names code i) × (two .left .value ≡ make (t .value))
@@ -161,7 +162,8 @@ module _ {A : Type 0} (make : A → Prop ℕ) {code : List ℕ} {i j : ℕ} (for
     two-forms : Two (formCoding make) code i j names
     two-forms = record { left = left-form .0; right = right-form .0 }
 
-  pub forms-asked : {pairs text memory : List ℕ} {depth : ℕ} → WithRoom (λ p. p) code i j pairs text memory depth → WithRoom make code i j pairs text memory depth
+  pub forms-asked : {pairs text memory : List ℕ} {depth : ℕ} → WithRoom (λ p. p) code i j pairs text memory depth
+      → WithRoom make code i j pairs text memory depth
   unfolding two-forms
   forms-asked {memory} {depth} asked =
       let two = asked .forms .two in

@@ -65,7 +65,9 @@ module _ {pairs text memory : List ℕ} {depth : ℕ} {code : List ℕ} {i j : �
         room = simp length-set (omega (arith, asked .room));
       }
 
-module _ (pairs text memory : List ℕ) (depth : ℕ) (code : List ℕ) (i j : ℕ) {t u : ℕ} {same : Bool} (fronts : getD code i 0 ≡ getD code j 0) (t-at : t ≡ numberAt code (i + 3)) (u-at : u ≡ numberAt code (j + 3)) (named : same ≡ eqName (marked pairs text t) (marked pairs text u)) where
+module _ (pairs text memory : List ℕ) (depth : ℕ) (code : List ℕ) (i j : ℕ) {t u : ℕ} {same : Bool}
+    (fronts : getD code i 0 ≡ getD code j 0) (t-at : t ≡ numberAt code (i + 3)) (u-at : u ≡ numberAt code (j + 3))
+    (named : same ≡ eqName (marked pairs text t) (marked pairs text u)) where
   -- with one byte in front the quantifiers are equal
   scope-outcome : {names : ℕ} (two : Two (formCoding ofScope) code i j names)
       → alphaEqScopeIn pairs text memory depth (two .left .value) (two .right .value)

@@ -9,7 +9,7 @@ use Rattle.definitions.specs.Name.{Name}
 use Rattle.definitions.specs.Sheet.{marked, propositionNestingLimit}
 use Rattle.definitions.specs.Prop.{Prop, Binary, Atom, Quantified, PropParameter, Sides, Applied, Scope, nesting, asBinary, asQuantified, renameParameter, renameProp}
 use Rattle.definitions.specs.Code.{encode, Codable}
-use Rattle.definitions.specs.Comparison.{boundAlike, alphaEqParameter, alphaEqParameters, alphaEqAtom, alphaEqSides, alphaEqScope, alphaEqUnder, alphaEq}
+use Rattle.definitions.specs.Comparison.{Binding, boundAlike, alphaEqParameter, alphaEqParameters, alphaEqAtom, alphaEqSides, alphaEqScope, alphaEqUnder, alphaEq}
 use Rattle.prefix_code.specs.Scan.{Coding, Stands, propositionCoding, parametersCoding}
 use Rattle.identifier.specs.Pairs.{PairsWithin}
 use Rattle.alpha_eq.specs.declared.Answer.{Answer}
@@ -48,47 +48,41 @@ severalCoding count names = parametersCoding names count
 
 -- The definitions' comparisons for things of a sheet: names are what the pairs mark in the text, and so many bindings are in memory.
 module _ (pairs text memory : List ℕ) (depth : ℕ) where
+  abbrev nameOf : ℕ → Name
+  nameOf = marked pairs text
+
+  abbrev bindings : List Binding
+  bindings = bindingsOf nameOf memory depth
+
   unfoldable pub boundAlikeIn : ℕ → ℕ → Outcome Bool
-  boundAlikeIn x y = boundAlike (bindingsOf (marked pairs text) memory depth) (marked pairs text x) (marked pairs text y)
+  boundAlikeIn x y = boundAlike bindings (nameOf x) (nameOf y)
 
   unfoldable pub alphaEqParameterIn : PropParameter ℕ → PropParameter ℕ → Outcome Bool
-  alphaEqParameterIn p q =
-      alphaEqParameter (bindingsOf (marked pairs text) memory depth)
-      (renameParameter (marked pairs text) p)
-      (renameParameter (marked pairs text) q)
+  alphaEqParameterIn p q = alphaEqParameter bindings (renameParameter nameOf p) (renameParameter nameOf q)
 
   unfoldable pub alphaEqParametersIn : List (PropParameter ℕ) → List (PropParameter ℕ) → Outcome Bool
-  alphaEqParametersIn ps qs =
-      alphaEqParameters (bindingsOf (marked pairs text) memory depth)
-      (map (renameParameter (marked pairs text)) ps)
-      (map (renameParameter (marked pairs text)) qs)
+  alphaEqParametersIn ps qs = alphaEqParameters bindings (map (renameParameter nameOf) ps) (map (renameParameter nameOf) qs)
 
   unfoldable pub alphaEqAtomIn : Applied ℕ → Applied ℕ → Outcome Bool
   alphaEqAtomIn a b =
-      alphaEqAtom (bindingsOf (marked pairs text) memory depth)
-      (marked pairs text (a .atom))
-      (map (renameParameter (marked pairs text)) (a .parameters))
-      (marked pairs text (b .atom))
-      (map (renameParameter (marked pairs text)) (b .parameters))
-
-  unfoldable pub alphaEqUnderIn : Prop ℕ → Prop ℕ → Outcome Bool
-  alphaEqUnderIn p q =
-      alphaEqUnder (renameProp (marked pairs text) p) (bindingsOf (marked pairs text) memory depth) (renameProp (marked pairs text) q)
+      alphaEqAtom bindings (nameOf (a .atom)) (map (renameParameter nameOf) (a .parameters))
+      (nameOf (b .atom)) (map (renameParameter nameOf) (b .parameters))
 
   unfoldable pub alphaEqSidesIn : Sides ℕ → Sides ℕ → Outcome Bool
   alphaEqSidesIn a b =
       alphaEqSides (a .connective)
-      (alphaEqUnder (renameProp (marked pairs text) (a .left)) (bindingsOf (marked pairs text) memory depth))
-      (alphaEqUnder (renameProp (marked pairs text) (a .right)) (bindingsOf (marked pairs text) memory depth))
-      (asBinary (renameProp (marked pairs text) (ofSides b)))
+      (alphaEqUnder (renameProp nameOf (a .left)) bindings)
+      (alphaEqUnder (renameProp nameOf (a .right)) bindings)
+      (asBinary (renameProp nameOf (ofSides b)))
 
   unfoldable pub alphaEqScopeIn : Scope ℕ → Scope ℕ → Outcome Bool
   alphaEqScopeIn a b =
-      alphaEqScope (bindingsOf (marked pairs text) memory depth) (a .quantifier)
-      (marked pairs text (a .object))
-      (marked pairs text (a .datatype))
-      (alphaEqUnder (renameProp (marked pairs text) (a .body)))
-      (asQuantified (renameProp (marked pairs text) (ofScope b)))
+      alphaEqScope bindings (a .quantifier) (nameOf (a .object)) (nameOf (a .datatype))
+      (alphaEqUnder (renameProp nameOf (a .body)))
+      (asQuantified (renameProp nameOf (ofScope b)))
+
+  unfoldable pub alphaEqUnderIn : Prop ℕ → Prop ℕ → Outcome Bool
+  alphaEqUnderIn p q = alphaEqUnder (renameProp nameOf p) bindings (renameProp nameOf q)
 
 -- something of names below `names` whose code stands at a position
 pub record Standing {A : Type 0} (coding : ℕ → Coding A) (names : ℕ) (code : List ℕ) (at : ℕ) : Type 0 where

@@ -10,7 +10,8 @@ use Rattle.alpha_eq.proofs.bound_alike.Statement.{statement}
 use Rattle.alpha_eq.proofs.bound_alike.Tie as tie
 
 abbrev Inv-loop : tie.InvT-loop
-Inv-loop bindings depth pairs text x y unseen₀ unseen = (unseen ≤ depth) × (boundAlikeIn pairs text bindings unseen x y ≡ boundAlikeIn pairs text bindings depth x y)
+Inv-loop bindings depth pairs text x y unseen₀ unseen =
+    (unseen ≤ depth) × (boundAlikeIn pairs text bindings unseen x y ≡ boundAlikeIn pairs text bindings depth x y)
 
 abbrev μ-loop : tie.MeasureT-loop
 μ-loop bindings depth pairs text x y unseen₀ unseen = unseen
