@@ -1,5 +1,7 @@
 -- The invariant: the bindings not yet seen, the earlier ones, decide as all of them do.
-use Prim.Native.Nat.{_+_, _-_, _*_, _≤_}
+use Prim.Native.Nat.{ℕ, _≤_}
+use mir.Syntax.{w16, w64}
+use mir.Val.{Fits}
 use mathlib.Core.Path.{_≡_, refl, sym, _∙_}
 use native.Mathlib.Omega.{arith}
 use borrow.Author.Needs.{needs}
@@ -15,6 +17,10 @@ Inv-loop bindings depth pairs text x y unseen₀ unseen =
 
 abbrev μ-loop : tie.MeasureT-loop
 μ-loop bindings depth pairs text x y unseen₀ unseen = unseen
+
+-- a number of 16 bits fits into 64
+widened : {n : ℕ} → Fits w16 n → Fits w64 n
+widened fits = record { fits = omega (arith, fits .fits) }
 
 loop-holds : tie.Need-loop-holds Inv-loop μ-loop
 loop-holds c = (omega arith, refl)
@@ -32,13 +38,10 @@ shared-slice-read-same-bytes : tie.Need-shared-slice-read-same-bytes Inv-loop μ
 shared-slice-read-same-bytes c = search needs
 
 cast-same-bytes : tie.Need-cast-same-bytes Inv-loop μ-loop
-cast-same-bytes c = omega (arith, c .shared-slice-known4 .given (2 * (c .before .before .loop .unseen - 1)))
+cast-same-bytes c = widened (c .shared-slice-known4 .given _)
 
 same-bytes-requires : tie.Need-same-bytes-requires Inv-loop μ-loop
-same-bytes-requires c κs = (
-  c .before .before .before .before .before .before .pre .0 .named (2 * (c .before .before .loop .unseen - 1)) (omega arith),
-  c .before .before .before .before .before .before .pre .1 .0,
-)
+same-bytes-requires c κs = (c .before .before .before .before .before .before .pre .0 .named _ (omega arith), c .before .before .before .before .before .before .pre .1 .0)
 
 add-same-bytes : tie.Need-add-same-bytes Inv-loop μ-loop
 add-same-bytes c = search needs
@@ -50,14 +53,10 @@ shared-slice-read-same-bytes-2 : tie.Need-shared-slice-read-same-bytes-2 Inv-loo
 shared-slice-read-same-bytes-2 c = search needs
 
 cast-same-bytes-2 : tie.Need-cast-same-bytes-2 Inv-loop μ-loop
-cast-same-bytes-2 c = omega (arith, c .shared-slice-known5 .given (2 * (c .before .before .before .before .loop .unseen - 1) + 1))
+cast-same-bytes-2 c = widened (c .shared-slice-known5 .given _)
 
 same-bytes-requires-2 : tie.Need-same-bytes-requires-2 Inv-loop μ-loop
-same-bytes-requires-2 c κs = (
-  c .before .before .before .before .before .before .before .before .pre .0 .named (2 * (c .before .before .before .before .loop .unseen - 1) + 1)
-      (omega arith),
-  c .before .before .before .before .before .before .before .before .pre .1 .1,
-)
+same-bytes-requires-2 c κs = (c .before .before .before .before .before .before .before .before .pre .0 .named _ (omega arith), c .before .before .before .before .before .before .before .before .pre .1 .1)
 
 returns : tie.Need-returns Inv-loop μ-loop
 unfolding outcomeOf
