@@ -29,13 +29,13 @@ pub enum Answer {
     Refused(Refusal),
 }
 
-// Two atoms of one name have different parameter counts.
+// 18: two atoms of one name have different parameter counts.
 const DIFFERENT_COUNTS: Refusal = Refusal {
     number: 18,
     place: 0,
 };
 
-// Two uninstantiated parameters meet with neither bound on its side.
+// 19: two uninstantiated parameters meet with neither bound on its side.
 const UNBOUND: Refusal = Refusal {
     number: 19,
     place: 0,
@@ -282,7 +282,7 @@ pub fn alpha_eq_under(
     alpha_eq_scope(code, i, j, pairs, text, bindings, depth)
 }
 
-// The numbers for the bindings of 64 quantifiers.
+// Two name numbers for each of 64 quantifiers, which is as deep as a proposition nests.
 const BINDINGS: usize = 128;
 
 // Are the propositions at i and j the same up to the names of their bound objects?
