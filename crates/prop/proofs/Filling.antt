@@ -1,9 +1,9 @@
 -- The ends of a proposition's parts are filled in one part after the other, and then its own: each leaves the earlier ones as they are.
-use Prim.Native.Nat.{ℕ, zero, suc, _+_, _-_, _≤_, _<_}
-use mathlib.Core.Path.{_≡_, refl, sym, ap, _∙_}
+use Prim.Native.Nat.{ℕ, _+_, _-_, _≤_, _<_}
+use mathlib.Core.Path.{_≡_, refl, _∙_}
 use mathlib.Core.List.{List, [], _∷_, _++_, append-assoc}
 use native.Mathlib.Omega.{arith}
-use lib.ListN.{length, drop, getD, set, length-append, length-set}
+use lib.ListN.{length, drop, getD, set, length-append}
 use lib.Seq.{getD-set-same, getD-set-other}
 use Rattle.definitions.specs.Prop.{Prop, True, False, Binary, Atom, Quantified, connectiveByte}
 use Rattle.definitions.specs.Code.{u16, encode, Codable}
@@ -12,12 +12,15 @@ use Rattle.prefix_code.specs.Head.{Head, TrueHead, FalseHead, BinaryHead, AtomH
 use Rattle.prefix_code.proofs.Positions.{after}
 use Rattle.prefix_code.proofs.Heads.{partCount, HeadAt, head-bytes}
 use Rattle.prop.specs.PropAt.{propAt, Present}
-use Rattle.prop.specs.Ends.{EndAt, EndsOf, Filled}
+use Rattle.prop.specs.Ends.{EndAt, EndsOf, Room, Filled}
 use Rattle.prop.proofs.Reading.{prop-at, present}
 
 -- the table has the other one's entries from i up to j
-abbrev pub Agree : List ℕ → List ℕ → ℕ → ℕ → Type 0
+abbrev Agree : List ℕ → List ℕ → ℕ → ℕ → Type 0
 Agree table ends i j = (k : ℕ) → i ≤ k → k < j → getD table k 0 ≡ getD ends k 0
+
+pub room-kept : {code ends table : List ℕ} → length table ≡ length ends → Room code ends → Room code table
+room-kept e r = record { long = rw e (r .long); short = r .short }
 
 -- the ends of a proposition lie where its code does
 pub ends-kept : (table ends : List ℕ) (at : ℕ) (p : Prop ℕ) → Agree table ends at (at + length (encode p)) → EndsOf ends at p → EndsOf table at p
@@ -37,7 +40,7 @@ ends-kept table ends at (Quantified q x t p) same (e, f) = (
 )
 
 -- the parts that follow a proposition's head
-abbrev pub partsOf : Prop ℕ → List (Prop ℕ)
+abbrev partsOf : Prop ℕ → List (Prop ℕ)
 partsOf True = []
 partsOf False = []
 partsOf (Binary c p q) = p ∷ q ∷ []
@@ -45,17 +48,17 @@ partsOf (Atom a ps) = []
 partsOf (Quantified q x t p) = p ∷ []
 
 -- Of propositions in a row: where the last one ends, and their ends in a table.
-abbrev pub rowEnd : ℕ → List (Prop ℕ) → ℕ
+abbrev rowEnd : ℕ → List (Prop ℕ) → ℕ
 rowEnd i [] = i
 rowEnd i (p ∷ ps) = rowEnd (i + length (encode p)) ps
 
-abbrev pub EndsOfRow : List ℕ → ℕ → List (Prop ℕ) → Type 0
+abbrev EndsOfRow : List ℕ → ℕ → List (Prop ℕ) → Type 0
 EndsOfRow ends i [] = Unit {0}
 EndsOfRow ends i (p ∷ ps) = EndsOf ends i p × EndsOfRow ends (i + length (encode p)) ps
 
 module _ (names : ℕ) (l : List ℕ) where
   -- they stand in a row from i on
-  abbrev pub Row : ℕ → List (Prop ℕ) → Type 0
+  abbrev Row : ℕ → List (Prop ℕ) → Type 0
   Row i [] = Unit {0}
   Row i (p ∷ ps) = ((rest : List ℕ) × At names l i p rest) × Row (i + length (encode p)) ps
 
@@ -115,7 +118,7 @@ module _ (names : ℕ) (l : List ℕ) where
     earlier : (k : ℕ) → k < at → getD ends k 0 ≡ getD before k 0
     later : (k : ℕ) → i ≤ k → getD ends k 0 ≡ getD before k 0
 
-  -- so many parts are needed
+  -- so many parts are still to be filled in
   pub record Filling (p : Prop ℕ) (at : ℕ) (before ends : List ℕ) (i needed : ℕ) : Type 0 where
     todo : List (Prop ℕ)
     count : length todo ≡ needed

@@ -4,3 +4,4 @@ pub mod Filling
 pub mod Marks
 pub mod Parts
 pub mod Shown
+pub mod Atoms

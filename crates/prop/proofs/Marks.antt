@@ -1,13 +1,13 @@
 -- Each pair of a sheet's propositions marks the code of one, and since no two overlap, their ends can be filled in one after the other.
 use Prim.Native.Nat.{ℕ, zero, suc, _+_, _≤_, _<_}
-use mathlib.Core.Path.{_≡_, refl, sym, ap, _∙_}
+use mathlib.Core.Path.{_≡_, refl, sym, ap}
 use mathlib.Core.Bool.{false}
 use mathlib.Core.Logic.{by-cases}
 use mathlib.Core.Option.{Option, none, some, Option·getD}
 use mathlib.Core.List.{List}
 use native.Mathlib.Omega.{arith}
 use native.Mathlib.Decide.{decLt}
-use lib.ListN.{length, take, drop, getD, length-drop, length-take, take-append-drop, List·getD-eq-default}
+use lib.ListN.{length, take, drop, length-drop, length-take, take-append-drop, List·getD-eq-default}
 use lib.Seq.{getD-take, getD-drop}
 use Rattle.definitions.specs.Prop.{Prop, False}
 use Rattle.definitions.specs.Code.{encode, decode}
@@ -17,7 +17,7 @@ use Rattle.definitions.specs.Admission.{isNone}
 use Rattle.definitions.proofs.PrefixCode.{Bytes, encode-decode}
 use Rattle.prefix_code.specs.Scan.{Stands, At}
 use Rattle.prop.specs.PropAt.{propAt, Present}
-use Rattle.prop.specs.Ends.{Known, Filled, Marked}
+use Rattle.prop.specs.Ends.{Known, Filled, CodePairs}
 use Rattle.prop.proofs.Reading.{prop-at, present}
 use Rattle.prop.proofs.Filling.{ends-kept}
 
@@ -32,7 +32,7 @@ unfolding isNone
 is-some none h = let z : _≡_ {A = ℕ} 0 1 = cc in absurd (omega arith)
 is-some (some a) h = (a, refl)
 
-module _ (names : ℕ) (pairs code : List ℕ) (count : ℕ) (bytes : Bytes code) (m : Marked names pairs code count) where
+module _ (names : ℕ) (pairs code : List ℕ) (count : ℕ) (bytes : Bytes code) (m : CodePairs names pairs code count) where
   -- the proposition of a number stands where its pair says, over the pair's whole length
   record Standing (i : ℕ) : Type 0 where
     rest : List ℕ

@@ -1,20 +1,20 @@
 -- What the bytes and the table tell of the proposition at a position: its byte in front, and where its parts stand, with their ends.
 use Prim.Native.Nat.{ℕ, _+_, _≤_, _<_}
-use mathlib.Core.Path.{_≡_, refl, sym, ap, _∙_}
+use mathlib.Core.Path.{_≡_, refl, ap, _∙_}
+use mathlib.Core.Logic.{by-cases}
 use mathlib.Core.List.{List, [], _∷_, _++_}
 use native.Mathlib.Omega.{arith}
 use native.Mathlib.Decide.{decLt}
-use mathlib.Core.Logic.{by-cases}
 use lib.ListN.{length, getD, length-append, List·getD-eq-default}
 use Rattle.definitions.specs.Prop.{Prop, True, False, Binary, Atom, Quantified, Connective, connectiveByte, Quantifier, quantifierByte}
-use Rattle.definitions.specs.Code.{u16, encode}
+use Rattle.definitions.specs.Code.{encode}
 use Rattle.definitions.specs.Sheet.{numberAt}
 use Rattle.prefix_code.specs.Scan.{Stands, At}
 use Rattle.prefix_code.proofs.Positions.{byte-at}
-use Rattle.prefix_code.proofs.Forms.{BinaryAt, binary-at, QuantifiedAt, quantified-at}
+use Rattle.prefix_code.proofs.Forms.{binary-at, quantified-at}
 use Rattle.prop.specs.PropAt.{propAt, Present}
 use Rattle.prop.specs.Ends.{EndAt, EndsOf, Known}
-use Rattle.prop.proofs.Reading.{prop-at, present, inside}
+use Rattle.prop.proofs.Reading.{prop-at, present}
 
 -- the byte in front of a proposition's code
 abbrev pub headByte : Prop ℕ → ℕ
@@ -32,13 +32,14 @@ byte-in-front (Binary c p q) rest = (_, refl)
 byte-in-front (Atom a ps) rest = (_, refl)
 byte-in-front (Quantified q x t p) rest = (_, refl)
 
+-- the byte at the position of a proposition
 pub head-byte : {names : ℕ} {l : List ℕ} {at : ℕ} → Present names l at → getD l at 0 ≡ headByte (propAt names l at)
 unfolding Stands
 head-byte {names} {l} {at} h =
     let (tail, e) = byte-in-front (propAt names l at) (h .rest) in
     byte-at l at (at + 1) (headByte (propAt names l at)) tail refl (h .stands .1 ∙ e) .value
 
-pub code-long : (p : Prop ℕ) → 0 < length (encode p)
+code-long : (p : Prop ℕ) → 0 < length (encode p)
 code-long p = let (tail, e) = byte-in-front p [] in omega (arith, simp length-append at (ap length e))
 
 -- the table has the end of the proposition itself
@@ -51,14 +52,14 @@ own-end ends at (Atom a ps) e = e
 own-end ends at (Quantified q x t p) e = e .0
 
 -- an entry that is not 0 lies within the table
-pub entry-inside : (ends : List ℕ) (i : ℕ) → 0 < getD ends i 0 → i < length ends
+entry-inside : (ends : List ℕ) (i : ℕ) → 0 < getD ends i 0 → i < length ends
 entry-inside ends i h = by-cases (decLt i (length ends))
     (λ k. k)
     (λ k. absurd (omega (arith, List·getD-eq-default ends 0 {n = i} (omega arith))))
 
 module _ (names : ℕ) (l ends : List ℕ) where
-  known-at : (i : ℕ) (p : Prop ℕ) (rest : List ℕ) → At names l i p rest → EndsOf ends i p → Known names l ends i
-  known-at i p rest s e = record { present = present names l i p rest s; ends = rw (prop-at names l i p rest s) e }
+  known-part : (i : ℕ) (p : Prop ℕ) (rest : List ℕ) → At names l i p rest → EndsOf ends i p → Known names l ends i
+  known-part i p rest s e = record { present = present names l i p rest s; ends = rw (prop-at names l i p rest s) e }
 
   module _ (at : ℕ) where
     -- a binary proposition: its left side follows the byte in front, and its right side starts where the left one ends
@@ -94,8 +95,8 @@ module _ (names : ℕ) (l ends : List ℕ) where
             connective = b .connective;
             byte = b .byte;
             is = rw (middle, left-is, right-is) (b .is);
-            left = known-at (at + 1) (b .left) (encode (b .right) ++ k .present .rest) (b .left-at) (ends-of .1);
-            right = rw middle (known-at (at + 1 + length (encode (b .left))) (b .right) (k .present .rest) (b .right-at) (ends-of .2));
+            left = known-part (at + 1) (b .left) (encode (b .right) ++ k .present .rest) (b .left-at) (ends-of .1);
+            right = rw middle (known-part (at + 1 + length (encode (b .left))) (b .right) (k .present .rest) (b .right-at) (ends-of .2));
             table = entry-inside ends (at + 1) (omega arith);
             order = omega arith;
           }
@@ -112,5 +113,5 @@ module _ (names : ℕ) (l ends : List ℕ) where
             is = rw (q .bytes .object, q .bytes .datatype, body-is) (q .is);
             object = rw (q .bytes .object) (q .bytes .object-below);
             datatype = rw (q .bytes .datatype) (q .bytes .datatype-below);
-            body = known-at (at + 5) (q .body) (k .present .rest) (q .body-at) (ends-of .1);
+            body = known-part (at + 5) (q .body) (k .present .rest) (q .body-at) (ends-of .1);
           }

@@ -1,6 +1,6 @@
 -- A proposition that stands at a position is the one that is read there.
 use Prim.Native.Nat.{ℕ, _+_, _≤_, _<_}
-use mathlib.Core.Path.{_≡_, sym, ap, _∙_}
+use mathlib.Core.Path.{_≡_, ap, _∙_}
 use mathlib.Core.List.{List}
 use native.Mathlib.Omega.{arith}
 use lib.ListN.{length, getD}
@@ -21,7 +21,7 @@ module _ (names : ℕ) (l : List ℕ) (at : ℕ) (p : Prop ℕ) (rest : List ℕ
   pub present : Present names l at
   present = record { rest = rest; stands = rw prop-at s }
 
--- what follows where one stands
+-- the code of a proposition lies within the bytes, and the byte in front of it is one of eight
 pub record Inside (names : ℕ) (l : List ℕ) (at : ℕ) : Type 0 where
   pub start : at < length l
   pub end : at + length (encode (propAt names l at)) ≤ length l

@@ -1,11 +1,11 @@
 -- How the strength and the text of a proposition follow from its byte in front and from its parts.
-use Prim.Native.Nat.{ℕ, _+_, _≤_, _<_}
+use Prim.Native.Nat.{ℕ, _+_, _<_}
 use mathlib.Core.Path.{_≡_, refl, sym, ap, _∙_}
-use mathlib.Core.Bool.{Bool, true, false, cond}
+use mathlib.Core.Bool.{true, false, cond}
 use mathlib.Core.List.{List, [], _∷_, _++_, append-assoc}
 use native.Mathlib.Omega.{arith}
-use lib.ListN.{length, getD}
-use lib.Dec.{eqb, ltb, leb, leb·suc-suc}
+use lib.ListN.{getD}
+use lib.Dec.{eqb, ltb, leb·suc-suc}
 use borrow.Author.Tests.{eq-eqb, ne-eqb}
 use Rattle.definitions.specs.Utf8.{utf8}
 use Rattle.definitions.specs.Name.{Name}
@@ -19,7 +19,7 @@ use Rattle.prop.specs.Ends.{Known}
 use Rattle.prop.specs.Printing.{sign}
 use Rattle.prop.proofs.Parts.{headByte, head-byte, BinaryParts, binary-parts, QuantifiedParts}
 
--- The signs of the connectives and quantifiers, and the strengths that their sides need.
+-- The signs of the connectives and quantifiers.
 pub connective-sign : (c : Connective) → utf8 " " ++ (sign (connectiveByte c) ++ utf8 " ") ≡ connectiveText c
 unfolding sign connectiveByte connectiveText
 connective-sign and = refl
@@ -31,6 +31,7 @@ unfolding sign quantifierByte quantifierText
 quantifier-sign forAll = refl
 quantifier-sign exists = refl
 
+-- A side is bracketed if it binds less strongly than the number of its connective's byte.
 pub left-strength : (c : Connective) (strength : ℕ) → ltb strength (getD (0 ∷ 0 ∷ 4 ∷ 3 ∷ 3 ∷ []) (connectiveByte c) 0) ≡ wrapsLeft c strength
 unfolding connectiveByte wrapsLeft
 left-strength and strength = refl
@@ -43,6 +44,10 @@ right-strength and strength = leb·suc-suc strength 4
 right-strength or strength = leb·suc-suc strength 3
 right-strength impl strength = refl
 
+-- the strength of each byte in front
+abbrev strengths : List ℕ
+strengths = 999 ∷ 999 ∷ 4 ∷ 3 ∷ 2 ∷ 999 ∷ 1 ∷ 1 ∷ []
+
 -- a binary proposition is a negation if it binds as strongly as an atom
 negation-strength : (c : Connective) (p q : Prop Name) → eqb (precedence (Binary c p q)) 999 ≡ isNegation c q
 unfolding precedence isNegation connectivePrecedence
@@ -52,6 +57,7 @@ negation-strength impl p q = elim (isFalse q) as (λ b. eqb (cond b 999 2) 999 �
 
 -- Over any names:
 module _ (f : ℕ → Name) where
+  -- ⊥ is told by its byte in front, and so is a strength, but for implications
   is-false : (p : Prop ℕ) → isFalse (renameProp f p) ≡ eqb (headByte p) 1
   unfolding isFalse renameProp connectiveByte quantifierByte
   is-false True = refl
@@ -64,7 +70,7 @@ module _ (f : ℕ → Name) where
   is-false (Quantified exists x t p) = refl
 
   strength-by-head : (p : Prop ℕ) → (headByte p ≡ 4 → ⊥)
-      → getD (999 ∷ 999 ∷ 4 ∷ 3 ∷ 2 ∷ 999 ∷ 1 ∷ 1 ∷ []) (headByte p) 0 ≡ precedence (renameProp f p)
+      → getD strengths (headByte p) 0 ≡ precedence (renameProp f p)
   unfolding renameProp connectiveByte quantifierByte precedence isNegation connectivePrecedence
   strength-by-head True h = refl
   strength-by-head False h = refl
@@ -84,7 +90,7 @@ module _ (f : ℕ → Name) where
   leaf (Quantified q x t p) h = absurd (omega (arith, quantifier-byte q .0))
 
   module _ (names : ℕ) (l ends : List ℕ) (at : ℕ) where
-    -- the proposition, its left side, which is also what a quantifier.. 
+    -- the proposition at a position
     abbrev named : ℕ → Prop Name
     named i = renameProp f (propAt names l i)
 
@@ -94,7 +100,7 @@ module _ (f : ℕ → Name) where
 
     module _ (k : Known names l ends at) where
       -- a proposition that is no implication binds as its byte in front says
-      pub strength-elsewhere : (getD l at 0 ≡ 4 → ⊥) → getD (999 ∷ 999 ∷ 4 ∷ 3 ∷ 2 ∷ 999 ∷ 1 ∷ 1 ∷ []) (getD l at 0) 0 ≡ precedence (named at)
+      pub strength-elsewhere : (getD l at 0 ≡ 4 → ⊥) → getD strengths (getD l at 0) 0 ≡ precedence (named at)
       strength-elsewhere h =
           let head = head-byte (k .present) in
           rw head (strength-by-head (propAt names l at) (λ e. h (head ∙ e)))
@@ -122,20 +128,17 @@ module _ (f : ℕ → Name) where
       unfolding renameProp
       binary = ap (renameProp f) (b .is)
 
+      negation : isNegation (b .connective) (named middle) ≡ eqb (precedence (named at)) 999
+      negation = rw binary (sym (negation-strength (b .connective) (named (at + 1)) (named middle)))
+
       pub negation-text : precedence (named at) ≡ 999
           → utf8 "¬" ++ wrap (ltb (precedence (named (at + 1))) 999) (displayProp (named (at + 1))) ≡ displayProp (named at)
       unfolding displayProp
-      negation-text h =
-          let negation : isNegation (b .connective) (named middle) ≡ true =
-              sym (negation-strength (b .connective) (named (at + 1)) (named middle)) ∙ eq-eqb _ 999 (rw binary at h) in
-          rw (binary, negation)
+      negation-text h = rw (binary, negation ∙ eq-eqb _ 999 h)
 
       pub binary-text : (precedence (named at) ≡ 999 → ⊥)
           → wrap (wrapsLeft (b .connective) (precedence (named (at + 1)))) (displayProp (named (at + 1)))
           ++ (connectiveText (b .connective) ++ wrap (wrapsRight (b .connective) (precedence (named middle))) (displayProp (named middle)))
           ≡ displayProp (named at)
       unfolding displayProp
-      binary-text h =
-          let negation : isNegation (b .connective) (named middle) ≡ false =
-              sym (negation-strength (b .connective) (named (at + 1)) (named middle)) ∙ ne-eqb _ 999 (rw binary at h) in
-          rw (binary, negation)
+      binary-text h = rw (binary, negation ∙ ne-eqb _ 999 h)

@@ -28,9 +28,9 @@ pub record Known (names : ℕ) (code table : List ℕ) (at : ℕ) : Type 0 where
   pub present : Present names code at
   pub ends : EndsOf table at (propAt names code at)
 
--- the table is as long as the code, whose positions fit its entries
+-- the table has an entry for each byte of the code, and a position fits an entry
 pub record Room (code ends : List ℕ) : Type 0 where
-  pub same : length ends ≡ length code
+  pub long : length code ≤ length ends
   pub short : length code ≤ 65535
 
 -- what it takes to fill in the ends of a proposition
@@ -45,9 +45,9 @@ pub record Filled (p : Prop ℕ) (before : List ℕ) (at : ℕ) (after : List �
   pub earlier : (i : ℕ) → i < at → getD after i 0 ≡ getD before i 0
   pub later : (i : ℕ) → r ≤ i → getD after i 0 ≡ getD before i 0
 
--- the propositions of a sheet that meets refusals 6 and 7 with none: their pairs are there, none starts before the last one's end,
--- each ends within the code and marks the code of one proposition
-pub record Marked (names : ℕ) (pairs code : List ℕ) (count : ℕ) : Type 0 where
+-- the pairs of a sheet's propositions, of which refusals 6 and 7 find none bad: they are there, none starts before the last one's
+-- end, and each ends within the code and marks exactly one proposition
+pub record CodePairs (names : ℕ) (pairs code : List ℕ) (count : ℕ) : Type 0 where
   pub there : pairSize * count ≤ length pairs
   pub sorted : (i : ℕ) → i < count → lastEnd pairs i ≤ pairOffset pairs i
   pub within : (i : ℕ) → i < count → pairEnd pairs i ≤ length code
@@ -55,5 +55,5 @@ pub record Marked (names : ℕ) (pairs code : List ℕ) (count : ℕ) : Type 0 w
 
 -- what it takes to fill in the ends of them all
 pub record AllFillable (names : ℕ) (pairs code : List ℕ) (count : ℕ) (ends : List ℕ) : Type 0 where
-  pub propositions : Marked names pairs code count
+  pub marks : CodePairs names pairs code count
   pub room : Room code ends

@@ -1,12 +1,13 @@
 -- What it takes to print a proposition, and the signs of which its text is made.
 use Prim.Native.Nat.{ℕ, _+_, _*_, _≤_, _<_}
+use mathlib.Core.Path.{_≡_}
 use mathlib.Core.List.{List}
-use lib.ListN.{length, take, drop}
+use lib.ListN.{length, getD, take, drop}
 use Rattle.definitions.specs.Utf8.{utf8}
 use Rattle.definitions.specs.Name.{Name}
 use Rattle.definitions.specs.Prop.{Prop, renameProp}
 use Rattle.definitions.specs.Sheet.{pairSize, pairEnd, marked}
-use Rattle.prop.specs.PropAt.{propAt}
+use Rattle.prop.specs.PropAt.{propAt, Present}
 use Rattle.prop.specs.Ends.{Known}
 
 -- the proposition at `at`, over the names that the pairs mark in the text
@@ -23,7 +24,13 @@ pub record Printable (names : ℕ) (code ends pairs text : List ℕ) (at : ℕ) 
   pub known : Known names code ends at
   pub named : (n : ℕ) → n < names → Named pairs text n
 
--- the same for some count of names, as far as the strength goes
+-- an atom stands at `at`, and each name below `names` is there
+pub record AtomPrintable (names : ℕ) (code pairs text : List ℕ) (at : ℕ) : Type 0 where
+  pub present : Present names code at
+  pub byte : getD code at 0 ≡ 5
+  pub named : (n : ℕ) → n < names → Named pairs text n
+
+-- a proposition stands at `at` with its ends in the table, whatever the count of names is
 pub record Legible (code ends : List ℕ) (at : ℕ) : Type 0 where
   pub names : ℕ
   pub known : Known names code ends at

@@ -1,10 +1,11 @@
+-- The loop's invariant: the ends of some parts are filled in, and those of the needed ones from i on are not. The calls end by the position.
 use Prim.Native.Nat.{ℕ, _-_, _<_}
-use mathlib.Core.Path.{_≡_, _∙_}
+use mathlib.Core.Path.{_≡_}
 use native.Mathlib.Omega.{arith}
 use lib.ListN.{length, length-set}
 use Rattle.prop.specs.PropAt.{propAt}
 use Rattle.prop.proofs.Reading.{inside}
-use Rattle.prop.proofs.Filling.{Filling, filling-starts, filling-size, filling-further, filling-next, filling-steps, filling-ends}
+use Rattle.prop.proofs.Filling.{room-kept, Filling, filling-starts, filling-size, filling-further, filling-next, filling-steps, filling-ends}
 use borrow.Fn.Kinds.{In}
 use borrow.Fn.PlainCycle.{Measures, is, falls, and}
 use Rattle.prop.proofs.fill_ends.Reads as fill-ends
@@ -44,15 +45,15 @@ fill-ends-parts-after-requires : (t : ℕ) → fill-ends-lts.Need-parts-after-re
 fill-ends-parts-after-requires t c κs = inside (c .before .before .before .before .pre .1 .present) .known
 
 fill-ends-loop-holds : (t : ℕ) → fill-ends-lts.Need-loop-holds (fill-ends-claims t) (fill-ends-at t) fill-ends.Post fill-ends-Inv-loop fill-ends-μ-loop
-fill-ends-loop-holds t c = 
+fill-ends-loop-holds t c =
     let parts = c .parts-after .ensures in
     rw parts (filling-starts _ _ _ _ _ _ _ (c .before .before .before .before .before .pre .1 .present .stands) (c .before .before .head-end .ensures))
 
 fill-ends-fill-ends-requires : (t : ℕ) → fill-ends-lts.Need-fill-ends-requires (fill-ends-claims t) (fill-ends-at t) fill-ends.Post fill-ends-Inv-loop fill-ends-μ-loop
-fill-ends-fill-ends-requires t c κs = 
+fill-ends-fill-ends-requires t c κs =
     let next = filling-next _ _ (c .before .before .loop .inv) (c .before .loop-test .taken) in
     let further = filling-further _ _ (c .before .before .loop .inv) in
-    (omega (arith, c .before .before .before .before .before .before .before .before .pre .0, inside next), record { present = next; room = record { same = filling-size _ _ (c .before .before .loop .inv) ∙ c .before .before .before .before .before .before .before .before .pre .1 .room .same; short = c .before .before .before .before .before .before .before .before .pre .1 .room .short } })
+    (omega (arith, c .before .before .before .before .before .before .before .before .pre .0, inside next), record { present = next; room = room-kept (filling-size _ _ (c .before .before .loop .inv)) (c .before .before .before .before .before .before .before .before .pre .1 .room) })
 
 fill-ends-sub-needed : (t : ℕ) → fill-ends-lts.Need-sub-needed (fill-ends-claims t) (fill-ends-at t) fill-ends.Post fill-ends-Inv-loop fill-ends-μ-loop
 fill-ends-sub-needed t c = omega (arith, c .before .before .before .before .loop-test .taken)
@@ -64,7 +65,7 @@ fill-ends-loop-again : (t : ℕ) → fill-ends-lts.Need-loop-again (fill-ends-cl
 fill-ends-loop-again t c = filling-steps _ _ (c .before .before .before .before .before .loop .inv) (c .before .before .before .before .loop-test .taken) (c .before .before .fill-ends .kept .1 .1 .1 .0) (c .before .before .fill-ends .ensures)
 
 fill-ends-returns : (t : ℕ) → fill-ends-lts.Need-returns (fill-ends-claims t) (fill-ends-at t) fill-ends.Post fill-ends-Inv-loop fill-ends-μ-loop
-fill-ends-returns t c = 
+fill-ends-returns t c =
     let none : c .before .loop .needed ≡ 0 = omega (arith, c .loop-test .left) in
     filling-ends _ _ (rw none at (c .before .loop .inv)) (omega (arith, filling-size _ _ (c .before .loop .inv), inside (c .before .before .before .before .before .before .before .pre .1 .present), c .before .before .before .before .before .before .before .pre .1 .room))
 

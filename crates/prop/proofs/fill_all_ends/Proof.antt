@@ -5,6 +5,7 @@ use native.Mathlib.Omega.{arith}
 use lib.ListN.{length}
 use Rattle.definitions.specs.Sheet.{pairSize, pairOffset}
 use Rattle.prop.specs.Ends.{Known}
+use Rattle.prop.proofs.Filling.{room-kept}
 use Rattle.prop.proofs.Marks.{present-in, one-more}
 use Rattle.prop.proofs.fill_all_ends.Statement.{statement}
 use Rattle.prop.proofs.fill_all_ends.Tie as tie
@@ -20,19 +21,19 @@ loop-holds c = (omega arith, refl, λ j h. absurd (omega arith))
 
 mul-number-at : tie.Need-mul-number-at Inv-loop μ-loop
 unfolding pairSize
-mul-number-at c = omega (arith, c .before .before .before .before .before .pre .propositions .there)
+mul-number-at c = omega (arith, c .before .before .before .before .before .pre .marks .there)
 
 number-at-requires : tie.Need-number-at-requires Inv-loop μ-loop
 unfolding pairSize
-number-at-requires c κs = omega (arith, c .before .before .before .before .before .pre .propositions .there)
+number-at-requires c κs = omega (arith, c .before .before .before .before .before .pre .marks .there)
 
 fill-ends-requires : tie.Need-fill-ends-requires Inv-loop μ-loop
 unfolding pairSize pairOffset
 fill-ends-requires c κs =
-    let known = c .before .before .before .before .before .before .before .pre .propositions in
+    let known = c .before .before .before .before .before .before .before .pre .marks in
     rw (c .before .number-at .ensures .0) (record {
       present = present-in _ _ _ _ (λ k. omega (arith, c .before .before .before .before .before .shared-slice-known2 .given k)) known (c .before .before .before .loop .i) (c .before .before .loop-test .taken);
-      room = record { same = c .before .before .before .loop .inv .1 ∙ c .before .before .before .before .before .before .before .pre .room .same; short = c .before .before .before .before .before .before .before .pre .room .short };
+      room = room-kept (c .before .before .before .loop .inv .1) (c .before .before .before .before .before .before .before .pre .room);
     })
 
 add-i : tie.Need-add-i Inv-loop μ-loop
@@ -44,7 +45,7 @@ loop-less c = omega arith
 loop-again : tie.Need-loop-again Inv-loop μ-loop
 unfolding pairSize pairOffset
 loop-again c =
-    let known = c .before .before .before .before .before .before .before .before .before .before .pre .propositions in (
+    let known = c .before .before .before .before .before .before .before .before .before .before .pre .marks in (
       omega (arith, c .before .before .before .before .before .loop-test .taken),
       c .before .before .fill-ends .kept .1 .1 .1 .0 ∙ c .before .before .before .before .before .before .loop .inv .1,
       one-more _ _ _ _ (λ k. omega (arith, c .before .before .before .before .before .before .before .before .shared-slice-known2 .given k)) known (c .before .before .before .before .before .before .loop .i) _ _ _ (c .before .before .before .before .before .loop-test .taken) (rw (c .before .before .before .before .number-at .ensures .0) at (c .before .before .fill-ends .ensures)) (c .before .before .before .before .before .before .loop .inv .2),

@@ -31,7 +31,7 @@ same-length c = search needs
 returns : tie.Need-returns
 unfolding sign
 returns c =
-    let whole : 3 * c .before .before .before .before .before .before .before .args .head + 3 - 3 * c .before .before .before .before .before .before .before .args .head ≡ 3 = omega arith in
+    let whole : 3 * c .before .before .before .before .before .before .before .before .before .args .head + 3 - 3 * c .before .before .before .before .before .before .before .before .before .args .head ≡ 3 = omega arith in
     rw whole at (c .before .before .put-all .ensures)
 
 pub put-sign-spec : {M : Type 1} → statement M
