@@ -1,0 +1,4 @@
+-- What the printing of a term says.
+pub mod Brackets
+pub mod Format
+pub mod Printable
