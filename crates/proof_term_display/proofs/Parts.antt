@@ -17,7 +17,8 @@ use Rattle.proof_term.proofs.Records.{part-below, part-else}
 use Rattle.prop.specs.PropAt.{propAt}
 use Rattle.proof_term_display.specs.Brackets.{positions, isBracketed}
 use Rattle.proof_term_display.specs.Format.{part, partField, partPosition, partText, itemText}
-use Rattle.proof_term_display.specs.Printable.{PrintableTerm, ItemReady, recordItem}
+use Rattle.proof_term_display.specs.Printable.{PrintableTerm}
+use Rattle.proof_term_display.specs.Item.{ItemReady, recordItem}
 
 closed-bare : (p : Option Position) (s : Style) → isBracketed p s closed ≡ false
 unfolding isBracketed bracketsOf brackets bracketed

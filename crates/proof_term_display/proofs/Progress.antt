@@ -14,7 +14,8 @@ use Rattle.output.proofs.Writing as writing
 use Rattle.proof_term.specs.Records.{fieldAt, termAt, partAt}
 use Rattle.prop.specs.PropAt.{propAt}
 use Rattle.proof_term_display.specs.Format.{Item, itemOf, items, formats}
-use Rattle.proof_term_display.specs.Printable.{PrintableTerm, KindAt, ItemReady, recordItem}
+use Rattle.proof_term_display.specs.Printable.{PrintableTerm}
+use Rattle.proof_term_display.specs.Item.{KindAt, ItemReady, recordItem}
 use Rattle.proof_term_display.proofs.Items.{items-next, items-end, items-past}
 use Rattle.proof_term_display.proofs.Formats.{rendered, format-text}
 use Rattle.proof_term_display.proofs.Ready.{Ready, ready-next, ready}

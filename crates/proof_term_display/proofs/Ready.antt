@@ -13,7 +13,8 @@ use Rattle.proof_term.specs.Counting.{ownAnnotations}
 use Rattle.prop.specs.PropAt.{propAt}
 use Rattle.prop.specs.Ends.{Known}
 use Rattle.proof_term_display.specs.Format.{Item, fixed, name, part, ofParameter, ofAscription, itemOf, items, formats}
-use Rattle.proof_term_display.specs.Printable.{LabelBelow, ParameterLabelBelow, NamesBelow, PrintableTerm, KindAt, LabelReady, ItemReady}
+use Rattle.proof_term_display.specs.Printable.{LabelBelow, ParameterLabelBelow, NamesBelow, PrintableTerm}
+use Rattle.proof_term_display.specs.Item.{KindAt, LabelReady, ItemReady}
 
 -- a fact of each number below n
 data Every (P : ℕ → Type 0) : ℕ → Type 0 where

@@ -17,7 +17,7 @@ use Rattle.proof_term.specs.Counting.{ownCounts, ownAnnotations}
 use Rattle.proof_term.proofs.Records.{termAt-kind}
 use Rattle.proof_term_display.specs.Brackets.{positions, styles, columns, column, isBracketed}
 use Rattle.proof_term_display.specs.Format.{partField, partPosition}
-use Rattle.proof_term_display.specs.Printable.{KindAt}
+use Rattle.proof_term_display.specs.Item.{KindAt}
 
 -- a table that has what the rule gives of each key
 pub mapped {ℓ ℓ′} :

@@ -19,20 +19,20 @@ pub data Item : Type 0 where
   fixed : ℕ → Item
   -- the name in a number of the record
   name : ℕ → Item
-  -- a part, by its letter's number
+  -- a part, by its letter: 0 for A
   part : ℕ → Item
   -- the label of a parameter, if it has one, and the label of an ascription
   ofParameter ofAscription : Item
 
--- the record's number and the position of each part: the first, second and third part, a named function's body, an ascription's body,
--- an application's function and its argument
+-- the record's number and the position of each part, A to G: the first, second and third part, a named function's body, an ascription's
+-- body, an application's function and its argument
 abbrev pub partField : ℕ → ℕ
 partField k = getD (1 ∷ 2 ∷ 3 ∷ 1 ∷ 1 ∷ 1 ∷ 2 ∷ []) k 0
 
 abbrev pub partPosition : ℕ → ℕ
 partPosition k = getD (4 ∷ 4 ∷ 4 ∷ 2 ∷ 3 ∷ 0 ∷ 1 ∷ []) k 0
 
--- 1 to 5, A to G, L and M
+-- 49 to 53 are 1 to 5, 65 to 71 are A to G, 76 is L and 77 is M
 unfoldable pub itemOf : ℕ → Item
 itemOf b =
     cond (leb 49 b && leb b 53) (name (b - 48))
@@ -40,12 +40,12 @@ itemOf b =
     (cond (eqb b 76) ofParameter
     (cond (eqb b 77) ofAscription (fixed b))))
 
--- up to the first full stop
+-- up to the first full stop, which is 46
 unfoldable pub items : List ℕ → List Item
 items [] = []
 items (b ∷ bs) = cond (eqb b 46) [] (itemOf b ∷ items bs)
 
--- the format of each kind
+-- the format of each kind, in the order of the kinds
 unfoldable pub formats : List (List Item)
 formats =
     items (utf8 "1")

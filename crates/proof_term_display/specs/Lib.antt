@@ -2,3 +2,4 @@
 pub mod Brackets
 pub mod Format
 pub mod Printable
+pub mod Item

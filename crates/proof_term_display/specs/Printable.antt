@@ -4,16 +4,12 @@ use mathlib.Core.Path.{_≡_}
 use mathlib.Core.Option.{Option, none, some}
 use mathlib.Core.List.{List}
 use lib.ListN.{length}
-use Rattle.definitions.specs.declared.Style.{Style}
-use Rattle.definitions.specs.Sheet.{marked}
-use Rattle.definitions.specs.Prop.{Prop}
 use Rattle.definitions.specs.Term.{Label, proposition, datatype, ProofTerm, Ident, Pair, Named, Function, Application, LetIn, Case, TypeAscription, Unit, Sorry}
-use Rattle.proof_term.specs.Records.{recordSize, fieldAt, recordTerm, termAt, partAt}
+use Rattle.proof_term.specs.Records.{recordSize, fieldAt, termAt}
 use Rattle.proof_term.specs.Counting.{ownAnnotations}
 use Rattle.prop.specs.PropAt.{propAt}
 use Rattle.prop.specs.Ends.{Known}
 use Rattle.prop.specs.Printing as printing
-use Rattle.proof_term_display.specs.Format.{Item, fixed, name, part, ofParameter, ofAscription, partField, itemText}
 
 -- Each name of a term is below `names`. The names of its propositions are a matter of their code.
 module _ (names : ℕ) where
@@ -49,29 +45,3 @@ pub record PrintableTerm (records : List ℕ) (n names : ℕ) (code ends pairs t
   pub below : NamesBelow names (termAt (propAt names code) records n)
   pub labels : (m : ℕ) → m ≤ n → PropositionLabel records m → Known names code ends (fieldAt records m 4)
   pub named : (i : ℕ) → i < names → printing.Named pairs text i
-
--- the kind of record n, among those that are known: an unknown one counts as Unit
-pub record KindAt (records : List ℕ) (n kind : ℕ) : Type 0 where
-  pub known : kind < 14
-  pub holds : (props : ℕ → Prop ℕ) → termAt props records n
-      ≡ recordTerm props (partAt props records n) kind (fieldAt records n 1) (fieldAt records n 2) (fieldAt records n 3) (fieldAt records n 4) (fieldAt records n 5)
-  pub labels : (label : ℕ) → ownAnnotations (fieldAt records n 0) label ≡ ownAnnotations kind label
-
--- the label of record n can be printed
-pub record LabelReady (names : ℕ) (code ends records : List ℕ) (n : ℕ) : Type 0 where
-  pub is-datatype : fieldAt records n 3 ≡ 2 → fieldAt records n 4 < names
-  pub is-proposition : (fieldAt records n 3 ≡ 2 → ⊥) → Known names code ends (fieldAt records n 4)
-
-module _ (names : ℕ) (code ends records : List ℕ) (n : ℕ) where
-  -- an item of record n can be printed
-  unfoldable pub ItemReady : Item → Type 0
-  ItemReady (fixed b) = Prim.Unit {0}
-  ItemReady (name i) = fieldAt records n i < names
-  ItemReady (part k) = NamesBelow names (partAt (propAt names code) records n (fieldAt records n (partField k)))
-  ItemReady ofParameter = (fieldAt records n 3 ≡ 0 → ⊥) → LabelReady names code ends records n
-  ItemReady ofAscription = LabelReady names code ends records n
-
--- the text of an item of record n
-abbrev pub recordItem : Style → ℕ → List ℕ → List ℕ → List ℕ → List ℕ → ℕ → Item → List ℕ
-recordItem s names code pairs text records n =
-    itemText s (marked pairs text) (propAt names code) (partAt (propAt names code) records n) (fieldAt records n)

@@ -26,7 +26,8 @@ ghost use Rattle.proof_term.specs.Records.{recordSize, fieldAt, labelOf, parame
 ghost use Rattle.prop.specs.PropAt.{propAt};
 ghost use Rattle.proof_term_display.specs.Brackets.{positions, styles, column, isBracketed};
 ghost use Rattle.proof_term_display.specs.Format.{itemOf, items, formats, part};
-ghost use Rattle.proof_term_display.specs.Printable.{PrintableTerm, KindAt, LabelReady, ItemReady, recordItem};
+ghost use Rattle.proof_term_display.specs.Printable.{PrintableTerm};
+ghost use Rattle.proof_term_display.specs.Item.{KindAt, LabelReady, ItemReady, recordItem};
 
 // How many kinds of records there are.
 const KINDS: usize = 14;
@@ -42,7 +43,7 @@ const BLOCK: usize = 3;
 
 const ASCRIPTION: usize = 4;
 
-// The form of each kind.
+// The form of each kind, in the order of the kinds.
 const FORMS: [usize; 14] = [
     CLOSED,
     CLOSED,
@@ -71,38 +72,33 @@ const ASCRIBED_BY: usize = 3;
 
 const ELSEWHERE: usize = 4;
 
-// Whether a part is bracketed: for each position a plain and a strict row, whose columns are the forms.
+// Whether a part is bracketed, by its position, the style and its form: closed, call, function, block, ascription.
 const BRACKETS: [[[bool; 5]; 2]; 5] = [
-    // the function of an application
     [
-        [false, false, true, false, true],
-        [false, false, true, true, true],
+        [false, false, true, false, true], // the function of an application, plain
+        [false, false, true, true, true], // the function of an application, strict
     ],
-    // its argument
     [
-        [false, true, true, false, true],
-        [false, true, true, false, true],
+        [false, true, true, false, true], // its argument, plain
+        [false, true, true, false, true], // its argument, strict
     ],
-    // the body of a named function
     [
-        [false, true, true, true, true],
-        [false, true, true, true, true],
+        [false, true, true, true, true], // the body of a named function, plain
+        [false, true, true, true, true], // the body of a named function, strict
     ],
-    // the body of an ascription
     [
-        [false, false, true, true, true],
-        [false, false, true, true, true],
+        [false, false, true, true, true], // the body of an ascription, plain
+        [false, false, true, true, true], // the body of an ascription, strict
     ],
-    // any other
     [
-        [false, false, false, false, false],
-        [false, false, false, false, false],
+        [false, false, false, false, false], // elsewhere, plain
+        [false, false, false, false, false], // elsewhere, strict
     ],
 ];
 
-// The text of each kind, up to a full stop. A digit is the name in that number of the record. A, B and C are its parts, D the body
-// of a named function, E that of an ascription, F and G an application's function and argument. L is a parameter's label, if it has
-// one, and M an ascription's.
+// The text of each kind, in the order of the kinds and up to the full stop. A digit stands for the name in that number of the
+// record. A, B and C stand for its parts, D for the body of a named function, E for that of an ascription, F and G for the function
+// and the argument of an application, L for the label of a parameter, if it has one, and M for that of an ascription.
 const FORMATS: [[u8; 32]; 14] = [
     *b"1...............................",
     *b"(A, B)..........................",

@@ -7,7 +7,7 @@ use borrow.Fn.Kinds.{In}
 use borrow.Fn.PlainCycle.{Measures, is, falls, and}
 use Rattle.output.proofs.Writing.{then, same-length}
 use Rattle.proof_term_display.specs.Format.{itemText}
-use Rattle.proof_term_display.specs.Printable.{ItemReady}
+use Rattle.proof_term_display.specs.Item.{ItemReady}
 use Rattle.proof_term_display.proofs.Tables.{part-field-below, part-position-below}
 use Rattle.proof_term_display.proofs.Items.{between, item-name, item-part, item-of-parameter, item-of-ascription, item-fixed}
 use Rattle.proof_term_display.proofs.Progress.{Underway, start, ends-here, ends-past, item-ready, goes-on}
