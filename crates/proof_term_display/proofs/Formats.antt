@@ -7,7 +7,7 @@ use Rattle.definitions.specs.declared.Style.{Style}
 use Rattle.definitions.specs.Name.{Name}
 use Rattle.definitions.specs.Prop.{Prop}
 use Rattle.definitions.specs.Term.{ProofTerm, Unit, renameTerm, renameLabel, renameParameterLabel}
-use Rattle.definitions.specs.Display.{wrap, wraps, form, functionText, displayLabel, displayParameterLabel, displayTerm}
+use Rattle.definitions.specs.Display.{wrap, wraps, functionText, displayParameterLabel, displayTerm}
 use Rattle.proof_term.specs.Records.{leaf, formTerm, forms, recordTerm}
 use Rattle.proof_term_display.specs.Brackets.{isBracketed}
 use Rattle.proof_term_display.specs.Format.{Item, itemOf, items, formats, partText, itemText}

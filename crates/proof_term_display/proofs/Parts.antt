@@ -1,5 +1,5 @@
 -- A part is an earlier record's term, in brackets where its position asks for them, or Unit, which never has them.
-use Prim.Native.Nat.{ℕ, _+_, _*_, _≤_, _<_}
+use Prim.Native.Nat.{ℕ, _≤_, _<_}
 use mathlib.Core.Path.{_≡_, refl, sym, ap, _∙_}
 use mathlib.Core.Bool.{true, false}
 use mathlib.Core.Option.{Option, none, some}
@@ -10,9 +10,9 @@ use Rattle.definitions.specs.declared.Style.{Style}
 use Rattle.definitions.specs.Utf8.{utf8}
 use Rattle.definitions.specs.Name.{Name}
 use Rattle.definitions.specs.Sheet.{marked}
-use Rattle.definitions.specs.Term.{ProofTerm, Unit, renameTerm}
+use Rattle.definitions.specs.Term.{ProofTerm, renameTerm}
 use Rattle.definitions.specs.Display.{wrap, form, closed, Position, functionOf, argumentOf, bodyOf, ascribedBy, bracketsOf, brackets, bracketed, displayTerm}
-use Rattle.proof_term.specs.Records.{fieldAt, termAt, partAt}
+use Rattle.proof_term.specs.Records.{fieldAt, termAt}
 use Rattle.proof_term.proofs.Records.{part-below, part-else}
 use Rattle.prop.specs.PropAt.{propAt}
 use Rattle.proof_term_display.specs.Brackets.{positions, isBracketed}

@@ -20,6 +20,7 @@ use Rattle.proof_term_display.proofs.Items.{items-next, items-end, item
 use Rattle.proof_term_display.proofs.Formats.{rendered, format-text}
 use Rattle.proof_term_display.proofs.Ready.{Ready, ready-next, ready}
 
+-- of `whole`, which is written from `to` on, all is done but what is left
 pub record Begun (whole : List ℕ) (write : Bool) (before : List ℕ) (to : ℕ) (after : List ℕ) (at : ℕ) (left : List ℕ) : Type 0 where
   pub done : List ℕ
   pub wrote : Wrote done write before to after at

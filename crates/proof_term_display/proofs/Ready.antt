@@ -1,5 +1,5 @@
 -- What it takes to print a record's term is what it takes to print each item of the record's format.
-use Prim.Native.Nat.{ℕ, zero, suc, _≤_, _<_}
+use Prim.Native.Nat.{ℕ, zero, suc, _<_}
 use mathlib.Core.Path.{_≡_, refl, _∙_}
 use mathlib.Core.Logic.{by-cases}
 use mathlib.Core.List.{List, [], _∷_}
@@ -61,6 +61,13 @@ module _ (names : ℕ) (code ends records : List ℕ) (n : ℕ) where
   label-ready : LabelBelow names (labelOf (propAt names code) (fieldAt records n 3) (fieldAt records n 4)) → LabelKnown → LabelReady names code ends records n
   label-ready h known = record { is-datatype = datatype-below names (propAt names code) _ _ h; is-proposition = known }
 
+  parameter-ready :
+      ParameterLabelBelow names (parameterLabel (propAt names code) (fieldAt records n 3) (fieldAt records n 4)) →
+      (ownAnnotations 4 (fieldAt records n 3) ≡ 1 → LabelKnown) → ItemReady names code ends records n ofParameter
+  unfolding ownAnnotations ItemReady
+  parameter-ready h label some =
+      label-ready (label-below names (propAt names code) _ _ h some) (label (rw (ne-eqb (fieldAt records n 3) 0 some)))
+
   -- the items of a kind's format can be printed where the names of the kind's term are below `names` and its label, if it has one, is known
   abbrev FormatReady : ℕ → Type 0
   FormatReady kind =
@@ -68,6 +75,7 @@ module _ (names : ℕ) (code ends records : List ℕ) (n : ℕ) where
       (fieldAt records n 1) (fieldAt records n 2) (fieldAt records n 3) (fieldAt records n 4) (fieldAt records n 5)) →
       (ownAnnotations kind (fieldAt records n 3) ≡ 1 → LabelKnown) → Ready (getD formats kind [])
 
+  -- in the order of the kinds
   formats-ready : Every FormatReady 14
   unfolding ownAnnotations NamesBelow itemOf items formats Ready ItemReady
   formats-ready =
@@ -76,7 +84,7 @@ module _ (names : ℕ) (code ends records : List ℕ) (n : ℕ) where
       also (λ h label. (h .0, (h .1, tt)))
       also (λ h label. (h, tt))
       also (λ h label. (h, tt))
-      also (λ h label. (h .0, (λ some. label-ready (label-below names (propAt names code) _ _ (h .1) some) (label (rw (ne-eqb (fieldAt records n 3) 0 some))), (h .2, tt))))
+      also (λ h label. (h .0, (parameter-ready (h .1) label, (h .2, tt))))
       also (λ h label. (h .0, (h .1, tt)))
       also (λ h label. (h .0, (h .1, (h .2, (h .3, tt)))))
       also (λ h label. (h, tt))

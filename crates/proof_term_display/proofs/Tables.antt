@@ -12,7 +12,7 @@ use Rattle.definitions.specs.Name.{Name}
 use Rattle.definitions.specs.Prop.{Prop}
 use Rattle.definitions.specs.Term.{ProofTerm, Unit, renameTerm}
 use Rattle.definitions.specs.Display.{Form, closed, call, function, block, ascription, form}
-use Rattle.proof_term.specs.Records.{recordSize, fieldAt, leaf, formTerm, forms, recordTerm, termAt, partAt}
+use Rattle.proof_term.specs.Records.{recordSize, fieldAt, leaf, formTerm, forms, recordTerm}
 use Rattle.proof_term.specs.Counting.{ownCounts, ownAnnotations}
 use Rattle.proof_term.proofs.Records.{termAt-kind}
 use Rattle.proof_term_display.specs.Brackets.{positions, styles, columns, column, isBracketed}

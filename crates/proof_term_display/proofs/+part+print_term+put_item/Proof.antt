@@ -118,7 +118,9 @@ module _ (t : ℕ) where
   part-array-read-field c = c .before .before .before .before .before .before .pre .1 .0
 
   part-field-requires : part-lts.Need-field-requires part-claims part-at part.Post
-  part-field-requires c κs = (c .before .before .before .before .before .before .pre .1 .1 .0 .held, part-field-below (c .before .before .before .before .before .before .args .k))
+  part-field-requires c κs =
+      let start = c .before .before .before .before .before .before in
+      (start .pre .1 .1 .0 .held, part-field-below (start .args .k))
 
   part-slice-aggregate-put-all : part-lts.Need-slice-aggregate-put-all part-claims part-at part.Post
   part-slice-aggregate-put-all c = refl
@@ -139,13 +141,19 @@ module _ (t : ℕ) where
   part-array-read-is-bracketed c = c .before .before .before .before .before .before .before .before .pre .1 .0
 
   part-is-bracketed-requires : part-lts.Need-is-bracketed-requires part-claims part-at part.Post
-  part-is-bracketed-requires c κs = (omega (arith, c .before .before .before .before .before .before .before .before .pre .1 .1 .0 .held), part-position-below (c .before .before .before .before .before .before .before .before .args .k))
+  part-is-bracketed-requires c κs =
+      let start = c .before .before .before .before .before .before .before .before in
+      (omega (arith, start .pre .1 .1 .0 .held), part-position-below (start .args .k))
 
   part-put-requires : part-lts.Need-put-requires part-claims part-at part.Post
   part-put-requires c κs = tt
 
   part-print-term-requires : part-lts.Need-print-term-requires part-claims part-at part.Post
-  part-print-term-requires c κs = (omega arith, printable-part (c .before .before .before .before .before .before .before .before .before .before .before .before .before .before .before .args .k) _ (c .before .before .before .before .before .before .before .before .field .ensures .0) (c .before .before .before .before .before .before .before .if1 .left) (c .before .before .before .before .before .before .before .before .before .before .before .before .before .before .before .pre .1 .1 .0) (c .before .before .before .before .before .before .before .before .before .before .before .before .before .before .before .pre .1 .1 .1))
+  part-print-term-requires c κs =
+      let start = c .before .before .before .before .before .before .before .before .before .before .before .before .before .before .before in (
+        omega arith,
+        printable-part (start .args .k) _ (c .before .before .before .before .before .before .before .before .field .ensures .0) (c .before .before .before .before .before .before .before .if1 .left) (start .pre .1 .1 .0) (start .pre .1 .1 .1),
+      )
 
   part-put-requires-2 : part-lts.Need-put-requires-2 part-claims part-at part.Post
   part-put-requires-2 c κs = tt
@@ -159,7 +167,11 @@ module _ (t : ℕ) where
   part-same-length-2 c = same-length (part-returns-2 c)
 
   part-print-term-requires-2 : part-lts.Need-print-term-requires-2 part-claims part-at part.Post
-  part-print-term-requires-2 c κs = (omega arith, printable-part (c .before .before .before .before .before .before .before .before .before .before .before .args .k) _ (c .before .before .before .before .field .ensures .0) (c .before .before .before .if1 .left) (c .before .before .before .before .before .before .before .before .before .before .before .pre .1 .1 .0) (c .before .before .before .before .before .before .before .before .before .before .before .pre .1 .1 .1))
+  part-print-term-requires-2 c κs =
+      let start = c .before .before .before .before .before .before .before .before .before .before .before in (
+        omega arith,
+        printable-part (start .args .k) _ (c .before .before .before .before .field .ensures .0) (c .before .before .before .if1 .left) (start .pre .1 .1 .0) (start .pre .1 .1 .1),
+      )
 
   part-returns-3 : part-lts.Need-returns-3 part-claims part-at part.Post
   part-returns-3 c =
@@ -173,24 +185,38 @@ module _ (t : ℕ) where
   put-item-is-between-requires c κs = tt
 
   put-item-sub-field : put-item-lts.Need-sub-field put-item-claims put-item-at put-item.Post
-  put-item-sub-field c = omega (arith, between 49 (c .before .before .before .before .before .before .before .before .args .b) 53 (sym (c .before .is-between .ensures) ∙ c .if1 .taken))
+  put-item-sub-field c =
+      let start = c .before .before .before .before .before .before .before .before in
+      let is-name = sym (c .before .is-between .ensures) ∙ c .if1 .taken in
+      omega (arith, between 49 (start .args .b) 53 is-name)
 
   put-item-cast-field : put-item-lts.Need-cast-field put-item-claims put-item-at put-item.Post
-  put-item-cast-field c = omega (arith, between 49 (c .before .before .before .before .before .before .before .before .args .b) 53 (sym (c .before .is-between .ensures) ∙ c .if1 .taken))
+  put-item-cast-field c =
+      let start = c .before .before .before .before .before .before .before .before in
+      let is-name = sym (c .before .is-between .ensures) ∙ c .if1 .taken in
+      omega (arith, between 49 (start .args .b) 53 is-name)
 
   put-item-field-requires : put-item-lts.Need-field-requires put-item-claims put-item-at put-item.Post
-  put-item-field-requires c κs = (c .before .before .before .before .before .before .before .before .pre .1 .0 .held, omega (arith, between 49 (c .before .before .before .before .before .before .before .before .args .b) 53 (sym (c .before .is-between .ensures) ∙ c .if1 .taken)))
+  put-item-field-requires c κs =
+      let start = c .before .before .before .before .before .before .before .before in
+      let is-name = sym (c .before .is-between .ensures) ∙ c .if1 .taken in
+      (start .pre .1 .0 .held, omega (arith, between 49 (start .args .b) 53 is-name))
 
   put-item-put-name-requires : put-item-lts.Need-put-name-requires put-item-claims put-item-at put-item.Post
   unfolding ItemReady
   put-item-put-name-requires c κs =
-      let below : c .before .field .result < c .before .before .before .before .before .before .before .before .before .before .args .names = rw (c .before .field .ensures .0) (rw (item-name _ (sym (c .before .before .before .is-between .ensures) ∙ c .before .before .if1 .taken)) at (c .before .before .before .before .before .before .before .before .before .before .pre .1 .1)) in
-      let named = c .before .before .before .before .before .before .before .before .before .before .pre .1 .0 .named _ below in
+      let start = c .before .before .before .before .before .before .before .before .before .before in
+      let is-name = sym (c .before .before .before .is-between .ensures) ∙ c .before .before .if1 .taken in
+      let below : c .before .field .result < start .args .names =
+      rw (c .before .field .ensures .0) (rw (item-name (start .args .b) is-name) at (start .pre .1 .1)) in
+      let named = start .pre .1 .0 .named _ below in
       (named .there, named .within)
 
   put-item-returns : put-item-lts.Need-returns put-item-claims put-item-at put-item.Post
   unfolding itemText
-  put-item-returns c = rw (item-name _ (sym (c .before .before .before .before .before .before .is-between .ensures) ∙ c .before .before .before .before .before .if1 .taken), ← c .before .before .before .before .field .ensures .0) (c .before .before .put-name .ensures)
+  put-item-returns c =
+      let is-name = sym (c .before .before .before .before .before .before .is-between .ensures) ∙ c .before .before .before .before .before .if1 .taken in
+      rw (item-name _ is-name, ← c .before .before .before .before .field .ensures .0) (c .before .before .put-name .ensures)
 
   put-item-same-length : put-item-lts.Need-same-length put-item-claims put-item-at put-item.Post
   put-item-same-length c = same-length (put-item-returns c)
@@ -199,24 +225,43 @@ module _ (t : ℕ) where
   put-item-is-between-requires-2 c κs = tt
 
   put-item-sub-k : put-item-lts.Need-sub-k put-item-claims put-item-at put-item.Post
-  put-item-sub-k c = omega (arith, between 65 (c .before .before .before .before .before .before .before .before .before .before .args .b) 71 (sym (c .before .is-between2 .ensures) ∙ c .if2 .taken))
+  put-item-sub-k c =
+      let start = c .before .before .before .before .before .before .before .before .before .before in
+      let is-part = sym (c .before .is-between2 .ensures) ∙ c .if2 .taken in
+      omega (arith, between 65 (start .args .b) 71 is-part)
 
   put-item-cast-k : put-item-lts.Need-cast-k put-item-claims put-item-at put-item.Post
-  put-item-cast-k c = omega (arith, between 65 (c .before .before .before .before .before .before .before .before .before .before .args .b) 71 (sym (c .before .is-between2 .ensures) ∙ c .if2 .taken))
+  put-item-cast-k c =
+      let start = c .before .before .before .before .before .before .before .before .before .before in
+      let is-part = sym (c .before .is-between2 .ensures) ∙ c .if2 .taken in
+      omega (arith, between 65 (start .args .b) 71 is-part)
 
   put-item-part-requires : put-item-lts.Need-part-requires put-item-claims put-item-at put-item.Post
   put-item-part-requires c κs =
-      (omega arith, (omega (arith, between 65 (c .before .before .before .before .before .before .before .before .before .before .before .args .b) 71 (sym (c .before .before .is-between2 .ensures) ∙ c .before .if2 .taken)), (c .before .before .before .before .before .before .before .before .before .before .before .pre .1 .0, rw (item-part _ (sym (c .before .before .before .before .is-between .ensures) ∙ c .before .before .before .if1 .left) (sym (c .before .before .is-between2 .ensures) ∙ c .before .if2 .taken)) at (c .before .before .before .before .before .before .before .before .before .before .before .pre .1 .1))))
+      let start = c .before .before .before .before .before .before .before .before .before .before .before in
+      let no-name = sym (c .before .before .before .before .is-between .ensures) ∙ c .before .before .before .if1 .left in
+      let is-part = sym (c .before .before .is-between2 .ensures) ∙ c .before .if2 .taken in (
+        omega arith,
+        (
+          omega (arith, between 65 (start .args .b) 71 is-part),
+          (start .pre .1 .0, rw (item-part (start .args .b) no-name is-part) at (start .pre .1 .1)),
+        ),
+      )
 
   put-item-returns-2 : put-item-lts.Need-returns-2 put-item-claims put-item-at put-item.Post
-  put-item-returns-2 c = rw (item-part _ (sym (c .before .before .before .before .before .before .before .is-between .ensures) ∙ c .before .before .before .before .before .before .if1 .left) (sym (c .before .before .before .before .before .is-between2 .ensures) ∙ c .before .before .before .before .if2 .taken)) (c .before .before .part .ensures)
+  put-item-returns-2 c =
+      let no-name = sym (c .before .before .before .before .before .before .before .is-between .ensures) ∙ c .before .before .before .before .before .before .if1 .left in
+      let is-part = sym (c .before .before .before .before .before .is-between2 .ensures) ∙ c .before .before .before .before .if2 .taken in
+      rw (item-part _ no-name is-part) (c .before .before .part .ensures)
 
   put-item-same-length-2 : put-item-lts.Need-same-length-2 put-item-claims put-item-at put-item.Post
   put-item-same-length-2 c = same-length (put-item-returns-2 c)
 
   put-item-put-parameter-label-requires : put-item-lts.Need-put-parameter-label-requires put-item-claims put-item-at put-item.Post
   unfolding ItemReady
-  put-item-put-parameter-label-requires c κs = (c .before .before .before .before .before .before .before .before .before .before .before .before .pre .1 .0, rw (item-of-parameter _ (c .before .if3 .taken)) at (c .before .before .before .before .before .before .before .before .before .before .before .before .pre .1 .1))
+  put-item-put-parameter-label-requires c κs =
+      let start = c .before .before .before .before .before .before .before .before .before .before .before .before in
+      (start .pre .1 .0, rw (item-of-parameter (start .args .b) (c .before .if3 .taken)) at (start .pre .1 .1))
 
   put-item-returns-3 : put-item-lts.Need-returns-3 put-item-claims put-item-at put-item.Post
   unfolding itemText
@@ -227,7 +272,9 @@ module _ (t : ℕ) where
 
   put-item-put-label-requires : put-item-lts.Need-put-label-requires put-item-claims put-item-at put-item.Post
   unfolding ItemReady
-  put-item-put-label-requires c κs = (c .before .before .before .before .before .before .before .before .before .before .before .before .before .pre .1 .0, rw (item-of-ascription _ (c .before .if4 .taken)) at (c .before .before .before .before .before .before .before .before .before .before .before .before .before .pre .1 .1))
+  put-item-put-label-requires c κs =
+      let start = c .before .before .before .before .before .before .before .before .before .before .before .before .before in
+      (start .pre .1 .0, rw (item-of-ascription (start .args .b) (c .before .if4 .taken)) at (start .pre .1 .1))
 
   put-item-returns-4 : put-item-lts.Need-returns-4 put-item-claims put-item-at put-item.Post
   unfolding itemText
@@ -241,7 +288,11 @@ module _ (t : ℕ) where
 
   put-item-returns-5 : put-item-lts.Need-returns-5 put-item-claims put-item-at put-item.Post
   unfolding itemText
-  put-item-returns-5 c = rw (item-fixed _ (sym (c .before .before .before .before .before .before .before .before .before .is-between .ensures) ∙ c .before .before .before .before .before .before .before .before .if1 .left) (sym (c .before .before .before .before .before .before .before .is-between2 .ensures) ∙ c .before .before .before .before .before .before .if2 .left) (c .before .before .before .before .before .if3 .left) (c .before .before .before .before .if4 .left)) (c .before .before .put .ensures)
+  put-item-returns-5 c =
+      let no-name = sym (c .before .before .before .before .before .before .before .before .before .is-between .ensures) ∙ c .before .before .before .before .before .before .before .before .if1 .left in
+      let no-part = sym (c .before .before .before .before .before .before .before .is-between2 .ensures) ∙ c .before .before .before .before .before .before .if2 .left in
+      let no-label = c .before .before .before .before .before .if3 .left in
+      rw (item-fixed _ no-name no-part no-label (c .before .before .before .before .if4 .left)) (c .before .before .put .ensures)
 
   put-item-same-length-5 : put-item-lts.Need-same-length-5 put-item-claims put-item-at put-item.Post
   put-item-same-length-5 c = same-length (put-item-returns-5 c)
@@ -253,7 +304,8 @@ module _ (t : ℕ) where
   print-term-format-of-requires c κs = c .kind-at .ensures .known
 
   print-term-loop-holds : print-term-lts.Need-loop-holds print-term-claims print-term-at print-term.Post Inv-loop μ-loop
-  print-term-loop-holds c = start _ _ _ _ _ _ _ _ (c .before .before .before .before .before .before .before .before .pre .1) (c .before .kind-at .ensures) (c .format-of .ensures .0) (c .format-of .ensures .1)
+  print-term-loop-holds c =
+      start _ _ _ _ _ _ _ _ (c .before .before .before .before .before .before .before .before .pre .1) (c .before .kind-at .ensures) (c .format-of .ensures .0) (c .format-of .ensures .1)
 
   print-term-array-read-b : print-term-lts.Need-array-read-b print-term-claims print-term-at print-term.Post Inv-loop μ-loop
   print-term-array-read-b c = c .loop-test .taken
@@ -265,7 +317,10 @@ module _ (t : ℕ) where
   print-term-same-length c = same-length (print-term-returns c)
 
   print-term-put-item-requires : print-term-lts.Need-put-item-requires print-term-claims print-term-at print-term.Post Inv-loop μ-loop
-  print-term-put-item-requires c κs = (omega arith, (c .before .before .before .before .before .before .before .before .before .before .before .before .pre .1, item-ready _ _ _ _ _ _ _ _ (c .before .before .before .loop .inv) (c .before .before .loop-test .taken) (c .before .if1 .left)))
+  print-term-put-item-requires c κs = (
+    omega arith,
+    (c .before .before .before .before .before .before .before .before .before .before .before .before .pre .1, item-ready _ _ _ _ _ _ _ _ (c .before .before .before .loop .inv) (c .before .before .loop-test .taken) (c .before .if1 .left)),
+  )
 
   print-term-add-i : print-term-lts.Need-add-i print-term-claims print-term-at print-term.Post Inv-loop μ-loop
   print-term-add-i c = omega arith
@@ -274,7 +329,9 @@ module _ (t : ℕ) where
   print-term-loop-less c = omega arith
 
   print-term-loop-again : print-term-lts.Need-loop-again print-term-claims print-term-at print-term.Post Inv-loop μ-loop
-  print-term-loop-again c = goes-on _ _ _ _ _ _ _ _ (c .before .before .before .before .before .before .loop .inv) (c .before .before .before .before .before .loop-test .taken) (c .before .before .before .before .if1 .left) (c .before .before .put-item .ensures)
+  print-term-loop-again c =
+      goes-on _ _ _ _ _ _ _ _ (c .before .before .before .before .before .before .loop .inv) (c .before .before .before .before .before .loop-test .taken) (c .before .before .before .before .if1 .left)
+      (c .before .before .put-item .ensures)
 
   print-term-returns-2 : print-term-lts.Need-returns-2 print-term-claims print-term-at print-term.Post Inv-loop μ-loop
   print-term-returns-2 c = ends-past _ _ _ _ _ _ _ _ (c .before .loop .inv) (c .loop-test .left)

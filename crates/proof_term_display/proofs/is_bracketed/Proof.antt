@@ -1,6 +1,5 @@
 -- The table of brackets has what the rule gives, in the row of the position and the style and the column of the record's form.
-use Prim.Native.Nat.{ℕ}
-use mathlib.Core.Path.{_≡_, sym, ap, _∙_}
+use mathlib.Core.Path.{sym, ap, _∙_}
 use mathlib.Core.List.{[]}
 use borrow.Author.Needs.{needs}
 use Rattle.definitions.specs.Prop.{False}

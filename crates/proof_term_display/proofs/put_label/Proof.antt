@@ -14,9 +14,10 @@ field-requires-2 c κs = search needs
 
 put-name-requires : tie.Need-put-name-requires
 put-name-requires c κs =
-    let below : c .before .before .before .field .result < c .before .before .before .before .before .before .before .before .before .before .args .names =
-    rw (c .before .before .before .field .ensures .0) (c .before .before .before .before .before .before .before .before .before .before .pre .1 .is-datatype (sym (c .before .before .field2 .ensures .0) ∙ c .before .if1 .taken)) in
-    let named = c .before .before .before .before .before .before .before .before .before .before .pre .0 .named _ below in
+    let start = c .before .before .before .before .before .before .before .before .before .before in
+    let is-datatype = sym (c .before .before .field2 .ensures .0) ∙ c .before .if1 .taken in
+    let below : c .before .before .before .field .result < start .args .names = rw (c .before .before .before .field .ensures .0) (start .pre .1 .is-datatype is-datatype) in
+    let named = start .pre .0 .named _ below in
     (named .there, named .within)
 
 same-length : tie.Need-same-length
@@ -24,13 +25,15 @@ same-length c = search needs
 
 returns : tie.Need-returns
 returns c =
-    rw (← datatype-text _ _ _ _ (sym (c .before .before .before .before .before .field2 .ensures .0) ∙ c .before .before .before .before .if1 .taken), ← c .before .before .before .before .before .before .field .ensures .0) (c .before .before .put-name .ensures)
+    let is-datatype = sym (c .before .before .before .before .before .field2 .ensures .0) ∙ c .before .before .before .before .if1 .taken in
+    rw (← datatype-text _ _ _ _ is-datatype, ← c .before .before .before .before .before .before .field .ensures .0) (c .before .before .put-name .ensures)
 
 print-requires : tie.Need-print-requires
 print-requires c κs =
+    let start = c .before .before .before .before .before .before .before .before .before .before in
     record {
-      known = rw (c .before .before .before .field .ensures .0) (c .before .before .before .before .before .before .before .before .before .before .pre .1 .is-proposition (λ e. c .before .if1 .left (c .before .before .field2 .ensures .0 ∙ e)));
-      named = c .before .before .before .before .before .before .before .before .before .before .pre .0 .named;
+      known = rw (c .before .before .before .field .ensures .0) (start .pre .1 .is-proposition (λ e. c .before .if1 .left (c .before .before .field2 .ensures .0 ∙ e)));
+      named = start .pre .0 .named;
     }
 
 same-length-2 : tie.Need-same-length-2
@@ -38,7 +41,8 @@ same-length-2 c = search needs
 
 returns-2 : tie.Need-returns-2
 returns-2 c =
-    rw (← proposition-text _ _ _ _ (λ e. c .before .before .before .before .if1 .left (c .before .before .before .before .before .field2 .ensures .0 ∙ e)), ← c .before .before .before .before .before .before .field .ensures .0) (c .before .before .print .ensures)
+    rw (← proposition-text _ _ _ _ (λ e. c .before .before .before .before .if1 .left (c .before .before .before .before .before .field2 .ensures .0 ∙ e)), ← c .before .before .before .before .before .before .field .ensures .0)
+    (c .before .before .print .ensures)
 
 pub put-label-spec : {M : Type 1} → statement M
 put-label-spec =

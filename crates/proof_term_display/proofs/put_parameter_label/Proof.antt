@@ -19,14 +19,17 @@ put-all-requires : tie.Need-put-all-requires
 put-all-requires c κs = search needs
 
 put-label-requires : tie.Need-put-label-requires
-put-label-requires c κs = (c .before .before .before .before .before .before .before .before .before .before .before .before .before .before .pre .0, c .before .before .before .before .before .before .before .before .before .before .before .before .before .before .pre .1 (λ e. c .before .before .before .before .before .before .if1 .left (c .before .before .before .before .before .before .before .field .ensures .0 ∙ e)))
+put-label-requires c κs =
+    let start = c .before .before .before .before .before .before .before .before .before .before .before .before .before .before in
+    (start .pre .0, start .pre .1 (λ e. c .before .before .before .before .before .before .if1 .left (c .before .before .before .before .before .before .before .field .ensures .0 ∙ e)))
 
 same-length : tie.Need-same-length
 same-length c = search needs
 
 returns-2 : tie.Need-returns-2
 returns-2 c =
-    rw (← label-text _ _ _ _ (λ e. c .before .before .before .before .before .before .before .before .before .if1 .left (c .before .before .before .before .before .before .before .before .before .before .field .ensures .0 ∙ e))) (then (c .before .before .before .before .before .before .put-all .ensures) (c .before .before .put-label .ensures))
+    rw (← label-text _ _ _ _ (λ e. c .before .before .before .before .before .before .before .before .before .if1 .left (c .before .before .before .before .before .before .before .before .before .before .field .ensures .0 ∙ e)))
+    (then (c .before .before .before .before .before .before .put-all .ensures) (c .before .before .put-label .ensures))
 
 pub put-parameter-label-spec : {M : Type 1} → statement M
 put-parameter-label-spec =
