@@ -1,0 +1,1 @@
+// The label count of a sheet.
