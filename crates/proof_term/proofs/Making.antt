@@ -1,0 +1,115 @@
+-- What is made by six numbers stored as a record, whatever its kind; and how what is kept adds up over several records.
+use Prim.Native.Nat.{ℕ, zero, suc, _+_, _*_, _≤_, _<_}
+use mathlib.Core.Path.{_≡_, refl, sym, ap, _∙_}
+use mathlib.Core.List.{List, [], _∷_, _++_, append-assoc}
+use native.Mathlib.Omega.{arith}
+use native.Mathlib.Nat.{add-zero}
+use native.Mathlib.Numerals.{towards-suc}
+use lib.ListN.{length, getD, set, take, drop, length-append, List·getD-append, List·getD-map}
+use lib.Seq.{sets, sets-eq, length-take-le, take-at, drop-at, take-take, getD-append-add}
+use Rattle.definitions.specs.Prop.{Prop}
+use Rattle.definitions.specs.Term.{ProofTerm, Unit}
+use Rattle.proof_term.specs.Records.{recordSize, Form, leaf, unary, binary, ternary, formTerm, forms, recordTerm, recordTermAt, termAt, partAt}
+use Rattle.proof_term.specs.Making.{partCount, Each, Pushed, Kept, Made}
+use Rattle.proof_term.proofs.Records.{frame-below, parts-same, part-below, termAt-is}
+
+-- six stores in a row
+pub pushed :
+    (kind a b c d e : ℕ) (before : List ℕ) (used : ℕ) →
+    Pushed kind a b c d e before used
+    (set (set (set (set (set (set before (recordSize * used) kind) (recordSize * used + 1) a) (recordSize * used + 2) b) (recordSize * used + 3) c) (recordSize * used + 4) d) (recordSize * used + 5) e)
+    (used + 1)
+pushed kind a b c d e before used = record { stored = simp towards-suc; counted = refl }
+
+-- memory that keeps its first numbers keeps the terms of the records that they make up
+pub kept : (used : ℕ) (before after : List ℕ) → take (recordSize * used) after ≡ take (recordSize * used) before → Kept used before after
+kept used before after e = record { numbers = e; terms = λ props. frame-below props after before used e }
+
+pub kept-same : (used : ℕ) (before : List ℕ) → Kept used before before
+kept-same used before = kept used before before refl
+
+-- what is kept twice is kept, as far as the first goes
+pub kept-then : {used next : ℕ} {before mid after : List ℕ} → used ≤ next → Kept used before mid → Kept next mid after → Kept used before after
+kept-then {used} {next} {before} {mid} {after} h p q =
+    kept used before after
+    (sym (take-take (recordSize * used) (recordSize * next) after (omega arith))
+    ∙ (ap (take (recordSize * used)) (q .numbers) ∙ (take-take (recordSize * used) (recordSize * next) mid (omega arith) ∙ p .numbers)))
+
+abbrev arity : Form → ℕ
+arity (leaf t) = 0
+arity (unary f) = 1
+arity (binary f) = 2
+arity (ternary f) = 3
+
+-- the parts that a kind counts are those of its form
+part-count : (props : ℕ → Prop ℕ) (kind a b c d e : ℕ) → partCount kind ≡ arity (getD (forms props a b c d e) kind (leaf Unit))
+part-count props kind a b c d e = List·getD-map arity (forms props a b c d e) kind (leaf Unit)
+
+-- a form looks at the terms of its own parts alone
+form-same :
+    (used : ℕ) (f g : ℕ → ProofTerm ℕ) → ((part : ℕ) → part < used → f part ≡ g part) →
+    (form : Form) (a b c : ℕ) → Each (λ part. part < used) (arity form) a b c → formTerm f form a b c ≡ formTerm g form a b c
+form-same used f g same (leaf t) a b c h = refl
+form-same used f g same (unary t) a b c h = ap t (same a h)
+form-same used f g same (binary t) a b c h = cc (same a (h .0), same b (h .1))
+form-same used f g same (ternary t) a b c h = cc (same a (h .0), same b (h .1), same c (h .2))
+
+-- What is stored within a memory: it stands there, and nothing before or after it changes.
+module _ (l vs : List ℕ) (i : ℕ) (fits : i + length vs ≤ length l) where
+  front : length (take i l) ≡ i
+  front = length-take-le i l (omega arith)
+
+  stored-below : take i (sets l i vs) ≡ take i l
+  stored-below = rw (sets-eq vs l i fits, append-assoc) (take-at (take i l) _ i front)
+
+  stored-number : (j : ℕ) → j < length vs → getD (sets l i vs) (i + j) 0 ≡ getD vs j 0
+  stored-number j h =
+      let within : i + j < length (take i l ++ vs) = rw (length-append, front) (omega arith) in
+      rw (sets-eq vs l i fits, List·getD-append (take i l ++ vs) (drop (i + length vs) l) 0 (i + j) within)
+      (rw front at (getD-append-add (take i l) vs j 0))
+
+  stored-beyond : drop (i + length vs) (sets l i vs) ≡ drop (i + length vs) l
+  stored-beyond = rw (sets-eq vs l i fits) (drop-at (take i l ++ vs) _ (i + length vs) (rw (length-append, front)))
+
+module _
+    {kind a b c d e used next : ℕ}
+    {before after : List ℕ}
+    (room : recordSize * (used + 1) ≤ length before)
+    (p : Pushed kind a b c d e before used after next)
+  where
+    below : take (recordSize * used) after ≡ take (recordSize * used) before
+    below = rw (p .stored) (stored-below before (kind ∷ a ∷ b ∷ c ∷ d ∷ e ∷ []) (recordSize * used) (omega arith))
+
+    beyond : drop (recordSize * (used + 1)) after ≡ drop (recordSize * (used + 1)) before
+    beyond =
+        let end : recordSize * used + 6 ≡ recordSize * (used + 1) = omega arith in
+        rw (p .stored) (rw end at (stored-beyond before (kind ∷ a ∷ b ∷ c ∷ d ∷ e ∷ []) (recordSize * used) (omega arith)))
+
+    number : (i : ℕ) → i < 6 → getD after (recordSize * used + i) 0 ≡ getD (kind ∷ a ∷ b ∷ c ∷ d ∷ e ∷ []) i 0
+    number i h = rw (p .stored) (stored-number before (kind ∷ a ∷ b ∷ c ∷ d ∷ e ∷ []) (recordSize * used) (omega arith) i h)
+
+    -- the term of the record that was stored, over the terms of its parts
+    formed : (props : ℕ → Prop ℕ) (part : ℕ → ProofTerm ℕ) → recordTermAt props part after (recordSize * used) ≡ recordTerm props part kind a b c d e
+    unfolding recordTermAt
+    formed props part = cc (
+      add-zero (recordSize * used),
+      number 0 (omega arith),
+      number 1 (omega arith),
+      number 2 (omega arith),
+      number 3 (omega arith),
+      number 4 (omega arith),
+      number 5 (omega arith),
+    )
+
+    -- the law of every maker: the record holds the term of its kind, over the terms that its parts had before
+    pub made : Each (λ part. part < used) (partCount kind) a b c → Made (λ props part. recordTerm props part kind a b c d e) before used after next
+    made h = record {
+      holds = λ props.
+          termAt-is props after used
+          ∙ (formed props _
+          ∙ (ap (λ part. recordTerm props part kind a b c d e) (parts-same props after before used below)
+          ∙ form-same used (partAt props before used) (termAt props before) (part-below props before used) (getD (forms props a b c d e) kind (leaf Unit)) a b c (rw (part-count props kind a b c d e) at h)));
+      kept = kept used before after below;
+      beyond = beyond;
+      counted = p .counted;
+    }

@@ -1,0 +1,43 @@
+-- What it is to make a record in lent memory: what becomes of every number, and the term that the record holds.
+use Prim.Native.Nat.{ℕ, zero, suc, _+_, _*_, _≤_, _<_}
+use mathlib.Core.Path.{_≡_}
+use mathlib.Core.List.{List, [], _∷_}
+use lib.ListN.{length, take, drop, getD}
+use lib.Seq.{sets}
+use Rattle.definitions.specs.Prop.{Prop}
+use Rattle.definitions.specs.Term.{ProofTerm}
+use Rattle.proof_term.specs.Records.{recordSize, termAt}
+
+-- there is room for record `used`, and the numbers of its parts fit a u16
+pub record Room (records : List ℕ) (used : ℕ) : Type 0 where
+  pub room : recordSize * (used + 1) ≤ length records
+  pub few : used ≤ 65536
+
+-- how many of a record's numbers a, b and c are parts, by its kind
+abbrev pub partCount : ℕ → ℕ
+partCount kind = getD (0 ∷ 2 ∷ 1 ∷ 1 ∷ 1 ∷ 2 ∷ 2 ∷ 1 ∷ 1 ∷ 3 ∷ 1 ∷ 1 ∷ 0 ∷ 0 ∷ []) kind 0
+
+-- each of the first ones, as many as the count says, has the property
+abbrev pub Each : (ℕ → Type 0) → ℕ → ℕ → ℕ → ℕ → Type 0
+Each P zero a b c = Unit {0}
+Each P (suc zero) a b c = P a
+Each P (suc (suc zero)) a b c = P a × P b
+Each P (suc (suc (suc n))) a b c = P a × P b × P c
+
+-- `after` is the memory `before` with the six numbers stored as record `used`, and `next` the number of the record that comes next
+pub record Pushed (kind a b c d e : ℕ) (before : List ℕ) (used : ℕ) (after : List ℕ) (next : ℕ) : Type 0 where
+  pub stored : after ≡ sets before (recordSize * used) (kind ∷ a ∷ b ∷ c ∷ d ∷ e ∷ [])
+  pub counted : next ≡ used + 1
+
+-- the records below `used` keep their numbers and so their terms
+pub record Kept (used : ℕ) (before after : List ℕ) : Type 0 where
+  pub numbers : take (recordSize * used) after ≡ take (recordSize * used) before
+  pub terms : (props : ℕ → Prop ℕ) (n : ℕ) → n < used → termAt props after n ≡ termAt props before n
+
+-- `after` is the memory `before` with record `used` made, which holds the term, over the terms that its parts had; all other
+-- records are as they were
+pub record Made (term : (ℕ → Prop ℕ) → (ℕ → ProofTerm ℕ) → ProofTerm ℕ) (before : List ℕ) (used : ℕ) (after : List ℕ) (next : ℕ) : Type 0 where
+  pub holds : (props : ℕ → Prop ℕ) → termAt props after used ≡ term props (termAt props before)
+  pub kept : Kept used before after
+  pub beyond : drop (recordSize * (used + 1)) after ≡ drop (recordSize * (used + 1)) before
+  pub counted : next ≡ used + 1

@@ -1,0 +1,83 @@
+-- Terms as numbered records in lent memory, a term's parts before the term: the term that the record of a number holds.
+use Prim.Native.Nat.{ℕ, zero, suc, _+_, _*_}
+use mathlib.Core.Bool.{cond}
+use mathlib.Core.Option.{Option, none, some}
+use mathlib.Core.List.{List, [], _∷_}
+use lib.ListN.{getD}
+use lib.Dec.{eqb, ltb}
+use Rattle.definitions.specs.Prop.{Prop}
+use Rattle.definitions.specs.Term.{Label, proposition, datatype, ProofTerm, Ident, Pair, ProjectFst, ProjectSnd, Function, Application, LetIn, OrLeft, OrRight, Case, Abort, TypeAscription, Unit, Sorry}
+
+-- a record is a kind and five numbers
+abbrev pub recordSize : ℕ
+recordSize = 6
+
+-- what a record makes of the terms of its parts, of which it has none, one, two or three
+pub data Form : Type 0 where
+  leaf : ProofTerm ℕ → Form
+  unary : (ProofTerm ℕ → ProofTerm ℕ) → Form
+  binary : (ProofTerm ℕ → ProofTerm ℕ → ProofTerm ℕ) → Form
+  ternary : (ProofTerm ℕ → ProofTerm ℕ → ProofTerm ℕ → ProofTerm ℕ) → Form
+
+-- the term of a form over the parts a, b and c, as many as it has
+abbrev pub formTerm : (ℕ → ProofTerm ℕ) → Form → ℕ → ℕ → ℕ → ProofTerm ℕ
+formTerm part (leaf t) a b c = t
+formTerm part (unary f) a b c = f (part a)
+formTerm part (binary f) a b c = f (part a) (part b)
+formTerm part (ternary f) a b c = f (part a) (part b) (part c)
+
+-- `props` says which proposition the number of a proposition label stands for
+module _ (props : ℕ → Prop ℕ) where
+  -- a label of kind 2 is a datatype, any other a proposition
+  unfoldable pub labelOf : ℕ → ℕ → Label ℕ
+  labelOf kind number = cond (eqb kind 2) (datatype number) (proposition (props number))
+
+  -- a parameter has no label where the kind is 0
+  unfoldable pub parameterLabel : ℕ → ℕ → Option (Label ℕ)
+  parameterLabel kind number = cond (eqb kind 0) none (some (labelOf kind number))
+
+  -- the forms of the kinds, in the Rust's order, by a record's five numbers
+  abbrev pub forms : ℕ → ℕ → ℕ → ℕ → ℕ → List Form
+  forms a b c d e =
+      leaf (Ident a)
+      ∷ binary Pair
+      ∷ unary ProjectFst
+      ∷ unary ProjectSnd
+      ∷ unary (Function b (parameterLabel c d))
+      ∷ binary Application
+      ∷ binary (LetIn c d)
+      ∷ unary OrLeft
+      ∷ unary OrRight
+      ∷ ternary (λ head left right. Case head d left e right)
+      ∷ unary Abort
+      ∷ unary (λ body. TypeAscription body (labelOf c d))
+      ∷ leaf Unit
+      ∷ leaf Sorry
+      ∷ []
+
+  -- the term of a record, over the terms of its parts; an unknown kind counts as Unit
+  abbrev pub recordTerm : (ℕ → ProofTerm ℕ) → ℕ → ℕ → ℕ → ℕ → ℕ → ℕ → ProofTerm ℕ
+  recordTerm part kind a b c d e = formTerm part (getD (forms a b c d e) kind (leaf Unit)) a b c
+
+  -- the term of the record whose first number stands at an index
+  unfoldable pub recordTermAt : (ℕ → ProofTerm ℕ) → List ℕ → ℕ → ProofTerm ℕ
+  recordTermAt part records at =
+      recordTerm part (getD records at 0) (getD records (at + 1) 0) (getD records (at + 2) 0) (getD records (at + 3) 0) (getD records (at + 4) 0) (getD records (at + 5) 0)
+
+-- a part is an earlier record; any other number counts as Unit
+unfoldable pub earlier : ℕ → (ℕ → ProofTerm ℕ) → ℕ → ProofTerm ℕ
+earlier n term part = cond (ltb part n) (term part) Unit
+
+module _ (props : ℕ → Prop ℕ) (records : List ℕ) where
+  -- the term of record n, as deep as the fuel goes
+  unfoldable pub termWithin : ℕ → ℕ → ProofTerm ℕ
+  termWithin zero n = Unit
+  termWithin (suc fuel) n = recordTermAt props (earlier n (λ part. termWithin fuel part)) records (recordSize * n)
+
+  -- the term of record n
+  unfoldable pub termAt : ℕ → ProofTerm ℕ
+  termAt n = termWithin (suc n) n
+
+  -- the term of a part of record n
+  unfoldable pub partAt : ℕ → ℕ → ProofTerm ℕ
+  partAt n part = earlier n termAt part
