@@ -1,0 +1,4 @@
+// From the steps of a sheet to the records of its term (source document 000).
+mod table;
+
+pub use table::Place;
