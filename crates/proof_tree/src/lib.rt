@@ -1,4 +1,6 @@
 // From the steps of a sheet to the records of its term (source document 000).
+mod conclusion;
+mod step;
 mod table;
 
 pub use table::Place;
