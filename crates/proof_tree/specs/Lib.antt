@@ -3,3 +3,4 @@ pub mod Table
 pub mod PropAt
 pub mod Opening
 pub mod Premisses
+pub mod Terms

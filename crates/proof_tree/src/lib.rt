@@ -2,5 +2,6 @@
 mod conclusion;
 mod step;
 mod table;
+mod term;
 
 pub use table::Place;
