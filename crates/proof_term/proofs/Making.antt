@@ -1,17 +1,16 @@
 -- What is made by six numbers stored as a record, whatever its kind; and how what is kept adds up over several records.
-use Prim.Native.Nat.{ℕ, zero, suc, _+_, _*_, _≤_, _<_}
-use mathlib.Core.Path.{_≡_, refl, sym, ap, _∙_}
+use Prim.Native.Nat.{ℕ, _+_, _*_, _≤_, _<_}
+use mathlib.Core.Path.{_≡_, refl, ap, _∙_}
 use mathlib.Core.List.{List, [], _∷_, _++_, append-assoc}
 use native.Mathlib.Omega.{arith}
-use native.Mathlib.Nat.{add-zero}
 use native.Mathlib.Numerals.{towards-suc}
-use lib.ListN.{length, getD, set, take, drop, length-append, List·getD-append, List·getD-map}
-use lib.Seq.{sets, sets-eq, length-take-le, take-at, drop-at, take-take, getD-append-add}
+use lib.ListN.{length, getD, set, take, drop, length-append, List·getD-append}
+use lib.Seq.{sets, sets-eq, length-take-le, take-at, drop-at, getD-append-add}
 use Rattle.definitions.specs.Prop.{Prop}
 use Rattle.definitions.specs.Term.{ProofTerm, Unit}
-use Rattle.proof_term.specs.Records.{recordSize, Form, leaf, unary, binary, ternary, formTerm, forms, recordTerm, recordTermAt, termAt, partAt}
-use Rattle.proof_term.specs.Making.{partCount, Each, Pushed, Kept, Made}
-use Rattle.proof_term.proofs.Records.{frame-below, parts-same, part-below, termAt-is}
+use Rattle.proof_term.specs.Records.{recordSize, fieldAt, leaf, forms, recordTerm, recordTermAt, partCount, Each, termAt, partAt}
+use Rattle.proof_term.specs.Making.{Pushed, Kept, Made}
+use Rattle.proof_term.proofs.Records.{part-count, form-same, fewer, frame-below, parts-same, part-below, termAt-is}
 
 -- six stores in a row
 pub pushed :
@@ -31,28 +30,7 @@ kept-same used before = kept used before before refl
 -- what is kept twice is kept, as far as the first goes
 pub kept-then : {used next : ℕ} {before mid after : List ℕ} → used ≤ next → Kept used before mid → Kept next mid after → Kept used before after
 kept-then {used} {next} {before} {mid} {after} h p q =
-    kept used before after
-    (sym (take-take (recordSize * used) (recordSize * next) after (omega arith))
-    ∙ (ap (take (recordSize * used)) (q .numbers) ∙ (take-take (recordSize * used) (recordSize * next) mid (omega arith) ∙ p .numbers)))
-
-abbrev arity : Form → ℕ
-arity (leaf t) = 0
-arity (unary f) = 1
-arity (binary f) = 2
-arity (ternary f) = 3
-
--- the parts that a kind counts are those of its form
-part-count : (props : ℕ → Prop ℕ) (kind a b c d e : ℕ) → partCount kind ≡ arity (getD (forms props a b c d e) kind (leaf Unit))
-part-count props kind a b c d e = List·getD-map arity (forms props a b c d e) kind (leaf Unit)
-
--- a form looks at the terms of its own parts alone
-form-same :
-    (used : ℕ) (f g : ℕ → ProofTerm ℕ) → ((part : ℕ) → part < used → f part ≡ g part) →
-    (form : Form) (a b c : ℕ) → Each (λ part. part < used) (arity form) a b c → formTerm f form a b c ≡ formTerm g form a b c
-form-same used f g same (leaf t) a b c h = refl
-form-same used f g same (unary t) a b c h = ap t (same a h)
-form-same used f g same (binary t) a b c h = cc (same a (h .0), same b (h .1))
-form-same used f g same (ternary t) a b c h = cc (same a (h .0), same b (h .1), same c (h .2))
+    kept used before after (fewer after mid (recordSize * next) (recordSize * used) (q .numbers) (omega arith) ∙ p .numbers)
 
 -- What is stored within a memory: it stands there, and nothing before or after it changes.
 module _ (l vs : List ℕ) (i : ℕ) (fits : i + length vs ≤ length l) where
@@ -85,30 +63,26 @@ module _
         let end : recordSize * used + 6 ≡ recordSize * (used + 1) = omega arith in
         rw (p .stored) (rw end at (stored-beyond before (kind ∷ a ∷ b ∷ c ∷ d ∷ e ∷ []) (recordSize * used) (omega arith)))
 
-    number : (i : ℕ) → i < 6 → getD after (recordSize * used + i) 0 ≡ getD (kind ∷ a ∷ b ∷ c ∷ d ∷ e ∷ []) i 0
-    number i h = rw (p .stored) (stored-number before (kind ∷ a ∷ b ∷ c ∷ d ∷ e ∷ []) (recordSize * used) (omega arith) i h)
+    field : (i : ℕ) → i < recordSize → fieldAt after used i ≡ getD (kind ∷ a ∷ b ∷ c ∷ d ∷ e ∷ []) i 0
+    unfolding fieldAt
+    field i h = rw (p .stored) (stored-number before (kind ∷ a ∷ b ∷ c ∷ d ∷ e ∷ []) (recordSize * used) (omega arith) i h)
 
     -- the term of the record that was stored, over the terms of its parts
-    formed : (props : ℕ → Prop ℕ) (part : ℕ → ProofTerm ℕ) → recordTermAt props part after (recordSize * used) ≡ recordTerm props part kind a b c d e
+    formed : (props : ℕ → Prop ℕ) (part : ℕ → ProofTerm ℕ) → recordTermAt props part after used ≡ recordTerm props part kind a b c d e
     unfolding recordTermAt
-    formed props part = cc (
-      add-zero (recordSize * used),
-      number 0 (omega arith),
-      number 1 (omega arith),
-      number 2 (omega arith),
-      number 3 (omega arith),
-      number 4 (omega arith),
-      number 5 (omega arith),
-    )
+    formed props part =
+        cc (field 0 (omega arith), field 1 (omega arith), field 2 (omega arith), field 3 (omega arith), field 4 (omega arith), field 5 (omega arith))
 
     -- the law of every maker: the record holds the term of its kind, over the terms that its parts had before
     pub made : Each (λ part. part < used) (partCount kind) a b c → Made (λ props part. recordTerm props part kind a b c d e) before used after next
     made h = record {
       holds = λ props.
+          let form = getD (forms props a b c d e) kind (leaf Unit) in
+          let below-used = rw (part-count props kind a b c d e) at h in
           termAt-is props after used
-          ∙ (formed props _
-          ∙ (ap (λ part. recordTerm props part kind a b c d e) (parts-same props after before used below)
-          ∙ form-same used (partAt props before used) (termAt props before) (part-below props before used) (getD (forms props a b c d e) kind (leaf Unit)) a b c (rw (part-count props kind a b c d e) at h)));
+          ∙ formed props (partAt props after used)
+          ∙ ap (λ part. recordTerm props part kind a b c d e) (parts-same props after before used below)
+          ∙ form-same used (partAt props before used) (termAt props before) (part-below props before used) form a b c below-used;
       kept = kept used before after below;
       beyond = beyond;
       counted = p .counted;

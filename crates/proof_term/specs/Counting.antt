@@ -1,4 +1,4 @@
--- The size of a term, and what a record adds to the label count by its kind.
+-- The size of a term, and the labels that a record has by its kind.
 use Prim.Native.Nat.{ℕ, _+_, _≤_}
 use mathlib.Core.Bool.{cond}
 use mathlib.Core.List.{List, [], _∷_}
@@ -21,12 +21,14 @@ termSize (TypeAscription a l) = 1 + termSize a
 termSize Unit = 1
 termSize Sorry = 1
 
--- record n holds a term of few nodes, as many for every `props`
+-- record n holds a term of at most 65,536 nodes; its labels do not count
 pub record Small (records : List ℕ) (n : ℕ) : Type 0 where
   pub props : ℕ → Prop ℕ
   pub few : termSize (termAt props records n) ≤ 65536
 
--- the labels of a record itself: one of an ascription, and one of a function whose parameter's label is there
+-- the labels of a record itself, by its kind: one of an ascription, and one of a function whose parameter's label is there
+abbrev pub ownCounts : ℕ → List ℕ
+ownCounts label = 0 ∷ 0 ∷ 0 ∷ 0 ∷ cond (eqb label 0) 0 1 ∷ 0 ∷ 0 ∷ 0 ∷ 0 ∷ 0 ∷ 0 ∷ 1 ∷ 0 ∷ 0 ∷ []
+
 unfoldable pub ownAnnotations : ℕ → ℕ → ℕ
-ownAnnotations kind label =
-    getD (0 ∷ 0 ∷ 0 ∷ 0 ∷ cond (eqb label 0) 0 1 ∷ 0 ∷ 0 ∷ 0 ∷ 0 ∷ 0 ∷ 0 ∷ 1 ∷ 0 ∷ 0 ∷ []) kind 0
+ownAnnotations kind label = getD (ownCounts label) kind 0

@@ -1,8 +1,8 @@
 -- What it is to make a record in lent memory: what becomes of every number, and the term that the record holds.
-use Prim.Native.Nat.{ℕ, zero, suc, _+_, _*_, _≤_, _<_}
+use Prim.Native.Nat.{ℕ, _+_, _*_, _≤_, _<_}
 use mathlib.Core.Path.{_≡_}
 use mathlib.Core.List.{List, [], _∷_}
-use lib.ListN.{length, take, drop, getD}
+use lib.ListN.{length, take, drop}
 use lib.Seq.{sets}
 use Rattle.definitions.specs.Prop.{Prop}
 use Rattle.definitions.specs.Term.{ProofTerm}
@@ -12,17 +12,6 @@ use Rattle.proof_term.specs.Records.{recordSize, termAt}
 pub record Room (records : List ℕ) (used : ℕ) : Type 0 where
   pub room : recordSize * (used + 1) ≤ length records
   pub few : used ≤ 65536
-
--- how many of a record's numbers a, b and c are parts, by its kind
-abbrev pub partCount : ℕ → ℕ
-partCount kind = getD (0 ∷ 2 ∷ 1 ∷ 1 ∷ 1 ∷ 2 ∷ 2 ∷ 1 ∷ 1 ∷ 3 ∷ 1 ∷ 1 ∷ 0 ∷ 0 ∷ []) kind 0
-
--- each of the first ones, as many as the count says, has the property
-abbrev pub Each : (ℕ → Type 0) → ℕ → ℕ → ℕ → ℕ → Type 0
-Each P zero a b c = Unit {0}
-Each P (suc zero) a b c = P a
-Each P (suc (suc zero)) a b c = P a × P b
-Each P (suc (suc (suc n))) a b c = P a × P b × P c
 
 -- `after` is the memory `before` with the six numbers stored as record `used`, and `next` the number of the record that comes next
 pub record Pushed (kind a b c d e : ℕ) (before : List ℕ) (used : ℕ) (after : List ℕ) (next : ℕ) : Type 0 where

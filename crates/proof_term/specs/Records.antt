@@ -12,6 +12,10 @@ use Rattle.definitions.specs.Term.{Label, proposition, datatype, ProofTerm, Ide
 abbrev pub recordSize : ℕ
 recordSize = 6
 
+-- number i of record n; number 0 is the kind
+unfoldable pub fieldAt : List ℕ → ℕ → ℕ → ℕ
+fieldAt records n i = getD records (recordSize * n + i) 0
+
 -- what a record makes of the terms of its parts, of which it has none, one, two or three
 pub data Form : Type 0 where
   leaf : ProofTerm ℕ → Form
@@ -59,10 +63,24 @@ module _ (props : ℕ → Prop ℕ) where
   abbrev pub recordTerm : (ℕ → ProofTerm ℕ) → ℕ → ℕ → ℕ → ℕ → ℕ → ℕ → ProofTerm ℕ
   recordTerm part kind a b c d e = formTerm part (getD (forms a b c d e) kind (leaf Unit)) a b c
 
-  -- the term of the record whose first number stands at an index
+  -- the term of record n, over the terms of its parts
   unfoldable pub recordTermAt : (ℕ → ProofTerm ℕ) → List ℕ → ℕ → ProofTerm ℕ
-  recordTermAt part records at =
-      recordTerm part (getD records at 0) (getD records (at + 1) 0) (getD records (at + 2) 0) (getD records (at + 3) 0) (getD records (at + 4) 0) (getD records (at + 5) 0)
+  recordTermAt part records n =
+      recordTerm part (fieldAt records n 0) (fieldAt records n 1) (fieldAt records n 2) (fieldAt records n 3) (fieldAt records n 4) (fieldAt records n 5)
+
+-- how many of a record's numbers a, b and c are parts, by its kind
+abbrev pub partCounts : List ℕ
+partCounts = 0 ∷ 2 ∷ 1 ∷ 1 ∷ 1 ∷ 2 ∷ 2 ∷ 1 ∷ 1 ∷ 3 ∷ 1 ∷ 1 ∷ 0 ∷ 0 ∷ []
+
+abbrev pub partCount : ℕ → ℕ
+partCount kind = getD partCounts kind 0
+
+-- each of the first numbers, as many as the count says, has the property
+abbrev pub Each : (ℕ → Type 0) → ℕ → ℕ → ℕ → ℕ → Type 0
+Each P zero a b c = Prim.Unit {0}
+Each P (suc zero) a b c = P a
+Each P (suc (suc zero)) a b c = P a × P b
+Each P (suc (suc (suc n))) a b c = P a × P b × P c
 
 -- a part is an earlier record; any other number counts as Unit
 unfoldable pub earlier : ℕ → (ℕ → ProofTerm ℕ) → ℕ → ProofTerm ℕ
@@ -72,7 +90,7 @@ module _ (props : ℕ → Prop ℕ) (records : List ℕ) where
   -- the term of record n, as deep as the fuel goes
   unfoldable pub termWithin : ℕ → ℕ → ProofTerm ℕ
   termWithin zero n = Unit
-  termWithin (suc fuel) n = recordTermAt props (earlier n (λ part. termWithin fuel part)) records (recordSize * n)
+  termWithin (suc fuel) n = recordTermAt props (earlier n (λ part. termWithin fuel part)) records n
 
   -- the term of record n
   unfoldable pub termAt : ℕ → ProofTerm ℕ

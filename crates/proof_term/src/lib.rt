@@ -4,47 +4,51 @@ ghost use Prim.Native.Nat.{ℕ, _+_, _*_, _≤_, _<_};
 ghost use lib.ListN.{length};
 ghost use Rattle.definitions.specs.Prop.{Prop};
 ghost use Rattle.definitions.specs.Term.{Ident, Pair, ProjectFst, ProjectSnd, Function, Application, LetIn, OrLeft, OrRight, Case, Abort, TypeAscription, Unit, Sorry, annotationCount};
-ghost use Rattle.proof_term.specs.Records.{recordSize, recordTerm, labelOf, parameterLabel, termAt};
-ghost use Rattle.proof_term.specs.Making.{Room, partCount, Each, Pushed, Made};
+ghost use Rattle.proof_term.specs.Records.{recordSize, fieldAt, recordTerm, partCount, Each, labelOf, parameterLabel, termAt};
+ghost use Rattle.proof_term.specs.Counting.{Small, ownAnnotations};
+ghost use Rattle.proof_term.specs.Making.{Room, Pushed, Made};
 
 // The numbers of a record.
 const RECORD_SIZE: usize = 6;
 
 // The kinds of records, in the Rust's order.
-pub const IDENT: u16 = 0;
+pub const IDENT: usize = 0;
 
-pub const PAIR: u16 = 1;
+pub const PAIR: usize = 1;
 
-pub const PROJECT_FST: u16 = 2;
+pub const PROJECT_FST: usize = 2;
 
-pub const PROJECT_SND: u16 = 3;
+pub const PROJECT_SND: usize = 3;
 
-pub const FUNCTION: u16 = 4;
+pub const FUNCTION: usize = 4;
 
-pub const APPLICATION: u16 = 5;
+pub const APPLICATION: usize = 5;
 
-pub const LET_IN: u16 = 6;
+pub const LET_IN: usize = 6;
 
-pub const OR_LEFT: u16 = 7;
+pub const OR_LEFT: usize = 7;
 
-pub const OR_RIGHT: u16 = 8;
+pub const OR_RIGHT: usize = 8;
 
-pub const CASE: u16 = 9;
+pub const CASE: usize = 9;
 
-pub const ABORT: u16 = 10;
+pub const ABORT: usize = 10;
 
-pub const TYPE_ASCRIPTION: u16 = 11;
+pub const TYPE_ASCRIPTION: usize = 11;
 
-pub const UNIT: u16 = 12;
+pub const UNIT: usize = 12;
 
-pub const SORRY: u16 = 13;
+pub const SORRY: usize = 13;
 
 // The kinds of labels: none, a proposition by the number that stands for it, a datatype by its name.
-pub const NO_LABEL: u16 = 0;
+pub const NO_LABEL: usize = 0;
 
-pub const PROPOSITION: u16 = 1;
+pub const PROPOSITION: usize = 1;
 
-pub const DATATYPE: u16 = 2;
+pub const DATATYPE: usize = 2;
+
+// How many of a record's numbers are parts, for each kind.
+const PART_COUNTS: [usize; 14] = [0, 2, 1, 1, 1, 2, 2, 1, 1, 3, 1, 1, 0, 0];
 
 // Stores record `used` and gives the number of the next one.
 pub fn push(
@@ -70,24 +74,24 @@ pub fn push(
     used + 1
 }
 
-// Makes record `used` of any kind.
+// Makes record `used`, of any kind, over earlier records.
 fn make(
     records: &mut [u16],
     used: usize,
-    kind: u16,
+    kind: usize,
     a: u16,
     b: u16,
     c: u16,
     d: u16,
     e: u16,
 ) -> usize
-    requires { ⌜ (recordSize * (used + 1) ≤ length (now records)) × Each (λ part. part < used) (partCount kind) a b c ⌝ }
+    requires { ⌜ (recordSize * (used + 1) ≤ length (now records)) × (kind < 14) × Each (λ part. part < used) (partCount kind) a b c ⌝ }
     ensures { λ r. ⌜ Made (λ props part. recordTerm props part kind a b c d e) (now (records .entry)) used (now (records .exit)) r ⌝ }
 {
-    push(records, used, kind, a, b, c, d, e)
+    push(records, used, kind as u16, a, b, c, d, e)
 }
 
-// The makers: each makes record `used` over earlier records and gives the number of the next one.
+// The makers. Each makes record `used` over earlier records and gives the number of the next one. A label is a kind and a number.
 
 pub fn ident(records: &mut [u16], used: usize, ident: u16) -> usize
     requires { ⌜ recordSize * (used + 1) ≤ length (now records) ⌝ }
@@ -249,4 +253,57 @@ pub fn sorry(records: &mut [u16], used: usize) -> usize
     ensures { λ r. ⌜ Made (λ props part. Sorry) (now (records .entry)) used (now (records .exit)) r ⌝ }
 {
     make(records, used, SORRY, 0, 0, 0, 0, 0)
+}
+
+// Number `i` of record `n`; number 0 is the kind.
+pub fn field(records: &[u16], n: usize, i: usize) -> usize
+    requires { ⌜ (recordSize * (n + 1) ≤ length (now records)) × (i < recordSize) ⌝ }
+    ensures { λ r. ⌜ (r ≡ fieldAt (now (records .entry)) n i) × (r < 65536) ⌝ }
+{
+    records[RECORD_SIZE * n + i] as usize
+}
+
+// How many parts a record of this kind has; an unknown kind has none.
+fn part_count(kind: usize) -> usize
+    ensures { λ r. ⌜ r ≡ partCount kind ⌝ }
+{
+    if kind < 14 {
+        return PART_COUNTS[kind];
+    }
+    0
+}
+
+// The labels of a record itself: one of an ascription, and one of a function whose parameter has a label.
+fn own_annotations(kind: usize, label: usize) -> usize
+    ensures { λ r. ⌜ r ≡ ownAnnotations kind label ⌝ }
+{
+    match kind {
+        FUNCTION => {
+            if label == NO_LABEL {
+                return 0;
+            }
+            1
+        }
+        TYPE_ASCRIPTION => 1,
+        _ => 0,
+    }
+}
+
+// The label count of the term that record `n` holds: its own labels and those of its parts.
+pub fn annotation_count(records: &[u16], n: usize) -> usize
+    requires { ⌜ (recordSize * (n + 1) ≤ length (now records)) × Small (now records) n ⌝ }
+    ensures { λ r. ⌜ ((props : ℕ → Prop ℕ) → r ≡ annotationCount (termAt props (now (records .entry)) n)) ⌝ }
+{
+    let kind = field(records, n, 0);
+    let parts = part_count(kind);
+    let mut count = own_annotations(kind, field(records, n, 3));
+    let mut i = 0;
+    while i < parts {
+        let part = field(records, n, 1 + i);
+        if part < n {
+            count += annotation_count(records, part);
+        }
+        i += 1;
+    }
+    count
 }
