@@ -4,3 +4,6 @@ pub mod PropAt
 pub mod Opening
 pub mod Premisses
 pub mod Terms
+pub mod Exportable
+pub mod Exporting
+pub mod Wrapping

@@ -7,8 +7,8 @@ use lib.ListN.{take}
 use Rattle.definitions.specs.Prop.{Prop}
 use Rattle.definitions.specs.Term.{Label, proposition, ProofTerm, Ident, Pair, Named, Function, Application, LetIn, Case, TypeAscription, Unit, Sorry}
 use Rattle.definitions.specs.Export.{premissTerm}
-use Rattle.proof_term.specs.Records.{parameterLabel, termAt}
-use Rattle.proof_term.specs.Making.{Room, Each, Kept}
+use Rattle.proof_term.specs.Records.{Each, parameterLabel, termAt}
+use Rattle.proof_term.specs.Making.{Room, Kept}
 use Rattle.proof_tree.specs.declared.table.RuleTerm.{RuleTerm}
 use Rattle.proof_tree.specs.declared.table.RuleTerm.the-variants.{Premiss}
 use Rattle.proof_tree.specs.Table.{termOf, partCount}
@@ -39,9 +39,8 @@ unfoldable pub partTerms : (ℕ → ProofTerm ℕ) → ℕ → List ℕ → List
 partTerms term count parts = map term (take count parts)
 
 -- there is room for a record; its parts are earlier ones; and a premiss's own term is the newest
-pub record Parts (term : RuleTerm) (kind a b c : ℕ) (terms : List ℕ) (used : ℕ) : Type 0 where
+pub record Parts (term : RuleTerm) (a b c : ℕ) (terms : List ℕ) (used : ℕ) : Type 0 where
   pub room : Room terms used
-  pub label : kind ≤ 2
   pub earlier : Each (λ part. part < used) (partCount term) a b c
   pub newest : term ≡ Premiss → a + 1 ≡ used
 

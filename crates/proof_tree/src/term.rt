@@ -1,4 +1,5 @@
 // The term that a rule has in source document 000, as a record over those of its premisses.
+use crate::step::step_number;
 use crate::table::RuleTerm;
 use proof_term::abort;
 use proof_term::application;
@@ -13,6 +14,10 @@ use proof_term::project_fst;
 use proof_term::project_snd;
 use proof_term::sorry;
 use proof_term::unit;
+ghost use Prim.Native.Nat.{_≤_};
+ghost use lib.ListN.{getD};
+ghost use Rattle.definitions.specs.Sheet.{stepNumber};
+ghost use Rattle.steps.specs.Records.{HasStep};
 ghost use Rattle.proof_tree.specs.Terms.{Parts, MadeTerm};
 
 // Makes the term over the records a, b and c, as many as it is over, with a step's names and the label of a parameter, and
@@ -29,7 +34,7 @@ pub fn rule_term(
     terms: &mut [u16],
     used: usize,
 ) -> usize
-    requires { ⌜ Parts term kind a b c (now terms) used ⌝ }
+    requires { ⌜ Parts term a b c (now terms) used × (kind ≤ 2) ⌝ }
     ensures { λ r. ⌜ MadeTerm term first second kind label a b c (now (terms .entry)) used (now (terms .exit)) r ⌝ }
 {
     match term {
@@ -48,4 +53,33 @@ pub fn rule_term(
         RuleTerm::Sorry => sorry(terms, used),
         RuleTerm::Premiss => used,
     }
+}
+
+// Makes a step's term, with the names of its record.
+pub fn step_term(
+    records: &[u8],
+    k: usize,
+    term: RuleTerm,
+    kind: u16,
+    label: u16,
+    parts: [usize; 3],
+    terms: &mut [u16],
+    used: usize,
+) -> usize
+    requires { ⌜ (HasStep (now records) k) × (kind ≤ 2) ⌝ }
+    requires { ⌜ Parts term (getD parts 0 0) (getD parts 1 0) (getD parts 2 0) (now terms) used ⌝ }
+    ensures { λ r. ⌜ MadeTerm term (stepNumber (now (records .entry)) k 2) (stepNumber (now (records .entry)) k 6) kind label (getD parts 0 0) (getD parts 1 0) (getD parts 2 0) (now (terms .entry)) used (now (terms .exit)) r ⌝ }
+{
+    rule_term(
+        term,
+        step_number(records, k, 2) as u16,
+        step_number(records, k, 6) as u16,
+        kind,
+        label,
+        parts[0],
+        parts[1],
+        parts[2],
+        terms,
+        used,
+    )
 }

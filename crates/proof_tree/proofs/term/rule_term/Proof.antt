@@ -14,22 +14,22 @@ enum-told c = search needs
 pair-requires : tie.Need-pair-requires
 unfolding partCount
 pair-requires c κs =
-    let (x, y) = rw (c .before .enum-told .given .1) at (c .before .before .before .before .pre .earlier) in
-    (c .before .before .before .before .pre .room, x, y)
+    let (x, y) = rw (c .before .enum-told .given .1) at (c .before .before .before .before .pre .0 .earlier) in
+    (c .before .before .before .before .pre .0 .room, x, y)
 
 enum-told-2 : tie.Need-enum-told-2
 enum-told-2 c = search needs
 
 project-fst-requires : tie.Need-project-fst-requires
 unfolding partCount
-project-fst-requires c κs = (c .before .before .before .before .pre .room, rw (c .before .enum-told2 .given .1) at (c .before .before .before .before .pre .earlier))
+project-fst-requires c κs = (c .before .before .before .before .pre .0 .room, rw (c .before .enum-told2 .given .1) at (c .before .before .before .before .pre .0 .earlier))
 
 enum-told-3 : tie.Need-enum-told-3
 enum-told-3 c = search needs
 
 project-snd-requires : tie.Need-project-snd-requires
 unfolding partCount
-project-snd-requires c κs = (c .before .before .before .before .pre .room, rw (c .before .enum-told3 .given .1) at (c .before .before .before .before .pre .earlier))
+project-snd-requires c κs = (c .before .before .before .before .pre .0 .room, rw (c .before .enum-told3 .given .1) at (c .before .before .before .before .pre .0 .earlier))
 
 enum-told-4 : tie.Need-enum-told-4
 enum-told-4 c = search needs
@@ -42,7 +42,7 @@ enum-told-5 c = search needs
 
 function-requires : tie.Need-function-requires
 unfolding partCount
-function-requires c κs = (c .before .before .before .before .pre .room, rw (c .before .enum-told5 .given .1) at (c .before .before .before .before .pre .earlier))
+function-requires c κs = (c .before .before .before .before .pre .0 .room, rw (c .before .enum-told5 .given .1) at (c .before .before .before .before .pre .0 .earlier))
 
 enum-told-6 : tie.Need-enum-told-6
 enum-told-6 c = search needs
@@ -50,8 +50,8 @@ enum-told-6 c = search needs
 application-requires : tie.Need-application-requires
 unfolding partCount
 application-requires c κs =
-    let (x, y) = rw (c .before .enum-told6 .given .1) at (c .before .before .before .before .pre .earlier) in
-    (c .before .before .before .before .pre .room, x, y)
+    let (x, y) = rw (c .before .enum-told6 .given .1) at (c .before .before .before .before .pre .0 .earlier) in
+    (c .before .before .before .before .pre .0 .room, x, y)
 
 enum-told-7 : tie.Need-enum-told-7
 enum-told-7 c = search needs
@@ -64,14 +64,14 @@ enum-told-8 c = search needs
 
 or-left-requires : tie.Need-or-left-requires
 unfolding partCount
-or-left-requires c κs = (c .before .before .before .before .pre .room, rw (c .before .enum-told8 .given .1) at (c .before .before .before .before .pre .earlier))
+or-left-requires c κs = (c .before .before .before .before .pre .0 .room, rw (c .before .enum-told8 .given .1) at (c .before .before .before .before .pre .0 .earlier))
 
 enum-told-9 : tie.Need-enum-told-9
 enum-told-9 c = search needs
 
 or-right-requires : tie.Need-or-right-requires
 unfolding partCount
-or-right-requires c κs = (c .before .before .before .before .pre .room, rw (c .before .enum-told9 .given .1) at (c .before .before .before .before .pre .earlier))
+or-right-requires c κs = (c .before .before .before .before .pre .0 .room, rw (c .before .enum-told9 .given .1) at (c .before .before .before .before .pre .0 .earlier))
 
 enum-told-10 : tie.Need-enum-told-10
 enum-told-10 c = search needs
@@ -79,15 +79,15 @@ enum-told-10 c = search needs
 case-requires : tie.Need-case-requires
 unfolding partCount
 case-requires c κs =
-    let (x, y, z) = rw (c .before .enum-told10 .given .1) at (c .before .before .before .before .pre .earlier) in
-    (c .before .before .before .before .pre .room, x, y, z)
+    let (x, y, z) = rw (c .before .enum-told10 .given .1) at (c .before .before .before .before .pre .0 .earlier) in
+    (c .before .before .before .before .pre .0 .room, x, y, z)
 
 enum-told-11 : tie.Need-enum-told-11
 enum-told-11 c = search needs
 
 abort-requires : tie.Need-abort-requires
 unfolding partCount
-abort-requires c κs = (c .before .before .before .before .pre .room, rw (c .before .enum-told11 .given .1) at (c .before .before .before .before .pre .earlier))
+abort-requires c κs = (c .before .before .before .before .pre .0 .room, rw (c .before .enum-told11 .given .1) at (c .before .before .before .before .pre .0 .earlier))
 
 enum-told-12 : tie.Need-enum-told-12
 enum-told-12 c = search needs
@@ -95,8 +95,8 @@ enum-told-12 c = search needs
 let-in-requires : tie.Need-let-in-requires
 unfolding partCount
 let-in-requires c κs =
-    let (x, y) = rw (c .before .enum-told12 .given .1) at (c .before .before .before .before .pre .earlier) in
-    (c .before .before .before .before .pre .room, x, y)
+    let (x, y) = rw (c .before .enum-told12 .given .1) at (c .before .before .before .before .pre .0 .earlier) in
+    (c .before .before .before .before .pre .0 .room, x, y)
 
 enum-told-13 : tie.Need-enum-told-13
 enum-told-13 c = search needs
@@ -142,7 +142,7 @@ returns-5 : tie.Need-returns-5
 unfolding termOver termOf partTerms partCount premissTerm ownLabel
 returns-5 c =
     labelled (c .before .before .before .before .enum-told5 .given .1) (c .before .before .function .ensures)
-    (λ number l. proposition-label _ _ _ (c .before .before .before .before .before .before .before .pre .label) l) (λ props. refl)
+    (λ number l. proposition-label _ _ _ (c .before .before .before .before .before .before .before .pre .1) l) (λ props. refl)
 
 same-length-6 : tie.Need-same-length-6
 same-length-6 c = search needs
@@ -201,7 +201,7 @@ unfolding termOver termOf partTerms partCount premissTerm ownLabel
 returns-13 c = plain (c .before .before .before .before .enum-told13 .given .1) (c .before .before .sorry .ensures) (λ props. refl) (λ props. refl)
 
 returns-14 : tie.Need-returns-14
-returns-14 c = premiss-own (c .enum-told14 .given .1) (c .before .before .before .pre .newest (c .enum-told14 .given .1))
+returns-14 c = premiss-own (c .enum-told14 .given .1) (c .before .before .before .pre .0 .newest (c .enum-told14 .given .1))
 
 pub rule-term-spec : {M : Type 1} → statement M
 rule-term-spec =
