@@ -19,7 +19,7 @@ use Rattle.proof_tree.specs.Table.{termOf, partCount}
 use Rattle.proof_tree.specs.Terms.{ownLabel, termOver, partTerms, MadeTerm}
 
 -- numbers that stand for the same proposition, whichever that is, are the same
-same-number : (m n : ℕ) → ((props : ℕ → Prop ℕ) → props n ≡ props m) → m ≡ n
+pub same-number : (m n : ℕ) → ((props : ℕ → Prop ℕ) → props n ≡ props m) → m ≡ n
 same-number m n h = eqb-true m n (go (eqb m n) (rw (eq-eqb n n refl) at (h (λ i. cond (eqb i n) True False))))
   where
     go : (b : Bool) → _≡_ {A = Prop ℕ} True (cond b True False) → b ≡ true
@@ -55,6 +55,7 @@ module _ {term : RuleTerm} {first second kind label a b c : ℕ} {before : List 
               let same : m ≡ used = omega (arith, made .counted) in
               own number (λ props. sym (ap ownLabel (made .holds props)) ∙ rw same at (l props));
           some-record = omega (arith, made .counted);
+          grows = omega (arith, made .counted);
           more = omega (arith, made .counted);
           few = omega (arith, made .counted);
         }
@@ -75,6 +76,7 @@ premiss-own {a = a} {used = used} told newest =
       kept = kept-same _ _;
       labels = λ m number h k l. absurd (omega arith);
       some-record = omega arith;
+      grows = omega arith;
       more = rw told (omega arith);
       few = omega arith;
     }

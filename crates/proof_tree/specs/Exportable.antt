@@ -24,7 +24,7 @@ pub record GoodStep (names : ℕ) (pairs code records : List ℕ) (k : ℕ) : Ty
   pub rule : ruleByte records k < length rules
   pub coded : stepNumber records k 10 ≡ 0 → Coded names pairs code (stepNumber records k 12)
   pub few : k < 65536
-  pub short : length code ≤ 65536
+  pub short : length code < 65536
 
 -- so many steps are good, each finds its premisses, and the table has the sizes of their trees
 pub record Exportable (names : ℕ) (pairs code records sizes : List ℕ) (steps : ℕ) : Type 0 where

@@ -5,6 +5,7 @@ use mathlib.Core.Logic.{_⊎_}
 use mathlib.Core.List.{List}
 use lib.ListN.{getD}
 use Rattle.definitions.specs.Outcome.{Outcome, accepted, refused}
+use Rattle.definitions.specs.declared.Refusal.{Refusal}
 use Rattle.definitions.specs.Sheet.{pairOffset, stepNumber}
 use Rattle.definitions.specs.Term.{ProofTerm}
 use Rattle.proof_term.specs.Records.{termAt}
@@ -36,8 +37,7 @@ pub record ExportedTerm (names : ℕ) (pairs code records : List ℕ) (k : ℕ) 
   pub high : next ≤ most
   pub grown : Grown pairs code records k before used after next
 
--- what each answer says of the outcome for step k: a term, with the count of records used after it, or the refusal
-unfoldable pub Answered : ℕ → List ℕ → List ℕ → List ℕ → ℕ → Outcome (ProofTerm ℕ) → List ℕ → ℕ → ℕ → ℕ → List ℕ → Exported → Type 0
-Answered names pairs code records k outcome before used least most after (Term next) =
-    ExportedTerm names pairs code records k outcome before used least most after next
-Answered names pairs code records k outcome before used least most after (Refused r) = outcome ≡ refused r
+-- what each answer says of the outcome for step k: a term, by the count of the records used after it, or the refusal
+pub data Answered (names : ℕ) (pairs code records : List ℕ) (k : ℕ) (outcome : Outcome (ProofTerm ℕ)) (before : List ℕ) (used least most : ℕ) (after : List ℕ) : Exported → Type 0 where
+  gives : {next : ℕ} → ExportedTerm names pairs code records k outcome before used least most after next → Answered names pairs code records k outcome before used least most after (Term next)
+  refuses : {r : Refusal} → outcome ≡ refused r → Answered names pairs code records k outcome before used least most after (Refused r)

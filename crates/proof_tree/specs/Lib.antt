@@ -2,6 +2,7 @@
 pub mod Table
 pub mod PropAt
 pub mod Opening
+pub mod Labelling
 pub mod Premisses
 pub mod Terms
 pub mod Exportable

@@ -3,7 +3,7 @@ use Prim.Native.Nat.{ℕ, _+_, _-_, _≤_, _<_}
 use mathlib.Core.Path.{_≡_}
 use mathlib.Core.Option.{Option, none, some}
 use mathlib.Core.List.{List, [], _∷_, map}
-use lib.ListN.{take}
+use lib.ListN.{getD, take}
 use Rattle.definitions.specs.Prop.{Prop}
 use Rattle.definitions.specs.Term.{Label, proposition, ProofTerm, Ident, Pair, Named, Function, Application, LetIn, Case, TypeAscription, Unit, Sorry}
 use Rattle.definitions.specs.Export.{premissTerm}
@@ -34,6 +34,10 @@ HasLabel terms m number = (props : ℕ → Prop ℕ) → ownLabel (termAt props 
 unfoldable pub termOver : RuleTerm → ℕ → ℕ → Option (Label ℕ) → List (ProofTerm ℕ) → ProofTerm ℕ
 termOver term x y l ts = termOf term x y l (premissTerm ts 0) (premissTerm ts 1) (premissTerm ts 2)
 
+-- the records of at most three parts
+abbrev pub firstThree : List ℕ → List ℕ
+firstThree parts = getD parts 0 0 ∷ getD parts 1 0 ∷ getD parts 2 0 ∷ []
+
 -- the terms of the first parts, so many as the count says
 unfoldable pub partTerms : (ℕ → ProofTerm ℕ) → ℕ → List ℕ → List (ProofTerm ℕ)
 partTerms term count parts = map term (take count parts)
@@ -51,5 +55,6 @@ pub record MadeTerm (term : RuleTerm) (first second kind label a b c : ℕ) (bef
   pub kept : Kept used before after
   pub labels : (m number : ℕ) → used ≤ m → m < next → HasLabel after m number → (kind ≡ 1) × (number ≡ label)
   pub some-record : 0 < next
+  pub grows : used ≤ next
   pub more : used < next + partCount term
   pub few : next ≤ used + 1

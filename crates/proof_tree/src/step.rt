@@ -1,4 +1,5 @@
 // What a step's record says, and which steps finish its premisses.
+use definitions::Refusal;
 use number::number_at;
 use steps::STEP_SIZE;
 ghost use Prim.Native.Nat.{_+_, _<_, _≤_};
@@ -43,4 +44,15 @@ pub fn premiss(records: &[u8], k: usize, position: usize, sizes: &[u16]) -> usiz
         start -= sizes[start - 1] as usize;
     }
     start - 1
+}
+
+// The refusal of a number at step k.
+pub fn refusal(number: u8, k: usize) -> Refusal
+    requires { ⌜ k < 65536 ⌝ }
+    ensures { λ r. ⌜ r ≡ record { number = number; place = k } ⌝ }
+{
+    Refusal {
+        number,
+        place: k as u16,
+    }
 }

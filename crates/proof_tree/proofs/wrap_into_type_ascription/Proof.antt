@@ -1,8 +1,7 @@
 -- The conclusion is taken apart first: a type judgement is 13.
-use mathlib.Core.Path.{refl}
 use borrow.Author.Needs.{needs}
 use Rattle.proof_term.specs.Records.{labelOf}
-use Rattle.proof_tree.specs.Wrapping.{Fits, Wrapped}
+use Rattle.proof_tree.specs.Wrapping.{ascribes, refuses}
 use Rattle.proof_tree.proofs.wrap_into_type_ascription.Statement.{statement}
 use Rattle.proof_tree.proofs.wrap_into_type_ascription.Tie as tie
 
@@ -12,12 +11,11 @@ enum-known-conclusion c = search needs
 enum-told : tie.Need-enum-told
 enum-told c = search needs
 
-refuse-requires : tie.Need-refuse-requires
-refuse-requires c κs = search needs
+refusal-requires : tie.Need-refusal-requires
+refusal-requires c κs = search needs
 
 returns : tie.Need-returns
-unfolding Wrapped
-returns c = rw (c .before .enum-told .given .1) (c .refuse .ensures)
+returns c = rw (c .before .enum-told .given .1) (refuses (c .refusal .ensures))
 
 sub-type-ascription : tie.Need-sub-type-ascription
 sub-type-ascription c = search needs
@@ -26,9 +24,7 @@ cast-type-ascription : tie.Need-cast-type-ascription
 cast-type-ascription c = search needs
 
 cast-type-ascription-2 : tie.Need-cast-type-ascription-2
-unfolding Fits
-cast-type-ascription-2 c =
-    record { fits = rw (c .before .before .conclusion .given .1) at (c .before .before .before .before .before .pre .1) }
+cast-type-ascription-2 c = record { fits = c .before .before .before .before .before .pre .1 _ (c .before .before .conclusion .given .1) }
 
 type-ascription-requires : tie.Need-type-ascription-requires
 type-ascription-requires c κs = search needs
@@ -37,10 +33,9 @@ same-length : tie.Need-same-length
 same-length c = search needs
 
 returns-2 : tie.Need-returns-2
-unfolding Wrapped labelOf
+unfolding labelOf
 returns-2 c =
-    rw (c .before .before .before .before .before .conclusion .given .1)
-    (record { next = c .before .before .type-ascription .result; is = refl; made = c .before .before .type-ascription .ensures })
+    rw (c .before .before .before .before .before .conclusion .given .1) (ascribes (c .before .before .type-ascription .ensures))
 
 pub wrap-into-type-ascription-spec : {M : Type 1} → statement M
 wrap-into-type-ascription-spec =
@@ -48,7 +43,7 @@ wrap-into-type-ascription-spec =
     (tie.spec
     enum-known-conclusion
     enum-told
-    refuse-requires
+    refusal-requires
     returns
     sub-type-ascription
     cast-type-ascription

@@ -17,7 +17,10 @@ add-number-at : tie.Need-add-number-at
 add-number-at c = search needs
 
 number-at-requires : tie.Need-number-at-requires
-number-at-requires c κs = omega (arith, c .before .before .before .pre .1 (c .match .keys2))
+number-at-requires c κs = omega (arith, c .before .before .before .pre .whole (c .match .keys2))
+
+cast-t10 : tie.Need-cast-t10
+cast-t10 c = search needs
 
 returns : tie.Need-returns
 unfolding headAt
@@ -39,6 +42,7 @@ head-at-spec =
     add-t7
     add-number-at
     number-at-requires
+    cast-t10
     returns
     returns-2
     returns-3)
