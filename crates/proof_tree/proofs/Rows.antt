@@ -20,10 +20,11 @@ same-at f g [] (y ∷ m) a b e i h = let z : _≡_ {A = ℕ} 0 1 = cc in absurd 
 same-at f g (x ∷ l) (y ∷ m) a b e zero h = cc
 same-at f g (x ∷ l) (y ∷ m) a b e (suc i) h = same-at f g l m a b (cc) i (omega arith)
 
--- what a row says; its first number is the fewest premisses, is at most three, and is the count of the term's parts
+-- what a row says; its first number is the fewest premisses, is at most three, and is the count of the term's parts; it has three places
 pub record Columns : Type 0 where
   pub fewest : ℕ
   pub three : ℕ
+  pub width : ℕ
   pub parts : ℕ
   pub most : ℕ
   pub places : Place → List Place
@@ -35,6 +36,7 @@ ofRow w =
     record {
       fewest = w .0;
       three = min 3 (w .0);
+      width = length (w .2);
       parts = partCount (w .4);
       most = w .1;
       places = λ own. map (premissPlace own) (take (w .0) (w .2));
@@ -47,6 +49,7 @@ ofRule r =
     record {
       fewest = fewest (row r .premisses);
       three = fewest (row r .premisses);
+      width = 3;
       parts = fewest (row r .premisses);
       most = most (row r .premisses);
       places = places r;
@@ -73,6 +76,7 @@ table-row table w e i h =
       fewest-is = fewest-is;
       most-is = ap (λ (c : Columns). c .most) same;
       few = omega arith;
+      three = ap (λ (c : Columns). c .width) same;
       places-are = λ own. ap (λ (c : Columns). c .places own) same;
       ending-is = ap (λ (c : Columns). c .ending) same;
       term-is = ap (λ (c : Columns). c .term) same;

@@ -82,6 +82,7 @@ pub record TableRow (r : ProofTreeRule) (w : Row) : Type 0 where
   pub fewest-is : w .0 ≡ fewest (row r .premisses)
   pub most-is : w .1 ≡ most (row r .premisses)
   pub few : w .0 ≤ 3
+  pub three : length (w .2) ≡ 3
   pub places-are : (own : export.Place) → map (premissPlace own) (take (w .0) (w .2)) ≡ places r own
   pub ending-is : endingOf (w .3) ≡ ending r
   pub term-is : termOf (w .4) ≡ ruleTerm r

@@ -11,24 +11,31 @@ use conclusion::conclusion_of;
 use definitions::Refusal;
 use proof_term::PROPOSITION;
 use proof_term::type_ascription;
+use step::premiss;
+use step::premiss_count;
 use step::refusal;
+use step::rule_byte;
 use table::Ending;
 pub use table::Place;
 use table::Row;
+use table::admits_count;
+use table::expected_premisse_mode;
+use table::row_of;
 use term::step_term;
-ghost use Prim.Native.Nat.{ℕ, _+_, _-_, _<_};
+ghost use Prim.Native.Nat.{ℕ, _+_, _*_, _-_, _<_};
 ghost use mathlib.Core.Path.{_≡_};
 ghost use lib.ListN.{getD};
-ghost use Rattle.definitions.specs.Tree.{ruleIn, stepIn};
+ghost use Rattle.definitions.specs.Tree.{ruleIn, stepIn, treeIn};
 ghost use Rattle.definitions.specs.Export.{placedTerm};
+ghost use Rattle.steps.specs.Size.{size};
 ghost use Rattle.proof_term.specs.Records.{termAt};
 ghost use Rattle.proof_term.specs.Making.{Room};
 ghost use Rattle.proof_tree.specs.Table.{placeOf, endingOf, TableRow};
 ghost use Rattle.proof_tree.specs.PropAt.{propAt};
 ghost use Rattle.proof_tree.specs.Labelling.{endingAt};
 ghost use Rattle.proof_tree.specs.Terms.{Parts, firstThree, partTerms};
-ghost use Rattle.proof_tree.specs.Exportable.{GoodStep};
-ghost use Rattle.proof_tree.specs.Exporting.{Answered};
+ghost use Rattle.proof_tree.specs.Exportable.{GoodStep, Exportable};
+ghost use Rattle.proof_tree.specs.Exporting.{Answered, RoomFor, StepExported};
 ghost use Rattle.proof_tree.specs.Wrapping.{Wrapped};
 
 // A term, by the count of the records that are used after it, of which its own is the last; or a refusal.
@@ -96,4 +103,60 @@ fn placed_term(
             wrap_into_type_ascription(conclusion, k, terms, next)
         }
     }
+}
+
+// The term of step k in its place: its premisses are counted on entering it and come next, in order; its conclusion comes last.
+fn do_export_as_proof_term(
+    names: usize,
+    pairs: &[u8],
+    code: &[u8],
+    records: &[u8],
+    sizes: &[u16],
+    k: usize,
+    place: Place,
+    terms: &mut [u16],
+    used: usize,
+) -> Exported
+    requires { ⌜ Exportable names (now pairs) (now code) (now records) (now sizes) (k + 1) ⌝ }
+    requires { ⌜ RoomFor (now terms) (used + 2 * size (treeIn names (now pairs) (now code) (now records) k)) ⌝ }
+    ensures { λ r. ⌜ StepExported names (now (pairs .entry)) (now (code .entry)) (now (records .entry)) k (placeOf place) (now (terms .entry)) used (now (terms .exit)) r ⌝ }
+{
+    let row = row_of(rule_byte(records, k));
+    if !admits_count(row, premiss_count(records, k)) {
+        return Exported::Refused(refusal(12, k));
+    }
+    let reads = row.0 as usize;
+    let places = row.2;
+    let mut parts = [0usize; 3];
+    let mut next = used;
+    for i in 0..reads {
+        let exported = do_export_as_proof_term(
+            names,
+            pairs,
+            code,
+            records,
+            sizes,
+            premiss(records, k, i, sizes),
+            expected_premisse_mode(places[i], place),
+            terms,
+            next,
+        );
+        let Exported::Term(after) = exported else {
+            return exported;
+        };
+        parts[i] = after - 1;
+        next = after;
+    }
+    placed_term(
+        names,
+        pairs,
+        code,
+        records,
+        k,
+        place,
+        row,
+        parts,
+        terms,
+        next,
+    )
 }

@@ -21,7 +21,8 @@ use RuleTerm::Unit;
 ghost use Prim.Native.Nat.{_<_};
 ghost use mathlib.Core.Path.{_≡_};
 ghost use lib.ListN.{length, getD};
-ghost use Rattle.definitions.specs.Tree.{rules, Sorry};
+ghost use Rattle.definitions.specs.Tree.{ProofTreeRule, rules, Sorry};
+ghost use Rattle.definitions.specs.Export.{admitsCount};
 ghost use Rattle.proof_tree.specs.Table.{placeOf, premissPlace, TableRow};
 
 // Document 01's places: the Rust's `ReasoningMode`.
@@ -127,4 +128,14 @@ pub fn expected_premisse_mode(number: u8, own: Place) -> Place
         INFERRING => Place::Inferring,
         _ => own,
     }
+}
+
+// Does a step of the row's rule have so many premisses?
+pub fn admits_count(row: Row, count: u8) -> bool
+    ensures { λ r. ⌜ ((rule : ProofTreeRule) → TableRow rule row → r ≡ admitsCount rule count) ⌝ }
+{
+    if count < row.0 {
+        return false;
+    }
+    count <= row.1
 }
