@@ -15,7 +15,7 @@ use Rattle.definitions.specs.Admission.{tooFewTrees}
 use Rattle.definitions.specs.Export.{Place, admitsCount, places, placedTerm, export, exportAll}
 use Rattle.steps.specs.Size.{size, sizes}
 use Rattle.steps.specs.Tables.{SizeTable}
-use Rattle.steps.proofs.Premisses.{premisses-counted}
+use Rattle.steps.proofs.Premisses.{seam, tree-steps, premisses-counted}
 use Rattle.steps.proofs.Tables.{size-table-shorter}
 use Rattle.proof_term.specs.Records.{termAt}
 use Rattle.proof_tree.specs.declared.table.Row.{Row}
@@ -55,6 +55,11 @@ module _ (names : ℕ) (pairs code records : List ℕ) (k : ℕ) where
   pub size-tree : size (treeIn names pairs code records k) ≡ 1 + sizes (premissesFrom names pairs code records k 0)
   unfolding size treeIn stepOver
   size-tree = rw premisses-are
+
+  pub size-within : size (treeIn names pairs code records k) ≤ k + 1
+  size-within =
+      let (p, s) = seam names pairs code records k (premissCount records k) in
+      omega (arith, tree-steps names pairs code records k p s)
 
   counted : tooFewTrees names pairs code records k ≡ false → count (premissesFrom names pairs code records k 0) ≡ premissCount records k
   unfolding tooFewTrees

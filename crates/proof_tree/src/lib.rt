@@ -26,7 +26,7 @@ ghost use Prim.Native.Nat.{ℕ, _+_, _*_, _-_, _<_};
 ghost use mathlib.Core.Path.{_≡_};
 ghost use lib.ListN.{getD};
 ghost use Rattle.definitions.specs.Tree.{ruleIn, stepIn, treeIn};
-ghost use Rattle.definitions.specs.Export.{placedTerm};
+ghost use Rattle.definitions.specs.Export.{checking, placedTerm};
 ghost use Rattle.steps.specs.Size.{size};
 ghost use Rattle.proof_term.specs.Records.{termAt};
 ghost use Rattle.proof_term.specs.Making.{Room};
@@ -158,5 +158,32 @@ fn do_export_as_proof_term(
         parts,
         terms,
         next,
+    )
+}
+
+// The sheet's term: what the last step gives in a checking place.
+pub fn export_as_proof_term(
+    names: usize,
+    pairs: &[u8],
+    code: &[u8],
+    records: &[u8],
+    sizes: &[u16],
+    steps: usize,
+    terms: &mut [u16],
+) -> Exported
+    requires { ⌜ Exportable names (now pairs) (now code) (now records) (now sizes) steps × (0 < steps) ⌝ }
+    requires { ⌜ RoomFor (now terms) (2 * steps) ⌝ }
+    ensures { λ r. ⌜ StepExported names (now (pairs .entry)) (now (code .entry)) (now (records .entry)) (steps - 1) checking (now (terms .entry)) 0 (now (terms .exit)) r ⌝ }
+{
+    do_export_as_proof_term(
+        names,
+        pairs,
+        code,
+        records,
+        sizes,
+        steps - 1,
+        Place::Checking,
+        terms,
+        0,
     )
 }
