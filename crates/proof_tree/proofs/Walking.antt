@@ -1,0 +1,106 @@
+-- The walk at one step: its premisses are counted, then read, then its term is placed.
+use Prim.Native.Nat.{ℕ, _+_, _*_, _-_, _≤_, _<_}
+use mathlib.Core.Path.{_≡_, refl, sym, ap, _∙_}
+use mathlib.Core.Bool.{true, false, not}
+use mathlib.Core.List.{List}
+use native.Mathlib.Omega.{arith}
+use lib.ListN.{length, getD}
+use borrow.Author.Tests.{ltb-false}
+use Rattle.definitions.specs.Outcome.{Outcome, accepted, refused, refuse, refuseIf, _>>=_}
+use Rattle.definitions.specs.declared.Refusal.{Refusal}
+use Rattle.definitions.specs.Sheet.{premissCount}
+use Rattle.definitions.specs.Term.{ProofTerm}
+use Rattle.definitions.specs.Tree.{none, count, lastTrees, ruleIn, stepIn, stepOver, treesBefore, treeIn}
+use Rattle.definitions.specs.Admission.{tooFewTrees}
+use Rattle.definitions.specs.Export.{Place, admitsCount, places, placedTerm, export, exportAll}
+use Rattle.steps.specs.Size.{size, sizes}
+use Rattle.steps.specs.Tables.{SizeTable}
+use Rattle.steps.proofs.Premisses.{seam, tree-steps, premisses-counted}
+use Rattle.steps.proofs.Tables.{size-table-shorter}
+use Rattle.proof_term.specs.Records.{termAt}
+use Rattle.proof_tree.specs.declared.table.Row.{Row}
+use Rattle.proof_tree.specs.declared.Exported.{Exported}
+use Rattle.proof_tree.specs.declared.Exported.the-variants.{Term, Refused}
+use Rattle.proof_tree.specs.PropAt.{propAt}
+use Rattle.proof_tree.specs.Table.{TableRow}
+use Rattle.proof_tree.specs.Premisses.{premissesFrom}
+use Rattle.proof_tree.specs.Terms.{firstThree, partTerms}
+use Rattle.proof_tree.specs.Exportable.{Exportable}
+use Rattle.proof_tree.specs.Exporting.{ExportedTerm, Answered, gives, refuses, StepExported}
+use Rattle.proof_tree.proofs.ReadPremisses.{PremissesRead, grown-then, read-all}
+
+-- fewer steps can be exported too
+pub exportable-shorter : {names : ℕ} {pairs code records sizes : List ℕ} {m n : ℕ} → m ≤ n → Exportable names pairs code records sizes n → Exportable names pairs code records sizes m
+exportable-shorter {records = records} {sizes} {m} {n} h e =
+    record {
+      good = λ k l. e .good k (omega arith);
+      table = size-table-shorter records sizes m n h (e .table);
+      sized = omega (arith, e .sized);
+    }
+
+-- what an answer says, by its variant
+module _ {names : ℕ} {pairs code records : List ℕ} {k : ℕ} {outcome : Outcome (ProofTerm ℕ)} {before : List ℕ} {used least most : ℕ} {after : List ℕ} where
+  pub term-of : {next : ℕ} → Answered names pairs code records k outcome before used least most after (Term next)
+      → ExportedTerm names pairs code records k outcome before used least most after next
+  term-of (gives t) = t
+
+  pub refusal-of : {r : Refusal} → Answered names pairs code records k outcome before used least most after (Refused r) → outcome ≡ refused r
+  refusal-of (refuses e) = e
+
+module _ (names : ℕ) (pairs code records : List ℕ) (k : ℕ) where
+  premisses-are : lastTrees (premissCount records k) (treesBefore names pairs code records k) none ≡ premissesFrom names pairs code records k 0
+  unfolding premissesFrom
+  premisses-are = let all : premissCount records k - 0 ≡ premissCount records k = omega arith in rw all
+
+  pub size-tree : size (treeIn names pairs code records k) ≡ 1 + sizes (premissesFrom names pairs code records k 0)
+  unfolding size treeIn stepOver
+  size-tree = rw premisses-are
+
+  pub size-within : size (treeIn names pairs code records k) ≤ k + 1
+  size-within =
+      let (p, s) = seam names pairs code records k (premissCount records k) in
+      omega (arith, tree-steps names pairs code records k p s)
+
+  counted : tooFewTrees names pairs code records k ≡ false → count (premissesFrom names pairs code records k 0) ≡ premissCount records k
+  unfolding tooFewTrees
+  counted e =
+      rw (← premisses-are) (premisses-counted names pairs code records k (ltb-false (length (treesBefore names pairs code records k)) (premissCount records k) e))
+
+  export-is : tooFewTrees names pairs code records k ≡ false → (place : Place) → export (treeIn names pairs code records k) place
+      ≡ (refuseIf (not (admitsCount (ruleIn records k) (premissCount records k))) 12 k >>= λ _. exportAll (premissesFrom names pairs code records k 0) (places (ruleIn records k) place) >>= λ ts. placedTerm place (stepIn names pairs code records k) ts)
+  unfolding export treeIn stepOver stepIn
+  export-is e place = rw (premisses-are, counted e)
+
+  export-read : tooFewTrees names pairs code records k ≡ false → admitsCount (ruleIn records k) (premissCount records k) ≡ true → (place : Place) → export (treeIn names pairs code records k) place
+      ≡ (exportAll (premissesFrom names pairs code records k 0) (places (ruleIn records k) place) >>= λ ts. placedTerm place (stepIn names pairs code records k) ts)
+  unfolding refuseIf _>>=_
+  export-read found right place = export-is found place ∙ rw right
+
+-- Step k finds its premisses.
+module _ {names : ℕ} {pairs code records : List ℕ} {k : ℕ} (place : Place) {before : List ℕ} {used : ℕ} {after : List ℕ} (found : tooFewTrees names pairs code records k ≡ false) where
+  pub count-refused : {r : Refusal} → admitsCount (ruleIn records k) (premissCount records k) ≡ false → r ≡ record { number = 12; place = k }
+      → StepExported names pairs code records k place before used after (Refused r)
+  unfolding refuseIf _>>=_ refuse
+  count-refused {r} wrong e = refuses {r = r} (export-is names pairs code records k found place ∙ rw (wrong, e))
+
+  -- The count is right.
+  module _ (right : admitsCount (ruleIn records k) (premissCount records k) ≡ true) where
+    pub premiss-refused : {r : Refusal} → exportAll (premissesFrom names pairs code records k 0) (places (ruleIn records k) place) ≡ refused r
+        → StepExported names pairs code records k place before used after (Refused r)
+    unfolding _>>=_
+    premiss-refused {r} e = refuses {r = r} (export-read names pairs code records k found right place ∙ rw e)
+
+    -- the premisses that are read have been, and the step's term is placed over theirs
+    pub step-placed : {row : Row} {parts terms : List ℕ} {next : ℕ} {r : Exported} → TableRow (ruleIn records k) row
+        → PremissesRead names pairs code records k place row before used (row .0) parts terms next
+        → Answered names pairs code records k (placedTerm place (stepIn names pairs code records k) (partTerms (termAt (propAt names code) terms) (row .0) (firstThree parts))) terms next (next + 1 - row .0) (next + 2) after r
+        → StepExported names pairs code records k place before used after r
+    unfolding _>>=_
+    step-placed is-row read (refuses {r = r} e) = refuses {r = r} (export-read names pairs code records k found right place ∙ (rw (read-all is-row read refl) e))
+    step-placed is-row read (gives {next = last} t) =
+        gives {next = last} (record {
+          holds = export-read names pairs code records k found right place ∙ rw (read-all is-row read refl) (t .holds);
+          low = omega (arith, t .low, read .low);
+          high = omega (arith, t .high, read .high, size-tree names pairs code records k);
+          grown = grown-then (omega (arith, read .low)) (read .grown) (t .grown);
+        })
