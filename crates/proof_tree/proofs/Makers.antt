@@ -12,11 +12,12 @@ use Rattle.definitions.specs.Term.{Label, proposition, ProofTerm}
 use Rattle.definitions.specs.Export.{premissTerm}
 use Rattle.proof_term.specs.Records.{labelOf, parameterLabel, termAt}
 use Rattle.proof_term.specs.Making.{Made}
+use Rattle.proof_term.specs.Counting.{termSize}
 use Rattle.proof_term.proofs.Making.{kept-same}
 use Rattle.proof_tree.specs.declared.table.RuleTerm.{RuleTerm}
-use Rattle.proof_tree.specs.declared.table.RuleTerm.the-variants.{Premiss}
+use Rattle.proof_tree.specs.declared.table.RuleTerm.the-variants.{Pair, ProjectFst, ProjectSnd, Unit, Function, Application, Ident, OrLeft, OrRight, Case, Abort, LetIn, Sorry, Premiss}
 use Rattle.proof_tree.specs.Table.{termOf, partCount}
-use Rattle.proof_tree.specs.Terms.{ownLabel, termOver, partTerms, MadeTerm}
+use Rattle.proof_tree.specs.Terms.{ownLabel, termOver, partTerms, termSizes, MadeTerm}
 
 -- numbers that stand for the same proposition, whichever that is, are the same
 pub same-number : (m n : ℕ) → ((props : ℕ → Prop ℕ) → props n ≡ props m) → m ≡ n
@@ -40,6 +41,25 @@ proposition-label (suc (suc (suc kind))) label number h e = absurd (omega arith)
 no-label : {N : Type 0} (l : Label N) → none ≡ some l → ⊥
 no-label l e = let z : _≡_ {A = ℕ} 0 1 = cc in omega arith
 
+-- a term has one node more than its parts, and the premiss's own is no more than that
+over-size : (term : RuleTerm) (x y : ℕ) (l : Option (Label ℕ)) (f : ℕ → ProofTerm ℕ) (a b c : ℕ)
+    → termSize (termOver term x y l (partTerms f (partCount term) (a ∷ b ∷ c ∷ []))) ≤ 1 + termSizes (partTerms f (partCount term) (a ∷ b ∷ c ∷ []))
+unfolding termOver termOf partTerms partCount premissTerm termSizes termSize
+over-size Pair x y l f a b c = omega arith
+over-size ProjectFst x y l f a b c = omega arith
+over-size ProjectSnd x y l f a b c = omega arith
+over-size Unit x y l f a b c = omega arith
+over-size Function x y l f a b c = omega arith
+over-size Application x y l f a b c = omega arith
+over-size Ident x y l f a b c = omega arith
+over-size OrLeft x y l f a b c = omega arith
+over-size OrRight x y l f a b c = omega arith
+over-size Case x y l f a b c = omega arith
+over-size Abort x y l f a b c = omega arith
+over-size LetIn x y l f a b c = omega arith
+over-size Sorry x y l f a b c = omega arith
+over-size Premiss x y l f a b c = omega arith
+
 module _ {term : RuleTerm} {first second kind label a b c : ℕ} {before : List ℕ} {used : ℕ} {after : List ℕ} {next : ℕ} where
   -- a record that is made over the parts
   module _ {form : RuleTerm} {t : (ℕ → Prop ℕ) → (ℕ → ProofTerm ℕ) → ProofTerm ℕ} (told : term ≡ form) (made : Made t before used after next) where
@@ -50,6 +70,9 @@ module _ {term : RuleTerm} {first second kind label a b c : ℕ} {before : List 
         let last : next - 1 ≡ used = omega (arith, made .counted) in
         record {
           holds = λ props. rw (last, told) (made .holds props ∙ agrees props);
+          small = λ props.
+              rw (last, told, made .holds props ∙ agrees props)
+              (omega (arith, over-size form first second (parameterLabel props kind label) (termAt props before) a b c, made .counted));
           kept = made .kept;
           labels = λ m number h k l.
               let same : m ≡ used = omega (arith, made .counted) in
@@ -68,11 +91,12 @@ module _ {term : RuleTerm} {first second kind label a b c : ℕ} {before : List 
 -- the premiss's own term, which is the newest
 pub premiss-own : {term : RuleTerm} {first second kind label a b c : ℕ} {terms : List ℕ} {used : ℕ} → term ≡ Premiss → a + 1 ≡ used
     → MadeTerm term first second kind label a b c terms used terms used
-unfolding termOver termOf partTerms partCount premissTerm
+unfolding termOver termOf partTerms partCount premissTerm termSizes
 premiss-own {a = a} {used = used} told newest =
     let last : used - 1 ≡ a = omega arith in
     record {
       holds = λ props. rw (last, told);
+      small = λ props. rw (last, told) (omega arith);
       kept = kept-same _ _;
       labels = λ m number h k l. absurd (omega arith);
       some-record = omega arith;

@@ -20,6 +20,7 @@ use Rattle.definitions.specs.Export.{Place, checking, inferring, Ending, bare, 
 use Rattle.definitions.proofs.PrefixCode.{Bytes}
 use Rattle.proof_term.specs.Records.{parameterLabel, termAt}
 use Rattle.proof_term.specs.Making.{Made, Kept}
+use Rattle.proof_term.specs.Counting.{termSize}
 use Rattle.proof_term.proofs.Making.{kept-then}
 use Rattle.proof_tree.specs.declared.table.Place as own
 use Rattle.proof_tree.specs.declared.table.Ending as own-ending
@@ -32,7 +33,7 @@ use Rattle.proof_tree.specs.declared.Exported.{Exported}
 use Rattle.proof_tree.specs.declared.Exported.the-variants.{Term, Refused}
 use Rattle.proof_tree.specs.Table.{placeOf, endingOf, termOf, partCount, TableRow}
 use Rattle.proof_tree.specs.PropAt.{propAt}
-use Rattle.proof_tree.specs.Terms.{ownLabel, HasLabel, termOver, firstThree, partTerms, MadeTerm}
+use Rattle.proof_tree.specs.Terms.{ownLabel, HasLabel, termOver, firstThree, partTerms, termSizes, MadeTerm}
 use Rattle.proof_tree.specs.Opening.{conclusionAt}
 use Rattle.proof_tree.specs.Exportable.{GoodStep}
 use Rattle.proof_tree.specs.Labelling.{endingAt, parameterLabelOf, Means, stands, judges, LabelOf, Annotated, labelled}
@@ -127,8 +128,8 @@ module _ {names : ℕ} {pairs code records : List ℕ} {k : ℕ} {place : own.Pl
       placed-parts (stepIn names pairs code records k) ts (placeOf place)
       ∙ rw (v .ends, v .is-row .ending-is) (inferring-parts (stepIn names pairs code records k) ts (endingAt (placeOf place) (ending (ruleIn records k))))
 
-  pub label-refused : {r : Refusal} {before : List ℕ} {used least most : ℕ} {after : List ℕ} (ts : List (ProofTerm ℕ)) → Annotated names code c label (annotation.Refused r)
-      → Answered names pairs code records k (placed ts) before used least most after (Refused r)
+  pub label-refused : {r : Refusal} {before : List ℕ} {used size least most : ℕ} {after : List ℕ} (ts : List (ProofTerm ℕ)) → Annotated names code c label (annotation.Refused r)
+      → Answered names pairs code records k (placed ts) before used size least most after (Refused r)
   unfolding _>>=_
   label-refused {r} ts a = refuses {r = r} (placed-is ts ∙ rw (refusal-of a))
 
@@ -148,14 +149,18 @@ module _ {names : ℕ} {pairs code records : List ℕ} {k : ℕ} {place : own.Pl
         made .holds (propAt names code) ∙ rw (v .is-row .parts-are) (step-term-is (parameterLabel (propAt names code) kind number) ts) in
         placed-is ts ∙ rw (l .is, is)
 
+    small : used + termSize (termAt (propAt names code) after (next - 1)) ≤ next + termSizes ts
+    small = rw (← (v .is-row .parts-are)) (made .small (propAt names code))
+
     labels : (m offset : ℕ) → used ≤ m → m < next → HasLabel after m offset → LabelOffset pairs code records k offset
     labels m offset h i has = let (one, same) = made .labels m offset h i has in rw same (left-offset (v .good) (v .bytes) (v .concluded) number (l .left one))
 
     pub term-answer : OneOf (0 ∷ 2 ∷ 3 ∷ 4 ∷ []) (tagOf ending-type.the-type e)
-        → Answered names pairs code records k (placed ts) before used (used + 1 - row .0) (used + 2) after (Term next)
+        → Answered names pairs code records k (placed ts) before used (termSizes ts) (used + 1 - row .0) (used + 2) after (Term next)
     term-answer other =
         gives {next = next} (record {
           holds = placed-term ∙ unascribed e (stepIn names pairs code records k) (termAt (propAt names code) after (next - 1)) other;
+          small = small;
           low = omega (arith, made .more, v .is-row .parts-are);
           high = omega (arith, made .few);
           grown = record { kept = made .kept; labels = labels };
@@ -174,13 +179,14 @@ module _ {names : ℕ} {pairs code records : List ℕ} {k : ℕ} {place : own.Pl
         rw (same-number offset at number) (whole-offset (v .good) (v .bytes) (v .concluded) at hc))
 
     pub ascribed-answer : {final : List ℕ} {r : Exported} → e ≡ Ascribed → Ascription names code k c (conclusionIn names pairs code records k) after next final r
-        → Answered names pairs code records k (placed ts) before used (used + 1 - row .0) (used + 2) final r
-    unfolding finishing endingOf stepIn ascriptionLabel _>>=_ refuse
+        → Answered names pairs code records k (placed ts) before used (termSizes ts) (used + 1 - row .0) (used + 2) final r
+    unfolding finishing endingOf stepIn ascriptionLabel _>>=_ refuse termSize
     ascribed-answer {final} he (is-refused {r = r} none13 is) = refuses {r = r} (placed-term ∙ rw (he, none13, is))
     ascribed-answer {final} he (is-ascribed {next = last} hc is more) =
         let end : last - 1 ≡ next = omega (arith, more .counted) in
         gives {next = last} (record {
           holds = placed-term ∙ rw (he, is, end, more .holds (propAt names code));
+          small = rw (end, more .holds (propAt names code)) (omega (arith, small, more .counted));
           low = omega (arith, made .more, v .is-row .parts-are, more .counted);
           high = omega (arith, made .few, more .counted);
           grown = record { kept = kept-then (made .grows) (made .kept) (more .kept); labels = ascribed-labels hc more };

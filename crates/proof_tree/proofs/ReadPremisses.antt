@@ -17,6 +17,7 @@ use Rattle.definitions.specs.Export.{Place, places, export, exportAll}
 use Rattle.steps.specs.Size.{size, sizes}
 use Rattle.proof_term.specs.Records.{recordSize, Each, termAt}
 use Rattle.proof_term.specs.Making.{Room}
+use Rattle.proof_term.specs.Counting.{termSize}
 use Rattle.proof_term.proofs.Making.{kept-same, kept-then}
 use Rattle.proof_tree.specs.declared.table.RuleTerm.{RuleTerm}
 use Rattle.proof_tree.specs.declared.table.RuleTerm.the-variants.{Premiss}
@@ -24,7 +25,7 @@ use Rattle.proof_tree.specs.declared.table.Row.{Row}
 use Rattle.proof_tree.specs.PropAt.{propAt}
 use Rattle.proof_tree.specs.Table.{partCount, premissPlace, TableRow}
 use Rattle.proof_tree.specs.Premisses.{premissesFrom, PremissStep}
-use Rattle.proof_tree.specs.Terms.{ownLabel, HasLabel, firstThree, partTerms, Parts}
+use Rattle.proof_tree.specs.Terms.{ownLabel, HasLabel, firstThree, partTerms, termSizes, Parts}
 use Rattle.proof_tree.specs.Exporting.{LabelOffset, Grown, ExportedTerm}
 
 -- what one more premiss adds to those that were read
@@ -49,7 +50,12 @@ same-terms f g zero parts h = refl
 same-terms f g (suc i) [] h = refl
 same-terms f g (suc i) (part ∷ parts) h = cc (h 0 (omega arith), same-terms f g i parts (λ j l. h (suc j) (omega arith)))
 
-three-parts : (parts : List ℕ) → length parts ≡ 3 → parts ≡ firstThree parts
+one-more-size : (ts : List (ProofTerm ℕ)) (t : ProofTerm ℕ) → termSizes (ts ++ (t ∷ [])) ≡ termSizes ts + termSize t
+unfolding termSizes
+one-more-size [] t = omega arith
+one-more-size (s ∷ ts) t = omega (arith, one-more-size ts t)
+
+pub three-parts : (parts : List ℕ) → length parts ≡ 3 → parts ≡ firstThree parts
 three-parts [] e = absurd (omega arith)
 three-parts (a ∷ []) e = absurd (omega arith)
 three-parts (a ∷ b ∷ []) e = absurd (omega arith)
@@ -96,6 +102,7 @@ pub record PremissesRead (names : ℕ) (pairs code records : List ℕ) (k : ℕ)
   pub three : length parts ≡ 3
   pub left : exportAll (premissesFrom names pairs code records k 0) (places (ruleIn records k) place)
       ≡ (exportAll (premissesFrom names pairs code records k i) (drop i (places (ruleIn records k) place)) >>= λ ts. accepted (partTerms (termAt (propAt names code) terms) i parts ++ ts))
+  pub small : used + termSizes (partTerms (termAt (propAt names code) terms) i parts) ≤ next
   pub earlier : (j : ℕ) → j < i → getD parts j 0 < next
   pub newest : (j : ℕ) → j + 1 ≡ i → getD parts j 0 + 1 ≡ next
   pub grown : Grown pairs code records k before used terms next
@@ -105,12 +112,13 @@ pub record PremissesRead (names : ℕ) (pairs code records : List ℕ) (k : ℕ)
 
 pub read-none : (names : ℕ) (pairs code records : List ℕ) (k : ℕ) (place : Place) (row : Row) (terms : List ℕ) (used : ℕ)
     → PremissesRead names pairs code records k place row terms used 0 (0 ∷ 0 ∷ 0 ∷ []) terms used
-unfolding partTerms
+unfolding partTerms termSizes
 read-none names pairs code records k place row terms used =
     record {
       position = omega arith;
       three = refl;
       left = then-none _;
+      small = omega arith;
       earlier = λ j h. absurd (omega arith);
       newest = λ j h. absurd (omega arith);
       grown = grown-none terms used;
@@ -156,7 +164,7 @@ module _ {names : ℕ} {pairs code records : List ℕ} {k : ℕ} {place : Place}
     room-next = omega (arith, sizes-next, read .high)
 
     -- Its term, whose record is the newest.
-    module _ {terms′ : List ℕ} {last : ℕ} (a : ExportedTerm names pairs code records q (export (treeIn names pairs code records q) m) terms next (next + 1) (next + 2 * size (treeIn names pairs code records q)) terms′ last) where
+    module _ {terms′ : List ℕ} {last : ℕ} (a : ExportedTerm names pairs code records q (export (treeIn names pairs code records q) m) terms next 0 (next + 1) (next + 2 * size (treeIn names pairs code records q)) terms′ last) where
       held : partTerms (termAt (propAt names code) terms′) (i + 1) (set parts i (last - 1))
           ≡ partTerms (termAt (propAt names code) terms) i parts ++ (termAt (propAt names code) terms′ (last - 1) ∷ [])
       unfolding partTerms
@@ -175,6 +183,7 @@ module _ {names : ℕ} {pairs code records : List ℕ} {k : ℕ} {place : Place}
             position = omega arith;
             three = rw length-set (read .three);
             left = read .left ∙ (next-left (partTerms (termAt (propAt names code) terms) i parts) ∙ rw (a .holds, held) (then-more (exportAll (premissesFrom names pairs code records k (i + 1)) (drop (i + 1) (places (ruleIn records k) place))) (termAt (propAt names code) terms′ (last - 1)) (partTerms (termAt (propAt names code) terms) i parts)));
+            small = rw (held, one-more-size) (omega (arith, read .small, a .small));
             earlier = below-more (λ j. getD (set parts i (last - 1)) j 0 < last) i
                 (λ j l. rw (getD-set-other parts i j (last - 1) 0 (omega arith)) (omega (arith, read .earlier j l, a .low)))
                 (rw (getD-set-same parts i (last - 1) 0 within) (omega (arith, a .low)));

@@ -17,17 +17,15 @@ use Rattle.steps.specs.Size.{size, sizes}
 use Rattle.steps.specs.Tables.{SizeTable}
 use Rattle.steps.proofs.Premisses.{seam, tree-steps, premisses-counted}
 use Rattle.steps.proofs.Tables.{size-table-shorter}
-use Rattle.proof_term.specs.Records.{termAt}
 use Rattle.proof_tree.specs.declared.table.Row.{Row}
 use Rattle.proof_tree.specs.declared.Exported.{Exported}
 use Rattle.proof_tree.specs.declared.Exported.the-variants.{Term, Refused}
-use Rattle.proof_tree.specs.PropAt.{propAt}
 use Rattle.proof_tree.specs.Table.{TableRow}
 use Rattle.proof_tree.specs.Premisses.{premissesFrom}
-use Rattle.proof_tree.specs.Terms.{firstThree, partTerms}
+use Rattle.proof_tree.specs.Terms.{firstThree}
 use Rattle.proof_tree.specs.Exportable.{Exportable}
-use Rattle.proof_tree.specs.Exporting.{ExportedTerm, Answered, gives, refuses, StepExported}
-use Rattle.proof_tree.proofs.ReadPremisses.{PremissesRead, grown-then, read-all}
+use Rattle.proof_tree.specs.Exporting.{ExportedTerm, Answered, gives, refuses, StepPlaced, StepExported}
+use Rattle.proof_tree.proofs.ReadPremisses.{PremissesRead, three-parts, grown-then, read-all}
 
 -- fewer steps can be exported too
 pub exportable-shorter : {names : ℕ} {pairs code records sizes : List ℕ} {m n : ℕ} → m ≤ n → Exportable names pairs code records sizes n → Exportable names pairs code records sizes m
@@ -39,12 +37,12 @@ exportable-shorter {records = records} {sizes} {m} {n} h e =
     }
 
 -- what an answer says, by its variant
-module _ {names : ℕ} {pairs code records : List ℕ} {k : ℕ} {outcome : Outcome (ProofTerm ℕ)} {before : List ℕ} {used least most : ℕ} {after : List ℕ} where
-  pub term-of : {next : ℕ} → Answered names pairs code records k outcome before used least most after (Term next)
-      → ExportedTerm names pairs code records k outcome before used least most after next
+module _ {names : ℕ} {pairs code records : List ℕ} {k : ℕ} {outcome : Outcome (ProofTerm ℕ)} {before : List ℕ} {used size least most : ℕ} {after : List ℕ} where
+  pub term-of : {next : ℕ} → Answered names pairs code records k outcome before used size least most after (Term next)
+      → ExportedTerm names pairs code records k outcome before used size least most after next
   term-of (gives t) = t
 
-  pub refusal-of : {r : Refusal} → Answered names pairs code records k outcome before used least most after (Refused r) → outcome ≡ refused r
+  pub refusal-of : {r : Refusal} → Answered names pairs code records k outcome before used size least most after (Refused r) → outcome ≡ refused r
   refusal-of (refuses e) = e
 
 module _ (names : ℕ) (pairs code records : List ℕ) (k : ℕ) where
@@ -93,13 +91,14 @@ module _ {names : ℕ} {pairs code records : List ℕ} {k : ℕ} (place : Place)
     -- the premisses that are read have been, and the step's term is placed over theirs
     pub step-placed : {row : Row} {parts terms : List ℕ} {next : ℕ} {r : Exported} → TableRow (ruleIn records k) row
         → PremissesRead names pairs code records k place row before used (row .0) parts terms next
-        → Answered names pairs code records k (placedTerm place (stepIn names pairs code records k) (partTerms (termAt (propAt names code) terms) (row .0) (firstThree parts))) terms next (next + 1 - row .0) (next + 2) after r
+        → StepPlaced names pairs code records k place (row .0) (firstThree parts) terms next after r
         → StepExported names pairs code records k place before used after r
     unfolding _>>=_
-    step-placed is-row read (refuses {r = r} e) = refuses {r = r} (export-read names pairs code records k found right place ∙ (rw (read-all is-row read refl) e))
-    step-placed is-row read (gives {next = last} t) =
+    step-placed {parts = parts} is-row read (refuses {r = r} e) = refuses {r = r} (export-read names pairs code records k found right place ∙ (rw (read-all is-row read refl) e))
+    step-placed {parts = parts} is-row read (gives {next = last} t) =
         gives {next = last} (record {
           holds = export-read names pairs code records k found right place ∙ rw (read-all is-row read refl) (t .holds);
+          small = omega (arith, t .small, rw (three-parts parts (read .three)) at (read .small));
           low = omega (arith, t .low, read .low);
           high = omega (arith, t .high, read .high, size-tree names pairs code records k);
           grown = grown-then (omega (arith, read .low)) (read .grown) (t .grown);

@@ -9,6 +9,7 @@ use Rattle.definitions.specs.Term.{Label, proposition, ProofTerm, Ident, Pair, 
 use Rattle.definitions.specs.Export.{premissTerm}
 use Rattle.proof_term.specs.Records.{Each, parameterLabel, termAt}
 use Rattle.proof_term.specs.Making.{Room, Kept}
+use Rattle.proof_term.specs.Counting.{termSize}
 use Rattle.proof_tree.specs.declared.table.RuleTerm.{RuleTerm}
 use Rattle.proof_tree.specs.declared.table.RuleTerm.the-variants.{Premiss}
 use Rattle.proof_tree.specs.Table.{termOf, partCount}
@@ -42,6 +43,11 @@ firstThree parts = getD parts 0 0 ∷ getD parts 1 0 ∷ getD parts 2 0 ∷ []
 unfoldable pub partTerms : (ℕ → ProofTerm ℕ) → ℕ → List ℕ → List (ProofTerm ℕ)
 partTerms term count parts = map term (take count parts)
 
+-- the nodes of terms
+unfoldable pub termSizes : List (ProofTerm ℕ) → ℕ
+termSizes [] = 0
+termSizes (t ∷ ts) = termSize t + termSizes ts
+
 -- there is room for a record; its parts are earlier ones; and a premiss's own term is the newest
 pub record Parts (term : RuleTerm) (a b c : ℕ) (terms : List ℕ) (used : ℕ) : Type 0 where
   pub room : Room terms used
@@ -52,6 +58,7 @@ pub record Parts (term : RuleTerm) (a b c : ℕ) (terms : List ℕ) (used : ℕ)
 pub record MadeTerm (term : RuleTerm) (first second kind label a b c : ℕ) (before : List ℕ) (used : ℕ) (after : List ℕ) (next : ℕ) : Type 0 where
   pub holds : (props : ℕ → Prop ℕ) → termAt props after (next - 1)
       ≡ termOver term first second (parameterLabel props kind label) (partTerms (termAt props before) (partCount term) (a ∷ b ∷ c ∷ []))
+  pub small : (props : ℕ → Prop ℕ) → used + termSize (termAt props after (next - 1)) ≤ next + termSizes (partTerms (termAt props before) (partCount term) (a ∷ b ∷ c ∷ []))
   pub kept : Kept used before after
   pub labels : (m number : ℕ) → used ≤ m → m < next → HasLabel after m number → (kind ≡ 1) × (number ≡ label)
   pub some-record : 0 < next
