@@ -1,1 +1,1 @@
-pub mod ExportedSize
+pub mod Accepted
