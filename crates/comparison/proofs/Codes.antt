@@ -19,8 +19,7 @@ use Rattle.sheet.specs.declared.header.Sheet.{Sheet}
 use Rattle.sheet.specs.Header.{headerOf, HasHeader}
 use Rattle.sheet.proofs.Admitted.{AcceptedSheet, has-header, has-codes, has-steps, names-within}
 use Rattle.alpha_eq.specs.declared.Answer.{Answer}
-use Rattle.alpha_eq.specs.Comparing.{Two, outcomeOf, Decides}
-use Rattle.alpha_eq.specs.Comparing as comparing
+use Rattle.alpha_eq.specs.Comparing.{Two, TwoPropositions, outcomeOf, Decides}
 use Rattle.comparison.specs.Conclusions.{namedProp}
 
 bytes-drop : (n : ℕ) (l : List ℕ) → Bytes l → Bytes (drop n l)
@@ -78,15 +77,11 @@ module _ {s : List ℕ} {h : Sheet} (a : AcceptedSheet s h) where
     two : Two propositionCoding (codeBytes s) (pairOffset (propositionPairs s) p) (pairOffset (propositionPairs s) q) (names s)
     two =
         record {
-          left = propOf s p;
-          left-rest = _;
-          left-at = marked-stands _ _ _ p _ code-of-bytes (a .sheet .decoded p left);
-          right = propOf s q;
-          right-rest = _;
-          right-at = marked-stands _ _ _ q _ code-of-bytes (a .sheet .decoded q right);
+          left = record { value = propOf s p; rest = _; stands = marked-stands _ _ _ p _ code-of-bytes (a .sheet .decoded p left) };
+          right = record { value = propOf s q; rest = _; stands = marked-stands _ _ _ q _ code-of-bytes (a .sheet .decoded q right) };
         }
 
-    pub two-admitted : comparing.Admitted (codeBytes s) (pairOffset (propositionPairs s) p) (pairOffset (propositionPairs s) q) (namePairs s) (textBytes s)
+    pub two-admitted : TwoPropositions (codeBytes s) (pairOffset (propositionPairs s) p) (pairOffset (propositionPairs s) q) (namePairs s) (textBytes s)
     unfolding two
     two-admitted =
         record {
