@@ -1,17 +1,13 @@
 -- What a reader of the term records may know of a label that is a proposition: a proposition stands at its offset.
-use Prim.Native.Nat.{ℕ, _+_, _<_}
-use mathlib.Core.Path.{_≡_, refl, sym, ap, _∙_}
+use Prim.Native.Nat.{ℕ, _+_}
+use mathlib.Core.Path.{_≡_, ap, _∙_}
 use mathlib.Core.Logic.{⊎-elim}
-use mathlib.Core.Option.{some}
 use mathlib.Core.List.{List}
 use native.Mathlib.Omega.{arith}
-use lib.ListN.{getD}
 use borrow.Author.Tests.{ne-eqb}
-use Rattle.definitions.specs.Prop.{Prop}
-use Rattle.definitions.specs.Sheet.{pairOffset, stepNumber}
 use Rattle.definitions.specs.Term.{proposition}
 use Rattle.definitions.proofs.PrefixCode.{Bytes}
-use Rattle.proof_term.specs.Records.{fieldAt, labelOf, parameterLabel, recordTermAt, termAt}
+use Rattle.proof_term.specs.Records.{fieldAt, labelOf, parameterLabel, recordTermAt}
 use Rattle.proof_term.proofs.Records.{termAt-is}
 use Rattle.proof_tree.specs.PropAt.{Present}
 use Rattle.proof_tree.specs.Terms.{ownLabel, HasLabel}

@@ -1,12 +1,12 @@
 -- The walk at one step: its premisses are counted, then read, then its term is placed.
 use Prim.Native.Nat.{ℕ, _+_, _*_, _-_, _≤_, _<_}
-use mathlib.Core.Path.{_≡_, refl, sym, ap, _∙_}
+use mathlib.Core.Path.{_≡_, _∙_}
 use mathlib.Core.Bool.{true, false, not}
 use mathlib.Core.List.{List}
 use native.Mathlib.Omega.{arith}
-use lib.ListN.{length, getD}
+use lib.ListN.{length}
 use borrow.Author.Tests.{ltb-false}
-use Rattle.definitions.specs.Outcome.{Outcome, accepted, refused, refuse, refuseIf, _>>=_}
+use Rattle.definitions.specs.Outcome.{Outcome, refused, refuse, refuseIf, _>>=_}
 use Rattle.definitions.specs.declared.Refusal.{Refusal}
 use Rattle.definitions.specs.Sheet.{premissCount}
 use Rattle.definitions.specs.Term.{ProofTerm}
@@ -14,7 +14,6 @@ use Rattle.definitions.specs.Tree.{none, count, lastTrees, ruleIn, stepIn, step
 use Rattle.definitions.specs.Admission.{tooFewTrees}
 use Rattle.definitions.specs.Export.{Place, admitsCount, places, placedTerm, export, exportAll}
 use Rattle.steps.specs.Size.{size, sizes}
-use Rattle.steps.specs.Tables.{SizeTable}
 use Rattle.steps.proofs.Premisses.{seam, tree-steps, premisses-counted}
 use Rattle.steps.proofs.Tables.{size-table-shorter}
 use Rattle.proof_term.specs.Records.{recordSize}
