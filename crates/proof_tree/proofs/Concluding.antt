@@ -1,20 +1,18 @@
 -- What taking a good step's conclusion apart gives: the step's conclusion, and the offset of its proposition.
-use Prim.Native.Nat.{ℕ, _+_, _<_, _≤_}
-use mathlib.Core.Path.{_≡_, refl, sym, ap, _∙_}
+use Prim.Native.Nat.{ℕ}
+use mathlib.Core.Path.{_≡_, refl, sym, _∙_}
 use mathlib.Core.Logic.{inl, inr}
 use mathlib.Core.Bool.{Bool, true, false, cond}
 use mathlib.Core.List.{List}
 use native.Mathlib.Omega.{arith}
-use lib.ListN.{length}
 use lib.Dec.{eqb}
 use borrow.Author.Tests.{eqb-true}
 use Rattle.definitions.specs.Sheet.{pairOffset, stepNumber}
 use Rattle.definitions.specs.Tree as tree
-use Rattle.definitions.specs.Tree.{ProofTreeConclusion, propIn, identifierIn, conclusionIn}
+use Rattle.definitions.specs.Tree.{propIn, identifierIn, conclusionIn}
 use Rattle.definitions.proofs.PrefixCode.{Bytes}
 use Rattle.proof_tree.specs.declared.conclusion.Conclusion.{Conclusion}
 use Rattle.proof_tree.specs.declared.conclusion.Conclusion.the-variants.{PropIsTrue, TypeJudgement}
-use Rattle.proof_tree.specs.PropAt.{Present}
 use Rattle.proof_tree.specs.Opening.{conclusionAt, Readable}
 use Rattle.proof_tree.specs.Exportable.{GoodStep}
 use Rattle.proof_tree.specs.Labelling.{Means, stands, judges, LeftSide}

@@ -1,15 +1,15 @@
 -- What a conclusion taken apart says of the step's: where its proposition stands, and which label it has.
-use Prim.Native.Nat.{ℕ, _+_, _≤_, _<_}
-use mathlib.Core.Path.{_≡_, refl, sym, ap, _∙_}
+use Prim.Native.Nat.{ℕ, _+_}
+use mathlib.Core.Path.{_≡_, refl, sym, _∙_}
 use mathlib.Core.Bool.{Bool, true, false, cond}
 use mathlib.Core.Option.{Option, none, some}
 use mathlib.Core.List.{List}
 use native.Mathlib.Omega.{arith}
-use lib.ListN.{length, getD}
+use lib.ListN.{getD}
 use lib.Dec.{eqb}
-use borrow.Author.Tests.{eq-eqb, ne-eqb, eqb-true, eqb-false}
-use Rattle.definitions.specs.Outcome.{Outcome, accepted, refused, refuse}
-use Rattle.definitions.specs.Prop.{Prop, Binary, Quantified, Sides, Scope, asBinary, asQuantified, impl, forAll, connectiveByte, quantifierByte, eqConnective, eqQuantifier}
+use borrow.Author.Tests.{eq-eqb, ne-eqb, eqb-true}
+use Rattle.definitions.specs.Outcome.{accepted, refuse}
+use Rattle.definitions.specs.Prop.{Sides, Scope, asBinary, asQuantified, connectiveByte, quantifierByte, eqConnective, eqQuantifier}
 use Rattle.definitions.specs.Code.{encode}
 use Rattle.definitions.specs.Sheet.{numberAt}
 use Rattle.definitions.specs.Term.{proposition, datatype}
@@ -19,7 +19,6 @@ use Rattle.definitions.proofs.Views.{asBinary-some, asQuantified-some}
 use Rattle.prefix_code.specs.Scan.{Stands}
 use Rattle.prefix_code.proofs.Positions.{byte-at}
 use Rattle.prefix_code.proofs.Forms.{inside-at, binary-at, quantified-at}
-use Rattle.proof_tree.specs.declared.conclusion.Head.{Head}
 use Rattle.proof_tree.specs.declared.conclusion.Head.the-variants.{Impl, ForAll, Other}
 use Rattle.proof_tree.specs.PropAt.{propAt, Present}
 use Rattle.proof_tree.specs.Opening.{headAt, Readable}

@@ -2,11 +2,10 @@
 use Prim.Native.Nat.{ℕ, _+_, _-_, _<_, _≤_}
 use mathlib.Core.Path.{_≡_, refl, sym, ap, _∙_}
 use mathlib.Core.Logic.{by-cases}
-use mathlib.Core.Option.{Option, none, some}
+use mathlib.Core.Option.{Option, some}
 use mathlib.Core.List.{List, [], _∷_}
 use native.Mathlib.Omega.{arith}
 use native.Mathlib.Decide.{decLt}
-use lib.ListN.{getD}
 use types.Run.{OneOf, miss}
 use denote.Enum.Declared.{tagOf}
 use Rattle.definitions.specs.Outcome.{Outcome, accepted, refused, refuse, _>>=_, mapOutcome}
@@ -19,7 +18,7 @@ use Rattle.definitions.specs.Term.{Label, proposition, ProofTerm, TypeAscriptio
 use Rattle.definitions.specs.Export.{Place, checking, inferring, Ending, bare, ascribed, leftLabelled, datatypeLabelled, premissOwn, ending, ascriptionLabel, leftLabel, datatypeLabel, stepTerm, inferringTerm, placedTerm}
 use Rattle.definitions.proofs.PrefixCode.{Bytes}
 use Rattle.proof_term.specs.Records.{parameterLabel, termAt}
-use Rattle.proof_term.specs.Making.{Made, Kept}
+use Rattle.proof_term.specs.Making.{Made}
 use Rattle.proof_term.specs.Counting.{termSize}
 use Rattle.proof_term.proofs.Making.{kept-then}
 use Rattle.proof_tree.specs.declared.table.Place as own
@@ -31,19 +30,19 @@ use Rattle.proof_tree.specs.declared.conclusion.Conclusion.the-variants.
 use Rattle.proof_tree.specs.declared.conclusion.Annotation.the-variants as annotation
 use Rattle.proof_tree.specs.declared.Exported.{Exported}
 use Rattle.proof_tree.specs.declared.Exported.the-variants.{Term, Refused}
-use Rattle.proof_tree.specs.Table.{placeOf, endingOf, termOf, partCount, TableRow}
+use Rattle.proof_tree.specs.Table.{placeOf, endingOf, TableRow}
 use Rattle.proof_tree.specs.PropAt.{propAt}
-use Rattle.proof_tree.specs.Terms.{ownLabel, HasLabel, termOver, firstThree, partTerms, termSizes, MadeTerm}
+use Rattle.proof_tree.specs.Terms.{ownLabel, HasLabel, termOver, partTerms, termSizes, MadeTerm}
 use Rattle.proof_tree.specs.Opening.{conclusionAt}
 use Rattle.proof_tree.specs.Exportable.{GoodStep}
 use Rattle.proof_tree.specs.Labelling.{endingAt, parameterLabelOf, Means, stands, judges, LabelOf, Annotated, labelled}
 use Rattle.proof_tree.specs.Labelling as labelling
 use Rattle.proof_tree.specs.Wrapping as wrapping
 use Rattle.proof_tree.specs.Wrapping.{Wrapped, ascribes}
-use Rattle.proof_tree.specs.Exporting.{LabelOffset, Grown, ExportedTerm, Answered, gives, refuses}
+use Rattle.proof_tree.specs.Exporting.{LabelOffset, Answered, gives, refuses}
 use Rattle.proof_tree.proofs.table.Ending as ending-type
 use Rattle.proof_tree.proofs.Makers.{same-number}
-use Rattle.proof_tree.proofs.Concluding.{means, whole-offset, left-offset}
+use Rattle.proof_tree.proofs.Concluding.{whole-offset, left-offset}
 
 -- the term that a step's term becomes by its ending
 finishing : Ending → Step ℕ → ProofTerm ℕ → Outcome (ProofTerm ℕ)

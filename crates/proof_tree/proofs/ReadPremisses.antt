@@ -25,8 +25,8 @@ use Rattle.proof_tree.specs.declared.table.Row.{Row}
 use Rattle.proof_tree.specs.PropAt.{propAt}
 use Rattle.proof_tree.specs.Table.{partCount, premissPlace, TableRow}
 use Rattle.proof_tree.specs.Premisses.{premissesFrom, PremissStep}
-use Rattle.proof_tree.specs.Terms.{ownLabel, HasLabel, firstThree, partTerms, termSizes, Parts}
-use Rattle.proof_tree.specs.Exporting.{LabelOffset, Grown, ExportedTerm}
+use Rattle.proof_tree.specs.Terms.{ownLabel, firstThree, partTerms, termSizes, Parts}
+use Rattle.proof_tree.specs.Exporting.{Grown, ExportedTerm}
 
 -- what one more premiss adds to those that were read
 then-more : {A : Type 0} (o : Outcome (List A)) (a : A) (s : List A)

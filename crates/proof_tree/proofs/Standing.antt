@@ -1,5 +1,5 @@
 -- A proposition that stands at an offset is the one that is read there; and the pair of a proposition says where it stands.
-use Prim.Native.Nat.{ℕ, _+_, _≤_, _<_}
+use Prim.Native.Nat.{ℕ, _+_}
 use mathlib.Core.Path.{_≡_, refl, sym, ap, _∙_}
 use mathlib.Core.Logic.{by-cases}
 use mathlib.Core.Bool.{false}
@@ -7,7 +7,7 @@ use mathlib.Core.Option.{Option, none, some, Option·getD}
 use mathlib.Core.List.{List}
 use native.Mathlib.Omega.{arith}
 use native.Mathlib.Decide.{decLt}
-use lib.ListN.{length, take, drop, getD, length-take, take-append-drop, List·getD-eq-default}
+use lib.ListN.{length, take, drop, length-take, take-append-drop, List·getD-eq-default}
 use lib.Seq.{getD-take, getD-drop}
 use Rattle.definitions.specs.Prop.{Prop, False}
 use Rattle.definitions.specs.Code.{proposition, decode}

@@ -2,7 +2,7 @@
 use Prim.Native.Nat.{ℕ, _≤_}
 use mathlib.Core.Path.{_≡_}
 use mathlib.Core.Option.{Option}
-use mathlib.Core.List.{List, [], _∷_, map}
+use mathlib.Core.List.{[], _∷_, map}
 use lib.ListN.{length, getD, take}
 use Rattle.definitions.specs.Tree.{ProofTreeRule}
 use Rattle.definitions.specs.Term as term

@@ -9,7 +9,7 @@ use proof_term::NO_LABEL;
 use proof_term::PROPOSITION;
 ghost use Prim.Native.Nat.{ℕ, _+_, _*_, _<_, _≤_};
 ghost use mathlib.Core.Path.{_≡_};
-ghost use lib.ListN.{length, getD};
+ghost use lib.ListN.{length};
 ghost use Rattle.definitions.specs.Sheet.{pairSize, stepNumber};
 ghost use Rattle.definitions.specs.Tree.{ProofTreeConclusion};
 ghost use Rattle.steps.specs.Records.{HasStep};

@@ -32,13 +32,21 @@ pub fn step_number(records: &[u8], k: usize, at: usize) -> usize
     number_at(records, STEP_SIZE * k + at)
 }
 
+// How many of the premisses come after the one of a position.
+fn later_premisses(count: usize, position: usize) -> usize
+    requires { ⌜ position < count ⌝ }
+    ensures { λ r. ⌜ position + 1 + r ≡ count ⌝ }
+{
+    count - position - 1
+}
+
 // The step that finishes the premiss of a position, earliest first: back from step k over the premisses after it.
 pub fn premiss(records: &[u8], k: usize, position: usize, sizes: &[u16]) -> usize
     requires { ⌜ (HasStep (now records) k) × (position < premissCount (now records) k) ⌝ }
     requires { ⌜ (k ≤ length (now sizes)) × SizeTable (now records) (k + 1) (now sizes) ⌝ }
     ensures { λ r. ⌜ PremissStep (now (records .entry)) k position r ⌝ }
 {
-    let later = premiss_count(records, k) as usize - position - 1;
+    let later = later_premisses(premiss_count(records, k) as usize, position);
     let mut start = k;
     for _ in 0..later {
         start -= sizes[start - 1] as usize;

@@ -75,40 +75,23 @@ const NONE: u8 = 3;
 const MANY: u8 = 255;
 
 const ROWS: [Row; 17] = [
-    // AndIntro
-    Row(2, 2, [OWN, OWN, NONE], Bare, Pair),
-    // AndElimFst
-    Row(1, 1, [INFERRING, NONE, NONE], Bare, ProjectFst),
-    // AndElimSnd
-    Row(1, 1, [INFERRING, NONE, NONE], Bare, ProjectSnd),
-    // TrueIntro
-    Row(0, MANY, [NONE, NONE, NONE], Bare, Unit),
-    // ImplIntro
-    Row(1, 1, [OWN, NONE, NONE], LeftLabelled, Function),
-    // ImplElim
-    Row(2, 2, [INFERRING, CHECKING, NONE], Bare, Application),
-    // Ident
-    Row(0, MANY, [NONE, NONE, NONE], Bare, Ident),
-    // OrIntroFst
-    Row(1, 1, [CHECKING, NONE, NONE], Ascribed, OrLeft),
-    // OrIntroSnd
-    Row(1, 1, [CHECKING, NONE, NONE], Ascribed, OrRight),
-    // OrElim
-    Row(3, 3, [INFERRING, OWN, OWN], Bare, Case),
-    // FalsumElim
-    Row(1, 1, [CHECKING, NONE, NONE], Ascribed, Abort),
-    // ForAllIntro
-    Row(1, 1, [OWN, NONE, NONE], DatatypeLabelled, Function),
-    // ForAllElim
-    Row(2, 2, [INFERRING, CHECKING, NONE], Bare, Application),
-    // ExistsIntro
-    Row(2, 2, [CHECKING, CHECKING, NONE], Ascribed, Pair),
-    // ExistsElim
-    Row(2, 2, [INFERRING, OWN, NONE], Bare, LetIn),
-    // Sorry
-    Row(0, MANY, [NONE, NONE, NONE], Ascribed, Sorry),
-    // AlphaEquivalent
-    Row(1, MANY, [OWN, NONE, NONE], PremissOwn, Premiss),
+    Row(2, 2, [OWN, OWN, NONE], Bare, Pair), // AndIntro
+    Row(1, 1, [INFERRING, NONE, NONE], Bare, ProjectFst), // AndElimFst
+    Row(1, 1, [INFERRING, NONE, NONE], Bare, ProjectSnd), // AndElimSnd
+    Row(0, MANY, [NONE, NONE, NONE], Bare, Unit), // TrueIntro
+    Row(1, 1, [OWN, NONE, NONE], LeftLabelled, Function), // ImplIntro
+    Row(2, 2, [INFERRING, CHECKING, NONE], Bare, Application), // ImplElim
+    Row(0, MANY, [NONE, NONE, NONE], Bare, Ident), // Ident
+    Row(1, 1, [CHECKING, NONE, NONE], Ascribed, OrLeft), // OrIntroFst
+    Row(1, 1, [CHECKING, NONE, NONE], Ascribed, OrRight), // OrIntroSnd
+    Row(3, 3, [INFERRING, OWN, OWN], Bare, Case), // OrElim
+    Row(1, 1, [CHECKING, NONE, NONE], Ascribed, Abort), // FalsumElim
+    Row(1, 1, [OWN, NONE, NONE], DatatypeLabelled, Function), // ForAllIntro
+    Row(2, 2, [INFERRING, CHECKING, NONE], Bare, Application), // ForAllElim
+    Row(2, 2, [CHECKING, CHECKING, NONE], Ascribed, Pair), // ExistsIntro
+    Row(2, 2, [INFERRING, OWN, NONE], Bare, LetIn), // ExistsElim
+    Row(0, MANY, [NONE, NONE, NONE], Ascribed, Sorry), // Sorry
+    Row(1, MANY, [OWN, NONE, NONE], PremissOwn, Premiss), // AlphaEquivalent
 ];
 
 // The row of the rule of a byte.

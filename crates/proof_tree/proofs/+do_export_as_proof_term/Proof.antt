@@ -1,7 +1,7 @@
 -- The loop's invariant: what is left of the premisses decides what they all come to. The calls end by the step's number.
-use Prim.Native.Nat.{ℕ, _+_, _*_, _-_, _<_, _≤_}
-use mathlib.Core.Path.{_≡_, refl, sym, _∙_}
-use mathlib.Core.Bool.{true, false}
+use Prim.Native.Nat.{ℕ, _+_, _-_, _<_, _≤_}
+use mathlib.Core.Path.{_≡_, sym, _∙_}
+use mathlib.Core.Bool.{false}
 use native.Mathlib.Omega.{arith}
 use borrow.Author.Needs.{needs}
 use borrow.Author.Tests.{not-true, not-false}
@@ -14,7 +14,7 @@ use Rattle.proof_tree.specs.Table.{placeOf, TableRow}
 use Rattle.proof_tree.specs.Exportable.{GoodStep}
 use Rattle.proof_tree.proofs.Counts.{enough}
 use Rattle.proof_tree.proofs.ReadPremisses.{PremissesRead, read-none, read-more, read-refused, room-next, read-parts}
-use Rattle.proof_tree.proofs.Walking.{exportable-shorter, term-of, refusal-of, size-tree, count-refused, premiss-refused, step-placed}
+use Rattle.proof_tree.proofs.Walking.{exportable-shorter, term-of, refusal-of, size-tree, count-refused, Entered, premiss-refused, step-placed}
 use borrow.Fn.Kinds.{In}
 use borrow.Fn.PlainCycle.{Measures, is, falls, and}
 use Rattle.proof_tree.proofs.do_export_as_proof_term.Reads as reads
@@ -80,13 +80,19 @@ module _ (t : ℕ) where
   found : (c : lts.Start (claims t) (Pre t) reads.Post Inv-loop μ-loop) → tooFewTrees (c .args .names) (now (c .args .pairs)) (now (c .args .code)) (now (c .args .records)) (c .args .k) ≡ false
   found c = c .pre .1 .0 .table .enough _ _ _ _ (omega arith)
 
-  admitted : (c : lts.Else1 (claims t) (Pre t) reads.Post Inv-loop μ-loop) → let s = c .before .before .before .before .before .before .before .before .before .before .args in admitsCount (ruleIn (now (s .records)) (s .k)) (premissCount (now (s .records)) (s .k)) ≡ true
-  admitted c = rw (c .before .before .premiss-count .ensures) at (sym (c .before .admits-count .ensures _ (is-row (c .before .before .before))) ∙ not-false _ (c .if1 .left))
+  entered : (c : lts.Else1 (claims t) (Pre t) reads.Post Inv-loop μ-loop) → let s = c .before .before .before .before .before .before .before .before .before .before .args in
+      Entered (s .names) (now (s .pairs)) (now (s .code)) (now (s .records)) (s .k) (c .before .before .before .row-of .result)
+  entered c =
+      record {
+        is-row = is-row (c .before .before .before);
+        found = found (c .before .before .before .before .before .before .before .before .before .before);
+        right = rw (c .before .before .premiss-count .ensures) at (sym (c .before .admits-count .ensures _ (is-row (c .before .before .before))) ∙ not-false _ (c .if1 .left));
+      }
 
   -- the step has the premisses that are read
   has-premisses : (c : lts.Else1 (claims t) (Pre t) reads.Post Inv-loop μ-loop) → let s = c .before .before .before .before .before .before .before .before .before .before .args in c .before .before .before .row-of .result .0 ≤ premissCount (now (s .records)) (s .k)
   unfolding admitsCount
-  has-premisses c = rw (is-row (c .before .before .before) .fewest-is) (enough (row _ .premisses) _ (admitted c))
+  has-premisses c = rw (entered c .is-row .fewest-is) (enough (row _ .premisses) _ (entered c .right))
 
   rule-byte-requires : lts.Need-rule-byte-requires (claims t) (Pre t) reads.Post Inv-loop μ-loop
   rule-byte-requires c κs = good (c .before .before .before .before .before) .whole
@@ -101,7 +107,7 @@ module _ (t : ℕ) where
   admits-count-requires c κs = search needs
 
   refusal-requires : lts.Need-refusal-requires (claims t) (Pre t) reads.Post Inv-loop μ-loop
-  refusal-requires c κs = good (c .before .before .before .before .before .before .before .before .before .before) .few
+  refusal-requires c κs = omega (arith, good (c .before .before .before .before .before .before .before .before .before .before) .few)
 
   returns : lts.Need-returns (claims t) (Pre t) reads.Post Inv-loop μ-loop
   returns c = count-refused (placeOf _) (found (c .before .before .before .before .before .before .before .before .before .before .before)) (rw (c .before .before .before .premiss-count .ensures) at (sym (c .before .before .admits-count .ensures _ (is-row (c .before .before .before .before))) ∙ not-true _ (c .before .if1 .taken))) (c .refusal .ensures)
@@ -118,7 +124,7 @@ module _ (t : ℕ) where
       ((good s .whole, omega (arith, has-premisses (c .before .before .before .before))), (omega (arith, s .pre .1 .0 .sized), s .pre .1 .0 .table))
 
   array-read-expected-premisse-mode : lts.Need-array-read-expected-premisse-mode (claims t) (Pre t) reads.Post Inv-loop μ-loop
-  array-read-expected-premisse-mode c = omega (arith, is-row (c .before .before .before .before .before .before .before .before) .few)
+  array-read-expected-premisse-mode c = omega (arith, entered (c .before .before .before .before .before) .is-row .few)
 
   expected-premisse-mode-requires : lts.Need-expected-premisse-mode-requires (claims t) (Pre t) reads.Post Inv-loop μ-loop
   expected-premisse-mode-requires c κs = search needs
@@ -127,7 +133,7 @@ module _ (t : ℕ) where
   do-export-as-proof-term-requires c κs =
       let s = c .before .before .before .before .before .before .before .before .before .before .before .before .before .before .before .before .before in
       let read = c .before .before .before .before .loop .inv in
-      let room = room-next (is-row (c .before .before .before .before .before .before .before .before .before .before)) read (c .before .before .before .loop-test .taken) (c .before .before .premiss .ensures) (c .before .expected-premisse-mode .ensures) in
+      let room = room-next (entered (c .before .before .before .before .before .before .before) .is-row) read (c .before .before .before .loop-test .taken) (c .before .before .premiss .ensures) (c .before .expected-premisse-mode .ensures) in
       let size = size-tree (s .args .names) (now (s .args .pairs)) (now (s .args .code)) (now (s .args .records)) (s .args .k) in (
         omega (arith, c .before .before .premiss .ensures .earlier, s .pre .0),
         (
@@ -147,36 +153,36 @@ module _ (t : ℕ) where
 
   returns-2 : lts.Need-returns-2 (claims t) (Pre t) reads.Post Inv-loop μ-loop
   returns-2 c =
-      let s = c .before .before .before .before .before .before .before .before .before .before .before .before .before .before .before .before .before .before .before .before .before .before in
       rw (c .enum-told .given .1)
-      (premiss-refused (placeOf (s .args .place)) (found s) (admitted (c .before .before .before .before .before .before .before .before .before .before .before .before))
-      (read-refused (is-row (c .before .before .before .before .before .before .before .before .before .before .before .before .before .before .before)) (c .before .before .before .before .before .before .before .before .before .loop .inv) (c .before .before .before .before .before .before .before .before .loop-test .taken) (c .before .before .before .before .before .before .before .premiss .ensures) (c .before .before .before .before .before .before .expected-premisse-mode .ensures)
-      (refusal-of (rw (c .enum-told .given .1) at (c .before .before .before .before .do-export-as-proof-term .ensures)))))
+      (premiss-refused (placeOf _) (entered (c .before .before .before .before .before .before .before .before .before .before .before .before))
+      (read-refused (entered (c .before .before .before .before .before .before .before .before .before .before .before .before) .is-row) (c .before .before .before .before .before .before .before .before .before .loop .inv) (c .before .before .before .before .before .before .before .before .loop-test .taken) (c .before .before .before .before .before .before .before .premiss .ensures) (c .before .before .before .before .before .before .expected-premisse-mode .ensures)
+      (refusal-of (c .before .before .before .before .do-export-as-proof-term .ensures) (c .enum-told .given .1))))
 
   sub-parts : lts.Need-sub-parts (claims t) (Pre t) reads.Post Inv-loop μ-loop
-  sub-parts c = omega (arith, term-of (rw (c .before .exported .given .1) at (c .before .before .before .before .before .do-export-as-proof-term .ensures)) .low)
+  sub-parts c = omega (arith, term-of (c .before .before .before .before .before .do-export-as-proof-term .ensures) (c .before .exported .given .1) .low)
 
   mul-parts : lts.Need-mul-parts (claims t) (Pre t) reads.Post Inv-loop μ-loop
-  mul-parts c = omega (arith, is-row (c .before .before .before .before .before .before .before .before .before .before .before .before .before .before .before .before) .few, c .before .before .before .before .before .before .before .before .before .before .loop .inv .position)
+  mul-parts c = omega (arith, entered (c .before .before .before .before .before .before .before .before .before .before .before .before .before) .is-row .few, c .before .before .before .before .before .before .before .before .before .before .loop .inv .position)
 
   array-write-parts : lts.Need-array-write-parts (claims t) (Pre t) reads.Post Inv-loop μ-loop
-  array-write-parts c = omega (arith, is-row (c .before .before .before .before .before .before .before .before .before .before .before .before .before .before .before .before) .few, c .before .before .before .before .before .before .before .before .before .loop-test .taken)
+  array-write-parts c = omega (arith, entered (c .before .before .before .before .before .before .before .before .before .before .before .before .before) .is-row .few, c .before .before .before .before .before .before .before .before .before .loop-test .taken)
 
   add-i : lts.Need-add-i (claims t) (Pre t) reads.Post Inv-loop μ-loop
-  add-i c = omega (arith, is-row (c .before .before .before .before .before .before .before .before .before .before .before .before .before .before .before .before) .few, c .before .before .before .before .before .before .before .before .before .loop-test .taken)
+  add-i c = omega (arith, entered (c .before .before .before .before .before .before .before .before .before .before .before .before .before) .is-row .few, c .before .before .before .before .before .before .before .before .before .loop-test .taken)
 
   loop-less : lts.Need-loop-less (claims t) (Pre t) reads.Post Inv-loop μ-loop
   loop-less c = omega (arith, c .before .before .before .before .before .before .before .before .before .loop-test .taken)
 
   loop-again : lts.Need-loop-again (claims t) (Pre t) reads.Post Inv-loop μ-loop
   loop-again c =
-      read-more (is-row (c .before .before .before .before .before .before .before .before .before .before .before .before .before .before .before .before)) (c .before .before .before .before .before .before .before .before .before .before .loop .inv) (c .before .before .before .before .before .before .before .before .before .loop-test .taken) (c .before .before .before .before .before .before .before .before .premiss .ensures) (c .before .before .before .before .before .before .before .expected-premisse-mode .ensures)
-      (term-of (rw (c .before .exported .given .1) at (c .before .before .before .before .before .do-export-as-proof-term .ensures))) (omega (arith, c .before .before .before .before .before .before .before .before .premiss .ensures .earlier)) (c .before .before .before .before .before .do-export-as-proof-term .kept .1 .1 .1 .1 .1 .1 .1 .0)
+      read-more (entered (c .before .before .before .before .before .before .before .before .before .before .before .before .before) .is-row) (c .before .before .before .before .before .before .before .before .before .before .loop .inv) (c .before .before .before .before .before .before .before .before .before .loop-test .taken) (c .before .before .before .before .before .before .before .before .premiss .ensures) (c .before .before .before .before .before .before .before .expected-premisse-mode .ensures)
+      (term-of (c .before .before .before .before .before .do-export-as-proof-term .ensures) (c .before .exported .given .1))
+      (omega (arith, c .before .before .before .before .before .before .before .before .premiss .ensures .earlier)) (c .before .before .before .before .before .do-export-as-proof-term .kept .1 .1 .1 .1 .1 .1 .1 .0)
 
   placed-term-requires : lts.Need-placed-term-requires (claims t) (Pre t) reads.Post Inv-loop μ-loop
   placed-term-requires c κs =
       let s = c .before .before .before .before .before .before .before .before .before .before .before .before .before .before .before in
-      let w = is-row (c .before .before .before .before .before .before .before .before) in
+      let w = entered (c .before .before .before .before .before) .is-row in
       let read = c .before .before .loop .inv in
       let size = size-tree (s .args .names) (now (s .args .pairs)) (now (s .args .code)) (now (s .args .records)) (s .args .k) in (
         (good s, w),
@@ -188,10 +194,7 @@ module _ (t : ℕ) where
 
   returns-3 : lts.Need-returns-3 (claims t) (Pre t) reads.Post Inv-loop μ-loop
   returns-3 c =
-      let s = c .before .before .before .before .before .before .before .before .before .before .before .before .before .before .before .before .before .before in
-      let w = is-row (c .before .before .before .before .before .before .before .before .before .before .before) in
-      let all : c .before .before .before .before .before .loop .i ≡ c .before .before .before .before .before .before .before .before .before .before .before .row-of .result .0 = omega (arith, c .before .before .before .before .loop-test .left, c .before .before .before .before .before .loop .inv .position) in
-      step-placed (placeOf (s .args .place)) (found s) (admitted (c .before .before .before .before .before .before .before .before)) w (rw all at (c .before .before .before .before .before .loop .inv)) (c .before .before .placed-term .ensures)
+      step-placed (placeOf _) (entered (c .before .before .before .before .before .before .before .before)) (omega (arith, c .before .before .before .before .loop-test .left, c .before .before .before .before .before .loop .inv .position)) (c .before .before .before .before .before .loop .inv) (c .before .before .placed-term .ensures)
 
 pub +do-export-as-proof-term-spec : {M : Type 1} → statement M
 +do-export-as-proof-term-spec =

@@ -1,14 +1,12 @@
 -- The term has few enough nodes that its labels can be counted.
-use Prim.Native.Nat.{_-_}
 use mathlib.Core.Path.{ap}
 use native.Mathlib.Omega.{arith}
 use borrow.Author.Needs.{needs}
-use denote.Ref.{now}
 use Rattle.definitions.specs.Outcome.{mapOutcome}
+use Rattle.definitions.specs.Export.{checking}
 use Rattle.proof_tree.specs.declared.Counted.the-variants.{Labels}
-use Rattle.proof_tree.specs.PropAt.{propAt}
 use Rattle.proof_tree.specs.Exporting.{countedOf}
-use Rattle.proof_tree.proofs.Walking.{term-of, refusal-of, size-within}
+use Rattle.proof_tree.proofs.Walking.{term-of, refusal-of, last-small}
 use Rattle.proof_tree.proofs.label_count.Statement.{statement}
 use Rattle.proof_tree.proofs.label_count.Tie as tie
 
@@ -19,19 +17,11 @@ enum-known-exported : tie.Need-enum-known-exported
 enum-known-exported c = search needs
 
 sub-annotation-count : tie.Need-sub-annotation-count
-sub-annotation-count c = omega (arith, term-of (rw (c .before .before .exported .given .1) at (c .before .before .before .before .before .before .export-as-proof-term .ensures)) .low)
+sub-annotation-count c = omega (arith, term-of (c .before .before .before .before .before .before .export-as-proof-term .ensures) (c .before .before .exported .given .1) .low)
 
 annotation-count-requires : tie.Need-annotation-count-requires
 annotation-count-requires c κs =
-    let s = c .before .before .before .before .before .before .before .before .before .before .before .before .before in
-    let t = term-of (rw (c .before .before .exported .given .1) at (c .before .before .before .before .before .before .export-as-proof-term .ensures)) in
-    let size = size-within (s .args .names) (now (s .args .pairs)) (now (s .args .code)) (now (s .args .records)) (s .args .steps - 1) in (
-      omega (arith, t .low, t .high, size, s .pre .0 .1, s .pre .1 .room, c .before .before .before .before .before .before .export-as-proof-term .kept),
-      record {
-        props = propAt (s .args .names) (now (s .args .code));
-        few = omega (arith, t .small, t .high, size, s .pre .0 .1, s .pre .1 .few);
-      },
-    )
+    last-small _ checking (c .before .before .before .before .before .before .before .before .before .before .before .before .before .pre .0 .1) (c .before .before .before .before .before .before .before .before .before .before .before .before .before .pre .1) (c .before .before .before .before .before .before .export-as-proof-term .kept .1 .1 .1 .1 .1 .1 .0) (c .before .before .before .before .before .before .export-as-proof-term .ensures) (c .before .before .exported .given .1)
 
 enum-known-exported-2 : tie.Need-enum-known-exported-2
 enum-known-exported-2 c = search needs
@@ -41,14 +31,14 @@ same-length c = search needs
 
 returns : tie.Need-returns
 unfolding countedOf mapOutcome
-returns c = rw (term-of (rw (c .before .before .before .exported .given .1) at (c .before .before .before .before .before .before .before .export-as-proof-term .ensures)) .holds) (ap Labels (c .annotation-count .ensures _))
+returns c = rw (term-of (c .before .before .before .before .before .before .before .export-as-proof-term .ensures) (c .before .before .before .exported .given .1) .holds) (ap Labels (c .annotation-count .ensures _))
 
 same-length-2 : tie.Need-same-length-2
 same-length-2 c = search needs
 
 returns-2 : tie.Need-returns-2
 unfolding countedOf mapOutcome
-returns-2 c = rw (refusal-of (rw (c .before .exported2 .given .1) at (c .before .before .before .before .before .export-as-proof-term .ensures)))
+returns-2 c = rw (refusal-of (c .before .before .before .before .before .export-as-proof-term .ensures) (c .before .exported2 .given .1))
 
 pub label-count-spec : {M : Type 1} → statement M
 label-count-spec =

@@ -1,6 +1,4 @@
 -- The label of a parameter first, then the rule's term, then an ascription.
-use Prim.Native.Nat.{_+_, _≤_}
-use mathlib.Core.Path.{_≡_}
 use native.Mathlib.Omega.{arith}
 use borrow.Author.Needs.{needs}
 use denote.Ref.{now}

@@ -3,7 +3,7 @@ use native.Mathlib.Omega.{arith}
 use borrow.Author.Needs.{needs}
 use mathlib.Core.Path.{sym, _∙_}
 use Rattle.proof_tree.proofs.Conclusions.{impl-byte}
-use Rattle.proof_tree.proofs.Annotations.{unlabelled, left-judgement, datatype-judgement, left-refused, left-labelled, datatype-refused, datatype-labelled}
+use Rattle.proof_tree.proofs.Annotations.{left, datatype, unlabelled, no-proposition, no-implication, no-universal, implication, universal}
 use Rattle.proof_tree.proofs.conclusion.annotation_of.Statement.{statement}
 use Rattle.proof_tree.proofs.conclusion.annotation_of.Tie as tie
 
@@ -21,7 +21,7 @@ refusal-requires c κs = search needs
 
 returns : tie.Need-returns
 returns c names m means =
-    left-judgement means (c .before .before .before .enum-told .given .1) (c .before .enum-told2 .given .1) (c .refusal .ensures)
+    no-proposition left means (c .before .before .before .enum-told .given .1) (c .before .enum-told2 .given .1) (c .refusal .ensures)
 
 head-at-requires : tie.Need-head-at-requires
 head-at-requires c κs = c .before .before .before .before .before .before .pre .1 _ (c .before .conclusion .given .1)
@@ -34,7 +34,7 @@ refusal-requires-2 c κs = search needs
 
 returns-2 : tie.Need-returns-2
 returns-2 c names m means =
-    left-refused means (c .before .before .before .before .conclusion .given .1) (c .before .before .head-at .ensures) (c .before .before .before .before .before .before .enum-told .given .1) (c .before .match3 .keys2)
+    no-implication means (c .before .before .before .before .conclusion .given .1) (c .before .before .head-at .ensures) (c .before .before .before .before .before .before .enum-told .given .1) (c .before .match3 .keys2)
     (c .refusal2 .ensures)
 
 cast-t13 : tie.Need-cast-t13
@@ -60,7 +60,7 @@ refusal-requires-3 c κs = search needs
 
 returns-3 : tie.Need-returns-3
 returns-3 c names m means =
-    datatype-judgement means (c .before .before .before .enum-told3 .given .1) (c .before .enum-told4 .given .1) (c .refusal3 .ensures)
+    no-proposition datatype means (c .before .before .before .enum-told3 .given .1) (c .before .enum-told4 .given .1) (c .refusal3 .ensures)
 
 head-at-requires-2 : tie.Need-head-at-requires-2
 head-at-requires-2 c κs = c .before .before .before .before .before .before .pre .1 _ (c .before .conclusion2 .given .1)
@@ -73,7 +73,7 @@ refusal-requires-4 c κs = search needs
 
 returns-4 : tie.Need-returns-4
 returns-4 c names m means =
-    datatype-refused means (c .before .before .before .before .conclusion2 .given .1) (c .before .before .head-at2 .ensures) (c .before .before .before .before .before .before .enum-told3 .given .1) (c .before .match5 .keys2)
+    no-universal means (c .before .before .before .before .conclusion2 .given .1) (c .before .before .head-at2 .ensures) (c .before .before .before .before .before .before .enum-told3 .given .1) (c .before .match5 .keys2)
     (c .refusal4 .ensures)
 
 cast-t18 : tie.Need-cast-t18
@@ -84,11 +84,11 @@ cast-t19 c = search needs
 
 returns-5 : tie.Need-returns-5
 returns-5 c names m means =
-    left-labelled means (c .before .before .before .before .before .conclusion .given .1) (c .before .before .before .head-at .ensures) _ (c .before .before .before .before .before .before .before .enum-told .given .1) (c .before .left .given .1)
+    implication means (c .before .before .before .before .before .conclusion .given .1) (c .before .before .before .head-at .ensures) _ (c .before .before .before .before .before .before .before .enum-told .given .1) (c .before .left .given .1)
 
 returns-6 : tie.Need-returns-6
 returns-6 c names m means =
-    datatype-labelled means (c .before .before .before .before .before .conclusion2 .given .1) (c .before .before .before .head-at2 .ensures) _ (c .before .before .before .before .before .before .before .enum-told3 .given .1) (c .before .datatype .given .1)
+    universal means (c .before .before .before .before .before .conclusion2 .given .1) (c .before .before .before .head-at2 .ensures) _ (c .before .before .before .before .before .before .before .enum-told3 .given .1) (c .before .datatype .given .1)
 
 returns-7 : tie.Need-returns-7
 returns-7 c names m means = unlabelled _ _ _ _ _ m (c .match .keys3)

@@ -31,19 +31,16 @@ found c = c .pre .1 .1 .enough 0 [] [] _ (omega arith)
 
 -- a premiss that is still to be passed ends before the walk's step
 before : (c : tie.In-loop Inv-loop μ-loop) → 0 < c .before .loop .start
-before c = walk-in (c .before .loop .inv .0) (found (c .before .before .before .before .before)) (omega arith)
+before c = walk-in (c .before .loop .inv .0) (found (c .before .before .before .before .before .before)) (omega arith)
 
 premiss-count-requires : tie.Need-premiss-count-requires Inv-loop μ-loop
 premiss-count-requires c κs = search needs
 
-cast-later : tie.Need-cast-later Inv-loop μ-loop
-cast-later c = search needs
+cast-later-premisses : tie.Need-cast-later-premisses Inv-loop μ-loop
+cast-later-premisses c = search needs
 
-sub-later : tie.Need-sub-later Inv-loop μ-loop
-sub-later c = omega arith
-
-sub-later-2 : tie.Need-sub-later-2 Inv-loop μ-loop
-sub-later-2 c = omega arith
+later-premisses-requires : tie.Need-later-premisses-requires Inv-loop μ-loop
+later-premisses-requires c κs = omega arith
 
 loop-holds : tie.Need-loop-holds Inv-loop μ-loop
 loop-holds c = (walk-start _ _, omega arith, omega arith)
@@ -62,7 +59,7 @@ cast-start c = omega (arith, c .shared-slice-known3 .given (c .before .before .l
 
 sub-start-2 : tie.Need-sub-start-2 Inv-loop μ-loop
 sub-start-2 c =
-    size-fits (c .before .before .loop .inv .0) _ (sized (c .before .before .before .before .before .before)) (before (c .before))
+    size-fits (c .before .before .loop .inv .0) _ (sized (c .before .before .before .before .before .before .before)) (before (c .before))
 
 add-counter : tie.Need-add-counter Inv-loop μ-loop
 add-counter c = omega arith
@@ -73,14 +70,14 @@ loop-less c = omega arith
 loop-again : tie.Need-loop-again Inv-loop μ-loop
 loop-again c =
     let l = c .before .before .loop .inv in
-    (walk-on (l .0) _ (sized (c .before .before .before .before .before .before)) (before (c .before)), omega arith, l .2)
+    (walk-on (l .0) _ (sized (c .before .before .before .before .before .before .before)) (before (c .before)), omega arith, l .2)
 
 sub-result : tie.Need-sub-result Inv-loop μ-loop
 sub-result c =
-    some-step (c .before .loop .inv .0) (found (c .before .before .before .before .before)) (c .before .before .before .before .before .args .position) (omega arith)
+    some-step (c .before .loop .inv .0) (found (c .before .before .before .before .before .before)) (c .before .before .before .before .before .before .args .position) (omega arith)
 
 returns : tie.Need-returns Inv-loop μ-loop
-returns c = premiss-step (c .before .loop .inv .0) (found (c .before .before .before .before .before)) _ (omega arith)
+returns c = premiss-step (c .before .loop .inv .0) (found (c .before .before .before .before .before .before)) _ (omega arith)
 
 pub premiss-spec : {M : Type 1} → statement M
 premiss-spec =
@@ -89,9 +86,8 @@ premiss-spec =
     Inv-loop
     μ-loop
     premiss-count-requires
-    cast-later
-    sub-later
-    sub-later-2
+    cast-later-premisses
+    later-premisses-requires
     loop-holds
     sub-start
     mul-start
