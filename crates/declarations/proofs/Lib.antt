@@ -1,0 +1,5 @@
+-- The laws of first occurrences and of the declarations in lent memory.
+pub mod Firsts
+pub mod Declared
+pub mod Search
+pub mod Noting

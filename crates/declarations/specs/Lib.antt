@@ -1,0 +1,2 @@
+-- What the functions that note declarations and write them say.
+pub mod Declared
