@@ -5,7 +5,7 @@ use mathlib.Core.Bool.{true, false, _||_, or-true}
 use mathlib.Core.List.{List, [], _∷_, _++_, map-append}
 use mathlib.Core.Logic.{by-cases}
 use native.Mathlib.Omega.{arith}
-use native.Mathlib.Decide.{decEq, decLt}
+use native.Mathlib.Decide.{ℕ-discrete, decLt}
 use native.Mathlib.Numerals.{add-one}
 use lib.ListN.{length, getD, set, length-set}
 use lib.Seq.{getD-set-same, getD-set-other}
@@ -47,7 +47,7 @@ module _ {f : ℕ → Name} {l : List (AtomUse ℕ)} {declared : List ℕ} {len 
       → (getD (set seen (flagOf name count) 1) (flagOf n c) 0 ≡ 0 → ⊥)
       → occurs eqAtomUse (useOver f (useOf n c)) (usesOver f (l ++ (useOf name count ∷ []))) ≡ true
   unfolding parameterLimit
-  flags-more name count few n c h isSet = by-cases (decEq (flagOf n c) (flagOf name count))
+  flags-more name count few n c h isSet = by-cases (ℕ-discrete (flagOf n c) (flagOf name count))
       (λ e.
         let same-name : n ≡ name = omega arith in
         let same-count : c ≡ count = omega arith in
@@ -116,7 +116,7 @@ module _ {pairs text declared : List ℕ} {len : ℕ} {seen : List ℕ} {name co
     entries-stored : entriesOf stored (len + 1) ≡ entriesOf declared len ++ (useOf name count ∷ [])
     unfolding entriesOf stored
     entries-stored =
-        rw (add-one, name-stored, count-stored, entries-kept (set declared (2 * len) name) (2 * len + 1) count len (omega arith), entries-kept declared (2 * len) name len (omega arith))
+        rw (add-one len, name-stored, count-stored, entries-kept (set declared (2 * len) name) (2 * len + 1) count len (omega arith), entries-kept declared (2 * len) name len (omega arith))
 
     kept-below : (j : ℕ) → j < len → getD stored (2 * j) 0 ≡ getD declared (2 * j) 0
     unfolding stored

@@ -2,6 +2,7 @@
 use Prim.Native.Nat.{_+_, _*_, _≤_}
 use mathlib.Core.Path.{sym, _∙_}
 use native.Mathlib.Omega.{arith}
+use lib.ListN.{length-set}
 use Rattle.definitions.specs.Code.{parameterLimit}
 use Rattle.declarations.proofs.Noting.{searchable, noted-again, room-for-one, noted-known, noted-new}
 use borrow.Author.Needs.{needs}
@@ -67,7 +68,7 @@ mul-declared-4 : tie.Need-mul-declared-4
 mul-declared-4 c = omega (arith, room-for-one (c .before .before .before .before .before .before .before .before .before .pre .0) (c .before .before .before .before .before .before .before .before .before .pre .1) (c .before .before .before .if1 .left))
 
 slice-write-declared-2 : tie.Need-slice-write-declared-2
-slice-write-declared-2 c = omega (arith, room-for-one (c .before .before .before .before .before .before .before .before .before .pre .0) (c .before .before .before .before .before .before .before .before .before .pre .1) (c .before .before .before .if1 .left))
+slice-write-declared-2 c = simp length-set (omega (arith, room-for-one (c .before .before .before .before .before .before .before .before .before .pre .0) (c .before .before .before .before .before .before .before .before .before .pre .1) (c .before .before .before .if1 .left)))
 
 add-result : tie.Need-add-result
 add-result c = omega (arith, room-for-one (c .before .before .before .before .before .before .before .before .before .pre .0) (c .before .before .before .before .before .before .before .before .before .pre .1) (c .before .before .before .if1 .left))
