@@ -3,3 +3,4 @@ pub mod Firsts
 pub mod Declared
 pub mod Search
 pub mod Noting
+pub mod Threads

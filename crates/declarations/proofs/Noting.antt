@@ -68,6 +68,7 @@ module _ {pairs text declared : List ℕ} {len : ℕ} {seen : List ℕ} {name co
   pub noted-again : (getD seen (flagOf name count) 0 ≡ 0 → ⊥) → Notes pairs text (useOf name count ∷ []) declared len seen declared len seen
   noted-again isSet = record {
     held = held;
+    sized = refl;
     flags = refl;
     adds = λ l noted. record {
       entries = noted .entries ∙ sym (known _ l (useOf name count) (noted .flags name count (this .few) isSet));
@@ -90,6 +91,7 @@ module _ {pairs text declared : List ℕ} {len : ℕ} {seen : List ℕ} {name co
         → Notes pairs text (useOf name count ∷ []) declared len seen declared len (set seen (flagOf name count) 1)
     noted-known e = record {
       held = record { marks = held .marks; room = simp length-set (held .room); few = omega (arith, counted, held .few) };
+      sized = refl;
       flags = simp length-set;
       adds = λ l noted. record {
         entries = noted .entries ∙ sym (known _ l (useOf name count) (sym (looked-up noted _) ∙ e));
@@ -139,9 +141,10 @@ module _ {pairs text declared : List ℕ} {len : ℕ} {seen : List ℕ} {name co
     noted-new e = record {
       held = record {
         marks = marks-stored;
-        room = let long = long-stored in simp length-set (held .room);
+        room = simp length-set (held .room);
         few = omega (arith, counted, held .few);
       };
+      sized = long-stored;
       flags = simp length-set;
       adds = λ l noted. record {
         entries =

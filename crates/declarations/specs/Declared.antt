@@ -65,6 +65,7 @@ pub record Noted (f : ℕ → Name) (l : List (AtomUse ℕ)) (declared : List �
 -- what it is to note uses: whichever uses were noted before, afterwards these are too, behind them
 pub record Notes (pairs text : List ℕ) (uses : List (AtomUse ℕ)) (declared : List ℕ) (len : ℕ) (seen : List ℕ) (declared′ : List ℕ) (len′ : ℕ) (seen′ : List ℕ) : Type 0 where
   pub held : Held pairs text declared′ len′ seen′
+  pub sized : length declared′ ≡ length declared
   pub flags : length seen′ ≡ length seen
   pub adds : (l : List (AtomUse ℕ)) → Noted (marked pairs text) l declared len seen → Noted (marked pairs text) (l ++ uses) declared′ len′ seen′
 
@@ -73,3 +74,12 @@ pub record Searchable (pairs text declared : List ℕ) (len name : ℕ) : Type 0
   pub there : 2 * len ≤ length declared
   pub marks : (j : ℕ) → j < len → Marks pairs text (getD declared (2 * j) 0)
   pub wanted : Marks pairs text name
+
+-- every name of the sheet has its pair and its flags
+pub record Named (pairs text seen : List ℕ) (names : ℕ) : Type 0 where
+  pub marks : (name : ℕ) → name < names → Marks pairs text name
+  pub flags : flagOf names 0 ≤ length seen
+
+-- datatypes as uses
+abbrev pub datatypeUses : List ℕ → List (AtomUse ℕ)
+datatypeUses ts = map (λ t. useOf t 0) ts
