@@ -1,14 +1,15 @@
 -- Declarations in lent memory: two numbers for each, a name and a count, the oldest first. A datatype has the count 0.
 use Prim.Native.Nat.{ℕ, zero, suc, _+_, _*_, _≤_, _<_}
 use mathlib.Core.Path.{_≡_}
-use mathlib.Core.Bool.{true, cond}
+use mathlib.Core.Bool.{Bool, true, false, cond}
 use mathlib.Core.List.{List, [], _∷_, _++_, map}
 use lib.ListN.{length, getD}
 use lib.Dec.{eqb}
 use Rattle.definitions.specs.Name.{Name}
-use Rattle.definitions.specs.Prop.{AtomUse}
+use Rattle.definitions.specs.Prop.{Prop, AtomUse, getAtoms, getDatatypes}
 use Rattle.definitions.specs.Code.{parameterLimit}
 use Rattle.definitions.specs.Sheet.{pairSize, pairEnd, marked}
+use Rattle.prefix_code.specs.Scan.{At}
 use Rattle.definitions.specs.Text.{occurs, firsts, eqAtomUse}
 
 -- a use and a list of them, over the bytes of the names
@@ -83,3 +84,14 @@ pub record Named (pairs text seen : List ℕ) (names : ℕ) : Type 0 where
 -- datatypes as uses
 abbrev pub datatypeUses : List ℕ → List (AtomUse ℕ)
 datatypeUses ts = map (λ t. useOf t 0) ts
+
+-- what a proposition adds: its datatypes, or its atoms
+abbrev pub listed : Bool → Prop ℕ → List (AtomUse ℕ)
+listed true p = datatypeUses (getDatatypes p)
+listed false p = getAtoms p
+
+-- some proposition stands in the code at a position
+pub record SomeProp (names : ℕ) (code : List ℕ) (at : ℕ) : Type 0 where
+  pub prop : Prop ℕ
+  pub rest : List ℕ
+  pub stands : At names code at prop rest

@@ -1,2 +1,3 @@
 -- What the functions that note declarations and write them say.
 pub mod Declared
+pub mod Lines

@@ -2,17 +2,28 @@
 // and of each datatype by name bytes. They stand in lent memory, a name's number and a count each; a datatype has the count 0.
 use identifier::pair_length;
 use identifier::pair_offset;
+use output::put;
+use output::put_all;
+use output::put_decimal;
+use output::put_name;
+use prefix_code::scan;
 use prop_lists::NextAtom;
 use prop_lists::NextDatatype;
 use prop_lists::next_atom;
 use prop_lists::next_datatype;
 ghost use mathlib.Core.Path.{_≡_};
-ghost use mathlib.Core.List.{[], _∷_};
+ghost use mathlib.Core.List.{List, [], _∷_};
+ghost use Prim.Native.Nat.{ℕ, _*_, _≤_, _<_};
+ghost use lib.ListN.{length, getD};
+ghost use Rattle.definitions.specs.Prop.{Prop};
+ghost use Rattle.prefix_code.specs.Scan.{At};
+ghost use Rattle.output.specs.Wrote.{Wrote};
 ghost use Rattle.definitions.specs.Sheet.{marked};
 ghost use Rattle.definitions.specs.Text.{occurs, eqAtomUse};
 ghost use Rattle.prop_lists.specs.Row.{Row};
 ghost use Rattle.prop_lists.specs.Entries.{atomsFrom, datatypesFrom};
-ghost use Rattle.declarations.specs.Declared.{useOf, useOver, usesOver, datatypeUses, entriesOf, Held, Named, Notable, Notes, Searchable};
+ghost use Rattle.declarations.specs.Declared.{useOf, useOver, usesOver, datatypeUses, entriesOf, listed, Marks, Held, Named, Notable, Notes, Searchable, SomeProp};
+ghost use Rattle.declarations.specs.Lines.{countText, declaration, declarationLines};
 
 // The flags of a name: one for each count from 0 to 8.
 const NAME_FLAGS: usize = 9;
@@ -135,4 +146,94 @@ pub fn note_datatypes(
         noted = note(declared, noted, seen, name, 0, pairs, text);
         i = next;
     }
+}
+
+// Notes each datatype, or else each atom, of the proposition at `at`.
+pub fn note_prop(
+    code: &[u8],
+    at: usize,
+    names: usize,
+    datatypes: bool,
+    declared: &mut [u16],
+    len: usize,
+    seen: &mut [u16],
+    pairs: &[u8],
+    text: &[u8],
+) -> usize
+    requires { ⌜ SomeProp names (now code) at × Named (now pairs) (now text) (now seen) names × Held (now pairs) (now text) (now declared) len (now seen) ⌝ }
+    ensures { λ r. ⌜ ((p : Prop ℕ) (rest : List ℕ) → At names (now (code .entry)) at p rest → Notes (now (pairs .entry)) (now (text .entry)) (listed datatypes p) (now (declared .entry)) len (now (seen .entry)) (now (declared .exit)) r (now (seen .exit))) ⌝ }
+{
+    let end = scan(code, at, names);
+    if datatypes {
+        return note_datatypes(code, at, end, names, declared, len, seen, pairs, text);
+    }
+    note_atoms(code, at, end, names, declared, len, seen, pairs, text)
+}
+
+// The count of an atom in brackets, or nothing where it has no parameters.
+fn put_count(out: &mut [u8], to: usize, count: usize, write: bool) -> usize
+    ensures { λ r. ⌜ Wrote (countText count) write (now (out .entry)) to (now (out .exit)) r ⌝ }
+{
+    if count == 0 {
+        return to;
+    }
+    let open = put(out, to, b'(', write);
+    let digits = put_decimal(out, open, count as u64, write);
+    put(out, digits, b')', write)
+}
+
+// The line of a datatype, or else of an atom.
+fn put_declaration(
+    out: &mut [u8],
+    to: usize,
+    name: usize,
+    count: usize,
+    datatypes: bool,
+    pairs: &[u8],
+    text: &[u8],
+    write: bool,
+) -> usize
+    requires { ⌜ Marks (now pairs) (now text) name ⌝ }
+    ensures { λ r. ⌜ Wrote (declaration datatypes (useOver (marked (now (pairs .entry)) (now (text .entry))) (useOf name count))) write (now (out .entry)) to (now (out .exit)) r ⌝ }
+{
+    if datatypes {
+        let word = put_all(out, to, b"datatype ", write);
+        let named = put_name(out, word, pairs, text, name, write);
+        return put(out, named, b';', write);
+    }
+    let word = put_all(out, to, b"atom ", write);
+    let named = put_name(out, word, pairs, text, name, write);
+    let counted = put_count(out, named, count, write);
+    put(out, counted, b';', write)
+}
+
+// The lines of the declarations, joined by newlines: of datatypes, or else of atoms.
+pub fn put_declarations(
+    out: &mut [u8],
+    to: usize,
+    declared: &[u16],
+    len: usize,
+    datatypes: bool,
+    pairs: &[u8],
+    text: &[u8],
+    write: bool,
+) -> usize
+    requires { ⌜ (2 * len ≤ length (now declared)) × ((j : ℕ) → j < len → Marks (now pairs) (now text) (getD (now declared) (2 * j) 0)) ⌝ }
+    ensures { λ r. ⌜ Wrote (declarationLines datatypes (usesOver (marked (now (pairs .entry)) (now (text .entry))) (entriesOf (now (declared .entry)) len))) write (now (out .entry)) to (now (out .exit)) r ⌝ }
+{
+    if len == 0 {
+        return to;
+    }
+    let name = declared[0] as usize;
+    let count = declared[1] as usize;
+    let mut at = put_declaration(out, to, name, count, datatypes, pairs, text, write);
+    let mut j = 1;
+    while j < len {
+        let name = declared[2 * j] as usize;
+        let count = declared[2 * j + 1] as usize;
+        at = put(out, at, b'\n', write);
+        at = put_declaration(out, at, name, count, datatypes, pairs, text, write);
+        j += 1;
+    }
+    at
 }
