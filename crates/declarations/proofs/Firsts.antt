@@ -41,7 +41,7 @@ module _ {A : Type 0} (same : A → A → Bool) where
             → firstsAfter same seen (l ++ (u ∷ [])) ≡ firstsAfter same seen l ++ cond (occurs same u seen || occurs same u l) [] (u ∷ [])
             → firstsAfter same (a ∷ seen) (l ++ (u ∷ [])) ≡ firstsAfter same (a ∷ seen) l ++ cond ((same u a || occurs same u seen) || occurs same u l) [] (u ∷ [])
             → cond b (firstsAfter same seen (l ++ (u ∷ []))) (a ∷ firstsAfter same (a ∷ seen) (l ++ (u ∷ [])))
-              ≡ cond b (firstsAfter same seen l) (a ∷ firstsAfter same (a ∷ seen) l) ++ cond (occurs same u seen || (same u a || occurs same u l)) [] (u ∷ [])
+            ≡ cond b (firstsAfter same seen l) (a ∷ firstsAfter same (a ∷ seen) l) ++ cond (occurs same u seen || (same u a || occurs same u l)) [] (u ∷ [])
         go true e known new = rw (absorb u a seen (occurs same u l) e) known
         go false e known new = rw (new, shuffle (occurs same u seen) (same u a) (occurs same u l))
 
@@ -54,7 +54,7 @@ module _ {A : Type 0} (same : A → A → Bool) where
             → (occurs same u seen || occurs same u (firstsAfter same seen l)) ≡ (occurs same u seen || occurs same u l)
             → ((same u a || occurs same u seen) || occurs same u (firstsAfter same (a ∷ seen) l)) ≡ ((same u a || occurs same u seen) || occurs same u l)
             → (occurs same u seen || occurs same u (cond b (firstsAfter same seen l) (a ∷ firstsAfter same (a ∷ seen) l)))
-              ≡ (occurs same u seen || (same u a || occurs same u l))
+            ≡ (occurs same u seen || (same u a || occurs same u l))
         go true e known new = rw (absorb u a seen (occurs same u l) e) known
         go false e known new =
             shuffle (occurs same u seen) (same u a) (occurs same u (firstsAfter same (a ∷ seen) l))

@@ -49,11 +49,11 @@ module _ {f : ℕ → Name} {l : List (AtomUse ℕ)} {declared : List ℕ} {len 
   unfolding parameterLimit
   flags-more name count few n c h isSet = by-cases (ℕ-discrete (flagOf n c) (flagOf name count))
       (λ e.
-        let same-name : n ≡ name = omega arith in
-        let same-count : c ≡ count = omega arith in
-        rw (same-name, same-count) (arrives f l (useOf name count)))
+      let same-name : n ≡ name = omega arith in
+      let same-count : c ≡ count = omega arith in
+      rw (same-name, same-count) (arrives f l (useOf name count)))
       (λ other. stays f l (useOf name count) _
-        (noted .flags n c h (λ z. isSet (getD-set-other seen (flagOf name count) (flagOf n c) 1 0 other ∙ z))))
+      (noted .flags n c h (λ z. isSet (getD-set-other seen (flagOf name count) (flagOf n c) 1 0 other ∙ z))))
 
 module _ {pairs text declared : List ℕ} {len : ℕ} {seen : List ℕ} {name count : ℕ}
     (held : Held pairs text declared len seen) (this : Notable pairs text seen name count) where

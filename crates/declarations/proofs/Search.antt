@@ -64,7 +64,7 @@ module _ {pairs text declared : List ℕ} {len name : ℕ} (count : ℕ) (asked 
   other-length d =
       passed-over _ _ declared j passed
       (rw (eqName-lengths (marked pairs text name) (marked pairs text (getD declared (2 * j) 0))
-        (λ e. d (omega (arith, marked-length (asked .wanted), marked-length (asked .marks j before))))))
+      (λ e. d (omega (arith, marked-length (asked .wanted), marked-length (asked .marks j before))))))
 
 -- no declaration before j has the bytes and the count; declaration j has the count, and its name, which starts at `start`, is as long
 pub record Candidate (pairs text declared : List ℕ) (len name count offset size j start : ℕ) : Type 0 where
@@ -104,9 +104,9 @@ module _ {pairs text declared : List ℕ} {len name count offset size j start : 
   other-byte k h d =
       passed-over _ _ declared j (this .passed)
       (rw (eqName-differ (marked pairs text name) (marked pairs text (getD declared (2 * j) 0)) k
-        (omega (arith, lengths))
-        (omega (arith, lengths))
-        (λ e. d (sym (byte-of-j k h) ∙ (sym e ∙ byte-of-name k h)))))
+      (omega (arith, lengths))
+      (omega (arith, lengths))
+      (λ e. d (sym (byte-of-j k h) ∙ (sym e ∙ byte-of-name k h)))))
 
   -- a declaration with the same bytes is the one that was looked for
   pub same-bytes : ((k : ℕ) → k < size → getD text (start + k) 0 ≡ getD text (offset + k) 0)
@@ -115,6 +115,8 @@ module _ {pairs text declared : List ℕ} {len name count offset size j start : 
   same-bytes same =
       let (long-j, long-name) = lengths in
       found _ _ declared j len (this .before)
-      (rw (eqName-alike (marked pairs text name) (marked pairs text (getD declared (2 * j) 0)) (omega arith)
-        (λ k h. let h′ : k < size = omega arith in byte-of-name k h′ ∙ (sym (same k h′) ∙ sym (byte-of-j k h′))),
-        eq-eqb count (getD declared (2 * j + 1) 0) (sym (this .count-of-j))))
+      (rw (
+        eqName-alike (marked pairs text name) (marked pairs text (getD declared (2 * j) 0)) (omega arith)
+            (λ k h. let h′ : k < size = omega arith in byte-of-name k h′ ∙ (sym (same k h′) ∙ sym (byte-of-j k h′))),
+        eq-eqb count (getD declared (2 * j + 1) 0) (sym (this .count-of-j)),
+      ))

@@ -13,6 +13,10 @@ use Rattle.declarations.specs.Declared.{usesOver, entriesOf}
 unfoldable pub countText : ℕ → List ℕ
 countText count = cond (eqb count 0) [] (utf8 "(" ++ (decimal count ++ utf8 ")"))
 
+-- the newline before each line but the first
+unfoldable pub breakBefore : ℕ → List ℕ
+breakBefore line = cond (eqb line 0) [] (utf8 "\n")
+
 -- the line of a datatype, or of an atom
 unfoldable pub declaration : Bool → AtomUse Name → List ℕ
 declaration true a = datatypeDeclaration (a .name)

@@ -23,7 +23,7 @@ ghost use Rattle.definitions.specs.Text.{occurs, eqAtomUse};
 ghost use Rattle.prop_lists.specs.Row.{Row};
 ghost use Rattle.prop_lists.specs.Entries.{atomsFrom, datatypesFrom};
 ghost use Rattle.declarations.specs.Declared.{useOf, useOver, usesOver, datatypeUses, entriesOf, listed, Marks, Held, Named, Notable, Notes, Searchable, SomeProp};
-ghost use Rattle.declarations.specs.Lines.{countText, declaration, declarationLines};
+ghost use Rattle.declarations.specs.Lines.{countText, breakBefore, declaration, declarationLines};
 
 // The flags of a name: one for each count from 0 to 8.
 const NAME_FLAGS: usize = 9;
@@ -207,6 +207,16 @@ fn put_declaration(
     put(out, counted, b';', write)
 }
 
+// The newline before each line but the first.
+fn put_line_break(out: &mut [u8], to: usize, line: usize, write: bool) -> usize
+    ensures { λ r. ⌜ Wrote (breakBefore line) write (now (out .entry)) to (now (out .exit)) r ⌝ }
+{
+    if line == 0 {
+        return to;
+    }
+    put(out, to, b'\n', write)
+}
+
 // The lines of the declarations, joined by newlines: of datatypes, or else of atoms.
 pub fn put_declarations(
     out: &mut [u8],
@@ -221,17 +231,12 @@ pub fn put_declarations(
     requires { ⌜ (2 * len ≤ length (now declared)) × ((j : ℕ) → j < len → Marks (now pairs) (now text) (getD (now declared) (2 * j) 0)) ⌝ }
     ensures { λ r. ⌜ Wrote (declarationLines datatypes (usesOver (marked (now (pairs .entry)) (now (text .entry))) (entriesOf (now (declared .entry)) len))) write (now (out .entry)) to (now (out .exit)) r ⌝ }
 {
-    if len == 0 {
-        return to;
-    }
-    let name = declared[0] as usize;
-    let count = declared[1] as usize;
-    let mut at = put_declaration(out, to, name, count, datatypes, pairs, text, write);
-    let mut j = 1;
+    let mut at = to;
+    let mut j = 0;
     while j < len {
         let name = declared[2 * j] as usize;
         let count = declared[2 * j + 1] as usize;
-        at = put(out, at, b'\n', write);
+        at = put_line_break(out, at, j, write);
         at = put_declaration(out, at, name, count, datatypes, pairs, text, write);
         j += 1;
     }
