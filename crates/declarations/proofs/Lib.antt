@@ -5,3 +5,4 @@ pub mod Search
 pub mod Noting
 pub mod Threads
 pub mod Lines
+pub mod Labels
