@@ -7,13 +7,18 @@ use output::put_all;
 use output::put_decimal;
 use output::put_name;
 use prefix_code::scan;
+use proof_term::DATATYPE;
+use proof_term::FUNCTION;
+use proof_term::NO_LABEL;
+use proof_term::TYPE_ASCRIPTION;
+use proof_term::field;
 use prop_lists::NextAtom;
 use prop_lists::NextDatatype;
 use prop_lists::next_atom;
 use prop_lists::next_datatype;
 ghost use mathlib.Core.Path.{_≡_};
 ghost use mathlib.Core.List.{List, [], _∷_};
-ghost use Prim.Native.Nat.{ℕ, _*_, _≤_, _<_};
+ghost use Prim.Native.Nat.{ℕ, _+_, _*_, _≤_, _<_};
 ghost use lib.ListN.{length, getD};
 ghost use Rattle.definitions.specs.Prop.{Prop};
 ghost use Rattle.prefix_code.specs.Scan.{At};
@@ -23,6 +28,8 @@ ghost use Rattle.definitions.specs.Text.{occurs, eqAtomUse};
 ghost use Rattle.prop_lists.specs.Row.{Row};
 ghost use Rattle.prop_lists.specs.Entries.{atomsFrom, datatypesFrom};
 ghost use Rattle.declarations.specs.Declared.{useOf, useOver, usesOver, datatypeUses, entriesOf, listed, Marks, Held, Named, Notable, Notes, Searchable, SomeProp};
+ghost use Rattle.proof_term.specs.Records.{recordSize, partCount, labelOf, termAt};
+ghost use Rattle.declarations.specs.Labels.{labelUses, termUses, hasLabel, LabelFits, LabelsFit, SomeLabel, SomeLabels};
 ghost use Rattle.declarations.specs.Lines.{countText, breakBefore, declaration, declarationLines};
 
 // The flags of a name: one for each count from 0 to 8.
@@ -168,6 +175,118 @@ pub fn note_prop(
         return note_datatypes(code, at, end, names, declared, len, seen, pairs, text);
     }
     note_atoms(code, at, end, names, declared, len, seen, pairs, text)
+}
+
+// How many of a record's numbers are parts, for each kind.
+const PART_COUNTS: [usize; 14] = [0, 2, 1, 1, 1, 2, 2, 1, 1, 3, 1, 1, 0, 0];
+
+// How many parts a record of this kind has; an unknown kind has none.
+fn part_count(kind: usize) -> usize
+    ensures { λ r. ⌜ r ≡ partCount kind ⌝ }
+{
+    if kind < 14 {
+        return PART_COUNTS[kind];
+    }
+    0
+}
+
+// Whether a record has a label: an ascription, or a function whose parameter has one.
+fn has_label(kind: usize, label: usize) -> bool
+    ensures { λ r. ⌜ r ≡ hasLabel kind label ⌝ }
+{
+    if kind == TYPE_ASCRIPTION {
+        return true;
+    }
+    if kind == FUNCTION {
+        return label != NO_LABEL;
+    }
+    false
+}
+
+// Notes the datatype of a label, or else the atoms of its proposition.
+fn note_label(
+    kind: usize,
+    number: usize,
+    datatypes: bool,
+    code: &[u8],
+    names: usize,
+    declared: &mut [u16],
+    len: usize,
+    seen: &mut [u16],
+    pairs: &[u8],
+    text: &[u8],
+) -> usize
+    requires { ⌜ SomeLabel names (now code) kind number × Named (now pairs) (now text) (now seen) names × Held (now pairs) (now text) (now declared) len (now seen) × (number < 65536) ⌝ }
+    ensures { λ r. ⌜ ((props : ℕ → Prop ℕ) → LabelFits names (now (code .entry)) props kind number → Notes (now (pairs .entry)) (now (text .entry)) (labelUses datatypes (labelOf props kind number)) (now (declared .entry)) len (now (seen .entry)) (now (declared .exit)) r (now (seen .exit))) ⌝ }
+{
+    if kind == DATATYPE {
+        if datatypes {
+            return note(declared, len, seen, number, 0, pairs, text);
+        }
+        return len;
+    }
+    if datatypes {
+        return len;
+    }
+    note_prop(code, number, names, false, declared, len, seen, pairs, text)
+}
+
+// Notes what the labels of the term add that record `n` holds: those of its parts, and then its own.
+pub fn note_term(
+    records: &[u16],
+    n: usize,
+    datatypes: bool,
+    code: &[u8],
+    names: usize,
+    declared: &mut [u16],
+    len: usize,
+    seen: &mut [u16],
+    pairs: &[u8],
+    text: &[u8],
+) -> usize
+    requires { ⌜ (recordSize * (n + 1) ≤ length (now records)) × SomeLabels names (now code) (now records) n × Named (now pairs) (now text) (now seen) names × Held (now pairs) (now text) (now declared) len (now seen) ⌝ }
+    ensures { λ r. ⌜ ((props : ℕ → Prop ℕ) → LabelsFit names (now (code .entry)) (now (records .entry)) n props → Notes (now (pairs .entry)) (now (text .entry)) (termUses datatypes (termAt props (now (records .entry)) n)) (now (declared .entry)) len (now (seen .entry)) (now (declared .exit)) r (now (seen .exit))) ⌝ }
+{
+    let kind = field(records, n, 0);
+    let parts = part_count(kind);
+    let mut noted = len;
+    let mut i = 0;
+    'parts: while i < parts {
+        let part = field(records, n, 1 + i);
+        i += 1;
+        if n <= part {
+            continue 'parts;
+        }
+        noted = note_term(
+            records,
+            part,
+            datatypes,
+            code,
+            names,
+            declared,
+            noted,
+            seen,
+            pairs,
+            text,
+        );
+    }
+    let label = field(records, n, 3);
+    let number = field(records, n, 4);
+    if has_label(kind, label) {
+        return note_label(
+            label,
+            number,
+            datatypes,
+            code,
+            names,
+            declared,
+            noted,
+            seen,
+            pairs,
+            text,
+        );
+    }
+    noted
 }
 
 // The count of an atom in brackets, or nothing where it has no parameters.
