@@ -1,15 +1,13 @@
 -- The declarations and the flags in lent memory: what one more of them changes.
 use Prim.Native.Nat.{ℕ, zero, suc, _+_, _*_, _≤_, _<_}
-use mathlib.Core.Path.{_≡_, refl, sym, ap, _∙_}
-use mathlib.Core.Bool.{Bool, true, false, _||_, cond, or-false, or-true, and-false}
-use mathlib.Core.List.{List, [], _∷_, _++_, map, map-append}
+use mathlib.Core.Path.{_≡_, refl}
+use mathlib.Core.Bool.{Bool, true, false, cond}
+use mathlib.Core.List.{List, [], _∷_}
 use native.Mathlib.Omega.{arith}
-use native.Mathlib.Numerals.{add-one}
 use lib.Dec.{eqb}
 use lib.ListN.{length, getD, set}
-use lib.Seq.{getD-set-same, getD-set-other}
-use borrow.Author.Tests.{ne-eqb}
-use Rattle.declarations.specs.Declared.{entryAt, entriesOf, flagged}
+use lib.Seq.{getD-set-other}
+use Rattle.declarations.specs.Declared.{entriesOf, flagged}
 
 bit : (b : Bool) → cond b 0 1 ≤ 1
 bit true = omega arith

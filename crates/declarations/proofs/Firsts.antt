@@ -1,5 +1,5 @@
 -- First occurrences, one more element at a time: it is added where it occurs neither in the list nor among the first ones of it.
-use mathlib.Core.Path.{_≡_, refl, sym, ap, _∙_}
+use mathlib.Core.Path.{_≡_, refl, sym, _∙_}
 use mathlib.Core.Bool.{Bool, true, false, _||_, cond, or-false, or-assoc, and-eq-true-iff}
 use mathlib.Core.List.{List, [], _∷_, _++_, append-nil}
 use lib.Dec.{eqb}

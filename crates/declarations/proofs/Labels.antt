@@ -1,10 +1,10 @@
 -- A record's labels are those of its parts, one part after the other, and then its own: one test over the table of forms.
 use Prim.Native.Nat.{ℕ, zero, suc, _+_, _≤_, _<_}
 use mathlib.Core.Path.{_≡_, refl, sym, ap, _∙_}
-use mathlib.Core.Bool.{Bool, true, false, not, true≢false}
+use mathlib.Core.Bool.{Bool, true, false, true≢false}
 use mathlib.Core.Logic.{by-cases}
 use mathlib.Core.Option.{Option, none, some}
-use mathlib.Core.List.{List, [], _∷_, _++_, map, map-append, append-nil, append-assoc}
+use mathlib.Core.List.{List, [], _++_, map, map-append, append-nil, append-assoc}
 use native.Mathlib.Omega.{arith}
 use native.Mathlib.Decide.{ℕ-discrete}
 use native.Mathlib.Numerals.{add-one}
@@ -13,11 +13,11 @@ use lib.Seq.{getD-set-other}
 use lib.Dec.{eqb}
 use borrow.Author.Tests.{ne-eqb, not-true, not-false}
 use Rattle.definitions.specs.Prop.{Prop, AtomUse}
-use Rattle.definitions.specs.Term.{Label, ProofTerm, Ident, Pair, Named, Function, Application, LetIn, Case, TypeAscription, Unit, Sorry, ofLabel, ofLabels, labelAtoms, labelDatatypes, atomList, datatypeList}
-use Rattle.proof_term.specs.Records.{fieldAt, Form, leaf, unary, binary, ternary, formTerm, labelOf, parameterLabel, forms, recordTermAt, partCount, termAt, partAt}
+use Rattle.definitions.specs.Term.{Label, ProofTerm, Ident, Pair, Named, Function, Application, LetIn, Case, TypeAscription, Unit, Sorry, ofLabel, ofLabels, labelDatatypes, atomList, datatypeList}
+use Rattle.proof_term.specs.Records.{fieldAt, Form, leaf, formTerm, labelOf, parameterLabel, forms, recordTermAt, partCount, termAt, partAt}
 use Rattle.proof_term.proofs.Records.{arity, part-count, termAt-is, part-below, part-else}
 use Rattle.declarations.specs.Declared.{useOf, datatypeUses}
-use Rattle.declarations.specs.Labels.{labelUses, termUses, ownTable, ownUses, hasLabel, LabelFits, LabelsFit}
+use Rattle.declarations.specs.Labels.{labelUses, termUses, ownUses, hasLabel, LabelFits, LabelsFit}
 
 -- the first lists, joined
 joined : {A : Type 0} → ℕ → (ℕ → List A) → List A
@@ -134,22 +134,26 @@ unfolding ofLabel labelUses
 label-datatypes none = refl
 label-datatypes (some l) = refl
 
-pub datatypes-are : (t : ProofTerm ℕ) → termUses true t ≡ datatypeUses (ofLabels labelDatatypes t)
+datatypes-listed : (t : ProofTerm ℕ) → termUses true t ≡ datatypeUses (ofLabels labelDatatypes t)
 unfolding ofLabels labelUses
-datatypes-are (Ident x) = refl
-datatypes-are (Pair a b) = rw (datatypes-are a, datatypes-are b) (sym (map-append (λ t. useOf t 0) (ofLabels labelDatatypes a) (ofLabels labelDatatypes b)))
-datatypes-are (Named f a) = datatypes-are a
-datatypes-are (Function x l a) = rw (datatypes-are a, label-datatypes l) (sym (map-append (λ t. useOf t 0) (ofLabels labelDatatypes a) (ofLabel labelDatatypes l)))
-datatypes-are (Application a b) = rw (datatypes-are a, datatypes-are b) (sym (map-append (λ t. useOf t 0) (ofLabels labelDatatypes a) (ofLabels labelDatatypes b)))
-datatypes-are (LetIn x y a b) = rw (datatypes-are a, datatypes-are b) (sym (map-append (λ t. useOf t 0) (ofLabels labelDatatypes a) (ofLabels labelDatatypes b)))
-datatypes-are (Case a x b y c) =
+datatypes-listed (Ident x) = refl
+datatypes-listed (Pair a b) = rw (datatypes-listed a, datatypes-listed b) (sym (map-append (λ t. useOf t 0) (ofLabels labelDatatypes a) (ofLabels labelDatatypes b)))
+datatypes-listed (Named f a) = datatypes-listed a
+datatypes-listed (Function x l a) = rw (datatypes-listed a, label-datatypes l) (sym (map-append (λ t. useOf t 0) (ofLabels labelDatatypes a) (ofLabel labelDatatypes l)))
+datatypes-listed (Application a b) = rw (datatypes-listed a, datatypes-listed b) (sym (map-append (λ t. useOf t 0) (ofLabels labelDatatypes a) (ofLabels labelDatatypes b)))
+datatypes-listed (LetIn x y a b) = rw (datatypes-listed a, datatypes-listed b) (sym (map-append (λ t. useOf t 0) (ofLabels labelDatatypes a) (ofLabels labelDatatypes b)))
+datatypes-listed (Case a x b y c) =
     rw (
-      datatypes-are a,
-      datatypes-are b,
-      datatypes-are c,
+      datatypes-listed a,
+      datatypes-listed b,
+      datatypes-listed c,
       map-append (λ t. useOf t 0) (ofLabels labelDatatypes a) (ofLabels labelDatatypes b ++ ofLabels labelDatatypes c),
       map-append (λ t. useOf t 0) (ofLabels labelDatatypes b) (ofLabels labelDatatypes c),
     )
-datatypes-are (TypeAscription a l) = rw (datatypes-are a) (sym (map-append (λ t. useOf t 0) (ofLabels labelDatatypes a) (labelDatatypes l)))
-datatypes-are Unit = refl
-datatypes-are Sorry = refl
+datatypes-listed (TypeAscription a l) = rw (datatypes-listed a) (sym (map-append (λ t. useOf t 0) (ofLabels labelDatatypes a) (labelDatatypes l)))
+datatypes-listed Unit = refl
+datatypes-listed Sorry = refl
+
+pub datatypes-are : (t : ProofTerm ℕ) → termUses true t ≡ datatypeUses (datatypeList t)
+unfolding datatypeList
+datatypes-are t = datatypes-listed t

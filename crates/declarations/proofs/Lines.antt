@@ -1,7 +1,7 @@
 -- The lines of the declarations, one more at a time, and that they are those of document 01.
-use Prim.Native.Nat.{ℕ, zero, suc, _+_, _*_, _≤_, _<_}
+use Prim.Native.Nat.{ℕ, zero, suc, _+_, _<_}
 use mathlib.Core.Path.{_≡_, refl, sym, ap, _∙_}
-use mathlib.Core.Bool.{Bool, true, false, _||_, cond, and-true}
+use mathlib.Core.Bool.{Bool, true, false, cond, and-true}
 use mathlib.Core.List.{List, [], _∷_, _++_, map, map-append, map-map, append-nil, append-assoc}
 use native.Mathlib.Omega.{arith}
 use native.Mathlib.Numerals.{add-one}
@@ -10,7 +10,7 @@ use borrow.Author.Tests.{ne-eqb}
 use Rattle.definitions.specs.Name.{Name, eqName}
 use Rattle.definitions.specs.Prop.{AtomUse}
 use Rattle.definitions.specs.Utf8.{utf8}
-use Rattle.definitions.specs.Text.{occurs, firstsAfter, firsts, eqAtomUse, atomDeclaration, datatypeDeclaration, followingLines, joinLines, atomDeclarations, datatypeDeclarations}
+use Rattle.definitions.specs.Text.{occurs, firstsAfter, firsts, eqAtomUse, atomDeclaration, followingLines, joinLines, atomDeclarations, datatypeDeclarations}
 use Rattle.declarations.specs.Declared.{useOf, useOver, usesOver, datatypeUses, entryAt, entriesOf, Noted}
 use Rattle.declarations.specs.Lines.{breakBefore, declaration, declarationLines}
 

@@ -1,7 +1,7 @@
 -- One more use is noted: where its flag is set or a declaration has its bytes and count it adds nothing, and else it is the last.
-use Prim.Native.Nat.{ℕ, zero, suc, _+_, _*_, _≤_, _<_}
+use Prim.Native.Nat.{ℕ, suc, _+_, _*_, _≤_, _<_}
 use mathlib.Core.Path.{_≡_, refl, sym, ap, _∙_}
-use mathlib.Core.Bool.{true, false, _||_, or-true}
+use mathlib.Core.Bool.{true, false, or-true}
 use mathlib.Core.List.{List, [], _∷_, _++_, map-append}
 use mathlib.Core.Logic.{by-cases}
 use native.Mathlib.Omega.{arith}
@@ -14,7 +14,7 @@ use Rattle.definitions.specs.Prop.{AtomUse}
 use Rattle.definitions.specs.Code.{parameterLimit}
 use Rattle.definitions.specs.Sheet.{marked}
 use Rattle.definitions.specs.Text.{occurs, firsts, eqAtomUse}
-use Rattle.declarations.specs.Declared.{useOf, useOver, usesOver, entryAt, entriesOf, flagOf, flagged, Marks, Held, Notable, Noted, Notes, Searchable}
+use Rattle.declarations.specs.Declared.{useOf, useOver, usesOver, entriesOf, flagOf, flagged, Marks, Held, Notable, Noted, Notes, Searchable}
 use Rattle.declarations.proofs.Firsts.{occurs-append, occurs-firsts, firsts-known, firsts-new, eqAtomUse-true, eqAtomUse-refl}
 use Rattle.declarations.proofs.Declared.{flagged-few, flagged-more, entries-kept}
 

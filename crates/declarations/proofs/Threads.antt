@@ -1,12 +1,12 @@
 -- Uses are noted one after another: once what is left of them is noted, all of them are.
-use Prim.Native.Nat.{ℕ, _+_, _*_, _≤_, _<_}
-use mathlib.Core.Path.{_≡_, refl, sym, ap, _∙_}
+use Prim.Native.Nat.{ℕ, _+_, _≤_, _<_}
+use mathlib.Core.Path.{_≡_, refl, sym, _∙_}
 use mathlib.Core.List.{List, [], _∷_, _++_, append-assoc, append-nil}
 use native.Mathlib.Omega.{arith}
 use lib.ListN.{length}
 use Rattle.definitions.specs.Prop.{AtomUse}
 use Rattle.definitions.specs.Code.{parameterLimit}
-use Rattle.declarations.specs.Declared.{useOf, flagOf, Held, Named, Notable, Notes}
+use Rattle.declarations.specs.Declared.{Held, Named, Notable, Notes}
 
 -- a use of a name of the sheet can be noted, and so it is after others were
 pub notable : {pairs text seen : List ℕ} {names : ℕ} (name count : ℕ) → Named pairs text seen names → name < names → name < 65536 → count ≤ parameterLimit

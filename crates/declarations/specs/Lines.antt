@@ -7,7 +7,6 @@ use Rattle.definitions.specs.Name.{Name}
 use Rattle.definitions.specs.Prop.{AtomUse}
 use Rattle.definitions.specs.Utf8.{utf8}
 use Rattle.definitions.specs.Text.{decimal, atomDeclaration, datatypeDeclaration, joinLines}
-use Rattle.declarations.specs.Declared.{usesOver, entriesOf}
 
 -- the count of an atom that has parameters
 unfoldable pub countText : ℕ → List ℕ

@@ -1,5 +1,4 @@
 -- Each return is one of the three ways to note a use: by its flag, by a declaration that has its bytes, or as a new declaration.
-use Prim.Native.Nat.{_+_, _*_, _≤_}
 use mathlib.Core.Path.{sym, _∙_}
 use native.Mathlib.Omega.{arith}
 use lib.ListN.{length-set}

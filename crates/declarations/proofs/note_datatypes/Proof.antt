@@ -1,5 +1,5 @@
 -- The loop's invariant: what is left to note are the datatypes from `i` on.
-use Prim.Native.Nat.{_-_, _≤_}
+use Prim.Native.Nat.{_-_}
 use native.Mathlib.Omega.{arith}
 use borrow.Author.Needs.{needs}
 use Rattle.definitions.specs.Code.{parameterLimit}
