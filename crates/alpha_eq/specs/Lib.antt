@@ -1,0 +1,3 @@
+-- What the functions of the comparison ask and promise.
+pub mod Bindings
+pub mod Comparing

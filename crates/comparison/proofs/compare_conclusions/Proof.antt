@@ -1,0 +1,67 @@
+-- Two of a kind are compared as that kind is; two kinds are a no.
+use mathlib.Core.Path.{refl}
+use Rattle.definitions.specs.Comparison.{no}
+use Rattle.alpha_eq.specs.Comparing.{outcomeOf}
+use Rattle.comparison.proofs.Conclusions.{two-propositions, two-judgements, proposition-and-judgement, judgement-and-proposition}
+use borrow.Author.Needs.{needs}
+use Rattle.comparison.proofs.compare_conclusions.Statement.{statement}
+use Rattle.comparison.proofs.compare_conclusions.Tie as tie
+
+enum-known-left : tie.Need-enum-known-left
+enum-known-left c = search needs
+
+enum-known-right : tie.Need-enum-known-right
+enum-known-right c = search needs
+
+enum-told : tie.Need-enum-told
+enum-told c = search needs
+
+returns : tie.Need-returns
+unfolding outcomeOf no
+returns c = proposition-and-judgement _ (c .before .before .before .left .given .1) (c .enum-told .given .1) refl
+
+compare-propositions-requires : tie.Need-compare-propositions-requires
+compare-propositions-requires c κs =
+    let (sheet, (first, second)) = c .before .before .before .before .before .before .before .pre in
+    (sheet, (first .proposition _ (c .before .before .before .before .left .given .1), second .proposition _ (c .before .right .given .1)))
+
+returns-2 : tie.Need-returns-2
+returns-2 c = two-propositions _ (c .before .before .before .before .before .left .given .1) (c .before .before .right .given .1) (c .compare-propositions .ensures)
+
+enum-known-left-2 : tie.Need-enum-known-left-2
+enum-known-left-2 c = search needs
+
+enum-known-right-2 : tie.Need-enum-known-right-2
+enum-known-right-2 c = search needs
+
+enum-told-2 : tie.Need-enum-told-2
+enum-told-2 c = search needs
+
+returns-3 : tie.Need-returns-3
+unfolding outcomeOf no
+returns-3 c = judgement-and-proposition _ (c .before .before .before .left2 .given .1) (c .enum-told2 .given .1) refl
+
+compare-judgements-requires : tie.Need-compare-judgements-requires
+compare-judgements-requires c κs =
+    let (sheet, (first, second)) = c .before .before .before .before .before .before .before .pre in
+    (sheet, (first .judgement _ (c .before .before .before .before .left2 .given .1), second .judgement _ (c .before .right2 .given .1)))
+
+returns-4 : tie.Need-returns-4
+returns-4 c = two-judgements _ (c .before .before .before .before .before .left2 .given .1) (c .before .before .right2 .given .1) (c .compare-judgements .ensures)
+
+pub compare-conclusions-spec : {M : Type 1} → statement M
+compare-conclusions-spec =
+    tie.close
+    (tie.spec
+    enum-known-left
+    enum-known-right
+    enum-told
+    returns
+    compare-propositions-requires
+    returns-2
+    enum-known-left-2
+    enum-known-right-2
+    enum-told-2
+    returns-3
+    compare-judgements-requires
+    returns-4)

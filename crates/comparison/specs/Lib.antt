@@ -1,0 +1,2 @@
+-- What the functions of the comparison of two steps ask and promise.
+pub mod Conclusions

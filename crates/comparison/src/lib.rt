@@ -1,0 +1,149 @@
+// The conclusions of two steps compared, for every sequence of bytes and every two numbers: refusals 1 to 11, then 17, then two
+// propositions up to the names of their bound objects, two type judgements by their names' bytes and their ids.
+use alpha_eq::Answer;
+use definitions::Refusal;
+use identifier::pair_offset;
+use identifier::same_name;
+use number::number_at;
+use sheet::Checked;
+use sheet::Sheet;
+use sheet::code_bytes;
+use sheet::marked_bytes;
+use sheet::name_pairs;
+use sheet::proposition_pairs;
+use sheet::step_records;
+use sheet::text_bytes;
+ghost use mathlib.Core.Path.{_≡_};
+ghost use mathlib.Core.Bool.{_&&_};
+ghost use Prim.Native.Nat.{_<_};
+ghost use Rattle.definitions.specs.Outcome.{accepted};
+ghost use Rattle.definitions.specs.Name.{eqName};
+ghost use Rattle.definitions.specs.Sheet.{names, propositions, nameOf};
+ghost use Rattle.definitions.specs.Comparison.{alphaEq, eqIdentifier, conclusionAlphaEq};
+ghost use Rattle.definitions.specs.Answers.{comparison};
+ghost use Rattle.steps.specs.Records.{HasStep};
+ghost use Rattle.alpha_eq.specs.Comparing.{outcomeOf};
+ghost use Rattle.sheet.proofs.Admitted.{AcceptedSheet};
+ghost use Rattle.comparison.specs.Conclusions.{conclusionAt, namedProp, objectOf, concluded, JudgementIn, ConclusionIn};
+
+// A type judgement by numbers: the name and the id of an object, and the name of its datatype.
+struct Judgement {
+    name: usize,
+    unique_id: usize,
+    datatype: usize,
+}
+
+// A step's conclusion: the number of a proposition, or a type judgement.
+enum Conclusion {
+    PropIsTrue(usize),
+    TypeJudgement(Judgement),
+}
+
+// The conclusion of a step.
+fn conclusion_of(records: &[u8], k: usize) -> Conclusion
+    requires { ⌜ HasStep (now records) k ⌝ }
+    ensures { λ r. ⌜ r ≡ conclusionAt (now (records .entry)) k ⌝ }
+{
+    let at = Sheet::STEP_SIZE * k;
+    let first = number_at(records, at + 12);
+    if number_at(records, at + 10) == 0 {
+        return Conclusion::PropIsTrue(first);
+    }
+    Conclusion::TypeJudgement(Judgement {
+        name: first,
+        unique_id: number_at(records, at + 14),
+        datatype: number_at(records, at + 16),
+    })
+}
+
+// Whether the names of two numbers have the same bytes.
+fn same_named(s: &[u8], h: Sheet, a: usize, b: usize) -> bool
+    requires { ⌜ AcceptedSheet (now s) h ⌝ }
+    requires { ⌜ (a < names (now s)) × (b < names (now s)) ⌝ }
+    ensures { λ r. ⌜ r ≡ eqName (nameOf (now (s .entry)) a) (nameOf (now (s .entry)) b) ⌝ }
+{
+    let pairs = name_pairs(s, h);
+    let text = text_bytes(s, h);
+    same_name(marked_bytes(pairs, text, a), marked_bytes(pairs, text, b))
+}
+
+// Two type judgements: the names of the objects, their ids, the names of the datatypes.
+fn compare_judgements(s: &[u8], h: Sheet, x: Judgement, y: Judgement) -> Answer
+    requires { ⌜ AcceptedSheet (now s) h ⌝ }
+    requires { ⌜ JudgementIn (now s) x × JudgementIn (now s) y ⌝ }
+    ensures { λ r. ⌜ outcomeOf r ≡ accepted (eqIdentifier (objectOf (now (s .entry)) x) (objectOf (now (s .entry)) y)
+        && eqName (nameOf (now (s .entry)) (x .datatype)) (nameOf (now (s .entry)) (y .datatype))) ⌝ }
+{
+    if !same_named(s, h, x.name, y.name) {
+        return Answer::No;
+    }
+    if x.unique_id != y.unique_id {
+        return Answer::No;
+    }
+    if !same_named(s, h, x.datatype, y.datatype) {
+        return Answer::No;
+    }
+    Answer::Yes
+}
+
+// Two propositions, by their numbers.
+fn compare_propositions(s: &[u8], h: Sheet, p: usize, q: usize) -> Answer
+    requires { ⌜ AcceptedSheet (now s) h ⌝ }
+    requires { ⌜ (p < propositions (now s)) × (q < propositions (now s)) ⌝ }
+    ensures { λ r. ⌜ outcomeOf r ≡ alphaEq (namedProp (now (s .entry)) p) (namedProp (now (s .entry)) q) ⌝ }
+{
+    let pairs = proposition_pairs(s, h);
+    let i = pair_offset(pairs, p);
+    let j = pair_offset(pairs, q);
+    alpha_eq::alpha_eq(code_bytes(s, h), i, j, name_pairs(s, h), text_bytes(s, h))
+}
+
+// Two conclusions: a proposition and a type judgement are a no.
+fn compare_conclusions(s: &[u8], h: Sheet, left: Conclusion, right: Conclusion) -> Answer
+    requires { ⌜ AcceptedSheet (now s) h ⌝ }
+    requires { ⌜ ConclusionIn (now s) left × ConclusionIn (now s) right ⌝ }
+    ensures { λ r. ⌜ outcomeOf r ≡ conclusionAlphaEq (concluded (now (s .entry)) left) (concluded (now (s .entry)) right) ⌝ }
+{
+    match left {
+        Conclusion::PropIsTrue(p) => {
+            let Conclusion::PropIsTrue(q) = right else {
+                return Answer::No;
+            };
+            return compare_propositions(s, h, p, q);
+        }
+        Conclusion::TypeJudgement(x) => {
+            let Conclusion::TypeJudgement(y) = right else {
+                return Answer::No;
+            };
+            return compare_judgements(s, h, x, y);
+        }
+    }
+}
+
+// Two steps of a sheet: 17 where it has no such step.
+fn compare_steps(s: &[u8], h: Sheet, i: usize, j: usize) -> Answer
+    requires { ⌜ AcceptedSheet (now s) h ⌝ }
+    ensures { λ r. ⌜ outcomeOf r ≡ comparison (now (s .entry)) i j ⌝ }
+{
+    if h.steps <= i || h.steps <= j {
+        return Answer::Refused(Refusal {
+            number: 17,
+            place: 0,
+        });
+    }
+    let records = step_records(s, h);
+    let left = conclusion_of(records, i);
+    let right = conclusion_of(records, j);
+    compare_conclusions(s, h, left, right)
+}
+
+// The comparison of two steps' conclusions, for any bytes.
+pub fn compare(s: &[u8], i: usize, j: usize) -> Answer
+    ensures { λ r. ⌜ outcomeOf r ≡ comparison (now (s .entry)) i j ⌝ }
+{
+    let checked = sheet::answer(s);
+    match checked {
+        Checked::Refused(refusal) => Answer::Refused(refusal),
+        Checked::Accepted(h) => compare_steps(s, h, i, j),
+    }
+}

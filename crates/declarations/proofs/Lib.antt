@@ -1,0 +1,8 @@
+-- The laws of first occurrences and of the declarations in lent memory.
+pub mod Firsts
+pub mod Declared
+pub mod Search
+pub mod Noting
+pub mod Threads
+pub mod Lines
+pub mod Labels

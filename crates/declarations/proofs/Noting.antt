@@ -1,0 +1,157 @@
+-- One more use is noted: where its flag is set or a declaration has its bytes and count it adds nothing, and else it is the last.
+use Prim.Native.Nat.{ℕ, suc, _+_, _*_, _≤_, _<_}
+use mathlib.Core.Path.{_≡_, refl, sym, ap, _∙_}
+use mathlib.Core.Bool.{true, false, or-true}
+use mathlib.Core.List.{List, [], _∷_, _++_, map-append}
+use mathlib.Core.Logic.{by-cases}
+use native.Mathlib.Omega.{arith}
+use native.Mathlib.Decide.{ℕ-discrete, decLt}
+use native.Mathlib.Numerals.{add-one}
+use lib.ListN.{length, getD, set, length-set}
+use lib.Seq.{getD-set-same, getD-set-other}
+use Rattle.definitions.specs.Name.{Name}
+use Rattle.definitions.specs.Prop.{AtomUse}
+use Rattle.definitions.specs.Code.{parameterLimit}
+use Rattle.definitions.specs.Sheet.{marked}
+use Rattle.definitions.specs.Text.{occurs, firsts, eqAtomUse}
+use Rattle.declarations.specs.Declared.{useOf, useOver, usesOver, entriesOf, flagOf, flagged, Marks, Held, Notable, Noted, Notes, Searchable}
+use Rattle.declarations.proofs.Firsts.{occurs-append, occurs-firsts, firsts-known, firsts-new, eqAtomUse-true, eqAtomUse-refl}
+use Rattle.declarations.proofs.Declared.{flagged-few, flagged-more, entries-kept}
+
+module _ (f : ℕ → Name) (l : List (AtomUse ℕ)) (a : AtomUse ℕ) where
+  one-more : usesOver f (l ++ (a ∷ [])) ≡ usesOver f l ++ (useOver f a ∷ [])
+  one-more = map-append (useOver f) l (a ∷ [])
+
+  -- what occurs still does, and so does the one that is added
+  stays : (u : AtomUse Name) → occurs eqAtomUse u (usesOver f l) ≡ true → occurs eqAtomUse u (usesOver f (l ++ (a ∷ []))) ≡ true
+  stays u e = rw (one-more, occurs-append eqAtomUse u (usesOver f l) (useOver f a ∷ []), e)
+
+  arrives : occurs eqAtomUse (useOver f a) (usesOver f (l ++ (a ∷ []))) ≡ true
+  unfolding occurs
+  arrives = rw (one-more, occurs-append eqAtomUse (useOver f a) (usesOver f l) (useOver f a ∷ []), eqAtomUse-refl (useOver f a), or-true)
+
+  known : occurs eqAtomUse (useOver f a) (usesOver f l) ≡ true → firsts eqAtomUse (usesOver f (l ++ (a ∷ []))) ≡ firsts eqAtomUse (usesOver f l)
+  known e = rw one-more (firsts-known eqAtomUse eqAtomUse-true (usesOver f l) (useOver f a) e)
+
+  new : occurs eqAtomUse (useOver f a) (usesOver f l) ≡ false
+      → firsts eqAtomUse (usesOver f (l ++ (a ∷ []))) ≡ firsts eqAtomUse (usesOver f l) ++ (useOver f a ∷ [])
+  new e = rw one-more (firsts-new eqAtomUse eqAtomUse-true (usesOver f l) (useOver f a) e)
+
+-- among the declarations as among the uses
+module _ {f : ℕ → Name} {l : List (AtomUse ℕ)} {declared : List ℕ} {len : ℕ} {seen : List ℕ} (noted : Noted f l declared len seen) where
+  looked-up : (u : AtomUse Name) → occurs eqAtomUse u (usesOver f (entriesOf declared len)) ≡ occurs eqAtomUse u (usesOver f l)
+  looked-up u = ap (occurs eqAtomUse u) (noted .entries) ∙ occurs-firsts eqAtomUse eqAtomUse-true (usesOver f l) u
+
+  -- the flags after one more is set
+  flags-more : (name count : ℕ) → count ≤ parameterLimit → (n c : ℕ) → c ≤ parameterLimit
+      → (getD (set seen (flagOf name count) 1) (flagOf n c) 0 ≡ 0 → ⊥)
+      → occurs eqAtomUse (useOver f (useOf n c)) (usesOver f (l ++ (useOf name count ∷ []))) ≡ true
+  unfolding parameterLimit
+  flags-more name count few n c h isSet = by-cases (ℕ-discrete (flagOf n c) (flagOf name count))
+      (λ e.
+      let same-name : n ≡ name = omega arith in
+      let same-count : c ≡ count = omega arith in
+      rw (same-name, same-count) (arrives f l (useOf name count)))
+      (λ other. stays f l (useOf name count) _
+      (noted .flags n c h (λ z. isSet (getD-set-other seen (flagOf name count) (flagOf n c) 1 0 other ∙ z))))
+
+module _ {pairs text declared : List ℕ} {len : ℕ} {seen : List ℕ} {name count : ℕ}
+    (held : Held pairs text declared len seen) (this : Notable pairs text seen name count) where
+  pub searchable : Searchable pairs text declared len name
+  searchable = record {
+    there = omega (arith, held .few, held .room, flagged-few seen);
+    marks = held .marks;
+    wanted = this .marks;
+  }
+
+  -- the flag is set
+  pub noted-again : (getD seen (flagOf name count) 0 ≡ 0 → ⊥) → Notes pairs text (useOf name count ∷ []) declared len seen declared len seen
+  noted-again isSet = record {
+    held = held;
+    sized = refl;
+    flags = refl;
+    adds = λ l noted. record {
+      entries = noted .entries ∙ sym (known _ l (useOf name count) (noted .flags name count (this .few) isSet));
+      flags = λ n c h k. stays _ l (useOf name count) _ (noted .flags n c h k);
+    };
+  }
+
+  module _ (unset : getD seen (flagOf name count) 0 ≡ 0) where
+    counted : flagged (set seen (flagOf name count) 1) ≡ suc (flagged seen)
+    counted = flagged-more seen (flagOf name count) (this .flag) unset
+
+    -- there is room for one declaration more
+    pub room-for-one : 2 * len + 2 ≤ length declared
+    room-for-one =
+        let most = simp length-set at (flagged-few (set seen (flagOf name count) 1)) in
+        omega (arith, counted, held .few, held .room, most)
+
+    -- a declaration has the bytes and the count
+    pub noted-known : occurs eqAtomUse (useOver (marked pairs text) (useOf name count)) (usesOver (marked pairs text) (entriesOf declared len)) ≡ true
+        → Notes pairs text (useOf name count ∷ []) declared len seen declared len (set seen (flagOf name count) 1)
+    noted-known e = record {
+      held = record { marks = held .marks; room = simp length-set (held .room); few = omega (arith, counted, held .few) };
+      sized = refl;
+      flags = simp length-set;
+      adds = λ l noted. record {
+        entries = noted .entries ∙ sym (known _ l (useOf name count) (sym (looked-up noted _) ∙ e));
+        flags = flags-more noted name count (this .few);
+      };
+    }
+
+    -- no declaration has: this use is the last one
+    stored : List ℕ
+    stored = set (set declared (2 * len) name) (2 * len + 1) count
+
+    name-stored : getD stored (2 * len) 0 ≡ name
+    unfolding stored
+    name-stored =
+        getD-set-other (set declared (2 * len) name) (2 * len + 1) (2 * len) count 0 (λ e. omega arith)
+        ∙ getD-set-same declared (2 * len) name 0 (omega (arith, room-for-one))
+
+    count-stored : getD stored (2 * len + 1) 0 ≡ count
+    unfolding stored
+    count-stored =
+        let long : length (set declared (2 * len) name) ≡ length declared = simp length-set in
+        getD-set-same (set declared (2 * len) name) (2 * len + 1) count 0 (omega (arith, room-for-one))
+
+    entries-stored : entriesOf stored (len + 1) ≡ entriesOf declared len ++ (useOf name count ∷ [])
+    unfolding entriesOf stored
+    entries-stored =
+        rw (add-one len, name-stored, count-stored, entries-kept (set declared (2 * len) name) (2 * len + 1) count len (omega arith), entries-kept declared (2 * len) name len (omega arith))
+
+    kept-below : (j : ℕ) → j < len → getD stored (2 * j) 0 ≡ getD declared (2 * j) 0
+    unfolding stored
+    kept-below j h =
+        getD-set-other (set declared (2 * len) name) (2 * len + 1) (2 * j) count 0 (λ e. omega arith)
+        ∙ getD-set-other declared (2 * len) (2 * j) name 0 (λ e. omega arith)
+
+    marks-stored : (j : ℕ) → j < len + 1 → Marks pairs text (getD stored (2 * j) 0)
+    marks-stored j h = by-cases (decLt j len)
+        (λ k. rw (kept-below j k) (held .marks j k))
+        (λ k. let last : j ≡ len = omega arith in rw (last, name-stored) (this .marks))
+
+    long-stored : length stored ≡ length declared
+    unfolding stored
+    long-stored = simp length-set
+
+    pub noted-new : occurs eqAtomUse (useOver (marked pairs text) (useOf name count)) (usesOver (marked pairs text) (entriesOf declared len)) ≡ false
+        → Notes pairs text (useOf name count ∷ []) declared len seen (set (set declared (2 * len) name) (2 * len + 1) count) (len + 1) (set seen (flagOf name count) 1)
+    unfolding stored
+    noted-new e = record {
+      held = record {
+        marks = marks-stored;
+        room = simp length-set (held .room);
+        few = omega (arith, counted, held .few);
+      };
+      sized = long-stored;
+      flags = simp length-set;
+      adds = λ l noted. record {
+        entries =
+            ap (usesOver (marked pairs text)) entries-stored
+            ∙ (one-more (marked pairs text) (entriesOf declared len) (useOf name count)
+            ∙ (ap (λ es. es ++ (useOver (marked pairs text) (useOf name count) ∷ [])) (noted .entries)
+            ∙ sym (new _ l (useOf name count) (sym (looked-up noted _) ∙ e))));
+        flags = flags-more noted name count (this .few);
+      };
+    }

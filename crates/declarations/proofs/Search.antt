@@ -1,0 +1,122 @@
+-- The search among the declarations: what the count, the length and the bytes of declaration j say of it.
+use Prim.Native.Nat.{ℕ, zero, suc, _+_, _*_, _<_}
+use mathlib.Core.Path.{_≡_, sym, ap, _∙_}
+use mathlib.Core.Bool.{true, false, _||_, or-false, or-true, and-false}
+use mathlib.Core.List.{List, [], _∷_, map-append}
+use native.Mathlib.Omega.{arith}
+use native.Mathlib.Decide.{decLt}
+use native.Mathlib.Numerals.{add-one}
+use lib.ListN.{length, getD, length-take, length-drop}
+use lib.Seq.{getD-take, getD-drop}
+use borrow.Author.Tests.{eq-eqb, ne-eqb}
+use Rattle.definitions.specs.Name.{Name}
+use Rattle.definitions.specs.Prop.{AtomUse}
+use Rattle.definitions.specs.Sheet.{pairOffset, pairLength, pairEnd, marked}
+use Rattle.definitions.specs.Text.{occurs, eqAtomUse}
+use Rattle.identifier.proofs.Equality.{eqName-lengths, eqName-differ, eqName-alike}
+use Rattle.declarations.specs.Declared.{useOf, useOver, usesOver, entryAt, entriesOf, Marks, Searchable}
+use Rattle.declarations.proofs.Firsts.{occurs-append}
+
+-- the bytes of a name, in the text
+module _ {pairs text : List ℕ} {i : ℕ} (marks : Marks pairs text i) where
+  marked-length : length (marked pairs text i) ≡ pairLength pairs i
+  unfolding marked pairEnd
+  marked-length = simp (length-take, length-drop) (omega (arith, marks .ends))
+
+  marked-byte : (k : ℕ) → k < pairLength pairs i → getD (marked pairs text i) k 0 ≡ getD text (pairOffset pairs i + k) 0
+  unfolding marked
+  marked-byte k h = rw (getD-take, getD-drop)
+
+module _ (f : ℕ → Name) (u : AtomUse Name) (declared : List ℕ) where
+  one-more : (j : ℕ) → occurs eqAtomUse u (usesOver f (entriesOf declared (suc j)))
+      ≡ (occurs eqAtomUse u (usesOver f (entriesOf declared j)) || eqAtomUse u (useOver f (entryAt declared j)))
+  unfolding entriesOf occurs
+  one-more j =
+      ap (occurs eqAtomUse u) (map-append (useOver f) (entriesOf declared j) (entryAt declared j ∷ []))
+      ∙ (occurs-append eqAtomUse u (usesOver f (entriesOf declared j)) (useOver f (entryAt declared j) ∷ []) ∙ rw or-false)
+
+  passed-over : (j : ℕ) → occurs eqAtomUse u (usesOver f (entriesOf declared j)) ≡ false → eqAtomUse u (useOver f (entryAt declared j)) ≡ false
+      → occurs eqAtomUse u (usesOver f (entriesOf declared (j + 1))) ≡ false
+  passed-over j h e = rw (add-one, one-more j, h, e)
+
+  found : (j len : ℕ) → j < len → eqAtomUse u (useOver f (entryAt declared j)) ≡ true → occurs eqAtomUse u (usesOver f (entriesOf declared len)) ≡ true
+  found j zero h e = absurd (omega arith)
+  found j (suc len) h e = go (decLt j len) (λ k. found j len k e)
+    where
+      go : Dec (j < len) → (j < len → occurs eqAtomUse u (usesOver f (entriesOf declared len)) ≡ true)
+          → occurs eqAtomUse u (usesOver f (entriesOf declared (suc len))) ≡ true
+      go (yes k) again = rw (one-more len, again k)
+      go (no k) again = let same : len ≡ j = omega arith in rw (one-more len, same, e, or-true)
+
+-- no declaration before j has the bytes and the count
+abbrev pub Passed : List ℕ → List ℕ → List ℕ → ℕ → ℕ → ℕ → Type 0
+Passed pairs text declared name count j =
+    occurs eqAtomUse (useOver (marked pairs text) (useOf name count)) (usesOver (marked pairs text) (entriesOf declared j)) ≡ false
+
+module _ {pairs text declared : List ℕ} {len name : ℕ} (count : ℕ) (asked : Searchable pairs text declared len name) (j : ℕ) (before : j < len) (passed : Passed pairs text declared name count j) where
+  -- a declaration with another count, or with a name of another length, is passed over
+  pub other-count : (getD declared (2 * j + 1) 0 ≡ count → ⊥) → Passed pairs text declared name count (j + 1)
+  unfolding eqAtomUse
+  other-count d = passed-over _ _ declared j passed (rw (ne-eqb count (getD declared (2 * j + 1) 0) (λ e. d (sym e)), and-false))
+
+  pub other-length : (pairLength pairs (getD declared (2 * j) 0) ≡ pairLength pairs name → ⊥) → Passed pairs text declared name count (j + 1)
+  unfolding eqAtomUse
+  other-length d =
+      passed-over _ _ declared j passed
+      (rw (eqName-lengths (marked pairs text name) (marked pairs text (getD declared (2 * j) 0))
+      (λ e. d (omega (arith, marked-length (asked .wanted), marked-length (asked .marks j before))))))
+
+-- no declaration before j has the bytes and the count; declaration j has the count, and its name, which starts at `start`, is as long
+pub record Candidate (pairs text declared : List ℕ) (len name count offset size j start : ℕ) : Type 0 where
+  pub asked : Searchable pairs text declared len name
+  pub before : j < len
+  pub passed : Passed pairs text declared name count j
+  pub count-of-j : getD declared (2 * j + 1) 0 ≡ count
+  pub offset-of-name : offset ≡ pairOffset pairs name
+  pub offset-of-j : start ≡ pairOffset pairs (getD declared (2 * j) 0)
+  pub length-of-name : size ≡ pairLength pairs name
+  pub length-of-j : size ≡ pairLength pairs (getD declared (2 * j) 0)
+
+module _ {pairs text declared : List ℕ} {len name count offset size j start : ℕ} (this : Candidate pairs text declared len name count offset size j start) where
+  of-j : Marks pairs text (getD declared (2 * j) 0)
+  of-j = this .asked .marks j (this .before)
+
+  of-name : Marks pairs text name
+  of-name = this .asked .wanted
+
+  lengths : (length (marked pairs text (getD declared (2 * j) 0)) ≡ size) × (length (marked pairs text name) ≡ size)
+  lengths = (omega (arith, marked-length of-j), omega (arith, marked-length of-name))
+
+  byte-of-j : (k : ℕ) → k < size → getD (marked pairs text (getD declared (2 * j) 0)) k 0 ≡ getD text (start + k) 0
+  byte-of-j k h = rw (this .offset-of-j) (marked-byte of-j k (omega arith))
+
+  byte-of-name : (k : ℕ) → k < size → getD (marked pairs text name) k 0 ≡ getD text (offset + k) 0
+  byte-of-name k h = rw (this .offset-of-name) (marked-byte of-name k (omega arith))
+
+  -- each byte of the two names lies in the text
+  pub in-text : (k : ℕ) → k < size → (start + k < length text) × (offset + k < length text)
+  unfolding pairEnd
+  in-text k h = (omega (arith, of-j .ends), omega (arith, of-name .ends))
+
+  -- a declaration with another byte is passed over
+  pub other-byte : (k : ℕ) → k < size → (getD text (start + k) 0 ≡ getD text (offset + k) 0 → ⊥) → Passed pairs text declared name count (j + 1)
+  unfolding eqAtomUse
+  other-byte k h d =
+      passed-over _ _ declared j (this .passed)
+      (rw (eqName-differ (marked pairs text name) (marked pairs text (getD declared (2 * j) 0)) k
+      (omega (arith, lengths))
+      (omega (arith, lengths))
+      (λ e. d (sym (byte-of-j k h) ∙ (sym e ∙ byte-of-name k h)))))
+
+  -- a declaration with the same bytes is the one that was looked for
+  pub same-bytes : ((k : ℕ) → k < size → getD text (start + k) 0 ≡ getD text (offset + k) 0)
+      → occurs eqAtomUse (useOver (marked pairs text) (useOf name count)) (usesOver (marked pairs text) (entriesOf declared len)) ≡ true
+  unfolding eqAtomUse
+  same-bytes same =
+      let (long-j, long-name) = lengths in
+      found _ _ declared j len (this .before)
+      (rw (
+        eqName-alike (marked pairs text name) (marked pairs text (getD declared (2 * j) 0)) (omega arith)
+            (λ k h. let h′ : k < size = omega arith in byte-of-name k h′ ∙ (sym (same k h′) ∙ sym (byte-of-j k h′))),
+        eq-eqb count (getD declared (2 * j + 1) 0) (sym (this .count-of-j)),
+      ))

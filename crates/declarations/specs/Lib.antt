@@ -1,0 +1,4 @@
+-- What the functions that note declarations and write them say.
+pub mod Declared
+pub mod Lines
+pub mod Labels

@@ -1,0 +1,405 @@
+-- A part is an earlier record, and a record's items come before its term: so the number falls, and of one number first the term, then its
+-- items, then its parts. The term's text is written by the items of its format, one after the other.
+use Prim.Native.Nat.{ℕ, _+_, _*_, _-_, _<_}
+use mathlib.Core.Path.{refl, sym, _∙_}
+use native.Mathlib.Omega.{arith}
+use borrow.Fn.Kinds.{In}
+use borrow.Fn.PlainCycle.{Measures, is, falls, and}
+use Rattle.output.proofs.Writing.{then, same-length}
+use Rattle.proof_term_display.specs.Format.{itemText}
+use Rattle.proof_term_display.specs.Item.{ItemReady}
+use Rattle.proof_term_display.proofs.Tables.{part-field-below, part-position-below}
+use Rattle.proof_term_display.proofs.Items.{between, item-name, item-part, item-of-parameter, item-of-ascription, item-fixed}
+use Rattle.proof_term_display.proofs.Progress.{Underway, start, ends-here, ends-past, item-ready, goes-on}
+use Rattle.proof_term_display.proofs.Parts.{unit-text, bracketed-text, bare-text, printable-part}
+use Rattle.proof_term_display.proofs.part.Reads as part
+use Rattle.proof_term_display.proofs.part.Kinds as part-kinds
+use Rattle.proof_term_display.proofs.+part+print_term+put_item.Lts-part as part-lts
+use Rattle.proof_term_display.proofs.print_term.Reads as print-term
+use Rattle.proof_term_display.proofs.print_term.Kinds as print-term-kinds
+use Rattle.proof_term_display.proofs.+part+print_term+put_item.Lts-print_term as print-term-lts
+use Rattle.proof_term_display.proofs.put_item.Reads as put-item
+use Rattle.proof_term_display.proofs.put_item.Kinds as put-item-kinds
+use Rattle.proof_term_display.proofs.+part+print_term+put_item.Lts-put_item as put-item-lts
+use Rattle.output.proofs.put.Reads as put-reads
+use Rattle.output.proofs.put_all.Reads as put-all-reads
+use Rattle.output.proofs.put_name.Reads as put-name-reads
+use Rattle.proof_term.proofs.field.Reads as field-reads
+use Rattle.proof_term_display.proofs.format_of.Reads as format-of-reads
+use Rattle.proof_term_display.proofs.is_between.Reads as is-between-reads
+use Rattle.proof_term_display.proofs.is_bracketed.Reads as is-bracketed-reads
+use Rattle.proof_term_display.proofs.kind_at.Reads as kind-at-reads
+use Rattle.proof_term_display.proofs.put_label.Reads as put-label-reads
+use Rattle.proof_term_display.proofs.put_parameter_label.Reads as put-parameter-label-reads
+use Rattle.proof_term_display.proofs.+part+print_term+put_item.{statement}
+use Rattle.proof_term_display.proofs.+part+print_term+put_item.Tie.{close}
+
+abbrev μ-part : Measures 6 part-kinds.ps ℕ
+μ-part κs a = 3 * (a .1 .1 .1 .0)
+
+abbrev μ-put-item : Measures 6 put-item-kinds.ps ℕ
+μ-put-item κs a = 3 * (a .1 .1 .1 .1 .0) + 1
+
+abbrev μ-print-term : Measures 6 print-term-kinds.ps ℕ
+μ-print-term κs a = 3 * (a .1 .1 .1 .0) + 2
+
+abbrev Inv-loop : print-term-lts.InvT-loop
+Inv-loop out₀ to records n style code ends names pairs text write format at₀ i₀ out at i =
+    Underway style names code ends pairs text records n write out₀ to format out at i
+
+abbrev μ-loop : print-term-lts.MeasureT-loop
+μ-loop out₀ to records n style code ends names pairs text write format at₀ i₀ out at i = 32 - i
+
+module _ (t : ℕ) where
+  abbrev part-at : In 6 part-kinds.ps
+  part-at = and 6 part-kinds.ps (is 6 part-kinds.ps μ-part t) part.Pre
+
+  abbrev part-below : In 6 part-kinds.ps
+  part-below = and 6 part-kinds.ps (falls 6 part-kinds.ps _<_ μ-part t) part.Pre
+
+  abbrev put-item-at : In 6 put-item-kinds.ps
+  put-item-at = and 6 put-item-kinds.ps (is 6 put-item-kinds.ps μ-put-item t) put-item.Pre
+
+  abbrev put-item-below : In 6 put-item-kinds.ps
+  put-item-below = and 6 put-item-kinds.ps (falls 6 put-item-kinds.ps _<_ μ-put-item t) put-item.Pre
+
+  abbrev print-term-at : In 6 print-term-kinds.ps
+  print-term-at = and 6 print-term-kinds.ps (is 6 print-term-kinds.ps μ-print-term t) print-term.Pre
+
+  abbrev print-term-below : In 6 print-term-kinds.ps
+  print-term-below = and 6 print-term-kinds.ps (falls 6 print-term-kinds.ps _<_ μ-print-term t) print-term.Pre
+
+  abbrev part-claims : part-lts.Claims
+  part-claims = (
+    field-reads.Asked,
+    field-reads.Learnt,
+    put-all-reads.Asked,
+    put-all-reads.Learnt,
+    is-bracketed-reads.Asked,
+    is-bracketed-reads.Learnt,
+    put-reads.Asked,
+    put-reads.Learnt,
+    print-term-below,
+    print-term.Post,
+  )
+
+  abbrev put-item-claims : put-item-lts.Claims
+  put-item-claims = (
+    is-between-reads.Asked,
+    is-between-reads.Learnt,
+    field-reads.Asked,
+    field-reads.Learnt,
+    put-name-reads.Asked,
+    put-name-reads.Learnt,
+    part-below,
+    part.Post,
+    put-parameter-label-reads.Asked,
+    put-parameter-label-reads.Learnt,
+    put-label-reads.Asked,
+    put-label-reads.Learnt,
+    put-reads.Asked,
+    put-reads.Learnt,
+  )
+
+  abbrev print-term-claims : print-term-lts.Claims
+  print-term-claims = (
+    kind-at-reads.Asked,
+    kind-at-reads.Learnt,
+    format-of-reads.Asked,
+    format-of-reads.Learnt,
+    put-item-below,
+    put-item.Post,
+  )
+
+  part-mul-field : part-lts.Need-mul-field part-claims part-at part.Post
+  part-mul-field c = omega arith
+
+  part-array-read-field : part-lts.Need-array-read-field part-claims part-at part.Post
+  part-array-read-field c = c .before .before .before .before .before .before .pre .1 .0
+
+  part-field-requires : part-lts.Need-field-requires part-claims part-at part.Post
+  part-field-requires c κs =
+      let start = c .before .before .before .before .before .before in
+      (start .pre .1 .1 .0 .held, part-field-below (start .args .k))
+
+  part-slice-aggregate-put-all : part-lts.Need-slice-aggregate-put-all part-claims part-at part.Post
+  part-slice-aggregate-put-all c = refl
+
+  part-put-all-requires : part-lts.Need-put-all-requires part-claims part-at part.Post
+  part-put-all-requires c κs = tt
+
+  part-returns : part-lts.Need-returns part-claims part-at part.Post
+  part-returns c = rw (← unit-text _ _ _ _ _ _ _ _ _ (c .before .before .before .before .before .before .field .ensures .0) (c .before .before .before .before .before .if1 .taken)) (c .before .before .put-all .ensures)
+
+  part-same-length : part-lts.Need-same-length part-claims part-at part.Post
+  part-same-length c = same-length (part-returns c)
+
+  part-mul-is-bracketed : part-lts.Need-mul-is-bracketed part-claims part-at part.Post
+  part-mul-is-bracketed c = omega arith
+
+  part-array-read-is-bracketed : part-lts.Need-array-read-is-bracketed part-claims part-at part.Post
+  part-array-read-is-bracketed c = c .before .before .before .before .before .before .before .before .pre .1 .0
+
+  part-is-bracketed-requires : part-lts.Need-is-bracketed-requires part-claims part-at part.Post
+  part-is-bracketed-requires c κs =
+      let start = c .before .before .before .before .before .before .before .before in
+      (omega (arith, start .pre .1 .1 .0 .held), part-position-below (start .args .k))
+
+  part-put-requires : part-lts.Need-put-requires part-claims part-at part.Post
+  part-put-requires c κs = tt
+
+  part-print-term-requires : part-lts.Need-print-term-requires part-claims part-at part.Post
+  part-print-term-requires c κs =
+      let start = c .before .before .before .before .before .before .before .before .before .before .before .before .before .before .before in (
+        omega arith,
+        printable-part (start .args .k) _ (c .before .before .before .before .before .before .before .before .field .ensures .0) (c .before .before .before .before .before .before .before .if1 .left) (start .pre .1 .1 .0) (start .pre .1 .1 .1),
+      )
+
+  part-put-requires-2 : part-lts.Need-put-requires-2 part-claims part-at part.Post
+  part-put-requires-2 c κs = tt
+
+  part-returns-2 : part-lts.Need-returns-2 part-claims part-at part.Post
+  part-returns-2 c =
+      rw (← bracketed-text _ _ _ _ _ _ _ _ _ (c .before .before .before .before .before .before .before .before .before .before .before .before .before .before .before .field .ensures .0) (c .before .before .before .before .before .before .before .before .before .before .before .before .before .before .if1 .left) (sym (c .before .before .before .before .before .before .before .before .before .before .before .before .before .is-bracketed .ensures _ _) ∙ c .before .before .before .before .before .before .before .before .before .before .before .before .if2 .taken))
+      (then (c .before .before .before .before .before .before .before .before .before .before .put .ensures) (then (c .before .before .before .before .before .before .print-term .ensures) (c .before .before .put2 .ensures)))
+
+  part-same-length-2 : part-lts.Need-same-length-2 part-claims part-at part.Post
+  part-same-length-2 c = same-length (part-returns-2 c)
+
+  part-print-term-requires-2 : part-lts.Need-print-term-requires-2 part-claims part-at part.Post
+  part-print-term-requires-2 c κs =
+      let start = c .before .before .before .before .before .before .before .before .before .before .before in (
+        omega arith,
+        printable-part (start .args .k) _ (c .before .before .before .before .field .ensures .0) (c .before .before .before .if1 .left) (start .pre .1 .1 .0) (start .pre .1 .1 .1),
+      )
+
+  part-returns-3 : part-lts.Need-returns-3 part-claims part-at part.Post
+  part-returns-3 c =
+      rw (← bare-text _ _ _ _ _ _ _ _ _ (c .before .before .before .before .before .before .before .field .ensures .0) (c .before .before .before .before .before .before .if1 .left) (sym (c .before .before .before .before .before .is-bracketed .ensures _ _) ∙ c .before .before .before .before .if2 .left))
+      (c .before .before .print-term2 .ensures)
+
+  part-same-length-3 : part-lts.Need-same-length-3 part-claims part-at part.Post
+  part-same-length-3 c = same-length (part-returns-3 c)
+
+  put-item-is-between-requires : put-item-lts.Need-is-between-requires put-item-claims put-item-at put-item.Post
+  put-item-is-between-requires c κs = tt
+
+  put-item-sub-field : put-item-lts.Need-sub-field put-item-claims put-item-at put-item.Post
+  put-item-sub-field c =
+      let start = c .before .before .before .before .before .before .before .before in
+      let is-name = sym (c .before .is-between .ensures) ∙ c .if1 .taken in
+      omega (arith, between 49 (start .args .b) 53 is-name)
+
+  put-item-cast-field : put-item-lts.Need-cast-field put-item-claims put-item-at put-item.Post
+  put-item-cast-field c =
+      let start = c .before .before .before .before .before .before .before .before in
+      let is-name = sym (c .before .is-between .ensures) ∙ c .if1 .taken in
+      omega (arith, between 49 (start .args .b) 53 is-name)
+
+  put-item-field-requires : put-item-lts.Need-field-requires put-item-claims put-item-at put-item.Post
+  put-item-field-requires c κs =
+      let start = c .before .before .before .before .before .before .before .before in
+      let is-name = sym (c .before .is-between .ensures) ∙ c .if1 .taken in
+      (start .pre .1 .0 .held, omega (arith, between 49 (start .args .b) 53 is-name))
+
+  put-item-put-name-requires : put-item-lts.Need-put-name-requires put-item-claims put-item-at put-item.Post
+  unfolding ItemReady
+  put-item-put-name-requires c κs =
+      let start = c .before .before .before .before .before .before .before .before .before .before in
+      let is-name = sym (c .before .before .before .is-between .ensures) ∙ c .before .before .if1 .taken in
+      let below : c .before .field .result < start .args .names =
+      rw (c .before .field .ensures .0) (rw (item-name (start .args .b) is-name) at (start .pre .1 .1)) in
+      let named = start .pre .1 .0 .named _ below in
+      (named .there, named .within)
+
+  put-item-returns : put-item-lts.Need-returns put-item-claims put-item-at put-item.Post
+  unfolding itemText
+  put-item-returns c =
+      let is-name = sym (c .before .before .before .before .before .before .is-between .ensures) ∙ c .before .before .before .before .before .if1 .taken in
+      rw (item-name _ is-name, ← c .before .before .before .before .field .ensures .0) (c .before .before .put-name .ensures)
+
+  put-item-same-length : put-item-lts.Need-same-length put-item-claims put-item-at put-item.Post
+  put-item-same-length c = same-length (put-item-returns c)
+
+  put-item-is-between-requires-2 : put-item-lts.Need-is-between-requires-2 put-item-claims put-item-at put-item.Post
+  put-item-is-between-requires-2 c κs = tt
+
+  put-item-sub-k : put-item-lts.Need-sub-k put-item-claims put-item-at put-item.Post
+  put-item-sub-k c =
+      let start = c .before .before .before .before .before .before .before .before .before .before in
+      let is-part = sym (c .before .is-between2 .ensures) ∙ c .if2 .taken in
+      omega (arith, between 65 (start .args .b) 71 is-part)
+
+  put-item-cast-k : put-item-lts.Need-cast-k put-item-claims put-item-at put-item.Post
+  put-item-cast-k c =
+      let start = c .before .before .before .before .before .before .before .before .before .before in
+      let is-part = sym (c .before .is-between2 .ensures) ∙ c .if2 .taken in
+      omega (arith, between 65 (start .args .b) 71 is-part)
+
+  put-item-part-requires : put-item-lts.Need-part-requires put-item-claims put-item-at put-item.Post
+  put-item-part-requires c κs =
+      let start = c .before .before .before .before .before .before .before .before .before .before .before in
+      let no-name = sym (c .before .before .before .before .is-between .ensures) ∙ c .before .before .before .if1 .left in
+      let is-part = sym (c .before .before .is-between2 .ensures) ∙ c .before .if2 .taken in (
+        omega arith,
+        (
+          omega (arith, between 65 (start .args .b) 71 is-part),
+          (start .pre .1 .0, rw (item-part (start .args .b) no-name is-part) at (start .pre .1 .1)),
+        ),
+      )
+
+  put-item-returns-2 : put-item-lts.Need-returns-2 put-item-claims put-item-at put-item.Post
+  put-item-returns-2 c =
+      let no-name = sym (c .before .before .before .before .before .before .before .is-between .ensures) ∙ c .before .before .before .before .before .before .if1 .left in
+      let is-part = sym (c .before .before .before .before .before .is-between2 .ensures) ∙ c .before .before .before .before .if2 .taken in
+      rw (item-part _ no-name is-part) (c .before .before .part .ensures)
+
+  put-item-same-length-2 : put-item-lts.Need-same-length-2 put-item-claims put-item-at put-item.Post
+  put-item-same-length-2 c = same-length (put-item-returns-2 c)
+
+  put-item-put-parameter-label-requires : put-item-lts.Need-put-parameter-label-requires put-item-claims put-item-at put-item.Post
+  unfolding ItemReady
+  put-item-put-parameter-label-requires c κs =
+      let start = c .before .before .before .before .before .before .before .before .before .before .before .before in
+      (start .pre .1 .0, rw (item-of-parameter (start .args .b) (c .before .if3 .taken)) at (start .pre .1 .1))
+
+  put-item-returns-3 : put-item-lts.Need-returns-3 put-item-claims put-item-at put-item.Post
+  unfolding itemText
+  put-item-returns-3 c = rw (item-of-parameter _ (c .before .before .before .before .if3 .taken)) (c .before .before .put-parameter-label .ensures)
+
+  put-item-same-length-3 : put-item-lts.Need-same-length-3 put-item-claims put-item-at put-item.Post
+  put-item-same-length-3 c = same-length (put-item-returns-3 c)
+
+  put-item-put-label-requires : put-item-lts.Need-put-label-requires put-item-claims put-item-at put-item.Post
+  unfolding ItemReady
+  put-item-put-label-requires c κs =
+      let start = c .before .before .before .before .before .before .before .before .before .before .before .before .before in
+      (start .pre .1 .0, rw (item-of-ascription (start .args .b) (c .before .if4 .taken)) at (start .pre .1 .1))
+
+  put-item-returns-4 : put-item-lts.Need-returns-4 put-item-claims put-item-at put-item.Post
+  unfolding itemText
+  put-item-returns-4 c = rw (item-of-ascription _ (c .before .before .before .before .if4 .taken)) (c .before .before .put-label .ensures)
+
+  put-item-same-length-4 : put-item-lts.Need-same-length-4 put-item-claims put-item-at put-item.Post
+  put-item-same-length-4 c = same-length (put-item-returns-4 c)
+
+  put-item-put-requires : put-item-lts.Need-put-requires put-item-claims put-item-at put-item.Post
+  put-item-put-requires c κs = tt
+
+  put-item-returns-5 : put-item-lts.Need-returns-5 put-item-claims put-item-at put-item.Post
+  unfolding itemText
+  put-item-returns-5 c =
+      let no-name = sym (c .before .before .before .before .before .before .before .before .before .is-between .ensures) ∙ c .before .before .before .before .before .before .before .before .if1 .left in
+      let no-part = sym (c .before .before .before .before .before .before .before .is-between2 .ensures) ∙ c .before .before .before .before .before .before .if2 .left in
+      let no-label = c .before .before .before .before .before .if3 .left in
+      rw (item-fixed _ no-name no-part no-label (c .before .before .before .before .if4 .left)) (c .before .before .put .ensures)
+
+  put-item-same-length-5 : put-item-lts.Need-same-length-5 put-item-claims put-item-at put-item.Post
+  put-item-same-length-5 c = same-length (put-item-returns-5 c)
+
+  print-term-kind-at-requires : print-term-lts.Need-kind-at-requires print-term-claims print-term-at print-term.Post Inv-loop μ-loop
+  print-term-kind-at-requires c κs = c .before .before .before .before .before .before .pre .1 .held
+
+  print-term-format-of-requires : print-term-lts.Need-format-of-requires print-term-claims print-term-at print-term.Post Inv-loop μ-loop
+  print-term-format-of-requires c κs = c .kind-at .ensures .known
+
+  print-term-loop-holds : print-term-lts.Need-loop-holds print-term-claims print-term-at print-term.Post Inv-loop μ-loop
+  print-term-loop-holds c =
+      start _ _ _ _ _ _ _ _ (c .before .before .before .before .before .before .before .before .pre .1) (c .before .kind-at .ensures) (c .format-of .ensures .0) (c .format-of .ensures .1)
+
+  print-term-array-read-b : print-term-lts.Need-array-read-b print-term-claims print-term-at print-term.Post Inv-loop μ-loop
+  print-term-array-read-b c = c .loop-test .taken
+
+  print-term-returns : print-term-lts.Need-returns print-term-claims print-term-at print-term.Post Inv-loop μ-loop
+  print-term-returns c = ends-here _ _ _ _ _ _ _ _ (c .before .before .loop .inv) (c .if1 .taken) (c .before .loop-test .taken)
+
+  print-term-same-length : print-term-lts.Need-same-length print-term-claims print-term-at print-term.Post Inv-loop μ-loop
+  print-term-same-length c = same-length (print-term-returns c)
+
+  print-term-put-item-requires : print-term-lts.Need-put-item-requires print-term-claims print-term-at print-term.Post Inv-loop μ-loop
+  print-term-put-item-requires c κs = (
+    omega arith,
+    (c .before .before .before .before .before .before .before .before .before .before .before .before .pre .1, item-ready _ _ _ _ _ _ _ _ (c .before .before .before .loop .inv) (c .before .before .loop-test .taken) (c .before .if1 .left)),
+  )
+
+  print-term-add-i : print-term-lts.Need-add-i print-term-claims print-term-at print-term.Post Inv-loop μ-loop
+  print-term-add-i c = omega arith
+
+  print-term-loop-less : print-term-lts.Need-loop-less print-term-claims print-term-at print-term.Post Inv-loop μ-loop
+  print-term-loop-less c = omega arith
+
+  print-term-loop-again : print-term-lts.Need-loop-again print-term-claims print-term-at print-term.Post Inv-loop μ-loop
+  print-term-loop-again c =
+      goes-on _ _ _ _ _ _ _ _ (c .before .before .before .before .before .before .loop .inv) (c .before .before .before .before .before .loop-test .taken) (c .before .before .before .before .if1 .left)
+      (c .before .before .put-item .ensures)
+
+  print-term-returns-2 : print-term-lts.Need-returns-2 print-term-claims print-term-at print-term.Post Inv-loop μ-loop
+  print-term-returns-2 c = ends-past _ _ _ _ _ _ _ _ (c .before .loop .inv) (c .loop-test .left)
+
+  print-term-same-length-2 : print-term-lts.Need-same-length-2 print-term-claims print-term-at print-term.Post Inv-loop μ-loop
+  print-term-same-length-2 c = same-length (print-term-returns-2 c)
+
+pub +part+print-term+put-item-spec : {M : Type 1} → statement M
++part+print-term+put-item-spec = close μ-part μ-print-term μ-put-item (λ t. part-lts.spec (part-claims t)
+    (part-at t)
+    part.Post
+    (part-mul-field t)
+    (part-array-read-field t)
+    (part-field-requires t)
+    (part-slice-aggregate-put-all t)
+    (part-put-all-requires t)
+    (part-same-length t)
+    (part-returns t)
+    (part-mul-is-bracketed t)
+    (part-array-read-is-bracketed t)
+    (part-is-bracketed-requires t)
+    (part-put-requires t)
+    (part-print-term-requires t)
+    (part-put-requires-2 t)
+    (part-same-length-2 t)
+    (part-returns-2 t)
+    (part-print-term-requires-2 t)
+    (part-same-length-3 t)
+    (part-returns-3 t))
+    (λ t. print-term-lts.spec (print-term-claims t)
+    (print-term-at t)
+    print-term.Post
+    Inv-loop
+    μ-loop
+    (print-term-kind-at-requires t)
+    (print-term-format-of-requires t)
+    (print-term-loop-holds t)
+    (print-term-array-read-b t)
+    (print-term-same-length t)
+    (print-term-returns t)
+    (print-term-put-item-requires t)
+    (print-term-add-i t)
+    (print-term-loop-less t)
+    (print-term-loop-again t)
+    (print-term-same-length-2 t)
+    (print-term-returns-2 t))
+    λ t. put-item-lts.spec (put-item-claims t)
+    (put-item-at t)
+    put-item.Post
+    (put-item-is-between-requires t)
+    (put-item-sub-field t)
+    (put-item-cast-field t)
+    (put-item-field-requires t)
+    (put-item-put-name-requires t)
+    (put-item-same-length t)
+    (put-item-returns t)
+    (put-item-is-between-requires-2 t)
+    (put-item-sub-k t)
+    (put-item-cast-k t)
+    (put-item-part-requires t)
+    (put-item-same-length-2 t)
+    (put-item-returns-2 t)
+    (put-item-put-parameter-label-requires t)
+    (put-item-same-length-3 t)
+    (put-item-returns-3 t)
+    (put-item-put-label-requires t)
+    (put-item-same-length-4 t)
+    (put-item-returns-4 t)
+    (put-item-put-requires t)
+    (put-item-same-length-5 t)
+    (put-item-returns-5 t)

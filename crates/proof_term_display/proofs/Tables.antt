@@ -1,0 +1,104 @@
+-- What the tables say: each entry is what the rule gives of its key, which antt computes over the whole table.
+use Prim.Native.Nat.{ℕ, zero, suc, max, _≤_, _<_}
+use mathlib.Core.Path.{_≡_, refl, ap, _∙_}
+use mathlib.Core.Bool.{Bool, false}
+use mathlib.Core.Option.{none}
+use mathlib.Core.List.{List, [], _∷_, map}
+use native.Mathlib.Omega.{arith}
+use lib.ListN.{length, getD, List·getD-map, List·getD-eq-default}
+use Rattle.definitions.specs.declared.Style.{Style}
+use Rattle.definitions.specs.declared.Style.the-variants.{Plain}
+use Rattle.definitions.specs.Name.{Name}
+use Rattle.definitions.specs.Prop.{Prop}
+use Rattle.definitions.specs.Term.{ProofTerm, Unit, renameTerm}
+use Rattle.definitions.specs.Display.{Form, closed, call, function, block, ascription, form}
+use Rattle.proof_term.specs.Records.{recordSize, fieldAt, leaf, formTerm, forms, recordTerm}
+use Rattle.proof_term.specs.Counting.{ownCounts, ownAnnotations}
+use Rattle.proof_term.proofs.Records.{termAt-kind}
+use Rattle.proof_term_display.specs.Brackets.{positions, styles, columns, column, isBracketed}
+use Rattle.proof_term_display.specs.Format.{partField, partPosition}
+use Rattle.proof_term_display.specs.Item.{KindAt}
+
+-- a table that has what the rule gives of each key
+pub mapped {ℓ ℓ′} :
+    {A : Type ℓ} {B : Type ℓ′} (rule : A → B) (keys : List A) (d : A) (e : B) (k : ℕ) → k < length keys →
+    getD (map rule keys) k e ≡ rule (getD keys k d)
+mapped rule [] d e k h = absurd (omega arith)
+mapped rule (x ∷ xs) d e zero h = refl
+mapped rule (x ∷ xs) d e (suc k) h = mapped rule xs d e k (omega arith)
+
+-- no entry is above the largest
+abbrev largest : List ℕ → ℕ
+largest [] = 0
+largest (x ∷ xs) = max x (largest xs)
+
+entry-below : (table : List ℕ) (k : ℕ) → getD table k 0 ≤ largest table
+entry-below [] k = omega arith
+entry-below (x ∷ xs) zero = omega arith
+entry-below (x ∷ xs) (suc k) = omega (arith, entry-below xs k)
+
+pub part-field-below : (k : ℕ) → partField k < recordSize
+part-field-below k = omega (arith, entry-below (1 ∷ 2 ∷ 3 ∷ 1 ∷ 1 ∷ 1 ∷ 2 ∷ []) k)
+
+pub part-position-below : (k : ℕ) → partPosition k < 5
+part-position-below k = omega (arith, entry-below (4 ∷ 4 ∷ 4 ∷ 2 ∷ 3 ∷ 0 ∷ 1 ∷ []) k)
+
+-- The forms, by their numbers:
+pub column-below : (f : Form) → column f < 5
+unfolding column
+column-below closed = omega arith
+column-below call = omega arith
+column-below function = omega arith
+column-below block = omega arith
+column-below ascription = omega arith
+
+pub column-form : (f : Form) → getD columns (column f) closed ≡ f
+unfolding column
+column-form closed = refl
+column-form call = refl
+column-form function = refl
+column-form block = refl
+column-form ascription = refl
+
+-- the table of brackets
+abbrev pub bracketTable : List (List (List Bool))
+bracketTable = map (λ p. map (λ s. map (λ f. isBracketed p s f) columns) styles) positions
+
+pub bracket-rule :
+    (p row k : ℕ) (s : Style) (f : Form) → p < 5 → row < 2 → getD styles row Plain ≡ s → k ≡ column f →
+    getD (getD (getD bracketTable p []) row []) k false ≡ isBracketed (getD positions p none) s f
+bracket-rule p row k s f hp hr styled formed =
+    let found : getD columns k closed ≡ f = ap (λ i. getD columns i closed) formed ∙ column-form f in
+    let below : k < 5 = rw formed (column-below f) in
+    rw (
+      mapped (λ q. map (λ t. map (λ g. isBracketed q t g) columns) styles) positions none [] p hp,
+      mapped (λ t. map (λ g. isBracketed (getD positions p none) t g) columns) styles Plain [] row hr,
+      mapped (λ g. isBracketed (getD positions p none) (getD styles row Plain) g) columns closed false k below,
+      styled,
+      found,
+    )
+
+-- the form of each kind
+pub form-rule :
+    (f : ℕ → Name) (props : ℕ → Prop ℕ) (term : ℕ → ProofTerm ℕ) (kind a b c d e : ℕ) →
+    getD (0 ∷ 0 ∷ 1 ∷ 1 ∷ 2 ∷ 1 ∷ 3 ∷ 1 ∷ 1 ∷ 3 ∷ 1 ∷ 4 ∷ 0 ∷ 0 ∷ []) kind 0 ≡ column (form (renameTerm f (recordTerm props term kind a b c d e)))
+unfolding column form renameTerm
+form-rule f props term kind a b c d e =
+    List·getD-map (λ g. column (form (renameTerm f (formTerm term g a b c)))) (forms props a b c d e) kind (leaf Unit)
+
+-- The kind of a record, which is known or counts as Unit's.
+module _ (records : List ℕ) (n kind : ℕ) (e : kind ≡ fieldAt records n 0) where
+  pub known-kind : kind < 14 → KindAt records n kind
+  known-kind h = rw e (record { known = rw e at h; holds = λ props. termAt-kind props records n refl; labels = λ label. refl })
+
+  pub unknown-kind : 14 ≤ kind → KindAt records n 12
+  unfolding ownAnnotations
+  unknown-kind h =
+      let past : 14 ≤ fieldAt records n 0 = rw e at h in
+      record {
+        known = omega arith;
+        holds = λ props.
+            termAt-kind props records n refl
+            ∙ rw (List·getD-eq-default (forms props (fieldAt records n 1) (fieldAt records n 2) (fieldAt records n 3) (fieldAt records n 4) (fieldAt records n 5)) (leaf Unit) past);
+        labels = λ label. List·getD-eq-default (ownCounts label) 0 past;
+      }

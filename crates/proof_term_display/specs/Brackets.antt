@@ -1,0 +1,31 @@
+-- The rows and columns of the table of brackets: positions, styles and forms.
+use Prim.Native.Nat.{ℕ}
+use mathlib.Core.Bool.{Bool, false}
+use mathlib.Core.Option.{Option, none, some}
+use mathlib.Core.List.{List, [], _∷_}
+use Rattle.definitions.specs.declared.Style.{Style}
+use Rattle.definitions.specs.declared.Style.the-variants.{Plain, Strict}
+use Rattle.definitions.specs.Display.{Form, closed, call, function, block, ascription, Position, functionOf, argumentOf, bodyOf, ascribedBy, brackets, bracketed}
+
+-- the positions by their numbers; the last one is any other than those that have a name
+abbrev pub positions : List (Option Position)
+positions = some functionOf ∷ some argumentOf ∷ some bodyOf ∷ some ascribedBy ∷ none ∷ []
+
+abbrev pub styles : List Style
+styles = Plain ∷ Strict ∷ []
+
+-- the forms by their numbers
+abbrev pub columns : List Form
+columns = closed ∷ call ∷ function ∷ block ∷ ascription ∷ []
+
+unfoldable pub column : Form → ℕ
+column closed = 0
+column call = 1
+column function = 2
+column block = 3
+column ascription = 4
+
+-- whether a part of a form is bracketed in its position
+unfoldable pub isBracketed : Option Position → Style → Form → Bool
+isBracketed none s f = false
+isBracketed (some p) s f = bracketed (brackets p s) f

@@ -1,0 +1,407 @@
+// The text of a term from its records (`Display` of source document 001), plain and strict.
+use definitions::Style;
+use output::put;
+use output::put_all;
+use output::put_name;
+use proof_term::DATATYPE;
+use proof_term::NO_LABEL;
+use proof_term::UNIT;
+use proof_term::field;
+use prop::print;
+ghost use mathlib.Core.Path.{_≡_};
+ghost use mathlib.Core.Bool.{_&&_};
+ghost use mathlib.Core.Option.{none};
+ghost use mathlib.Core.List.{[]};
+ghost use Prim.Native.Nat.{ℕ, _+_, _*_, _≤_, _<_};
+ghost use lib.ListN.{length, getD};
+ghost use lib.Dec.{leb};
+ghost use Rattle.definitions.specs.declared.Style.the-variants.{Plain};
+ghost use Rattle.definitions.specs.Name.{Name};
+ghost use Rattle.definitions.specs.Prop.{Prop};
+ghost use Rattle.definitions.specs.Term.{ProofTerm, renameLabel, renameParameterLabel, renameTerm};
+ghost use Rattle.definitions.specs.Sheet.{marked};
+ghost use Rattle.definitions.specs.Display.{form, displayLabel, displayParameterLabel, displayTerm};
+ghost use Rattle.output.specs.Wrote.{Wrote};
+ghost use Rattle.proof_term.specs.Records.{recordSize, fieldAt, labelOf, parameterLabel, recordTerm, termAt};
+ghost use Rattle.prop.specs.PropAt.{propAt};
+ghost use Rattle.proof_term_display.specs.Brackets.{positions, styles, column, isBracketed};
+ghost use Rattle.proof_term_display.specs.Format.{itemOf, items, formats, part};
+ghost use Rattle.proof_term_display.specs.Printable.{PrintableTerm};
+ghost use Rattle.proof_term_display.specs.Item.{KindAt, LabelReady, ItemReady, recordItem};
+
+// How many kinds of records there are.
+const KINDS: usize = 14;
+
+// The forms of terms, as far as brackets go.
+const CLOSED: usize = 0;
+
+const CALL: usize = 1;
+
+const FUNCTION: usize = 2;
+
+const BLOCK: usize = 3;
+
+const ASCRIPTION: usize = 4;
+
+// The form of each kind, in the order of the kinds.
+const FORMS: [usize; 14] = [
+    CLOSED,
+    CLOSED,
+    CALL,
+    CALL,
+    FUNCTION,
+    CALL,
+    BLOCK,
+    CALL,
+    CALL,
+    BLOCK,
+    CALL,
+    ASCRIPTION,
+    CLOSED,
+    CLOSED,
+];
+
+// The positions of parts.
+const FUNCTION_OF: usize = 0;
+
+const ARGUMENT_OF: usize = 1;
+
+const BODY_OF: usize = 2;
+
+const ASCRIBED_BY: usize = 3;
+
+const ELSEWHERE: usize = 4;
+
+// Whether a part is bracketed, by its position, the style and its form: closed, call, function, block, ascription.
+const BRACKETS: [[[bool; 5]; 2]; 5] = [
+    [
+        [false, false, true, false, true], // the function of an application, plain
+        [false, false, true, true, true], // the function of an application, strict
+    ],
+    [
+        [false, true, true, false, true], // its argument, plain
+        [false, true, true, false, true], // its argument, strict
+    ],
+    [
+        [false, true, true, true, true], // the body of a named function, plain
+        [false, true, true, true, true], // the body of a named function, strict
+    ],
+    [
+        [false, false, true, true, true], // the body of an ascription, plain
+        [false, false, true, true, true], // the body of an ascription, strict
+    ],
+    [
+        [false, false, false, false, false], // elsewhere, plain
+        [false, false, false, false, false], // elsewhere, strict
+    ],
+];
+
+// The text of each kind, in the order of the kinds and up to the full stop. A digit stands for the name in that number of the
+// record. A, B and C stand for its parts, D for the body of a named function, E for that of an ascription, F and G for the function
+// and the argument of an application, L for the label of a parameter, if it has one, and M for that of an ascription.
+const FORMATS: [[u8; 32]; 14] = [
+    *b"1...............................",
+    *b"(A, B)..........................",
+    *b"fst D...........................",
+    *b"snd D...........................",
+    *b"fn 2L => A......................",
+    *b"F G.............................",
+    *b"let (3, 4) = A in B.............",
+    *b"inl D...........................",
+    *b"inr D...........................",
+    *b"case A of inl 4 => B, inr 5 => C",
+    *b"abort D.........................",
+    *b"E: M............................",
+    *b"()..............................",
+    *b"sorry...........................",
+];
+
+const FORMAT_SIZE: usize = 32;
+
+// The record's number and the position of each of the parts A to G.
+const PART_FIELDS: [usize; 7] = [1, 2, 3, 1, 1, 1, 2];
+
+const PART_POSITIONS: [usize; 7] = [
+    ELSEWHERE,
+    ELSEWHERE,
+    ELSEWHERE,
+    BODY_OF,
+    ASCRIBED_BY,
+    FUNCTION_OF,
+    ARGUMENT_OF,
+];
+
+// The kind of record `n`; an unknown one counts as Unit.
+fn kind_at(records: &[u16], n: usize) -> usize
+    requires { ⌜ recordSize * (n + 1) ≤ length (now records) ⌝ }
+    ensures { λ r. ⌜ KindAt (now (records .entry)) n r ⌝ }
+{
+    let kind = field(records, n, 0);
+    if kind < KINDS {
+        return kind;
+    }
+    UNIT
+}
+
+// The form of a term by its record's kind.
+fn form_of(kind: usize) -> usize
+    requires { ⌜ kind < 14 ⌝ }
+    ensures { λ r. ⌜ ((f : ℕ → Name) (props : ℕ → Prop ℕ) (term : ℕ → ProofTerm ℕ) (a b c d e : ℕ) →
+        r ≡ column (form (renameTerm f (recordTerm props term kind a b c d e)))) ⌝ }
+{
+    FORMS[kind]
+}
+
+// The row of a style in the table of brackets.
+fn row_of(style: Style) -> usize
+    ensures { λ r. ⌜ (r < 2) × (getD styles r Plain ≡ style) ⌝ }
+{
+    match style {
+        Style::Plain => 0,
+        Style::Strict => 1,
+    }
+}
+
+// Whether the term of record `n` is bracketed in a position.
+fn is_bracketed(records: &[u16], n: usize, position: usize, style: Style) -> bool
+    requires { ⌜ (recordSize * (n + 1) ≤ length (now records)) × (position < 5) ⌝ }
+    ensures { λ r. ⌜ ((f : ℕ → Name) (props : ℕ → Prop ℕ) →
+        r ≡ isBracketed (getD positions position none) style (form (renameTerm f (termAt props (now (records .entry)) n)))) ⌝ }
+{
+    let row = row_of(style);
+    let column = form_of(kind_at(records, n));
+    BRACKETS[position][row][column]
+}
+
+// The format of a kind.
+fn format_of(kind: usize) -> [u8; 32]
+    requires { ⌜ kind < 14 ⌝ }
+    ensures { λ r. ⌜ (length r ≡ 32) × (items r ≡ getD formats kind []) ⌝ }
+{
+    FORMATS[kind]
+}
+
+// The label of record `n`: a proposition or a datatype.
+fn put_label(
+    out: &mut [u8],
+    to: usize,
+    records: &[u16],
+    n: usize,
+    code: &[u8],
+    ends: &[u16],
+    names: usize,
+    pairs: &[u8],
+    text: &[u8],
+    write: bool,
+) -> usize
+    requires { ⌜ PrintableTerm (now records) n names (now code) (now ends) (now pairs) (now text) ⌝ }
+    requires { ⌜ LabelReady names (now code) (now ends) (now records) n ⌝ }
+    ensures { λ r. ⌜ Wrote (displayLabel (renameLabel (marked (now (pairs .entry)) (now (text .entry)))
+        (labelOf (propAt names (now (code .entry))) (fieldAt (now (records .entry)) n 3) (fieldAt (now (records .entry)) n 4))))
+        write (now (out .entry)) to (now (out .exit)) r ⌝ }
+{
+    let label = field(records, n, 4);
+    if field(records, n, 3) == DATATYPE {
+        return put_name(out, to, pairs, text, label, write);
+    }
+    print(out, to, code, ends, pairs, text, names, label, write)
+}
+
+// The label of the parameter of record `n`, if it has one, after a colon.
+fn put_parameter_label(
+    out: &mut [u8],
+    to: usize,
+    records: &[u16],
+    n: usize,
+    code: &[u8],
+    ends: &[u16],
+    names: usize,
+    pairs: &[u8],
+    text: &[u8],
+    write: bool,
+) -> usize
+    requires { ⌜ PrintableTerm (now records) n names (now code) (now ends) (now pairs) (now text) ⌝ }
+    requires { ⌜ ((fieldAt (now records) n 3 ≡ 0 → ⊥) → LabelReady names (now code) (now ends) (now records) n) ⌝ }
+    ensures { λ r. ⌜ Wrote (displayParameterLabel (renameParameterLabel (marked (now (pairs .entry)) (now (text .entry)))
+        (parameterLabel (propAt names (now (code .entry))) (fieldAt (now (records .entry)) n 3) (fieldAt (now (records .entry)) n 4))))
+        write (now (out .entry)) to (now (out .exit)) r ⌝ }
+{
+    if field(records, n, 3) == NO_LABEL {
+        return to;
+    }
+    let colon = put_all(out, to, b": ", write);
+    put_label(
+        out,
+        colon,
+        records,
+        n,
+        code,
+        ends,
+        names,
+        pairs,
+        text,
+        write,
+    )
+}
+
+// Part `k` of record `n`, one of A to G, in brackets where its position asks for them.
+fn part(
+    out: &mut [u8],
+    to: usize,
+    records: &[u16],
+    n: usize,
+    k: usize,
+    style: Style,
+    code: &[u8],
+    ends: &[u16],
+    names: usize,
+    pairs: &[u8],
+    text: &[u8],
+    write: bool,
+) -> usize
+    requires { ⌜ k < 7 ⌝ }
+    requires { ⌜ PrintableTerm (now records) n names (now code) (now ends) (now pairs) (now text) ⌝ }
+    requires { ⌜ ItemReady names (now code) (now ends) (now records) n (part k) ⌝ }
+    ensures { λ r. ⌜ Wrote (recordItem style names (now (code .entry)) (now (pairs .entry)) (now (text .entry)) (now (records .entry)) n (part k))
+        write (now (out .entry)) to (now (out .exit)) r ⌝ }
+{
+    let number = field(records, n, PART_FIELDS[k]);
+    if n <= number {
+        return put_all(out, to, b"()", write);
+    }
+    if is_bracketed(records, number, PART_POSITIONS[k], style) {
+        let start = put(out, to, b'(', write);
+        let end = print_term(
+            out,
+            start,
+            records,
+            number,
+            style,
+            code,
+            ends,
+            names,
+            pairs,
+            text,
+            write,
+        );
+        return put(out, end, b')', write);
+    }
+    print_term(
+        out,
+        to,
+        records,
+        number,
+        style,
+        code,
+        ends,
+        names,
+        pairs,
+        text,
+        write,
+    )
+}
+
+// Whether a byte lies from the first to the last of a run.
+fn is_between(b: u8, first: u8, last: u8) -> bool
+    ensures { λ r. ⌜ r ≡ leb first b && leb b last ⌝ }
+{
+    if b < first {
+        return false;
+    }
+    b <= last
+}
+
+// What a byte of a format stands for in record `n`.
+fn put_item(
+    out: &mut [u8],
+    to: usize,
+    b: u8,
+    records: &[u16],
+    n: usize,
+    style: Style,
+    code: &[u8],
+    ends: &[u16],
+    names: usize,
+    pairs: &[u8],
+    text: &[u8],
+    write: bool,
+) -> usize
+    requires { ⌜ PrintableTerm (now records) n names (now code) (now ends) (now pairs) (now text) ⌝ }
+    requires { ⌜ ItemReady names (now code) (now ends) (now records) n (itemOf b) ⌝ }
+    ensures { λ r. ⌜ Wrote (recordItem style names (now (code .entry)) (now (pairs .entry)) (now (text .entry)) (now (records .entry)) n (itemOf b))
+        write (now (out .entry)) to (now (out .exit)) r ⌝ }
+{
+    if is_between(b, b'1', b'5') {
+        let name = field(records, n, (b - b'0') as usize);
+        return put_name(out, to, pairs, text, name, write);
+    }
+    if is_between(b, b'A', b'G') {
+        let k = (b - b'A') as usize;
+        return part(
+            out,
+            to,
+            records,
+            n,
+            k,
+            style,
+            code,
+            ends,
+            names,
+            pairs,
+            text,
+            write,
+        );
+    }
+    if b == b'L' {
+        return put_parameter_label(out, to, records, n, code, ends, names, pairs, text, write);
+    }
+    if b == b'M' {
+        return put_label(out, to, records, n, code, ends, names, pairs, text, write);
+    }
+    put(out, to, b, write)
+}
+
+// The term of record `n`.
+pub fn print_term(
+    out: &mut [u8],
+    to: usize,
+    records: &[u16],
+    n: usize,
+    style: Style,
+    code: &[u8],
+    ends: &[u16],
+    names: usize,
+    pairs: &[u8],
+    text: &[u8],
+    write: bool,
+) -> usize
+    requires { ⌜ PrintableTerm (now records) n names (now code) (now ends) (now pairs) (now text) ⌝ }
+    ensures { λ r. ⌜ Wrote (displayTerm style (renameTerm (marked (now (pairs .entry)) (now (text .entry)))
+        (termAt (propAt names (now (code .entry))) (now (records .entry)) n))) write (now (out .entry)) to (now (out .exit)) r ⌝ }
+{
+    let format = format_of(kind_at(records, n));
+    let mut at = to;
+    let mut i = 0;
+    while i < FORMAT_SIZE {
+        let b = format[i];
+        if b == b'.' {
+            return at;
+        }
+        at = put_item(
+            out,
+            at,
+            b,
+            records,
+            n,
+            style,
+            code,
+            ends,
+            names,
+            pairs,
+            text,
+            write,
+        );
+        i += 1;
+    }
+    at
+}

@@ -1,0 +1,36 @@
+-- What a reader of the term records may know of a label that is a proposition: a proposition stands at its offset.
+use Prim.Native.Nat.{ℕ, _+_}
+use mathlib.Core.Path.{_≡_, ap, _∙_}
+use mathlib.Core.Logic.{⊎-elim}
+use mathlib.Core.List.{List}
+use native.Mathlib.Omega.{arith}
+use borrow.Author.Tests.{ne-eqb}
+use Rattle.definitions.specs.Term.{proposition}
+use Rattle.definitions.proofs.PrefixCode.{Bytes}
+use Rattle.proof_term.specs.Records.{fieldAt, labelOf, parameterLabel, recordTermAt}
+use Rattle.proof_term.proofs.Records.{termAt-is}
+use Rattle.proof_tree.specs.PropAt.{Present}
+use Rattle.proof_tree.specs.Terms.{ownLabel, HasLabel}
+use Rattle.proof_tree.specs.Exportable.{Exportable}
+use Rattle.proof_tree.specs.Exporting.{LabelOffset}
+use Rattle.proof_tree.proofs.Standing.{present-in}
+use Rattle.proof_tree.proofs.Conclusions.{left-present}
+
+-- an ascription's label, and a function's, where it is no datatype's
+module _ (terms : List ℕ) (m : ℕ) where
+  pub ascription-label : fieldAt terms m 0 ≡ 11 → (fieldAt terms m 3 ≡ 2 → ⊥) → HasLabel terms m (fieldAt terms m 4)
+  unfolding ownLabel recordTermAt labelOf
+  ascription-label kind no-datatype props =
+      ap ownLabel (termAt-is props terms m) ∙ rw (kind, ne-eqb (fieldAt terms m 3) 2 no-datatype)
+
+  pub function-label : fieldAt terms m 0 ≡ 4 → (fieldAt terms m 3 ≡ 0 → ⊥) → (fieldAt terms m 3 ≡ 2 → ⊥) → HasLabel terms m (fieldAt terms m 4)
+  unfolding ownLabel recordTermAt parameterLabel labelOf
+  function-label kind some-label no-datatype props =
+      ap ownLabel (termAt-is props terms m) ∙ rw (kind, ne-eqb (fieldAt terms m 3) 0 some-label, ne-eqb (fieldAt terms m 3) 2 no-datatype)
+
+-- a proposition stands at the offset of a label
+pub label-present : {names : ℕ} {pairs code records sizes : List ℕ} {k offset : ℕ} → Bytes code → Exportable names pairs code records sizes (k + 1)
+    → LabelOffset pairs code records k offset → Present names code offset
+label-present bytes e l =
+    let whole = present-in bytes (e .good (l .step) (omega (arith, l .visited)) .coded (l .concludes)) in
+    ⊎-elim (λ is. rw is whole) (λ is. rw (is .1) (left-present whole (is .0))) (l .stands)

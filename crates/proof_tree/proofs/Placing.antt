@@ -1,0 +1,192 @@
+-- A step's term in its place, in three parts: the label of a parameter, the term of the rule, an ascription.
+use Prim.Native.Nat.{ℕ, _+_, _-_, _<_, _≤_}
+use mathlib.Core.Path.{_≡_, refl, sym, ap, _∙_}
+use mathlib.Core.Logic.{by-cases}
+use mathlib.Core.Option.{Option, some}
+use mathlib.Core.List.{List, [], _∷_}
+use native.Mathlib.Omega.{arith}
+use native.Mathlib.Decide.{decLt}
+use types.Run.{OneOf, miss}
+use denote.Enum.Declared.{tagOf}
+use Rattle.definitions.specs.Outcome.{Outcome, accepted, refused, refuse, _>>=_, mapOutcome}
+use Rattle.definitions.specs.declared.Refusal.{Refusal}
+use Rattle.definitions.specs.Prop.{Prop}
+use Rattle.definitions.specs.Sheet.{stepNumber}
+use Rattle.definitions.specs.Tree as tree
+use Rattle.definitions.specs.Tree.{ProofTreeConclusion, Step, ruleIn, identifierIn, conclusionIn, stepIn}
+use Rattle.definitions.specs.Term.{Label, proposition, ProofTerm, TypeAscription}
+use Rattle.definitions.specs.Export.{Place, checking, inferring, Ending, bare, ascribed, leftLabelled, datatypeLabelled, premissOwn, ending, ascriptionLabel, leftLabel, datatypeLabel, stepTerm, inferringTerm, placedTerm}
+use Rattle.definitions.proofs.PrefixCode.{Bytes}
+use Rattle.proof_term.specs.Records.{parameterLabel, termAt}
+use Rattle.proof_term.specs.Making.{Made}
+use Rattle.proof_term.specs.Counting.{termSize}
+use Rattle.proof_term.proofs.Making.{kept-then}
+use Rattle.proof_tree.specs.declared.table.Place as own
+use Rattle.proof_tree.specs.declared.table.Ending as own-ending
+use Rattle.proof_tree.specs.declared.table.Ending.the-variants.{Bare, Ascribed, LeftLabelled, DatatypeLabelled, PremissOwn}
+use Rattle.proof_tree.specs.declared.table.Row.{Row}
+use Rattle.proof_tree.specs.declared.conclusion.Conclusion.{Conclusion}
+use Rattle.proof_tree.specs.declared.conclusion.Conclusion.the-variants.{PropIsTrue}
+use Rattle.proof_tree.specs.declared.conclusion.Annotation.the-variants as annotation
+use Rattle.proof_tree.specs.declared.Exported.{Exported}
+use Rattle.proof_tree.specs.declared.Exported.the-variants.{Term, Refused}
+use Rattle.proof_tree.specs.Table.{placeOf, endingOf, TableRow}
+use Rattle.proof_tree.specs.PropAt.{propAt}
+use Rattle.proof_tree.specs.Terms.{ownLabel, HasLabel, termOver, partTerms, termSizes, MadeTerm}
+use Rattle.proof_tree.specs.Opening.{conclusionAt}
+use Rattle.proof_tree.specs.Exportable.{GoodStep}
+use Rattle.proof_tree.specs.Labelling.{endingAt, parameterLabelOf, Means, stands, judges, LabelOf, Annotated, labelled}
+use Rattle.proof_tree.specs.Labelling as labelling
+use Rattle.proof_tree.specs.Wrapping as wrapping
+use Rattle.proof_tree.specs.Wrapping.{Wrapped, ascribes}
+use Rattle.proof_tree.specs.Exporting.{LabelOffset, Answered, gives, refuses}
+use Rattle.proof_tree.proofs.table.Ending as ending-type
+use Rattle.proof_tree.proofs.Makers.{same-number}
+use Rattle.proof_tree.proofs.Concluding.{whole-offset, left-offset}
+
+-- the term that a step's term becomes by its ending
+finishing : Ending → Step ℕ → ProofTerm ℕ → Outcome (ProofTerm ℕ)
+finishing bare z t = accepted t
+finishing premissOwn z t = accepted t
+finishing leftLabelled z t = accepted t
+finishing datatypeLabelled z t = accepted t
+finishing ascribed z t = do
+  l ← ascriptionLabel (z .number) (z .conclusion)
+  accepted (TypeAscription t l)
+
+module _ (z : Step ℕ) (ts : List (ProofTerm ℕ)) where
+  inferring-parts : (e : Ending) → inferringTerm e z ts ≡ (parameterLabelOf e (z .number) (z .conclusion) >>= λ l. finishing e z (stepTerm z l ts))
+  unfolding inferringTerm parameterLabelOf finishing _>>=_ mapOutcome
+  inferring-parts bare = refl
+  inferring-parts premissOwn = refl
+  inferring-parts ascribed = refl
+  inferring-parts leftLabelled = go (leftLabel (z .number) (z .conclusion))
+    where
+      go : (o : Outcome (Label ℕ)) → (o >>= λ l. accepted (stepTerm z (some l) ts)) ≡ (mapOutcome some o >>= λ l. accepted (stepTerm z l ts))
+      go (refused r) = refl
+      go (accepted l) = refl
+  inferring-parts datatypeLabelled = go (datatypeLabel (z .number) (z .conclusion))
+    where
+      go : (o : Outcome (Label ℕ)) → (o >>= λ l. accepted (stepTerm z (some l) ts)) ≡ (mapOutcome some o >>= λ l. accepted (stepTerm z l ts))
+      go (refused r) = refl
+      go (accepted l) = refl
+
+  placed-parts : (m : Place) → placedTerm m z ts ≡ inferringTerm (endingAt m (ending (z .rule))) z ts
+  unfolding placedTerm endingAt inferringTerm
+  placed-parts checking = refl
+  placed-parts inferring = refl
+
+-- only an ascribed term becomes another
+unascribed : (e : own-ending.Ending) (z : Step ℕ) (t : ProofTerm ℕ) → OneOf (0 ∷ 2 ∷ 3 ∷ 4 ∷ []) (tagOf ending-type.the-type e) → finishing (endingOf e) z t ≡ accepted t
+unfolding finishing endingOf
+unascribed Bare z t h = refl
+unascribed Ascribed z t h = absurd (miss (0 ∷ 2 ∷ 3 ∷ 4 ∷ []) 1 tt h)
+unascribed LeftLabelled z t h = refl
+unascribed DatatypeLabelled z t h = refl
+unascribed PremissOwn z t h = refl
+
+-- what ascribing a term comes to
+pub data Ascription (names : ℕ) (code : List ℕ) (k : ℕ) (c : Conclusion) (m : ProofTreeConclusion ℕ) (before : List ℕ) (used : ℕ) (after : List ℕ) : Exported → Type 0 where
+  is-ascribed : {at next : ℕ} → c ≡ PropIsTrue at → m ≡ tree.PropIsTrue (propAt names code at)
+      → Made (λ props part. TypeAscription (part (used - 1)) (proposition (props at))) before used after next
+      → Ascription names code k c m before used after (Term next)
+  is-refused : {r : Refusal} → ascriptionLabel k m ≡ refuse 13 k → r ≡ record { number = 13; place = k } → Ascription names code k c m before used after (Refused r)
+
+pub ascription : {names : ℕ} {code : List ℕ} {k : ℕ} {c : Conclusion} {m : ProofTreeConclusion ℕ} {before : List ℕ} {used : ℕ} {after : List ℕ} {r : Exported}
+    → Means names code c m → Wrapped k before used after c r → Ascription names code k c m before used after r
+unfolding ascriptionLabel
+ascription (stands s) (ascribes made) = is-ascribed refl refl made
+ascription judges (wrapping.refuses e) = is-refused refl e
+
+pub label-of : {names : ℕ} {code : List ℕ} {c : Conclusion} {o : Outcome (Option (Label ℕ))} {kind number : ℕ}
+    → Annotated names code c o (annotation.Label kind number) → LabelOf names code c o kind number
+label-of (labelled l) = l
+
+refusal-of : {names : ℕ} {code : List ℕ} {c : Conclusion} {o : Outcome (Option (Label ℕ))} {r : Refusal}
+    → Annotated names code c o (annotation.Refused r) → o ≡ refused r
+refusal-of (labelling.refuses e) = e
+
+-- step k, its row, its ending in its place, and its conclusion taken apart
+pub record Visited (names : ℕ) (pairs code records : List ℕ) (k : ℕ) (place : own.Place) (row : Row) (e : own-ending.Ending) (c : Conclusion) : Type 0 where
+  pub good : GoodStep names pairs code records k
+  pub is-row : TableRow (ruleIn records k) row
+  pub ends : endingOf e ≡ endingAt (placeOf place) (endingOf (row .3))
+  pub bytes : Bytes code
+  pub concluded : c ≡ conclusionAt pairs records k
+
+module _ {names : ℕ} {pairs code records : List ℕ} {k : ℕ} {place : own.Place} {row : Row} {e : own-ending.Ending} {c : Conclusion} (v : Visited names pairs code records k place row e c) where
+  abbrev pub label : Outcome (Option (Label ℕ))
+  label = parameterLabelOf (endingOf e) k (conclusionIn names pairs code records k)
+
+  abbrev pub placed : List (ProofTerm ℕ) → Outcome (ProofTerm ℕ)
+  placed ts = placedTerm (placeOf place) (stepIn names pairs code records k) ts
+
+  placed-is : (ts : List (ProofTerm ℕ)) → placed ts ≡ (label >>= λ l. finishing (endingOf e) (stepIn names pairs code records k) (stepTerm (stepIn names pairs code records k) l ts))
+  unfolding stepIn
+  placed-is ts =
+      placed-parts (stepIn names pairs code records k) ts (placeOf place)
+      ∙ rw (v .ends, v .is-row .ending-is) (inferring-parts (stepIn names pairs code records k) ts (endingAt (placeOf place) (ending (ruleIn records k))))
+
+  pub label-refused : {r : Refusal} {before : List ℕ} {used size least most : ℕ} {after : List ℕ} (ts : List (ProofTerm ℕ)) → Annotated names code c label (annotation.Refused r)
+      → Answered names pairs code records k (placed ts) before used size least most after (Refused r)
+  unfolding _>>=_
+  label-refused {r} ts a = refuses {r = r} (placed-is ts ∙ rw (refusal-of a))
+
+  step-term-is : (l : Option (Label ℕ)) (ts : List (ProofTerm ℕ)) → termOver (row .4) (stepNumber records k 2) (stepNumber records k 6) l ts ≡ stepTerm (stepIn names pairs code records k) l ts
+  unfolding stepIn identifierIn stepTerm termOver
+  step-term-is l ts = rw (v .is-row .term-is)
+
+  -- The rule's term, with its label.
+  module _ {kind number first second third used next : ℕ} {before after : List ℕ} (l : LabelOf names code c label kind number) (made : MadeTerm (row .4) (stepNumber records k 2) (stepNumber records k 6) kind number first second third before used after next) where
+    abbrev pub ts : List (ProofTerm ℕ)
+    ts = partTerms (termAt (propAt names code) before) (row .0) (first ∷ second ∷ third ∷ [])
+
+    placed-term : placed ts ≡ finishing (endingOf e) (stepIn names pairs code records k) (termAt (propAt names code) after (next - 1))
+    unfolding _>>=_
+    placed-term =
+        let is : termAt (propAt names code) after (next - 1) ≡ stepTerm (stepIn names pairs code records k) (parameterLabel (propAt names code) kind number) ts =
+        made .holds (propAt names code) ∙ rw (v .is-row .parts-are) (step-term-is (parameterLabel (propAt names code) kind number) ts) in
+        placed-is ts ∙ rw (l .is, is)
+
+    small : used + termSize (termAt (propAt names code) after (next - 1)) ≤ next + termSizes ts
+    small = rw (← (v .is-row .parts-are)) (made .small (propAt names code))
+
+    labels : (m offset : ℕ) → used ≤ m → m < next → HasLabel after m offset → LabelOffset pairs code records k offset
+    labels m offset h i has = let (one, same) = made .labels m offset h i has in rw same (left-offset (v .good) (v .bytes) (v .concluded) number (l .left one))
+
+    pub term-answer : OneOf (0 ∷ 2 ∷ 3 ∷ 4 ∷ []) (tagOf ending-type.the-type e)
+        → Answered names pairs code records k (placed ts) before used (termSizes ts) (used + 1 - row .0) (used + 2) after (Term next)
+    term-answer other =
+        gives {next = next} (record {
+          holds = placed-term ∙ unascribed e (stepIn names pairs code records k) (termAt (propAt names code) after (next - 1)) other;
+          small = small;
+          low = omega (arith, made .more, v .is-row .parts-are);
+          high = omega (arith, made .few);
+          grown = record { kept = made .kept; labels = labels };
+        })
+
+    ascribed-labels : {at last : ℕ} {final : List ℕ} → c ≡ PropIsTrue at
+        → Made (λ props part. TypeAscription (part (next - 1)) (proposition (props at))) after next final last
+        → (m offset : ℕ) → used ≤ m → m < last → HasLabel final m offset → LabelOffset pairs code records k offset
+    unfolding ownLabel
+    ascribed-labels {at} {last} {final} hc more m offset h i has = by-cases (decLt m next)
+        (λ lt. labels m offset h lt (λ props. ap ownLabel (sym (more .kept .terms props m lt)) ∙ has props))
+        (λ ge.
+        let same : m ≡ next = omega (arith, more .counted) in
+        let number : (props : ℕ → Prop ℕ) → props at ≡ props offset =
+        λ props. let f = sym (ap ownLabel (more .holds props)) ∙ rw same at (has props) in cc in
+        rw (same-number offset at number) (whole-offset (v .good) (v .bytes) (v .concluded) at hc))
+
+    pub ascribed-answer : {final : List ℕ} {r : Exported} → e ≡ Ascribed → Ascription names code k c (conclusionIn names pairs code records k) after next final r
+        → Answered names pairs code records k (placed ts) before used (termSizes ts) (used + 1 - row .0) (used + 2) final r
+    unfolding finishing endingOf stepIn ascriptionLabel _>>=_ refuse termSize
+    ascribed-answer {final} he (is-refused {r = r} none13 is) = refuses {r = r} (placed-term ∙ rw (he, none13, is))
+    ascribed-answer {final} he (is-ascribed {next = last} hc is more) =
+        let end : last - 1 ≡ next = omega (arith, more .counted) in
+        gives {next = last} (record {
+          holds = placed-term ∙ rw (he, is, end, more .holds (propAt names code));
+          small = rw (end, more .holds (propAt names code)) (omega (arith, small, more .counted));
+          low = omega (arith, made .more, v .is-row .parts-are, more .counted);
+          high = omega (arith, made .few, more .counted);
+          grown = record { kept = kept-then (made .grows) (made .kept) (more .kept); labels = ascribed-labels hc more };
+        })

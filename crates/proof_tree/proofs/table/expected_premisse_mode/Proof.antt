@@ -1,0 +1,28 @@
+-- The three places of a row, and the step's own for any other number.
+use Prim.Native.Nat.{ℕ, zero, suc}
+use mathlib.Core.Path.{_≡_, refl}
+use Rattle.definitions.specs.Export.{Place}
+use Rattle.proof_tree.specs.Table.{placeOf, premissPlace}
+use Rattle.proof_tree.proofs.table.expected_premisse_mode.Statement.{statement}
+use Rattle.proof_tree.proofs.table.expected_premisse_mode.Tie as tie
+
+own-place : (own : Place) (n : ℕ) → (n ≡ 1 → ⊥) → (n ≡ 2 → ⊥) → own ≡ premissPlace own n
+unfolding premissPlace
+own-place own zero h k = refl
+own-place own (suc zero) h k = absurd (h refl)
+own-place own (suc (suc zero)) h k = absurd (k refl)
+own-place own (suc (suc (suc n))) h k = refl
+
+returns : tie.Need-returns
+unfolding placeOf premissPlace
+returns c = rw (c .match .keys1)
+
+returns-2 : tie.Need-returns-2
+unfolding placeOf premissPlace
+returns-2 c = rw (c .match .keys2)
+
+returns-3 : tie.Need-returns-3
+returns-3 c = own-place _ _ (c .match .rest .0 .1) (c .match .rest .1)
+
+pub expected-premisse-mode-spec : {M : Type 1} → statement M
+expected-premisse-mode-spec = tie.close (tie.spec returns returns-2 returns-3)

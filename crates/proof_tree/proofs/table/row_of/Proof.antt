@@ -1,0 +1,24 @@
+-- The table is document 01's, by a test that antt computes.
+use mathlib.Core.Path.{refl}
+use native.Mathlib.Omega.{arith}
+use Rattle.definitions.specs.Tree.{rules}
+use Rattle.definitions.specs.Export.{row, rowOf, places, ending, ruleTerm}
+use Rattle.proof_tree.specs.Table.{endingOf, termOf, partCount, fewest, most, premissPlace}
+use Rattle.proof_tree.proofs.Rows.{entry, table-row}
+use Rattle.proof_tree.proofs.table.row_of.Statement.{statement}
+use Rattle.proof_tree.proofs.table.row_of.Tie as tie
+
+mul-result : tie.Need-mul-result
+unfolding rules
+mul-result c = omega arith
+
+array-copy-out-result : tie.Need-array-copy-out-result
+unfolding rules
+array-copy-out-result c = omega arith
+
+returns : tie.Need-returns
+unfolding rules row rowOf places ending endingOf fewest most premissPlace partCount termOf ruleTerm
+returns c = rw entry (table-row _ _ refl _ (c .before .pre))
+
+pub row-of-spec : {M : Type 1} → statement M
+row-of-spec = tie.close (tie.spec mul-result array-copy-out-result returns)

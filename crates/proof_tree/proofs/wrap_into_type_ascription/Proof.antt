@@ -1,0 +1,53 @@
+-- The conclusion is taken apart first: a type judgement is 13.
+use borrow.Author.Needs.{needs}
+use Rattle.proof_term.specs.Records.{labelOf}
+use Rattle.proof_tree.specs.Wrapping.{ascribes, refuses}
+use Rattle.proof_tree.proofs.wrap_into_type_ascription.Statement.{statement}
+use Rattle.proof_tree.proofs.wrap_into_type_ascription.Tie as tie
+
+enum-known-conclusion : tie.Need-enum-known-conclusion
+enum-known-conclusion c = search needs
+
+enum-told : tie.Need-enum-told
+enum-told c = search needs
+
+refusal-requires : tie.Need-refusal-requires
+refusal-requires c κs = search needs
+
+returns : tie.Need-returns
+returns c = rw (c .before .enum-told .given .1) (refuses (c .refusal .ensures))
+
+sub-type-ascription : tie.Need-sub-type-ascription
+sub-type-ascription c = search needs
+
+cast-type-ascription : tie.Need-cast-type-ascription
+cast-type-ascription c = search needs
+
+cast-type-ascription-2 : tie.Need-cast-type-ascription-2
+cast-type-ascription-2 c = record { fits = c .before .before .before .before .before .pre .1 _ (c .before .before .conclusion .given .1) }
+
+type-ascription-requires : tie.Need-type-ascription-requires
+type-ascription-requires c κs = search needs
+
+same-length : tie.Need-same-length
+same-length c = search needs
+
+returns-2 : tie.Need-returns-2
+unfolding labelOf
+returns-2 c =
+    rw (c .before .before .before .before .before .conclusion .given .1) (ascribes (c .before .before .type-ascription .ensures))
+
+pub wrap-into-type-ascription-spec : {M : Type 1} → statement M
+wrap-into-type-ascription-spec =
+    tie.close
+    (tie.spec
+    enum-known-conclusion
+    enum-told
+    refusal-requires
+    returns
+    sub-type-ascription
+    cast-type-ascription
+    cast-type-ascription-2
+    type-ascription-requires
+    same-length
+    returns-2)

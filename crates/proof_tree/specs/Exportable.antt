@@ -1,0 +1,33 @@
+-- What refusals 6, 7, 9 and 10 leave of a sheet's first steps, by which they can be exported.
+use Prim.Native.Nat.{ℕ, _+_, _*_, _≤_, _<_}
+use mathlib.Core.Path.{_≡_}
+use mathlib.Core.Bool.{false}
+use mathlib.Core.List.{List}
+use lib.ListN.{length}
+use Rattle.definitions.specs.Code.{decode}
+use Rattle.definitions.specs.Sheet.{pairSize, pairEnd, marked, ruleByte, stepNumber}
+use Rattle.definitions.specs.Tree.{rules}
+use Rattle.definitions.specs.Admission.{isNone}
+use Rattle.steps.specs.Records.{HasStep}
+use Rattle.steps.specs.Tables.{SizeTable}
+
+-- the pair of a proposition is there, ends within the code, and marks the code of one proposition
+pub record Coded (names : ℕ) (pairs code : List ℕ) (i : ℕ) : Type 0 where
+  pub there : pairSize * (i + 1) ≤ length pairs
+  pub within : pairEnd pairs i ≤ length code
+  pub decoded : isNone (decode names (marked pairs code i)) ≡ false
+
+-- the records have step k, with a rule; the proposition that it concludes, if it concludes one, has a code; and the number of
+-- the step and an offset of the code fit a u16
+pub record GoodStep (names : ℕ) (pairs code records : List ℕ) (k : ℕ) : Type 0 where
+  pub whole : HasStep records k
+  pub rule : ruleByte records k < length rules
+  pub coded : stepNumber records k 10 ≡ 0 → Coded names pairs code (stepNumber records k 12)
+  pub few : k < 65536
+  pub short : length code < 65536
+
+-- so many steps are good, each finds its premisses, and the table has the sizes of their trees
+pub record Exportable (names : ℕ) (pairs code records sizes : List ℕ) (steps : ℕ) : Type 0 where
+  pub good : (k : ℕ) → k < steps → GoodStep names pairs code records k
+  pub table : SizeTable records steps sizes
+  pub sized : steps ≤ length sizes

@@ -1,0 +1,75 @@
+-- What the exporter answers, and what it makes of the lent memory.
+use Prim.Native.Nat.{ℕ, _+_, _*_, _-_, _≤_, _<_}
+use mathlib.Core.Path.{_≡_}
+use mathlib.Core.Logic.{_⊎_}
+use mathlib.Core.List.{List}
+use lib.ListN.{length, getD}
+use Rattle.definitions.specs.Outcome.{Outcome, accepted, refused}
+use Rattle.definitions.specs.declared.Refusal.{Refusal}
+use Rattle.definitions.specs.Sheet.{pairOffset, stepNumber}
+use Rattle.definitions.specs.Term.{ProofTerm}
+use Rattle.definitions.specs.Tree.{stepIn, treeIn}
+use Rattle.definitions.specs.Export.{Place, placedTerm, export}
+use Rattle.steps.specs.Size.{size}
+use Rattle.proof_term.specs.Records.{recordSize, termAt}
+use Rattle.proof_term.specs.Making.{Kept}
+use Rattle.proof_term.specs.Counting.{termSize}
+use Rattle.proof_tree.specs.declared.Exported.{Exported}
+use Rattle.proof_tree.specs.declared.Exported.the-variants.{Term, Refused}
+use Rattle.proof_tree.specs.declared.Counted.{Counted}
+use Rattle.proof_tree.specs.declared.Counted.the-variants as counted
+use Rattle.proof_tree.specs.declared.Counted.the-variants.{Labels}
+use Rattle.proof_tree.specs.PropAt.{propAt}
+use Rattle.proof_tree.specs.Terms.{HasLabel, partTerms, termSizes}
+
+-- the offset of the proposition that a step concludes, or of the left side of such an implication
+pub record LabelOffset (pairs code records : List ℕ) (k offset : ℕ) : Type 0 where
+  pub step : ℕ
+  pub visited : step ≤ k
+  pub concludes : stepNumber records step 10 ≡ 0
+  pub stands :
+      let whole = pairOffset pairs (stepNumber records step 12) in
+      (offset ≡ whole) ⊎ ((getD code whole 0 ≡ 4) × (offset ≡ whole + 1))
+
+-- `after` is the memory `before` with the records from `used` to `next` made: those below are as they were, and a label that is a
+-- proposition is the offset of its code
+pub record Grown (pairs code records : List ℕ) (k : ℕ) (before : List ℕ) (used : ℕ) (after : List ℕ) (next : ℕ) : Type 0 where
+  pub kept : Kept used before after
+  pub labels : (m offset : ℕ) → used ≤ m → m < next → HasLabel after m offset → LabelOffset pairs code records k offset
+
+-- the outcome is the term of the last record before `next`, which has at most a node for each record that was made, beside those
+-- that its parts had
+pub record ExportedTerm (names : ℕ) (pairs code records : List ℕ) (k : ℕ) (outcome : Outcome (ProofTerm ℕ)) (before : List ℕ) (used parts least most : ℕ) (after : List ℕ) (next : ℕ) : Type 0 where
+  pub holds : outcome ≡ accepted (termAt (propAt names code) after (next - 1))
+  pub small : used + termSize (termAt (propAt names code) after (next - 1)) ≤ next + parts
+  pub low : least ≤ next
+  pub high : next ≤ most
+  pub grown : Grown pairs code records k before used after next
+
+-- what each answer says of the outcome for step k: a term, by the count of the records used after it, or the refusal
+pub data Answered (names : ℕ) (pairs code records : List ℕ) (k : ℕ) (outcome : Outcome (ProofTerm ℕ)) (before : List ℕ) (used parts least most : ℕ) (after : List ℕ) : Exported → Type 0 where
+  gives : {next : ℕ} → ExportedTerm names pairs code records k outcome before used parts least most after next → Answered names pairs code records k outcome before used parts least most after (Term next)
+  refuses : {r : Refusal} → outcome ≡ refused r → Answered names pairs code records k outcome before used parts least most after (Refused r)
+
+-- there is room for so many records, whose numbers fit a u16
+pub record RoomFor (terms : List ℕ) (count : ℕ) : Type 0 where
+  pub room : recordSize * count ≤ length terms
+  pub few : count ≤ 65536
+
+-- the outcome for the tree of step k in a place, in at most two records for each of its steps
+abbrev pub StepExported : ℕ → List ℕ → List ℕ → List ℕ → ℕ → Place → List ℕ → ℕ → List ℕ → Exported → Type 0
+StepExported names pairs code records k place before used after r =
+    Answered names pairs code records k (export (treeIn names pairs code records k) place) before used 0 (used + 1)
+    (used + 2 * size (treeIn names pairs code records k))
+    after r
+
+-- the outcome for step k in a place, over the terms of its parts, in at most two records
+abbrev pub StepPlaced : ℕ → List ℕ → List ℕ → List ℕ → ℕ → Place → ℕ → List ℕ → List ℕ → ℕ → List ℕ → Exported → Type 0
+StepPlaced names pairs code records k place reads parts before used after r =
+    let ts = partTerms (termAt (propAt names code) before) reads parts in
+    Answered names pairs code records k (placedTerm place (stepIn names pairs code records k) ts) before used (termSizes ts) (used + 1 - reads) (used + 2) after r
+
+-- a label count as the program answers it
+unfoldable pub countedOf : Outcome ℕ → Counted
+countedOf (accepted n) = Labels n
+countedOf (refused r) = counted.Refused r

@@ -1,0 +1,218 @@
+// From the steps of a sheet to the records of its term (source document 000).
+// The count of names, by which propositions are read from their code, is passed on for the contracts alone.
+mod conclusion;
+mod step;
+mod table;
+mod term;
+
+use conclusion::Annotation;
+use conclusion::Conclusion;
+use conclusion::annotation_of;
+use conclusion::conclusion_of;
+use definitions::Refusal;
+use proof_term::PROPOSITION;
+use proof_term::annotation_count;
+use proof_term::type_ascription;
+use step::premiss;
+use step::premiss_count;
+use step::refusal;
+use step::rule_byte;
+use table::Ending;
+pub use table::Place;
+use table::Row;
+use table::admits_count;
+use table::expected_premisse_mode;
+use table::row_of;
+use term::step_term;
+ghost use Prim.Native.Nat.{ℕ, _+_, _*_, _-_, _<_};
+ghost use mathlib.Core.Path.{_≡_};
+ghost use lib.ListN.{getD};
+ghost use Rattle.definitions.specs.Tree.{ruleIn, treeIn};
+ghost use Rattle.definitions.specs.Outcome.{mapOutcome};
+ghost use Rattle.definitions.specs.Term.{annotationCount};
+ghost use Rattle.definitions.specs.Export.{checking, export};
+ghost use Rattle.steps.specs.Size.{size};
+ghost use Rattle.proof_term.specs.Making.{Room};
+ghost use Rattle.proof_tree.specs.Table.{placeOf, endingOf, TableRow};
+ghost use Rattle.proof_tree.specs.Labelling.{endingAt};
+ghost use Rattle.proof_tree.specs.Terms.{Parts, firstThree};
+ghost use Rattle.proof_tree.specs.Exportable.{GoodStep, Exportable};
+ghost use Rattle.proof_tree.specs.Exporting.{RoomFor, StepPlaced, StepExported, countedOf};
+ghost use Rattle.proof_tree.specs.Wrapping.{Wrapped};
+
+// A term, by the count of the records that are used after it, of which its own is the last; or a refusal.
+pub enum Exported {
+    Term(usize),
+    Refused(Refusal),
+}
+
+// A label count, or a refusal.
+pub enum Counted {
+    Labels(usize),
+    Refused(Refusal),
+}
+
+// Ascribes the newest term with the conclusion of its step k.
+fn wrap_into_type_ascription(
+    conclusion: Conclusion,
+    k: usize,
+    terms: &mut [u16],
+    used: usize,
+) -> Exported
+    requires { ⌜ (k < 65536) × Room (now terms) used × (0 < used) ⌝ }
+    requires { ⌜ ((at : ℕ) → conclusion ≡ Conclusion.PropIsTrue at → at < 65536) ⌝ }
+    ensures { λ r. ⌜ Wrapped k (now (terms .entry)) used (now (terms .exit)) conclusion r ⌝ }
+{
+    let Conclusion::PropIsTrue(at) = conclusion else {
+        return Exported::Refused(refusal(13, k));
+    };
+    Exported::Term(type_ascription(terms, used, used - 1, PROPOSITION as u16, at as u16))
+}
+
+// The ending of a step's term in its place: in a checking place no term is labelled.
+fn ending_in(place: Place, ending: Ending) -> Ending
+    ensures { λ r. ⌜ endingOf r ≡ endingAt (placeOf place) (endingOf ending) ⌝ }
+{
+    match place {
+        Place::Checking => Ending::Bare,
+        Place::Inferring => ending,
+    }
+}
+
+// The term of step k in its place, over the records of its premisses' terms.
+fn placed_term(
+    names: usize,
+    pairs: &[u8],
+    code: &[u8],
+    records: &[u8],
+    k: usize,
+    place: Place,
+    row: Row,
+    parts: [usize; 3],
+    terms: &mut [u16],
+    used: usize,
+) -> Exported
+    requires { ⌜ GoodStep names (now pairs) (now code) (now records) k × TableRow (ruleIn (now records) k) row ⌝ }
+    requires { ⌜ Parts (row .4) (getD parts 0 0) (getD parts 1 0) (getD parts 2 0) (now terms) used × Room (now terms) (used + 1) ⌝ }
+    ensures { λ r. ⌜ StepPlaced names (now (pairs .entry)) (now (code .entry)) (now (records .entry)) k (placeOf place) (row .0) (firstThree parts) (now (terms .entry)) used (now (terms .exit)) r ⌝ }
+{
+    let term = row.4;
+    let last_column = row.3;
+    let ending = ending_in(place, last_column);
+    let conclusion = conclusion_of(pairs, records, k);
+    let annotation = annotation_of(code, ending, conclusion, k);
+    match annotation {
+        Annotation::Refused(r) => Exported::Refused(r),
+        Annotation::Label(kind, label) => {
+            let next = step_term(records, k, term, kind, label, parts, terms, used);
+            let Ending::Ascribed = ending else {
+                return Exported::Term(next);
+            };
+            wrap_into_type_ascription(conclusion, k, terms, next)
+        }
+    }
+}
+
+// The term of step k in its place: its premisses are counted on entering it and come next, in order; its conclusion comes last.
+fn do_export_as_proof_term(
+    names: usize,
+    pairs: &[u8],
+    code: &[u8],
+    records: &[u8],
+    sizes: &[u16],
+    k: usize,
+    place: Place,
+    terms: &mut [u16],
+    used: usize,
+) -> Exported
+    requires { ⌜ Exportable names (now pairs) (now code) (now records) (now sizes) (k + 1) ⌝ }
+    requires { ⌜ RoomFor (now terms) (used + 2 * size (treeIn names (now pairs) (now code) (now records) k)) ⌝ }
+    ensures { λ r. ⌜ StepExported names (now (pairs .entry)) (now (code .entry)) (now (records .entry)) k (placeOf place) (now (terms .entry)) used (now (terms .exit)) r ⌝ }
+{
+    let row = row_of(rule_byte(records, k));
+    if !admits_count(row, premiss_count(records, k)) {
+        return Exported::Refused(refusal(12, k));
+    }
+    let reads = row.0 as usize;
+    let places = row.2;
+    let mut parts = [0usize; 3];
+    let mut next = used;
+    for i in 0..reads {
+        let exported = do_export_as_proof_term(
+            names,
+            pairs,
+            code,
+            records,
+            sizes,
+            premiss(records, k, i, sizes),
+            expected_premisse_mode(places[i], place),
+            terms,
+            next,
+        );
+        let Exported::Term(after) = exported else {
+            return exported;
+        };
+        parts[i] = after - 1;
+        next = after;
+    }
+    placed_term(
+        names,
+        pairs,
+        code,
+        records,
+        k,
+        place,
+        row,
+        parts,
+        terms,
+        next,
+    )
+}
+
+// The sheet's term: what the last step gives in a checking place.
+pub fn export_as_proof_term(
+    names: usize,
+    pairs: &[u8],
+    code: &[u8],
+    records: &[u8],
+    sizes: &[u16],
+    steps: usize,
+    terms: &mut [u16],
+) -> Exported
+    requires { ⌜ Exportable names (now pairs) (now code) (now records) (now sizes) steps × (0 < steps) ⌝ }
+    requires { ⌜ RoomFor (now terms) (2 * steps) ⌝ }
+    ensures { λ r. ⌜ StepExported names (now (pairs .entry)) (now (code .entry)) (now (records .entry)) (steps - 1) checking (now (terms .entry)) 0 (now (terms .exit)) r ⌝ }
+{
+    do_export_as_proof_term(
+        names,
+        pairs,
+        code,
+        records,
+        sizes,
+        steps - 1,
+        Place::Checking,
+        terms,
+        0,
+    )
+}
+
+// The label count of the sheet's term.
+pub fn label_count(
+    names: usize,
+    pairs: &[u8],
+    code: &[u8],
+    records: &[u8],
+    sizes: &[u16],
+    steps: usize,
+    terms: &mut [u16],
+) -> Counted
+    requires { ⌜ Exportable names (now pairs) (now code) (now records) (now sizes) steps × (0 < steps) ⌝ }
+    requires { ⌜ RoomFor (now terms) (2 * steps) ⌝ }
+    ensures { λ r. ⌜ r ≡ countedOf (mapOutcome annotationCount (export (treeIn names (now (pairs .entry)) (now (code .entry)) (now (records .entry)) (steps - 1)) checking)) ⌝ }
+{
+    let exported = export_as_proof_term(names, pairs, code, records, sizes, steps, terms);
+    match exported {
+        Exported::Term(next) => Counted::Labels(annotation_count(terms, next - 1)),
+        Exported::Refused(r) => Counted::Refused(r),
+    }
+}

@@ -1,0 +1,66 @@
+// What a step's record says, and which steps finish its premisses.
+use definitions::Refusal;
+use number::number_at;
+use steps::STEP_SIZE;
+ghost use Prim.Native.Nat.{_+_, _<_, _≤_};
+ghost use mathlib.Core.Path.{_≡_};
+ghost use lib.ListN.{length};
+ghost use Rattle.definitions.specs.Sheet.{stepSize, ruleByte, premissCount, stepNumber};
+ghost use Rattle.steps.specs.Records.{HasStep};
+ghost use Rattle.steps.specs.Tables.{SizeTable};
+ghost use Rattle.proof_tree.specs.Premisses.{PremissStep};
+
+pub fn rule_byte(records: &[u8], k: usize) -> usize
+    requires { ⌜ HasStep (now records) k ⌝ }
+    ensures { λ r. ⌜ r ≡ ruleByte (now (records .entry)) k ⌝ }
+{
+    records[STEP_SIZE * k] as usize
+}
+
+pub fn premiss_count(records: &[u8], k: usize) -> u8
+    requires { ⌜ HasStep (now records) k ⌝ }
+    ensures { λ r. ⌜ r ≡ premissCount (now (records .entry)) k ⌝ }
+{
+    records[STEP_SIZE * k + 1]
+}
+
+// The number at an offset of a step.
+pub fn step_number(records: &[u8], k: usize, at: usize) -> usize
+    requires { ⌜ (HasStep (now records) k) × (at + 1 < stepSize) ⌝ }
+    ensures { λ r. ⌜ (r ≡ stepNumber (now (records .entry)) k at) × (r < 65536) ⌝ }
+{
+    number_at(records, STEP_SIZE * k + at)
+}
+
+// How many of the premisses come after the one of a position.
+fn later_premisses(count: usize, position: usize) -> usize
+    requires { ⌜ position < count ⌝ }
+    ensures { λ r. ⌜ position + 1 + r ≡ count ⌝ }
+{
+    count - position - 1
+}
+
+// The step that finishes the premiss of a position, earliest first: back from step k over the premisses after it.
+pub fn premiss(records: &[u8], k: usize, position: usize, sizes: &[u16]) -> usize
+    requires { ⌜ (HasStep (now records) k) × (position < premissCount (now records) k) ⌝ }
+    requires { ⌜ (k ≤ length (now sizes)) × SizeTable (now records) (k + 1) (now sizes) ⌝ }
+    ensures { λ r. ⌜ PremissStep (now (records .entry)) k position r ⌝ }
+{
+    let later = later_premisses(premiss_count(records, k) as usize, position);
+    let mut start = k;
+    for _ in 0..later {
+        start -= sizes[start - 1] as usize;
+    }
+    start - 1
+}
+
+// The refusal of a number at step k.
+pub fn refusal(number: u8, k: usize) -> Refusal
+    requires { ⌜ k < 65536 ⌝ }
+    ensures { λ r. ⌜ r ≡ record { number = number; place = k } ⌝ }
+{
+    Refusal {
+        number,
+        place: k as u16,
+    }
+}

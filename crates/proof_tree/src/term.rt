@@ -1,0 +1,85 @@
+// The term that a rule has in source document 000, as a record over those of its premisses.
+use crate::step::step_number;
+use crate::table::RuleTerm;
+use proof_term::abort;
+use proof_term::application;
+use proof_term::case;
+use proof_term::function;
+use proof_term::ident;
+use proof_term::let_in;
+use proof_term::or_left;
+use proof_term::or_right;
+use proof_term::pair;
+use proof_term::project_fst;
+use proof_term::project_snd;
+use proof_term::sorry;
+use proof_term::unit;
+ghost use Prim.Native.Nat.{_≤_};
+ghost use lib.ListN.{getD};
+ghost use Rattle.definitions.specs.Sheet.{stepNumber};
+ghost use Rattle.steps.specs.Records.{HasStep};
+ghost use Rattle.proof_tree.specs.Terms.{Parts, MadeTerm};
+
+// Makes the term over the records a, b and c, as many as it is over, with a step's names and the label of a parameter, and
+// gives the number of the next record.
+pub fn rule_term(
+    term: RuleTerm,
+    first: u16,
+    second: u16,
+    kind: u16,
+    label: u16,
+    a: usize,
+    b: usize,
+    c: usize,
+    terms: &mut [u16],
+    used: usize,
+) -> usize
+    requires { ⌜ Parts term a b c (now terms) used × (kind ≤ 2) ⌝ }
+    ensures { λ r. ⌜ MadeTerm term first second kind label a b c (now (terms .entry)) used (now (terms .exit)) r ⌝ }
+{
+    match term {
+        RuleTerm::Pair => pair(terms, used, a, b),
+        RuleTerm::ProjectFst => project_fst(terms, used, a),
+        RuleTerm::ProjectSnd => project_snd(terms, used, a),
+        RuleTerm::Unit => unit(terms, used),
+        RuleTerm::Function => function(terms, used, first, kind, label, a),
+        RuleTerm::Application => application(terms, used, a, b),
+        RuleTerm::Ident => ident(terms, used, first),
+        RuleTerm::OrLeft => or_left(terms, used, a),
+        RuleTerm::OrRight => or_right(terms, used, a),
+        RuleTerm::Case => case(terms, used, a, first, b, second, c),
+        RuleTerm::Abort => abort(terms, used, a),
+        RuleTerm::LetIn => let_in(terms, used, first, second, a, b),
+        RuleTerm::Sorry => sorry(terms, used),
+        RuleTerm::Premiss => used,
+    }
+}
+
+// Makes a step's term, with the names of its record.
+pub fn step_term(
+    records: &[u8],
+    k: usize,
+    term: RuleTerm,
+    kind: u16,
+    label: u16,
+    parts: [usize; 3],
+    terms: &mut [u16],
+    used: usize,
+) -> usize
+    requires { ⌜ (HasStep (now records) k) × (kind ≤ 2) ⌝ }
+    requires { ⌜ Parts term (getD parts 0 0) (getD parts 1 0) (getD parts 2 0) (now terms) used ⌝ }
+    ensures { λ r. ⌜ MadeTerm term (stepNumber (now (records .entry)) k 2) (stepNumber (now (records .entry)) k 6) kind label (getD parts 0 0) (getD parts 1 0) (getD parts 2 0) (now (terms .entry)) used (now (terms .exit)) r ⌝ }
+{
+    rule_term(
+        term,
+        step_number(records, k, 2) as u16,
+        step_number(records, k, 6) as u16,
+        kind,
+        label,
+        parts[0],
+        parts[1],
+        parts[2],
+        terms,
+        used,
+    )
+}

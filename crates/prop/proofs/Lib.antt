@@ -1,0 +1,7 @@
+-- The laws of propositions in bytes.
+pub mod Reading
+pub mod Filling
+pub mod Marks
+pub mod Parts
+pub mod Shown
+pub mod Atoms

@@ -1,0 +1,268 @@
+// Propositions, after the Rust's prop.rs: where the code of each part ends, how strongly a proposition binds, and its text.
+use number::number_at;
+use output::put;
+use output::put_all;
+use output::put_name;
+use prefix_code::head_end;
+use prefix_code::parameter_end;
+use prefix_code::parts_after;
+ghost use mathlib.Core.Path.{_≡_};
+ghost use mathlib.Core.List.{_++_};
+ghost use Prim.Native.Nat.{ℕ, _<_};
+ghost use lib.Dec.{ltb};
+ghost use Rattle.definitions.specs.Utf8.{utf8};
+ghost use Rattle.definitions.specs.Name.{Name};
+ghost use Rattle.definitions.specs.Prop.{Connective, connectiveByte, Quantifier, quantifierByte, renameProp};
+ghost use Rattle.definitions.specs.Sheet.{pairOffset, marked};
+ghost use Rattle.definitions.specs.Display.{wrap, wrapsLeft, wrapsRight, connectiveText, quantifierText, displayProp};
+ghost use Rattle.output.specs.Wrote.{Wrote};
+ghost use Rattle.prop.specs.PropAt.{propAt};
+ghost use Rattle.prop.specs.Ends.{Known, Fillable, Filled, AllFillable};
+ghost use Rattle.prop.specs.Printing.{namedProp, Named, AtomPrintable, Printable, Legible, sign};
+
+// The bytes of a pair of offset and length.
+const PAIR_SIZE: usize = 4;
+
+// Head bytes.
+const FALSE: u8 = 1;
+
+const AND: u8 = 2;
+
+const IMPL: u8 = 4;
+
+const ATOM: u8 = 5;
+
+// How strongly each head binds. An implication of ⊥ is printed as a negation, and binds as strongly as an atom.
+const ATOM_STRENGTH: usize = 999;
+
+const IMPL_STRENGTH: usize = 2;
+
+const STRENGTH: [usize; 8] = [
+    ATOM_STRENGTH,
+    ATOM_STRENGTH,
+    4,
+    3,
+    IMPL_STRENGTH,
+    ATOM_STRENGTH,
+    1,
+    1,
+];
+
+// How strongly the sides of each connective must bind to stand without brackets.
+const LEFT: [usize; 5] = [0, 0, 4, 3, 3];
+
+const RIGHT: [usize; 5] = [0, 0, 5, 4, 2];
+
+// The bytes of a sign.
+const SIGN_SIZE: usize = 3;
+
+// Fills in where the proposition at `at` ends, and where each of its parts does, each at its start.
+pub fn fill_ends(code: &[u8], at: usize, names: usize, ends: &mut [u16]) -> usize
+    requires { ⌜ Fillable names (now code) at (now ends) ⌝ }
+    ensures { λ r. ⌜ Filled (propAt names (now (code .entry)) at) (now (ends .entry)) at (now (ends .exit)) r ⌝ }
+{
+    let mut i = head_end(code, at, names);
+    let mut needed = parts_after(code[at]);
+    while 0 < needed {
+        i = fill_ends(code, i, names, ends);
+        needed -= 1;
+    }
+    ends[at] = i as u16;
+    i
+}
+
+// The same for the propositions of a sheet.
+pub fn fill_all_ends(pairs: &[u8], code: &[u8], count: usize, names: usize, ends: &mut [u16])
+    requires { ⌜ AllFillable names (now pairs) (now code) count (now ends) ⌝ }
+    ensures { λ r. ⌜ ((i : ℕ) → i < count → Known names (now (code .entry)) (now (ends .exit)) (pairOffset (now (pairs .entry)) i)) ⌝ }
+{
+    let mut i = 0;
+    while i < count {
+        fill_ends(code, number_at(pairs, PAIR_SIZE * i), names, ends);
+        i += 1;
+    }
+}
+
+// How strongly the proposition at `at` binds, whatever its names are.
+pub fn precedence(code: &[u8], ends: &[u16], at: usize) -> usize
+    requires { ⌜ Legible (now code) (now ends) at ⌝ }
+    ensures { λ r. ⌜ ((names : ℕ) (f : ℕ → Name) → Known names (now (code .entry)) (now (ends .entry)) at →
+        r ≡ Rattle.definitions.specs.Display.precedence (renameProp f (propAt names (now (code .entry)) at))) ⌝ }
+{
+    let head = code[at];
+    if head != IMPL {
+        return STRENGTH[head as usize];
+    }
+    let right = ends[at + 1] as usize;
+    if code[right] == FALSE {
+        return ATOM_STRENGTH;
+    }
+    IMPL_STRENGTH
+}
+
+// How strongly a connective's left side must bind to stand without brackets.
+fn left_strength(head: u8) -> usize
+    requires { ⌜ head < 5 ⌝ }
+    ensures { λ r. ⌜ ((c : Connective) (strength : ℕ) → head ≡ connectiveByte c → ltb strength r ≡ wrapsLeft c strength) ⌝ }
+{
+    LEFT[head as usize]
+}
+
+// The same for its right side.
+fn right_strength(head: u8) -> usize
+    requires { ⌜ head < 5 ⌝ }
+    ensures { λ r. ⌜ ((c : Connective) (strength : ℕ) → head ≡ connectiveByte c → ltb strength r ≡ wrapsRight c strength) ⌝ }
+{
+    RIGHT[head as usize]
+}
+
+// The sign of a head: ⊤ ⊥ ∧ ∨ ⊃, blanks for an atom, ∀ ∃.
+fn put_sign(out: &mut [u8], to: usize, head: u8, write: bool) -> usize
+    requires { ⌜ head < 8 ⌝ }
+    ensures { λ r. ⌜ Wrote (sign head) write (now (out .entry)) to (now (out .exit)) r ⌝ }
+{
+    let signs =
+        *b"\xE2\x8A\xA4\xE2\x8A\xA5\xE2\x88\xA7\xE2\x88\xA8\xE2\x8A\x83   \xE2\x88\x80\xE2\x88\x83";
+    let start = SIGN_SIZE * head as usize;
+    let end = start + SIGN_SIZE;
+    put_all(out, to, &signs[start..end], write)
+}
+
+// A connective with a blank on each side.
+fn put_connective(out: &mut [u8], to: usize, head: u8, write: bool) -> usize
+    requires { ⌜ head < 8 ⌝ }
+    ensures { λ r. ⌜ ((c : Connective) → head ≡ connectiveByte c →
+        Wrote (connectiveText c) write (now (out .entry)) to (now (out .exit)) r) ⌝ }
+{
+    let start = put(out, to, b' ', write);
+    let end = put_sign(out, start, head, write);
+    put(out, end, b' ', write)
+}
+
+// A quantifier with its object and its datatype, up to its body.
+fn put_quantifier(
+    out: &mut [u8],
+    to: usize,
+    head: u8,
+    pairs: &[u8],
+    text: &[u8],
+    object: usize,
+    datatype: usize,
+    write: bool,
+) -> usize
+    requires { ⌜ head < 8 ⌝ }
+    requires { ⌜ Named (now pairs) (now text) object ⌝ }
+    requires { ⌜ Named (now pairs) (now text) datatype ⌝ }
+    ensures { λ r. ⌜ ((q : Quantifier) → head ≡ quantifierByte q →
+        Wrote (quantifierText q ++ (marked (now (pairs .entry)) (now (text .entry)) object ++ (utf8 ":" ++
+        (marked (now (pairs .entry)) (now (text .entry)) datatype ++ utf8 ". ")))) write (now (out .entry)) to (now (out .exit)) r) ⌝ }
+{
+    let signed = put_sign(out, to, head, write);
+    let bound = put_name(out, signed, pairs, text, object, write);
+    let colon = put(out, bound, b':', write);
+    let typed = put_name(out, colon, pairs, text, datatype, write);
+    put_all(out, typed, b". ", write)
+}
+
+// An atom with its parameters.
+fn put_atom(
+    out: &mut [u8],
+    to: usize,
+    code: &[u8],
+    pairs: &[u8],
+    text: &[u8],
+    names: usize,
+    at: usize,
+    write: bool,
+) -> usize
+    requires { ⌜ AtomPrintable names (now code) (now pairs) (now text) at ⌝ }
+    ensures { λ r. ⌜ Wrote (displayProp (namedProp names (now (code .entry)) (now (pairs .entry)) (now (text .entry)) at))
+        write (now (out .entry)) to (now (out .exit)) r ⌝ }
+{
+    let named = put_name(out, to, pairs, text, number_at(code, at + 1), write);
+    let mut needed = code[at + 3];
+    if needed == 0 {
+        return named;
+    }
+    let mut end = put(out, named, b'(', write);
+    let mut i = at + 4;
+    while 0 < needed {
+        end = put_name(out, end, pairs, text, number_at(code, i + 1), write);
+        i = parameter_end(code, i, names);
+        needed -= 1;
+        if 0 < needed {
+            end = put_all(out, end, b", ", write);
+        }
+    }
+    put(out, end, b')', write)
+}
+
+// The text of the proposition at `at`, in brackets if it binds less strongly than `least`.
+fn part(
+    out: &mut [u8],
+    to: usize,
+    code: &[u8],
+    ends: &[u16],
+    pairs: &[u8],
+    text: &[u8],
+    names: usize,
+    at: usize,
+    least: usize,
+    write: bool,
+) -> usize
+    requires { ⌜ Printable names (now code) (now ends) (now pairs) (now text) at ⌝ }
+    ensures { λ r. ⌜ Wrote
+        (wrap (ltb (Rattle.definitions.specs.Display.precedence (namedProp names (now (code .entry)) (now (pairs .entry)) (now (text .entry)) at)) least)
+        (displayProp (namedProp names (now (code .entry)) (now (pairs .entry)) (now (text .entry)) at)))
+        write (now (out .entry)) to (now (out .exit)) r ⌝ }
+{
+    if precedence(code, ends, at) < least {
+        let start = put(out, to, b'(', write);
+        let end = print(out, start, code, ends, pairs, text, names, at, write);
+        return put(out, end, b')', write);
+    }
+    print(out, to, code, ends, pairs, text, names, at, write)
+}
+
+// The text of the proposition at `at`.
+pub fn print(
+    out: &mut [u8],
+    to: usize,
+    code: &[u8],
+    ends: &[u16],
+    pairs: &[u8],
+    text: &[u8],
+    names: usize,
+    at: usize,
+    write: bool,
+) -> usize
+    requires { ⌜ Printable names (now code) (now ends) (now pairs) (now text) at ⌝ }
+    ensures { λ r. ⌜ Wrote (displayProp (namedProp names (now (code .entry)) (now (pairs .entry)) (now (text .entry)) at))
+        write (now (out .entry)) to (now (out .exit)) r ⌝ }
+{
+    let head = code[at];
+    if head < AND {
+        return put_sign(out, to, head, write);
+    }
+    if head == ATOM {
+        return put_atom(out, to, code, pairs, text, names, at, write);
+    }
+    if ATOM < head {
+        let object = number_at(code, at + 1);
+        let datatype = number_at(code, at + 3);
+        let body = put_quantifier(out, to, head, pairs, text, object, datatype, write);
+        return print(out, body, code, ends, pairs, text, names, at + 5, write);
+    }
+    let left = at + 1;
+    if precedence(code, ends, at) == ATOM_STRENGTH {
+        let least = ATOM_STRENGTH;
+        let not = put_all(out, to, b"\xC2\xAC", write);
+        return part(out, not, code, ends, pairs, text, names, left, least, write);
+    }
+    let least = left_strength(head);
+    let end = part(out, to, code, ends, pairs, text, names, left, least, write);
+    let to = put_connective(out, end, head, write);
+    let right = ends[left] as usize;
+    let least = right_strength(head);
+    part(out, to, code, ends, pairs, text, names, right, least, write)
+}
