@@ -144,8 +144,8 @@ refused-sheet s e = stage-refuses _ _ refl e
 
 -- What the functions over the parts of an accepted sheet ask.
 module _ {s : List ℕ} (a : Admitted s) where
-  pub has-header : {h : Sheet} → h ≡ headerOf s → HasHeader s h
-  has-header e = record { header = e; in-range = rw e (a .in-range); whole = a .whole }
+  pub has-header : HasHeader s (headerOf s)
+  has-header = record { header = refl; in-range = a .in-range; whole = a .whole }
 
   pub has-names : HasPairs (namePairs s) (textBytes s) (names s)
   has-names = good-pairs (lengths s (a .whole) .name-pairs) (lengths s (a .whole) .text-bytes) (a .name-pair)
