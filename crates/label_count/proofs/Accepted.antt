@@ -53,7 +53,6 @@ module _ {s : List ℕ} (a : Admitted s) where
   coded i h =
       record {
         there = omega (arith, has-codes a .pairs-within .present);
-        within = has-codes a .pairs-within .ends i h;
         decoded = has-codes a .decoded i h;
       }
 

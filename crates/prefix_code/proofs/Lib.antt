@@ -7,3 +7,4 @@ pub mod Propositions
 pub mod Forms
 pub mod Depth
 pub mod Whole
+pub mod Reading

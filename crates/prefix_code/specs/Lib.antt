@@ -1,3 +1,4 @@
 -- What the functions over prefix code say.
 pub mod Scan
 pub mod Head
+pub mod PropAt

@@ -1,3 +1,4 @@
 pub mod Records
 pub mod Making
 pub mod Counting
+pub mod Readable

@@ -14,7 +14,7 @@ use Rattle.definitions.specs.Term.{ProofTerm, renameTerm}
 use Rattle.definitions.specs.Display.{wrap, form, closed, Position, functionOf, argumentOf, bodyOf, ascribedBy, bracketsOf, brackets, bracketed, displayTerm}
 use Rattle.proof_term.specs.Records.{fieldAt, termAt}
 use Rattle.proof_term.proofs.Records.{part-below, part-else}
-use Rattle.prop.specs.PropAt.{propAt}
+use Rattle.prefix_code.specs.PropAt.{propAt}
 use Rattle.proof_term_display.specs.Brackets.{positions, isBracketed}
 use Rattle.proof_term_display.specs.Format.{part, partField, partPosition, partText, itemText}
 use Rattle.proof_term_display.specs.Printable.{PrintableTerm}

@@ -12,7 +12,7 @@ use Rattle.definitions.specs.Display.{displayTerm}
 use Rattle.output.specs.Wrote.{Wrote}
 use Rattle.output.proofs.Writing as writing
 use Rattle.proof_term.specs.Records.{fieldAt, termAt, partAt}
-use Rattle.prop.specs.PropAt.{propAt}
+use Rattle.prefix_code.specs.PropAt.{propAt}
 use Rattle.proof_term_display.specs.Format.{Item, itemOf, items, formats}
 use Rattle.proof_term_display.specs.Printable.{PrintableTerm}
 use Rattle.proof_term_display.specs.Item.{KindAt, ItemReady, recordItem}

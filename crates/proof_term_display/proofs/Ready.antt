@@ -10,10 +10,11 @@ use borrow.Author.Tests.{ne-eqb}
 use Rattle.definitions.specs.Prop.{Prop}
 use Rattle.proof_term.specs.Records.{fieldAt, labelOf, parameterLabel, recordTerm, partAt}
 use Rattle.proof_term.specs.Counting.{ownAnnotations}
-use Rattle.prop.specs.PropAt.{propAt}
+use Rattle.prefix_code.specs.PropAt.{propAt}
 use Rattle.prop.specs.Ends.{Known}
 use Rattle.proof_term_display.specs.Format.{Item, fixed, name, part, ofParameter, ofAscription, itemOf, items, formats}
-use Rattle.proof_term_display.specs.Printable.{LabelBelow, ParameterLabelBelow, NamesBelow, PrintableTerm}
+use Rattle.proof_term.specs.Readable.{LabelBelow, ParameterLabelBelow, NamesBelow}
+use Rattle.proof_term_display.specs.Printable.{PrintableTerm}
 use Rattle.proof_term_display.specs.Item.{KindAt, LabelReady, ItemReady}
 
 -- a fact of each number below n

@@ -7,10 +7,10 @@ use Rattle.definitions.specs.Sheet.{marked}
 use Rattle.definitions.specs.Prop.{Prop}
 use Rattle.proof_term.specs.Records.{fieldAt, recordTerm, termAt, partAt}
 use Rattle.proof_term.specs.Counting.{ownAnnotations}
-use Rattle.prop.specs.PropAt.{propAt}
+use Rattle.proof_term.specs.Readable.{NamesBelow}
+use Rattle.prefix_code.specs.PropAt.{propAt}
 use Rattle.prop.specs.Ends.{Known}
 use Rattle.proof_term_display.specs.Format.{Item, fixed, name, part, ofParameter, ofAscription, partField, itemText}
-use Rattle.proof_term_display.specs.Printable.{NamesBelow}
 
 -- the kind of record n, among those that are known: an unknown one counts as Unit
 pub record KindAt (records : List ℕ) (n kind : ℕ) : Type 0 where

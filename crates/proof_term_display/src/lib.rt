@@ -23,7 +23,7 @@ ghost use Rattle.definitions.specs.Sheet.{marked};
 ghost use Rattle.definitions.specs.Display.{form, displayLabel, displayParameterLabel, displayTerm};
 ghost use Rattle.output.specs.Wrote.{Wrote};
 ghost use Rattle.proof_term.specs.Records.{recordSize, fieldAt, labelOf, parameterLabel, recordTerm, termAt};
-ghost use Rattle.prop.specs.PropAt.{propAt};
+ghost use Rattle.prefix_code.specs.PropAt.{propAt};
 ghost use Rattle.proof_term_display.specs.Brackets.{positions, styles, column, isBracketed};
 ghost use Rattle.proof_term_display.specs.Format.{itemOf, items, formats, part};
 ghost use Rattle.proof_term_display.specs.Printable.{PrintableTerm};

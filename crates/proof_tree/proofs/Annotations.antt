@@ -22,7 +22,7 @@ use Rattle.proof_tree.specs.declared.conclusion.Head.{Head}
 use Rattle.proof_tree.specs.declared.conclusion.Head.the-variants.{Impl, ForAll}
 use Rattle.proof_tree.specs.declared.conclusion.Annotation.the-variants.{Label, Refused}
 use Rattle.proof_tree.specs.Table.{endingOf}
-use Rattle.proof_tree.specs.PropAt.{propAt, Present}
+use Rattle.prefix_code.specs.PropAt.{propAt, Present}
 use Rattle.proof_tree.specs.Opening.{headAt}
 use Rattle.proof_tree.specs.Labelling.{parameterLabelOf, Means, stands, judges, LeftSide, Annotated, labelled, refuses}
 use Rattle.proof_tree.proofs.conclusion.Head as head

@@ -17,7 +17,7 @@ use Rattle.proof_tree.specs.Opening.{conclusionAt, Readable}
 use Rattle.proof_tree.specs.Exportable.{GoodStep}
 use Rattle.proof_tree.specs.Labelling.{Means, stands, judges, LeftSide}
 use Rattle.proof_tree.specs.Exporting.{LabelOffset}
-use Rattle.proof_tree.proofs.Standing.{prop-in, present-in}
+use Rattle.prefix_code.proofs.Reading.{prop-in, present-in}
 use Rattle.proof_tree.proofs.Conclusions.{readable}
 
 -- the offset that a conclusion is taken apart to
@@ -43,14 +43,14 @@ module _ {names : ℕ} {pairs code records : List ℕ} {k : ℕ} {c : Conclusion
           (cond b (tree.PropIsTrue (propIn names pairs code (stepNumber records k 12))) (tree.TypeJudgement (identifierIn names pairs code records k 12) (stepNumber records k 16)))
       go true h =
           let coded = good .coded (eqb-true (stepNumber records k 10) 0 h) in
-          rw (prop-in bytes coded) (stands (present-in bytes coded))
+          rw (prop-in names pairs code (stepNumber records k 12) bytes (coded .decoded)) (stands (present-in names pairs code (stepNumber records k 12) bytes (coded .decoded)))
       go false h = judges
 
   -- the code of its proposition can be read
   pub conclusion-readable : (at : ℕ) → c ≡ PropIsTrue at → Readable code at
   conclusion-readable at h =
       let o = offset-of pairs records k at (sym e ∙ h) in
-      rw (o .is) (readable (present-in bytes (good .coded (o .concludes))))
+      rw (o .is) (readable (present-in names pairs code (stepNumber records k 12) bytes (good .coded (o .concludes) .decoded)))
 
   -- its offset is a label's, and so is that of its left side
   pub whole-offset : (at : ℕ) → c ≡ PropIsTrue at → LabelOffset pairs code records k at

@@ -20,9 +20,9 @@ use Rattle.prefix_code.specs.Scan.{Stands}
 use Rattle.prefix_code.proofs.Positions.{byte-at}
 use Rattle.prefix_code.proofs.Forms.{inside-at, binary-at, quantified-at}
 use Rattle.proof_tree.specs.declared.conclusion.Head.the-variants.{Impl, ForAll, Other}
-use Rattle.proof_tree.specs.PropAt.{propAt, Present}
+use Rattle.prefix_code.specs.PropAt.{propAt, Present}
 use Rattle.proof_tree.specs.Opening.{headAt, Readable}
-use Rattle.proof_tree.proofs.Standing.{prop-at, present}
+use Rattle.prefix_code.proofs.Reading.{prop-at, present}
 
 -- the form by the byte in front, and the byte by the form
 module _ (code : List ℕ) (at : ℕ) where

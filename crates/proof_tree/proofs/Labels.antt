@@ -5,15 +5,16 @@ use mathlib.Core.Logic.{⊎-elim}
 use mathlib.Core.List.{List}
 use native.Mathlib.Omega.{arith}
 use borrow.Author.Tests.{ne-eqb}
+use Rattle.definitions.specs.Sheet.{stepNumber}
 use Rattle.definitions.specs.Term.{proposition}
 use Rattle.definitions.proofs.PrefixCode.{Bytes}
 use Rattle.proof_term.specs.Records.{fieldAt, labelOf, parameterLabel, recordTermAt}
 use Rattle.proof_term.proofs.Records.{termAt-is}
-use Rattle.proof_tree.specs.PropAt.{Present}
+use Rattle.prefix_code.specs.PropAt.{Present}
 use Rattle.proof_tree.specs.Terms.{ownLabel, HasLabel}
 use Rattle.proof_tree.specs.Exportable.{Exportable}
 use Rattle.proof_tree.specs.Exporting.{LabelOffset}
-use Rattle.proof_tree.proofs.Standing.{present-in}
+use Rattle.prefix_code.proofs.Reading.{present-in}
 use Rattle.proof_tree.proofs.Conclusions.{left-present}
 
 -- an ascription's label, and a function's, where it is no datatype's
@@ -31,6 +32,6 @@ module _ (terms : List ℕ) (m : ℕ) where
 -- a proposition stands at the offset of a label
 pub label-present : {names : ℕ} {pairs code records sizes : List ℕ} {k offset : ℕ} → Bytes code → Exportable names pairs code records sizes (k + 1)
     → LabelOffset pairs code records k offset → Present names code offset
-label-present bytes e l =
-    let whole = present-in bytes (e .good (l .step) (omega (arith, l .visited)) .coded (l .concludes)) in
+label-present {names} {pairs} {code} {records} bytes e l =
+    let whole = present-in names pairs code (stepNumber records (l .step) 12) bytes (e .good (l .step) (omega (arith, l .visited)) .coded (l .concludes) .decoded) in
     ⊎-elim (λ is. rw is whole) (λ is. rw (is .1) (left-present whole (is .0))) (l .stands)

@@ -31,7 +31,7 @@ use Rattle.proof_tree.specs.declared.conclusion.Annotation.the-variants 
 use Rattle.proof_tree.specs.declared.Exported.{Exported}
 use Rattle.proof_tree.specs.declared.Exported.the-variants.{Term, Refused}
 use Rattle.proof_tree.specs.Table.{placeOf, endingOf, TableRow}
-use Rattle.proof_tree.specs.PropAt.{propAt}
+use Rattle.prefix_code.specs.PropAt.{propAt}
 use Rattle.proof_tree.specs.Terms.{ownLabel, HasLabel, termOver, partTerms, termSizes, MadeTerm}
 use Rattle.proof_tree.specs.Opening.{conclusionAt}
 use Rattle.proof_tree.specs.Exportable.{GoodStep}

@@ -22,7 +22,7 @@ use Rattle.proof_term.proofs.Making.{kept-same, kept-then}
 use Rattle.proof_tree.specs.declared.table.RuleTerm.{RuleTerm}
 use Rattle.proof_tree.specs.declared.table.RuleTerm.the-variants.{Premiss}
 use Rattle.proof_tree.specs.declared.table.Row.{Row}
-use Rattle.proof_tree.specs.PropAt.{propAt}
+use Rattle.prefix_code.specs.PropAt.{propAt}
 use Rattle.proof_tree.specs.Table.{partCount, premissPlace, TableRow}
 use Rattle.proof_tree.specs.Premisses.{premissesFrom, PremissStep}
 use Rattle.proof_tree.specs.Terms.{ownLabel, firstThree, partTerms, termSizes, Parts}

@@ -21,7 +21,7 @@ use Rattle.proof_term.specs.Counting.{Small}
 use Rattle.proof_tree.specs.declared.table.Row.{Row}
 use Rattle.proof_tree.specs.declared.Exported.{Exported}
 use Rattle.proof_tree.specs.declared.Exported.the-variants.{Term, Refused}
-use Rattle.proof_tree.specs.PropAt.{propAt}
+use Rattle.prefix_code.specs.PropAt.{propAt}
 use Rattle.proof_tree.specs.Table.{TableRow}
 use Rattle.proof_tree.specs.Premisses.{premissesFrom}
 use Rattle.proof_tree.specs.Terms.{firstThree}

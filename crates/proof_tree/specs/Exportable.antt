@@ -5,16 +5,15 @@ use mathlib.Core.Bool.{false}
 use mathlib.Core.List.{List}
 use lib.ListN.{length}
 use Rattle.definitions.specs.Code.{decode}
-use Rattle.definitions.specs.Sheet.{pairSize, pairEnd, marked, ruleByte, stepNumber}
+use Rattle.definitions.specs.Sheet.{pairSize, marked, ruleByte, stepNumber}
 use Rattle.definitions.specs.Tree.{rules}
 use Rattle.definitions.specs.Admission.{isNone}
 use Rattle.steps.specs.Records.{HasStep}
 use Rattle.steps.specs.Tables.{SizeTable}
 
--- the pair of a proposition is there, ends within the code, and marks the code of one proposition
+-- the pair of a proposition is there, and marks the code of one proposition
 pub record Coded (names : ℕ) (pairs code : List ℕ) (i : ℕ) : Type 0 where
   pub there : pairSize * (i + 1) ≤ length pairs
-  pub within : pairEnd pairs i ≤ length code
   pub decoded : isNone (decode names (marked pairs code i)) ≡ false
 
 -- the records have step k, with a rule; the proposition that it concludes, if it concludes one, has a code; and the number of

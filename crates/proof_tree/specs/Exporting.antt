@@ -19,7 +19,7 @@ use Rattle.proof_tree.specs.declared.Exported.the-variants.{Term, Refuse
 use Rattle.proof_tree.specs.declared.Counted.{Counted}
 use Rattle.proof_tree.specs.declared.Counted.the-variants as counted
 use Rattle.proof_tree.specs.declared.Counted.the-variants.{Labels}
-use Rattle.proof_tree.specs.PropAt.{propAt}
+use Rattle.prefix_code.specs.PropAt.{propAt}
 use Rattle.proof_tree.specs.Terms.{HasLabel, partTerms, termSizes}
 
 -- the offset of the proposition that a step concludes, or of the left side of such an implication

@@ -15,7 +15,7 @@ use Rattle.proof_tree.specs.declared.conclusion.Conclusion.{Conclusion}
 use Rattle.proof_tree.specs.declared.conclusion.Conclusion.the-variants.{PropIsTrue, TypeJudgement}
 use Rattle.proof_tree.specs.declared.conclusion.Annotation.{Annotation}
 use Rattle.proof_tree.specs.declared.conclusion.Annotation.the-variants as annotation
-use Rattle.proof_tree.specs.PropAt.{propAt, Present}
+use Rattle.prefix_code.specs.PropAt.{propAt, Present}
 
 -- in a checking place no term is labelled
 unfoldable pub endingAt : Place → Ending → Ending

@@ -1,6 +1,5 @@
 -- What the contracts of the exporter cite beside document 01's definitions.
 pub mod Table
-pub mod PropAt
 pub mod Opening
 pub mod Labelling
 pub mod Premisses

@@ -18,7 +18,7 @@ use Rattle.prefix_code.specs.Scan.{Stands, Ends, parameterCoding, Several, para
 use Rattle.prefix_code.proofs.Positions.{after}
 use Rattle.prefix_code.proofs.Parameters.{ParameterAt, ParameterBytes, parameter-bytes}
 use Rattle.prefix_code.proofs.Forms.{AtomAt, atom-at}
-use Rattle.prop.specs.PropAt.{propAt, Present}
+use Rattle.prefix_code.specs.PropAt.{propAt, Present}
 
 -- the names of parameters with commas between
 abbrev listed : List (PropParameter Name) → List ℕ

@@ -11,9 +11,9 @@ use Rattle.prefix_code.specs.Scan.{Stands, At, Ends}
 use Rattle.prefix_code.specs.Head.{Head, TrueHead, FalseHead, BinaryHead, AtomHead, QuantifiedHead, encodeHead, CodableHead, headCoding, partsAfter}
 use Rattle.prefix_code.proofs.Positions.{after}
 use Rattle.prefix_code.proofs.Heads.{partCount, HeadAt, head-bytes}
-use Rattle.prop.specs.PropAt.{propAt, Present}
+use Rattle.prefix_code.specs.PropAt.{propAt, Present}
 use Rattle.prop.specs.Ends.{EndAt, EndsOf, Room, Filled}
-use Rattle.prop.proofs.Reading.{prop-at, present}
+use Rattle.prefix_code.proofs.Reading.{prop-at, present}
 
 -- the table has the other one's entries from i up to j
 abbrev Agree : List ℕ → List ℕ → ℕ → ℕ → Type 0

@@ -1,5 +1,4 @@
 -- The laws of propositions in bytes.
-pub mod Reading
 pub mod Filling
 pub mod Marks
 pub mod Parts

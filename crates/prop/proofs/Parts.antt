@@ -12,9 +12,9 @@ use Rattle.definitions.specs.Sheet.{numberAt}
 use Rattle.prefix_code.specs.Scan.{Stands, At}
 use Rattle.prefix_code.proofs.Positions.{byte-at}
 use Rattle.prefix_code.proofs.Forms.{binary-at, quantified-at}
-use Rattle.prop.specs.PropAt.{propAt, Present}
+use Rattle.prefix_code.specs.PropAt.{propAt, Present}
 use Rattle.prop.specs.Ends.{EndAt, EndsOf, Known}
-use Rattle.prop.proofs.Reading.{prop-at, present}
+use Rattle.prefix_code.proofs.Reading.{prop-at, present}
 
 -- the byte in front of a proposition's code
 abbrev pub headByte : Prop ℕ → ℕ

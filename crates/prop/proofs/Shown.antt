@@ -14,7 +14,7 @@ use Rattle.definitions.specs.Sheet.{numberAt}
 use Rattle.definitions.specs.Display.{wrap, isNegation, connectivePrecedence, precedence, wrapsLeft, wrapsRight, connectiveText, quantifierText, displayProp}
 use Rattle.definitions.proofs.Connectives.{eqConnective-true}
 use Rattle.prefix_code.proofs.Heads.{connective-byte, quantifier-byte}
-use Rattle.prop.specs.PropAt.{propAt}
+use Rattle.prefix_code.specs.PropAt.{propAt}
 use Rattle.prop.specs.Ends.{Known}
 use Rattle.prop.specs.Printing.{sign}
 use Rattle.prop.proofs.Parts.{headByte, head-byte, BinaryParts, binary-parts, QuantifiedParts}

@@ -8,7 +8,7 @@ use Rattle.definitions.specs.Prop.{Prop, True, False, Binary, Atom, Quantified}
 use Rattle.definitions.specs.Code.{encode, decode}
 use Rattle.definitions.specs.Sheet.{pairSize, pairOffset, pairEnd, lastEnd, marked}
 use Rattle.definitions.specs.Admission.{isNone}
-use Rattle.prop.specs.PropAt.{propAt, Present}
+use Rattle.prefix_code.specs.PropAt.{propAt, Present}
 
 -- the entry of the proposition itself
 abbrev pub EndAt : List ℕ → ℕ → Prop ℕ → Type 0

@@ -7,7 +7,7 @@ use Rattle.definitions.specs.Utf8.{utf8}
 use Rattle.definitions.specs.Name.{Name}
 use Rattle.definitions.specs.Prop.{Prop, renameProp}
 use Rattle.definitions.specs.Sheet.{pairSize, pairEnd, marked}
-use Rattle.prop.specs.PropAt.{propAt, Present}
+use Rattle.prefix_code.specs.PropAt.{propAt, Present}
 use Rattle.prop.specs.Ends.{Known}
 
 -- the proposition at `at`, over the names that the pairs mark in the text

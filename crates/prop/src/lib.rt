@@ -16,7 +16,7 @@ ghost use Rattle.definitions.specs.Prop.{Connective, connectiveByte, Quantifier
 ghost use Rattle.definitions.specs.Sheet.{pairOffset, marked};
 ghost use Rattle.definitions.specs.Display.{wrap, wrapsLeft, wrapsRight, connectiveText, quantifierText, displayProp};
 ghost use Rattle.output.specs.Wrote.{Wrote};
-ghost use Rattle.prop.specs.PropAt.{propAt};
+ghost use Rattle.prefix_code.specs.PropAt.{propAt};
 ghost use Rattle.prop.specs.Ends.{Known, Fillable, Filled, AllFillable};
 ghost use Rattle.prop.specs.Printing.{namedProp, Named, AtomPrintable, Printable, Legible, sign};
 

@@ -3,8 +3,8 @@ use Prim.Native.Nat.{ℕ, _-_, _<_}
 use mathlib.Core.Path.{_≡_}
 use native.Mathlib.Omega.{arith}
 use lib.ListN.{length, length-set}
-use Rattle.prop.specs.PropAt.{propAt}
-use Rattle.prop.proofs.Reading.{inside}
+use Rattle.prefix_code.specs.PropAt.{propAt}
+use Rattle.prefix_code.proofs.Reading.{inside}
 use Rattle.prop.proofs.Filling.{room-kept, Filling, filling-starts, filling-size, filling-further, filling-next, filling-steps, filling-ends}
 use borrow.Fn.Kinds.{In}
 use borrow.Fn.PlainCycle.{Measures, is, falls, and}

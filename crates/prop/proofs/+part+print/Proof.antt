@@ -11,7 +11,7 @@ use Rattle.definitions.specs.Sheet.{marked}
 use Rattle.definitions.specs.Display.{wrap}
 use Rattle.output.proofs.Writing.{same-length, then}
 use Rattle.prop.specs.Ends.{Known}
-use Rattle.prop.proofs.Reading.{inside}
+use Rattle.prefix_code.proofs.Reading.{inside}
 use Rattle.prop.proofs.Parts.{BinaryParts, binary-parts, quantified-parts}
 use Rattle.prop.proofs.Shown.{leaf-text, quantified-text, negation-text, binary-text}
 use borrow.Fn.Kinds.{In}

@@ -2,7 +2,7 @@
 use Prim.Native.Nat.{_+_}
 use native.Mathlib.Omega.{arith}
 use borrow.Author.Tests.{eq-eqb, ne-eqb}
-use Rattle.prop.proofs.Reading.{inside}
+use Rattle.prefix_code.proofs.Reading.{inside}
 use Rattle.prop.proofs.Parts.{binary-parts}
 use Rattle.prop.proofs.Shown.{strength-elsewhere, strength-of-implication}
 use Rattle.prop.proofs.precedence.Statement.{statement}
