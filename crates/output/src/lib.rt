@@ -1,5 +1,6 @@
 // Writing into lent memory. Each function returns the position after what it writes, or a position past the end where that does
 // not fit. A dry run, with `write` false, returns a position by the same rule and leaves the memory as it is.
+use definitions::Refusal;
 use number::number_at;
 ghost use mathlib.Core.List.{[], _∷_};
 ghost use Prim.Native.Nat.{_+_, _*_, _≤_};
@@ -10,6 +11,12 @@ ghost use Rattle.output.specs.Wrote.{Wrote};
 
 // The bytes of a pair of offset and length.
 const PAIR_SIZE: usize = 4;
+
+// What an operation answers that fills lent memory: the length of its answer, which stands at the start, or a refusal.
+pub enum Written {
+    Length(usize),
+    Refused(Refusal),
+}
 
 // One byte.
 pub fn put(out: &mut [u8], to: usize, b: u8, write: bool) -> usize
