@@ -6,17 +6,17 @@ use Rattle.definitions.specs.Prop.{Prop}
 use Rattle.proof_term.specs.Records.{fieldAt, partCount}
 use Rattle.proof_term.proofs.Counting.{few-parts}
 use Rattle.declarations.specs.Declared.{Notes}
-use Rattle.declarations.specs.Labels.{LabelsFit}
-use Rattle.declarations.proofs.Labels.{partUses, uses-none, uses-part, uses-unit, with-label, without-label, fit-below, label-fits}
+use Rattle.proof_term_lists.specs.Labels.{LabelsFit}
+use Rattle.proof_term_lists.proofs.Labels.{partUses, uses-none, uses-part, uses-unit, with-label, without-label, fit-below, label-fits}
 use Rattle.declarations.proofs.Threads.{notes-none, notes-then, named-still}
 use borrow.Fn.Kinds.{In}
 use borrow.Fn.PlainCycle.{Measures, is, falls, and}
 use Rattle.declarations.proofs.note_term.Reads as note-term
 use Rattle.declarations.proofs.note_term.Kinds as note-term-kinds
 use Rattle.declarations.proofs.+note_term.Lts-note_term as note-term-lts
-use Rattle.declarations.proofs.has_label.Reads as has-label-reads
+use Rattle.proof_term_lists.proofs.has_label.Reads as has-label-reads
 use Rattle.declarations.proofs.note_label.Reads as note-label-reads
-use Rattle.declarations.proofs.part_count.Reads as part-count-reads
+use Rattle.proof_term.proofs.part_count.Reads as part-count-reads
 use Rattle.proof_term.proofs.field.Reads as field-reads
 use Rattle.declarations.proofs.+note_term.{statement}
 use Rattle.declarations.proofs.+note_term.Tie.{close}

@@ -4,7 +4,7 @@ use borrow.Author.Tests.{ne-eqb}
 use Rattle.definitions.specs.Code.{parameterLimit}
 use Rattle.definitions.specs.Term.{labelAtoms, labelDatatypes}
 use Rattle.proof_term.specs.Records.{labelOf}
-use Rattle.declarations.specs.Labels.{labelUses}
+use Rattle.proof_term_lists.specs.Labels.{labelUses}
 use Rattle.declarations.proofs.Threads.{notable, notes-none}
 use borrow.Author.Needs.{needs}
 use Rattle.declarations.proofs.note_label.Statement.{statement}

@@ -16,8 +16,7 @@ use Rattle.definitions.specs.Prop.{Prop, AtomUse}
 use Rattle.definitions.specs.Term.{Label, ProofTerm, Ident, Pair, Named, Function, Application, LetIn, Case, TypeAscription, Unit, Sorry, ofLabel, ofLabels, labelDatatypes, atomList, datatypeList}
 use Rattle.proof_term.specs.Records.{fieldAt, Form, leaf, formTerm, labelOf, parameterLabel, forms, recordTermAt, partCount, termAt, partAt}
 use Rattle.proof_term.proofs.Records.{arity, part-count, termAt-is, part-below, part-else}
-use Rattle.declarations.specs.Declared.{useOf, datatypeUses}
-use Rattle.declarations.specs.Labels.{labelUses, termUses, ownUses, hasLabel, LabelFits, LabelsFit}
+use Rattle.proof_term_lists.specs.Labels.{useOf, datatypeUses, labelUses, termUses, ownUses, hasLabel, LabelFits, LabelsFit}
 
 -- the first lists, joined
 joined : {A : Type 0} → ℕ → (ℕ → List A) → List A

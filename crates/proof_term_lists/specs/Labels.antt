@@ -2,14 +2,20 @@
 use Prim.Native.Nat.{ℕ, _≤_, _<_}
 use mathlib.Core.Path.{_≡_}
 use mathlib.Core.Bool.{Bool, true, false, not, cond}
-use mathlib.Core.List.{List, [], _∷_}
+use mathlib.Core.List.{List, [], _∷_, map}
 use lib.ListN.{getD}
 use lib.Dec.{eqb}
 use Rattle.definitions.specs.Prop.{Prop, AtomUse}
 use Rattle.definitions.specs.Term.{Label, ProofTerm, ofLabel, ofLabels, labelAtoms, labelDatatypes}
 use Rattle.prefix_code.specs.Scan.{At}
 use Rattle.proof_term.specs.Records.{fieldAt, labelOf, parameterLabel}
-use Rattle.declarations.specs.Declared.{datatypeUses}
+
+abbrev pub useOf : ℕ → ℕ → AtomUse ℕ
+useOf name count = record { name = name; count = count }
+
+-- datatypes as uses
+abbrev pub datatypeUses : List ℕ → List (AtomUse ℕ)
+datatypeUses ts = map (λ t. useOf t 0) ts
 
 -- a label adds its datatype, or its proposition's atoms
 unfoldable pub labelUses : Bool → Label ℕ → List (AtomUse ℕ)

@@ -1,0 +1,2 @@
+-- The laws of a term's labels.
+pub mod Labels
