@@ -1,13 +1,13 @@
 -- How writes join, and what a dry run tells of the write that follows it.
-use Prim.Native.Nat.{ℕ, suc, _+_, _≤_, _<_}
-use mathlib.Core.Path.{_≡_, refl, ap, _∙_}
+use Prim.Native.Nat.{ℕ, suc, _+_, _-_, _≤_, _<_, min}
+use mathlib.Core.Path.{_≡_, refl, sym, ap, _∙_}
 use mathlib.Core.Bool.{Bool, true, false}
 use mathlib.Core.Logic.{by-cases}
 use mathlib.Core.List.{List, [], _∷_, _++_, append-assoc}
 use native.Mathlib.Omega.{arith}
 use native.Mathlib.Decide.{decLe}
-use lib.ListN.{length, set, take, drop, length-append}
-use lib.Seq.{sets, set-out, sets-eq, length-sets}
+use lib.ListN.{length, set, take, drop, length-append, length-take, take-append-drop}
+use lib.Seq.{sets, set-out, sets-eq, length-sets, take-length}
 use borrow.Author.Tests.{lt-ltb, le-ltb}
 use Rattle.definitions.specs.Outcome.{accepted, refuse, refuseIf, _>>=_}
 use Rattle.definitions.specs.Answers.{inRoom}
@@ -19,7 +19,7 @@ sets-past l i [] h = refl
 sets-past l i (a ∷ s) h = rw (set-out l i a) (sets-past l (suc i) s (omega arith))
 
 -- a text is stored and then another after it
-sets-append : (l : List ℕ) (i : ℕ) (s t : List ℕ) → sets (sets l i s) (i + length s) t ≡ sets l i (s ++ t)
+pub sets-append : (l : List ℕ) (i : ℕ) (s t : List ℕ) → sets (sets l i s) (i + length s) t ≡ sets l i (s ++ t)
 sets-append l i [] t = ap (λ k. sets l k t) (omega arith)
 sets-append l i (a ∷ s) t = ap (λ k. sets (sets (set l i a) (suc i) s) k t) (omega arith) ∙ sets-append (set l i a) (suc i) s t
 
@@ -77,6 +77,27 @@ pub dry-run :
     Wrote text write before to before next
 unfolding puts
 dry-run e within beyond = rw e (record { stored = refl; within = within; beyond = beyond })
+
+-- Of a text the part is stored that fits:
+module _ (write : Bool) (before : List ℕ) (to : ℕ) (text : List ℕ) (count : ℕ) (fitting : count ≡ min (length before - to) (length text)) where
+  fitting-part : puts write before to (take count text) ≡ puts write before to text
+  fitting-part = by-cases (decLe (length text) count)
+      (λ h. let all : count ≡ length text = omega arith in rw (all, take-length))
+      (λ h.
+      let here : length (take count text) ≡ count = omega (arith, length-take count text) in
+      let past = puts-past write (puts write before to (take count text)) (to + count) (drop count text) (omega (arith, puts-length write before to (take count text))) in
+      sym past ∙ rw here at (puts-append write before to (take count text) (drop count text)) ∙ ap (puts write before to) (take-append-drop count text))
+
+  -- all of it
+  pub fits-whole : {after : List ℕ} → after ≡ puts write before to (take count text) → length text ≤ count → Wrote text write before to after (to + count)
+  fits-whole e h = record { stored = e ∙ fitting-part; within = λ k. omega arith; beyond = λ k. omega arith }
+
+  -- not all of it
+  pub fits-partly : {after : List ℕ} → after ≡ puts write before to (take count text) → count < length text → Wrote text write before to after (length after + 1)
+  fits-partly {after} e h =
+      let same : length (puts write before to (take count text)) ≡ length before = puts-length write before to (take count text) in
+      let sized : length after ≡ length before = rw e same in
+      record { stored = e ∙ fitting-part; within = λ k. omega arith; beyond = λ k. omega arith }
 
 -- A text is written and then another where the first one ended: that is to write both at once.
 module _

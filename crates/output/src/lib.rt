@@ -3,11 +3,12 @@
 use definitions::Refusal;
 use number::number_at;
 ghost use mathlib.Core.List.{[], _∷_};
-ghost use Prim.Native.Nat.{_+_, _*_, _≤_};
-ghost use lib.ListN.{length};
+ghost use mathlib.Core.Path.{_≡_};
+ghost use Prim.Native.Nat.{_+_, _*_, _-_, _≤_, min};
+ghost use lib.ListN.{length, take};
 ghost use Rattle.definitions.specs.Text.{decimal};
 ghost use Rattle.definitions.specs.Sheet.{pairSize, pairEnd, marked};
-ghost use Rattle.output.specs.Wrote.{Wrote};
+ghost use Rattle.output.specs.Wrote.{puts, Wrote};
 
 // The bytes of a pair of offset and length.
 const PAIR_SIZE: usize = 4;
@@ -31,26 +32,44 @@ pub fn put(out: &mut [u8], to: usize, b: u8, write: bool) -> usize
     out.len() + 1
 }
 
+// So many of the bytes, all of which lie within the memory; none in a dry run.
+fn copy(out: &mut [u8], to: usize, s: &[u8], count: usize, write: bool)
+    requires { ⌜ (count ≤ length (now s)) × (count ≤ length (now out) - to) ⌝ }
+    ensures { λ r. ⌜ now (out .exit) ≡ puts write (now (out .entry)) to (take count (now (s .entry))) ⌝ }
+{
+    if !write {
+        return;
+    }
+    let mut i = 0;
+    while i < count {
+        out[to + i] = s[i];
+        i += 1;
+    }
+}
+
+// How many of so many elements lie within the memory from `to` on.
+fn fitting(length: usize, to: usize, count: usize) -> usize
+    ensures { λ r. ⌜ r ≡ min (length - to) count ⌝ }
+{
+    if length <= to {
+        return 0;
+    }
+    if length - to < count {
+        return length - to;
+    }
+    count
+}
+
 // All bytes of a slice. A dry run only computes the position.
 pub fn put_all(out: &mut [u8], to: usize, s: &[u8], write: bool) -> usize
     ensures { λ r. ⌜ Wrote (now (s .entry)) write (now (out .entry)) to (now (out .exit)) r ⌝ }
 {
-    if write {
-        let mut at = to;
-        let mut i = 0;
-        while i < s.len() {
-            at = put(out, at, s[i], write);
-            i += 1;
-        }
-        return at;
-    }
-    if out.len() < to {
+    let count = fitting(out.len(), to, s.len());
+    copy(out, to, s, count, write);
+    if count < s.len() {
         return out.len() + 1;
     }
-    if out.len() - to < s.len() {
-        return out.len() + 1;
-    }
-    to + s.len()
+    to + count
 }
 
 // A number in decimal.
