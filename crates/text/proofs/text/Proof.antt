@@ -1,69 +1,67 @@
+-- A dry run measures the text; it is refused for want of room, or written.
+use Rattle.definitions.specs.Answers.{textAnswer}
+use native.Mathlib.Omega.{arith}
+use Rattle.output.proofs.Writing as writing
+use Rattle.output.proofs.Filling.{too-long, fills}
+use Rattle.text.proofs.Accepted.{its-header}
+use Rattle.text.proofs.Ends.{fillable, ends-known}
+use Rattle.text.proofs.Heading.{sheet-text}
 use borrow.Author.Needs.{needs}
 use Rattle.text.proofs.text.Statement.{statement}
 use Rattle.text.proofs.text.Tie as tie
-use Rattle.text.proofs.text.Reads as reads
-use Rattle.text.proofs.text.Lts as lts
-use Rattle.prop.proofs.fill_all_ends.Reads as fill-all-ends-reads
-use Rattle.sheet.proofs.code_bytes.Reads as code-bytes-reads
-use Rattle.sheet.proofs.proposition_pairs.Reads as proposition-pairs-reads
-use Rattle.text.proofs.declare.Reads as declare-reads
-use Rattle.text.proofs.put_text.Reads as put-text-reads
 
--- src/lib.rt:133:19
 proposition-pairs-requires : tie.Need-proposition-pairs-requires
-proposition-pairs-requires c κs = ?
+proposition-pairs-requires c κs = its-header (c .before .before .before .pre .0)
 
--- src/lib.rt:133:44
 code-bytes-requires : tie.Need-code-bytes-requires
-code-bytes-requires c κs = ?
+code-bytes-requires c κs = its-header (c .before .before .before .before .pre .0)
 
--- src/lib.rt:133:87
 slice-aggregate-fill-all-ends : tie.Need-slice-aggregate-fill-all-ends
 slice-aggregate-fill-all-ends c = search needs
 
--- src/lib.rt:133:5
 fill-all-ends-requires : tie.Need-fill-all-ends-requires
-fill-all-ends-requires c κs = ?
+fill-all-ends-requires c κs =
+    rw (c .before .before .proposition-pairs .ensures, c .before .code-bytes .ensures) (fillable (c .before .before .before .before .before .before .pre .0) (search needs))
 
--- src/lib.rt:134:9
 declare-requires : tie.Need-declare-requires
 declare-requires c κs = search needs
 
--- src/lib.rt:135:9
 declare-requires-2 : tie.Need-declare-requires-2
 declare-requires-2 c κs = search needs
 
--- src/lib.rt:137:37
 slice-aggregate-put-text : tie.Need-slice-aggregate-put-text
 slice-aggregate-put-text c = search needs
 
--- src/lib.rt:136:9
 put-text-requires : tie.Need-put-text-requires
-put-text-requires c κs = ?
+put-text-requires c κs =
+    let (sheet, term) = c .before .before .before .before .before .before .before .before .before .before .before .before .before .before .before .before .pre in
+    let ends = ends-known sheet (rw (c .before .before .before .before .before .before .before .before .before .before .before .before .proposition-pairs .ensures, c .before .before .before .before .before .before .before .before .before .before .before .code-bytes .ensures) at (c .before .before .before .before .before .before .before .before .before .fill-all-ends .ensures)) in
+    (sheet, (term, (ends, (c .before .before .before .before .before .before .declare .ensures, c .before .before .before .before .declare2 .ensures))))
 
--- src/lib.rt:140:9
 same-length : tie.Need-same-length
 same-length c = search needs
 
--- src/lib.rt:140:9
 returns : tie.Need-returns
-returns c = ?
+unfolding textAnswer
+returns c =
+    rw (sheet-text (c .before .before .before .before .before .before .before .before .before .before .before .before .before .before .before .before .before .before .before .before .pre .1) _) (too-long (c .before .before .before .put-text .ensures) (omega (arith, c .if1 .taken, writing.same-length (c .before .before .before .put-text .ensures))))
 
--- src/lib.rt:146:37
 slice-aggregate-put-text-2 : tie.Need-slice-aggregate-put-text-2
 slice-aggregate-put-text-2 c = search needs
 
--- src/lib.rt:145:5
 put-text-requires-2 : tie.Need-put-text-requires-2
-put-text-requires-2 c κs = ?
+put-text-requires-2 c κs =
+    let (sheet, term) = c .before .before .before .before .before .before .before .before .before .before .before .before .before .before .before .before .before .before .before .before .before .before .before .before .pre in
+    let ends = ends-known sheet (rw (c .before .before .before .before .before .before .before .before .before .before .before .before .before .before .before .before .before .before .before .before .proposition-pairs .ensures, c .before .before .before .before .before .before .before .before .before .before .before .before .before .before .before .before .before .before .before .code-bytes .ensures) at (c .before .before .before .before .before .before .before .before .before .before .before .before .before .before .before .before .before .fill-all-ends .ensures)) in
+    (sheet, (term, (ends, (c .before .before .before .before .before .before .before .before .before .before .before .before .before .before .declare .ensures, c .before .before .before .before .before .before .before .before .before .before .before .before .declare2 .ensures))))
 
--- src/lib.rt:125:1
 same-length-2 : tie.Need-same-length-2
 same-length-2 c = search needs
 
--- src/lib.rt:125:1
 returns-2 : tie.Need-returns-2
-returns-2 c = ?
+unfolding textAnswer
+returns-2 c =
+    rw (sheet-text (c .before .before .before .before .before .before .before .before .before .before .before .before .before .before .before .before .before .before .before .before .before .before .before .before .before .before .before .pre .1) _) (fills (c .before .before .before .before .before .before .before .before .before .before .put-text .ensures) (omega (arith, c .before .before .before .before .before .before .before .if1 .left, writing.same-length (c .before .before .before .before .before .before .before .before .before .before .put-text .ensures))) (c .before .before .put-text2 .ensures))
 
 pub text-spec : {M : Type 1} → statement M
 text-spec =
