@@ -1,7 +1,6 @@
--- The table of ends knows each proposition of the sheet, and so each label of its term.
+-- The table of the ends of an accepted sheet's propositions: it can be filled in, and with it the term can be printed.
 use Prim.Native.Nat.{ℕ, _<_, _≤_}
 use mathlib.Core.Path.{_≡_}
-use mathlib.Core.Logic.{⊎-elim}
 use mathlib.Core.List.{List}
 use native.Mathlib.Omega.{arith}
 use lib.ListN.{length}
@@ -12,20 +11,11 @@ use Rattle.sheet.specs.Header.{headerOf}
 use Rattle.sheet.proofs.Slices.{lengths}
 use Rattle.sheet.proofs.Admitted.{AcceptedSheet, has-codes}
 use Rattle.prop.specs.Ends.{Known, AllFillable}
-use Rattle.prop.proofs.Parts.{binary-parts}
 use Rattle.proof_term_display.specs.Printable.{PrintableTerm}
-use Rattle.sheet_term.specs.Held.{LabelStands, HeldTerm}
+use Rattle.sheet_term.specs.Held.{HeldTerm}
 use Rattle.text.specs.Declaring.{EndsKnown}
 use Rattle.text.proofs.Accepted.{name-marked}
-
--- a label stands where a proposition of the sheet does, or where its left side does
-pub label-known : {s ends : List ℕ} {offset : ℕ} → EndsKnown s ends → LabelStands s offset → Known (names s) (codeBytes s) ends offset
-label-known {s} {ends} table label =
-    let whole = table .known (label .number) (label .below) in
-    ⊎-elim
-    (λ here. rw here whole)
-    (λ side. rw (side .1) (binary-parts (names s) (codeBytes s) ends _ whole (omega (arith, side .0)) (omega (arith, side .0)) .left))
-    (label .stands)
+use Rattle.text.proofs.Labels.{label-known}
 
 module _ {s : List ℕ} {h : Sheet} (a : AcceptedSheet s h) where
   -- the ends of all propositions can be filled in

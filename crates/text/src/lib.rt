@@ -52,9 +52,44 @@ fn declare(
     let code = code_bytes(s, h);
     let pairs = name_pairs(s, h);
     let text = text_bytes(s, h);
-    let len = note_term(terms, n, datatypes, code, h.names, declared, 0, &mut seen, pairs, text);
+    let len = note_term(
+        terms,
+        n,
+        datatypes,
+        code,
+        h.names,
+        declared,
+        0,
+        &mut seen,
+        pairs,
+        text,
+    );
     let goal = pair_offset(proposition_pairs(s, h), h.goal);
-    note_prop(code, goal, h.names, datatypes, declared, len, &mut seen, pairs, text)
+    note_prop(
+        code,
+        goal,
+        h.names,
+        datatypes,
+        declared,
+        len,
+        &mut seen,
+        pairs,
+        text,
+    )
+}
+
+// Fills in where each proposition of the sheet and each of its parts ends.
+fn fill_sheet_ends(s: &[u8], h: Sheet, ends: &mut [u16; Sheet::CODE_LIMIT])
+    requires { ⌜ AcceptedSheet (now s) h ⌝ }
+    ensures { λ r. ⌜ EndsKnown (now (s .entry)) (now (ends .exit)) ⌝ }
+{
+    fill_all_ends(
+        proposition_pairs(s, h),
+        code_bytes(s, h),
+        h.propositions,
+        h.names,
+        ends,
+    );
 }
 
 // What stands before the term: the lines of the atoms, those of the datatypes, and an empty line.
@@ -78,7 +113,16 @@ fn put_heading(
     let text = text_bytes(s, h);
     let atoms_end = put_declarations(out, 0, atoms, atom_count, false, pairs, text, write);
     let line = put(out, atoms_end, b'\n', write);
-    let end = put_declarations(out, line, datatypes, datatype_count, true, pairs, text, write);
+    let end = put_declarations(
+        out,
+        line,
+        datatypes,
+        datatype_count,
+        true,
+        pairs,
+        text,
+        write,
+    );
     put_all(out, end, b"\n\n", write)
 }
 
@@ -90,7 +134,7 @@ fn put_text(
     terms: &[u16],
     n: usize,
     style: Style,
-    ends: &[u16],
+    ends: &[u16; Sheet::CODE_LIMIT],
     atoms: &[u16; DECLARED_NUMBERS],
     atom_count: usize,
     datatypes: &[u16; DECLARED_NUMBERS],
@@ -118,7 +162,19 @@ fn put_text(
     let pairs = name_pairs(s, h);
     let text = text_bytes(s, h);
     let code = code_bytes(s, h);
-    print_term(out, start, terms, n, style, code, ends, h.names, pairs, text, write)
+    print_term(
+        out,
+        start,
+        terms,
+        n,
+        style,
+        code,
+        ends,
+        h.names,
+        pairs,
+        text,
+        write,
+    )
 }
 
 // The text of a sheet's term in lent memory: measured by a dry run, and then written where it fits.
@@ -130,11 +186,22 @@ pub fn text(s: &[u8], h: Sheet, terms: &[u16], n: usize, style: Style, out: &mut
     let mut ends = [0u16; Sheet::CODE_LIMIT];
     let mut atoms = [0u16; DECLARED_NUMBERS];
     let mut datatypes = [0u16; DECLARED_NUMBERS];
-    fill_all_ends(proposition_pairs(s, h), code_bytes(s, h), h.propositions, h.names, &mut ends);
+    fill_sheet_ends(s, h, &mut ends);
     let atom_count = declare(s, h, terms, n, false, &mut atoms);
     let datatype_count = declare(s, h, terms, n, true, &mut datatypes);
     let end = put_text(
-        out, s, h, terms, n, style, &ends, &atoms, atom_count, &datatypes, datatype_count, false,
+        out,
+        s,
+        h,
+        terms,
+        n,
+        style,
+        &ends,
+        &atoms,
+        atom_count,
+        &datatypes,
+        datatype_count,
+        false,
     );
     if out.len() < end {
         return Written::Refused(Refusal {
@@ -143,7 +210,18 @@ pub fn text(s: &[u8], h: Sheet, terms: &[u16], n: usize, style: Style, out: &mut
         });
     }
     put_text(
-        out, s, h, terms, n, style, &ends, &atoms, atom_count, &datatypes, datatype_count, true,
+        out,
+        s,
+        h,
+        terms,
+        n,
+        style,
+        &ends,
+        &atoms,
+        atom_count,
+        &datatypes,
+        datatype_count,
+        true,
     );
     Written::Length(end)
 }

@@ -1,8 +1,7 @@
 -- The lines of the atoms, a newline, the lines of the datatypes and two newlines, one after another.
 use Rattle.definitions.specs.Sheet.{nameOf}
-use Rattle.output.proofs.Writing.{then}
 use Rattle.text.proofs.Accepted.{its-header}
-use Rattle.text.proofs.Heading.{heading-is}
+use Rattle.text.proofs.Heading.{heading-written}
 use borrow.Author.Needs.{needs}
 use Rattle.text.proofs.put_heading.Statement.{statement}
 use Rattle.text.proofs.put_heading.Tie as tie
@@ -37,12 +36,13 @@ same-length c = search needs
 
 returns : tie.Need-returns
 unfolding nameOf
-returns c = λ t is.
+returns c =
     let (_, (atoms, datatypes)) = c .before .before .before .before .before .before .before .before .before .before .before .before .before .before .before .before .before .before .before .before .before .before .before .pre in
-    rw (heading-is is atoms datatypes)
-    (then (rw (c .before .before .before .before .before .before .before .before .before .before .before .before .before .before .before .before .before .before .before .before .name-pairs .ensures, c .before .before .before .before .before .before .before .before .before .before .before .before .before .before .before .before .before .before .before .text-bytes .ensures) at (c .before .before .before .before .before .before .before .before .before .before .before .before .before .before .before .before .put-declarations .ensures))
-    (then (c .before .before .before .before .before .before .before .before .before .before .before .before .put .ensures)
-    (then (rw (c .before .before .before .before .before .before .before .before .before .before .before .before .before .before .before .before .before .before .before .before .name-pairs .ensures, c .before .before .before .before .before .before .before .before .before .before .before .before .before .before .before .before .before .before .before .text-bytes .ensures) at (c .before .before .before .before .before .before .before .put-declarations2 .ensures)) (c .before .before .put-all .ensures))))
+    heading-written atoms datatypes
+    (rw (c .before .before .before .before .before .before .before .before .before .before .before .before .before .before .before .before .before .before .before .before .name-pairs .ensures, c .before .before .before .before .before .before .before .before .before .before .before .before .before .before .before .before .before .before .before .text-bytes .ensures) at (c .before .before .before .before .before .before .before .before .before .before .before .before .before .before .before .before .put-declarations .ensures))
+    (c .before .before .before .before .before .before .before .before .before .before .before .before .put .ensures)
+    (rw (c .before .before .before .before .before .before .before .before .before .before .before .before .before .before .before .before .before .before .before .before .name-pairs .ensures, c .before .before .before .before .before .before .before .before .before .before .before .before .before .before .before .before .before .before .before .text-bytes .ensures) at (c .before .before .before .before .before .before .before .put-declarations2 .ensures))
+    (c .before .before .put-all .ensures)
 
 pub put-heading-spec : {M : Type 1} → statement M
 put-heading-spec =

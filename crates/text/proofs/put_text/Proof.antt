@@ -14,18 +14,18 @@ put-heading-requires : tie.Need-put-heading-requires
 put-heading-requires c κs = search needs
 
 name-pairs-requires : tie.Need-name-pairs-requires
-name-pairs-requires c κs = its-header (c .before .before .before .before .before .before .before .before .pre .0)
+name-pairs-requires c κs = its-header (c .before .before .before .before .before .before .before .pre .0)
 
 text-bytes-requires : tie.Need-text-bytes-requires
-text-bytes-requires c κs = its-header (c .before .before .before .before .before .before .before .before .before .pre .0)
+text-bytes-requires c κs = its-header (c .before .before .before .before .before .before .before .before .pre .0)
 
 code-bytes-requires : tie.Need-code-bytes-requires
-code-bytes-requires c κs = its-header (c .before .before .before .before .before .before .before .before .before .before .pre .0)
+code-bytes-requires c κs = its-header (c .before .before .before .before .before .before .before .before .before .pre .0)
 
 print-term-requires : tie.Need-print-term-requires
 print-term-requires c κs =
     let (sheet, (term, (ends, _))) = c .before .before .before .before .before .before .before .before .before .before .before .before .pre in
-    rw (c .before .before .before .name-pairs .ensures, c .before .before .text-bytes .ensures, c .before .code-bytes .ensures) (printable sheet term ends)
+    rw (c .before .before .before .before .name-pairs .ensures, c .before .before .before .text-bytes .ensures, c .before .before .code-bytes .ensures) (printable sheet term ends)
 
 same-length : tie.Need-same-length
 same-length c = search needs
@@ -34,8 +34,8 @@ returns : tie.Need-returns
 unfolding text nameOf headerOf
 returns c =
     let (sheet, (term, _)) = c .before .before .before .before .before .before .before .before .before .before .before .before .before .before .before .pre in
-    then (c .before .before .before .before .before .before .before .before .before .put-heading .ensures _ (named-term term))
-    (rw (c .before .before .before .before .before .before .name-pairs .ensures, c .before .before .before .before .before .text-bytes .ensures, c .before .before .before .before .code-bytes .ensures, sheet .header) at (c .before .before .print-term .ensures))
+    then (c .before .before .before .before .before .before .before .before .before .before .put-heading .ensures _ (named-term term))
+    (rw (c .before .before .before .before .before .before .before .name-pairs .ensures, c .before .before .before .before .before .before .text-bytes .ensures, c .before .before .before .before .before .code-bytes .ensures, sheet .header) at (c .before .before .print-term .ensures))
 
 pub put-text-spec : {M : Type 1} → statement M
 put-text-spec =
