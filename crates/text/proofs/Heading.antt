@@ -11,6 +11,7 @@ use Rattle.definitions.specs.Outcome.{accepted, mapOutcome}
 use Rattle.definitions.specs.Name.{Name}
 use Rattle.definitions.specs.Sheet.{nameOf}
 use Rattle.definitions.specs.Term.{ProofTerm}
+use Rattle.definitions.specs.Display.{displayTerm}
 use Rattle.definitions.specs.Text.{heading, text}
 use Rattle.definitions.specs.Answers.{namedTerm, goalProp, sheetText, textAnswer}
 use Rattle.output.specs.declared.Written.the-variants.{Length, Refused}
@@ -40,17 +41,33 @@ module _ {s terms : List ℕ} {n : ℕ} (held : HeldTerm s terms n) where
   unfolding namedTerm mapOutcome
   named-term = rw (held .is-term)
 
-  -- its text by a dry run
-  module _ (style : Style) {before dry : List ℕ} {end : ℕ} (d : Wrote (text style (termOf s terms n) (goalProp s)) false before 0 dry end) where
+  module _ (style : Style) where
     sheet-text : sheetText s style ≡ accepted (text style (termOf s terms n) (goalProp s))
     unfolding sheetText mapOutcome
     sheet-text = rw named-term
 
-    pub text-too-long : length dry < end → Fills (textAnswer s style (length before)) before dry (Refused (record { number = 16; place = 0 }))
-    unfolding textAnswer
-    text-too-long past = rw sheet-text (too-long d (omega (arith, same-length d)))
+    -- the heading, and then the term
+    text-written : {write : Bool} {out₀ out₁ out₂ : List ℕ} {to₁ to₂ : ℕ}
+        → ((t : ProofTerm Name) → namedTerm s ≡ accepted t → Wrote (heading t (goalProp s)) write out₀ 0 out₁ to₁)
+        → Wrote (displayTerm style (termOf s terms n)) write out₁ to₁ out₂ to₂
+        → Wrote (text style (termOf s terms n) (goalProp s)) write out₀ 0 out₂ to₂
+    unfolding text
+    text-written first second = then (first _ named-term) second
 
-    pub text-fills : {after : List ℕ} {next : ℕ} → end ≤ length dry → Wrote (text style (termOf s terms n) (goalProp s)) true dry 0 after next
-        → Fills (textAnswer s style (length before)) before after (Length end)
-    unfolding textAnswer
-    text-fills within w = rw sheet-text (fills d (omega (arith, same-length d)) w)
+    -- Of both in a dry run:
+    module _ {before between dry : List ℕ} {start end : ℕ}
+        (first : (t : ProofTerm Name) → namedTerm s ≡ accepted t → Wrote (heading t (goalProp s)) false before 0 between start)
+        (second : Wrote (displayTerm style (termOf s terms n)) false between start dry end) where
+      measured : Wrote (text style (termOf s terms n) (goalProp s)) false before 0 dry end
+      measured = text-written first second
+
+      pub text-too-long : length dry < end → Fills (textAnswer s style (length before)) before dry (Refused (record { number = 16; place = 0 }))
+      unfolding textAnswer
+      text-too-long past = rw sheet-text (too-long measured (omega (arith, same-length measured)))
+
+      pub text-fills : end ≤ length dry → {middle after : List ℕ} {to next : ℕ}
+          → ((t : ProofTerm Name) → namedTerm s ≡ accepted t → Wrote (heading t (goalProp s)) true dry 0 middle to)
+          → Wrote (displayTerm style (termOf s terms n)) true middle to after next
+          → Fills (textAnswer s style (length before)) before after (Length end)
+      unfolding textAnswer
+      text-fills within third fourth = rw sheet-text (fills measured (omega (arith, same-length measured)) (text-written third fourth))

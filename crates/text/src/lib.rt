@@ -21,6 +21,7 @@ ghost use lib.ListN.{length};
 ghost use Rattle.definitions.specs.Outcome.{accepted};
 ghost use Rattle.definitions.specs.Name.{Name};
 ghost use Rattle.definitions.specs.Term.{ProofTerm};
+ghost use Rattle.definitions.specs.Display.{displayTerm};
 ghost use Rattle.definitions.specs.Text.{heading};
 ghost use Rattle.definitions.specs.Answers.{namedTerm, goalProp, textAnswer};
 ghost use Rattle.output.specs.Wrote.{Wrote};
@@ -99,13 +100,13 @@ fn put_heading(
     h: Sheet,
     atoms: &[u16; DECLARED_NUMBERS],
     atom_count: usize,
-    datatypes: &[u16; DECLARED_NUMBERS],
-    datatype_count: usize,
+    types: &[u16; DECLARED_NUMBERS],
+    type_count: usize,
     write: bool,
 ) -> usize
     requires { ⌜ AcceptedSheet (now s) h ⌝ }
     requires { ⌜ Declares (now s) false (now atoms) «atom_count» ⌝ }
-    requires { ⌜ Declares (now s) true (now datatypes) «datatype_count» ⌝ }
+    requires { ⌜ Declares (now s) true (now types) «type_count» ⌝ }
     ensures { λ r. ⌜ ((t : ProofTerm Name) → namedTerm (now (s .entry)) ≡ accepted t →
         Wrote (heading t (goalProp (now (s .entry)))) write (now (out .entry)) 0 (now (out .exit)) r) ⌝ }
 {
@@ -113,58 +114,33 @@ fn put_heading(
     let text = text_bytes(s, h);
     let atoms_end = put_declarations(out, 0, atoms, atom_count, false, pairs, text, write);
     let line = put(out, atoms_end, b'\n', write);
-    let end = put_declarations(
-        out,
-        line,
-        datatypes,
-        datatype_count,
-        true,
-        pairs,
-        text,
-        write,
-    );
+    let end = put_declarations(out, line, types, type_count, true, pairs, text, write);
     put_all(out, end, b"\n\n", write)
 }
 
-// The declarations, and then the term.
-fn put_text(
+// The term, from its records.
+fn put_term(
     out: &mut [u8],
+    to: usize,
     s: &[u8],
     h: Sheet,
     terms: &[u16],
     n: usize,
     style: Style,
     ends: &[u16; Sheet::CODE_LIMIT],
-    atoms: &[u16; DECLARED_NUMBERS],
-    atom_count: usize,
-    datatypes: &[u16; DECLARED_NUMBERS],
-    datatype_count: usize,
     write: bool,
 ) -> usize
     requires { ⌜ AcceptedSheet (now s) h ⌝ }
     requires { ⌜ HeldTerm (now s) (now terms) n ⌝ }
     requires { ⌜ EndsKnown (now s) (now ends) ⌝ }
-    requires { ⌜ Declares (now s) false (now atoms) «atom_count» ⌝ }
-    requires { ⌜ Declares (now s) true (now datatypes) «datatype_count» ⌝ }
-    ensures { λ r. ⌜ Wrote (Rattle.definitions.specs.Text.text style (termOf (now (s .entry)) (now (terms .entry)) n) (goalProp (now (s .entry))))
-        write (now (out .entry)) 0 (now (out .exit)) r ⌝ }
+    ensures { λ r. ⌜ Wrote (displayTerm style (termOf (now (s .entry)) (now (terms .entry)) n)) write (now (out .entry)) to (now (out .exit)) r ⌝ }
 {
-    let start = put_heading(
-        out,
-        s,
-        h,
-        atoms,
-        atom_count,
-        datatypes,
-        datatype_count,
-        write,
-    );
+    let code = code_bytes(s, h);
     let pairs = name_pairs(s, h);
     let text = text_bytes(s, h);
-    let code = code_bytes(s, h);
     print_term(
         out,
-        start,
+        to,
         terms,
         n,
         style,
@@ -185,43 +161,19 @@ pub fn text(s: &[u8], h: Sheet, terms: &[u16], n: usize, style: Style, out: &mut
 {
     let mut ends = [0u16; Sheet::CODE_LIMIT];
     let mut atoms = [0u16; DECLARED_NUMBERS];
-    let mut datatypes = [0u16; DECLARED_NUMBERS];
+    let mut types = [0u16; DECLARED_NUMBERS];
     fill_sheet_ends(s, h, &mut ends);
     let atom_count = declare(s, h, terms, n, false, &mut atoms);
-    let datatype_count = declare(s, h, terms, n, true, &mut datatypes);
-    let end = put_text(
-        out,
-        s,
-        h,
-        terms,
-        n,
-        style,
-        &ends,
-        &atoms,
-        atom_count,
-        &datatypes,
-        datatype_count,
-        false,
-    );
+    let type_count = declare(s, h, terms, n, true, &mut types);
+    let start = put_heading(out, s, h, &atoms, atom_count, &types, type_count, false);
+    let end = put_term(out, start, s, h, terms, n, style, &ends, false);
     if out.len() < end {
         return Written::Refused(Refusal {
             number: 16,
             place: 0,
         });
     }
-    put_text(
-        out,
-        s,
-        h,
-        terms,
-        n,
-        style,
-        &ends,
-        &atoms,
-        atom_count,
-        &datatypes,
-        datatype_count,
-        true,
-    );
+    let start = put_heading(out, s, h, &atoms, atom_count, &types, type_count, true);
+    put_term(out, start, s, h, terms, n, style, &ends, true);
     Written::Length(end)
 }
