@@ -1,10 +1,9 @@
 -- What an accepted sheet gives to the functions that read its parts.
 use Prim.Native.Nat.{ℕ, _+_, _*_, _<_, _≤_}
-use mathlib.Core.Path.{_≡_}
 use mathlib.Core.List.{List}
 use native.Mathlib.Omega.{arith}
 use lib.ListN.{length}
-use Rattle.definitions.specs.Sheet.{pairSize, pairEnd, names, namePairs, textBytes, propositionPairs}
+use Rattle.definitions.specs.Sheet.{pairSize, names, namePairs, textBytes, propositionPairs}
 use Rattle.sheet.specs.declared.header.Sheet.{Sheet}
 use Rattle.sheet.specs.Header.{headerOf, HasHeader}
 use Rattle.sheet.proofs.Admitted.{AcceptedSheet, has-header, has-names, has-codes}

@@ -1,5 +1,5 @@
 -- The table of the ends of an accepted sheet's propositions: it can be filled in, and with it the term can be printed.
-use Prim.Native.Nat.{ℕ, _<_, _≤_}
+use Prim.Native.Nat.{ℕ, _<_}
 use mathlib.Core.Path.{_≡_}
 use mathlib.Core.List.{List}
 use native.Mathlib.Omega.{arith}

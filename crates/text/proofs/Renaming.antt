@@ -1,8 +1,8 @@
 -- The lists of a term and of a proposition go through a change of names.
 use Prim.Native.Nat.{ℕ}
-use mathlib.Core.Path.{_≡_, refl, sym, ap}
+use mathlib.Core.Path.{_≡_, refl, sym}
 use mathlib.Core.Option.{Option, none, some}
-use mathlib.Core.List.{List, _++_, map, map-append}
+use mathlib.Core.List.{List, map, map-append}
 use lib.ListN.{length-map}
 use Rattle.definitions.specs.Name.{Name}
 use Rattle.definitions.specs.Prop.{Prop, True, False, Binary, Atom, Quantified, getAtoms, getDatatypes, renameParameter, renameProp}

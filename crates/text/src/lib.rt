@@ -30,11 +30,11 @@ ghost use Rattle.sheet.proofs.Admitted.{AcceptedSheet};
 ghost use Rattle.sheet_term.specs.Held.{HeldTerm};
 ghost use Rattle.text.specs.Declaring.{termOf, Declares, EndsKnown};
 
-// One flag for each name and each count from 0 to 8.
-const FLAGS: usize = 4608;
+// One flag for each name and each count of parameters.
+const FLAGS: usize = Sheet::NAME_LIMIT * (Sheet::PARAMETER_LIMIT + 1);
 
 // A name and a count for each of them.
-const DECLARED_NUMBERS: usize = 9216;
+const DECLARED_NUMBERS: usize = 2 * FLAGS;
 
 // Notes the datatypes, or else the atoms, of the term's labels and then of the goal.
 fn declare(
