@@ -1,0 +1,4 @@
+pub mod Terms
+pub mod Accuracy
+pub mod Board
+pub mod SecondDrawing
