@@ -18,9 +18,9 @@ use Rattle.definitions.proofs.Conventions.{deduced-weakest}
 use Rattle.definitions.proofs.Accuracy.{accuracy}
 use Rattle.output.specs.declared.Written.{Written}
 use Rattle.output.specs.Written.{Fills}
-use Rattle.proof_tree.specs.declared.Counted.{Counted}
-use Rattle.proof_tree.specs.declared.Counted.the-variants.{Labels}
-use Rattle.proof_tree.specs.Exporting.{countedOf}
+use Rattle.sheet_term.specs.declared.Counted.{Counted}
+use Rattle.sheet_term.specs.declared.Counted.the-variants.{Labels}
+use Rattle.sheet_term.specs.Counted.{countedOf}
 use Rattle.skriduhol.specs.Accurate.{HandsOver, Counts, AccurateText, AccurateCount, AllThree}
 
 -- Of one accuracy statement:

@@ -15,8 +15,8 @@ use Rattle.definitions.specs.Sound.{Deduced, weakest}
 use Rattle.definitions.specs.Accuracy.{Accurate}
 use Rattle.output.specs.declared.Written.{Written}
 use Rattle.output.specs.Written.{Fills}
-use Rattle.proof_tree.specs.declared.Counted.{Counted}
-use Rattle.proof_tree.specs.declared.Counted.the-variants.{Labels}
+use Rattle.sheet_term.specs.declared.Counted.{Counted}
+use Rattle.sheet_term.specs.declared.Counted.the-variants.{Labels}
 
 -- An accuracy statement has the sheet's term, which the checking rules accept for the root's proposition and which has one label
 -- for each injection, abort, sorry and function in an inferring place and none elsewhere. Of that term:

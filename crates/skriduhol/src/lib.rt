@@ -5,11 +5,11 @@ use definitions::Refusal;
 use output::put;
 use output::put_all;
 use output::put_decimal;
-use proof_tree::Counted;
+use sheet_term::Counted;
 ghost use mathlib.Core.Path.{_≡_};
 ghost use Rattle.definitions.specs.Answers.{labelCount, comparison, refusalLine};
 ghost use Rattle.alpha_eq.specs.Comparing.{outcomeOf};
-ghost use Rattle.proof_tree.specs.Exporting.{countedOf};
+ghost use Rattle.sheet_term.specs.Counted.{countedOf};
 ghost use Rattle.skriduhol.specs.Accurate.{AccurateCount};
 ghost use Rattle.skriduhol.specs.Board.{Prints};
 
@@ -18,7 +18,7 @@ pub fn label_count(s: &[u8]) -> Counted
     ensures { λ r. ⌜ r ≡ countedOf (labelCount (now (s .entry))) ⌝ }
     ensures { λ r. ⌜ AccurateCount (now (s .entry)) r ⌝ }
 {
-    label_count::label_count(s)
+    sheet_term::label_count(s)
 }
 
 // The comparison of two steps' conclusions.
