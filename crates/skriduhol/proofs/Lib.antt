@@ -1,4 +1,4 @@
-pub mod Terms
+pub mod Lists
 pub mod Accuracy
 pub mod Board
 pub mod SecondDrawing

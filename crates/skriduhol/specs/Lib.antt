@@ -1,2 +1,3 @@
 pub mod Accurate
+pub mod Lists
 pub mod Board

@@ -2,16 +2,71 @@
 // as it was.
 use alpha_eq::Answer;
 use definitions::Refusal;
+use output::Written;
 use output::put;
 use output::put_all;
 use output::put_decimal;
+use proof_term_lists::put_list;
+use sheet::Sheet;
+use sheet::code_bytes;
 use sheet_term::Counted;
+use sheet_term::SheetTerm;
+use sheet_term::TERM_NUMBERS;
+use sheet_term::sheet_term;
 ghost use mathlib.Core.Path.{_≡_};
-ghost use Rattle.definitions.specs.Answers.{labelCount, comparison, refusalLine};
+ghost use lib.ListN.{length};
+ghost use Rattle.definitions.specs.Answers.{atomsAnswer, datatypesAnswer, labelCount, comparison, refusalLine};
+ghost use Rattle.output.specs.Written.{Fills};
 ghost use Rattle.alpha_eq.specs.Comparing.{outcomeOf};
+ghost use Rattle.sheet.proofs.Admitted.{AcceptedSheet};
+ghost use Rattle.sheet_term.specs.Held.{HeldTerm};
 ghost use Rattle.sheet_term.specs.Counted.{countedOf};
 ghost use Rattle.skriduhol.specs.Accurate.{AccurateCount};
+ghost use Rattle.skriduhol.specs.Lists.{listAnswer};
 ghost use Rattle.skriduhol.specs.Board.{Prints};
+
+// A list of the sheet's term in lent memory: measured by a dry run, and then written where it fits.
+fn list(s: &[u8], h: Sheet, terms: &[u16], n: usize, datatypes: bool, out: &mut [u16]) -> Written
+    requires { ⌜ AcceptedSheet (now s) h × HeldTerm (now s) (now terms) n ⌝ }
+    ensures { λ r. ⌜ Fills (listAnswer datatypes (now (s .entry)) (length (now (out .entry)))) (now (out .entry)) (now (out .exit)) r ⌝ }
+{
+    let code = code_bytes(s, h);
+    let end = put_list(terms, n, datatypes, code, h.names, out, 0, false);
+    if out.len() < end {
+        return Written::Refused(Refusal {
+            number: 16,
+            place: 0,
+        });
+    }
+    put_list(terms, n, datatypes, code, h.names, out, 0, true);
+    Written::Length(end)
+}
+
+// The datatype list, or else the atom list: the sheet's term, and then what its labels add.
+fn label_list(s: &[u8], datatypes: bool, out: &mut [u16]) -> Written
+    ensures { λ r. ⌜ Fills (listAnswer datatypes (now (s .entry)) (length (now (out .entry)))) (now (out .entry)) (now (out .exit)) r ⌝ }
+{
+    let mut terms = [0u16; TERM_NUMBERS];
+    let found = sheet_term(s, &mut terms);
+    match found {
+        SheetTerm::Refused(refusal) => Written::Refused(refusal),
+        SheetTerm::Held(h, n) => list(s, h, &terms, n, datatypes, out),
+    }
+}
+
+// The atom list: the number of a name and a parameter count for each atom.
+pub fn atom_list(s: &[u8], out: &mut [u16]) -> Written
+    ensures { λ r. ⌜ Fills (atomsAnswer (now (s .entry)) (length (now (out .entry)))) (now (out .entry)) (now (out .exit)) r ⌝ }
+{
+    label_list(s, false, out)
+}
+
+// The datatype list: the number of a name for each datatype.
+pub fn datatype_list(s: &[u8], out: &mut [u16]) -> Written
+    ensures { λ r. ⌜ Fills (datatypesAnswer (now (s .entry)) (length (now (out .entry)))) (now (out .entry)) (now (out .exit)) r ⌝ }
+{
+    label_list(s, true, out)
+}
 
 // The label count.
 pub fn label_count(s: &[u8]) -> Counted
@@ -28,7 +83,7 @@ pub fn compare(s: &[u8], i: usize, j: usize) -> Answer
     comparison::compare(s, i, j)
 }
 
-// What the board program lends, and so its room.
+// The bytes that the board program lends.
 pub const BOARD_ROOM: usize = 65536;
 
 // `refused R at P` and a newline.
