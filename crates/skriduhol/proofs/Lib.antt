@@ -1,3 +1,4 @@
+pub mod Texts
 pub mod Lists
 pub mod Accuracy
 pub mod Board
