@@ -23,7 +23,7 @@ pub fn sound(seeds: u64) -> Vec<Named> {
 
 /// The oracle's worst cases.
 pub fn worst() -> Vec<Named> {
-    [Kind::Worst, Kind::Slowest].into_iter().flat_map(|kind| fixed(kind)).collect()
+    [Kind::Worst, Kind::Slowest].into_iter().flat_map(fixed).collect()
 }
 
 fn fixed(kind: Kind) -> Vec<Named> {
@@ -136,8 +136,10 @@ fn deep(row: &[Level], props: &[Formula; 3]) -> Vec<u8> {
     Plain { names, props: props.iter().map(code).collect(), steps, goal: 0 }.bytes()
 }
 
+type Nesting = fn(Formula) -> Formula;
+
 /// Ways to nest a proposition.
-const NESTINGS: [(&str, fn(Formula) -> Formula); 6] = [
+const NESTINGS: [(&str, Nesting); 6] = [
     ("left of ∧", |f| and(f, atom(0))),
     ("right of ∨", |f| or(atom(0), f)),
     ("left of ⊃", |f| implies(f, atom(0))),
