@@ -1,14 +1,11 @@
 -- The labels of a term fit, and so do those of its parts and the record's own: what they name is among what the term's labels name.
 use Prim.Native.Nat.{ℕ, _+_, _≤_, _<_}
-use mathlib.Core.Path.{_≡_, refl, sym}
-use mathlib.Core.Bool.{true, true≢false}
-use mathlib.Core.Logic.{by-cases, ⊎-elim}
+use mathlib.Core.Path.{_≡_, refl}
+use mathlib.Core.Bool.{true}
+use mathlib.Core.Logic.{⊎-elim}
 use mathlib.Core.Option.{Option, none, some}
-use mathlib.Core.List.{List, [], _∷_, _++_, List·Memᴰ, List·Memᴰ·head, List·Memᴰ·not-nil, List·Memᴰ·append-cases, List·Memᴰ·eq-of-singleton}
+use mathlib.Core.List.{List, [], _++_, List·Memᴰ, List·Memᴰ·head, List·Memᴰ·not-nil, List·Memᴰ·append-cases, List·Memᴰ·eq-of-singleton}
 use native.Mathlib.Omega.{arith}
-use native.Mathlib.Decide.{ℕ-discrete}
-use lib.Dec.{eqb}
-use borrow.Author.Tests.{ne-eqb, not-true}
 use Rattle.definitions.specs.Prop.{Prop}
 use Rattle.definitions.specs.Term.{Label, proposition, datatype, ProofTerm, Ident, Pair, Named, Function, Application, LetIn, Case, TypeAscription, Unit, Sorry, ofLabel, ofLabels, labelDatatypes, datatypeList}
 use Rattle.prefix_code.specs.PropAt.{propAt, Present}
@@ -16,17 +13,15 @@ use Rattle.proof_term.specs.Records.{fieldAt, labelOf, partCount, termAt}
 use Rattle.proof_term.specs.Counting.{ownAnnotations}
 use Rattle.proof_term.specs.Readable.{LabelBelow, ParameterLabelBelow, NamesBelow, PropositionLabel}
 use Rattle.proof_term_lists.specs.Labels.{hasLabel, LabelFits, LabelsFit}
-use Rattle.proof_term_lists.proofs.Labels.{part-among, own-among}
+use Rattle.proof_term_lists.proofs.Labels.{labelled-kind, part-among, own-among}
 
+-- a record with a label counts as one label
 labelled : (kind label : ℕ) → hasLabel kind label ≡ true → ownAnnotations kind label ≡ 1
-unfolding hasLabel ownAnnotations
-labelled kind label h = by-cases (ℕ-discrete kind 11)
-    (λ e. rw e)
-    (λ other. by-cases (ℕ-discrete kind 4)
-    (λ e. let there = not-true (eqb label 0) (rw e at h) in rw (e, there))
-    (λ another. absurd (true≢false (sym (rw (ne-eqb kind 11 other, ne-eqb kind 4 another) at h)))))
+unfolding ownAnnotations
+labelled kind label h = ⊎-elim (λ e. rw e) (λ e. rw (e .0, e .1)) (labelled-kind kind label h)
 
 module _ {names : ℕ} {code records : List ℕ} {n : ℕ} {props : ℕ → Prop ℕ} (fit : LabelsFit names code records n props) where
+  -- the labels of a part fit
   pub fit-part : (i : ℕ) {part : ℕ} → i < partCount (fieldAt records n 0) → part ≡ fieldAt records n (1 + i) → part < n → LabelsFit names code records part props
   unfolding datatypeList
   fit-part i h is l = record {
@@ -34,6 +29,7 @@ module _ {names : ℕ} {code records : List ℕ} {n : ℕ} {props : ℕ → Prop
     propositions = λ m h. fit .propositions m (omega arith);
   }
 
+  -- the record's own label fits
   pub label-fits : {kind label number : ℕ} → kind ≡ fieldAt records n 0 → label ≡ fieldAt records n 3 → number ≡ fieldAt records n 4 → hasLabel kind label ≡ true
       → LabelFits names code props label number
   unfolding datatypeList labelDatatypes labelOf
@@ -42,7 +38,7 @@ module _ {names : ℕ} {code records : List ℕ} {n : ℕ} {props : ℕ → Prop
     proposition = λ other. rw m (fit .propositions n (omega arith) (record { labelled = rw (k, l) at (labelled kind label h); no-datatype = rw l at other }));
   }
 
--- The datatypes among a term's names are among the names.
+-- The datatypes of a term's labels are among the term's names.
 module _ (names : ℕ) where
   abbrev AllBelow : List ℕ → Type 0
   AllBelow l = (t : ℕ) → List·Memᴰ t l → t < names

@@ -2,7 +2,7 @@
 use Prim.Native.Nat.{ℕ, zero, suc, _+_, _≤_, _<_}
 use mathlib.Core.Path.{_≡_, refl, sym, ap, _∙_}
 use mathlib.Core.Bool.{true, false, true≢false}
-use mathlib.Core.Logic.{by-cases}
+use mathlib.Core.Logic.{_⊎_, inl, inr, ⊎-elim, by-cases}
 use mathlib.Core.Option.{Option, none, some}
 use mathlib.Core.List.{List, [], _∷_, _++_, map, map-append, append-nil, append-assoc, List·Memᴰ, Memᴰ·append-left, Memᴰ·append-right}
 use native.Mathlib.Omega.{arith}
@@ -34,6 +34,15 @@ one-joined f i (suc n) h m = by-cases (decLt i n)
 same-at : {A B : Type 0} (m w : A → B) (l : List A) (d : A) → m d ≡ w d → map m l ≡ map w l → (i : ℕ) → m (getD l i d) ≡ w (getD l i d)
 same-at m w l d p q i = cc (List·getD-map m l i d, List·getD-map w l i d)
 
+-- the records that have a label: an ascription, and a function whose parameter's label is there
+pub labelled-kind : (kind label : ℕ) → hasLabel kind label ≡ true → (kind ≡ 11) ⊎ ((kind ≡ 4) × (eqb label 0 ≡ false))
+unfolding hasLabel
+labelled-kind kind label h = by-cases (ℕ-discrete kind 11)
+    inl
+    (λ other. by-cases (ℕ-discrete kind 4)
+    (λ e. inr (e, not-true (eqb label 0) (rw e at h)))
+    (λ another. absurd (true≢false (sym (rw (ne-eqb kind 11 other, ne-eqb kind 4 another) at h)))))
+
 -- What a label adds, whatever that is.
 module _ {A : Type 0} (add : Label ℕ → List A) (props : ℕ → Prop ℕ) where
   -- what a record's own label adds, by the kind of the record, the kind of the label and its number
@@ -41,7 +50,7 @@ module _ {A : Type 0} (add : Label ℕ → List A) (props : ℕ → Prop ℕ) wh
   ownTable kind number =
       [] ∷ [] ∷ [] ∷ [] ∷ ofLabel add (parameterLabel props kind number) ∷ [] ∷ [] ∷ [] ∷ [] ∷ [] ∷ [] ∷ add (labelOf props kind number) ∷ [] ∷ [] ∷ []
 
-  pub ofOwn : ℕ → ℕ → ℕ → List A
+  ofOwn : ℕ → ℕ → ℕ → List A
   ofOwn record-kind kind number = getD (ownTable kind number) record-kind []
 
   module _ (number : ℕ → ℕ) (d e : ℕ) where
@@ -80,12 +89,8 @@ module _ {A : Type 0} (add : Label ℕ → List A) (props : ℕ → Prop ℕ) wh
         none-at (suc n) (suc i) = none-at n i
 
     owned : hasLabel kind label ≡ true → ofOwn kind label number ≡ add (labelOf props label number)
-    unfolding hasLabel ofOwn ofLabel parameterLabel
-    owned h = by-cases (ℕ-discrete kind 11)
-        (λ e. rw e)
-        (λ other. by-cases (ℕ-discrete kind 4)
-        (λ e. let there = not-true (eqb label 0) (rw e at h) in rw (e, there))
-        (λ another. absurd (true≢false (sym (rw (ne-eqb kind 11 other, ne-eqb kind 4 another) at h)))))
+    unfolding ofOwn ofLabel parameterLabel
+    owned h = ⊎-elim (λ e. rw e) (λ e. rw (e .0, e .1)) (labelled-kind kind label h)
 
     unowned : hasLabel kind label ≡ false → ofOwn kind label number ≡ []
     unfolding hasLabel ofOwn ofLabel parameterLabel

@@ -43,7 +43,18 @@ abbrev put-list-μ-parts : put-list-lts.MeasureT-parts
 put-list-μ-parts records n datatypes code names out₀ to write kind parts position₀ i₀ out position i = parts - i
 
 abbrev claims : ℕ → put-list-lts.Claims
-claims t = (field-reads.Asked, field-reads.Learnt, part-count-reads.Asked, part-count-reads.Learnt, put-list-below t, put-list.Post, has-label-reads.Asked, has-label-reads.Learnt, put-label-reads.Asked, put-label-reads.Learnt)
+claims t = (
+  field-reads.Asked,
+  field-reads.Learnt,
+  part-count-reads.Asked,
+  part-count-reads.Learnt,
+  put-list-below t,
+  put-list.Post,
+  has-label-reads.Asked,
+  has-label-reads.Learnt,
+  put-label-reads.Asked,
+  put-label-reads.Learnt,
+)
 
 put-list-field-requires : (t : ℕ) → put-list-lts.Need-field-requires (claims t) (put-list-at t) put-list.Post put-list-Inv-parts put-list-μ-parts
 put-list-field-requires t c κs = omega arith
