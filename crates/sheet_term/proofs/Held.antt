@@ -1,6 +1,7 @@
 -- What the walk's outcome over an accepted sheet gives to the readers of its term.
 use Prim.Native.Nat.{ℕ, _-_}
 use mathlib.Core.Path.{_≡_, _∙_}
+use mathlib.Core.Logic.{⊎-elim}
 use mathlib.Core.List.{List}
 use native.Mathlib.Omega.{arith}
 use lib.ListN.{length}
@@ -13,7 +14,8 @@ use Rattle.definitions.specs.Export.{export, checking}
 use Rattle.definitions.specs.Admission.{badCode, admitted}
 use Rattle.definitions.specs.Answers.{sheetTerm}
 use Rattle.definitions.proofs.PrefixCode.{Bytes}
-use Rattle.prefix_code.proofs.Reading.{part-bytes}
+use Rattle.prefix_code.specs.PropAt.{Present}
+use Rattle.prefix_code.proofs.Reading.{part-bytes, present-in}
 use Rattle.proof_term.specs.Readable.{NamesBelow}
 use Rattle.sheet.specs.Header.{headerOf}
 use Rattle.sheet.specs.declared.header.Sheet.{Sheet}
@@ -21,6 +23,7 @@ use Rattle.sheet.proofs.Admitted.{AcceptedSheet, has-codes}
 use Rattle.proof_tree.specs.declared.Exported.{Exported}
 use Rattle.proof_tree.specs.declared.Exported.the-variants.{Term, Refused}
 use Rattle.proof_tree.specs.Exporting.{LabelOffset, StepExported}
+use Rattle.proof_tree.proofs.Conclusions.{left-present}
 use Rattle.proof_tree.proofs.Labels.{has-label}
 use Rattle.proof_tree.proofs.ExportedNames.{exported-names}
 use Rattle.proof_tree.proofs.GoodSteps.{known-proposition}
@@ -51,9 +54,16 @@ module _ {s : List ℕ} {h : Sheet} (a : AcceptedSheet s h) where
 
   -- Over bytes:
   module _ (bytes : Bytes s) where
-    code-of-bytes : Bytes (codeBytes s)
+    pub code-of-bytes : Bytes (codeBytes s)
     unfolding codeBytes
     code-of-bytes = part-bytes (codeLength s) (codeStart s) s bytes
+
+    -- a proposition stands at the offset of a label
+    pub label-present : {offset : ℕ} → LabelStands s offset → Present (names s) (codeBytes s) offset
+    unfolding badCode
+    label-present l =
+        let whole = present-in _ (propositionPairs s) _ (l .number) code-of-bytes (has-codes (a .sheet) .decoded (l .number) (l .below)) in
+        ⊎-elim (λ is. rw is whole) (λ is. rw (is .1) (left-present whole (is .0))) (l .stands)
 
     names-below : (t : ProofTerm ℕ) → export (treeIn (names s) (propositionPairs s) (codeBytes s) (stepRecords s) (steps s - 1)) checking ≡ accepted t → NamesBelow (names s) t
     unfolding badCode headerOf
@@ -72,6 +82,7 @@ module _ {s : List ℕ} {h : Sheet} (a : AcceptedSheet s h) where
           let range = a .sheet .in-range in
           record {
             is-term = root-outcome ∙ t .holds;
+            room = room;
             held = omega (arith, t .low, t .high, most, range .steps, range .some-step);
             few = omega (arith, t .small, t .high, most, range .steps);
             below = names-below _ (t .holds);

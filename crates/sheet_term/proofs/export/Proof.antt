@@ -26,8 +26,8 @@ export-as-proof-term-requires c κs =
 enum-known-exported : tie.Need-enum-known-exported
 enum-known-exported c = search needs
 
-sub-t16 : tie.Need-sub-t16
-sub-t16 c = omega (arith, term-of (c .before .before .before .export-as-proof-term .ensures) (c .before .exported .given .1) .low)
+sub-last : tie.Need-sub-last
+sub-last c = omega (arith, term-of (c .before .before .before .export-as-proof-term .ensures) (c .before .exported .given .1) .low)
 
 enum-known-exported-2 : tie.Need-enum-known-exported-2
 enum-known-exported-2 c = search needs
@@ -53,7 +53,7 @@ export-spec =
     step-records-requires
     export-as-proof-term-requires
     enum-known-exported
-    sub-t16
+    sub-last
     enum-known-exported-2
     returns
     returns-2)
