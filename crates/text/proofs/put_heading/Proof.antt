@@ -1,6 +1,6 @@
 -- The lines of the atoms, a newline, the lines of the datatypes and two newlines, one after another.
 use Rattle.definitions.specs.Sheet.{nameOf}
-use Rattle.text.proofs.Accepted.{its-header}
+use Rattle.sheet.proofs.Admitted.{its-header}
 use Rattle.text.proofs.Heading.{heading-written}
 use borrow.Author.Needs.{needs}
 use Rattle.text.proofs.put_heading.Statement.{statement}
