@@ -18,7 +18,7 @@ module _ {s : List ℕ} {h : Sheet} (a : AcceptedSheet s h) where
   unfolding pairSize
   name-marked i below = record { present = omega (arith, has-names (a .sheet) .present); ends = has-names (a .sheet) .ends i below }
 
-  -- so is the goal's
+  -- the goal's pair is there
   pub goal-pair : pairSize * (h .goal + 1) ≤ length (propositionPairs s)
   unfolding pairSize headerOf
   goal-pair = rw (a .header) (omega (arith, has-codes (a .sheet) .pairs-within .present, a .sheet .in-range .goal))

@@ -19,7 +19,7 @@ use Rattle.sheet.proofs.Admitted.{has-codes}
 use Rattle.sheet_term.specs.Held.{LabelStands}
 use Rattle.text.specs.Declaring.{EndsKnown}
 
--- what holds where each proposition stands, and with an implication of its left side, holds where a label stands
+-- what holds where each proposition stands, and of an implication also where its left side does, holds where a label stands
 at-label : {s : List ℕ} {offset : ℕ} (P : ℕ → Type 0) → ((i : ℕ) → i < propositions s → P (pairOffset (propositionPairs s) i))
     → ((at : ℕ) → getD (codeBytes s) at 0 ≡ 4 → P at → P (at + 1)) → LabelStands s offset → P offset
 at-label P whole left label =
