@@ -5,4 +5,3 @@ pub mod Search
 pub mod Noting
 pub mod Threads
 pub mod Lines
-pub mod Labels

@@ -11,7 +11,8 @@ use Rattle.definitions.specs.Name.{Name, eqName}
 use Rattle.definitions.specs.Prop.{AtomUse}
 use Rattle.definitions.specs.Utf8.{utf8}
 use Rattle.definitions.specs.Text.{occurs, firstsAfter, firsts, eqAtomUse, atomDeclaration, followingLines, joinLines, atomDeclarations, datatypeDeclarations}
-use Rattle.declarations.specs.Declared.{useOf, useOver, usesOver, datatypeUses, entryAt, entriesOf, Noted}
+use Rattle.proof_term_lists.specs.Labels.{useOf, datatypeUses}
+use Rattle.declarations.specs.Declared.{useOver, usesOver, entryAt, entriesOf, Noted}
 use Rattle.declarations.specs.Lines.{breakBefore, declaration, declarationLines}
 
 following-more : (ls : List (List ℕ)) (l : List ℕ) → followingLines (ls ++ (l ∷ [])) ≡ followingLines ls ++ (utf8 "\n" ++ l)

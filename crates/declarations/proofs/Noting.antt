@@ -14,7 +14,8 @@ use Rattle.definitions.specs.Prop.{AtomUse}
 use Rattle.definitions.specs.Code.{parameterLimit}
 use Rattle.definitions.specs.Sheet.{marked}
 use Rattle.definitions.specs.Text.{occurs, firsts, eqAtomUse}
-use Rattle.declarations.specs.Declared.{useOf, useOver, usesOver, entriesOf, flagOf, flagged, Marks, Held, Notable, Noted, Notes, Searchable}
+use Rattle.proof_term_lists.specs.Labels.{useOf}
+use Rattle.declarations.specs.Declared.{useOver, usesOver, entriesOf, flagOf, flagged, Marks, Held, Notable, Noted, Notes, Searchable}
 use Rattle.declarations.proofs.Firsts.{occurs-append, occurs-firsts, firsts-known, firsts-new, eqAtomUse-true, eqAtomUse-refl}
 use Rattle.declarations.proofs.Declared.{flagged-few, flagged-more, entries-kept}
 

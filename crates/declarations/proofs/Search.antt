@@ -14,7 +14,8 @@ use Rattle.definitions.specs.Prop.{AtomUse}
 use Rattle.definitions.specs.Sheet.{pairOffset, pairLength, pairEnd, marked}
 use Rattle.definitions.specs.Text.{occurs, eqAtomUse}
 use Rattle.identifier.proofs.Equality.{eqName-lengths, eqName-differ, eqName-alike}
-use Rattle.declarations.specs.Declared.{useOf, useOver, usesOver, entryAt, entriesOf, Marks, Searchable}
+use Rattle.proof_term_lists.specs.Labels.{useOf}
+use Rattle.declarations.specs.Declared.{useOver, usesOver, entryAt, entriesOf, Marks, Searchable}
 use Rattle.declarations.proofs.Firsts.{occurs-append}
 
 -- the bytes of a name, in the text

@@ -11,6 +11,7 @@ use Rattle.definitions.specs.Code.{parameterLimit}
 use Rattle.definitions.specs.Sheet.{pairSize, pairEnd, marked}
 use Rattle.prefix_code.specs.Scan.{At}
 use Rattle.definitions.specs.Text.{occurs, firsts, eqAtomUse}
+use Rattle.proof_term_lists.specs.Labels.{useOf, datatypeUses}
 
 -- a use and a list of them, over the bytes of the names
 abbrev pub useOver : (ℕ → Name) → AtomUse ℕ → AtomUse Name
@@ -18,9 +19,6 @@ useOver f a = record { name = f (a .name); count = a .count }
 
 abbrev pub usesOver : (ℕ → Name) → List (AtomUse ℕ) → List (AtomUse Name)
 usesOver f l = map (useOver f) l
-
-abbrev pub useOf : ℕ → ℕ → AtomUse ℕ
-useOf name count = record { name = name; count = count }
 
 -- declaration j
 abbrev pub entryAt : List ℕ → ℕ → AtomUse ℕ
@@ -80,10 +78,6 @@ pub record Searchable (pairs text declared : List ℕ) (len name : ℕ) : Type 0
 pub record Named (pairs text seen : List ℕ) (names : ℕ) : Type 0 where
   pub marks : (name : ℕ) → name < names → Marks pairs text name
   pub flags : flagOf names 0 ≤ length seen
-
--- datatypes as uses
-abbrev pub datatypeUses : List ℕ → List (AtomUse ℕ)
-datatypeUses ts = map (λ t. useOf t 0) ts
 
 -- what a proposition adds: its datatypes, or its atoms
 abbrev pub listed : Bool → Prop ℕ → List (AtomUse ℕ)

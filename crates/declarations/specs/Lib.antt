@@ -1,4 +1,3 @@
 -- What the functions that note declarations and write them say.
 pub mod Declared
 pub mod Lines
-pub mod Labels

@@ -8,10 +8,9 @@ use output::put_decimal;
 use output::put_name;
 use prefix_code::scan;
 use proof_term::DATATYPE;
-use proof_term::FUNCTION;
-use proof_term::NO_LABEL;
-use proof_term::TYPE_ASCRIPTION;
 use proof_term::field;
+use proof_term::part_count;
+use proof_term_lists::has_label;
 use prop_lists::NextAtom;
 use prop_lists::NextDatatype;
 use prop_lists::next_atom;
@@ -27,9 +26,9 @@ ghost use Rattle.definitions.specs.Sheet.{marked};
 ghost use Rattle.definitions.specs.Text.{occurs, eqAtomUse};
 ghost use Rattle.prop_lists.specs.Row.{Row};
 ghost use Rattle.prop_lists.specs.Entries.{atomsFrom, datatypesFrom};
-ghost use Rattle.declarations.specs.Declared.{useOf, useOver, usesOver, datatypeUses, entriesOf, listed, Marks, Held, Named, Notable, Notes, Searchable, SomeProp};
-ghost use Rattle.proof_term.specs.Records.{recordSize, partCount, labelOf, termAt};
-ghost use Rattle.declarations.specs.Labels.{labelUses, termUses, hasLabel, LabelFits, LabelsFit, SomeLabel, SomeLabels};
+ghost use Rattle.declarations.specs.Declared.{useOver, usesOver, entriesOf, listed, Marks, Held, Named, Notable, Notes, Searchable, SomeProp};
+ghost use Rattle.proof_term.specs.Records.{recordSize, labelOf, termAt};
+ghost use Rattle.proof_term_lists.specs.Labels.{useOf, datatypeUses, labelUses, termUses, LabelFits, LabelsFit, SomeLabel, SomeLabels};
 ghost use Rattle.declarations.specs.Lines.{countText, breakBefore, declaration, declarationLines};
 
 // The flags of a name: one for each count from 0 to 8.
@@ -175,32 +174,6 @@ pub fn note_prop(
         return note_datatypes(code, at, end, names, declared, len, seen, pairs, text);
     }
     note_atoms(code, at, end, names, declared, len, seen, pairs, text)
-}
-
-// How many of a record's numbers are parts, for each kind.
-const PART_COUNTS: [usize; 14] = [0, 2, 1, 1, 1, 2, 2, 1, 1, 3, 1, 1, 0, 0];
-
-// How many parts a record of this kind has; an unknown kind has none.
-fn part_count(kind: usize) -> usize
-    ensures { λ r. ⌜ r ≡ partCount kind ⌝ }
-{
-    if kind < 14 {
-        return PART_COUNTS[kind];
-    }
-    0
-}
-
-// Whether a record has a label: an ascription, or a function whose parameter has one.
-fn has_label(kind: usize, label: usize) -> bool
-    ensures { λ r. ⌜ r ≡ hasLabel kind label ⌝ }
-{
-    if kind == TYPE_ASCRIPTION {
-        return true;
-    }
-    if kind == FUNCTION {
-        return label != NO_LABEL;
-    }
-    false
 }
 
 // Notes the datatype of a label, or else the atoms of its proposition.

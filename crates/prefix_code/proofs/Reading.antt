@@ -41,7 +41,7 @@ inside {names} {l} {at} h =
     record { start = start; end = end; known = known-at names l at (h .rest) (propAt names l at) (h .stands) }
 
 -- bytes stay bytes in a part
-part-bytes : (n k : ℕ) (l : List ℕ) → Bytes l → Bytes (take n (drop k l))
+pub part-bytes : (n k : ℕ) (l : List ℕ) → Bytes l → Bytes (take n (drop k l))
 part-bytes n k l bytes i = by-cases (decLt i n)
     (λ h. rw (getD-take n (drop k l) i 0 h, getD-drop) (bytes (k + i)))
     (λ h. rw (List·getD-eq-default (take n (drop k l)) 0 {n = i} (omega (arith, length-take n (drop k l)))) (omega arith))

@@ -264,7 +264,7 @@ pub fn field(records: &[u16], n: usize, i: usize) -> usize
 }
 
 // How many parts a record of this kind has; an unknown kind has none.
-fn part_count(kind: usize) -> usize
+pub fn part_count(kind: usize) -> usize
     ensures { λ r. ⌜ r ≡ partCount kind ⌝ }
 {
     if kind < 14 {

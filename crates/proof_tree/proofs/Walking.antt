@@ -1,5 +1,5 @@
 -- The walk at one step: its premisses are counted, then read, then its term is placed.
-use Prim.Native.Nat.{ℕ, _+_, _*_, _-_, _≤_, _<_}
+use Prim.Native.Nat.{ℕ, _+_, _-_, _≤_}
 use mathlib.Core.Path.{_≡_, _∙_}
 use mathlib.Core.Bool.{true, false, not}
 use mathlib.Core.List.{List}
@@ -16,17 +16,14 @@ use Rattle.definitions.specs.Export.{Place, admitsCount, places, placedTerm, ex
 use Rattle.steps.specs.Size.{size, sizes}
 use Rattle.steps.proofs.Premisses.{seam, tree-steps, premisses-counted}
 use Rattle.steps.proofs.Tables.{size-table-shorter}
-use Rattle.proof_term.specs.Records.{recordSize}
-use Rattle.proof_term.specs.Counting.{Small}
 use Rattle.proof_tree.specs.declared.table.Row.{Row}
 use Rattle.proof_tree.specs.declared.Exported.{Exported}
 use Rattle.proof_tree.specs.declared.Exported.the-variants.{Term, Refused}
-use Rattle.prefix_code.specs.PropAt.{propAt}
 use Rattle.proof_tree.specs.Table.{TableRow}
 use Rattle.proof_tree.specs.Premisses.{premissesFrom}
 use Rattle.proof_tree.specs.Terms.{firstThree}
 use Rattle.proof_tree.specs.Exportable.{Exportable}
-use Rattle.proof_tree.specs.Exporting.{ExportedTerm, Answered, gives, refuses, RoomFor, StepPlaced, StepExported}
+use Rattle.proof_tree.specs.Exporting.{ExportedTerm, Answered, gives, refuses, StepPlaced, StepExported}
 use Rattle.proof_tree.proofs.ReadPremisses.{PremissesRead, three-parts, grown-then, read-all}
 
 -- fewer steps can be exported too
@@ -113,13 +110,3 @@ module _ {names : ℕ} {pairs code records : List ℕ} {k : ℕ} {row : Row} (pl
         high = omega (arith, t .high, read .high, size-tree names pairs code records k);
         grown = grown-then (omega (arith, read .low)) (read .grown) (t .grown);
       })
-
--- the term of the last of so many steps has its record within the room, and has few nodes
-pub last-small : (steps : ℕ) (place : Place) {names : ℕ} {pairs code records : List ℕ} {before after : List ℕ} {r : Exported} {next : ℕ} → 0 < steps → RoomFor before (2 * steps) → length after ≡ length before
-    → StepExported names pairs code records (steps - 1) place before 0 after r → r ≡ Term next → (recordSize * (next - 1 + 1) ≤ length after) × Small after (next - 1)
-last-small steps place {names} {pairs} {code} {records} h room same a e =
-    let t = term-of a e in
-    let size = size-within names pairs code records (steps - 1) in (
-      omega (arith, t .low, t .high, size, room .room),
-      record { props = propAt names code; few = omega (arith, t .small, t .high, size, room .few) },
-    )

@@ -16,9 +16,6 @@ use Rattle.proof_term.specs.Making.{Kept}
 use Rattle.proof_term.specs.Counting.{termSize}
 use Rattle.proof_tree.specs.declared.Exported.{Exported}
 use Rattle.proof_tree.specs.declared.Exported.the-variants.{Term, Refused}
-use Rattle.proof_tree.specs.declared.Counted.{Counted}
-use Rattle.proof_tree.specs.declared.Counted.the-variants as counted
-use Rattle.proof_tree.specs.declared.Counted.the-variants.{Labels}
 use Rattle.prefix_code.specs.PropAt.{propAt}
 use Rattle.proof_tree.specs.Terms.{HasLabel, partTerms, termSizes}
 
@@ -68,8 +65,3 @@ abbrev pub StepPlaced : ℕ → List ℕ → List ℕ → List ℕ → ℕ → P
 StepPlaced names pairs code records k place reads parts before used after r =
     let ts = partTerms (termAt (propAt names code) before) reads parts in
     Answered names pairs code records k (placedTerm place (stepIn names pairs code records k) ts) before used (termSizes ts) (used + 1 - reads) (used + 2) after r
-
--- a label count as the program answers it
-unfoldable pub countedOf : Outcome ℕ → Counted
-countedOf (accepted n) = Labels n
-countedOf (refused r) = counted.Refused r

@@ -11,7 +11,6 @@ use conclusion::annotation_of;
 use conclusion::conclusion_of;
 use definitions::Refusal;
 use proof_term::PROPOSITION;
-use proof_term::annotation_count;
 use proof_term::type_ascription;
 use step::premiss;
 use step::premiss_count;
@@ -28,27 +27,19 @@ ghost use Prim.Native.Nat.{ℕ, _+_, _*_, _-_, _<_};
 ghost use mathlib.Core.Path.{_≡_};
 ghost use lib.ListN.{getD};
 ghost use Rattle.definitions.specs.Tree.{ruleIn, treeIn};
-ghost use Rattle.definitions.specs.Outcome.{mapOutcome};
-ghost use Rattle.definitions.specs.Term.{annotationCount};
-ghost use Rattle.definitions.specs.Export.{checking, export};
+ghost use Rattle.definitions.specs.Export.{checking};
 ghost use Rattle.steps.specs.Size.{size};
 ghost use Rattle.proof_term.specs.Making.{Room};
 ghost use Rattle.proof_tree.specs.Table.{placeOf, endingOf, TableRow};
 ghost use Rattle.proof_tree.specs.Labelling.{endingAt};
 ghost use Rattle.proof_tree.specs.Terms.{Parts, firstThree};
 ghost use Rattle.proof_tree.specs.Exportable.{GoodStep, Exportable};
-ghost use Rattle.proof_tree.specs.Exporting.{RoomFor, StepPlaced, StepExported, countedOf};
+ghost use Rattle.proof_tree.specs.Exporting.{RoomFor, StepPlaced, StepExported};
 ghost use Rattle.proof_tree.specs.Wrapping.{Wrapped};
 
 // A term, by the count of the records that are used after it, of which its own is the last; or a refusal.
 pub enum Exported {
     Term(usize),
-    Refused(Refusal),
-}
-
-// A label count, or a refusal.
-pub enum Counted {
-    Labels(usize),
     Refused(Refusal),
 }
 
@@ -194,25 +185,4 @@ pub fn export_as_proof_term(
         terms,
         0,
     )
-}
-
-// The label count of the sheet's term.
-pub fn label_count(
-    names: usize,
-    pairs: &[u8],
-    code: &[u8],
-    records: &[u8],
-    sizes: &[u16],
-    steps: usize,
-    terms: &mut [u16],
-) -> Counted
-    requires { ⌜ Exportable names (now pairs) (now code) (now records) (now sizes) steps × (0 < steps) ⌝ }
-    requires { ⌜ RoomFor (now terms) (2 * steps) ⌝ }
-    ensures { λ r. ⌜ r ≡ countedOf (mapOutcome annotationCount (export (treeIn names (now (pairs .entry)) (now (code .entry)) (now (records .entry)) (steps - 1)) checking)) ⌝ }
-{
-    let exported = export_as_proof_term(names, pairs, code, records, sizes, steps, terms);
-    match exported {
-        Exported::Term(next) => Counted::Labels(annotation_count(terms, next - 1)),
-        Exported::Refused(r) => Counted::Refused(r),
-    }
 }

@@ -25,9 +25,10 @@ pub record LabelStands (s : List ℕ) (offset : ℕ) : Type 0 where
       let whole = pairOffset (propositionPairs s) number in
       (offset ≡ whole) ⊎ ((getD (codeBytes s) whole 0 ≡ 4) × (offset ≡ whole + 1))
 
--- record n holds the sheet's term: its names are the sheet's, and its proposition labels stand in the code
+-- record n of the whole memory holds the sheet's term: its names are the sheet's, and its proposition labels stand in the code
 pub record HeldTerm (s terms : List ℕ) (n : ℕ) : Type 0 where
   pub is-term : sheetTerm s ≡ accepted (termAt (propAt (names s) (codeBytes s)) terms n)
+  pub room : length terms ≡ 12288
   pub held : recordSize * (n + 1) ≤ length terms
   pub few : termSize (termAt (propAt (names s) (codeBytes s)) terms n) ≤ 65536
   pub below : NamesBelow (names s) (termAt (propAt (names s) (codeBytes s)) terms n)

@@ -6,17 +6,18 @@ use Rattle.definitions.specs.Prop.{Prop}
 use Rattle.proof_term.specs.Records.{fieldAt, partCount}
 use Rattle.proof_term.proofs.Counting.{few-parts}
 use Rattle.declarations.specs.Declared.{Notes}
-use Rattle.declarations.specs.Labels.{LabelsFit}
-use Rattle.declarations.proofs.Labels.{partUses, uses-none, uses-part, uses-unit, with-label, without-label, fit-below, label-fits}
+use Rattle.proof_term_lists.specs.Labels.{labelUses, LabelsFit}
+use Rattle.proof_term_lists.proofs.Labels.{ofParts, parts-none, parts-part, parts-unit, with-label, without-label}
+use Rattle.proof_term_lists.proofs.Fitting.{fit-part, label-fits}
 use Rattle.declarations.proofs.Threads.{notes-none, notes-then, named-still}
 use borrow.Fn.Kinds.{In}
 use borrow.Fn.PlainCycle.{Measures, is, falls, and}
 use Rattle.declarations.proofs.note_term.Reads as note-term
 use Rattle.declarations.proofs.note_term.Kinds as note-term-kinds
 use Rattle.declarations.proofs.+note_term.Lts-note_term as note-term-lts
-use Rattle.declarations.proofs.has_label.Reads as has-label-reads
+use Rattle.proof_term_lists.proofs.has_label.Reads as has-label-reads
 use Rattle.declarations.proofs.note_label.Reads as note-label-reads
-use Rattle.declarations.proofs.part_count.Reads as part-count-reads
+use Rattle.proof_term.proofs.part_count.Reads as part-count-reads
 use Rattle.proof_term.proofs.field.Reads as field-reads
 use Rattle.declarations.proofs.+note_term.{statement}
 use Rattle.declarations.proofs.+note_term.Tie.{close}
@@ -34,7 +35,7 @@ note-term-below t =
 abbrev note-term-Inv-parts : note-term-lts.InvT-parts
 note-term-Inv-parts records n datatypes code names declared₀ len seen₀ pairs text kind parts noted₀ i₀ declared seen noted i =
     (parts ≡ partCount (fieldAt records n 0)) × (i ≤ parts)
-    × ((props : ℕ → Prop ℕ) → LabelsFit names code records n props → Notes pairs text (partUses datatypes props records n i) declared₀ len seen₀ declared noted seen)
+    × ((props : ℕ → Prop ℕ) → LabelsFit names code records n props → Notes pairs text (ofParts (labelUses datatypes) props records n i) declared₀ len seen₀ declared noted seen)
 
 abbrev note-term-μ-parts : note-term-lts.MeasureT-parts
 note-term-μ-parts records n datatypes code names declared₀ len seen₀ pairs text kind parts noted₀ i₀ declared seen noted i = parts - i
@@ -60,7 +61,7 @@ note-term-part-count-requires : (t : ℕ) → note-term-lts.Need-part-count-requ
 note-term-part-count-requires t c κs = tt
 
 note-term-parts-holds : (t : ℕ) → note-term-lts.Need-parts-holds (claims t) (note-term-at t) note-term.Post note-term-Inv-parts note-term-μ-parts
-note-term-parts-holds t c = (cc, omega arith, λ props fit. rw uses-none (notes-none (c .before .before .before .before .before .before .before .before .pre .1 .3)))
+note-term-parts-holds t c = (cc, omega arith, λ props fit. rw parts-none (notes-none (c .before .before .before .before .before .before .before .before .pre .1 .3)))
 
 note-term-add-field : (t : ℕ) → note-term-lts.Need-add-field (claims t) (note-term-at t) note-term.Post note-term-Inv-parts note-term-μ-parts
 note-term-add-field t c = omega (arith, few-parts (c .before .before .before .field .result))
@@ -75,19 +76,19 @@ note-term-parts-less : (t : ℕ) → note-term-lts.Need-parts-less (claims t) (n
 note-term-parts-less t c = omega arith
 
 note-term-parts-again : (t : ℕ) → note-term-lts.Need-parts-again (claims t) (note-term-at t) note-term.Post note-term-Inv-parts note-term-μ-parts
-note-term-parts-again t c = (c .before .before .before .parts .inv .0, omega arith, λ props fit. rw (uses-unit (c .before .before .before .before .before .before .before .before .before .before .before .before .args .datatypes) props (c .before .before .before .before .before .before .before .before .before .before .before .before .args .records .now) (c .before .before .before .before .before .before .before .before .before .before .before .before .args .n) (c .before .before .before .parts .i) (c .before .field2 .ensures .0) (c .if1 .taken)) (c .before .before .before .parts .inv .2 props fit))
+note-term-parts-again t c = (c .before .before .before .parts .inv .0, omega arith, λ props fit. rw (parts-unit (labelUses (c .before .before .before .before .before .before .before .before .before .before .before .before .args .datatypes)) props (c .before .before .before .before .before .before .before .before .before .before .before .before .args .records .now) (c .before .before .before .before .before .before .before .before .before .before .before .before .args .n) (c .before .before .before .parts .i) (c .before .field2 .ensures .0) (c .if1 .taken)) (c .before .before .before .parts .inv .2 props fit))
 
 note-term-note-term-requires : (t : ℕ) → note-term-lts.Need-note-term-requires (claims t) (note-term-at t) note-term.Post note-term-Inv-parts note-term-μ-parts
 note-term-note-term-requires t c κs =
     let some = c .before .before .before .before .before .before .before .before .before .before .before .before .before .before .pre .1 .1 in
     let notes = c .before .before .before .before .before .parts .inv .2 (some .props) (some .fit) in
-    (omega arith, (omega arith, record { props = some .props; fit = fit-below _ (c .before .before .if1 .left) (some .fit) }, named-still (c .before .before .before .before .before .before .before .before .before .before .before .before .before .before .pre .1 .2) (notes .flags), notes .held))
+    (omega arith, (omega arith, record { props = some .props; fit = fit-part (some .fit) (c .before .before .before .before .before .parts .i) (omega arith) (c .before .before .before .field2 .ensures .0) (c .before .before .if1 .left) }, named-still (c .before .before .before .before .before .before .before .before .before .before .before .before .before .before .pre .1 .2) (notes .flags), notes .held))
 
 note-term-parts-less-2 : (t : ℕ) → note-term-lts.Need-parts-less-2 (claims t) (note-term-at t) note-term.Post note-term-Inv-parts note-term-μ-parts
 note-term-parts-less-2 t c = omega arith
 
 note-term-parts-again-2 : (t : ℕ) → note-term-lts.Need-parts-again-2 (claims t) (note-term-at t) note-term.Post note-term-Inv-parts note-term-μ-parts
-note-term-parts-again-2 t c = (c .before .before .before .before .before .before .before .before .before .before .parts .inv .0, omega arith, λ props fit. rw (uses-part (c .before .before .before .before .before .before .before .before .before .before .before .before .before .before .before .before .before .before .before .args .datatypes) props (c .before .before .before .before .before .before .before .before .before .before .before .before .before .before .before .before .before .before .before .args .records .now) (c .before .before .before .before .before .before .before .before .before .before .before .before .before .before .before .before .before .before .before .args .n) (c .before .before .before .before .before .before .before .before .before .before .parts .i) (c .before .before .before .before .before .before .before .before .field2 .ensures .0) (c .before .before .before .before .before .before .before .if1 .left)) (notes-then (c .before .before .before .before .before .before .before .before .before .before .parts .inv .2 props fit) (c .before .before .before .before .note-term .ensures props (fit-below _ (c .before .before .before .before .before .before .before .if1 .left) fit))))
+note-term-parts-again-2 t c = (c .before .before .before .before .before .before .before .before .before .before .parts .inv .0, omega arith, λ props fit. rw (parts-part (labelUses (c .before .before .before .before .before .before .before .before .before .before .before .before .before .before .before .before .before .before .before .args .datatypes)) props (c .before .before .before .before .before .before .before .before .before .before .before .before .before .before .before .before .before .before .before .args .records .now) (c .before .before .before .before .before .before .before .before .before .before .before .before .before .before .before .before .before .before .before .args .n) (c .before .before .before .before .before .before .before .before .before .before .parts .i) (c .before .before .before .before .before .before .before .before .field2 .ensures .0) (c .before .before .before .before .before .before .before .if1 .left)) (notes-then (c .before .before .before .before .before .before .before .before .before .before .parts .inv .2 props fit) (c .before .before .before .before .note-term .ensures props (fit-part fit (c .before .before .before .before .before .before .before .before .before .before .parts .i) (omega arith) (c .before .before .before .before .before .before .before .before .field2 .ensures .0) (c .before .before .before .before .before .before .before .if1 .left)))))
 
 note-term-field-requires-3 : (t : ℕ) → note-term-lts.Need-field-requires-3 (claims t) (note-term-at t) note-term.Post note-term-Inv-parts note-term-μ-parts
 note-term-field-requires-3 t c κs = omega arith
@@ -102,14 +103,14 @@ note-term-note-label-requires : (t : ℕ) → note-term-lts.Need-note-label-requ
 note-term-note-label-requires t c κs =
     let some = c .before .before .before .before .before .before .before .before .before .before .before .before .before .before .before .before .pre .1 .1 in
     let notes = c .before .before .before .before .before .before .before .parts .inv .2 (some .props) (some .fit) in
-    let fits = label-fits _ _ _ (some .fit) (c .before .before .before .before .before .before .before .before .before .field .ensures .0) (c .before .before .before .before .before .field3 .ensures .0) (c .before .before .before .before .field4 .ensures .0) (sym (c .before .before .before .has-label .ensures) ∙ c .before .before .if2 .taken) in
+    let fits = label-fits (some .fit) (c .before .before .before .before .before .before .before .before .before .field .ensures .0) (c .before .before .before .before .before .field3 .ensures .0) (c .before .before .before .before .field4 .ensures .0) (sym (c .before .before .before .has-label .ensures) ∙ c .before .before .if2 .taken) in
     (record { props = some .props; fits = fits }, named-still (c .before .before .before .before .before .before .before .before .before .before .before .before .before .before .before .before .pre .1 .2) (notes .flags), notes .held, c .before .before .before .before .field4 .ensures .1)
 
 note-term-returns : (t : ℕ) → note-term-lts.Need-returns (claims t) (note-term-at t) note-term.Post note-term-Inv-parts note-term-μ-parts
 note-term-returns t c =
     let all : c .before .before .before .before .before .before .before .before .before .before .before .before .parts .i ≡ partCount (fieldAt (c .before .before .before .before .before .before .before .before .before .before .before .before .before .before .before .before .before .before .before .before .before .args .records .now) (c .before .before .before .before .before .before .before .before .before .before .before .before .before .before .before .before .before .before .before .before .before .args .n) 0) = omega arith in
-    λ props fit. rw (with-label (c .before .before .before .before .before .before .before .before .before .before .before .before .before .before .before .before .before .before .before .before .before .args .datatypes) props (c .before .before .before .before .before .before .before .before .before .before .before .before .before .before .before .before .before .before .before .before .before .args .records .now) (c .before .before .before .before .before .before .before .before .before .before .before .before .before .before .before .before .before .before .before .before .before .args .n) all (c .before .before .before .before .before .before .before .before .before .before .before .before .before .before .field .ensures .0) (c .before .before .before .before .before .before .before .before .before .before .field3 .ensures .0) (c .before .before .before .before .before .before .before .before .before .field4 .ensures .0) (sym (c .before .before .before .before .before .before .before .before .has-label .ensures) ∙ c .before .before .before .before .before .before .before .if2 .taken))
-    (notes-then (c .before .before .before .before .before .before .before .before .before .before .before .before .parts .inv .2 props fit) (c .before .before .before .before .note-label .ensures props (label-fits _ _ _ fit (c .before .before .before .before .before .before .before .before .before .before .before .before .before .before .field .ensures .0) (c .before .before .before .before .before .before .before .before .before .before .field3 .ensures .0) (c .before .before .before .before .before .before .before .before .before .field4 .ensures .0) (sym (c .before .before .before .before .before .before .before .before .has-label .ensures) ∙ c .before .before .before .before .before .before .before .if2 .taken))))
+    λ props fit. rw (with-label (labelUses (c .before .before .before .before .before .before .before .before .before .before .before .before .before .before .before .before .before .before .before .before .before .args .datatypes)) props (c .before .before .before .before .before .before .before .before .before .before .before .before .before .before .before .before .before .before .before .before .before .args .records .now) (c .before .before .before .before .before .before .before .before .before .before .before .before .before .before .before .before .before .before .before .before .before .args .n) all (c .before .before .before .before .before .before .before .before .before .before .before .before .before .before .field .ensures .0) (c .before .before .before .before .before .before .before .before .before .before .field3 .ensures .0) (c .before .before .before .before .before .before .before .before .before .field4 .ensures .0) (sym (c .before .before .before .before .before .before .before .before .has-label .ensures) ∙ c .before .before .before .before .before .before .before .if2 .taken))
+    (notes-then (c .before .before .before .before .before .before .before .before .before .before .before .before .parts .inv .2 props fit) (c .before .before .before .before .note-label .ensures props (label-fits fit (c .before .before .before .before .before .before .before .before .before .before .before .before .before .before .field .ensures .0) (c .before .before .before .before .before .before .before .before .before .before .field3 .ensures .0) (c .before .before .before .before .before .before .before .before .before .field4 .ensures .0) (sym (c .before .before .before .before .before .before .before .before .has-label .ensures) ∙ c .before .before .before .before .before .before .before .if2 .taken))))
 
 note-term-same-length : (t : ℕ) → note-term-lts.Need-same-length (claims t) (note-term-at t) note-term.Post note-term-Inv-parts note-term-μ-parts
 note-term-same-length t c = note-term-returns t c (c .before .before .before .before .before .before .before .before .before .before .before .before .before .before .before .before .before .before .before .before .before .pre .1 .1 .props) (c .before .before .before .before .before .before .before .before .before .before .before .before .before .before .before .before .before .before .before .before .before .pre .1 .1 .fit) .sized
@@ -120,7 +121,7 @@ note-term-same-length-2 t c = note-term-returns t c (c .before .before .before .
 note-term-returns-2 : (t : ℕ) → note-term-lts.Need-returns-2 (claims t) (note-term-at t) note-term.Post note-term-Inv-parts note-term-μ-parts
 note-term-returns-2 t c =
     let all : c .before .before .before .before .before .parts .i ≡ partCount (fieldAt (c .before .before .before .before .before .before .before .before .before .before .before .before .before .before .args .records .now) (c .before .before .before .before .before .before .before .before .before .before .before .before .before .before .args .n) 0) = omega arith in
-    λ props fit. rw (without-label (c .before .before .before .before .before .before .before .before .before .before .before .before .before .before .args .datatypes) props (c .before .before .before .before .before .before .before .before .before .before .before .before .before .before .args .records .now) (c .before .before .before .before .before .before .before .before .before .before .before .before .before .before .args .n) all (c .before .before .before .before .before .before .before .field .ensures .0) (c .before .before .before .field3 .ensures .0) (c .before .before .field4 .ensures .0) (sym (c .before .has-label .ensures) ∙ c .if2 .left)) (c .before .before .before .before .before .parts .inv .2 props fit)
+    λ props fit. rw (without-label (labelUses (c .before .before .before .before .before .before .before .before .before .before .before .before .before .before .args .datatypes)) props (c .before .before .before .before .before .before .before .before .before .before .before .before .before .before .args .records .now) (c .before .before .before .before .before .before .before .before .before .before .before .before .before .before .args .n) all (c .before .before .before .before .before .before .before .field .ensures .0) (c .before .before .before .field3 .ensures .0) (c .before .before .field4 .ensures .0) (sym (c .before .has-label .ensures) ∙ c .if2 .left)) (c .before .before .before .before .before .parts .inv .2 props fit)
 
 note-term-same-length-3 : (t : ℕ) → note-term-lts.Need-same-length-3 (claims t) (note-term-at t) note-term.Post note-term-Inv-parts note-term-μ-parts
 note-term-same-length-3 t c = note-term-returns-2 t c (c .before .before .before .before .before .before .before .before .before .before .before .before .before .before .pre .1 .1 .props) (c .before .before .before .before .before .before .before .before .before .before .before .before .before .before .pre .1 .1 .fit) .sized

@@ -5,7 +5,7 @@ use borrow.Author.Needs.{needs}
 use Rattle.definitions.specs.Code.{parameterLimit}
 use Rattle.prop_lists.specs.Row.{Row}
 use Rattle.prop_lists.specs.Entries.{datatypesFrom}
-use Rattle.declarations.specs.Declared.{datatypeUses}
+use Rattle.proof_term_lists.specs.Labels.{datatypeUses}
 use Rattle.declarations.proofs.Threads.{Left, all-left, one-less, none-left, notable, named-still}
 use Rattle.declarations.proofs.note_datatypes.Statement.{statement}
 use Rattle.declarations.proofs.note_datatypes.Tie as tie

@@ -4,7 +4,7 @@ use borrow.Author.Tests.{ne-eqb}
 use Rattle.definitions.specs.Code.{parameterLimit}
 use Rattle.definitions.specs.Term.{labelAtoms, labelDatatypes}
 use Rattle.proof_term.specs.Records.{labelOf}
-use Rattle.declarations.specs.Labels.{labelUses}
+use Rattle.proof_term_lists.specs.Labels.{labelUses}
 use Rattle.declarations.proofs.Threads.{notable, notes-none}
 use borrow.Author.Needs.{needs}
 use Rattle.declarations.proofs.note_label.Statement.{statement}
@@ -35,7 +35,8 @@ returns-3 c = λ props fits. rw (ne-eqb (c .before .before .before .before .befo
 note-prop-requires : tie.Need-note-prop-requires
 note-prop-requires c κs =
     let label = c .before .before .before .before .before .before .before .before .before .pre .0 in
-    (record { prop = label .props (c .before .before .before .before .before .before .before .before .before .args .number); rest = label .fits .rest; stands = label .fits .stands (c .before .before .before .if1 .left) }, c .before .before .before .before .before .before .before .before .before .pre .1, c .before .before .before .before .before .before .before .before .before .pre .2)
+    let there = label .fits .proposition (c .before .before .before .if1 .left) in
+    (record { prop = label .props (c .before .before .before .before .before .before .before .before .before .args .number); rest = there .rest; stands = there .stands }, c .before .before .before .before .before .before .before .before .before .pre .1, c .before .before .before .before .before .before .before .before .before .pre .2)
 
 same-length-3 : tie.Need-same-length-3
 same-length-3 c = search needs
@@ -45,7 +46,9 @@ same-length-4 c = search needs
 
 returns-4 : tie.Need-returns-4
 unfolding labelUses labelOf labelAtoms
-returns-4 c = λ props fits. rw (ne-eqb (c .before .before .before .before .before .before .before .before .before .before .before .before .before .before .args .kind) 2 (c .before .before .before .before .before .before .before .before .if1 .left), c .before .before .before .before .before .before .before .if3 .left) (c .before .before .before .before .note-prop .ensures (props (c .before .before .before .before .before .before .before .before .before .before .before .before .before .before .args .number)) (fits .rest) (fits .stands (c .before .before .before .before .before .before .before .before .if1 .left)))
+returns-4 c = λ props fits.
+    let there = fits .proposition (c .before .before .before .before .before .before .before .before .if1 .left) in
+    rw (ne-eqb (c .before .before .before .before .before .before .before .before .before .before .before .before .before .before .args .kind) 2 (c .before .before .before .before .before .before .before .before .if1 .left), c .before .before .before .before .before .before .before .if3 .left) (c .before .before .before .before .note-prop .ensures (props (c .before .before .before .before .before .before .before .before .before .before .before .before .before .before .args .number)) (there .rest) (there .stands))
 
 pub note-label-spec : {M : Type 1} → statement M
 note-label-spec =

@@ -1,0 +1,57 @@
+-- What refusal 9 leaves of a step: it has a rule, and its names and its proposition are the sheet's.
+use Prim.Native.Nat.{ℕ, _≤_, _<_}
+use mathlib.Core.Path.{_≡_, refl, sym, _∙_}
+use mathlib.Core.Bool.{Bool, true, false, _||_, cond, true≢false}
+use mathlib.Core.List.{List}
+use lib.ListN.{length}
+use lib.Dec.{leb}
+use borrow.Author.Tests.{leb-false, le-leb, eq-eqb}
+use Rattle.definitions.specs.Sheet.{ruleByte, stepNumber}
+use Rattle.definitions.specs.Tree.{rules, ruleIn, identifierCount}
+use Rattle.definitions.specs.Admission.{noName, badIdentifier, badPropIsTrue, badConclusion, identifiers, badStep}
+
+neither : (a b : Bool) → a || b ≡ false → (a ≡ false) × (b ≡ false)
+neither true b e = absurd (true≢false e)
+neither false b e = (refl, e)
+
+-- of two tests the first fails, where it is the one that is tried
+first-tried : (has a b : Bool) → has ≡ true → cond has a b ≡ false → a ≡ false
+first-tried has a b h e = sym (rw h) ∙ e
+
+-- each test of refusal 9 fails
+record Passes (names propositions : ℕ) (records : List ℕ) (k : ℕ) : Type 0 where
+  rule : leb (length rules) (ruleByte records k) ≡ false
+  first : badIdentifier names propositions records k 2 (leb 1 (identifiers names propositions records k)) ≡ false
+  second : badIdentifier names propositions records k 6 (leb 2 (identifiers names propositions records k)) ≡ false
+  conclusion : badConclusion names propositions records k ≡ false
+
+-- Of a step that refusal 9 lets pass:
+module _ (names propositions : ℕ) (records : List ℕ) (k : ℕ) (good : badStep names propositions records k ≡ false) where
+  passes : Passes names propositions records k
+  unfolding badStep
+  passes =
+      let (rule, after-rule) = neither (leb (length rules) (ruleByte records k)) _ good in
+      let (first, after-first) = neither (badIdentifier names propositions records k 2 _) _ after-rule in
+      let (second, conclusion) = neither (badIdentifier names propositions records k 6 _) _ after-first in
+      record { rule = rule; first = first; second = second; conclusion = conclusion }
+
+  pub known-rule : ruleByte records k < length rules
+  known-rule = leb-false _ _ (passes .rule)
+
+  -- the identifier at an offset, of a rule that has so many
+  known-identifier : (at n : ℕ) → badIdentifier names propositions records k at (leb n (identifiers names propositions records k)) ≡ false
+      → n ≤ identifierCount (ruleIn records k) → stepNumber records k at < names
+  unfolding badIdentifier noName identifiers
+  known-identifier at n e h = leb-false _ _ (first-tried _ _ _ (le-leb n (identifierCount (ruleIn records k)) h) e)
+
+  pub known-first : 1 ≤ identifierCount (ruleIn records k) → stepNumber records k 2 < names
+  known-first = known-identifier 2 1 (passes .first)
+
+  pub known-second : 2 ≤ identifierCount (ruleIn records k) → stepNumber records k 6 < names
+  known-second = known-identifier 6 2 (passes .second)
+
+  pub known-proposition : stepNumber records k 10 ≡ 0 → stepNumber records k 12 < propositions
+  unfolding badConclusion badPropIsTrue
+  known-proposition kind =
+      let is-true = first-tried _ _ _ (eq-eqb (stepNumber records k 10) 0 kind) (passes .conclusion) in
+      leb-false _ _ (neither (leb propositions (stepNumber records k 12)) _ is-true .0)

@@ -1,0 +1,97 @@
+-- What the walk's outcome over an accepted sheet gives to the readers of its term.
+use Prim.Native.Nat.{ℕ, _-_}
+use mathlib.Core.Path.{_≡_, _∙_}
+use mathlib.Core.Logic.{⊎-elim}
+use mathlib.Core.List.{List}
+use native.Mathlib.Omega.{arith}
+use lib.ListN.{length}
+use Rattle.definitions.specs.declared.Refusal.{Refusal}
+use Rattle.definitions.specs.Outcome.{refused, accepted, _>>=_}
+use Rattle.definitions.specs.Sheet.{names, steps, stepRecords, propositionPairs, codeBytes, codeLength, codeStart, stepNumber, stepLimit}
+use Rattle.definitions.specs.Term.{ProofTerm}
+use Rattle.definitions.specs.Tree.{treeIn, treeOf, rootOf}
+use Rattle.definitions.specs.Export.{export, checking}
+use Rattle.definitions.specs.Admission.{badCode, admitted}
+use Rattle.definitions.specs.Answers.{sheetTerm}
+use Rattle.definitions.proofs.PrefixCode.{Bytes}
+use Rattle.prefix_code.specs.PropAt.{Present}
+use Rattle.prefix_code.proofs.Reading.{part-bytes, present-in}
+use Rattle.proof_term.specs.Readable.{NamesBelow}
+use Rattle.sheet.specs.Header.{headerOf}
+use Rattle.sheet.specs.declared.header.Sheet.{Sheet}
+use Rattle.sheet.proofs.Admitted.{AcceptedSheet, has-codes}
+use Rattle.proof_tree.specs.declared.Exported.{Exported}
+use Rattle.proof_tree.specs.declared.Exported.the-variants.{Term, Refused}
+use Rattle.proof_tree.specs.Exporting.{LabelOffset, StepExported}
+use Rattle.proof_tree.proofs.Conclusions.{left-present}
+use Rattle.proof_tree.proofs.Labels.{has-label}
+use Rattle.proof_tree.proofs.ExportedNames.{exported-names}
+use Rattle.proof_tree.proofs.GoodSteps.{known-proposition}
+use Rattle.proof_tree.proofs.Walking.{term-of, refusal-of, size-within}
+use Rattle.sheet_term.specs.declared.SheetTerm.the-variants as answer
+use Rattle.sheet_term.specs.Held.{LabelStands, HeldTerm, Gives, holds, refuses}
+
+-- what is no sheet has no term
+pub not-a-sheet : (s : List ℕ) {r : Refusal} → admitted s ≡ refused r → sheetTerm s ≡ refused r
+unfolding sheetTerm _>>=_
+not-a-sheet s e = rw e
+
+module _ {s : List ℕ} {h : Sheet} (a : AcceptedSheet s h) where
+  -- the root's outcome is the sheet's
+  root-outcome : sheetTerm s ≡ export (treeIn (names s) (propositionPairs s) (codeBytes s) (stepRecords s) (steps s - 1)) checking
+  unfolding sheetTerm _>>=_ rootOf treeOf
+  root-outcome = rw (a .root)
+
+  -- a step that concludes a proposition has its number from the sheet
+  label-stands : {offset : ℕ} → LabelOffset (propositionPairs s) (codeBytes s) (stepRecords s) (steps s - 1) offset → LabelStands s offset
+  unfolding headerOf
+  label-stands l =
+      record {
+        number = stepNumber (stepRecords s) (l .step) 12;
+        below = known-proposition _ _ _ (l .step) (a .sheet .good-step (l .step) (omega (arith, l .visited, a .sheet .in-range .some-step))) (l .concludes);
+        stands = l .stands;
+      }
+
+  -- Over bytes:
+  module _ (bytes : Bytes s) where
+    pub code-of-bytes : Bytes (codeBytes s)
+    unfolding codeBytes
+    code-of-bytes = part-bytes (codeLength s) (codeStart s) s bytes
+
+    -- a proposition stands at the offset of a label
+    pub label-present : {offset : ℕ} → LabelStands s offset → Present (names s) (codeBytes s) offset
+    unfolding badCode
+    label-present l =
+        let whole = present-in _ (propositionPairs s) _ (l .number) code-of-bytes (has-codes (a .sheet) .decoded (l .number) (l .below)) in
+        ⊎-elim (λ is. rw is whole) (λ is. rw (is .1) (left-present whole (is .0))) (l .stands)
+
+    names-below : (t : ProofTerm ℕ) → export (treeIn (names s) (propositionPairs s) (codeBytes s) (stepRecords s) (steps s - 1)) checking ≡ accepted t → NamesBelow (names s) t
+    unfolding badCode headerOf
+    names-below t e =
+        exported-names _ _ _ _ _ code-of-bytes (has-codes (a .sheet) .decoded) (steps s - 1)
+        (λ j l. a .sheet .good-step j (omega (arith, a .sheet .in-range .some-step))) checking t e
+
+    -- Of the walk's answer at the last step:
+    module _ {before after : List ℕ} {r : Exported} (room : length after ≡ 12288)
+        (walked : StepExported (h .names) (propositionPairs s) (codeBytes s) (stepRecords s) (h .steps - 1) checking before 0 after r) where
+      held : {next : ℕ} → r ≡ Term next → HeldTerm s after (next - 1)
+      unfolding headerOf stepLimit
+      held {next} e =
+          let t = term-of (rw (a .header) at walked) e in
+          let most = size-within (names s) (propositionPairs s) (codeBytes s) (stepRecords s) (steps s - 1) in
+          let range = a .sheet .in-range in
+          record {
+            is-term = root-outcome ∙ t .holds;
+            room = room;
+            held = omega (arith, t .low, t .high, most, range .steps, range .some-step);
+            few = omega (arith, t .small, t .high, most, range .steps);
+            below = names-below _ (t .holds);
+            labels = λ m h l. label-stands (t .grown .labels m _ (omega arith) (omega (arith, t .low)) (has-label after m l));
+          }
+
+      pub gives-term : {next : ℕ} → r ≡ Term next → Gives s after (answer.Held h (next - 1))
+      gives-term {next} e = holds {h = h} {n = next - 1} a (held e)
+
+      pub gives-refusal : {x : Refusal} → r ≡ Refused x → Gives s after (answer.Refused x)
+      unfolding headerOf
+      gives-refusal {x} e = refuses {r = x} (root-outcome ∙ refusal-of (rw (a .header) at walked) e)

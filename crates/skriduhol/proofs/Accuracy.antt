@@ -1,0 +1,77 @@
+-- The accuracy statement of a sound sheet speaks of what is handed over: the contracts of the texts and of the label count say
+-- that it is the answer, and the statement says what the answer is.
+use Prim.Native.Nat.{ℕ}
+use mathlib.Core.Path.{_≡_, sym, ap, _∙_}
+use mathlib.Core.List.{List}
+use lib.ListN.{length}
+use Rattle.definitions.specs.declared.Style.{Style}
+use Rattle.definitions.specs.declared.Style.the-variants.{Plain, Strict}
+use Rattle.definitions.specs.Sheet.{nameOf}
+use Rattle.definitions.specs.Export.{checking}
+use Rattle.definitions.specs.Labels.{inferringTally, total}
+use Rattle.definitions.specs.Answers.{textAnswer, labelCount}
+use Rattle.definitions.specs.Sound.{Deduced, weakest, Sound}
+use Rattle.definitions.specs.Accuracy.{Accurate}
+use Rattle.definitions.proofs.Renaming.{inferringTally-same}
+use Rattle.definitions.proofs.Labelling.{labels-counted}
+use Rattle.definitions.proofs.Conventions.{deduced-weakest}
+use Rattle.definitions.proofs.Accuracy.{accuracy}
+use Rattle.output.specs.declared.Written.{Written}
+use Rattle.output.specs.Written.{Fills}
+use Rattle.sheet_term.specs.declared.Counted.{Counted}
+use Rattle.sheet_term.specs.declared.Counted.the-variants.{Labels}
+use Rattle.sheet_term.specs.Counted.{countedOf}
+use Rattle.skriduhol.specs.Accurate.{HandsOver, Counts, AccurateText, AccurateCount, AllThree}
+
+-- Of one accuracy statement:
+module _ {s : List ℕ} {d : Deduced weakest s} (a : Accurate s d) where
+  hands-over : (style : Style) {before after : List ℕ} {r : Written}
+      → Fills (textAnswer s style (length before)) before after r → HandsOver a style before after r
+  hands-over style {before} fills = record { handed-over = λ fits. rw (a .texts style (length before) fits) at fills }
+
+  counts : {r : Counted} → r ≡ countedOf (labelCount s) → Counts a r
+  unfolding countedOf
+  counts {r} e =
+      let of-places : r ≡ Labels (total (inferringTally (d .root) checking)) = e ∙ ap countedOf (a .count) in
+      record {
+        of-term = of-places ∙ ap Labels (sym (labels-counted (a .labels) ∙ ap total (inferringTally-same (nameOf s) (d .root) checking)));
+        of-places = of-places;
+      }
+
+-- the clause of a text, from what it fills
+pub accurate-text : (style : Style) (s : List ℕ) {before after : List ℕ} {r : Written}
+    → Fills (textAnswer s style (length before)) before after r → AccurateText style s before after r
+accurate-text style s fills =
+    record { accurate = λ d. record { statement = accuracy s d; text = hands-over (accuracy s d) style fills } }
+
+-- the clause of the label count, from what it is
+pub accurate-count : (s : List ℕ) {r : Counted} → r ≡ countedOf (labelCount s) → AccurateCount s r
+accurate-count s e = record { accurate = λ d. record { statement = accuracy s d; count = counts (accuracy s d) e } }
+
+-- Of one sheet, whatever memories were lent, by the contracts of the three operations:
+module _
+    (s : List ℕ)
+    {plain-before plain-after : List ℕ}
+    {plain-result : Written}
+    (plain : Fills (textAnswer s Plain (length plain-before)) plain-before plain-after plain-result)
+    {strict-before strict-after : List ℕ}
+    {strict-result : Written}
+    (strict : Fills (textAnswer s Strict (length strict-before)) strict-before strict-after strict-result)
+    {count-result : Counted}
+    (count : count-result ≡ countedOf (labelCount s))
+  where
+    pub all-three : (d : Deduced weakest s)
+        → AllThree s d plain-before plain-after plain-result strict-before strict-after strict-result count-result
+    all-three d =
+        let a = accuracy s d in
+        record {
+          statement = a;
+          plain = hands-over a Plain plain;
+          strict = hands-over a Strict strict;
+          count = counts a count;
+        }
+
+    -- for document 01's sound sheets
+    pub all-three-sound : (d : Sound s)
+        → AllThree s (deduced-weakest s (d .deduced)) plain-before plain-after plain-result strict-before strict-after strict-result count-result
+    all-three-sound d = all-three (deduced-weakest s (d .deduced))

@@ -1,0 +1,5 @@
+pub mod Texts
+pub mod Lists
+pub mod Accuracy
+pub mod Board
+pub mod SecondDrawing

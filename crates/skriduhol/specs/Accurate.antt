@@ -1,0 +1,65 @@
+-- Demand 3 of the very bytes and the very count that are handed over, for every sound sheet and every room.
+-- Its premise is the weakest under which it holds; document 01's sound sheets meet it (`deduced-weakest` of `definitions`).
+use Prim.Native.Nat.{ℕ, _≤_}
+use mathlib.Core.Path.{_≡_}
+use mathlib.Core.List.{List, _++_}
+use lib.ListN.{length}
+use Rattle.definitions.specs.declared.Style.{Style}
+use Rattle.definitions.specs.declared.Style.the-variants.{Plain, Strict}
+use Rattle.definitions.specs.Outcome.{accepted}
+use Rattle.definitions.specs.Term.{annotationCount}
+use Rattle.definitions.specs.Export.{checking}
+use Rattle.definitions.specs.Display.{displayTerm}
+use Rattle.definitions.specs.Labels.{inferringTally, total}
+use Rattle.definitions.specs.Sound.{Deduced, weakest}
+use Rattle.definitions.specs.Accuracy.{Accurate}
+use Rattle.output.specs.declared.Written.{Written}
+use Rattle.output.specs.Written.{Fills}
+use Rattle.sheet_term.specs.declared.Counted.{Counted}
+use Rattle.sheet_term.specs.declared.Counted.the-variants.{Labels}
+
+-- An accuracy statement has the sheet's term, which the checking rules accept for the root's proposition and which has one label
+-- for each injection, abort, sorry and function in an inferring place and none elsewhere. Of that term:
+module _ {s : List ℕ} {d : Deduced weakest s} (a : Accurate s d) where
+  -- in enough room the memory begins with the heading and the term as printed, and after them it is as it was
+  pub record HandsOver (style : Style) (before after : List ℕ) (r : Written) : Type 0 where
+    pub handed-over : length (a .heading ++ displayTerm style (a .term)) ≤ length before
+        → Fills (accepted (a .heading ++ displayTerm style (a .term))) before after r
+
+  -- its labels are counted: injections + aborts + sorries + functions over the steps in inferring places
+  pub record Counts (r : Counted) : Type 0 where
+    pub of-term : r ≡ Labels (annotationCount (a .term))
+    pub of-places : r ≡ Labels (total (inferringTally (d .root) checking))
+
+-- what a text of a sound sheet says
+pub record TextOf (style : Style) (s : List ℕ) (d : Deduced weakest s) (before after : List ℕ) (r : Written) : Type 0 where
+  pub statement : Accurate s d
+  pub text : HandsOver statement style before after r
+
+-- what a label count of a sound sheet says
+pub record CountOf (s : List ℕ) (d : Deduced weakest s) (r : Counted) : Type 0 where
+  pub statement : Accurate s d
+  pub count : Counts statement r
+
+-- the clause of a text
+pub record AccurateText (style : Style) (s before after : List ℕ) (r : Written) : Type 0 where
+  pub accurate : (d : Deduced weakest s) → TextOf style s d before after r
+
+-- the clause of the label count
+pub record AccurateCount (s : List ℕ) (r : Counted) : Type 0 where
+  pub accurate : (d : Deduced weakest s) → CountOf s d r
+
+-- the plain text, the strict text and the label count of a sound sheet, all of one statement
+pub record AllThree
+    (s : List ℕ)
+    (d : Deduced weakest s)
+    (plain-before plain-after : List ℕ)
+    (plain-result : Written)
+    (strict-before strict-after : List ℕ)
+    (strict-result : Written)
+    (count-result : Counted)
+    : Type 0 where
+  pub statement : Accurate s d
+  pub plain : HandsOver statement Plain plain-before plain-after plain-result
+  pub strict : HandsOver statement Strict strict-before strict-after strict-result
+  pub count : Counts statement count-result

@@ -1,0 +1,3 @@
+pub mod Accurate
+pub mod Lists
+pub mod Board

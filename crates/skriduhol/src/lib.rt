@@ -1,0 +1,140 @@
+// The public operations, for every sequence of bytes and every room: each equals a definition, and a refusal leaves the lent memory
+// as it was.
+use alpha_eq::Answer;
+use definitions::Refusal;
+use definitions::Style;
+use output::Written;
+use output::put;
+use output::put_all;
+use output::put_decimal;
+use proof_term_lists::put_list;
+use sheet::Sheet;
+use sheet::code_bytes;
+use sheet_term::Counted;
+use sheet_term::SheetTerm;
+use sheet_term::TERM_NUMBERS;
+use sheet_term::sheet_term;
+use text::text;
+ghost use mathlib.Core.Path.{_≡_};
+ghost use lib.ListN.{length};
+ghost use Rattle.definitions.specs.declared.Style.the-variants.{Plain, Strict};
+ghost use Rattle.definitions.specs.Answers.{textAnswer, atomsAnswer, datatypesAnswer, labelCount, comparison, refusalLine, boardOutput};
+ghost use Rattle.output.specs.Written.{Fills};
+ghost use Rattle.alpha_eq.specs.Comparing.{outcomeOf};
+ghost use Rattle.sheet.proofs.Admitted.{AcceptedSheet};
+ghost use Rattle.sheet_term.specs.Held.{HeldTerm};
+ghost use Rattle.sheet_term.specs.Counted.{countedOf};
+ghost use Rattle.skriduhol.specs.Accurate.{AccurateText, AccurateCount};
+ghost use Rattle.skriduhol.specs.Lists.{listAnswer};
+ghost use Rattle.skriduhol.specs.Board.{Prints};
+
+// The text in a style: the sheet's term, and then its declarations and the term as printed.
+fn styled_text(s: &[u8], style: Style, out: &mut [u8]) -> Written
+    ensures { λ r. ⌜ Fills (textAnswer (now (s .entry)) style (length (now (out .entry)))) (now (out .entry)) (now (out .exit)) r ⌝ }
+{
+    let mut terms = [0u16; TERM_NUMBERS];
+    let found = sheet_term(s, &mut terms);
+    match found {
+        SheetTerm::Refused(refusal) => Written::Refused(refusal),
+        SheetTerm::Held(h, n) => text(s, h, &terms, n, style, out),
+    }
+}
+
+// The plain text.
+pub fn plain_text(s: &[u8], out: &mut [u8]) -> Written
+    ensures { λ r. ⌜ Fills (textAnswer (now (s .entry)) Plain (length (now (out .entry)))) (now (out .entry)) (now (out .exit)) r ⌝ }
+    ensures { λ r. ⌜ AccurateText Plain (now (s .entry)) (now (out .entry)) (now (out .exit)) r ⌝ }
+{
+    styled_text(s, Style::Plain, out)
+}
+
+// The strict text.
+pub fn strict_text(s: &[u8], out: &mut [u8]) -> Written
+    ensures { λ r. ⌜ Fills (textAnswer (now (s .entry)) Strict (length (now (out .entry)))) (now (out .entry)) (now (out .exit)) r ⌝ }
+    ensures { λ r. ⌜ AccurateText Strict (now (s .entry)) (now (out .entry)) (now (out .exit)) r ⌝ }
+{
+    styled_text(s, Style::Strict, out)
+}
+
+// A list of the sheet's term in lent memory: measured by a dry run, and then written where it fits.
+fn list(s: &[u8], h: Sheet, terms: &[u16], n: usize, datatypes: bool, out: &mut [u16]) -> Written
+    requires { ⌜ AcceptedSheet (now s) h × HeldTerm (now s) (now terms) n ⌝ }
+    ensures { λ r. ⌜ Fills (listAnswer datatypes (now (s .entry)) (length (now (out .entry)))) (now (out .entry)) (now (out .exit)) r ⌝ }
+{
+    let code = code_bytes(s, h);
+    let end = put_list(terms, n, datatypes, code, h.names, out, 0, false);
+    if out.len() < end {
+        return Written::Refused(Refusal {
+            number: 16,
+            place: 0,
+        });
+    }
+    put_list(terms, n, datatypes, code, h.names, out, 0, true);
+    Written::Length(end)
+}
+
+// The datatype list, or else the atom list: the sheet's term, and then what its labels add.
+fn label_list(s: &[u8], datatypes: bool, out: &mut [u16]) -> Written
+    ensures { λ r. ⌜ Fills (listAnswer datatypes (now (s .entry)) (length (now (out .entry)))) (now (out .entry)) (now (out .exit)) r ⌝ }
+{
+    let mut terms = [0u16; TERM_NUMBERS];
+    let found = sheet_term(s, &mut terms);
+    match found {
+        SheetTerm::Refused(refusal) => Written::Refused(refusal),
+        SheetTerm::Held(h, n) => list(s, h, &terms, n, datatypes, out),
+    }
+}
+
+// The atom list: the number of a name and a parameter count for each atom.
+pub fn atom_list(s: &[u8], out: &mut [u16]) -> Written
+    ensures { λ r. ⌜ Fills (atomsAnswer (now (s .entry)) (length (now (out .entry)))) (now (out .entry)) (now (out .exit)) r ⌝ }
+{
+    label_list(s, false, out)
+}
+
+// The datatype list: the number of a name for each datatype.
+pub fn datatype_list(s: &[u8], out: &mut [u16]) -> Written
+    ensures { λ r. ⌜ Fills (datatypesAnswer (now (s .entry)) (length (now (out .entry)))) (now (out .entry)) (now (out .exit)) r ⌝ }
+{
+    label_list(s, true, out)
+}
+
+// The label count.
+pub fn label_count(s: &[u8]) -> Counted
+    ensures { λ r. ⌜ r ≡ countedOf (labelCount (now (s .entry))) ⌝ }
+    ensures { λ r. ⌜ AccurateCount (now (s .entry)) r ⌝ }
+{
+    sheet_term::label_count(s)
+}
+
+// The comparison of two steps' conclusions.
+pub fn compare(s: &[u8], i: usize, j: usize) -> Answer
+    ensures { λ r. ⌜ outcomeOf r ≡ comparison (now (s .entry)) i j ⌝ }
+{
+    comparison::compare(s, i, j)
+}
+
+// The bytes that the board program lends.
+pub const BOARD_ROOM: usize = 65536;
+
+// `refused R at P` and a newline.
+fn put_refusal(out: &mut [u8; BOARD_ROOM], refusal: Refusal) -> usize
+    ensures { λ r. ⌜ Prints (refusalLine refusal) (now (out .entry)) (now (out .exit)) r ⌝ }
+{
+    let number = put_all(out, 0, b"refused ", true);
+    let word = put_decimal(out, number, refusal.number as u64, true);
+    let place = put_all(out, word, b" at ", true);
+    let line = put_decimal(out, place, refusal.place as u64, true);
+    put(out, line, b'\n', true)
+}
+
+// What the board program prints: the plain text, or the refusal's line.
+pub fn board_output(s: &[u8], out: &mut [u8; BOARD_ROOM]) -> usize
+    ensures { λ r. ⌜ Prints (boardOutput (now (s .entry))) (now (out .entry)) (now (out .exit)) r ⌝ }
+{
+    let written = plain_text(s, out);
+    match written {
+        Written::Length(length) => length,
+        Written::Refused(refusal) => put_refusal(out, refusal),
+    }
+}

@@ -1,0 +1,179 @@
+// The text of a sheet's term: the declarations, and then the term (source document 005).
+use declarations::note_prop;
+use declarations::note_term;
+use declarations::put_declarations;
+use definitions::Refusal;
+use definitions::Style;
+use identifier::pair_offset;
+use output::Written;
+use output::put;
+use output::put_all;
+use proof_term_display::print_term;
+use prop::fill_all_ends;
+use sheet::Sheet;
+use sheet::code_bytes;
+use sheet::name_pairs;
+use sheet::proposition_pairs;
+use sheet::text_bytes;
+ghost use mathlib.Core.Path.{_≡_};
+ghost use mathlib.Core.Bool.{true, false};
+ghost use lib.ListN.{length};
+ghost use Rattle.definitions.specs.Outcome.{accepted};
+ghost use Rattle.definitions.specs.Name.{Name};
+ghost use Rattle.definitions.specs.Term.{ProofTerm};
+ghost use Rattle.definitions.specs.Display.{displayTerm};
+ghost use Rattle.definitions.specs.Text.{heading};
+ghost use Rattle.definitions.specs.Answers.{namedTerm, goalProp, textAnswer};
+ghost use Rattle.output.specs.Wrote.{Wrote};
+ghost use Rattle.output.specs.Written.{Fills};
+ghost use Rattle.sheet.proofs.Admitted.{AcceptedSheet};
+ghost use Rattle.sheet_term.specs.Held.{HeldTerm};
+ghost use Rattle.text.specs.Declaring.{termOf, Declares, EndsKnown};
+
+// One flag for each name and each count of parameters.
+const FLAGS: usize = Sheet::NAME_LIMIT * (Sheet::PARAMETER_LIMIT + 1);
+
+// A name and a count for each of them.
+const DECLARED_NUMBERS: usize = 2 * FLAGS;
+
+// Notes the datatypes, or else the atoms, of the term's labels and then of the goal.
+fn declare(
+    s: &[u8],
+    h: Sheet,
+    terms: &[u16],
+    n: usize,
+    datatypes: bool,
+    declared: &mut [u16; DECLARED_NUMBERS],
+) -> usize
+    requires { ⌜ AcceptedSheet (now s) h ⌝ }
+    requires { ⌜ HeldTerm (now s) (now terms) n ⌝ }
+    ensures { λ r. ⌜ Declares (now (s .entry)) datatypes (now (declared .exit)) r ⌝ }
+{
+    let mut seen = [0u16; FLAGS];
+    let code = code_bytes(s, h);
+    let pairs = name_pairs(s, h);
+    let text = text_bytes(s, h);
+    let len = note_term(
+        terms,
+        n,
+        datatypes,
+        code,
+        h.names,
+        declared,
+        0,
+        &mut seen,
+        pairs,
+        text,
+    );
+    let goal = pair_offset(proposition_pairs(s, h), h.goal);
+    note_prop(
+        code,
+        goal,
+        h.names,
+        datatypes,
+        declared,
+        len,
+        &mut seen,
+        pairs,
+        text,
+    )
+}
+
+// Fills in where each proposition of the sheet and each of its parts ends.
+fn fill_sheet_ends(s: &[u8], h: Sheet, ends: &mut [u16; Sheet::CODE_LIMIT])
+    requires { ⌜ AcceptedSheet (now s) h ⌝ }
+    ensures { λ r. ⌜ EndsKnown (now (s .entry)) (now (ends .exit)) ⌝ }
+{
+    fill_all_ends(
+        proposition_pairs(s, h),
+        code_bytes(s, h),
+        h.propositions,
+        h.names,
+        ends,
+    );
+}
+
+// What stands before the term: the lines of the atoms, those of the datatypes, and an empty line.
+fn put_heading(
+    out: &mut [u8],
+    s: &[u8],
+    h: Sheet,
+    atoms: &[u16; DECLARED_NUMBERS],
+    atom_count: usize,
+    types: &[u16; DECLARED_NUMBERS],
+    type_count: usize,
+    write: bool,
+) -> usize
+    requires { ⌜ AcceptedSheet (now s) h ⌝ }
+    requires { ⌜ Declares (now s) false (now atoms) «atom_count» ⌝ }
+    requires { ⌜ Declares (now s) true (now types) «type_count» ⌝ }
+    ensures { λ r. ⌜ ((t : ProofTerm Name) → namedTerm (now (s .entry)) ≡ accepted t →
+        Wrote (heading t (goalProp (now (s .entry)))) write (now (out .entry)) 0 (now (out .exit)) r) ⌝ }
+{
+    let pairs = name_pairs(s, h);
+    let text = text_bytes(s, h);
+    let atoms_end = put_declarations(out, 0, atoms, atom_count, false, pairs, text, write);
+    let line = put(out, atoms_end, b'\n', write);
+    let end = put_declarations(out, line, types, type_count, true, pairs, text, write);
+    put_all(out, end, b"\n\n", write)
+}
+
+// The term, from its records.
+fn put_term(
+    out: &mut [u8],
+    to: usize,
+    s: &[u8],
+    h: Sheet,
+    terms: &[u16],
+    n: usize,
+    style: Style,
+    ends: &[u16; Sheet::CODE_LIMIT],
+    write: bool,
+) -> usize
+    requires { ⌜ AcceptedSheet (now s) h ⌝ }
+    requires { ⌜ HeldTerm (now s) (now terms) n ⌝ }
+    requires { ⌜ EndsKnown (now s) (now ends) ⌝ }
+    ensures { λ r. ⌜ Wrote (displayTerm style (termOf (now (s .entry)) (now (terms .entry)) n)) write (now (out .entry)) to (now (out .exit)) r ⌝ }
+{
+    let code = code_bytes(s, h);
+    let pairs = name_pairs(s, h);
+    let text = text_bytes(s, h);
+    print_term(
+        out,
+        to,
+        terms,
+        n,
+        style,
+        code,
+        ends,
+        h.names,
+        pairs,
+        text,
+        write,
+    )
+}
+
+// The text of a sheet's term in lent memory: measured by a dry run, and then written where it fits.
+pub fn text(s: &[u8], h: Sheet, terms: &[u16], n: usize, style: Style, out: &mut [u8]) -> Written
+    requires { ⌜ AcceptedSheet (now s) h ⌝ }
+    requires { ⌜ HeldTerm (now s) (now terms) n ⌝ }
+    ensures { λ r. ⌜ Fills (textAnswer (now (s .entry)) style (length (now (out .entry)))) (now (out .entry)) (now (out .exit)) r ⌝ }
+{
+    let mut ends = [0u16; Sheet::CODE_LIMIT];
+    let mut atoms = [0u16; DECLARED_NUMBERS];
+    let mut types = [0u16; DECLARED_NUMBERS];
+    fill_sheet_ends(s, h, &mut ends);
+    let atom_count = declare(s, h, terms, n, false, &mut atoms);
+    let type_count = declare(s, h, terms, n, true, &mut types);
+    let start = put_heading(out, s, h, &atoms, atom_count, &types, type_count, false);
+    let end = put_term(out, start, s, h, terms, n, style, &ends, false);
+    if out.len() < end {
+        return Written::Refused(Refusal {
+            number: 16,
+            place: 0,
+        });
+    }
+    let start = put_heading(out, s, h, &atoms, atom_count, &types, type_count, true);
+    put_term(out, start, s, h, terms, n, style, &ends, true);
+    Written::Length(end)
+}
