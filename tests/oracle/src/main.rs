@@ -11,8 +11,8 @@ use std::{collections::BTreeMap, fs, io::Write, process::exit, str::FromStr, thr
 const USAGE: &str = "usage:
   oracle answer [--room N] plain|strict|atoms|datatypes|count|board FILE
   oracle answer compare I J FILE
-  oracle generate --seed N --count M --kind KIND --out DIR
-  oracle fuzz --seed N --count M --kind KIND
+  oracle generate --kind KIND [--seed N --count M] --out DIR
+  oracle fuzz --kind KIND [--seed N --count M]
   oracle accuracy --seed N --count M
   oracle bench FILE TIMES
 KIND: sound random quantified damaged limits worst slowest";
@@ -43,6 +43,13 @@ fn option<'a>(args: &'a [&str], name: &str) -> &'a str {
 
 fn sheets(args: &[&str]) -> Sheets {
     let kind = Kind::named(option(args, "--kind")).unwrap_or_else(|| usage());
+    match kind {
+        Kind::Limits | Kind::Worst | Kind::Slowest => Sheets::new(kind, 0, 0),
+        _ => random_sheets(kind, args),
+    }
+}
+
+fn random_sheets(kind: Kind, args: &[&str]) -> Sheets {
     Sheets::new(kind, number(option(args, "--seed")), number(option(args, "--count")))
 }
 
@@ -60,9 +67,7 @@ fn run() -> i32 {
         ["answer", question, file] => answer(named(question), file, None),
         ["generate", ref rest @ ..] => generate(&sheets(rest), option(rest, "--out")),
         ["fuzz", ref rest @ ..] => fuzz(&sheets(rest)),
-        ["accuracy", ref rest @ ..] => {
-            accuracy(&Sheets::new(Kind::Sound, number(option(rest, "--seed")), number(option(rest, "--count"))))
-        }
+        ["accuracy", ref rest @ ..] => accuracy(&random_sheets(Kind::Sound, rest)),
         ["bench", file, times] => bench(file, number(times)),
         _ => usage(),
     }
