@@ -2,6 +2,7 @@
 use oracle::{
     answer::{examine, Answer, Examined, Question},
     generate::{Kind, Sheets},
+    list::list,
     rng::Rng,
     sheet::{decode, Refusal},
     sound, walk,
@@ -15,6 +16,7 @@ const USAGE: &str = "usage:
   oracle fuzz --kind KIND [--seed N --count M]
   oracle accuracy --seed N --count M
   oracle bench FILE TIMES
+  oracle list --seed N --out FILE
 KIND: sound random quantified damaged limits worst slowest";
 
 /// The original recurses into deep trees, and the decoder into deep code before refusal 8 is tried.
@@ -69,6 +71,7 @@ fn run() -> i32 {
         ["fuzz", ref rest @ ..] => fuzz(&sheets(rest)),
         ["accuracy", ref rest @ ..] => accuracy(&random_sheets(Kind::Sound, rest)),
         ["bench", file, times] => bench(file, number(times)),
+        ["list", ref rest @ ..] => write_list(number(option(rest, "--seed")), option(rest, "--out")),
         _ => usage(),
     }
 }
@@ -209,4 +212,18 @@ fn bench(file: &str, times: u32) -> i32 {
     }
     println!("{} ns per text of {length} bytes", start.elapsed().as_nanos() / times.max(1) as u128);
     0
+}
+
+fn write_list(seed: u64, file: &str) -> i32 {
+    match list(seed) {
+        Ok(list) => {
+            println!("{} sheets, {} questions, {} bytes", list.sheets, list.questions, list.bytes.len());
+            fs::write(file, list.bytes).unwrap();
+            0
+        }
+        Err(finding) => {
+            eprintln!("FINDING: {finding}");
+            3
+        }
+    }
 }
