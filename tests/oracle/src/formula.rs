@@ -84,6 +84,28 @@ impl Formula {
         }
     }
 
+    /// Puts other numbers in the place of all names.
+    pub fn rename(&mut self, name: &impl Fn(u16) -> u16) {
+        match self {
+            Formula::True | Formula::False => {}
+            Formula::Binary(_, l, r) => {
+                l.rename(name);
+                r.rename(name);
+            }
+            Formula::Atom(n, parameters) => {
+                *n = name(*n);
+                for parameter in parameters {
+                    let (Parameter::Uninstantiated(n) | Parameter::Instantiated(n, _)) = parameter;
+                    *n = name(*n);
+                }
+            }
+            Formula::Quantified(_, object, datatype, body) => {
+                (*object, *datatype) = (name(*object), name(*datatype));
+                body.rename(name);
+            }
+        }
+    }
+
     /// Atoms left to right with repeats: name number and parameter count.
     pub fn atoms(&self, out: &mut Vec<(u16, u16)>) {
         match self {

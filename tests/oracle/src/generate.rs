@@ -44,13 +44,12 @@ pub enum Sheets {
 }
 
 impl Sheets {
-    /// The first `count` sheets of a random kind, or at most so many of a fixed list.
+    /// The first `count` sheets of a random kind, or a fixed list.
     pub fn new(kind: Kind, seed: u64, count: usize) -> Self {
-        let fixed = |list: Vec<Named>| Sheets::Fixed(list.into_iter().take(count).collect());
         match kind {
-            Kind::Limits => fixed(limits::limits()),
-            Kind::Worst => fixed(worst::worst()),
-            Kind::Slowest => fixed(worst::slowest()),
+            Kind::Limits => Sheets::Fixed(limits::limits()),
+            Kind::Worst => Sheets::Fixed(worst::worst()),
+            Kind::Slowest => Sheets::Fixed(worst::slowest()),
             Kind::Sound | Kind::Random | Kind::Quantified | Kind::Damaged => Sheets::Random { kind, seed, count },
         }
     }

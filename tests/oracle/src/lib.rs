@@ -4,6 +4,7 @@ pub mod draw;
 pub mod formula;
 pub mod generate;
 pub mod limits;
+pub mod list;
 pub mod reference;
 pub mod rng;
 pub mod sheet;

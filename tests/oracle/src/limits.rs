@@ -5,7 +5,10 @@ use crate::{
     draw::*,
     formula::{Formula, Parameter},
     generate::Named,
-    sheet::{rule, Layout, Plain, Step, BOARD_ROOM, CODE, NAMES, NAME_BYTES, PARAMETERS, PROPS, STEPS, TEXT},
+    sheet::{
+        rule, Layout, Plain, Step, BOARD_ROOM, CODE, NAMES, NAME_BYTES, PARAMETERS, PROPS, PROP_NESTING, STEPS,
+        STEP_NESTING, TEXT,
+    },
 };
 
 /// The list in the making.
@@ -46,7 +49,7 @@ pub fn limits() -> Vec<Named> {
     trees(&mut list);
     tree_nesting(&mut list);
     rules(&mut list);
-    for n in [BOARD_ROOM - 1, BOARD_ROOM, BOARD_ROOM + 1] {
+    for n in [BOARD_ROOM, BOARD_ROOM + 1] {
         list.add(format!("text of {n} bytes"), sized(n).bytes());
     }
     list.0
@@ -61,12 +64,12 @@ fn header(list: &mut List) {
     list.add("smallest sheet", least.clone());
     list.add("smallest sheet and a byte", [&least[..], &[0]].concat());
     list.add("smallest sheet and 70,000 bytes", [&least[..], &vec![0; 70000]].concat());
-    for t in [0, 1, TEXT - 1, TEXT, TEXT + 1, 65535] {
+    for t in [0, 1, TEXT, TEXT + 1, 65535] {
         let mut layout = smallest().layout();
         (layout.header[0], layout.text) = (t as u16, vec![b'!'; t]);
         list.add(format!("text length {t}, no names"), layout.bytes());
     }
-    for c in [0, 1, CODE - 1, CODE, CODE + 1, 65535] {
+    for c in [0, 1, CODE, CODE + 1, 65535] {
         let mut layout = smallest().layout();
         layout.header[2] = c as u16;
         layout.code.resize(c, 0xff);
@@ -83,11 +86,11 @@ fn header(list: &mut List) {
 
 /// How many names, propositions and steps there are.
 fn counts(list: &mut List) {
-    for n in [0, 1, NAMES - 1, NAMES, NAMES + 1] {
+    for n in [0, 1, NAMES, NAMES + 1] {
         let names = (0..n).map(|i| format!("n{i}").into_bytes()).collect();
         list.add(format!("{n} names"), Plain { names, ..smallest() }.bytes());
     }
-    for p in [0, 1, PROPS - 1, PROPS, PROPS + 1] {
+    for p in [0, 1, PROPS, PROPS + 1] {
         list.add(format!("{p} propositions"), Plain { props: vec![vec![0]; p], ..smallest() }.bytes());
     }
     // Chains of 254 steps, closed by the last one.
@@ -95,7 +98,7 @@ fn counts(list: &mut List) {
         0 => step(rule::TRUE_INTRO, 0, &[], 0),
         _ => step(rule::ALPHA, 1, &[], 0),
     };
-    for s in [0, 1, STEPS - 1, STEPS, STEPS + 1] {
+    for s in [0, 1, STEPS, STEPS + 1] {
         let mut steps: Vec<Step> = (0..s).map(link).collect();
         if s > 254 {
             steps[s - 1] = step(rule::SORRY, (s - 1).div_ceil(254), &[], 0);
@@ -106,7 +109,7 @@ fn counts(list: &mut List) {
 
 /// Refusal 4, and that it comes before 5.
 fn name_pairs(list: &mut List) {
-    for length in [1, NAME_BYTES - 1, NAME_BYTES, NAME_BYTES + 1] {
+    for length in [1, NAME_BYTES, NAME_BYTES + 1] {
         for (at, which) in [(2, "last"), (0, "first")] {
             let mut sheet = second();
             sheet.names[at] = vec![b'u'; length];
@@ -231,12 +234,12 @@ fn nested(n: usize, leaf: Formula, wrap: Wrap) -> Formula {
 /// Refusal 8, and that it comes after 7 and before 9.
 fn nesting(list: &mut List) {
     for (what, wrap) in WRAPS {
-        for n in [63, 64, 65, 66] {
+        for n in [PROP_NESTING, PROP_NESTING + 1] {
             list.coded(format!("proposition nested {n} by {what}"), code(&nested(n, Formula::True, wrap)));
         }
     }
     let atom = Formula::Atom(0, vec![Parameter::Uninstantiated(1); PARAMETERS]);
-    list.coded("atom with parameters at nesting 64", code(&nested(64, atom, |f| and(Formula::True, f))));
+    list.coded("atom with parameters at nesting 64", code(&nested(PROP_NESTING, atom, |f| and(Formula::True, f))));
     for (what, connectives, leaves) in [("whole", 4095, 4096), ("one leaf short", 4095, 4095), ("one over", 4094, 4096)]
     {
         let props = vec![[vec![2; connectives], vec![0; leaves]].concat()];
@@ -304,7 +307,7 @@ fn deep(n: usize, rule: u8, idents: &[u16], before: usize, after: usize) -> Plai
 
 /// Refusal 11, and that it comes after 10.
 fn tree_nesting(list: &mut List) {
-    for n in [255, 256, 257, 258] {
+    for n in [STEP_NESTING, STEP_NESTING + 1] {
         list.add(format!("{n} deep by AlphaEquivalent"), deep(n, rule::ALPHA, &[], 0, 0).bytes());
         list.add(format!("{n} deep by ImplIntro"), deep(n, rule::IMPL_INTRO, &[2], 0, 0).bytes());
         list.add(format!("{n} deep by AndIntro, left"), deep(n, rule::AND_INTRO, &[], 0, 1).bytes());

@@ -2,6 +2,7 @@
 use oracle::{
     answer::{examine, Answer, Examined, Question},
     generate::{Kind, Sheets},
+    list::list,
     rng::Rng,
     sheet::{decode, Refusal},
     sound, walk,
@@ -11,10 +12,11 @@ use std::{collections::BTreeMap, fs, io::Write, process::exit, str::FromStr, thr
 const USAGE: &str = "usage:
   oracle answer [--room N] plain|strict|atoms|datatypes|count|board FILE
   oracle answer compare I J FILE
-  oracle generate --seed N --count M --kind KIND --out DIR
-  oracle fuzz --seed N --count M --kind KIND
+  oracle generate --kind KIND [--seed N --count M] --out DIR
+  oracle fuzz --kind KIND [--seed N --count M]
   oracle accuracy --seed N --count M
   oracle bench FILE TIMES
+  oracle list --seed N --out FILE
 KIND: sound random quantified damaged limits worst slowest";
 
 /// The original recurses into deep trees, and the decoder into deep code before refusal 8 is tried.
@@ -43,6 +45,13 @@ fn option<'a>(args: &'a [&str], name: &str) -> &'a str {
 
 fn sheets(args: &[&str]) -> Sheets {
     let kind = Kind::named(option(args, "--kind")).unwrap_or_else(|| usage());
+    match kind {
+        Kind::Limits | Kind::Worst | Kind::Slowest => Sheets::new(kind, 0, 0),
+        _ => random_sheets(kind, args),
+    }
+}
+
+fn random_sheets(kind: Kind, args: &[&str]) -> Sheets {
     Sheets::new(kind, number(option(args, "--seed")), number(option(args, "--count")))
 }
 
@@ -60,10 +69,9 @@ fn run() -> i32 {
         ["answer", question, file] => answer(named(question), file, None),
         ["generate", ref rest @ ..] => generate(&sheets(rest), option(rest, "--out")),
         ["fuzz", ref rest @ ..] => fuzz(&sheets(rest)),
-        ["accuracy", ref rest @ ..] => {
-            accuracy(&Sheets::new(Kind::Sound, number(option(rest, "--seed")), number(option(rest, "--count"))))
-        }
+        ["accuracy", ref rest @ ..] => accuracy(&random_sheets(Kind::Sound, rest)),
         ["bench", file, times] => bench(file, number(times)),
+        ["list", ref rest @ ..] => write_list(number(option(rest, "--seed")), option(rest, "--out")),
         _ => usage(),
     }
 }
@@ -204,4 +212,18 @@ fn bench(file: &str, times: u32) -> i32 {
     }
     println!("{} ns per text of {length} bytes", start.elapsed().as_nanos() / times.max(1) as u128);
     0
+}
+
+fn write_list(seed: u64, file: &str) -> i32 {
+    match list(seed) {
+        Ok(list) => {
+            println!("{} sheets, {} questions, {} bytes", list.sheets, list.questions, list.bytes.len());
+            fs::write(file, list.bytes).unwrap();
+            0
+        }
+        Err(finding) => {
+            eprintln!("FINDING: {finding}");
+            3
+        }
+    }
 }

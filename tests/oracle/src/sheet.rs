@@ -129,6 +129,28 @@ pub struct Layout {
 }
 
 impl Layout {
+    /// The parts of a sheet, if it is as long as its header says.
+    pub fn read(bytes: &[u8]) -> Option<Self> {
+        let (head, mut rest) = bytes.split_at_checked(HEADER_BYTES)?;
+        let mut take = |length: usize| {
+            let (part, others) = rest.split_at_checked(length)?;
+            rest = others;
+            Some(part)
+        };
+        let number = |field: usize| word(head, 2 * field);
+        let pairs =
+            |part: &[u8]| part.chunks(PAIR_BYTES).map(|pair| (word(pair, 0) as u16, word(pair, 2) as u16)).collect();
+        let layout = Layout {
+            header: [0, 1, 2, 3, 4, 5].map(|field| number(field) as u16),
+            names: pairs(take(PAIR_BYTES * number(1))?),
+            props: pairs(take(PAIR_BYTES * number(3))?),
+            steps: take(STEP_BYTES * number(4))?.chunks(STEP_BYTES).map(Step::read).collect(),
+            text: take(number(0))?.to_vec(),
+            code: take(number(2))?.to_vec(),
+        };
+        rest.is_empty().then_some(layout)
+    }
+
     pub fn bytes(&self) -> Vec<u8> {
         let pairs = self.names.iter().chain(&self.props).flat_map(|(o, l)| [*o, *l]);
         let numbers = self.header.into_iter().chain(pairs);

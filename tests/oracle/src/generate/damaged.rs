@@ -12,47 +12,40 @@ pub fn damaged(mut rng: Rng) -> Vec<u8> {
         1 => arbitrary(inner, false),
         _ => arbitrary(inner, true),
     };
+    let layout = Layout::read(&bytes).expect("a good sheet");
     if rng.chance(50) {
-        damaged_bytes(rng, bytes)
+        damaged_bytes(rng, bytes, regions(&layout))
     } else {
-        damaged_parts(rng, &bytes)
+        damaged_parts(rng, parts(layout))
     }
 }
 
-fn word(bytes: &[u8], at: usize) -> usize {
-    u16::from_le_bytes([bytes[at], bytes[at + 1]]) as usize
-}
-
-/// Where header, name pairs, proposition pairs, steps, text and code lie in a good sheet.
-fn regions(bytes: &[u8]) -> [(usize, usize); 6] {
-    let number = |field: usize| word(bytes, 2 * field);
-    let sizes =
-        [HEADER_BYTES, PAIR_BYTES * number(1), PAIR_BYTES * number(3), STEP_BYTES * number(4), number(0), number(2)];
+/// Where header, name pairs, proposition pairs, steps, text and code lie.
+fn regions(layout: &Layout) -> [(usize, usize); 6] {
+    let Layout { names, props, steps, text, code, .. } = layout;
+    let pairs = [names.len(), props.len()].map(|count| PAIR_BYTES * count);
     let mut from = 0;
-    sizes.map(|size| {
+    [HEADER_BYTES, pairs[0], pairs[1], STEP_BYTES * steps.len(), text.len(), code.len()].map(|size| {
         from += size;
         (from - size, from)
     })
 }
 
-/// A good sheet's names, codes and steps.
-fn parts(bytes: &[u8]) -> Plain {
-    let [_, names, props, steps, text, code] = regions(bytes);
-    let cut = |(from, to): (usize, usize), base: usize| -> Vec<Vec<u8>> {
-        let part = |at: usize| bytes[base + word(bytes, at)..][..word(bytes, at + 2)].to_vec();
-        (from..to).step_by(PAIR_BYTES).map(part).collect()
+/// Names, codes and steps.
+fn parts(layout: Layout) -> Plain {
+    let cut = |pairs: &[(u16, u16)], all: &[u8]| -> Vec<Vec<u8>> {
+        pairs.iter().map(|(offset, length)| all[*offset as usize..][..*length as usize].to_vec()).collect()
     };
     Plain {
-        names: cut(names, text.0),
-        props: cut(props, code.0),
-        steps: bytes[steps.0..steps.1].chunks(STEP_BYTES).map(Step::read).collect(),
-        goal: word(bytes, 10) as u16,
+        names: cut(&layout.names, &layout.text),
+        props: cut(&layout.props, &layout.code),
+        steps: layout.steps,
+        goal: layout.header[5],
     }
 }
 
 /// Faults in single parts, all else consistent: most reach refusals 4 to 11, and two of them ask which comes first.
-fn damaged_parts(mut rng: Rng, bytes: &[u8]) -> Vec<u8> {
-    let mut parts = parts(bytes);
+fn damaged_parts(mut rng: Rng, mut parts: Plain) -> Vec<u8> {
     for _ in 0..rng.range(1, 3) {
         if !parts.steps.is_empty() {
             damage_part(&mut rng, &mut parts);
@@ -127,8 +120,7 @@ fn damage_pair(rng: &mut Rng, layout: &mut Layout) {
     }
 }
 
-fn damaged_bytes(mut rng: Rng, mut bytes: Vec<u8>) -> Vec<u8> {
-    let regions = regions(&bytes);
+fn damaged_bytes(mut rng: Rng, mut bytes: Vec<u8>, regions: [(usize, usize); 6]) -> Vec<u8> {
     for _ in 0..rng.range(1, 3) {
         damage_bytes(&mut rng, &mut bytes, &regions);
     }
