@@ -1,32 +1,34 @@
 // Asks each question of a fixed list of sheets, and says how many of the answers agree with those that the list holds, which are
 // the Rust's. tests/oracle/README.md has the form of the list.
 use alpha_eq::Answer;
+use definitions::Refusal;
 use libc::STDOUT_FILENO;
 use number::number_at;
 use output::Written;
 use sheet_term::Counted;
-ghost use Prim.Native.Nat.{_*_, _<_, _≤_};
-ghost use lib.ListN.{length};
+ghost use Prim.Native.Nat.{_<_, _≤_};
+ghost use Rattle.io.specs.Counts.{Counts};
 
-// The kinds of questions.
-const PLAIN_TEXT: usize = 0;
+// The kinds of questions; any other asks for the board's output.
+const PLAIN_TEXT: u8 = 0;
 
-const STRICT_TEXT: usize = 1;
+const STRICT_TEXT: u8 = 1;
 
-const ATOM_LIST: usize = 2;
+const ATOM_LIST: u8 = 2;
 
-const DATATYPE_LIST: usize = 3;
+const DATATYPE_LIST: u8 = 3;
 
-const LABEL_COUNT: usize = 4;
+const LABEL_COUNT: u8 = 4;
 
-const COMPARISON: usize = 5;
+const COMPARISON: u8 = 5;
 
-// The most room that is lent, and the most elements of an accepted answer in the list.
+// The most bytes or numbers that are lent. Memory is zero before it is lent.
 const ROOM: usize = 65536;
 
-const MOST: usize = 32768;
+// The most numbers of an accepted list: its bytes fill the room.
+const NUMBERS: usize = 32768;
 
-// The number of an accepted answer, or of a refusal, and the answer's length, count or yes, or the refusal's place.
+// 0 for an accepted answer and its length, its count, or 1 for yes and 0 for no; or a refusal's number and place.
 struct Result {
     number: usize,
     value: usize,
@@ -39,19 +41,37 @@ fn least(a: usize, b: usize) -> usize
     if a < b { a } else { b }
 }
 
-fn read_byte(fd: i32) -> usize
+// So many bytes of the memory, or all where there are fewer.
+fn bytes_within(n: usize, memory: &[u8]) -> usize
+    ensures { λ r. ⌜ Counts r (now (memory .entry)) ⌝ }
+{
+    least(n, memory.len())
+}
+
+// So many numbers of the memory, or all where there are fewer.
+fn numbers_within(n: usize, memory: &[u16]) -> usize
+    ensures { λ r. ⌜ Counts r (now (memory .entry)) ⌝ }
+{
+    least(n, memory.len())
+}
+
+fn wide(byte: u8) -> usize
     ensures { λ r. ⌜ r < 256 ⌝ }
 {
+    byte as usize
+}
+
+fn read_byte(fd: i32) -> u8 {
     let mut byte = [0u8; 1];
     io::read_full(fd, &mut byte);
-    byte[0] as usize
+    byte[0]
 }
 
 fn read_u16(fd: i32) -> usize
     ensures { λ r. ⌜ r < 65536 ⌝ }
 {
-    let low = read_byte(fd);
-    low + 256 * read_byte(fd)
+    let low = wide(read_byte(fd));
+    low + 256 * wide(read_byte(fd))
 }
 
 fn read_u32(fd: i32) -> usize
@@ -62,9 +82,11 @@ fn read_u32(fd: i32) -> usize
 }
 
 fn read_result(fd: i32) -> Result {
+    let number = wide(read_byte(fd));
+    let value = read_u32(fd);
     Result {
-        number: read_byte(fd),
-        value: read_u32(fd),
+        number: number,
+        value: value,
     }
 }
 
@@ -75,97 +97,107 @@ fn same_result(a: Result, b: Result) -> bool {
     a.value == b.value
 }
 
+fn refused(refusal: Refusal) -> Result {
+    Result {
+        number: refusal.number as usize,
+        value: refusal.place as usize,
+    }
+}
+
+fn accepted(value: usize) -> Result {
+    Result {
+        number: 0,
+        value: value,
+    }
+}
+
 fn written_result(written: Written) -> Result {
     match written {
-        Written::Length(length) => Result {
-            number: 0,
-            value: length,
-        },
-        Written::Refused(r) => Result {
-            number: r.number as usize,
-            value: r.place as usize,
-        },
+        Written::Length(length) => accepted(length),
+        Written::Refused(refusal) => refused(refusal),
     }
 }
 
 fn counted_result(counted: Counted) -> Result {
     match counted {
-        Counted::Labels(labels) => Result {
-            number: 0,
-            value: labels,
-        },
-        Counted::Refused(r) => Result {
-            number: r.number as usize,
-            value: r.place as usize,
-        },
+        Counted::Labels(labels) => accepted(labels),
+        Counted::Refused(refusal) => refused(refusal),
     }
 }
 
 fn compared_result(answer: Answer) -> Result {
     match answer {
-        Answer::Yes => Result {
-            number: 0,
-            value: 1,
-        },
-        Answer::No => Result {
-            number: 0,
-            value: 0,
-        },
-        Answer::Refused(r) => Result {
-            number: r.number as usize,
-            value: r.place as usize,
-        },
+        Answer::Yes => accepted(1),
+        Answer::No => accepted(0),
+        Answer::Refused(refusal) => refused(refusal),
     }
 }
 
-// Reads an accepted answer, whose elements have so many bytes, and says how many elements it has; a refusal has none.
-fn read_answer(fd: i32, expected: Result, width: usize, bytes: &mut [u8]) -> usize
-    requires { ⌜ (width ≤ 2) × (width * 32768 ≤ length (now bytes)) ⌝ }
-    ensures { λ r. ⌜ r ≤ 32768 ⌝ }
+// How many bytes or numbers the list holds of an answer: none of a refusal.
+fn elements(answer: Result) -> usize
+    ensures { λ r. ⌜ r ≤ 65536 ⌝ }
 {
-    if expected.number != 0 {
+    if answer.number != 0 {
         return 0;
     }
-    let count = least(expected.value, MOST);
-    let length = width * count;
-    io::read_full(fd, &mut bytes[..length]);
-    count
+    least(answer.value, ROOM)
 }
 
-fn text(s: &[u8], strict: bool, out: &mut [u8]) -> Written {
+// So many bytes of the list, and zeros past them.
+fn read_bytes(fd: i32, length: usize) -> [u8; ROOM] {
+    let mut bytes = io::large_buffer();
+    let held = bytes_within(length, &bytes);
+    io::read_full(fd, &mut bytes[..held]);
+    bytes
+}
+
+fn same_bytes(a: &[u8; ROOM], b: &[u8; ROOM]) -> bool {
+    check::same(a, b)
+}
+
+fn text(s: &[u8], strict: bool, room: usize, out: &mut [u8]) -> Written {
+    let lent = bytes_within(room, out);
     if strict {
-        return skriduhol::strict_text(s, out);
+        return skriduhol::strict_text(s, &mut out[..lent]);
     }
-    skriduhol::plain_text(s, out)
+    skriduhol::plain_text(s, &mut out[..lent])
 }
 
 fn text_agrees(fd: i32, s: &[u8], strict: bool) -> bool {
-    let room = least(read_u32(fd), ROOM);
+    let room = read_u32(fd);
     let expected = read_result(fd);
-    let mut bytes = io::large_buffer();
-    let length = read_answer(fd, expected, 1, &mut bytes);
+    let bytes = read_bytes(fd, elements(expected));
     let mut out = io::large_buffer();
-    let result = written_result(text(s, strict, &mut out[..room]));
-    if !same_result(expected, result) {
+    let answer = written_result(text(s, strict, room, &mut out));
+    if !same_result(expected, answer) {
         return false;
     }
-    check::same(&out[..length], &bytes[..length])
+    same_bytes(&out, &bytes)
 }
 
-fn list(s: &[u8], datatypes: bool, out: &mut [u16]) -> Written {
+fn list(s: &[u8], datatypes: bool, room: usize, out: &mut [u16]) -> Written {
+    let lent = numbers_within(room, out);
     if datatypes {
-        return skriduhol::datatype_list(s, out);
+        return skriduhol::datatype_list(s, &mut out[..lent]);
     }
-    skriduhol::atom_list(s, out)
+    skriduhol::atom_list(s, &mut out[..lent])
 }
 
-// Whether the numbers are those that the bytes hold, two for each.
-fn same_numbers(numbers: &[u16], bytes: &[u8]) -> bool {
-    if bytes.len() / 2 < numbers.len() {
-        return false;
+// The number of a place in a list's bytes, and 0 past them.
+fn number_of(bytes: &[u8; ROOM], i: usize) -> usize {
+    if NUMBERS <= i {
+        return 0;
     }
-    for i in 0..numbers.len() {
-        if numbers[i] as usize != number_at(bytes, 2 * i) {
+    number_at(bytes, 2 * i)
+}
+
+fn wide_number(number: u16) -> usize {
+    number as usize
+}
+
+fn same_numbers(numbers: &[u16; ROOM], bytes: &[u8; ROOM]) -> bool {
+    for i in 0..ROOM {
+        if wide_number(numbers[i]) != number_of(bytes, i) {
             return false;
         }
     }
@@ -173,70 +205,57 @@ fn same_numbers(numbers: &[u16], bytes: &[u8]) -> bool {
 }
 
 fn list_agrees(fd: i32, s: &[u8], datatypes: bool) -> bool {
-    let room = least(read_u32(fd), ROOM);
+    let room = read_u32(fd);
     let expected = read_result(fd);
-    let mut bytes = io::large_buffer();
-    let length = read_answer(fd, expected, 2, &mut bytes);
+    let bytes = read_bytes(fd, 2 * elements(expected));
     let mut out = [0u16; ROOM];
-    let result = written_result(list(s, datatypes, &mut out[..room]));
-    if !same_result(expected, result) {
+    let answer = written_result(list(s, datatypes, room, &mut out));
+    if !same_result(expected, answer) {
         return false;
     }
-    same_numbers(&out[..length], &bytes)
+    same_numbers(&out, &bytes)
 }
 
 fn count_agrees(fd: i32, s: &[u8]) -> bool {
-    same_result(read_result(fd), counted_result(skriduhol::label_count(s)))
+    let expected = read_result(fd);
+    same_result(expected, counted_result(skriduhol::label_count(s)))
 }
 
 fn comparison_agrees(fd: i32, s: &[u8]) -> bool {
     let i = read_u16(fd);
     let j = read_u16(fd);
-    same_result(
-        read_result(fd),
-        compared_result(skriduhol::compare(s, i, j)),
-    )
+    let expected = read_result(fd);
+    same_result(expected, compared_result(skriduhol::compare(s, i, j)))
 }
 
 fn board_agrees(fd: i32, s: &[u8]) -> bool {
-    let mut out = io::large_buffer();
-    let length = skriduhol::board_output(s, &mut out);
     let expected = read_result(fd);
-    let mut bytes = io::large_buffer();
-    let count = read_answer(fd, expected, 1, &mut bytes);
-    if expected.value != length {
+    let bytes = read_bytes(fd, elements(expected));
+    let mut out = io::large_buffer();
+    let answer = accepted(skriduhol::board_output(s, &mut out));
+    if !same_result(expected, answer) {
         return false;
     }
-    check::same(&out[..count], &bytes[..count])
+    same_bytes(&out, &bytes)
 }
 
 // Whether the answer to the next question agrees.
 fn agrees(fd: i32, s: &[u8]) -> bool {
-    let kind = read_byte(fd);
-    if kind == PLAIN_TEXT {
-        return text_agrees(fd, s, false);
+    match read_byte(fd) {
+        PLAIN_TEXT => text_agrees(fd, s, false),
+        STRICT_TEXT => text_agrees(fd, s, true),
+        ATOM_LIST => list_agrees(fd, s, false),
+        DATATYPE_LIST => list_agrees(fd, s, true),
+        LABEL_COUNT => count_agrees(fd, s),
+        COMPARISON => comparison_agrees(fd, s),
+        _ => board_agrees(fd, s),
     }
-    if kind == STRICT_TEXT {
-        return text_agrees(fd, s, true);
-    }
-    if kind == ATOM_LIST {
-        return list_agrees(fd, s, false);
-    }
-    if kind == DATATYPE_LIST {
-        return list_agrees(fd, s, true);
-    }
-    if kind == LABEL_COUNT {
-        return count_agrees(fd, s);
-    }
-    if kind == COMPARISON {
-        return comparison_agrees(fd, s);
-    }
-    board_agrees(fd, s)
 }
 
-fn write_count(count: usize, words: &[u8]) {
-    io::print_decimal(STDOUT_FILENO, count as u64);
-    io::write_all(STDOUT_FILENO, words);
+fn one_if(yes: bool) -> usize
+    ensures { λ r. ⌜ r ≤ 1 ⌝ }
+{
+    if yes { 1 } else { 0 }
 }
 
 // How many of the answers to so many questions agree.
@@ -245,11 +264,46 @@ fn agreeing(fd: i32, s: &[u8], questions: usize) -> usize
 {
     let mut agreed = 0;
     for i in 0..questions {
-        if agrees(fd, s) {
-            agreed += 1;
-        }
+        agreed += one_if(agrees(fd, s));
     }
     agreed
+}
+
+struct Tally {
+    questions: usize,
+    agreed: usize,
+}
+
+// Fills the memory with a sheet of the list, and asks its questions.
+fn ask(fd: i32, sheet: &mut [u8]) -> Tally
+    ensures { λ r. ⌜ (r .«questions» < 256) × (r .«agreed» < 256) ⌝ }
+{
+    io::read_full(fd, sheet);
+    let questions = wide(read_byte(fd));
+    let agreed = agreeing(fd, sheet, questions);
+    Tally {
+        questions: questions,
+        agreed: agreed,
+    }
+}
+
+fn ask_next(fd: i32) -> Tally
+    ensures { λ r. ⌜ (r .«questions» < 256) × (r .«agreed» < 256) ⌝ }
+{
+    let mut sheet = io::large_buffer();
+    let length = bytes_within(read_u32(fd), &sheet);
+    ask(fd, &mut sheet[..length])
+}
+
+fn write_count(count: usize, words: &[u8]) {
+    io::print_decimal(STDOUT_FILENO, count as u64);
+    io::write_all(STDOUT_FILENO, words);
+}
+
+fn report(sheets: usize, questions: usize, agreed: usize) {
+    write_count(sheets, b" sheets, ");
+    write_count(questions, b" questions, ");
+    write_count(agreed, b" answers agree\n");
 }
 
 fn main() {
@@ -257,15 +311,10 @@ fn main() {
     let sheets = read_u32(fd);
     let mut questions = 0;
     let mut agreed = 0;
-    let mut sheet = io::large_buffer();
     for i in 0..sheets {
-        let length = least(read_u32(fd), ROOM);
-        io::read_full(fd, &mut sheet[..length]);
-        let asked = read_byte(fd);
-        questions += asked;
-        agreed += agreeing(fd, &sheet[..length], asked);
+        let tally = ask_next(fd);
+        questions += tally.questions;
+        agreed += tally.agreed;
     }
-    write_count(sheets, b" sheets, ");
-    write_count(questions, b" questions, ");
-    write_count(agreed, b" answers agree\n");
+    report(sheets, questions, agreed);
 }
