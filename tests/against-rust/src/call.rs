@@ -1,0 +1,185 @@
+//! The C interface, and one call of it over memory in which every byte is watched.
+use oracle::{
+    answer::{Answer, Question},
+    sheet::{Refusal, BOARD_ROOM},
+};
+use std::fmt;
+
+pub type Fill<T> =
+    unsafe extern "C" fn(sheet: *const u8, sheet_length: usize, out: *mut T, room: usize, value: *mut usize) -> u8;
+pub type Count = unsafe extern "C" fn(sheet: *const u8, sheet_length: usize, value: *mut usize) -> u8;
+pub type Compare =
+    unsafe extern "C" fn(sheet: *const u8, sheet_length: usize, i: usize, j: usize, value: *mut usize) -> u8;
+pub type Board = unsafe extern "C" fn(sheet: *const u8, sheet_length: usize, out: *mut u8) -> usize;
+
+/// The functions of `skriduhol.h`.
+#[derive(Clone, Copy)]
+pub struct Library {
+    pub plain_text: Fill<u8>,
+    pub strict_text: Fill<u8>,
+    pub atom_list: Fill<u16>,
+    pub datatype_list: Fill<u16>,
+    pub label_count: Count,
+    pub compare: Compare,
+    pub board_output: Board,
+}
+
+/// What a call gave: the refusal's number or 0, the value, and the memory it was lent.
+pub struct Said {
+    number: u8,
+    value: usize,
+    memory: Memory,
+    sheet_changed: bool,
+}
+
+enum Memory {
+    None,
+    Bytes(Lent<u8>),
+    Numbers(Lent<u16>),
+}
+
+/// A value that no call can mean, to see that it is overwritten.
+const UNSAID: usize = usize::MAX / 3;
+
+impl Library {
+    pub fn call(&self, sheet: &[u8], question: Question, room: usize, salt: u8) -> Said {
+        let mut lent = sheet.to_vec();
+        let (pointer, length) = (lent.as_mut_ptr().cast_const(), lent.len());
+        let mut value = UNSAID;
+        // SAFETY: the sheet, the value and the lent rooms outlive the calls.
+        let (number, memory) = unsafe {
+            let mut text = |fill: Fill<u8>| {
+                let mut out = Lent::new(room, salt);
+                (fill(pointer, length, out.start(), room, &mut value), Memory::Bytes(out))
+            };
+            match question {
+                Question::PlainText => text(self.plain_text),
+                Question::StrictText => text(self.strict_text),
+                Question::AtomList | Question::DatatypeList => {
+                    let fill = if question == Question::AtomList { self.atom_list } else { self.datatype_list };
+                    let mut out = Lent::new(room, salt);
+                    (fill(pointer, length, out.start(), room, &mut value), Memory::Numbers(out))
+                }
+                Question::LabelCount => ((self.label_count)(pointer, length, &mut value), Memory::None),
+                Question::Comparison(i, j) => ((self.compare)(pointer, length, i, j, &mut value), Memory::None),
+                Question::BoardOutput => {
+                    let mut out = Lent::new(BOARD_ROOM, salt);
+                    value = (self.board_output)(pointer, length, out.start());
+                    (0, Memory::Bytes(out))
+                }
+            }
+        };
+        Said { number, value, memory, sheet_changed: lent != sheet }
+    }
+}
+
+impl Said {
+    /// Says what is not as expected, if anything is.
+    pub fn differs(&self, expected: &Result<Answer, Refusal>) -> Option<String> {
+        let (number, value) = match expected {
+            Ok(Answer::Count(count)) => (0, *count),
+            Ok(Answer::Equal(equal)) => (0, *equal as usize),
+            Ok(answer) => (0, answer.length()),
+            Err(refusal) => (refusal.number, refusal.place),
+        };
+        if (self.number, self.value) != (number, value) {
+            return Some("another answer".into());
+        }
+        if self.sheet_changed {
+            return Some("the sheet itself is changed".into());
+        }
+        match (&self.memory, expected) {
+            (Memory::None, _) => None,
+            (Memory::Bytes(out), Ok(Answer::Text(text))) => out.differs(text.as_bytes()),
+            (Memory::Bytes(out), _) => out.differs(&[]),
+            (Memory::Numbers(out), Ok(Answer::List(list))) => out.differs(list),
+            (Memory::Numbers(out), _) => out.differs(&[]),
+        }
+    }
+}
+
+impl fmt::Display for Said {
+    fn fmt(&self, f: &mut fmt::Formatter) -> fmt::Result {
+        if self.number > 0 {
+            return write!(f, "refused {} at {}", self.number, self.value);
+        }
+        write!(f, "accepted, {}", self.value)?;
+        match &self.memory {
+            Memory::None => Ok(()),
+            Memory::Bytes(out) => write!(f, ": {:?}", String::from_utf8_lossy(out.first(self.value))),
+            Memory::Numbers(out) => write!(f, ": {:?}", out.first(self.value)),
+        }
+    }
+}
+
+/// A cell of lent memory. Its mark depends on its position, and repeats after `PERIOD`.
+trait Cell: Copy + PartialEq + fmt::Debug {
+    fn mark(position: usize, salt: u8) -> Self;
+}
+
+impl Cell for u8 {
+    fn mark(position: usize, salt: u8) -> u8 {
+        (position as u8).wrapping_mul(37).wrapping_add(salt)
+    }
+}
+
+impl Cell for u16 {
+    fn mark(position: usize, salt: u8) -> u16 {
+        0xa500 + u8::mark(position, salt) as u16
+    }
+}
+
+const PERIOD: usize = 256;
+/// How many cells before and after the lent room are watched.
+const GUARD: usize = PERIOD;
+
+/// Lent memory between two guards, filled with marks.
+struct Lent<T> {
+    cells: Vec<T>,
+    room: usize,
+    marks: Vec<T>,
+}
+
+impl<T: Cell> Lent<T> {
+    fn new(room: usize, salt: u8) -> Self {
+        let marks: Vec<T> = (0..PERIOD).map(|position| T::mark(position, salt)).collect();
+        let length = GUARD + room + GUARD;
+        let mut cells = marks.repeat(length.div_ceil(PERIOD));
+        cells.truncate(length);
+        Lent { cells, room, marks }
+    }
+
+    fn start(&mut self) -> *mut T {
+        self.cells[GUARD..].as_mut_ptr()
+    }
+
+    /// The first cells of the room, at most all of it.
+    fn first(&self, length: usize) -> &[T] {
+        &self.cells[GUARD..][..length.min(self.room)]
+    }
+
+    /// Says which cell is wrong, if the room is not the answer and nothing after it.
+    fn differs(&self, answer: &[T]) -> Option<String> {
+        if self.first(answer.len()) != answer {
+            return Some("another answer".into());
+        }
+        let touched = self.touched(0, GUARD).or(self.touched(GUARD + answer.len(), self.cells.len()))?;
+        let (held, was) = (self.cells[touched], self.marks[touched % PERIOD]);
+        let position = touched as isize - GUARD as isize;
+        Some(format!("cell {position} of a room of {} was {was:?} and is {held:?}", self.room))
+    }
+
+    /// The first cell of a range that does not hold its mark.
+    fn touched(&self, from: usize, to: usize) -> Option<usize> {
+        let mut at = from;
+        while at < to {
+            let end = to.min(at - at % PERIOD + PERIOD);
+            let marks = &self.marks[at % PERIOD..][..end - at];
+            if self.cells[at..end] != *marks {
+                return (at..end).find(|i| self.cells[*i] != self.marks[i % PERIOD]);
+            }
+            at = end;
+        }
+        None
+    }
+}

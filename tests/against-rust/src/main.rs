@@ -1,0 +1,88 @@
+//! The command line: `run` beside this folder builds the library and starts it.
+use against_rust::{call::Library, kinds, tally::Table};
+use oracle::generate::Kind;
+use std::{process::exit, str::FromStr, thread, time::Instant};
+
+#[link(name = "skriduhol_c", kind = "static")]
+extern "C" {
+    fn skriduhol_plain_text(sheet: *const u8, length: usize, out: *mut u8, room: usize, value: *mut usize) -> u8;
+    fn skriduhol_strict_text(sheet: *const u8, length: usize, out: *mut u8, room: usize, value: *mut usize) -> u8;
+    fn skriduhol_atom_list(sheet: *const u8, length: usize, out: *mut u16, room: usize, value: *mut usize) -> u8;
+    fn skriduhol_datatype_list(sheet: *const u8, length: usize, out: *mut u16, room: usize, value: *mut usize) -> u8;
+    fn skriduhol_label_count(sheet: *const u8, length: usize, value: *mut usize) -> u8;
+    fn skriduhol_compare(sheet: *const u8, length: usize, i: usize, j: usize, value: *mut usize) -> u8;
+    fn skriduhol_board_output(sheet: *const u8, length: usize, out: *mut u8) -> usize;
+}
+
+const LIBRARY: Library = Library {
+    plain_text: skriduhol_plain_text,
+    strict_text: skriduhol_strict_text,
+    atom_list: skriduhol_atom_list,
+    datatype_list: skriduhol_datatype_list,
+    label_count: skriduhol_label_count,
+    compare: skriduhol_compare,
+    board_output: skriduhol_board_output,
+};
+
+const USAGE: &str = "usage: run [--seed N] [--count M] [--kind KIND] [--threads T]
+  --seed     of the random kinds (1)
+  --count    sheets of each random kind (50000)
+  --kind     sound, random, quantified, damaged, limits, worst or slowest (all but slowest)
+  --threads  (as many as there are processors)";
+
+struct Arguments {
+    seed: u64,
+    count: usize,
+    kinds: Vec<Kind>,
+    threads: usize,
+}
+
+fn usage() -> ! {
+    eprintln!("{USAGE}");
+    exit(2)
+}
+
+fn number<T: FromStr>(text: &str) -> T {
+    text.parse().unwrap_or_else(|_| usage())
+}
+
+fn arguments() -> Arguments {
+    let kinds = Kind::ALL.into_iter().filter(|kind| *kind != Kind::Slowest).collect();
+    let threads = thread::available_parallelism().map_or(1, usize::from);
+    let mut arguments = Arguments { seed: 1, count: 50_000, kinds, threads };
+    let mut words = std::env::args().skip(1);
+    while let Some(name) = words.next() {
+        let value = words.next().unwrap_or_else(|| usage());
+        match name.as_str() {
+            "--seed" => arguments.seed = number(&value),
+            "--count" => arguments.count = number(&value),
+            "--kind" => arguments.kinds = vec![Kind::named(&value).unwrap_or_else(|| usage())],
+            "--threads" => arguments.threads = number::<usize>(&value).max(1),
+            _ => usage(),
+        }
+    }
+    arguments
+}
+
+fn main() {
+    let Arguments { seed, count, kinds, threads } = arguments();
+    let mut tallies = Vec::new();
+    for kind in kinds {
+        let start = Instant::now();
+        let (tally, found) = kinds::compare(&LIBRARY, kind, seed, count, threads);
+        if let Some(found) = found {
+            println!("{found}");
+            exit(1);
+        }
+        eprintln!("{kind}: {} sheets in {:.0?}", tally.sheets, start.elapsed());
+        tallies.push((kind, tally));
+    }
+    let table = Table(&tallies);
+    print!("{table}");
+    let missing = table.sum().missing();
+    match missing.is_empty() {
+        true => println!("Every refusal from 1 to 19 occurred."),
+        false => println!("Refusals that did not occur: {missing:?}"),
+    }
+    println!("No difference.");
+}

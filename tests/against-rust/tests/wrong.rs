@@ -1,0 +1,384 @@
+//! Libraries that are wrong in one thing each: the comparison must find every one of them, and nothing in a right one.
+use against_rust::{
+    call::Library,
+    kinds::{compare, Found},
+    questions::Operation,
+};
+use oracle::{
+    answer::{examine, Answer, Examined, Question},
+    draw::smallest,
+    generate::Kind,
+    sheet::{Refusal, BOARD_ROOM},
+};
+use std::{
+    cell::RefCell,
+    rc::Rc,
+    sync::atomic::{AtomicUsize, Ordering::SeqCst},
+};
+
+/// A question as the library gets it.
+struct Asked {
+    question: Question,
+    room: usize,
+    sheet: *mut u8,
+    examined: Rc<Examined>,
+}
+
+/// What the library is about to say: the refusal's number or 0, the value, and the cells of its output by position.
+struct Reply {
+    number: u8,
+    value: usize,
+    cells: Vec<(isize, u16)>,
+}
+
+impl Asked {
+    fn right(&self, room: Option<usize>) -> Result<Answer, Refusal> {
+        self.examined.answer(self.question, room).unwrap()
+    }
+
+    fn is(&self, operation: Operation) -> bool {
+        operation
+            == match self.question {
+                Question::PlainText => Operation::PlainText,
+                Question::StrictText => Operation::StrictText,
+                Question::AtomList => Operation::AtomList,
+                Question::DatatypeList => Operation::DatatypeList,
+                Question::LabelCount => Operation::LabelCount,
+                Question::Comparison(..) => Operation::Comparison,
+                Question::BoardOutput => Operation::BoardOutput,
+            }
+    }
+
+    fn fills(&self) -> bool {
+        !self.is(Operation::LabelCount) && !self.is(Operation::Comparison)
+    }
+}
+
+impl Reply {
+    fn new(answer: &Result<Answer, Refusal>) -> Self {
+        let numbers: Vec<u16> = match answer {
+            Ok(Answer::Text(text)) => text.bytes().map(u16::from).collect(),
+            Ok(Answer::List(list)) => list.clone(),
+            _ => vec![],
+        };
+        let (number, value) = match answer {
+            Ok(Answer::Count(count)) => (0, *count),
+            Ok(Answer::Equal(equal)) => (0, *equal as usize),
+            Ok(answer) => (0, answer.length()),
+            Err(refusal) => (refusal.number, refusal.place),
+        };
+        Reply { number, value, cells: (0..).zip(numbers).collect() }
+    }
+
+    fn text(&mut self, text: &str) {
+        *self = Reply::new(&Ok(Answer::Text(text.into())));
+    }
+
+    fn list(&mut self, list: Vec<u16>) {
+        *self = Reply::new(&Ok(Answer::List(list)));
+    }
+
+    fn refuse(&mut self, number: u8, place: usize) {
+        *self = Reply::new(&Err(Refusal { number, place }));
+    }
+
+    fn held(&self) -> Vec<u16> {
+        self.cells.iter().map(|(_, number)| *number).collect()
+    }
+}
+
+type Fault = fn(&Asked, &mut Reply);
+
+/// Each with the operation in which it shows.
+const FAULTS: &[(&str, Operation, Fault)] = &[
+    ("the last byte of a text is another", Operation::PlainText, |asked, reply| {
+        if let (true, Some((_, byte))) = (asked.is(Operation::PlainText), reply.cells.last_mut()) {
+            *byte ^= 1;
+        }
+    }),
+    ("a length is one too many", Operation::StrictText, |asked, reply| {
+        reply.value += (asked.is(Operation::StrictText) && reply.number == 0) as usize;
+    }),
+    ("a byte is written after the answer", Operation::PlainText, |asked, reply| {
+        if asked.is(Operation::PlainText) && reply.number == 0 && reply.value < asked.room {
+            reply.cells.push((reply.value as isize, 0));
+        }
+    }),
+    ("a byte is written past the lent room", Operation::StrictText, |asked, reply| {
+        if asked.is(Operation::StrictText) {
+            reply.cells.push((asked.room as isize, 0));
+        }
+    }),
+    ("a number is written past the lent room", Operation::AtomList, |asked, reply| {
+        if asked.is(Operation::AtomList) {
+            reply.cells.push((asked.room as isize, 0));
+        }
+    }),
+    ("a number is written before the lent room", Operation::DatatypeList, |asked, reply| {
+        if asked.is(Operation::DatatypeList) {
+            reply.cells.push((-1, 0));
+        }
+    }),
+    ("a room exactly enough is refused", Operation::PlainText, |asked, reply| {
+        if asked.fills() && reply.number == 0 && reply.value == asked.room {
+            reply.refuse(16, 0);
+        }
+    }),
+    ("a room one short is accepted", Operation::PlainText, |asked, reply| {
+        let right = Reply::new(&asked.right(None));
+        if asked.fills() && reply.number == 16 && right.value == asked.room + 1 {
+            *reply = right;
+            reply.cells.pop();
+        }
+    }),
+    ("a text is begun before its room is judged", Operation::PlainText, |asked, reply| {
+        if reply.number == 16 {
+            reply.cells = Reply::new(&asked.right(None)).cells;
+            reply.cells.truncate(asked.room);
+        }
+    }),
+    ("a list is begun before its room is judged", Operation::AtomList, |asked, reply| {
+        if reply.number == 16 && asked.is(Operation::AtomList) {
+            reply.cells = Reply::new(&asked.right(None)).cells;
+            reply.cells.truncate(asked.room);
+        }
+    }),
+    ("a refusal leaves its number in the output", Operation::PlainText, |asked, reply| {
+        if asked.fills() && !asked.is(Operation::BoardOutput) && reply.number > 0 && asked.room > 0 {
+            reply.cells.push((0, reply.number as u16));
+        }
+    }),
+    ("the root is the place of a refusal of the walk", Operation::PlainText, |asked, reply| {
+        if (12..=15).contains(&reply.number) {
+            reply.value = asked.examined.sheet.as_ref().unwrap().root();
+        }
+    }),
+    ("13 is 12", Operation::PlainText, |_, reply| reply.number -= (reply.number == 13) as u8),
+    ("14 and 15 are 13", Operation::PlainText, |_, reply| {
+        reply.number = if matches!(reply.number, 14 | 15) { 13 } else { reply.number };
+    }),
+    ("11 is not tried", Operation::PlainText, |_, reply| reply.number += (reply.number == 11) as u8),
+    ("a refusal's place is not given", Operation::PlainText, |_, reply| {
+        reply.value = if reply.number > 0 { usize::MAX / 3 } else { reply.value };
+    }),
+    ("a strict text is a plain one", Operation::StrictText, |asked, reply| {
+        if let (true, 0, Ok(exported)) = (asked.is(Operation::StrictText), reply.number, &asked.examined.exported) {
+            reply.text(&exported.plain);
+        }
+    }),
+    ("an atom list has no repeats", Operation::AtomList, |asked, reply| {
+        if asked.is(Operation::AtomList) && reply.number == 0 {
+            let mut atoms: Vec<Vec<u16>> = Vec::new();
+            for atom in reply.held().chunks(2) {
+                if !atoms.iter().any(|a| a == atom) {
+                    atoms.push(atom.to_vec());
+                }
+            }
+            reply.list(atoms.concat());
+        }
+    }),
+    ("a list has the lowest number of equal names", Operation::AtomList, |asked, reply| {
+        if let (true, 0, Ok(sheet)) = (asked.is(Operation::AtomList), reply.number, &asked.examined.sheet) {
+            let lowest = |n: u16| sheet.names.iter().position(|name| *name == sheet.name(n)).unwrap() as u16;
+            reply.list(reply.held().chunks(2).flat_map(|atom| [lowest(atom[0]), atom[1]]).collect());
+        }
+    }),
+    ("an atom's parameter count is lost", Operation::AtomList, |asked, reply| {
+        if asked.is(Operation::AtomList) && reply.number == 0 {
+            reply.list(reply.held().chunks(2).flat_map(|atom| [atom[0], 0]).collect());
+        }
+    }),
+    ("a list's room is counted in bytes", Operation::AtomList, |asked, reply| {
+        if asked.is(Operation::AtomList) && reply.number == 0 && 2 * reply.value > asked.room {
+            reply.refuse(16, 0);
+        }
+    }),
+    ("a datatype list has the goal's entries", Operation::DatatypeList, |asked, reply| {
+        if let (true, 0, Ok(sheet)) = (asked.is(Operation::DatatypeList), reply.number, &asked.examined.sheet) {
+            let mut list = reply.held();
+            sheet.props[sheet.goal].datatypes(&mut list);
+            if list.len() <= asked.room {
+                reply.list(list);
+            }
+        }
+    }),
+    ("labels are counted only up to the first", Operation::LabelCount, |asked, reply| {
+        if asked.is(Operation::LabelCount) && reply.number == 0 {
+            reply.value = reply.value.min(1);
+        }
+    }),
+    ("a label count refuses nothing of the walk", Operation::LabelCount, |asked, reply| {
+        if asked.is(Operation::LabelCount) && (12..=15).contains(&reply.number) {
+            (reply.number, reply.value) = (0, 0);
+        }
+    }),
+    ("propositions are compared by number", Operation::Comparison, |asked, reply| {
+        if let (Question::Comparison(i, j), 0, Ok(sheet)) = (asked.question, reply.number, &asked.examined.sheet) {
+            reply.value = (sheet.steps[i].conclusion == sheet.steps[j].conclusion) as usize;
+        }
+    }),
+    ("17 comes before the refusals of a sheet", Operation::Comparison, |asked, reply| {
+        if let (Question::Comparison(i, j), 1..=11) = (asked.question, reply.number) {
+            if i.max(j) > 1023 {
+                reply.refuse(17, 0);
+            }
+        }
+    }),
+    ("step numbers wrap at 16 bits", Operation::Comparison, |asked, reply| {
+        if let (Question::Comparison(i, j), 17) = (asked.question, reply.number) {
+            let wrapped = Question::Comparison(i % 65536, j % 65536);
+            *reply = Reply::new(&asked.examined.answer(wrapped, None).unwrap());
+        }
+    }),
+    ("step numbers wrap at 32 bits", Operation::Comparison, |asked, reply| {
+        if let (Question::Comparison(i, j), 17) = (asked.question, reply.number) {
+            let wrapped = Question::Comparison(i % (1 << 32), j % (1 << 32));
+            *reply = Reply::new(&asked.examined.answer(wrapped, None).unwrap());
+        }
+    }),
+    ("18 is no", Operation::Comparison, |_, reply| {
+        if reply.number == 18 {
+            (reply.number, reply.value) = (0, 0);
+        }
+    }),
+    ("19 is yes", Operation::Comparison, |_, reply| {
+        if reply.number == 19 {
+            (reply.number, reply.value) = (0, 1);
+        }
+    }),
+    ("a comparison refuses what the walk refuses", Operation::Comparison, |asked, reply| {
+        if let (true, Err(refusal)) = (asked.is(Operation::Comparison), &asked.examined.exported) {
+            reply.refuse(refusal.number, refusal.place);
+        }
+    }),
+    ("all sheets are refused", Operation::PlainText, |_, reply| reply.refuse(1, 0)),
+    ("every text is sorry", Operation::PlainText, |asked, reply| {
+        if asked.is(Operation::PlainText) && asked.room >= 5 {
+            reply.text("sorry");
+        }
+    }),
+    ("nothing is written", Operation::BoardOutput, |_, reply| reply.cells.clear()),
+    ("the board's line has no newline", Operation::BoardOutput, |asked, reply| {
+        if asked.is(Operation::BoardOutput) && asked.examined.exported.is_err() {
+            reply.cells.pop();
+            reply.value -= 1;
+        }
+    }),
+    ("the board's line has another refusal", Operation::BoardOutput, |asked, reply| {
+        if let (true, Err(refusal)) = (asked.is(Operation::BoardOutput), &asked.examined.exported) {
+            reply.text(&format!("refused {} at {}\n", refusal.place, refusal.number));
+        }
+    }),
+    ("the board's room is one short", Operation::BoardOutput, |asked, reply| {
+        if asked.is(Operation::BoardOutput) && reply.value == BOARD_ROOM {
+            reply.text("refused 16 at 0\n");
+        }
+    }),
+    ("the board writes past what it prints", Operation::BoardOutput, |asked, reply| {
+        if asked.is(Operation::BoardOutput) && reply.value < BOARD_ROOM {
+            reply.cells.push((BOARD_ROOM as isize - 1, 0));
+        }
+    }),
+    ("the board leaves a text behind that is too long", Operation::BoardOutput, |asked, reply| {
+        if let (true, Ok(exported)) = (asked.is(Operation::BoardOutput), &asked.examined.exported) {
+            if exported.plain.len() > BOARD_ROOM {
+                reply.cells.push((100, 0));
+            }
+        }
+    }),
+    ("the sheet is written to", Operation::Comparison, |asked, reply| {
+        if reply.number == 0 {
+            // SAFETY: an accepted sheet has bytes, and the mock is lent a copy of it.
+            unsafe { *asked.sheet ^= 1 }
+        }
+    }),
+];
+
+/// Which fault the library has now; none past the last.
+static FAULT: AtomicUsize = AtomicUsize::new(usize::MAX);
+
+thread_local!(static LAST: RefCell<Option<(Vec<u8>, Rc<Examined>)>> = const { RefCell::new(None) });
+
+/// The sheet examined, or the last one once more.
+fn examined(sheet: &[u8]) -> Rc<Examined> {
+    LAST.with_borrow_mut(|last| match last {
+        Some((bytes, examined)) if bytes == sheet => examined.clone(),
+        _ => {
+            let examined = Rc::new(examine(sheet).unwrap());
+            *last = Some((sheet.to_vec(), examined.clone()));
+            examined
+        }
+    })
+}
+
+/// Answers with the fault, and writes the cells.
+unsafe fn reply<T: TryFrom<u16>>(
+    question: Question,
+    sheet: *const u8,
+    length: usize,
+    out: *mut T,
+    room: usize,
+    value: *mut usize,
+) -> u8 {
+    let bytes = if length == 0 { &[] } else { std::slice::from_raw_parts(sheet, length) };
+    let asked = Asked { question, room, sheet: sheet.cast_mut(), examined: examined(bytes) };
+    let mut reply = Reply::new(&asked.right(Some(room)));
+    if let Some((_, _, fault)) = FAULTS.get(FAULT.load(SeqCst)) {
+        fault(&asked, &mut reply);
+    }
+    for (at, number) in reply.cells {
+        *out.offset(at) = T::try_from(number).ok().unwrap();
+    }
+    *value = reply.value;
+    reply.number
+}
+
+macro_rules! fill {
+    ($name:ident, $cell:ty, $question:expr) => {
+        unsafe extern "C" fn $name(s: *const u8, n: usize, out: *mut $cell, room: usize, value: *mut usize) -> u8 {
+            reply($question, s, n, out, room, value)
+        }
+    };
+}
+
+fill!(plain_text, u8, Question::PlainText);
+fill!(strict_text, u8, Question::StrictText);
+fill!(atom_list, u16, Question::AtomList);
+fill!(datatype_list, u16, Question::DatatypeList);
+
+unsafe extern "C" fn label_count(s: *const u8, n: usize, value: *mut usize) -> u8 {
+    reply(Question::LabelCount, s, n, std::ptr::null_mut::<u8>(), 0, value)
+}
+
+unsafe extern "C" fn compare_steps(s: *const u8, n: usize, i: usize, j: usize, value: *mut usize) -> u8 {
+    reply(Question::Comparison(i, j), s, n, std::ptr::null_mut::<u8>(), 0, value)
+}
+
+unsafe extern "C" fn board_output(s: *const u8, n: usize, out: *mut u8) -> usize {
+    let mut value = 0;
+    reply(Question::BoardOutput, s, n, out, BOARD_ROOM, &mut value);
+    value
+}
+
+const LIBRARY: Library =
+    Library { plain_text, strict_text, atom_list, datatype_list, label_count, compare: compare_steps, board_output };
+
+/// The first difference over some sheets of each kind.
+fn found() -> Option<Found> {
+    let kinds = [Kind::Quantified, Kind::Limits, Kind::Damaged, Kind::Sound, Kind::Random];
+    kinds.into_iter().find_map(|kind| compare(&LIBRARY, kind, 11, 250, 2).1)
+}
+
+#[test]
+fn every_wrong_library_is_found() {
+    assert!(found().is_none(), "a right library differs: {}", found().unwrap());
+    for (index, (fault, operation, _)) in FAULTS.iter().enumerate() {
+        FAULT.store(index, SeqCst);
+        let found = found().unwrap_or_else(|| panic!("not found: {fault}"));
+        println!("{fault}\n{found}\n");
+        assert_eq!(found.difference.operation, Some(*operation), "{fault}");
+        if index == 0 {
+            assert_eq!(found.sheet, smallest().bytes());
+        }
+    }
+}

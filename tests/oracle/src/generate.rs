@@ -1,0 +1,83 @@
+//! Sheets by kind. Four kinds are random, one sheet for each seed and index; the others are fixed lists.
+mod arbitrary;
+mod damaged;
+mod draft;
+mod sound;
+mod variant;
+
+use crate::{limits, rng::Rng, worst};
+use std::fmt;
+
+#[derive(Clone, Copy, PartialEq, Eq, Debug)]
+pub enum Kind {
+    Sound,
+    Random,
+    Quantified,
+    Damaged,
+    Limits,
+    Worst,
+    Slowest,
+}
+
+impl Kind {
+    pub const ALL: [Kind; 7] =
+        [Kind::Sound, Kind::Random, Kind::Quantified, Kind::Damaged, Kind::Limits, Kind::Worst, Kind::Slowest];
+
+    pub fn named(name: &str) -> Option<Kind> {
+        Kind::ALL.into_iter().find(|kind| kind.to_string() == name)
+    }
+}
+
+impl fmt::Display for Kind {
+    fn fmt(&self, f: &mut fmt::Formatter) -> fmt::Result {
+        f.pad(&format!("{self:?}").to_lowercase())
+    }
+}
+
+/// A sheet with a word on what it is.
+pub type Named = (String, Vec<u8>);
+
+/// The sheets of a kind.
+pub enum Sheets {
+    Random { kind: Kind, seed: u64, count: usize },
+    Fixed(Vec<Named>),
+}
+
+impl Sheets {
+    /// The first `count` sheets of a random kind, or a fixed list.
+    pub fn new(kind: Kind, seed: u64, count: usize) -> Self {
+        match kind {
+            Kind::Limits => Sheets::Fixed(limits::limits()),
+            Kind::Worst => Sheets::Fixed(worst::worst()),
+            Kind::Slowest => Sheets::Fixed(worst::slowest()),
+            Kind::Sound | Kind::Random | Kind::Quantified | Kind::Damaged => Sheets::Random { kind, seed, count },
+        }
+    }
+
+    pub fn count(&self) -> usize {
+        match self {
+            Sheets::Random { count, .. } => *count,
+            Sheets::Fixed(list) => list.len(),
+        }
+    }
+
+    pub fn get(&self, index: usize) -> Named {
+        match self {
+            Sheets::Random { kind, seed, .. } => {
+                let rng = Rng::new(*seed, index as u64);
+                let bytes = match kind {
+                    Kind::Sound => sound::sound(rng),
+                    Kind::Random => arbitrary::arbitrary(rng, false),
+                    Kind::Quantified => arbitrary::arbitrary(rng, true),
+                    _ => damaged::damaged(rng),
+                };
+                (format!("{kind} {index} of seed {seed}"), bytes)
+            }
+            Sheets::Fixed(list) => list[index].clone(),
+        }
+    }
+
+    pub fn iter(&self) -> impl Iterator<Item = Named> + '_ {
+        (0..self.count()).map(|index| self.get(index))
+    }
+}

@@ -1,0 +1,159 @@
+//! A sample of the answers as one file, for a program that asks the library the same questions.
+//!
+//! The file is a row of entries up to its end. Numbers are low byte first.
+//!
+//! - An entry: the sheet's length (u32), its bytes, the number of questions (u8), the questions.
+//! - A question: its kind (u8): 0 plain text, 1 strict text, 2 atom list, 3 datatype list, 4 label count, 5 comparison,
+//!   6 board output. Kinds 0 to 3 then have the room (u32), in bytes or, for the lists, in numbers; kind 5 has the two
+//!   steps (u16, u16). The expected answer follows.
+//! - An answer: 0 or the refusal's number (u8), and a value (u32): the length of the text in bytes or of the list in
+//!   numbers, the label count, 1 for yes and 0 for no, or the refusal's place. An accepted answer of kinds 0 to 3, and
+//!   every one of kind 6, then has the text's bytes or the list's numbers (u16 each). Kind 6 is never refused: what the
+//!   board prints for a refusal is its answer.
+use crate::{
+    answer::{examine, Answer, Examined, Finding, Question},
+    generate::{Kind, Sheets},
+    rng::Rng,
+    sheet::Refusal,
+};
+use std::ops::RangeInclusive;
+
+/// Sheets of each random kind: so many small ones, and a few larger ones.
+const SMALL: usize = 250;
+const LARGE: usize = 3;
+/// The longest sheet, and the longest answer, of a small and of a large one.
+const SMALL_BYTES: usize = 800;
+const LARGE_BYTES: usize = 8000;
+/// The longest sheet of document 01; the limits have longer ones, which 3 refuses.
+const LONGEST_SHEET: usize = 38_924;
+
+#[derive(Default)]
+pub struct List {
+    pub bytes: Vec<u8>,
+    pub sheets: usize,
+    pub questions: usize,
+}
+
+/// The list, which depends on the seed alone.
+pub fn list(seed: u64) -> Result<List, Finding> {
+    let mut list = List::default();
+    let mut rng = Rng::new(seed, 0);
+    for (_, sheet) in Sheets::new(Kind::Limits, 0, 0).iter().filter(|(_, sheet)| sheet.len() <= LONGEST_SHEET) {
+        list.add(&sheet, &examine(&sheet)?, SMALL_BYTES, &mut rng)?;
+    }
+    for (_, sheet) in Sheets::new(Kind::Worst, 0, 0).iter().take(LARGE) {
+        list.add(&sheet, &examine(&sheet)?, SMALL_BYTES, &mut rng)?;
+    }
+    for kind in [Kind::Sound, Kind::Random, Kind::Quantified, Kind::Damaged] {
+        list.sample(kind, seed, 0..=SMALL_BYTES, SMALL, &mut rng)?;
+        list.sample(kind, seed, SMALL_BYTES + 1..=LARGE_BYTES, LARGE, &mut rng)?;
+    }
+    Ok(list)
+}
+
+impl List {
+    /// Adds the first sheets of a random kind whose length is in a range and whose text is not longer.
+    fn sample(
+        &mut self,
+        kind: Kind,
+        seed: u64,
+        lengths: RangeInclusive<usize>,
+        count: usize,
+        rng: &mut Rng,
+    ) -> Result<(), Finding> {
+        let end = self.sheets + count;
+        for (_, sheet) in Sheets::new(kind, seed, usize::MAX).iter().filter(|(_, sheet)| lengths.contains(&sheet.len()))
+        {
+            let examined = examine(&sheet)?;
+            if examined.exported.as_ref().map_or(0, |exported| exported.strict.len()) <= *lengths.end() {
+                self.add(&sheet, &examined, *lengths.end(), rng)?;
+            }
+            if self.sheets == end {
+                break;
+            }
+        }
+        Ok(())
+    }
+
+    /// Adds an entry. Answers longer than `longest` are asked for with too little room, or of the board.
+    fn add(&mut self, sheet: &[u8], examined: &Examined, longest: usize, rng: &mut Rng) -> Result<(), Finding> {
+        let questions = questions(examined, longest, rng);
+        self.sheets += 1;
+        self.questions += questions.len();
+        self.bytes.extend((sheet.len() as u32).to_le_bytes());
+        self.bytes.extend(sheet);
+        self.bytes.push(questions.len() as u8);
+        for (question, room) in questions {
+            self.add_question(question, room);
+            self.add_answer(&examined.answer(question, room)?);
+        }
+        Ok(())
+    }
+
+    fn add_question(&mut self, question: Question, room: Option<usize>) {
+        self.bytes.push(match question {
+            Question::PlainText => 0,
+            Question::StrictText => 1,
+            Question::AtomList => 2,
+            Question::DatatypeList => 3,
+            Question::LabelCount => 4,
+            Question::Comparison(..) => 5,
+            Question::BoardOutput => 6,
+        });
+        if let Question::Comparison(i, j) = question {
+            self.bytes.extend([i, j].map(|step| (step as u16).to_le_bytes()).concat());
+        }
+        self.bytes.extend(room.into_iter().flat_map(|room| (room as u32).to_le_bytes()));
+    }
+
+    fn add_answer(&mut self, answer: &Result<Answer, Refusal>) {
+        let (number, value) = match answer {
+            Ok(Answer::Text(text)) => (0, text.len()),
+            Ok(Answer::List(list)) => (0, list.len()),
+            Ok(Answer::Count(count)) => (0, *count),
+            Ok(Answer::Equal(equal)) => (0, *equal as usize),
+            Err(refusal) => (refusal.number, refusal.place),
+        };
+        self.bytes.push(number);
+        self.bytes.extend((value as u32).to_le_bytes());
+        match answer {
+            Ok(Answer::Text(text)) => self.bytes.extend(text.bytes()),
+            Ok(Answer::List(list)) => self.bytes.extend(list.iter().flat_map(|number| number.to_le_bytes())),
+            Ok(Answer::Count(_) | Answer::Equal(_)) | Err(_) => {}
+        }
+    }
+}
+
+/// So many questions are asked of a sheet that is refused.
+const REFUSED: usize = 4;
+const COMPARISONS: usize = 6;
+
+/// Questions with their rooms, for those that are lent one: exactly enough and one short.
+fn questions(examined: &Examined, longest: usize, rng: &mut Rng) -> Vec<(Question, Option<usize>)> {
+    let mut all = vec![(Question::LabelCount, None)];
+    let mut long = false;
+    for question in [Question::PlainText, Question::StrictText, Question::AtomList, Question::DatatypeList] {
+        match examined.answer(question, None).expect("export was examined").map(|answer| answer.length()) {
+            Ok(0) => all.push((question, Some(0))),
+            Ok(length) => {
+                all.push((question, Some(length - 1)));
+                long |= length > longest;
+                all.extend((length <= longest).then_some((question, Some(length))));
+            }
+            Err(_) => all.push((question, Some(rng.below(100)))),
+        }
+    }
+    let steps = examined.sheet.as_ref().map_or(1, |sheet| sheet.steps.len());
+    for _ in 0..COMPARISONS {
+        let past = rng.chance(10) as usize;
+        all.push((Question::Comparison(rng.below(steps + past), rng.below(steps + past)), None));
+    }
+    if examined.exported.is_err() {
+        rng.shuffle(&mut all);
+        all.truncate(REFUSED);
+    }
+    if long || rng.chance(20) {
+        all.push((Question::BoardOutput, None));
+    }
+    all
+}

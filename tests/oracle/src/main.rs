@@ -1,0 +1,229 @@
+//! The command line. `README.md` says how each command is used.
+use oracle::{
+    answer::{examine, Answer, Examined, Question},
+    generate::{Kind, Sheets},
+    list::list,
+    rng::Rng,
+    sheet::{decode, Refusal},
+    sound, walk,
+};
+use std::{collections::BTreeMap, fs, io::Write, process::exit, str::FromStr, thread, time::Instant};
+
+const USAGE: &str = "usage:
+  oracle answer [--room N] plain|strict|atoms|datatypes|count|board FILE
+  oracle answer compare I J FILE
+  oracle generate --kind KIND [--seed N --count M] --out DIR
+  oracle fuzz --kind KIND [--seed N --count M]
+  oracle accuracy --seed N --count M
+  oracle bench FILE TIMES
+  oracle list --seed N --out FILE
+KIND: sound random quantified damaged limits worst slowest";
+
+/// The original recurses into deep trees, and the decoder into deep code before refusal 8 is tried.
+const STACK: usize = 1 << 30;
+
+fn usage() -> ! {
+    eprintln!("{USAGE}");
+    exit(2)
+}
+
+fn number<T: FromStr>(text: &str) -> T {
+    text.parse().unwrap_or_else(|_| usage())
+}
+
+fn read(file: &str) -> Vec<u8> {
+    fs::read(file).unwrap_or_else(|e| {
+        eprintln!("{file}: {e}");
+        exit(2)
+    })
+}
+
+/// The value of `--name value`, among such pairs in any order.
+fn option<'a>(args: &'a [&str], name: &str) -> &'a str {
+    args.iter().position(|a| *a == name).and_then(|i| args.get(i + 1)).unwrap_or_else(|| usage())
+}
+
+fn sheets(args: &[&str]) -> Sheets {
+    let kind = Kind::named(option(args, "--kind")).unwrap_or_else(|| usage());
+    match kind {
+        Kind::Limits | Kind::Worst | Kind::Slowest => Sheets::new(kind, 0, 0),
+        _ => random_sheets(kind, args),
+    }
+}
+
+fn random_sheets(kind: Kind, args: &[&str]) -> Sheets {
+    Sheets::new(kind, number(option(args, "--seed")), number(option(args, "--count")))
+}
+
+fn main() {
+    let run = thread::Builder::new().stack_size(STACK).spawn(run).unwrap();
+    exit(run.join().unwrap_or(101))
+}
+
+fn run() -> i32 {
+    let args: Vec<String> = std::env::args().skip(1).collect();
+    let args: Vec<&str> = args.iter().map(String::as_str).collect();
+    match args[..] {
+        ["answer", "--room", room, question, file] => answer(named(question), file, Some(number(room))),
+        ["answer", "compare", i, j, file] => answer(Question::Comparison(number(i), number(j)), file, None),
+        ["answer", question, file] => answer(named(question), file, None),
+        ["generate", ref rest @ ..] => generate(&sheets(rest), option(rest, "--out")),
+        ["fuzz", ref rest @ ..] => fuzz(&sheets(rest)),
+        ["accuracy", ref rest @ ..] => accuracy(&random_sheets(Kind::Sound, rest)),
+        ["bench", file, times] => bench(file, number(times)),
+        ["list", ref rest @ ..] => write_list(number(option(rest, "--seed")), option(rest, "--out")),
+        _ => usage(),
+    }
+}
+
+fn named(question: &str) -> Question {
+    match question {
+        "plain" => Question::PlainText,
+        "strict" => Question::StrictText,
+        "atoms" => Question::AtomList,
+        "datatypes" => Question::DatatypeList,
+        "count" => Question::LabelCount,
+        "board" => Question::BoardOutput,
+        _ => usage(),
+    }
+}
+
+fn answer(question: Question, file: &str, room: Option<usize>) -> i32 {
+    match examine(&read(file)).and_then(|examined| examined.answer(question, room)) {
+        Ok(answer) => {
+            std::io::stdout().write_all(&printed(answer)).unwrap();
+            0
+        }
+        Err(finding) => {
+            eprintln!("FINDING in {file}: {finding}");
+            3
+        }
+    }
+}
+
+fn printed(answer: Result<Answer, Refusal>) -> Vec<u8> {
+    match answer {
+        Ok(Answer::Text(text)) => text.into(),
+        Ok(Answer::List(list)) => list.iter().map(|n| format!("{n}\n")).collect::<String>().into(),
+        Ok(Answer::Count(count)) => format!("{count}\n").into(),
+        Ok(Answer::Equal(equal)) => if equal { "yes\n" } else { "no\n" }.into(),
+        Err(refusal) => format!("{refusal}\n").into(),
+    }
+}
+
+fn generate(sheets: &Sheets, dir: &str) -> i32 {
+    fs::create_dir_all(dir).unwrap();
+    let mut list = String::new();
+    for (i, (what, bytes)) in sheets.iter().enumerate() {
+        fs::write(format!("{dir}/{i:06}.sheet"), bytes).unwrap();
+        list += &format!("{i:06}.sheet {what}\n");
+    }
+    fs::write(format!("{dir}/INDEX.txt"), list).unwrap();
+    0
+}
+
+/// Where document and Rust disagree, or demand 3 fails.
+#[derive(Default)]
+struct Findings(usize);
+
+impl Findings {
+    fn report(&mut self, what: &str, bytes: &[u8], finding: &str) {
+        self.0 += 1;
+        let hex: String = bytes.iter().map(|b| format!("{b:02x}")).collect();
+        println!("FINDING in {what}: {finding}\n{hex}");
+    }
+
+    fn code(&self) -> i32 {
+        println!("{:9} findings", self.0);
+        (self.0 > 0) as i32 * 3
+    }
+}
+
+const COMPARISONS: usize = 20;
+
+/// Compares document and Rust on every sheet and on twenty comparisons of its steps, and counts what came out.
+fn fuzz(sheets: &Sheets) -> i32 {
+    let (mut tally, mut findings) = (BTreeMap::<String, usize>::new(), Findings::default());
+    for (i, (what, bytes)) in sheets.iter().enumerate() {
+        let outcomes = examine(&bytes).and_then(|examined| outcomes(&examined, Rng::new(1, i as u64)));
+        match outcomes {
+            Ok(outcomes) => outcomes.into_iter().for_each(|outcome| *tally.entry(outcome).or_default() += 1),
+            Err(finding) => findings.report(&what, &bytes, &finding),
+        }
+    }
+    for (what, count) in &tally {
+        println!("{count:9} {what}");
+    }
+    findings.code()
+}
+
+fn outcomes(examined: &Examined, mut rng: Rng) -> Result<Vec<String>, String> {
+    let mut all = vec![match &examined.exported {
+        Ok(exported) if exported.plain != exported.strict => "export accepted, strict text unlike plain".into(),
+        Ok(_) => "export accepted".into(),
+        Err(refusal) => format!("export refused {:02}", refusal.number),
+    }];
+    let steps = examined.sheet.as_ref().map_or(1, |sheet| sheet.steps.len());
+    for _ in 0..COMPARISONS {
+        let past = rng.chance(2) as usize;
+        let question = Question::Comparison(rng.below(steps + past), rng.below(steps + past));
+        all.push(match examined.answer(question, None)? {
+            Ok(answer) => format!("comparison {}", if answer == Answer::Equal(true) { "yes" } else { "no" }),
+            Err(refusal) => format!("comparison refused {:02}", refusal.number),
+        });
+    }
+    Ok(all)
+}
+
+/// Demand 3 on sound sheets.
+fn accuracy(sheets: &Sheets) -> i32 {
+    let (mut steps, mut labels, mut findings) = (0, 0, Findings::default());
+    for (what, bytes) in sheets.iter() {
+        let verdict = examine(&bytes).and_then(|examined| {
+            let sheet = examined.sheet.map_err(|refusal| refusal.to_string())?;
+            let export = examined.exported.map_err(|refusal| refusal.to_string())?.export;
+            sound::sound(&sheet).map_err(|e| format!("the generator is wrong: {e}"))?;
+            sound::accurate(&sheet, &export)?;
+            Ok((sheet.steps.len(), export.labels))
+        });
+        match verdict {
+            Ok((s, l)) => (steps, labels) = (steps + s, labels + l),
+            Err(finding) => findings.report(&what, &bytes, &finding),
+        }
+    }
+    println!("{} sound sheets of {steps} steps with {labels} labels", sheets.count());
+    findings.code()
+}
+
+/// The time that the Rust takes for one text, without decoding.
+fn bench(file: &str, times: u32) -> i32 {
+    let sheet = match decode(&read(file)).and_then(|sheet| walk::export(&sheet).map(|_| sheet)) {
+        Ok(sheet) => sheet,
+        Err(refusal) => {
+            println!("{refusal}");
+            return 1;
+        }
+    };
+    let (tree, goal) = (sheet.tree(sheet.root()), sheet.prop(&sheet.props[sheet.goal]));
+    let start = Instant::now();
+    let mut length = 0;
+    for _ in 0..times {
+        length = std::hint::black_box(alice::generate_proof_term_from_proof_tree(&tree, &goal)).len();
+    }
+    println!("{} ns per text of {length} bytes", start.elapsed().as_nanos() / times.max(1) as u128);
+    0
+}
+
+fn write_list(seed: u64, file: &str) -> i32 {
+    match list(seed) {
+        Ok(list) => {
+            println!("{} sheets, {} questions, {} bytes", list.sheets, list.questions, list.bytes.len());
+            fs::write(file, list.bytes).unwrap();
+            0
+        }
+        Err(finding) => {
+            eprintln!("FINDING: {finding}");
+            3
+        }
+    }
+}

@@ -1,0 +1,339 @@
+//! The sheet of document 01: its records and refusals 1 to 11.
+use crate::formula::{parse, Formula};
+use std::{fmt, ops::RangeInclusive};
+
+pub const TEXT: usize = 8192;
+pub const NAMES: usize = 512;
+pub const CODE: usize = 8192;
+pub const PROPS: usize = 512;
+pub const STEPS: usize = 1024;
+pub const NAME_BYTES: usize = 32;
+pub const PARAMETERS: usize = 8;
+pub const PROP_NESTING: usize = 64;
+pub const STEP_NESTING: usize = 256;
+pub const BOARD_ROOM: usize = 65536;
+
+pub const HEADER_BYTES: usize = 12;
+pub const PAIR_BYTES: usize = 4;
+pub const STEP_BYTES: usize = 18;
+
+#[derive(Clone, Copy, PartialEq, Eq, Debug)]
+pub struct Refusal {
+    pub number: u8,
+    pub place: usize,
+}
+
+impl fmt::Display for Refusal {
+    fn fmt(&self, f: &mut fmt::Formatter) -> fmt::Result {
+        write!(f, "refused {} at {}", self.number, self.place)
+    }
+}
+
+pub fn refuse<T>(number: u8, place: usize) -> Result<T, Refusal> {
+    Err(Refusal { number, place })
+}
+
+/// Refuses with the lowest place below `n` that is bad, if there is one.
+fn lowest(number: u8, n: usize, bad: impl FnMut(&usize) -> bool) -> Result<(), Refusal> {
+    (0..n).find(bad).map_or(Ok(()), |place| refuse(number, place))
+}
+
+pub mod rule {
+    pub const AND_INTRO: u8 = 0;
+    pub const AND_ELIM_FST: u8 = 1;
+    pub const AND_ELIM_SND: u8 = 2;
+    pub const TRUE_INTRO: u8 = 3;
+    pub const IMPL_INTRO: u8 = 4;
+    pub const IMPL_ELIM: u8 = 5;
+    pub const IDENT: u8 = 6;
+    pub const OR_INTRO_FST: u8 = 7;
+    pub const OR_INTRO_SND: u8 = 8;
+    pub const OR_ELIM: u8 = 9;
+    pub const FALSUM_ELIM: u8 = 10;
+    pub const FORALL_INTRO: u8 = 11;
+    pub const FORALL_ELIM: u8 = 12;
+    pub const EXISTS_INTRO: u8 = 13;
+    pub const EXISTS_ELIM: u8 = 14;
+    pub const SORRY: u8 = 15;
+    pub const ALPHA: u8 = 16;
+
+    /// How many identifiers a rule has.
+    pub fn idents(rule: u8) -> usize {
+        match rule {
+            IMPL_INTRO | IDENT | FORALL_INTRO => 1,
+            OR_ELIM | EXISTS_ELIM => 2,
+            _ => 0,
+        }
+    }
+}
+
+/// A step record as it stands.
+#[derive(Clone, Copy, PartialEq, Eq, Default, Debug)]
+pub struct Step {
+    pub rule: u8,
+    pub count: u8,
+    /// First and second identifier: name and id.
+    pub idents: [(u16, u16); 2],
+    pub kind: u16,
+    pub conclusion: [u16; 3],
+}
+
+impl Step {
+    pub fn bytes(&self) -> [u8; STEP_BYTES] {
+        let [(a, b), (c, d)] = self.idents;
+        let [e, f, g] = self.conclusion;
+        let mut out = [0; STEP_BYTES];
+        out[..2].copy_from_slice(&[self.rule, self.count]);
+        for (i, n) in [a, b, c, d, self.kind, e, f, g].into_iter().enumerate() {
+            out[2 + 2 * i..4 + 2 * i].copy_from_slice(&n.to_le_bytes());
+        }
+        out
+    }
+
+    pub fn read(b: &[u8]) -> Self {
+        let n = |i: usize| u16::from_le_bytes([b[2 + 2 * i], b[3 + 2 * i]]);
+        Step {
+            rule: b[0],
+            count: b[1],
+            idents: [(n(0), n(1)), (n(2), n(3))],
+            kind: n(4),
+            conclusion: [n(5), n(6), n(7)],
+        }
+    }
+
+    /// Refusal 9.
+    fn bad(&self, names: usize, props: usize) -> bool {
+        let [a, b, c] = self.conclusion;
+        let name = |n: u16| (n as usize) < names;
+        let used = rule::idents(self.rule);
+        self.rule > rule::ALPHA
+            || !self.idents[..used].iter().all(|(n, _)| name(*n))
+            || !self.idents[used..].iter().all(|i| *i == (0, 0))
+            || !match self.kind {
+                0 => (a as usize) < props && b == 0 && c == 0,
+                1 => name(a) && name(c),
+                _ => false,
+            }
+    }
+}
+
+/// A sheet's parts, free to be wrong in any of them.
+#[derive(Clone, Debug)]
+pub struct Layout {
+    pub header: [u16; 6],
+    pub names: Vec<(u16, u16)>,
+    pub props: Vec<(u16, u16)>,
+    pub steps: Vec<Step>,
+    pub text: Vec<u8>,
+    pub code: Vec<u8>,
+}
+
+impl Layout {
+    /// The parts of a sheet, if it is as long as its header says.
+    pub fn read(bytes: &[u8]) -> Option<Self> {
+        let (head, mut rest) = bytes.split_at_checked(HEADER_BYTES)?;
+        let mut take = |length: usize| {
+            let (part, others) = rest.split_at_checked(length)?;
+            rest = others;
+            Some(part)
+        };
+        let number = |field: usize| word(head, 2 * field);
+        let pairs =
+            |part: &[u8]| part.chunks(PAIR_BYTES).map(|pair| (word(pair, 0) as u16, word(pair, 2) as u16)).collect();
+        let layout = Layout {
+            header: [0, 1, 2, 3, 4, 5].map(|field| number(field) as u16),
+            names: pairs(take(PAIR_BYTES * number(1))?),
+            props: pairs(take(PAIR_BYTES * number(3))?),
+            steps: take(STEP_BYTES * number(4))?.chunks(STEP_BYTES).map(Step::read).collect(),
+            text: take(number(0))?.to_vec(),
+            code: take(number(2))?.to_vec(),
+        };
+        rest.is_empty().then_some(layout)
+    }
+
+    pub fn bytes(&self) -> Vec<u8> {
+        let pairs = self.names.iter().chain(&self.props).flat_map(|(o, l)| [*o, *l]);
+        let numbers = self.header.into_iter().chain(pairs);
+        let mut out: Vec<u8> = numbers.flat_map(u16::to_le_bytes).collect();
+        out.extend(self.steps.iter().flat_map(Step::bytes));
+        out.extend(&self.text);
+        out.extend(&self.code);
+        out
+    }
+}
+
+/// Names, codes and steps laid out without gaps.
+#[derive(Clone, Default, Debug)]
+pub struct Plain {
+    pub names: Vec<Vec<u8>>,
+    pub props: Vec<Vec<u8>>,
+    pub steps: Vec<Step>,
+    pub goal: u16,
+}
+
+fn pack(parts: &[Vec<u8>]) -> (Vec<(u16, u16)>, Vec<u8>) {
+    let mut all = Vec::new();
+    let pair = |part: &Vec<u8>| {
+        let offset = all.len() as u16;
+        all.extend(part);
+        (offset, part.len() as u16)
+    };
+    (parts.iter().map(pair).collect(), all)
+}
+
+impl Plain {
+    pub fn layout(&self) -> Layout {
+        let ((names, text), (props, code)) = (pack(&self.names), pack(&self.props));
+        let n = |l: usize| l as u16;
+        let header = [n(text.len()), n(names.len()), n(code.len()), n(props.len()), n(self.steps.len()), self.goal];
+        Layout { header, names, props, steps: self.steps.clone(), text, code }
+    }
+
+    pub fn bytes(&self) -> Vec<u8> {
+        self.layout().bytes()
+    }
+}
+
+/// A sheet accepted by 1 to 11.
+#[derive(Clone, Debug)]
+pub struct Sheet {
+    pub names: Vec<String>,
+    pub props: Vec<Formula>,
+    pub steps: Vec<Step>,
+    pub premisses: Vec<Vec<usize>>,
+    pub goal: usize,
+}
+
+/// The header numbers and where the parts begin.
+struct Header {
+    text: usize,
+    names: usize,
+    props: usize,
+    steps: usize,
+    goal: usize,
+}
+
+fn word(bytes: &[u8], at: usize) -> usize {
+    u16::from_le_bytes([bytes[at], bytes[at + 1]]) as usize
+}
+
+impl Header {
+    /// Refusals 1 to 3.
+    fn read(bytes: &[u8]) -> Result<Self, Refusal> {
+        if bytes.len() < HEADER_BYTES {
+            return refuse(1, 0);
+        }
+        let [text, names, code, props, steps, goal] = [0, 2, 4, 6, 8, 10].map(|at| word(bytes, at));
+        let header = Header { text, names, props, steps, goal };
+        let counts = (1..=PROPS).contains(&props) && (1..=STEPS).contains(&steps) && names <= NAMES;
+        if !counts || text > TEXT || code > CODE || goal >= props {
+            return refuse(2, 0);
+        }
+        if bytes.len() != header.code_at() + code {
+            return refuse(3, 0);
+        }
+        Ok(header)
+    }
+
+    fn props_at(&self) -> usize {
+        HEADER_BYTES + PAIR_BYTES * self.names
+    }
+
+    fn steps_at(&self) -> usize {
+        self.props_at() + PAIR_BYTES * self.props
+    }
+
+    fn text_at(&self) -> usize {
+        self.steps_at() + STEP_BYTES * self.steps
+    }
+
+    fn code_at(&self) -> usize {
+        self.text_at() + self.text
+    }
+}
+
+/// The parts that `count` pairs at `from` cut out of `all`, or the given refusal at the first pair that starts before
+/// the last one's end, ends past `all` or has a length outside `lengths`.
+fn cut<'a>(
+    bytes: &[u8],
+    from: usize,
+    count: usize,
+    all: &'a [u8],
+    lengths: RangeInclusive<usize>,
+    number: u8,
+) -> Result<Vec<&'a [u8]>, Refusal> {
+    let mut end = 0;
+    let part = |i: usize| {
+        let (offset, length) = (word(bytes, from + PAIR_BYTES * i), word(bytes, from + PAIR_BYTES * i + 2));
+        if offset < end || offset + length > all.len() || !lengths.contains(&length) {
+            return refuse(number, i);
+        }
+        end = offset + length;
+        Ok(&all[offset..end])
+    };
+    (0..count).map(part).collect()
+}
+
+/// Are all bytes of a name admitted where they stand?
+fn admitted(name: &[u8]) -> bool {
+    name[0].is_ascii_alphabetic() && name.iter().all(|b| b.is_ascii_alphanumeric() || *b == b'_')
+}
+
+/// The premisses of each step, or refusal 10 or 11.
+fn premisses(steps: &[Step]) -> Result<Vec<Vec<usize>>, Refusal> {
+    let (mut trees, mut premisses) = (Vec::new(), Vec::new());
+    for (i, step) in steps.iter().enumerate() {
+        let Some(rest) = usize::checked_sub(trees.len(), step.count as usize) else {
+            return refuse(10, i);
+        };
+        premisses.push(trees.split_off(rest));
+        trees.push(i);
+    }
+    if trees.len() > 1 {
+        return refuse(10, steps.len() - 1);
+    }
+    let mut nesting = vec![0; steps.len()];
+    for i in 0..steps.len() {
+        nesting[i] = 1 + premisses[i].iter().map(|j| nesting[*j]).max().unwrap_or(0);
+    }
+    lowest(11, steps.len(), |i| nesting[*i] > STEP_NESTING)?;
+    Ok(premisses)
+}
+
+pub fn decode(bytes: &[u8]) -> Result<Sheet, Refusal> {
+    let header = Header::read(bytes)?;
+    let (text, code) = bytes[header.text_at()..].split_at(header.text);
+
+    let names = cut(bytes, HEADER_BYTES, header.names, text, 1..=NAME_BYTES, 4)?;
+    lowest(5, names.len(), |i| !admitted(names[*i]))?;
+
+    let codes = cut(bytes, header.props_at(), header.props, code, 1..=CODE, 6)?;
+    let parsed: Vec<Option<Formula>> = codes.iter().map(|code| parse(code, names.len())).collect();
+    lowest(7, parsed.len(), |i| parsed[*i].is_none())?;
+    let props: Vec<Formula> = parsed.into_iter().flatten().collect();
+    lowest(8, props.len(), |i| props[*i].nesting() > PROP_NESTING)?;
+
+    let records = &bytes[header.steps_at()..header.text_at()];
+    let steps: Vec<Step> = records.chunks(STEP_BYTES).map(Step::read).collect();
+    lowest(9, steps.len(), |i| steps[*i].bad(names.len(), props.len()))?;
+    let premisses = premisses(&steps)?;
+
+    let names = names.iter().map(|n| String::from_utf8(n.to_vec()).unwrap()).collect();
+    Ok(Sheet { names, props, steps, premisses, goal: header.goal })
+}
+
+impl Sheet {
+    pub fn root(&self) -> usize {
+        self.steps.len() - 1
+    }
+
+    pub fn name(&self, n: u16) -> String {
+        self.names[n as usize].clone()
+    }
+
+    /// The proposition a step concludes, unless it is a type judgement.
+    pub fn concluded(&self, step: usize) -> Option<&Formula> {
+        let step = &self.steps[step];
+        (step.kind == 0).then(|| &self.props[step.conclusion[0] as usize])
+    }
+}

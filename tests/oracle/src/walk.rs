@@ -1,0 +1,245 @@
+//! Document 01's own reading of export and comparison, beside the Rust: refusals 12 to 15 with
+//! their step, the term, the lists by name number, and refusals 18 and 19.
+use crate::{
+    formula::{Binary, Formula, Parameter, Quantifier},
+    sheet::{refuse, rule, Refusal, Sheet, Step},
+};
+use alice::kernel::proof_term::{
+    Abort, Application, Case, Function, Ident, LetIn, OrLeft, OrRight, Pair, ProjectFst, ProjectSnd, ProofTerm, Type,
+    TypeAscription,
+};
+
+#[derive(Clone, Copy, PartialEq, Eq, Debug)]
+pub enum Place {
+    Checking,
+    Inferring,
+}
+
+pub enum Count {
+    Any,
+    Exactly(usize),
+    OneOrMore,
+}
+
+/// A premiss's place as the table writes it: the step's own, or a fixed one.
+#[derive(Clone, Copy)]
+pub enum At {
+    M,
+    Fixed(Place),
+}
+
+#[derive(Clone, Copy, PartialEq, Eq)]
+pub enum Label {
+    Bare,
+    Ascribed,
+    Parameter,
+    Premiss,
+}
+
+/// The table of "Places and labels", one row for each rule.
+pub fn row(rule: u8) -> (Count, &'static [At], Label) {
+    use At::*;
+    use Label::*;
+    const C: At = Fixed(Place::Checking);
+    const I: At = Fixed(Place::Inferring);
+    match rule {
+        rule::TRUE_INTRO | rule::IDENT => (Count::Any, &[], Bare),
+        rule::SORRY => (Count::Any, &[], Ascribed),
+        rule::AND_INTRO => (Count::Exactly(2), &[M, M], Bare),
+        rule::AND_ELIM_FST | rule::AND_ELIM_SND => (Count::Exactly(1), &[I], Bare),
+        rule::IMPL_INTRO | rule::FORALL_INTRO => (Count::Exactly(1), &[M], Parameter),
+        rule::IMPL_ELIM | rule::FORALL_ELIM => (Count::Exactly(2), &[I, C], Bare),
+        rule::OR_INTRO_FST | rule::OR_INTRO_SND | rule::FALSUM_ELIM => (Count::Exactly(1), &[C], Ascribed),
+        rule::OR_ELIM => (Count::Exactly(3), &[I, M, M], Bare),
+        rule::EXISTS_INTRO => (Count::Exactly(2), &[C, C], Ascribed),
+        rule::EXISTS_ELIM => (Count::Exactly(2), &[I, M], Bare),
+        _ => (Count::OneOrMore, &[M], Premiss),
+    }
+}
+
+pub fn place(at: At, own: Place) -> Place {
+    match at {
+        At::M => own,
+        At::Fixed(place) => place,
+    }
+}
+
+#[derive(PartialEq, Eq, Debug)]
+pub struct Export {
+    pub term: ProofTerm,
+    pub atoms: Vec<(u16, u16)>,
+    pub datatypes: Vec<u16>,
+    /// How many labels the term has.
+    pub labels: usize,
+    /// How many applications have a case or let as their function.
+    pub open: usize,
+}
+
+struct Walk<'a> {
+    sheet: &'a Sheet,
+    atoms: Vec<(u16, u16)>,
+    datatypes: Vec<u16>,
+    labels: usize,
+    open: usize,
+}
+
+pub fn export(sheet: &Sheet) -> Result<Export, Refusal> {
+    let mut walk = Walk { sheet, atoms: vec![], datatypes: vec![], labels: 0, open: 0 };
+    let term = walk.step(sheet.root(), Place::Checking)?;
+    let Walk { atoms, datatypes, labels, open, .. } = walk;
+    Ok(Export { term, atoms, datatypes, labels, open })
+}
+
+impl Walk<'_> {
+    /// Count on entering, premisses in order, conclusion and lists last.
+    fn step(&mut self, i: usize, own: Place) -> Result<ProofTerm, Refusal> {
+        let (step, premisses) = (&self.sheet.steps[i], &self.sheet.premisses[i]);
+        let (count, places, label) = row(step.rule);
+        let right = match count {
+            Count::Any => true,
+            Count::Exactly(n) => premisses.len() == n,
+            Count::OneOrMore => !premisses.is_empty(),
+        };
+        if !right {
+            return refuse(12, i);
+        }
+        let mut parts = Vec::new();
+        for (premiss, at) in premisses.iter().zip(places) {
+            parts.push(self.step(*premiss, place(*at, own))?);
+        }
+        let inferring = own == Place::Inferring;
+        let parameter = if inferring && label == Label::Parameter { Some(self.parameter(i)?) } else { None };
+        let term = self.term(step, parts, parameter);
+        if inferring && label == Label::Ascribed {
+            self.ascribed(i, term)
+        } else {
+            Ok(term)
+        }
+    }
+
+    /// The term of a step's rule over the terms of the premisses that it reads.
+    fn term(&mut self, step: &Step, parts: Vec<ProofTerm>, param_type: Option<Type>) -> ProofTerm {
+        let mut parts = parts.into_iter().map(Box::new);
+        let mut next = || parts.next().unwrap();
+        let name = |k: usize| self.sheet.name(step.idents[k].0);
+        let span = None;
+        match step.rule {
+            rule::AND_INTRO | rule::EXISTS_INTRO => ProofTerm::Pair(Pair(next(), next(), span)),
+            rule::AND_ELIM_FST => ProofTerm::ProjectFst(ProjectFst(next(), span)),
+            rule::AND_ELIM_SND => ProofTerm::ProjectSnd(ProjectSnd(next(), span)),
+            rule::TRUE_INTRO => ProofTerm::Unit(span),
+            rule::IMPL_INTRO | rule::FORALL_INTRO => {
+                ProofTerm::Function(Function { param_ident: name(0), param_type, body: next(), span })
+            }
+            rule::IMPL_ELIM | rule::FORALL_ELIM => {
+                let (function, applicant) = (next(), next());
+                self.open += matches!(*function, ProofTerm::Case(_) | ProofTerm::LetIn(_)) as usize;
+                ProofTerm::Application(Application { function, applicant, span })
+            }
+            rule::IDENT => ProofTerm::Ident(Ident(name(0), span)),
+            rule::OR_INTRO_FST => ProofTerm::OrLeft(OrLeft(next(), span)),
+            rule::OR_INTRO_SND => ProofTerm::OrRight(OrRight(next(), span)),
+            rule::OR_ELIM => {
+                let (head, fst_term, snd_term) = (next(), next(), next());
+                ProofTerm::Case(Case { head, fst_ident: name(0), fst_term, snd_ident: name(1), snd_term, span })
+            }
+            rule::FALSUM_ELIM => ProofTerm::Abort(Abort(next(), span)),
+            rule::EXISTS_ELIM => {
+                let (head, body) = (next(), next());
+                ProofTerm::LetIn(LetIn { head, fst_ident: name(0), snd_ident: name(1), body, span })
+            }
+            rule::SORRY => ProofTerm::Sorry(span),
+            _ => *next(),
+        }
+    }
+
+    fn ascribed(&mut self, i: usize, term: ProofTerm) -> Result<ProofTerm, Refusal> {
+        let Some(prop) = self.sheet.concluded(i) else {
+            return refuse(13, i);
+        };
+        self.labels += 1;
+        prop.atoms(&mut self.atoms);
+        let ascription = Type::Prop(self.sheet.prop(prop));
+        Ok(ProofTerm::TypeAscription(TypeAscription { proof_term: Box::new(term), ascription, span: None }))
+    }
+
+    fn parameter(&mut self, i: usize) -> Result<Type, Refusal> {
+        let label = match (self.sheet.steps[i].rule, self.sheet.concluded(i)) {
+            (rule::IMPL_INTRO, Some(Formula::Binary(Binary::Impl, left, _))) => {
+                left.atoms(&mut self.atoms);
+                Type::Prop(self.sheet.prop(left))
+            }
+            (rule::FORALL_INTRO, Some(Formula::Quantified(Quantifier::ForAll, _, datatype, _))) => {
+                self.datatypes.push(*datatype);
+                Type::Datatype(self.sheet.name(*datatype))
+            }
+            (rule::IMPL_INTRO, _) => return refuse(14, i),
+            _ => return refuse(15, i),
+        };
+        self.labels += 1;
+        Ok(label)
+    }
+}
+
+/// Are the conclusions of steps `a` and `b` alpha equal?
+pub fn compare(sheet: &Sheet, a: usize, b: usize) -> Result<bool, Refusal> {
+    if a.max(b) > sheet.root() {
+        return refuse(17, 0);
+    }
+    match (sheet.concluded(a), sheet.concluded(b)) {
+        (Some(l), Some(r)) => alpha(sheet, l, r, &mut vec![]),
+        (None, None) => {
+            let ([n, id, d], [m, jd, e]) = (sheet.steps[a].conclusion, sheet.steps[b].conclusion);
+            Ok(same(sheet, n, m) && id == jd && same(sheet, d, e))
+        }
+        _ => Ok(false),
+    }
+}
+
+fn same(sheet: &Sheet, n: u16, m: u16) -> bool {
+    sheet.names[n as usize] == sheet.names[m as usize]
+}
+
+fn alpha(sheet: &Sheet, l: &Formula, r: &Formula, bound: &mut Vec<(u16, u16)>) -> Result<bool, Refusal> {
+    match (l, r) {
+        (Formula::True, Formula::True) | (Formula::False, Formula::False) => Ok(true),
+        (Formula::Binary(op, l1, l2), Formula::Binary(oq, r1, r2)) if op == oq => {
+            Ok(alpha(sheet, l1, r1, bound)? && alpha(sheet, l2, r2, bound)?)
+        }
+        (Formula::Quantified(q, x, t, l), Formula::Quantified(p, y, u, r)) if q == p => {
+            if !same(sheet, *t, *u) {
+                return Ok(false);
+            }
+            bound.push((*x, *y));
+            let answer = alpha(sheet, l, r, bound);
+            bound.pop();
+            answer
+        }
+        (Formula::Atom(n, ls), Formula::Atom(m, rs)) => {
+            if !same(sheet, *n, *m) {
+                return Ok(false);
+            }
+            if ls.len() != rs.len() {
+                return refuse(18, 0);
+            }
+            for (l, r) in ls.iter().zip(rs) {
+                let agree = match (*l, *r) {
+                    (Parameter::Uninstantiated(n), Parameter::Uninstantiated(m)) => {
+                        let on_its_side = |(x, y): &(u16, u16)| (same(sheet, *x, n), same(sheet, *y, m));
+                        match bound.iter().rev().map(on_its_side).find(|(x, y)| *x || *y) {
+                            Some((x, y)) => x && y,
+                            None => return refuse(19, 0),
+                        }
+                    }
+                    (Parameter::Instantiated(n, i), Parameter::Instantiated(m, j)) => same(sheet, n, m) && i == j,
+                    _ => false,
+                };
+                if !agree {
+                    return Ok(false);
+                }
+            }
+            Ok(true)
+        }
+        _ => Ok(false),
+    }
+}

@@ -1,0 +1,338 @@
+//! The drawings of document 01, its "tempting and wrong" list, and the checks on the oracle itself.
+use oracle::{
+    answer::{examine, Answer, Question},
+    draw::*,
+    formula::{Formula, Formula::*, Parameter},
+    generate::{Kind, Sheets},
+    limits::limits,
+    sheet::{decode, rule::*, Plain, Refusal, Step, BOARD_ROOM},
+    sound,
+};
+
+const A: u16 = 0;
+const B: u16 = 1;
+
+fn answer(question: Question, bytes: &[u8], room: Option<usize>) -> Result<Answer, Refusal> {
+    examine(bytes).unwrap().answer(question, room).unwrap()
+}
+
+fn ask(question: Question, sheet: &Plain) -> Result<Answer, Refusal> {
+    answer(question, &sheet.bytes(), None)
+}
+
+fn refused<T>(number: u8, place: usize) -> Result<T, Refusal> {
+    Err(Refusal { number, place })
+}
+
+fn text(sheet: &Plain) -> String {
+    match ask(Question::PlainText, sheet) {
+        Ok(Answer::Text(text)) => text,
+        other => panic!("{other:?}"),
+    }
+}
+
+/// The part after the declarations.
+fn term(sheet: &Plain) -> String {
+    text(sheet).rsplit('\n').next().unwrap().into()
+}
+
+fn strict(sheet: &Plain) -> String {
+    match ask(Question::StrictText, sheet) {
+        Ok(Answer::Text(text)) => text.rsplit('\n').next().unwrap().into(),
+        other => panic!("{other:?}"),
+    }
+}
+
+fn list(question: Question, sheet: &Plain) -> Vec<u16> {
+    match ask(question, sheet) {
+        Ok(Answer::List(list)) => list,
+        other => panic!("{other:?}"),
+    }
+}
+
+fn count(sheet: &Plain) -> usize {
+    match ask(Question::LabelCount, sheet) {
+        Ok(Answer::Count(count)) => count,
+        other => panic!("{other:?}"),
+    }
+}
+
+/// Two steps that conclude the propositions, and a root over them; is the first equal to the second?
+fn equal(names: &[&str], l: Formula, r: Formula) -> Result<bool, u8> {
+    let steps = [step(SORRY, 0, &[], 0), step(SORRY, 0, &[], 1), step(AND_INTRO, 2, &[], 0)];
+    match ask(Question::Comparison(0, 1), &plain(names, &[l, r], &steps)) {
+        Ok(Answer::Equal(yes)) => Ok(yes),
+        Err(refusal) => Err(refusal.number),
+        other => panic!("{other:?}"),
+    }
+}
+
+/// How a proposition prints, as the label of a sorry.
+fn printed(names: &[&str], prop: Formula) -> String {
+    let steps = [step(SORRY, 0, &[], 0), step(AND_ELIM_FST, 1, &[], 0)];
+    let term = term(&plain(names, &[prop], &steps));
+    term.strip_prefix("fst (sorry: ").unwrap().strip_suffix(')').unwrap().into()
+}
+
+#[test]
+fn smallest_sheet() {
+    let bytes = smallest().bytes();
+    assert_eq!(bytes[..12], [0, 0, 0, 0, 1, 0, 1, 0, 1, 0, 0, 0]);
+    assert_eq!(bytes[12..16], [0, 0, 1, 0]);
+    assert_eq!(bytes[16..], [&[3][..], &[0; 17], &[0]].concat());
+    assert_eq!(bytes.len(), 35);
+    assert_eq!(text(&smallest()), "\n\n\n()");
+}
+
+#[test]
+fn second_drawing_and_its_room() {
+    let expected = "atom A;\natom B;\n\n\nfn u => inl u";
+    assert_eq!(text(&second()), expected);
+    assert_eq!(expected.len(), 31);
+    let room = |n| answer(Question::PlainText, &second().bytes(), Some(n));
+    assert_eq!(room(31), Ok(Answer::Text(expected.into())));
+    assert_eq!(room(30), refused(16, 0));
+    assert_eq!(ask(Question::BoardOutput, &second()), Ok(Answer::Text(expected.into())));
+}
+
+#[test]
+fn root_sorry() {
+    let sheet = plain(&["A"], &[atom(A)], &[step(SORRY, 0, &[], 0)]);
+    assert_eq!(text(&sheet), "atom A;\n\n\nsorry");
+    assert_eq!((count(&sheet), list(Question::AtomList, &sheet)), (0, vec![]));
+}
+
+#[test]
+fn projection_of_sorry() {
+    let props = [and(atom(A), atom(B)), atom(A), and(atom(B), atom(A))];
+    let mut sheet = plain(&["A", "B"], &props, &[step(SORRY, 0, &[], 0), step(AND_ELIM_FST, 1, &[], 1)]);
+    sheet.goal = 1;
+    assert_eq!(term(&sheet), "fst (sorry: A ∧ B)");
+    assert_eq!(text(&sheet), "atom A;\natom B;\n\n\nfst (sorry: A ∧ B)");
+    assert_eq!((count(&sheet), list(Question::AtomList, &sheet)), (1, vec![A, 0, B, 0]));
+    sheet.steps.insert(1, step(ALPHA, 1, &[], 2));
+    assert_eq!(term(&sheet), "fst (sorry: A ∧ B)");
+}
+
+#[test]
+fn labelled_function() {
+    let steps =
+        [step(IDENT, 0, &[1], 1), step(IMPL_INTRO, 1, &[1], 0), step(IDENT, 0, &[2], 1), step(IMPL_ELIM, 2, &[], 1)];
+    let mut sheet = plain(&["A", "u", "v"], &[implies(atom(A), atom(A)), atom(A)], &steps);
+    assert_eq!(term(&sheet), "(fn u: A => u) v");
+    sheet.steps[1].conclusion[0] = 1;
+    assert_eq!(ask(Question::PlainText, &sheet), refused(14, 1));
+}
+
+#[test]
+fn pair_in_an_inferring_place() {
+    let steps = [
+        step(IDENT, 0, &[2], 0),
+        step(OR_INTRO_FST, 1, &[], 1),
+        step(TRUE_INTRO, 0, &[], 2),
+        step(AND_INTRO, 2, &[], 3),
+        step(AND_ELIM_SND, 1, &[], 2),
+    ];
+    let either = or(atom(A), atom(B));
+    let props = [atom(A), either.clone(), True, and(either, True)];
+    assert_eq!(term(&plain(&["A", "B", "a"], &props, &steps)), "snd (inl a: A ∨ B, ())");
+}
+
+#[test]
+fn case_as_a_function() {
+    let steps = [
+        step(IDENT, 0, &[0], 0),
+        step(IDENT, 0, &[1], 0),
+        step(IDENT, 0, &[2], 0),
+        step(OR_ELIM, 3, &[3, 4], 0),
+        step(IDENT, 0, &[5], 0),
+        step(IMPL_ELIM, 2, &[], 0),
+    ];
+    let sheet = plain(&["h", "a", "b", "x", "y", "c"], &[True], &steps);
+    assert_eq!(term(&sheet), "case h of inl x => a, inr y => b c");
+    assert_eq!(strict(&sheet), "(case h of inl x => a, inr y => b) c");
+}
+
+#[test]
+fn let_as_a_function() {
+    let steps = [
+        step(IDENT, 0, &[0], 0),
+        step(IDENT, 0, &[1], 0),
+        step(EXISTS_ELIM, 2, &[2, 3], 0),
+        step(IDENT, 0, &[4], 0),
+        step(IMPL_ELIM, 2, &[], 0),
+    ];
+    let sheet = plain(&["h", "b", "x", "y", "c"], &[True], &steps);
+    assert_eq!(term(&sheet), "let (x, y) = h in b c");
+    assert_eq!(strict(&sheet), "(let (x, y) = h in b) c");
+}
+
+#[test]
+fn alpha_equivalent_alone() {
+    let sheet = plain(&[], &[True], &[step(ALPHA, 0, &[], 0)]);
+    assert_eq!(ask(Question::PlainText, &sheet), refused(12, 0));
+}
+
+#[test]
+fn negation() {
+    let not = |f| implies(f, False);
+    assert_eq!(printed(&["A", "B"], not(not(atom(A)))), "¬¬A");
+    assert_eq!(printed(&["A", "B"], not(and(atom(A), atom(B)))), "¬(A ∧ B)");
+    // ¬ is stronger than ∧, not as weak as ⊃
+    assert_eq!(printed(&["A", "B"], and(not(atom(A)), not(atom(B)))), "¬A ∧ ¬B");
+    assert_eq!(printed(&["A", "B"], implies(not(atom(A)), not(atom(B)))), "¬A ⊃ ¬B");
+}
+
+#[test]
+fn alpha_equality() {
+    let names = ["x", "y", "T", "P"];
+    let p = |object| Atom(3, vec![Parameter::Uninstantiated(object)]);
+    assert_eq!(equal(&names, forall(0, 2, p(0)), forall(1, 2, p(1))), Ok(true));
+    assert_eq!(equal(&names, forall(0, 2, forall(1, 2, p(0))), forall(0, 2, forall(0, 2, p(0)))), Ok(false));
+    assert_eq!(equal(&names, Atom(3, vec![]), p(0)), Err(18));
+    assert_eq!(equal(&names, p(0), p(0)), Err(19));
+    assert_eq!(equal(&names, forall(0, 2, p(0)), forall(1, 2, p(0))), Ok(false));
+}
+
+#[test]
+fn a_comparison_stops_at_the_first_no() {
+    let names = ["x", "T", "P", "Q"];
+    let p = |object| Atom(2, vec![Parameter::Uninstantiated(object)]);
+    assert_eq!(equal(&names, and(True, p(0)), and(False, p(0))), Ok(false));
+    assert_eq!(equal(&names, and(p(0), True), and(p(0), False)), Err(19));
+    assert_eq!(equal(&names, forall(0, 1, p(1)), forall(0, 0, p(1))), Ok(false));
+}
+
+#[test]
+fn a_comparison_names_steps_below_s() {
+    assert_eq!(ask(Question::Comparison(2, 2), &second()), Ok(Answer::Equal(true)));
+    assert_eq!(ask(Question::Comparison(2, 3), &second()), refused(17, 0));
+    assert_eq!(ask(Question::Comparison(3, 0), &second()), refused(17, 0));
+}
+
+#[test]
+fn names_go_by_bytes() {
+    let names = ["A", "A", "B"];
+    assert_eq!(equal(&names, atom(0), atom(1)), Ok(true));
+    let steps = [step(SORRY, 0, &[], 0), step(AND_ELIM_FST, 1, &[], 0)];
+    let sheet = plain(&names, &[and(atom(0), atom(1))], &steps);
+    assert_eq!(text(&sheet), "atom A;\n\n\nfst (sorry: A ∧ A)");
+    assert_eq!(list(Question::AtomList, &sheet), [0, 0, 1, 0]);
+}
+
+#[test]
+fn an_argument_is_in_a_checking_place() {
+    let steps = [step(IDENT, 0, &[0], 0), step(SORRY, 0, &[], 0), step(IMPL_ELIM, 2, &[], 0)];
+    assert_eq!(term(&plain(&["f"], &[True], &steps)), "f sorry");
+    let steps = [step(SORRY, 0, &[], 0), step(IDENT, 0, &[0], 0), step(IMPL_ELIM, 2, &[], 0)];
+    assert_eq!(term(&plain(&["a"], &[True], &steps)), "(sorry: ⊤) a");
+}
+
+#[test]
+fn unread_premisses_are_not_visited() {
+    let bad = step(ALPHA, 0, &[], 0);
+    for unread in [step(TRUE_INTRO, 1, &[], 0), step(IDENT, 1, &[0], 0), step(SORRY, 1, &[], 0)] {
+        assert!(ask(Question::PlainText, &plain(&["a"], &[True], &[bad, unread])).is_ok());
+    }
+    let steps = [step(TRUE_INTRO, 0, &[], 0), bad, step(ALPHA, 2, &[], 0)];
+    assert_eq!(term(&plain(&[], &[True], &steps)), "()");
+}
+
+#[test]
+fn limits_of_the_last_drawing() {
+    let find = |what: &str| limits().into_iter().find(|(name, _)| name == what).expect(what).1;
+    let board = |what: &str| answer(Question::PlainText, &find(what), Some(BOARD_ROOM));
+    assert!(board("last name of 32 bytes").is_ok());
+    assert_eq!(board("last name of 33 bytes"), refused(4, 2));
+    for by in ["left of ∧", "right of ∨", "left of ⊃", "∀", "∃"] {
+        assert!(board(&format!("proposition nested 64 by {by}")).is_ok());
+        assert_eq!(board(&format!("proposition nested 65 by {by}")), refused(8, 3));
+    }
+    assert!(board("256 deep by AlphaEquivalent").is_ok());
+    assert_eq!(board("257 deep by AlphaEquivalent"), refused(11, 256));
+    assert!(board("text of 65536 bytes").is_ok());
+    assert_eq!(board("text of 65537 bytes"), refused(16, 0));
+    assert!(board("everything at its limit").is_ok());
+    assert_eq!(board("proposition 0 nested 65, 1 no code"), refused(7, 1));
+}
+
+#[test]
+fn the_board_prints_a_line_for_a_refusal() {
+    let line = |text: &str| Ok(Answer::Text(text.into()));
+    assert_eq!(answer(Question::BoardOutput, &[], None), line("refused 1 at 0\n"));
+    let sheet = plain(&["A"], &[atom(A)], &[step(SORRY, 0, &[], 0), step(IMPL_INTRO, 0, &[0], 0)]);
+    assert_eq!(ask(Question::BoardOutput, &sheet), line("refused 10 at 1\n"));
+}
+
+/// Runs on a stack that holds the deepest trees.
+fn deep(run: impl FnOnce() + Send + 'static) {
+    std::thread::Builder::new().stack_size(1 << 28).spawn(run).unwrap().join().unwrap();
+}
+
+#[test]
+fn every_limit_sheet_agrees_with_the_rust() {
+    deep(|| limits().iter().for_each(|(what, bytes)| drop(examine(bytes).expect(what))));
+}
+
+#[test]
+fn random_sheets_agree_with_the_rust() {
+    for kind in [Kind::Sound, Kind::Random, Kind::Quantified, Kind::Damaged] {
+        deep(move || Sheets::new(kind, 7, 300).iter().for_each(|(what, bytes)| drop(examine(&bytes).expect(&what))));
+    }
+}
+
+/// The checker must be able to say no: a sound sheet's term is accepted for the root's proposition, and is turned
+/// down when its labels are taken away.
+#[test]
+fn the_checker_says_no() {
+    deep(|| {
+        let (mut tried, mut unlabelled) = (0, 0);
+        for (what, bytes) in Sheets::new(Kind::Sound, 3, 400).iter() {
+            let examined = examine(&bytes).unwrap();
+            let (sheet, export) = (examined.sheet.unwrap(), examined.exported.unwrap().export);
+            sound::sound(&sheet).expect(&what);
+            sound::accurate(&sheet, &export).expect(&what);
+            if export.labels > 0 {
+                tried += 1;
+                let root = sheet.prop(sheet.concluded(sheet.root()).unwrap());
+                unlabelled += sound::check(&mut vec![], &stripped(&export.term), &root) as usize;
+            }
+        }
+        assert!(tried > 200 && unlabelled == 0, "{unlabelled} of {tried} accepted without labels");
+    });
+}
+
+#[test]
+fn unsound_steps_are_told_apart() {
+    let unsound = |steps: &[Step]| {
+        let sheet = plain(&["A", "B", "u"], &[implies(atom(A), atom(B)), atom(A), atom(B)], steps);
+        sound::sound(&decode(&sheet.bytes()).unwrap()).is_err()
+    };
+    assert!(unsound(&[step(IDENT, 0, &[2], 1), step(IMPL_INTRO, 1, &[2], 0)]));
+    assert!(unsound(&[step(IDENT, 0, &[2], 2), step(IMPL_INTRO, 1, &[2], 0)]));
+    assert!(!unsound(&[step(SORRY, 0, &[], 2), step(IMPL_INTRO, 1, &[2], 0)]));
+}
+
+/// The term with every label taken away.
+fn stripped(term: &alice::kernel::proof_term::ProofTerm) -> alice::kernel::proof_term::ProofTerm {
+    use alice::kernel::proof_term::*;
+    let bare = |t: &ProofTerm| Box::new(stripped(t));
+    match term.clone() {
+        ProofTerm::Pair(Pair(a, b, s)) => ProofTerm::Pair(Pair(bare(&a), bare(&b), s)),
+        ProofTerm::ProjectFst(ProjectFst(a, s)) => ProofTerm::ProjectFst(ProjectFst(bare(&a), s)),
+        ProofTerm::ProjectSnd(ProjectSnd(a, s)) => ProofTerm::ProjectSnd(ProjectSnd(bare(&a), s)),
+        ProofTerm::OrLeft(OrLeft(a, s)) => ProofTerm::OrLeft(OrLeft(bare(&a), s)),
+        ProofTerm::OrRight(OrRight(a, s)) => ProofTerm::OrRight(OrRight(bare(&a), s)),
+        ProofTerm::Abort(Abort(a, s)) => ProofTerm::Abort(Abort(bare(&a), s)),
+        ProofTerm::TypeAscription(TypeAscription { proof_term, .. }) => stripped(&proof_term),
+        ProofTerm::Function(f) => ProofTerm::Function(Function { param_type: None, body: bare(&f.body), ..f }),
+        ProofTerm::Application(a) => {
+            ProofTerm::Application(Application { function: bare(&a.function), applicant: bare(&a.applicant), ..a })
+        }
+        ProofTerm::LetIn(l) => ProofTerm::LetIn(LetIn { head: bare(&l.head), body: bare(&l.body), ..l }),
+        ProofTerm::Case(c) => {
+            ProofTerm::Case(Case { head: bare(&c.head), fst_term: bare(&c.fst_term), snd_term: bare(&c.snd_term), ..c })
+        }
+        leaf => leaf,
+    }
+}

@@ -1,0 +1,82 @@
+//! The list is read back by its format, and each answer asked for once more.
+use oracle::{
+    answer::{examine, Answer, Question},
+    list::list,
+    sheet::Refusal,
+};
+
+struct Reader<'a>(&'a [u8]);
+
+impl Reader<'_> {
+    fn bytes(&mut self, count: usize) -> Vec<u8> {
+        let (first, rest) = self.0.split_at(count);
+        self.0 = rest;
+        first.to_vec()
+    }
+
+    fn number(&mut self, bytes: usize) -> usize {
+        self.bytes(bytes).into_iter().rev().fold(0, |number, byte| number << 8 | byte as usize)
+    }
+
+    /// A question and the room lent for it.
+    fn question(&mut self) -> (Question, Option<usize>) {
+        match self.number(1) {
+            0 => (Question::PlainText, Some(self.number(4))),
+            1 => (Question::StrictText, Some(self.number(4))),
+            2 => (Question::AtomList, Some(self.number(4))),
+            3 => (Question::DatatypeList, Some(self.number(4))),
+            4 => (Question::LabelCount, None),
+            5 => (Question::Comparison(self.number(2), self.number(2)), None),
+            6 => (Question::BoardOutput, None),
+            kind => panic!("kind {kind}"),
+        }
+    }
+
+    fn answer(&mut self, question: Question) -> Result<Answer, Refusal> {
+        let (number, value) = (self.number(1) as u8, self.number(4));
+        if number > 0 {
+            return Err(Refusal { number, place: value });
+        }
+        Ok(match question {
+            Question::PlainText | Question::StrictText | Question::BoardOutput => {
+                Answer::Text(String::from_utf8(self.bytes(value)).unwrap())
+            }
+            Question::AtomList | Question::DatatypeList => {
+                Answer::List((0..value).map(|_| self.number(2) as u16).collect())
+            }
+            Question::LabelCount => Answer::Count(value),
+            Question::Comparison(..) => Answer::Equal(value == 1),
+        })
+    }
+}
+
+#[test]
+fn the_list_reads_back() {
+    let list = list(1).unwrap();
+    assert!(list.sheets >= 1500 && list.bytes.len() <= 2_000_000);
+    let mut reader = Reader(&list.bytes);
+    let (mut sheets, mut refused, mut exact, mut short) = (0, [0; 20], 0, 0);
+    while !reader.0.is_empty() {
+        let length = reader.number(4);
+        let examined = examine(&reader.bytes(length)).unwrap();
+        for _ in 0..reader.number(1) {
+            let (question, room) = reader.question();
+            let answer = reader.answer(question);
+            assert_eq!(answer, examined.answer(question, room).unwrap());
+            let enough = examined.answer(question, None).unwrap();
+            exact += (room.is_some() && answer.as_ref().is_ok_and(|answer| Some(answer.length()) == room)) as usize;
+            short +=
+                (room.is_some() && enough.is_ok_and(|answer| Some(answer.length()) == room.map(|r| r + 1))) as usize;
+            refused[answer.map_or_else(|refusal| refusal.number as usize, |_| 0)] += 1;
+        }
+        sheets += 1;
+    }
+    assert_eq!(sheets, list.sheets);
+    assert!(refused.iter().all(|count| *count > 0) && exact > 1000 && short > 1000, "{refused:?} {exact} {short}");
+}
+
+#[test]
+fn the_list_depends_on_the_seed_alone() {
+    assert!(list(5).unwrap().bytes == list(5).unwrap().bytes);
+    assert!(list(5).unwrap().bytes != list(6).unwrap().bytes);
+}
