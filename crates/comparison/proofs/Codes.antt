@@ -9,15 +9,15 @@ use lib.ListN.{length, take, drop, take-append-drop}
 use lib.Seq.{getD-drop}
 use Rattle.definitions.specs.Prop.{Prop}
 use Rattle.definitions.specs.Code.{decode}
-use Rattle.definitions.specs.Sheet.{pairSize, stepSize, pairOffset, pairLength, pairEnd, marked, names, codeLength, propositions, steps, codeStart, namePairs, textBytes, propositionPairs, stepRecords, codeBytes, nameOf}
+use Rattle.definitions.specs.Sheet.{pairSize, stepSize, pairOffset, pairLength, pairEnd, marked, names, propositions, steps, namePairs, textBytes, propositionPairs, stepRecords, codeBytes, nameOf}
 use Rattle.definitions.specs.Tree.{propOf}
 use Rattle.definitions.specs.Comparison.{alphaEq}
 use Rattle.definitions.proofs.PrefixCode.{Bytes, encode-decode}
 use Rattle.prefix_code.specs.Scan.{Stands, At, propositionCoding}
 use Rattle.steps.specs.Records.{HasStep}
 use Rattle.sheet.specs.declared.header.Sheet.{Sheet}
-use Rattle.sheet.specs.Header.{headerOf, HasHeader}
-use Rattle.sheet.proofs.Admitted.{AcceptedSheet, has-header, has-codes, has-steps, names-within}
+use Rattle.sheet.specs.Header.{headerOf}
+use Rattle.sheet.proofs.Admitted.{AcceptedSheet, code-of-bytes, has-codes, has-steps, names-within}
 use Rattle.alpha_eq.specs.declared.Answer.{Answer}
 use Rattle.alpha_eq.specs.Comparing.{Two, TwoPropositions, outcomeOf, Decides}
 use Rattle.comparison.specs.Conclusions.{namedProp}
@@ -42,9 +42,6 @@ marked-stands names pairs code i p bytes e =
     (fits, rw same (sym (take-append-drop size from)))
 
 module _ {s : List ℕ} {h : Sheet} (a : AcceptedSheet s h) where
-  pub its-header : HasHeader s h
-  its-header = rw (a .header) (has-header (a .sheet))
-
   -- the header's step count is the sheet's
   its-steps : h .steps ≡ steps s
   unfolding headerOf
@@ -70,15 +67,11 @@ module _ {s : List ℕ} {h : Sheet} (a : AcceptedSheet s h) where
       (within .present, within .ends _ (le-refl _))
 
   module _ (bytes : Bytes s) {p q : ℕ} (left : p < propositions s) (right : q < propositions s) where
-    code-of-bytes : Bytes (codeBytes s)
-    unfolding codeBytes
-    code-of-bytes = bytes-take (codeLength s) (drop (codeStart s) s) (bytes-drop (codeStart s) s bytes)
-
     two : Two propositionCoding (codeBytes s) (pairOffset (propositionPairs s) p) (pairOffset (propositionPairs s) q) (names s)
     two =
         record {
-          left = record { value = propOf s p; rest = _; stands = marked-stands _ _ _ p _ code-of-bytes (a .sheet .decoded p left) };
-          right = record { value = propOf s q; rest = _; stands = marked-stands _ _ _ q _ code-of-bytes (a .sheet .decoded q right) };
+          left = record { value = propOf s p; rest = _; stands = marked-stands _ _ _ p _ (code-of-bytes s bytes) (a .sheet .decoded p left) };
+          right = record { value = propOf s q; rest = _; stands = marked-stands _ _ _ q _ (code-of-bytes s bytes) (a .sheet .decoded q right) };
         }
 
     pub two-admitted : TwoPropositions (codeBytes s) (pairOffset (propositionPairs s) p) (pairOffset (propositionPairs s) q) (namePairs s) (textBytes s)

@@ -12,10 +12,12 @@ use Rattle.definitions.specs.Name.{isName}
 use Rattle.definitions.specs.Prop.{nesting}
 use Rattle.definitions.specs.Code.{decode}
 use Rattle.definitions.specs.Outcome.{refused, accepted}
-use Rattle.definitions.specs.Sheet.{pairSize, names, propositions, steps, namePairs, textBytes, propositionPairs, stepRecords, codeBytes, nameOf, marked, premissCount, propositionNestingLimit, treeNestingLimit}
+use Rattle.definitions.specs.Sheet.{pairSize, codeLength, codeStart, names, propositions, steps, namePairs, textBytes, propositionPairs, stepRecords, codeBytes, nameOf, marked, premissCount, propositionNestingLimit, treeNestingLimit}
 use Rattle.definitions.specs.Tree.{ProofTree, height, treesBefore, treeIn, propIn, propOf, treeOf, rootOf}
 use Rattle.definitions.specs.Admission.{isNone, badName, badCode, deepProposition, tooFewTrees, treesLeft, deepTree, admitted}
+use Rattle.definitions.proofs.PrefixCode.{Bytes}
 use Rattle.identifier.specs.Pairs.{PairsWithin}
+use Rattle.prefix_code.proofs.Reading.{part-bytes}
 use Rattle.steps.specs.Records.{HasSteps}
 use Rattle.sheet.specs.declared.header.Sheet.{Sheet}
 use Rattle.sheet.specs.declared.Checked.the-variants.{Accepted, Refused}
@@ -142,6 +144,11 @@ pub refused-sheet : (s : List ℕ) {x : Refusal} → checkedOf s ≡ Refused x �
 unfolding checkedOf
 refused-sheet s e = stage-refuses _ _ refl e
 
+-- the code of a sheet of bytes is bytes
+pub code-of-bytes : (s : List ℕ) → Bytes s → Bytes (codeBytes s)
+unfolding codeBytes
+code-of-bytes s bytes = part-bytes (codeLength s) (codeStart s) s bytes
+
 -- What the functions over the parts of an accepted sheet ask.
 module _ {s : List ℕ} (a : Admitted s) where
   pub has-header : HasHeader s (headerOf s)
@@ -166,3 +173,6 @@ module _ {s : List ℕ} (a : Admitted s) where
   pub names-within : {i : ℕ} → i < names s → PairsWithin (namePairs s) (textBytes s) i
   unfolding pairSize
   names-within h = record { present = omega (arith, has-names .present); ends = λ j l. has-names .ends j (omega arith) }
+
+pub its-header : {s : List ℕ} {h : Sheet} → AcceptedSheet s h → HasHeader s h
+its-header a = rw (a .header) (has-header (a .sheet))

@@ -9,9 +9,9 @@ use Rattle.definitions.specs.Admission.{badCode}
 use Rattle.steps.specs.Tables.{SizeTable}
 use Rattle.sheet.specs.Admitted.{Admitted}
 use Rattle.sheet.proofs.Slices.{lengths}
-use Rattle.sheet.specs.Header.{headerOf, HasHeader}
+use Rattle.sheet.specs.Header.{headerOf}
 use Rattle.sheet.specs.declared.header.Sheet.{Sheet}
-use Rattle.sheet.proofs.Admitted.{AcceptedSheet, has-header, has-codes, has-steps}
+use Rattle.sheet.proofs.Admitted.{AcceptedSheet, has-codes, has-steps}
 use Rattle.proof_tree.specs.Exportable.{Coded, Exportable}
 use Rattle.proof_tree.specs.Exporting.{RoomFor}
 use Rattle.proof_tree.proofs.GoodSteps.{known-rule, known-proposition}
@@ -45,9 +45,6 @@ module _ {s : List ℕ} (a : Admitted s) where
 
 -- Of an accepted sheet:
 module _ {s : List ℕ} {h : Sheet} (a : AcceptedSheet s h) where
-  pub its-header : HasHeader s h
-  its-header = rw (a .header) (has-header (a .sheet))
-
   -- what the walk asks
   pub ready : {sizes terms : List ℕ} → length sizes ≡ 1024 → length terms ≡ 12288 → SizeTable (stepRecords s) (steps s) sizes
       → (Exportable (h .names) (propositionPairs s) (codeBytes s) (stepRecords s) sizes (h .steps) × (0 < h .steps)) × RoomFor terms (2 * h .steps)

@@ -7,7 +7,7 @@ use native.Mathlib.Omega.{arith}
 use lib.ListN.{length}
 use Rattle.definitions.specs.declared.Refusal.{Refusal}
 use Rattle.definitions.specs.Outcome.{refused, accepted, _>>=_}
-use Rattle.definitions.specs.Sheet.{names, steps, stepRecords, propositionPairs, codeBytes, codeLength, codeStart, stepNumber, stepLimit}
+use Rattle.definitions.specs.Sheet.{names, steps, stepRecords, propositionPairs, codeBytes, stepNumber, stepLimit}
 use Rattle.definitions.specs.Term.{ProofTerm}
 use Rattle.definitions.specs.Tree.{treeIn, treeOf, rootOf}
 use Rattle.definitions.specs.Export.{export, checking}
@@ -15,11 +15,11 @@ use Rattle.definitions.specs.Admission.{badCode, admitted}
 use Rattle.definitions.specs.Answers.{sheetTerm}
 use Rattle.definitions.proofs.PrefixCode.{Bytes}
 use Rattle.prefix_code.specs.PropAt.{Present}
-use Rattle.prefix_code.proofs.Reading.{part-bytes, present-in}
+use Rattle.prefix_code.proofs.Reading.{present-in}
 use Rattle.proof_term.specs.Readable.{NamesBelow}
 use Rattle.sheet.specs.Header.{headerOf}
 use Rattle.sheet.specs.declared.header.Sheet.{Sheet}
-use Rattle.sheet.proofs.Admitted.{AcceptedSheet, has-codes}
+use Rattle.sheet.proofs.Admitted.{AcceptedSheet, code-of-bytes, has-codes}
 use Rattle.proof_tree.specs.declared.Exported.{Exported}
 use Rattle.proof_tree.specs.declared.Exported.the-variants.{Term, Refused}
 use Rattle.proof_tree.specs.Exporting.{LabelOffset, StepExported}
@@ -54,21 +54,17 @@ module _ {s : List ℕ} {h : Sheet} (a : AcceptedSheet s h) where
 
   -- Over bytes:
   module _ (bytes : Bytes s) where
-    pub code-of-bytes : Bytes (codeBytes s)
-    unfolding codeBytes
-    code-of-bytes = part-bytes (codeLength s) (codeStart s) s bytes
-
     -- a proposition stands at the offset of a label
     pub label-present : {offset : ℕ} → LabelStands s offset → Present (names s) (codeBytes s) offset
     unfolding badCode
     label-present l =
-        let whole = present-in _ (propositionPairs s) _ (l .number) code-of-bytes (has-codes (a .sheet) .decoded (l .number) (l .below)) in
+        let whole = present-in _ (propositionPairs s) _ (l .number) (code-of-bytes s bytes) (has-codes (a .sheet) .decoded (l .number) (l .below)) in
         ⊎-elim (λ is. rw is whole) (λ is. rw (is .1) (left-present whole (is .0))) (l .stands)
 
     names-below : (t : ProofTerm ℕ) → export (treeIn (names s) (propositionPairs s) (codeBytes s) (stepRecords s) (steps s - 1)) checking ≡ accepted t → NamesBelow (names s) t
     unfolding badCode headerOf
     names-below t e =
-        exported-names _ _ _ _ _ code-of-bytes (has-codes (a .sheet) .decoded) (steps s - 1)
+        exported-names _ _ _ _ _ (code-of-bytes s bytes) (has-codes (a .sheet) .decoded) (steps s - 1)
         (λ j l. a .sheet .good-step j (omega (arith, a .sheet .in-range .some-step))) checking t e
 
     -- Of the walk's answer at the last step:

@@ -1,17 +1,17 @@
 -- The board's output: a refusal's line is short, so that it fits the lent memory, and a refused text left that memory as it was.
 use Prim.Native.Nat.{ℕ, zero, suc, _+_, _/_, _^_, _≤_, _<_}
-use mathlib.Core.Path.{_≡_, refl, sym, ap, _∙_}
+use mathlib.Core.Path.{_≡_, _∙_}
 use mathlib.Core.Bool.{true}
 use mathlib.Core.Logic.{by-cases}
-use mathlib.Core.List.{List, _++_, append-assoc}
+use mathlib.Core.List.{List}
 use native.Mathlib.Omega.{arith}
 use native.Mathlib.Decide.{decLt}
 use lib.ListN.{length, length-append}
 use lib.Seq.{sets-eq}
 use Rattle.definitions.specs.declared.Refusal.{Refusal}
-use Rattle.definitions.specs.Text.{lastDigit, decimal}
 use Rattle.definitions.specs.declared.Style.the-variants.{Plain}
 use Rattle.definitions.specs.Outcome.{Outcome, refused, accepted}
+use Rattle.definitions.specs.Text.{lastDigit, decimal}
 use Rattle.definitions.specs.Answers.{textAnswer, boardRoom, refusalLine, printed, boardOutput}
 use Rattle.definitions.proofs.Decimal.{decimal-below-ten, decimal-from-ten}
 use Rattle.output.specs.declared.Written.{Written}
@@ -29,7 +29,7 @@ decimal-length (suc k) n h = by-cases (decLt n 10)
     (λ l. rw (decimal-from-ten n (omega arith), length-append) (omega (arith, decimal-length k (n / 10) (omega arith))))
 
 -- `refused 255 at 65535` and a newline are 21 bytes
-refusal-line-length : (r : Refusal) → r .number < 256 → r .place < 65536 → length (refusalLine r) ≤ 21
+pub refusal-line-length : (r : Refusal) → r .number < 256 → r .place < 65536 → length (refusalLine r) ≤ 21
 unfolding refusalLine
 refusal-line-length r number place =
     simp length-append
@@ -66,11 +66,17 @@ line-printed (refused y) {before} {mid} {x = x} fills e line =
     rw (same, fills .memory) at line
 
 -- Of memory of the board's room, which the plain text was asked for:
-module _ (s : List ℕ) {before mid : List ℕ} {r : Written} (room : length before ≡ boardRoom) (fills : Fills (textAnswer s Plain (length before)) before mid r) where
-  pub prints-text : {n : ℕ} → r ≡ Length n → Prints (boardOutput s) before mid n
-  unfolding boardOutput
-  prints-text e = text-printed _ (rw room at fills) e
+module _
+    (s : List ℕ)
+    {before mid : List ℕ}
+    {r : Written}
+    (room : length before ≡ boardRoom)
+    (fills : Fills (textAnswer s Plain (length before)) before mid r)
+  where
+    pub prints-text : {n : ℕ} → r ≡ Length n → Prints (boardOutput s) before mid n
+    unfolding boardOutput
+    prints-text e = text-printed _ (rw room at fills) e
 
-  pub prints-line : {after : List ℕ} {x : Refusal} {n : ℕ} → r ≡ Refused x → Prints (refusalLine x) mid after n → Prints (boardOutput s) before after n
-  unfolding boardOutput
-  prints-line e line = line-printed _ (rw room at fills) e line
+    pub prints-line : {after : List ℕ} {x : Refusal} {n : ℕ} → r ≡ Refused x → Prints (refusalLine x) mid after n → Prints (boardOutput s) before after n
+    unfolding boardOutput
+    prints-line e line = line-printed _ (rw room at fills) e line

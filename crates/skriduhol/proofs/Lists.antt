@@ -1,6 +1,6 @@
 -- The lists of a sheet's term: its labels fit the sheet, and what is measured and then written is the answer.
 use Prim.Native.Nat.{ℕ, _+_, _*_, _≤_, _<_}
-use mathlib.Core.Path.{_≡_, refl}
+use mathlib.Core.Path.{_≡_, refl, _∙_}
 use mathlib.Core.Bool.{Bool, true, false}
 use mathlib.Core.List.{List}
 use lib.ListN.{length}
@@ -27,20 +27,22 @@ use Rattle.sheet_term.specs.Held.{HeldTerm}
 use Rattle.sheet_term.proofs.Held.{label-present}
 use Rattle.skriduhol.specs.Lists.{listAnswer}
 
--- Of a sheet's term, whichever list is asked for:
+-- Whichever list is asked for:
 module _ (datatypes : Bool) (s : List ℕ) where
-  -- a refusal is the answer
+  -- it is made of the sheet's term
+  list-of-term : (room : ℕ) → listAnswer datatypes s room ≡ inRoom room (mapOutcome (listNumbers datatypes) (sheetTerm s))
+  unfolding listAnswer atomsAnswer datatypesAnswer listNumbers
+  list-of-term room = elim datatypes [ true ↦ refl | false ↦ refl ]
+
+  -- the refusal of a term is the answer
   pub no-list : {x : Refusal} → sheetTerm s ≡ refused x → (before : List ℕ) → Fills (listAnswer datatypes s (length before)) before before (Refused x)
-  unfolding listAnswer atomsAnswer datatypesAnswer mapOutcome
-  no-list e before = elim datatypes [
-    | true ↦ filling.refuses (rw e) (length before) before
-    | false ↦ filling.refuses (rw e) (length before) before
-  ]
+  unfolding mapOutcome
+  no-list e before = rw (list-of-term (length before)) (filling.refuses (rw e) (length before) before)
 
   -- a term's list is, in enough room
   list-of : {t : ProofTerm ℕ} → sheetTerm s ≡ accepted t → (room : ℕ) → listAnswer datatypes s room ≡ inRoom room (accepted (listNumbers datatypes t))
-  unfolding listAnswer atomsAnswer datatypesAnswer mapOutcome listNumbers
-  list-of e room = elim datatypes [ true ↦ rw e | false ↦ rw e ]
+  unfolding mapOutcome
+  list-of e room = list-of-term room ∙ rw e
 
 -- Of a term that is held, with the code of its sheet:
 module _

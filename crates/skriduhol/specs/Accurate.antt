@@ -31,21 +31,21 @@ module _ {s : List ℕ} {d : Deduced weakest s} (a : Accurate s d) where
     pub of-term : r ≡ Labels (annotationCount (a .term))
     pub of-places : r ≡ Labels (total (inferringTally (d .root) checking))
 
--- what a text of a sound sheet says
+-- a text of a sound sheet, plain or strict, is that of an accuracy statement
 pub record TextOf (style : Style) (s : List ℕ) (d : Deduced weakest s) (before after : List ℕ) (r : Written) : Type 0 where
   pub statement : Accurate s d
   pub text : HandsOver statement style before after r
 
--- what a label count of a sound sheet says
+-- a label count of a sound sheet is that of an accuracy statement
 pub record CountOf (s : List ℕ) (d : Deduced weakest s) (r : Counted) : Type 0 where
   pub statement : Accurate s d
   pub count : Counts statement r
 
--- the clause of a text
+-- so it is of every sound sheet: the clause of `plain_text` and `strict_text`
 pub record AccurateText (style : Style) (s before after : List ℕ) (r : Written) : Type 0 where
   pub accurate : (d : Deduced weakest s) → TextOf style s d before after r
 
--- the clause of the label count
+-- so it is of every sound sheet: the clause of `label_count`
 pub record AccurateCount (s : List ℕ) (r : Counted) : Type 0 where
   pub accurate : (d : Deduced weakest s) → CountOf s d r
 

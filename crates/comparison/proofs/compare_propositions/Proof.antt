@@ -1,6 +1,7 @@
 -- The codes of both propositions stand at the offsets of their pairs.
 use native.Mathlib.Omega.{arith}
-use Rattle.comparison.proofs.Codes.{its-header, proposition-pair, two-admitted, two-decided}
+use Rattle.sheet.proofs.Admitted.{its-header}
+use Rattle.comparison.proofs.Codes.{proposition-pair, two-admitted, two-decided}
 use Rattle.comparison.proofs.compare_propositions.Statement.{statement}
 use Rattle.comparison.proofs.compare_propositions.Tie as tie
 

@@ -3,7 +3,8 @@ use mathlib.Core.Logic.{inl, inr, ⊎-elim}
 use borrow.Author.Tests.{leb-true, leb-false}
 use Rattle.definitions.specs.Outcome.{refuse}
 use Rattle.alpha_eq.specs.Comparing.{outcomeOf}
-use Rattle.comparison.proofs.Codes.{its-header, has-step, has-no-step, step-there}
+use Rattle.sheet.proofs.Admitted.{its-header}
+use Rattle.comparison.proofs.Codes.{has-step, has-no-step, step-there}
 use Rattle.comparison.proofs.Conclusions.{conclusion-in}
 use Rattle.comparison.proofs.Steps.{no-such-step, both-steps}
 use Rattle.comparison.proofs.compare_steps.Statement.{statement}

@@ -1,6 +1,7 @@
 -- The bytes that the two pairs mark are the names.
 use Rattle.definitions.specs.Sheet.{nameOf}
-use Rattle.comparison.proofs.Codes.{its-header, name-marked}
+use Rattle.sheet.proofs.Admitted.{its-header}
+use Rattle.comparison.proofs.Codes.{name-marked}
 use borrow.Author.Needs.{needs}
 use Rattle.comparison.proofs.same_named.Statement.{statement}
 use Rattle.comparison.proofs.same_named.Tie as tie

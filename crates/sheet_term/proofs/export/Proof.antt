@@ -2,7 +2,8 @@
 use native.Mathlib.Omega.{arith}
 use borrow.Author.Needs.{needs}
 use Rattle.proof_tree.proofs.Walking.{term-of}
-use Rattle.sheet_term.proofs.Accepted.{its-header, ready}
+use Rattle.sheet.proofs.Admitted.{its-header}
+use Rattle.sheet_term.proofs.Accepted.{ready}
 use Rattle.sheet_term.proofs.Held.{gives-term, gives-refusal}
 use Rattle.sheet_term.proofs.export.Statement.{statement}
 use Rattle.sheet_term.proofs.export.Tie as tie

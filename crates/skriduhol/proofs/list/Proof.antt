@@ -1,6 +1,6 @@
 -- The labels of the term that is held can be listed; the list is measured and then written.
 use native.Mathlib.Omega.{arith}
-use Rattle.sheet_term.proofs.Accepted.{its-header}
+use Rattle.sheet.proofs.Admitted.{its-header}
 use Rattle.skriduhol.proofs.Lists.{listable, too-long, fills}
 use borrow.Author.Needs.{needs}
 use Rattle.skriduhol.proofs.list.Statement.{statement}

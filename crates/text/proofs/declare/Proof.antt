@@ -1,6 +1,7 @@
 -- The term's labels are noted from no declarations and no flags, and then the goal.
 use native.Mathlib.Omega.{arith}
-use Rattle.text.proofs.Accepted.{its-header, goal-pair}
+use Rattle.sheet.proofs.Admitted.{its-header}
+use Rattle.text.proofs.Accepted.{goal-pair}
 use Rattle.text.proofs.Declaring.{labels-notable, goal-notable, declares}
 use borrow.Author.Needs.{needs}
 use Rattle.text.proofs.declare.Statement.{statement}

@@ -1,5 +1,5 @@
 -- The parts of an accepted sheet are what the table of ends asks for.
-use Rattle.text.proofs.Accepted.{its-header}
+use Rattle.sheet.proofs.Admitted.{its-header}
 use Rattle.text.proofs.Ends.{fillable, ends-known}
 use borrow.Author.Needs.{needs}
 use Rattle.text.proofs.fill_sheet_ends.Statement.{statement}

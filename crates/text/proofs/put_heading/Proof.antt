@@ -1,6 +1,6 @@
 -- The lines of the atoms, a newline, the lines of the datatypes and two newlines, one after another.
 use Rattle.definitions.specs.Sheet.{nameOf}
-use Rattle.text.proofs.Accepted.{its-header}
+use Rattle.sheet.proofs.Admitted.{its-header}
 use Rattle.text.proofs.Heading.{heading-written}
 use borrow.Author.Needs.{needs}
 use Rattle.text.proofs.put_heading.Statement.{statement}
@@ -13,17 +13,13 @@ text-bytes-requires : tie.Need-text-bytes-requires
 text-bytes-requires c κs = its-header (c .before .before .before .pre .0)
 
 put-declarations-requires : tie.Need-put-declarations-requires
-put-declarations-requires c κs =
-    let (_, (atoms, _)) = c .before .before .before .before .before .before .pre in
-    rw (c .before .before .before .name-pairs .ensures, c .before .before .text-bytes .ensures) (atoms .there, atoms .marks)
+put-declarations-requires c κs = rw (c .before .before .before .name-pairs .ensures, c .before .before .text-bytes .ensures) (search needs)
 
 put-requires : tie.Need-put-requires
 put-requires c κs = search needs
 
 put-declarations-requires-2 : tie.Need-put-declarations-requires-2
-put-declarations-requires-2 c κs =
-    let (_, (_, datatypes)) = c .before .before .before .before .before .before .before .before .before .before .before .before .before .before .before .pre in
-    rw (c .before .before .before .before .before .before .before .before .before .before .before .before .name-pairs .ensures, c .before .before .before .before .before .before .before .before .before .before .before .text-bytes .ensures) (datatypes .there, datatypes .marks)
+put-declarations-requires-2 c κs = rw (c .before .before .before .before .before .before .before .before .before .before .before .before .name-pairs .ensures, c .before .before .before .before .before .before .before .before .before .before .before .text-bytes .ensures) (search needs)
 
 slice-aggregate-put-all : tie.Need-slice-aggregate-put-all
 slice-aggregate-put-all c = search needs

@@ -1,7 +1,7 @@
 -- The parts of the sheet and the table of ends are what the term's printing asks for.
 use Rattle.definitions.specs.Sheet.{nameOf}
 use Rattle.sheet.specs.Header.{headerOf}
-use Rattle.text.proofs.Accepted.{its-header}
+use Rattle.sheet.proofs.Admitted.{its-header}
 use Rattle.text.proofs.Ends.{printable}
 use borrow.Author.Needs.{needs}
 use Rattle.text.proofs.put_term.Statement.{statement}

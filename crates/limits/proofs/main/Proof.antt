@@ -1,0 +1,62 @@
+-- The loop ends: each turn takes two more of the arguments.
+use Prim.Native.Nat.{_-_}
+use borrow.Author.Needs.{needs}
+use Rattle.limits.proofs.main.Statement.{statement}
+use Rattle.limits.proofs.main.Tie as tie
+
+abbrev Inv-loop : tie.InvT-loop
+Inv-loop i₀ i-end i = Unit {0}
+
+abbrev μ-loop : tie.MeasureT-loop
+μ-loop i₀ i-end i = i-end - i
+
+arg-count-requires : tie.Need-arg-count-requires Inv-loop μ-loop
+arg-count-requires c κs = search needs
+
+loop-holds : tie.Need-loop-holds Inv-loop μ-loop
+loop-holds c = search needs
+
+mul-answer-arguments : tie.Need-mul-answer-arguments Inv-loop μ-loop
+mul-answer-arguments c = search needs
+
+add-answer-arguments : tie.Need-add-answer-arguments Inv-loop μ-loop
+add-answer-arguments c = search needs
+
+mul-answer-arguments-2 : tie.Need-mul-answer-arguments-2 Inv-loop μ-loop
+mul-answer-arguments-2 c = search needs
+
+add-answer-arguments-2 : tie.Need-add-answer-arguments-2 Inv-loop μ-loop
+add-answer-arguments-2 c = search needs
+
+answer-arguments-requires : tie.Need-answer-arguments-requires Inv-loop μ-loop
+answer-arguments-requires c κs = search needs
+
+add-i : tie.Need-add-i Inv-loop μ-loop
+add-i c = search needs
+
+loop-less : tie.Need-loop-less Inv-loop μ-loop
+loop-less c = search needs
+
+loop-again : tie.Need-loop-again Inv-loop μ-loop
+loop-again c = search needs
+
+returns : tie.Need-returns Inv-loop μ-loop
+returns c = search needs
+
+pub main-spec : {M : Type 1} → statement M
+main-spec =
+    tie.close
+    (tie.spec
+    Inv-loop
+    μ-loop
+    arg-count-requires
+    loop-holds
+    mul-answer-arguments
+    add-answer-arguments
+    mul-answer-arguments-2
+    add-answer-arguments-2
+    answer-arguments-requires
+    add-i
+    loop-less
+    loop-again
+    returns)

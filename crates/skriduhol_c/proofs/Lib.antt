@@ -1,0 +1,2 @@
+mod Handing
+pub mod Numbers

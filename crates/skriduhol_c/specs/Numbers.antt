@@ -1,0 +1,18 @@
+-- Which refusals a question can meet. Document 01, "Refusals in checking order".
+use Prim.Native.Nat.{ℕ, _≤_}
+use mathlib.Core.Logic.{_⊎_}
+use Rattle.definitions.specs.declared.Refusal.{Refusal}
+use Rattle.definitions.specs.Outcome.{Outcome, accepted, refused}
+
+-- an outcome that is accepted, or refused with a number of that kind
+pub data Uses (Kind : ℕ → Type 0) {A : Type 0} : Outcome A → Type 0 where
+  is-accepted : {a : A} → Uses Kind (accepted a)
+  is-refused : {r : Refusal} → Kind (r .number) → Uses Kind (refused r)
+
+pub record Between (least most number : ℕ) : Type 0 where
+  pub low : least ≤ number
+  pub high : number ≤ most
+
+-- comparison uses 1 to 11, 17, 18, 19 only
+abbrev pub OfComparison : ℕ → Type 0
+OfComparison number = Between 1 11 number ⊎ Between 17 19 number

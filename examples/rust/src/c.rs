@@ -1,0 +1,108 @@
+//! The C functions of `include/skriduhol.h`, and the only unsafe code of this crate.
+//!
+//! Every call is safe for one reason: each pointer and length come from one Rust slice or reference, which is valid, aligned
+//! and not null for the whole call; what is written to is lent by `&mut`, so nothing else points to it; and no function keeps a
+//! pointer after it returns.
+#![allow(unsafe_code)]
+
+use crate::BOARD_ROOM;
+
+extern "C" {
+    fn skriduhol_plain_text(
+        sheet: *const u8,
+        sheet_length: usize,
+        out: *mut u8,
+        room: usize,
+        value: *mut usize,
+    ) -> u8;
+    fn skriduhol_strict_text(
+        sheet: *const u8,
+        sheet_length: usize,
+        out: *mut u8,
+        room: usize,
+        value: *mut usize,
+    ) -> u8;
+    fn skriduhol_atom_list(
+        sheet: *const u8,
+        sheet_length: usize,
+        out: *mut u16,
+        room: usize,
+        value: *mut usize,
+    ) -> u8;
+    fn skriduhol_datatype_list(
+        sheet: *const u8,
+        sheet_length: usize,
+        out: *mut u16,
+        room: usize,
+        value: *mut usize,
+    ) -> u8;
+    fn skriduhol_label_count(sheet: *const u8, sheet_length: usize, value: *mut usize) -> u8;
+    fn skriduhol_compare(
+        sheet: *const u8,
+        sheet_length: usize,
+        i: usize,
+        j: usize,
+        value: *mut usize,
+    ) -> u8;
+    fn skriduhol_board_output(sheet: *const u8, sheet_length: usize, out: *mut u8) -> usize;
+}
+
+pub fn plain_text(sheet: &[u8], out: &mut [u8], value: &mut usize) -> u8 {
+    unsafe {
+        skriduhol_plain_text(
+            sheet.as_ptr(),
+            sheet.len(),
+            out.as_mut_ptr(),
+            out.len(),
+            value,
+        )
+    }
+}
+
+pub fn strict_text(sheet: &[u8], out: &mut [u8], value: &mut usize) -> u8 {
+    unsafe {
+        skriduhol_strict_text(
+            sheet.as_ptr(),
+            sheet.len(),
+            out.as_mut_ptr(),
+            out.len(),
+            value,
+        )
+    }
+}
+
+pub fn atom_list(sheet: &[u8], out: &mut [u16], value: &mut usize) -> u8 {
+    unsafe {
+        skriduhol_atom_list(
+            sheet.as_ptr(),
+            sheet.len(),
+            out.as_mut_ptr(),
+            out.len(),
+            value,
+        )
+    }
+}
+
+pub fn datatype_list(sheet: &[u8], out: &mut [u16], value: &mut usize) -> u8 {
+    unsafe {
+        skriduhol_datatype_list(
+            sheet.as_ptr(),
+            sheet.len(),
+            out.as_mut_ptr(),
+            out.len(),
+            value,
+        )
+    }
+}
+
+pub fn label_count(sheet: &[u8], value: &mut usize) -> u8 {
+    unsafe { skriduhol_label_count(sheet.as_ptr(), sheet.len(), value) }
+}
+
+pub fn compare(sheet: &[u8], i: usize, j: usize, value: &mut usize) -> u8 {
+    unsafe { skriduhol_compare(sheet.as_ptr(), sheet.len(), i, j, value) }
+}
+
+pub fn board_output(sheet: &[u8], out: &mut [u8; BOARD_ROOM]) -> usize {
+    unsafe { skriduhol_board_output(sheet.as_ptr(), sheet.len(), out.as_mut_ptr()) }
+}

@@ -1,0 +1,92 @@
+/*
+ * Skriduhol: from the sheet of a proof board to its printed term.
+ *
+ * A sheet is any sequence of bytes: every function answers for every sequence and every length. The functions are proved in
+ * Rattle, in crates/skriduhol_c; `rt staticlib skriduhol_c` writes target/staticlib/libskriduhol_c.a for x86-64 Linux.
+ *
+ * What a caller owes
+ *   - Each pointer is not null, also where its length is 0, and is aligned for its type.
+ *   - `sheet` can be read for `sheet_length` bytes; `out` can be written for `room` elements, and all of them have a value
+ *     (clear the memory once); `value` can be written.
+ *   - `out` and `value` overlap neither each other nor the sheet, and no other thread touches the three during the call.
+ *
+ * What a caller gets
+ *   - Each call returns. Nothing is allocated, no file is touched, no pointer is kept, and there is no state between calls, so
+ *     threads may call at the same time, each on its own memory.
+ *   - The first six functions return 0 for an accepted answer, and then *value is what the function's comment says; or they
+ *     return the number of a refusal, 1 to 19, and then *value is its place. *value is set either way.
+ *   - An accepted answer fills the first elements of `out` and nothing after them. A refusal leaves all of `out` as it was.
+ *   - A call takes at most 256 KiB of stack.
+ *
+ * The refusals, in the order in which they are tried
+ *
+ *   number  place              reason
+ *    1      0                  fewer than 12 bytes came
+ *    2      0                  a header number lies outside its range
+ *    3      0                  the byte count is not the one that the header gives
+ *    4      name number        a name's pair is out of order, ends past the text, or has a length outside 1 to 32
+ *    5      name number        a name holds a byte that its position does not allow
+ *    6      proposition number a proposition's pair is out of order, ends past the code, or has length 0
+ *    7      proposition number a proposition's code is not exactly one proposition over names of the sheet
+ *    8      proposition number a proposition nests deeper than 64
+ *    9      step number        a step's rule, kind, name or proposition number is out of range, or an unused field is not 0
+ *   10      step number        a step finds too few trees before it, or the last step leaves more than one
+ *   11      step number        a step's tree nests deeper than 256
+ *   12      step number        a step has the wrong premiss count
+ *   13      step number        an ascription is needed where the conclusion is a type judgement
+ *   14      step number        a function of ImplIntro needs a label and its conclusion is no implication
+ *   15      step number        a function of ForAllIntro needs a label and its conclusion is no universal
+ *   16      0                  `out` is shorter than the answer
+ *   17      0                  a comparison names a step that the sheet has not
+ *   18      0                  two atoms of one name with different parameter counts are compared
+ *   19      0                  two uninstantiated parameters meet, neither of them bound
+ *
+ * Texts and lists use 1 to 16, the label count 1 to 15, a comparison 1 to 11 and 17 to 19. 16 is tried last. It does not say how
+ * much room is missing: most answers fit 65,536 elements, but a text can pass 88 million bytes and a list 3 million numbers.
+ */
+#ifndef SKRIDUHOL_H
+#define SKRIDUHOL_H
+
+#include <stddef.h>
+#include <stdint.h>
+
+#ifdef __cplusplus
+extern "C" {
+#endif
+
+/* The bytes that skriduhol_board_output writes into. */
+#define SKRIDUHOL_BOARD_ROOM 65536
+
+/* The longest sheet, in bytes. A reader lends one byte more, to see that an input is longer. */
+#define SKRIDUHOL_LONGEST_SHEET 38924
+
+/* The plain text: declarations and then the term, in UTF-8, with no 0 at its end. *value: its length in bytes. */
+uint8_t skriduhol_plain_text(const uint8_t *sheet, size_t sheet_length, uint8_t *out, size_t room, size_t *value);
+
+/* The strict text: the plain text with a case or let in brackets where it stands as the function of an application. *value: its
+   length in bytes. */
+uint8_t skriduhol_strict_text(const uint8_t *sheet, size_t sheet_length, uint8_t *out, size_t room, size_t *value);
+
+/* The atoms of the term's labels, left to right with repeats: for each the number of its name, and then its parameter count.
+   *value: how many numbers these are, two for each atom. */
+uint8_t skriduhol_atom_list(const uint8_t *sheet, size_t sheet_length, uint16_t *out, size_t room, size_t *value);
+
+/* The datatypes of the term's labels, left to right with repeats: the number of the name of each. *value: how many. */
+uint8_t skriduhol_datatype_list(const uint8_t *sheet, size_t sheet_length, uint16_t *out, size_t room, size_t *value);
+
+/* The label count. *value: how many ascriptions and labelled functions the term has. */
+uint8_t skriduhol_label_count(const uint8_t *sheet, size_t sheet_length, size_t *value);
+
+/* Whether the conclusions of steps i and j are equal up to the names of their bound objects. *value: 1 for yes, 0 for no. */
+uint8_t skriduhol_compare(const uint8_t *sheet, size_t sheet_length, size_t i, size_t j, size_t *value);
+
+/* What the board prints: the plain text if 65,536 bytes have room for it, or `refused R at P` and a newline, R the number and P
+   the place. `out` has SKRIDUHOL_BOARD_ROOM bytes. The result is how many of them were written, from the first on; the rest
+   is left as it was. */
+size_t skriduhol_board_output(const uint8_t *sheet, size_t sheet_length, uint8_t *out);
+
+#ifdef __cplusplus
+}
+#endif
+
+#endif
