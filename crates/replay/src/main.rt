@@ -1,5 +1,5 @@
-// Asks each question of a fixed list of sheets, and says how many of the answers agree with those that the list holds, which are
-// the Rust's. tests/oracle/README.md has the form of the list.
+// Asks each question of a fixed list of sheets, and says how many of the answers agree with those that the list holds: the Rust's,
+// and document 01's where the Rust has none. tests/oracle/README.md has the form of the list, and says how it was made.
 use alpha_eq::Answer;
 use definitions::Refusal;
 use libc::STDOUT_FILENO;
@@ -41,14 +41,14 @@ fn least(a: usize, b: usize) -> usize
     if a < b { a } else { b }
 }
 
-// So many bytes of the memory, or all where there are fewer.
+// The lesser of a number and the bytes that the memory has.
 fn bytes_within(n: usize, memory: &[u8]) -> usize
     ensures { λ r. ⌜ Counts r (now (memory .entry)) ⌝ }
 {
     least(n, memory.len())
 }
 
-// So many numbers of the memory, or all where there are fewer.
+// The lesser of a number and the numbers that the memory has.
 fn numbers_within(n: usize, memory: &[u16]) -> usize
     ensures { λ r. ⌜ Counts r (now (memory .entry)) ⌝ }
 {
@@ -151,6 +151,7 @@ fn read_bytes(fd: i32, length: usize) -> [u8; ROOM] {
     bytes
 }
 
+// Takes arrays and not slices: a caller then has no length to prove.
 fn same_bytes(a: &[u8; ROOM], b: &[u8; ROOM]) -> bool {
     check::same(a, b)
 }
@@ -183,7 +184,7 @@ fn list(s: &[u8], datatypes: bool, room: usize, out: &mut [u16]) -> Written {
     skriduhol::atom_list(s, &mut out[..lent])
 }
 
-// The number of a place in a list's bytes, and 0 past them.
+// The number at a place of a list's bytes, and 0 past them.
 fn number_of(bytes: &[u8; ROOM], i: usize) -> usize {
     if NUMBERS <= i {
         return 0;
@@ -269,12 +270,13 @@ fn agreeing(fd: i32, s: &[u8], questions: usize) -> usize
     agreed
 }
 
+// How many questions were asked, and how many of the answers agree.
 struct Tally {
     questions: usize,
     agreed: usize,
 }
 
-// Fills the memory with a sheet of the list, and asks its questions.
+// Fills the memory with a sheet of the list, and asks the questions on it.
 fn ask(fd: i32, sheet: &mut [u8]) -> Tally
     ensures { λ r. ⌜ (r .«questions» < 256) × (r .«agreed» < 256) ⌝ }
 {
@@ -287,6 +289,7 @@ fn ask(fd: i32, sheet: &mut [u8]) -> Tally
     }
 }
 
+// Asks the questions on the next sheet of the list.
 fn ask_next(fd: i32) -> Tally
     ensures { λ r. ⌜ (r .«questions» < 256) × (r .«agreed» < 256) ⌝ }
 {
