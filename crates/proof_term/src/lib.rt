@@ -47,8 +47,8 @@ pub const PROPOSITION: usize = 1;
 
 pub const DATATYPE: usize = 2;
 
-// How many of a record's numbers are parts, for each kind.
-const PART_COUNTS: [usize; 14] = [0, 2, 1, 1, 1, 2, 2, 1, 1, 3, 1, 1, 0, 0];
+// How many of a record's numbers are parts, for each kind; in bytes, since each look lays the table down in the frame of a walk.
+const PART_COUNTS: [u8; 14] = [0, 2, 1, 1, 1, 2, 2, 1, 1, 3, 1, 1, 0, 0];
 
 // Stores record `used` and gives the number of the next one.
 pub fn push(
@@ -268,7 +268,7 @@ pub fn part_count(kind: usize) -> usize
     ensures { λ r. ⌜ r ≡ partCount kind ⌝ }
 {
     if kind < 14 {
-        return PART_COUNTS[kind];
+        return PART_COUNTS[kind] as usize;
     }
     0
 }

@@ -79,9 +79,15 @@ bracket-rule p row k s f hp hr styled formed =
     )
 
 -- the form of each kind
+abbrev formTable : List ℕ
+formTable = 0 ∷ 0 ∷ 1 ∷ 1 ∷ 2 ∷ 1 ∷ 3 ∷ 1 ∷ 1 ∷ 3 ∷ 1 ∷ 4 ∷ 0 ∷ 0 ∷ []
+
+pub form-below : (kind : ℕ) → getD formTable kind 0 < 5
+form-below kind = omega (arith, entry-below formTable kind)
+
 pub form-rule :
     (f : ℕ → Name) (props : ℕ → Prop ℕ) (term : ℕ → ProofTerm ℕ) (kind a b c d e : ℕ) →
-    getD (0 ∷ 0 ∷ 1 ∷ 1 ∷ 2 ∷ 1 ∷ 3 ∷ 1 ∷ 1 ∷ 3 ∷ 1 ∷ 4 ∷ 0 ∷ 0 ∷ []) kind 0 ≡ column (form (renameTerm f (recordTerm props term kind a b c d e)))
+    getD formTable kind 0 ≡ column (form (renameTerm f (recordTerm props term kind a b c d e)))
 unfolding column form renameTerm
 form-rule f props term kind a b c d e =
     List·getD-map (λ g. column (form (renameTerm f (formTerm term g a b c)))) (forms props a b c d e) kind (leaf Unit)

@@ -33,18 +33,18 @@ ghost use Rattle.proof_term_display.specs.Item.{KindAt, LabelReady, Item
 const KINDS: usize = 14;
 
 // The forms of terms, as far as brackets go.
-const CLOSED: usize = 0;
+const CLOSED: u8 = 0;
 
-const CALL: usize = 1;
+const CALL: u8 = 1;
 
-const FUNCTION: usize = 2;
+const FUNCTION: u8 = 2;
 
-const BLOCK: usize = 3;
+const BLOCK: u8 = 3;
 
-const ASCRIPTION: usize = 4;
+const ASCRIPTION: u8 = 4;
 
 // The form of each kind, in the order of the kinds.
-const FORMS: [usize; 14] = [
+const FORMS: [u8; 14] = [
     CLOSED,
     CLOSED,
     CALL,
@@ -62,15 +62,15 @@ const FORMS: [usize; 14] = [
 ];
 
 // The positions of parts.
-const FUNCTION_OF: usize = 0;
+const FUNCTION_OF: u8 = 0;
 
-const ARGUMENT_OF: usize = 1;
+const ARGUMENT_OF: u8 = 1;
 
-const BODY_OF: usize = 2;
+const BODY_OF: u8 = 2;
 
-const ASCRIBED_BY: usize = 3;
+const ASCRIBED_BY: u8 = 3;
 
-const ELSEWHERE: usize = 4;
+const ELSEWHERE: u8 = 4;
 
 // Whether a part is bracketed, by its position, the style and its form: closed, call, function, block, ascription.
 const BRACKETS: [[[bool; 5]; 2]; 5] = [
@@ -96,32 +96,12 @@ const BRACKETS: [[[bool; 5]; 2]; 5] = [
     ],
 ];
 
-// The text of each kind, in the order of the kinds and up to the full stop. A digit stands for the name in that number of the
-// record. A, B and C stand for its parts, D for the body of a named function, E for that of an ascription, F and G for the function
-// and the argument of an application, L for the label of a parameter, if it has one, and M for that of an ascription.
-const FORMATS: [[u8; 32]; 14] = [
-    *b"1...............................",
-    *b"(A, B)..........................",
-    *b"fst D...........................",
-    *b"snd D...........................",
-    *b"fn 2L => A......................",
-    *b"F G.............................",
-    *b"let (3, 4) = A in B.............",
-    *b"inl D...........................",
-    *b"inr D...........................",
-    *b"case A of inl 4 => B, inr 5 => C",
-    *b"abort D.........................",
-    *b"E: M............................",
-    *b"()..............................",
-    *b"sorry...........................",
-];
-
 const FORMAT_SIZE: usize = 32;
 
 // The record's number and the position of each of the parts A to G.
-const PART_FIELDS: [usize; 7] = [1, 2, 3, 1, 1, 1, 2];
+const PART_FIELDS: [u8; 7] = [1, 2, 3, 1, 1, 1, 2];
 
-const PART_POSITIONS: [usize; 7] = [
+const PART_POSITIONS: [u8; 7] = [
     ELSEWHERE,
     ELSEWHERE,
     ELSEWHERE,
@@ -149,7 +129,7 @@ fn form_of(kind: usize) -> usize
     ensures { λ r. ⌜ ((f : ℕ → Name) (props : ℕ → Prop ℕ) (term : ℕ → ProofTerm ℕ) (a b c d e : ℕ) →
         r ≡ column (form (renameTerm f (recordTerm props term kind a b c d e)))) ⌝ }
 {
-    FORMS[kind]
+    FORMS[kind] as usize
 }
 
 // The row of a style in the table of brackets.
@@ -173,12 +153,29 @@ fn is_bracketed(records: &[u16], n: usize, position: usize, style: Style) -> boo
     BRACKETS[position][row][column]
 }
 
-// The format of a kind.
+// The format of a kind, up to the full stop. A digit stands for the name in that number of the record. A, B and C stand for its
+// parts, D for the body of a named function, E for that of an ascription, F and G for the function and the argument of an
+// application, L for the label of a parameter, if it has one, and M for that of an ascription.
 fn format_of(kind: usize) -> [u8; 32]
     requires { ⌜ kind < 14 ⌝ }
     ensures { λ r. ⌜ (length r ≡ 32) × (items r ≡ getD formats kind []) ⌝ }
 {
-    FORMATS[kind]
+    match kind {
+        0 => *b"1...............................",
+        1 => *b"(A, B)..........................",
+        2 => *b"fst D...........................",
+        3 => *b"snd D...........................",
+        4 => *b"fn 2L => A......................",
+        5 => *b"F G.............................",
+        6 => *b"let (3, 4) = A in B.............",
+        7 => *b"inl D...........................",
+        8 => *b"inr D...........................",
+        9 => *b"case A of inl 4 => B, inr 5 => C",
+        10 => *b"abort D.........................",
+        11 => *b"E: M............................",
+        12 => *b"()..............................",
+        _ => *b"sorry...........................",
+    }
 }
 
 // The label of record `n`: a proposition or a datatype.
@@ -265,11 +262,11 @@ fn part(
     ensures { λ r. ⌜ Wrote (recordItem style names (now (code .entry)) (now (pairs .entry)) (now (text .entry)) (now (records .entry)) n (part k))
         write (now (out .entry)) to (now (out .exit)) r ⌝ }
 {
-    let number = field(records, n, PART_FIELDS[k]);
+    let number = field(records, n, PART_FIELDS[k] as usize);
     if n <= number {
         return put_all(out, to, b"()", write);
     }
-    if is_bracketed(records, number, PART_POSITIONS[k], style) {
+    if is_bracketed(records, number, PART_POSITIONS[k] as usize, style) {
         let start = put(out, to, b'(', write);
         let end = print_term(
             out,

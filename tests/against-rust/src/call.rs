@@ -150,7 +150,7 @@ impl<T: Cell> Lent<T> {
     }
 
     fn start(&mut self) -> *mut T {
-        self.cells[GUARD..].as_mut_ptr()
+        self.cells.as_mut_ptr().wrapping_add(GUARD)
     }
 
     /// The first cells of the room, at most all of it.

@@ -27,6 +27,18 @@ impl Operation {
         Operation::Comparison,
         Operation::BoardOutput,
     ];
+
+    pub fn of(question: Question) -> Self {
+        match question {
+            Question::PlainText => Operation::PlainText,
+            Question::StrictText => Operation::StrictText,
+            Question::AtomList => Operation::AtomList,
+            Question::DatatypeList => Operation::DatatypeList,
+            Question::LabelCount => Operation::LabelCount,
+            Question::Comparison(..) => Operation::Comparison,
+            Question::BoardOutput => Operation::BoardOutput,
+        }
+    }
 }
 
 impl fmt::Display for Operation {

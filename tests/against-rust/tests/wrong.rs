@@ -37,16 +37,7 @@ impl Asked {
     }
 
     fn is(&self, operation: Operation) -> bool {
-        operation
-            == match self.question {
-                Question::PlainText => Operation::PlainText,
-                Question::StrictText => Operation::StrictText,
-                Question::AtomList => Operation::AtomList,
-                Question::DatatypeList => Operation::DatatypeList,
-                Question::LabelCount => Operation::LabelCount,
-                Question::Comparison(..) => Operation::Comparison,
-                Question::BoardOutput => Operation::BoardOutput,
-            }
+        Operation::of(self.question) == operation
     }
 
     fn fills(&self) -> bool {

@@ -1,11 +1,11 @@
 //! A sample of the answers as one file, for a program that asks the library the same questions.
 //!
-//! The file is a row of entries up to its end. Numbers are low byte first.
+//! The file is the number of entries (u32) and the entries. Numbers are low byte first.
 //!
 //! - An entry: the sheet's length (u32), its bytes, the number of questions (u8), the questions.
 //! - A question: its kind (u8): 0 plain text, 1 strict text, 2 atom list, 3 datatype list, 4 label count, 5 comparison,
-//!   6 board output. Kinds 0 to 3 then have the room (u32), in bytes or, for the lists, in numbers; kind 5 has the two
-//!   steps (u16, u16). The expected answer follows.
+//!   6 board output. Kinds 0 to 3 then have the room (u32), in bytes or, for the lists, in numbers, at most 65,536;
+//!   kind 5 has the two steps (u16, u16). The expected answer follows.
 //! - An answer: 0 or the refusal's number (u8), and a value (u32): the length of the text in bytes or of the list in
 //!   numbers, the label count, 1 for yes and 0 for no, or the refusal's place. An accepted answer of kinds 0 to 3, and
 //!   every one of kind 6, then has the text's bytes or the list's numbers (u16 each). Kind 6 is never refused: what the
@@ -14,7 +14,7 @@ use crate::{
     answer::{examine, Answer, Examined, Finding, Question},
     generate::{Kind, Sheets},
     rng::Rng,
-    sheet::Refusal,
+    sheet::{Refusal, BOARD_ROOM},
 };
 use std::ops::RangeInclusive;
 
@@ -48,6 +48,7 @@ pub fn list(seed: u64) -> Result<List, Finding> {
         list.sample(kind, seed, 0..=SMALL_BYTES, SMALL, &mut rng)?;
         list.sample(kind, seed, SMALL_BYTES + 1..=LARGE_BYTES, LARGE, &mut rng)?;
     }
+    list.bytes.splice(0..0, (list.sheets as u32).to_le_bytes());
     Ok(list)
 }
 
@@ -127,18 +128,22 @@ impl List {
 /// So many questions are asked of a sheet that is refused.
 const REFUSED: usize = 4;
 const COMPARISONS: usize = 6;
+/// So many of a hundred answers are asked for with more room than they fill.
+const MORE: usize = 10;
 
-/// Questions with their rooms, for those that are lent one: exactly enough and one short.
+/// Questions with their rooms, for those that are lent one: exactly enough, one short, or as much as is ever lent.
 fn questions(examined: &Examined, longest: usize, rng: &mut Rng) -> Vec<(Question, Option<usize>)> {
     let mut all = vec![(Question::LabelCount, None)];
     let mut long = false;
     for question in [Question::PlainText, Question::StrictText, Question::AtomList, Question::DatatypeList] {
         match examined.answer(question, None).expect("export was examined").map(|answer| answer.length()) {
-            Ok(0) => all.push((question, Some(0))),
             Ok(length) => {
-                all.push((question, Some(length - 1)));
+                all.extend((length > 0).then(|| (question, Some((length - 1).min(BOARD_ROOM)))));
                 long |= length > longest;
-                all.extend((length <= longest).then_some((question, Some(length))));
+                if length <= longest {
+                    all.push((question, Some(length)));
+                    all.extend(rng.chance(MORE).then(|| (question, Some(length + rng.range(1, 100)))));
+                }
             }
             Err(_) => all.push((question, Some(rng.below(100)))),
         }

@@ -128,6 +128,10 @@ pub struct Layout {
     pub code: Vec<u8>,
 }
 
+fn word(bytes: &[u8], at: usize) -> u16 {
+    u16::from_le_bytes([bytes[at], bytes[at + 1]])
+}
+
 impl Layout {
     /// The parts of a sheet, if it is as long as its header says.
     pub fn read(bytes: &[u8]) -> Option<Self> {
@@ -137,16 +141,16 @@ impl Layout {
             rest = others;
             Some(part)
         };
-        let number = |field: usize| word(head, 2 * field);
-        let pairs =
-            |part: &[u8]| part.chunks(PAIR_BYTES).map(|pair| (word(pair, 0) as u16, word(pair, 2) as u16)).collect();
+        let pairs = |part: &[u8]| part.chunks(PAIR_BYTES).map(|pair| (word(pair, 0), word(pair, 2))).collect();
+        let header = [0, 2, 4, 6, 8, 10].map(|at| word(head, at));
+        let [text, names, code, props, steps, _] = header.map(usize::from);
         let layout = Layout {
-            header: [0, 1, 2, 3, 4, 5].map(|field| number(field) as u16),
-            names: pairs(take(PAIR_BYTES * number(1))?),
-            props: pairs(take(PAIR_BYTES * number(3))?),
-            steps: take(STEP_BYTES * number(4))?.chunks(STEP_BYTES).map(Step::read).collect(),
-            text: take(number(0))?.to_vec(),
-            code: take(number(2))?.to_vec(),
+            header,
+            names: pairs(take(PAIR_BYTES * names)?),
+            props: pairs(take(PAIR_BYTES * props)?),
+            steps: take(STEP_BYTES * steps)?.chunks(STEP_BYTES).map(Step::read).collect(),
+            text: take(text)?.to_vec(),
+            code: take(code)?.to_vec(),
         };
         rest.is_empty().then_some(layout)
     }
@@ -204,74 +208,37 @@ pub struct Sheet {
     pub goal: usize,
 }
 
-/// The header numbers and where the parts begin.
-struct Header {
-    text: usize,
-    names: usize,
-    props: usize,
-    steps: usize,
-    goal: usize,
+/// The parts of the sheet, or refusal 1, 2 or 3.
+fn laid_out(bytes: &[u8]) -> Result<Layout, Refusal> {
+    if bytes.len() < HEADER_BYTES {
+        return refuse(1, 0);
+    }
+    let [text, names, code, props, steps, goal] = [0, 2, 4, 6, 8, 10].map(|at| word(bytes, at) as usize);
+    let counts = names <= NAMES && (1..=PROPS).contains(&props) && (1..=STEPS).contains(&steps);
+    if !counts || text > TEXT || code > CODE || goal >= props {
+        return refuse(2, 0);
+    }
+    Layout::read(bytes).map_or(refuse(3, 0), Ok)
 }
 
-fn word(bytes: &[u8], at: usize) -> usize {
-    u16::from_le_bytes([bytes[at], bytes[at + 1]]) as usize
-}
-
-impl Header {
-    /// Refusals 1 to 3.
-    fn read(bytes: &[u8]) -> Result<Self, Refusal> {
-        if bytes.len() < HEADER_BYTES {
-            return refuse(1, 0);
-        }
-        let [text, names, code, props, steps, goal] = [0, 2, 4, 6, 8, 10].map(|at| word(bytes, at));
-        let header = Header { text, names, props, steps, goal };
-        let counts = (1..=PROPS).contains(&props) && (1..=STEPS).contains(&steps) && names <= NAMES;
-        if !counts || text > TEXT || code > CODE || goal >= props {
-            return refuse(2, 0);
-        }
-        if bytes.len() != header.code_at() + code {
-            return refuse(3, 0);
-        }
-        Ok(header)
-    }
-
-    fn props_at(&self) -> usize {
-        HEADER_BYTES + PAIR_BYTES * self.names
-    }
-
-    fn steps_at(&self) -> usize {
-        self.props_at() + PAIR_BYTES * self.props
-    }
-
-    fn text_at(&self) -> usize {
-        self.steps_at() + STEP_BYTES * self.steps
-    }
-
-    fn code_at(&self) -> usize {
-        self.text_at() + self.text
-    }
-}
-
-/// The parts that `count` pairs at `from` cut out of `all`, or the given refusal at the first pair that starts before
-/// the last one's end, ends past `all` or has a length outside `lengths`.
+/// The parts that pairs cut out of `all`, or the given refusal at the first pair that starts before the last one's end,
+/// ends past `all` or has a length outside `lengths`.
 fn cut<'a>(
-    bytes: &[u8],
-    from: usize,
-    count: usize,
+    pairs: &[(u16, u16)],
     all: &'a [u8],
     lengths: RangeInclusive<usize>,
     number: u8,
 ) -> Result<Vec<&'a [u8]>, Refusal> {
     let mut end = 0;
-    let part = |i: usize| {
-        let (offset, length) = (word(bytes, from + PAIR_BYTES * i), word(bytes, from + PAIR_BYTES * i + 2));
+    let part = |(i, pair): (usize, &(u16, u16))| {
+        let (offset, length) = (pair.0 as usize, pair.1 as usize);
         if offset < end || offset + length > all.len() || !lengths.contains(&length) {
             return refuse(number, i);
         }
         end = offset + length;
         Ok(&all[offset..end])
     };
-    (0..count).map(part).collect()
+    pairs.iter().enumerate().map(part).collect()
 }
 
 /// Are all bytes of a name admitted where they stand?
@@ -301,25 +268,22 @@ fn premisses(steps: &[Step]) -> Result<Vec<Vec<usize>>, Refusal> {
 }
 
 pub fn decode(bytes: &[u8]) -> Result<Sheet, Refusal> {
-    let header = Header::read(bytes)?;
-    let (text, code) = bytes[header.text_at()..].split_at(header.text);
-
-    let names = cut(bytes, HEADER_BYTES, header.names, text, 1..=NAME_BYTES, 4)?;
+    let layout = laid_out(bytes)?;
+    let names = cut(&layout.names, &layout.text, 1..=NAME_BYTES, 4)?;
     lowest(5, names.len(), |i| !admitted(names[*i]))?;
 
-    let codes = cut(bytes, header.props_at(), header.props, code, 1..=CODE, 6)?;
+    let codes = cut(&layout.props, &layout.code, 1..=CODE, 6)?;
     let parsed: Vec<Option<Formula>> = codes.iter().map(|code| parse(code, names.len())).collect();
     lowest(7, parsed.len(), |i| parsed[*i].is_none())?;
     let props: Vec<Formula> = parsed.into_iter().flatten().collect();
     lowest(8, props.len(), |i| props[*i].nesting() > PROP_NESTING)?;
 
-    let records = &bytes[header.steps_at()..header.text_at()];
-    let steps: Vec<Step> = records.chunks(STEP_BYTES).map(Step::read).collect();
+    let steps = layout.steps;
     lowest(9, steps.len(), |i| steps[*i].bad(names.len(), props.len()))?;
     let premisses = premisses(&steps)?;
 
     let names = names.iter().map(|n| String::from_utf8(n.to_vec()).unwrap()).collect();
-    Ok(Sheet { names, props, steps, premisses, goal: header.goal })
+    Ok(Sheet { names, props, steps, premisses, goal: layout.header[5] as usize })
 }
 
 impl Sheet {

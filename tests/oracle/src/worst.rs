@@ -110,7 +110,7 @@ pub fn worst() -> Vec<Named> {
     ])
 }
 
-/// Those for which the Rust needs minutes each.
+/// Those for which the Rust needs a minute and more each.
 pub fn slowest() -> Vec<Named> {
     let late: Vec<Formula> = atoms(0).chain(vec![atom(NAMES as u16 - 1); 2000]).collect();
     let sheet = |leaves: &[Formula], names: Vec<Vec<u8>>| labelled(conjunction(leaves, CODE - 2), names, CHAIN);

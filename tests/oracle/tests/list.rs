@@ -55,8 +55,9 @@ fn the_list_reads_back() {
     let list = list(1).unwrap();
     assert!(list.sheets >= 1500 && list.bytes.len() <= 2_000_000);
     let mut reader = Reader(&list.bytes);
-    let (mut sheets, mut refused, mut exact, mut short) = (0, [0; 20], 0, 0);
-    while !reader.0.is_empty() {
+    let (mut refused, mut exact, mut short, mut more) = ([0; 20], 0, 0, 0);
+    assert_eq!(reader.number(4), list.sheets);
+    for _ in 0..list.sheets {
         let length = reader.number(4);
         let examined = examine(&reader.bytes(length)).unwrap();
         for _ in 0..reader.number(1) {
@@ -65,14 +66,15 @@ fn the_list_reads_back() {
             assert_eq!(answer, examined.answer(question, room).unwrap());
             let enough = examined.answer(question, None).unwrap();
             exact += (room.is_some() && answer.as_ref().is_ok_and(|answer| Some(answer.length()) == room)) as usize;
+            more += (room.is_some() && answer.as_ref().is_ok_and(|answer| Some(answer.length()) < room)) as usize;
             short +=
                 (room.is_some() && enough.is_ok_and(|answer| Some(answer.length()) == room.map(|r| r + 1))) as usize;
             refused[answer.map_or_else(|refusal| refusal.number as usize, |_| 0)] += 1;
         }
-        sheets += 1;
     }
-    assert_eq!(sheets, list.sheets);
+    assert!(reader.0.is_empty());
     assert!(refused.iter().all(|count| *count > 0) && exact > 1000 && short > 1000, "{refused:?} {exact} {short}");
+    assert!(more > 100, "{more}");
 }
 
 #[test]

@@ -111,11 +111,11 @@ module _ (t : ℕ) where
     put-item.Post,
   )
 
-  part-mul-field : part-lts.Need-mul-field part-claims part-at part.Post
-  part-mul-field c = omega arith
-
   part-array-read-field : part-lts.Need-array-read-field part-claims part-at part.Post
   part-array-read-field c = c .before .before .before .before .before .before .pre .1 .0
+
+  part-cast-field : part-lts.Need-cast-field part-claims part-at part.Post
+  part-cast-field c = omega (arith, part-field-below (c .before .before .before .before .before .before .args .k))
 
   part-field-requires : part-lts.Need-field-requires part-claims part-at part.Post
   part-field-requires c κs =
@@ -134,11 +134,11 @@ module _ (t : ℕ) where
   part-same-length : part-lts.Need-same-length part-claims part-at part.Post
   part-same-length c = same-length (part-returns c)
 
-  part-mul-is-bracketed : part-lts.Need-mul-is-bracketed part-claims part-at part.Post
-  part-mul-is-bracketed c = omega arith
-
   part-array-read-is-bracketed : part-lts.Need-array-read-is-bracketed part-claims part-at part.Post
   part-array-read-is-bracketed c = c .before .before .before .before .before .before .before .before .pre .1 .0
+
+  part-cast-is-bracketed : part-lts.Need-cast-is-bracketed part-claims part-at part.Post
+  part-cast-is-bracketed c = omega (arith, part-position-below (c .before .before .before .before .before .before .before .before .args .k))
 
   part-is-bracketed-requires : part-lts.Need-is-bracketed-requires part-claims part-at part.Post
   part-is-bracketed-requires c κs =
@@ -343,15 +343,15 @@ pub +part+print-term+put-item-spec : {M : Type 1} → statement M
 +part+print-term+put-item-spec = close μ-part μ-print-term μ-put-item (λ t. part-lts.spec (part-claims t)
     (part-at t)
     part.Post
-    (part-mul-field t)
     (part-array-read-field t)
+    (part-cast-field t)
     (part-field-requires t)
     (part-slice-aggregate-put-all t)
     (part-put-all-requires t)
     (part-same-length t)
     (part-returns t)
-    (part-mul-is-bracketed t)
     (part-array-read-is-bracketed t)
+    (part-cast-is-bracketed t)
     (part-is-bracketed-requires t)
     (part-put-requires t)
     (part-print-term-requires t)

@@ -1,19 +1,94 @@
--- The table has the format of each kind, in 32 bytes.
-use lib.ListN.{length, getD-replicate, List·getD-map}
-use borrow.Author.Needs.{needs}
+-- Each arm has the format of its kind, in 32 bytes.
+use Prim.Native.Nat.{ℕ, zero, suc, _≤_, _<_}
+use mathlib.Core.Path.{_≡_, refl}
+use native.Mathlib.Omega.{arith}
 use Rattle.proof_term_display.specs.Format.{itemOf, items, formats}
 use Rattle.proof_term_display.proofs.format_of.Statement.{statement}
 use Rattle.proof_term_display.proofs.format_of.Tie as tie
 
-mul-result : tie.Need-mul-result
-mul-result c = search needs
+-- what is none of the first numbers is not below them
+abbrev Missed : ℕ → ℕ → Type 0
+Missed zero kind = Unit {0}
+Missed (suc n) kind = Missed n kind × (kind ≡ n → ⊥)
 
-array-copy-out-result : tie.Need-array-copy-out-result
-array-copy-out-result c = search needs
+missed : (n : ℕ) {kind : ℕ} → Missed n kind → n ≤ kind
+missed zero h = omega arith
+missed (suc n) h = let above = missed n (h .0) in let apart = h .1 in omega arith
+
+last : {kind : ℕ} → Missed 13 kind → kind < 14 → kind ≡ 13
+last h below = let above = missed 13 h in omega arith
 
 returns : tie.Need-returns
 unfolding itemOf items formats
-returns c = (rw (← List·getD-map length) (getD-replicate 14 (c .before .args .kind) 32 0 (c .before .pre)), rw (← List·getD-map items))
+returns c = (refl, rw (c .before .before .match .keys1))
+
+returns-2 : tie.Need-returns-2
+unfolding itemOf items formats
+returns-2 c = (refl, rw (c .before .before .match .keys2))
+
+returns-3 : tie.Need-returns-3
+unfolding itemOf items formats
+returns-3 c = (refl, rw (c .before .before .match .keys3))
+
+returns-4 : tie.Need-returns-4
+unfolding itemOf items formats
+returns-4 c = (refl, rw (c .before .before .match .keys4))
+
+returns-5 : tie.Need-returns-5
+unfolding itemOf items formats
+returns-5 c = (refl, rw (c .before .before .match .keys5))
+
+returns-6 : tie.Need-returns-6
+unfolding itemOf items formats
+returns-6 c = (refl, rw (c .before .before .match .keys6))
+
+returns-7 : tie.Need-returns-7
+unfolding itemOf items formats
+returns-7 c = (refl, rw (c .before .before .match .keys7))
+
+returns-8 : tie.Need-returns-8
+unfolding itemOf items formats
+returns-8 c = (refl, rw (c .before .before .match .keys8))
+
+returns-9 : tie.Need-returns-9
+unfolding itemOf items formats
+returns-9 c = (refl, rw (c .before .before .match .keys9))
+
+returns-10 : tie.Need-returns-10
+unfolding itemOf items formats
+returns-10 c = (refl, rw (c .before .before .match .keys10))
+
+returns-11 : tie.Need-returns-11
+unfolding itemOf items formats
+returns-11 c = (refl, rw (c .before .before .match .keys11))
+
+returns-12 : tie.Need-returns-12
+unfolding itemOf items formats
+returns-12 c = (refl, rw (c .before .before .match .keys12))
+
+returns-13 : tie.Need-returns-13
+unfolding itemOf items formats
+returns-13 c = (refl, rw (c .before .before .match .keys13))
+
+returns-14 : tie.Need-returns-14
+unfolding itemOf items formats
+returns-14 c = (refl, rw (last (c .before .before .match .rest) (c .before .before .before .pre)))
 
 pub format-of-spec : {M : Type 1} → statement M
-format-of-spec = tie.close (tie.spec mul-result array-copy-out-result returns)
+format-of-spec =
+    tie.close
+    (tie.spec
+    returns
+    returns-2
+    returns-3
+    returns-4
+    returns-5
+    returns-6
+    returns-7
+    returns-8
+    returns-9
+    returns-10
+    returns-11
+    returns-12
+    returns-13
+    returns-14)

@@ -1,0 +1,323 @@
+// Asks each question of a fixed list of sheets, and says how many of the answers agree with those that the list holds: the Rust's,
+// and document 01's where the Rust has none. tests/oracle/README.md has the form of the list, and says how it was made.
+use alpha_eq::Answer;
+use definitions::Refusal;
+use libc::STDOUT_FILENO;
+use number::number_at;
+use output::Written;
+use sheet_term::Counted;
+ghost use Prim.Native.Nat.{_<_, _≤_};
+ghost use Rattle.io.specs.Counts.{Counts};
+
+// The kinds of questions; any other asks for the board's output.
+const PLAIN_TEXT: u8 = 0;
+
+const STRICT_TEXT: u8 = 1;
+
+const ATOM_LIST: u8 = 2;
+
+const DATATYPE_LIST: u8 = 3;
+
+const LABEL_COUNT: u8 = 4;
+
+const COMPARISON: u8 = 5;
+
+// The most bytes or numbers that are lent. Memory is zero before it is lent.
+const ROOM: usize = 65536;
+
+// The most numbers of an accepted list: its bytes fill the room.
+const NUMBERS: usize = 32768;
+
+// 0 for an accepted answer and its length, its count, or 1 for yes and 0 for no; or a refusal's number and place.
+struct Result {
+    number: usize,
+    value: usize,
+}
+
+fn least(a: usize, b: usize) -> usize
+    ensures { λ r. ⌜ r ≤ a ⌝ }
+    ensures { λ r. ⌜ r ≤ b ⌝ }
+{
+    if a < b { a } else { b }
+}
+
+// The lesser of a number and the bytes that the memory has.
+fn bytes_within(n: usize, memory: &[u8]) -> usize
+    ensures { λ r. ⌜ Counts r (now (memory .entry)) ⌝ }
+{
+    least(n, memory.len())
+}
+
+// The lesser of a number and the numbers that the memory has.
+fn numbers_within(n: usize, memory: &[u16]) -> usize
+    ensures { λ r. ⌜ Counts r (now (memory .entry)) ⌝ }
+{
+    least(n, memory.len())
+}
+
+fn wide(byte: u8) -> usize
+    ensures { λ r. ⌜ r < 256 ⌝ }
+{
+    byte as usize
+}
+
+fn read_byte(fd: i32) -> u8 {
+    let mut byte = [0u8; 1];
+    io::read_full(fd, &mut byte);
+    byte[0]
+}
+
+fn read_u16(fd: i32) -> usize
+    ensures { λ r. ⌜ r < 65536 ⌝ }
+{
+    let low = wide(read_byte(fd));
+    low + 256 * wide(read_byte(fd))
+}
+
+fn read_u32(fd: i32) -> usize
+    ensures { λ r. ⌜ r < 4294967296 ⌝ }
+{
+    let low = read_u16(fd);
+    low + 65536 * read_u16(fd)
+}
+
+fn read_result(fd: i32) -> Result {
+    let number = wide(read_byte(fd));
+    let value = read_u32(fd);
+    Result {
+        number: number,
+        value: value,
+    }
+}
+
+fn same_result(a: Result, b: Result) -> bool {
+    if a.number != b.number {
+        return false;
+    }
+    a.value == b.value
+}
+
+fn refused(refusal: Refusal) -> Result {
+    Result {
+        number: refusal.number as usize,
+        value: refusal.place as usize,
+    }
+}
+
+fn accepted(value: usize) -> Result {
+    Result {
+        number: 0,
+        value: value,
+    }
+}
+
+fn written_result(written: Written) -> Result {
+    match written {
+        Written::Length(length) => accepted(length),
+        Written::Refused(refusal) => refused(refusal),
+    }
+}
+
+fn counted_result(counted: Counted) -> Result {
+    match counted {
+        Counted::Labels(labels) => accepted(labels),
+        Counted::Refused(refusal) => refused(refusal),
+    }
+}
+
+fn compared_result(answer: Answer) -> Result {
+    match answer {
+        Answer::Yes => accepted(1),
+        Answer::No => accepted(0),
+        Answer::Refused(refusal) => refused(refusal),
+    }
+}
+
+// How many bytes or numbers the list holds of an answer: none of a refusal.
+fn elements(answer: Result) -> usize
+    ensures { λ r. ⌜ r ≤ 65536 ⌝ }
+{
+    if answer.number != 0 {
+        return 0;
+    }
+    least(answer.value, ROOM)
+}
+
+// So many bytes of the list, and zeros past them.
+fn read_bytes(fd: i32, length: usize) -> [u8; ROOM] {
+    let mut bytes = io::large_buffer();
+    let held = bytes_within(length, &bytes);
+    io::read_full(fd, &mut bytes[..held]);
+    bytes
+}
+
+// Takes arrays and not slices: a caller then has no length to prove.
+fn same_bytes(a: &[u8; ROOM], b: &[u8; ROOM]) -> bool {
+    check::same(a, b)
+}
+
+fn text(s: &[u8], strict: bool, room: usize, out: &mut [u8]) -> Written {
+    let lent = bytes_within(room, out);
+    if strict {
+        return skriduhol::strict_text(s, &mut out[..lent]);
+    }
+    skriduhol::plain_text(s, &mut out[..lent])
+}
+
+fn text_agrees(fd: i32, s: &[u8], strict: bool) -> bool {
+    let room = read_u32(fd);
+    let expected = read_result(fd);
+    let bytes = read_bytes(fd, elements(expected));
+    let mut out = io::large_buffer();
+    let answer = written_result(text(s, strict, room, &mut out));
+    if !same_result(expected, answer) {
+        return false;
+    }
+    same_bytes(&out, &bytes)
+}
+
+fn list(s: &[u8], datatypes: bool, room: usize, out: &mut [u16]) -> Written {
+    let lent = numbers_within(room, out);
+    if datatypes {
+        return skriduhol::datatype_list(s, &mut out[..lent]);
+    }
+    skriduhol::atom_list(s, &mut out[..lent])
+}
+
+// The number at a place of a list's bytes, and 0 past them.
+fn number_of(bytes: &[u8; ROOM], i: usize) -> usize {
+    if NUMBERS <= i {
+        return 0;
+    }
+    number_at(bytes, 2 * i)
+}
+
+fn wide_number(number: u16) -> usize {
+    number as usize
+}
+
+fn same_numbers(numbers: &[u16; ROOM], bytes: &[u8; ROOM]) -> bool {
+    for i in 0..ROOM {
+        if wide_number(numbers[i]) != number_of(bytes, i) {
+            return false;
+        }
+    }
+    true
+}
+
+fn list_agrees(fd: i32, s: &[u8], datatypes: bool) -> bool {
+    let room = read_u32(fd);
+    let expected = read_result(fd);
+    let bytes = read_bytes(fd, 2 * elements(expected));
+    let mut out = [0u16; ROOM];
+    let answer = written_result(list(s, datatypes, room, &mut out));
+    if !same_result(expected, answer) {
+        return false;
+    }
+    same_numbers(&out, &bytes)
+}
+
+fn count_agrees(fd: i32, s: &[u8]) -> bool {
+    let expected = read_result(fd);
+    same_result(expected, counted_result(skriduhol::label_count(s)))
+}
+
+fn comparison_agrees(fd: i32, s: &[u8]) -> bool {
+    let i = read_u16(fd);
+    let j = read_u16(fd);
+    let expected = read_result(fd);
+    same_result(expected, compared_result(skriduhol::compare(s, i, j)))
+}
+
+fn board_agrees(fd: i32, s: &[u8]) -> bool {
+    let expected = read_result(fd);
+    let bytes = read_bytes(fd, elements(expected));
+    let mut out = io::large_buffer();
+    let answer = accepted(skriduhol::board_output(s, &mut out));
+    if !same_result(expected, answer) {
+        return false;
+    }
+    same_bytes(&out, &bytes)
+}
+
+// Whether the answer to the next question agrees.
+fn agrees(fd: i32, s: &[u8]) -> bool {
+    match read_byte(fd) {
+        PLAIN_TEXT => text_agrees(fd, s, false),
+        STRICT_TEXT => text_agrees(fd, s, true),
+        ATOM_LIST => list_agrees(fd, s, false),
+        DATATYPE_LIST => list_agrees(fd, s, true),
+        LABEL_COUNT => count_agrees(fd, s),
+        COMPARISON => comparison_agrees(fd, s),
+        _ => board_agrees(fd, s),
+    }
+}
+
+fn one_if(yes: bool) -> usize
+    ensures { λ r. ⌜ r ≤ 1 ⌝ }
+{
+    if yes { 1 } else { 0 }
+}
+
+// How many of the answers to so many questions agree.
+fn agreeing(fd: i32, s: &[u8], questions: usize) -> usize
+    ensures { λ r. ⌜ r ≤ questions ⌝ }
+{
+    let mut agreed = 0;
+    for i in 0..questions {
+        agreed += one_if(agrees(fd, s));
+    }
+    agreed
+}
+
+// How many questions were asked, and how many of the answers agree.
+struct Tally {
+    questions: usize,
+    agreed: usize,
+}
+
+// Fills the memory with a sheet of the list, and asks the questions on it.
+fn ask(fd: i32, sheet: &mut [u8]) -> Tally
+    ensures { λ r. ⌜ (r .«questions» < 256) × (r .«agreed» < 256) ⌝ }
+{
+    io::read_full(fd, sheet);
+    let questions = wide(read_byte(fd));
+    let agreed = agreeing(fd, sheet, questions);
+    Tally {
+        questions: questions,
+        agreed: agreed,
+    }
+}
+
+// Asks the questions on the next sheet of the list.
+fn ask_next(fd: i32) -> Tally
+    ensures { λ r. ⌜ (r .«questions» < 256) × (r .«agreed» < 256) ⌝ }
+{
+    let mut sheet = io::large_buffer();
+    let length = bytes_within(read_u32(fd), &sheet);
+    ask(fd, &mut sheet[..length])
+}
+
+fn write_count(count: usize, words: &[u8]) {
+    io::print_decimal(STDOUT_FILENO, count as u64);
+    io::write_all(STDOUT_FILENO, words);
+}
+
+fn report(sheets: usize, questions: usize, agreed: usize) {
+    write_count(sheets, b" sheets, ");
+    write_count(questions, b" questions, ");
+    write_count(agreed, b" answers agree\n");
+}
+
+fn main() {
+    let fd = os::open_read(b"answers");
+    let sheets = read_u32(fd);
+    let mut questions = 0;
+    let mut agreed = 0;
+    for i in 0..sheets {
+        let tally = ask_next(fd);
+        questions += tally.questions;
+        agreed += tally.agreed;
+    }
+    report(sheets, questions, agreed);
+}
