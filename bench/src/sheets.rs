@@ -30,19 +30,13 @@ fn fixed(kind: Kind) -> Vec<Named> {
     Sheets::new(kind, 0, usize::MAX).iter().collect()
 }
 
-/// Four chains of functions, joined by pairs, in an inferring place. So many of the functions, evenly spread, have a
-/// label; AlphaEquivalent steps stand for the others.
+/// Four chains of labelled functions, so many in all, joined by pairs in an inferring place.
 fn chains(labels: usize) -> Vec<Step> {
-    const CHAIN: usize = STEP_NESTING - 4;
-    let share = |i: usize| i * labels / (4 * CHAIN);
-    let link = |i: usize| match share(i) < share(i + 1) {
-        true => step(rule::IMPL_INTRO, 1, &[0], 0),
-        false => step(rule::ALPHA, 1, &[], 0),
-    };
     let mut steps = Vec::new();
     for (chain, pairs) in [0, 1, 0, 2].into_iter().enumerate() {
+        let functions = (chain + 1) * labels / 4 - chain * labels / 4;
         steps.push(step(rule::IDENT, 0, &[0], 0));
-        steps.extend((chain * CHAIN..(chain + 1) * CHAIN).map(link));
+        steps.extend(vec![step(rule::IMPL_INTRO, 1, &[0], 0); functions]);
         steps.extend(vec![step(rule::AND_INTRO, 2, &[], 0); pairs]);
     }
     steps.push(step(rule::AND_ELIM_FST, 1, &[], 0));
@@ -63,17 +57,13 @@ const LEAF_TEXT: usize = 311;
 const LEAF_CODE: usize = 29;
 
 /// A sheet with a text of about so many bytes: one large proposition as the label of as many functions as it takes.
-/// Each has the same number of bytes and of steps.
 fn grown(text: usize) -> Vec<u8> {
     let most = (CODE - 2) / LEAF_CODE;
     let labels = text.div_ceil(most * LEAF_TEXT);
     let label = conjunction(text / labels / LEAF_TEXT);
     let names = vec![vec![b'A'; 32], vec![b'x'; 32]];
     let props = vec![code(&implies(label, Formula::False))];
-    let mut layout = Plain { names, props, steps: chains(labels), goal: 0 }.layout();
-    layout.code.resize(CODE, 0);
-    layout.header[2] = CODE as u16;
-    layout.bytes()
+    Plain { names, props, steps: chains(labels), goal: 0 }.bytes()
 }
 
 /// Texts from 64 KB, doubling, up to 80 MB, or as far as the limit goes.
