@@ -1,3 +1,4 @@
+mod Arms
 pub mod Tables
 pub mod Labels
 pub mod Items

@@ -137,9 +137,6 @@ module _ (t : ℕ) where
   part-array-read-is-bracketed : part-lts.Need-array-read-is-bracketed part-claims part-at part.Post
   part-array-read-is-bracketed c = c .before .before .before .before .before .before .before .before .pre .1 .0
 
-  part-cast-is-bracketed : part-lts.Need-cast-is-bracketed part-claims part-at part.Post
-  part-cast-is-bracketed c = omega (arith, part-position-below (c .before .before .before .before .before .before .before .before .args .k))
-
   part-is-bracketed-requires : part-lts.Need-is-bracketed-requires part-claims part-at part.Post
   part-is-bracketed-requires c κs =
       let start = c .before .before .before .before .before .before .before .before in
@@ -351,7 +348,6 @@ pub +part+print-term+put-item-spec : {M : Type 1} → statement M
     (part-same-length t)
     (part-returns t)
     (part-array-read-is-bracketed t)
-    (part-cast-is-bracketed t)
     (part-is-bracketed-requires t)
     (part-put-requires t)
     (part-print-term-requires t)
