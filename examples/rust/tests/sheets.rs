@@ -35,7 +35,10 @@ fn refusal<T>(number: u8, place: usize) -> Result<T, Refusal> {
 fn texts() {
     assert_eq!(text_of(SMALLEST), Ok("\n\n\n()".into()));
     assert_eq!(text_of(SECOND), Ok(SECOND_TEXT.into()));
-    assert_eq!(text_of(LABELLED), Ok("atom A;\n\n\n(fn u: A => u) v".into()));
+    assert_eq!(
+        text_of(LABELLED),
+        Ok("atom A;\n\n\n(fn u: A => u) v".into())
+    );
     assert_eq!(text_of(REFUSED), refusal(14, 1));
 }
 
