@@ -1,0 +1,120 @@
+//! Times the Rust and Skriduhol on the same sheets, and measures Skriduhol's stack. docs/PERFORMANCE.md says how.
+mod library;
+mod operations;
+mod required;
+mod sheets;
+mod stack;
+mod texts;
+mod timing;
+
+use library::{ask, questions, Lent};
+use operations::operations;
+use oracle::{answer::Question, generate::Named};
+use required::{at_least, verdict, Required};
+use sheets::steps;
+use stack::Stack;
+use std::{process::exit, time::Duration};
+use texts::{texts, Text};
+use timing::{grouped, Effort};
+
+/// How much is measured.
+struct Plan {
+    effort: Effort,
+    sound_seeds: u64,
+    longest_text: usize,
+    /// Sheets of each random kind for the stack.
+    random_sheets: usize,
+}
+
+const SHORT: Plan = Plan {
+    effort: Effort { batches: 5, batch: Duration::from_millis(2), enough: Duration::from_secs(2) },
+    sound_seeds: 8,
+    longest_text: 4_100_000,
+    random_sheets: 100,
+};
+
+const FULL: Plan = Plan {
+    effort: Effort { batches: 11, batch: Duration::from_millis(5), enough: Duration::from_secs(10) },
+    sound_seeds: 24,
+    longest_text: 96_000_000,
+    random_sheets: 2_000,
+};
+
+/// A sheet with so many labels or more is a label sheet.
+const MANY_LABELS: usize = 500;
+
+fn main() {
+    let plan = match std::env::args().nth(1).as_deref() {
+        None | Some("full") => FULL,
+        Some("short") => SHORT,
+        _ => {
+            eprintln!("usage: bench/run [short|full]");
+            exit(2)
+        }
+    };
+    // The Rust recurses deeply on the deepest trees.
+    let run = std::thread::Builder::new().stack_size(1 << 30).spawn(move || run(&plan)).unwrap();
+    exit(run.join().unwrap_or(101))
+}
+
+fn run(plan: &Plan) -> i32 {
+    let mut lent = Lent::new();
+    let required = [
+        sound_sheets(plan, &mut lent),
+        worst_sheets(plan, &mut lent),
+        growth(plan, &mut lent),
+        stack_use(plan, &mut lent),
+    ];
+    other_operations(plan, &mut lent);
+    !verdict(&required) as i32
+}
+
+fn sound_sheets(plan: &Plan, lent: &mut Lent) -> Required {
+    let (least, seeds) = (sheets::ABOUT_1000, plan.sound_seeds);
+    println!("## Sound sheets of {least} to 1,024 steps, the first for each seed from 1 to {seeds}\n");
+    let texts = texts(&plan.effort, &sheets::sound(seeds), lent);
+    at_least("sound sheets of about 1,000 steps", 10.0, texts.iter().map(Text::ratio).collect())
+}
+
+fn worst_sheets(plan: &Plan, lent: &mut Lent) -> Required {
+    println!("\n## Worst cases, with texts of at most {} bytes\n", grouped(plan.longest_text));
+    let mut all = sheets::worst();
+    all.retain(|(_, sheet)| ask(Question::PlainText, sheet, lent).unwrap() <= plan.longest_text);
+    let texts = texts(&plan.effort, &all, lent);
+    let label_sheets = texts.iter().filter(|text| text.labels >= MANY_LABELS);
+    at_least("worst sheets with 500 labels or more", 50.0, label_sheets.map(Text::ratio).collect())
+}
+
+fn growth(plan: &Plan, lent: &mut Lent) -> Required {
+    println!("\n## Growth: one proposition as the label of more and more functions\n");
+    let texts = texts(&plan.effort, &sheets::growth(plan.longest_text), lent);
+    let per_byte = texts.iter().map(Text::ours_per_byte);
+    let (least, most) = (per_byte.clone().fold(f64::MAX, f64::min), per_byte.fold(0.0, f64::max));
+    let measured = format!("{least:.2} to {most:.2} ns: {:.2} times", most / least);
+    let bound = "greatest below 2 times the least".into();
+    Required { what: "growth: time for a byte of text", bound, measured, met: most < 2.0 * least }
+}
+
+fn stack_use(plan: &Plan, lent: &mut Lent) -> Required {
+    let all = sheets::for_the_stack(plan.random_sheets);
+    println!("\n## Stack: the most over {} sheets\n\n| operation | bytes | sheet |\n|---|--:|---|", grouped(all.len()));
+    let mut stack = Stack::new();
+    let mut most = 0;
+    for (k, (name, _)) in questions(0).into_iter().enumerate() {
+        let mut used = |(what, sheet): &Named| (stack.used(questions(steps(sheet))[k].1, sheet, lent), what.clone());
+        let (bytes, what) = all.iter().map(&mut used).max_by_key(|(bytes, _)| *bytes).unwrap();
+        println!("| {name} | {} | {what} |", grouped(bytes));
+        most = most.max(bytes);
+    }
+    let (bound, measured) = ("below 262,144 bytes".into(), format!("{} bytes", grouped(most)));
+    Required { what: "stack of an operation", bound, measured, met: most < 256 << 10 }
+}
+
+/// On two sound sheets and on two of the worst within the board's room.
+fn other_operations(plan: &Plan, lent: &mut Lent) {
+    println!("\n## The other operations\n");
+    let chosen = ["1,008 labels within the board's room", "one label of 58,000 bytes"];
+    let worst = sheets::worst().into_iter().filter(|(what, _)| chosen.contains(&what.as_str()));
+    let all: Vec<Named> = sheets::sound(2).into_iter().chain(worst).collect();
+    operations(&plan.effort, &all, lent);
+}

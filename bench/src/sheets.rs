@@ -1,0 +1,177 @@
+//! The sheets that are measured.
+use oracle::{
+    draw::{and, atom, code, exists, forall, implies, or, step},
+    formula::{Formula, Parameter},
+    generate::{Kind, Named, Sheets},
+    sheet::{rule, Plain, Step, CODE, PROP_NESTING, STEPS, STEP_NESTING},
+};
+
+/// The steps that a sheet's header gives.
+pub fn steps(sheet: &[u8]) -> usize {
+    sheet.get(8..10).map_or(0, |two| u16::from_le_bytes([two[0], two[1]]) as usize)
+}
+
+/// The fewest steps that count as about 1,000.
+pub const ABOUT_1000: usize = 950;
+
+/// For each seed from 1, the first generated sound sheet of about 1,000 steps.
+pub fn sound(seeds: u64) -> Vec<Named> {
+    let all = |seed| Sheets::new(Kind::Sound, seed, usize::MAX);
+    let large = |named: &Named| steps(&named.1) >= ABOUT_1000;
+    (1..=seeds).map(|seed| all(seed).iter().find(large).unwrap()).collect()
+}
+
+/// The oracle's worst cases.
+pub fn worst() -> Vec<Named> {
+    [Kind::Worst, Kind::Slowest].into_iter().flat_map(fixed).collect()
+}
+
+fn fixed(kind: Kind) -> Vec<Named> {
+    Sheets::new(kind, 0, usize::MAX).iter().collect()
+}
+
+/// Four chains of functions, joined by pairs, in an inferring place. So many of the functions, evenly spread, have a
+/// label; AlphaEquivalent steps stand for the others.
+fn chains(labels: usize) -> Vec<Step> {
+    const CHAIN: usize = STEP_NESTING - 4;
+    let share = |i: usize| i * labels / (4 * CHAIN);
+    let link = |i: usize| match share(i) < share(i + 1) {
+        true => step(rule::IMPL_INTRO, 1, &[0], 0),
+        false => step(rule::ALPHA, 1, &[], 0),
+    };
+    let mut steps = Vec::new();
+    for (chain, pairs) in [0, 1, 0, 2].into_iter().enumerate() {
+        steps.push(step(rule::IDENT, 0, &[0], 0));
+        steps.extend((chain * CHAIN..(chain + 1) * CHAIN).map(link));
+        steps.extend(vec![step(rule::AND_INTRO, 2, &[], 0); pairs]);
+    }
+    steps.push(step(rule::AND_ELIM_FST, 1, &[], 0));
+    steps
+}
+
+/// A balanced conjunction of an atom with eight parameters, so many times.
+fn conjunction(leaves: usize) -> Formula {
+    let mut row = vec![Formula::Atom(0, vec![Parameter::Uninstantiated(1); 8]); leaves];
+    while row.len() > 1 {
+        row = row.chunks(2).map(|two| two.iter().cloned().reduce(and).unwrap()).collect();
+    }
+    row.pop().unwrap()
+}
+
+/// What such an atom adds to the conjunction's text and to its code, in bytes.
+const LEAF_TEXT: usize = 311;
+const LEAF_CODE: usize = 29;
+
+/// A sheet with a text of about so many bytes: one large proposition as the label of as many functions as it takes.
+/// Each has the same number of bytes and of steps.
+fn grown(text: usize) -> Vec<u8> {
+    let most = (CODE - 2) / LEAF_CODE;
+    let labels = text.div_ceil(most * LEAF_TEXT);
+    let label = conjunction(text / labels / LEAF_TEXT);
+    let names = vec![vec![b'A'; 32], vec![b'x'; 32]];
+    let props = vec![code(&implies(label, Formula::False))];
+    let mut layout = Plain { names, props, steps: chains(labels), goal: 0 }.layout();
+    layout.code.resize(CODE, 0);
+    layout.header[2] = CODE as u16;
+    layout.bytes()
+}
+
+/// Texts from 64 KB, doubling, up to 80 MB, or as far as the limit goes.
+pub fn growth(limit: usize) -> Vec<Named> {
+    const LARGEST: usize = 80_000_000;
+    let sizes = (0..).map(|i| 64_000 << i).take_while(|size| *size < LARGEST).chain([LARGEST]);
+    sizes.take_while(|size| *size <= limit).map(|size| (format!("{} KB", size / 1000), grown(size))).collect()
+}
+
+/// A rule, the number of its premisses, and the one of them in which the tree goes on.
+type Level = (u8, usize, usize);
+
+const LEVELS: [Level; 20] = [
+    (rule::AND_INTRO, 2, 0),
+    (rule::AND_INTRO, 2, 1),
+    (rule::AND_ELIM_FST, 1, 0),
+    (rule::IMPL_INTRO, 1, 0),
+    (rule::IMPL_ELIM, 2, 0),
+    (rule::IMPL_ELIM, 2, 1),
+    (rule::OR_INTRO_FST, 1, 0),
+    (rule::OR_ELIM, 3, 0),
+    (rule::OR_ELIM, 3, 1),
+    (rule::OR_ELIM, 3, 2),
+    (rule::FALSUM_ELIM, 1, 0),
+    (rule::FORALL_INTRO, 1, 0),
+    (rule::FORALL_ELIM, 2, 0),
+    (rule::FORALL_ELIM, 2, 1),
+    (rule::EXISTS_INTRO, 2, 0),
+    (rule::EXISTS_INTRO, 2, 1),
+    (rule::EXISTS_ELIM, 2, 0),
+    (rule::EXISTS_ELIM, 2, 1),
+    (rule::ALPHA, 1, 0),
+    (rule::SORRY, 1, 0),
+];
+
+/// Whether a rule is ascribed in an inferring place.
+fn ascribed((rule, ..): Level) -> bool {
+    [rule::OR_INTRO_FST, rule::FALSUM_ELIM, rule::EXISTS_INTRO].contains(&rule)
+}
+
+/// A tree of the deepest nesting below a projection. Its levels are this row over and over, its leaves sorries. The
+/// propositions are one for most steps, an implication and a ∀.
+fn deep(row: &[Level], props: &[Formula; 3]) -> Vec<u8> {
+    let conclusion = |rule| match rule {
+        rule::IMPL_INTRO => 1,
+        rule::FORALL_INTRO => 2,
+        _ => 0,
+    };
+    let leaf = step(rule::SORRY, 0, &[], 0);
+    let levels: Vec<Level> = row.iter().copied().cycle().take(STEP_NESTING - 2).collect();
+    let before: usize = levels.iter().map(|(_, _, position)| position).sum();
+    let mut steps = vec![leaf; before + 1];
+    for (rule, count, position) in levels.into_iter().rev() {
+        steps.extend(vec![leaf; count - 1 - position]);
+        steps.push(step(rule, count, &[2, 2][..rule::idents(rule)], conclusion(rule)));
+    }
+    steps.push(step(rule::AND_ELIM_FST, 1, &[], 0));
+    assert!(steps.len() <= STEPS);
+    let names = [b"A", b"T", b"x"].map(|name| name.to_vec()).to_vec();
+    Plain { names, props: props.iter().map(code).collect(), steps, goal: 0 }.bytes()
+}
+
+type Nesting = fn(Formula) -> Formula;
+
+/// Ways to nest a proposition.
+const NESTINGS: [(&str, Nesting); 6] = [
+    ("left of ∧", |f| and(f, atom(0))),
+    ("right of ∨", |f| or(atom(0), f)),
+    ("left of ⊃", |f| implies(f, atom(0))),
+    ("¬", |f| implies(f, Formula::False)),
+    ("∀", |f| forall(2, 1, f)),
+    ("∃ and ∧ in turn", |f| match f {
+        Formula::Quantified(..) => and(atom(0), f),
+        _ => exists(2, 1, f),
+    }),
+];
+
+/// Trees nested as deep as may be over propositions nested as deep as may be: each rule, going on in each premiss; and
+/// each such level in turn with one that is ascribed, since the premisses of an ascribed step are in checking places.
+fn deepest() -> Vec<Named> {
+    let (second, first): (Vec<Level>, Vec<Level>) = LEVELS.iter().partition(|level| ascribed(**level));
+    let pairs = first.iter().flat_map(|first| second.iter().map(move |second| vec![*first, *second]));
+    let rows: Vec<Vec<Level>> = LEVELS.iter().map(|level| vec![*level]).chain(pairs).collect();
+    let mut all = Vec::new();
+    for (what, nest) in NESTINGS {
+        let leaf = Formula::Atom(0, vec![Parameter::Instantiated(2, 0); 8]);
+        let part = (2..PROP_NESTING).fold(leaf, |f, _| nest(f));
+        let props = [nest(part.clone()), implies(part.clone(), atom(0)), forall(2, 1, part)];
+        all.extend(rows.iter().map(|row| (format!("levels {row:?}, propositions by {what}"), deep(row, &props))));
+    }
+    all
+}
+
+/// The sheets on which the stack is measured: the deepest, those at every limit, the worst, and random ones.
+pub fn for_the_stack(random: usize) -> Vec<Named> {
+    let mut all = [deepest(), fixed(Kind::Limits), worst()].concat();
+    for kind in [Kind::Random, Kind::Quantified, Kind::Damaged] {
+        all.extend(Sheets::new(kind, 1, random).iter());
+    }
+    all
+}

@@ -1,0 +1,65 @@
+//! How much stack an operation uses. It runs on a stack of its own, which is painted before and scanned after.
+use crate::library::{ask, Lent};
+use oracle::answer::Question;
+use std::{arch::asm, ffi::c_void};
+
+const STACK_BYTES: usize = 4 << 20;
+const PAINT: u64 = 0x5ca1_ab1e_0ddb_a115;
+
+/// What to run on the other stack. Without a question, nothing.
+struct Call<'a> {
+    question: Option<Question>,
+    sheet: &'a [u8],
+    lent: &'a mut Lent,
+}
+
+extern "C" fn run(call: *mut c_void) {
+    // SAFETY: `Stack::touched` hands over a call that nobody else uses meanwhile.
+    let call = unsafe { &mut *call.cast::<Call>() };
+    if let Some(question) = call.question {
+        // A refusal uses the stack as well as an answer.
+        let _ = ask(question, call.sheet, call.lent);
+    }
+}
+
+/// # Safety
+/// `top` is a multiple of 16, the memory below it is enough for `function`, and `function` does not unwind.
+unsafe fn call_on(top: *mut u8, function: extern "C" fn(*mut c_void), argument: *mut c_void) {
+    asm!(
+        "mov r12, rsp",
+        "mov rsp, {top}",
+        "call {function}",
+        "mov rsp, r12",
+        top = in(reg) top,
+        function = in(reg) function,
+        in("rdi") argument,
+        out("r12") _,
+        clobber_abi("C"),
+    );
+}
+
+pub struct Stack(Vec<u64>);
+
+impl Stack {
+    pub fn new() -> Self {
+        Stack(vec![PAINT; STACK_BYTES / 8])
+    }
+
+    /// The bytes from the lowest that a call wrote to up to the top. They are painted again.
+    fn touched(&mut self, call: &mut Call) -> usize {
+        let end = self.0.as_mut_ptr_range().end as usize;
+        let argument: *mut Call = call;
+        // SAFETY: the top is rounded down to a multiple of 16, and the memory below it is this stack's own.
+        unsafe { call_on((end & !15) as *mut u8, run, argument.cast()) };
+        let lowest = self.0.iter().position(|word| *word != PAINT).unwrap_or(self.0.len());
+        assert!(lowest > 0, "the whole stack was used");
+        self.0[lowest..].fill(PAINT);
+        8 * (self.0.len() - lowest)
+    }
+
+    /// The bytes of stack that the answer to a question takes, without those of the call itself.
+    pub fn used(&mut self, question: Question, sheet: &[u8], lent: &mut Lent) -> usize {
+        let call = self.touched(&mut Call { question: None, sheet, lent });
+        self.touched(&mut Call { question: Some(question), sheet, lent }) - call
+    }
+}
