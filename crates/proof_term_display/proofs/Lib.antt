@@ -6,3 +6,4 @@ pub mod Formats
 pub mod Ready
 pub mod Progress
 pub mod Parts
+pub mod Ascriptions

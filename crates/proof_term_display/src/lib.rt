@@ -23,6 +23,7 @@ ghost use Rattle.definitions.specs.Display.{form, displayLabel, displayParamete
 ghost use Rattle.output.specs.Wrote.{Wrote};
 ghost use Rattle.proof_term.specs.Records.{recordSize, fieldAt, labelOf, parameterLabel, recordTerm, termAt};
 ghost use Rattle.prefix_code.specs.PropAt.{propAt};
+ghost use Rattle.proof_term_display.specs.Ascriptions.{bracket, Unascribed, bodyBracketed, afterBody};
 ghost use Rattle.proof_term_display.specs.Brackets.{positions, styles, column, isBracketed, bracketTable};
 ghost use Rattle.proof_term_display.specs.Format.{itemOf, items, formats, part};
 ghost use Rattle.proof_term_display.specs.Printable.{PrintableTerm};
@@ -243,6 +244,79 @@ fn put_parameter_label(
     )
 }
 
+// A bracket, if there is one.
+fn put_bracket(out: &mut [u8], to: usize, b: u8, bracketed: bool, write: bool) -> usize
+    ensures { λ r. ⌜ Wrote (bracket bracketed b) write (now (out .entry)) to (now (out .exit)) r ⌝ }
+{
+    if bracketed {
+        return put(out, to, b, write);
+    }
+    to
+}
+
+// The record that is printed for record `n`: the body of an ascription, which so takes no frame of its own, or `n` itself.
+fn unascribed(records: &[u16], n: usize) -> usize
+    requires { ⌜ recordSize * (n + 1) ≤ length (now records) ⌝ }
+    ensures { λ r. ⌜ Unascribed (now (records .entry)) n r ⌝ }
+{
+    if field(records, n, 0) != proof_term::TYPE_ASCRIPTION {
+        return n;
+    }
+    let body = field(records, n, 1);
+    if n <= body {
+        return n;
+    }
+    body
+}
+
+// Whether the body of an ascription is bracketed.
+fn is_body_bracketed(records: &[u16], n: usize, body: usize, style: Style) -> bool
+    requires { ⌜ recordSize * (body + 1) ≤ length (now records) ⌝ }
+    ensures { λ r. ⌜ ((f : ℕ → Name) (props : ℕ → Prop ℕ) → r ≡ bodyBracketed f props (now (records .entry)) n body style) ⌝ }
+{
+    if body == n {
+        return false;
+    }
+    is_bracketed(records, body, ASCRIBED_BY, style)
+}
+
+// What stands after the body of an ascription: a colon and its label.
+fn put_ascription(
+    out: &mut [u8],
+    to: usize,
+    records: &[u16],
+    n: usize,
+    body: usize,
+    code: &[u8],
+    ends: &[u16],
+    names: usize,
+    pairs: &[u8],
+    text: &[u8],
+    write: bool,
+) -> usize
+    requires { ⌜ PrintableTerm (now records) n names (now code) (now ends) (now pairs) (now text) ⌝ }
+    requires { ⌜ ((body ≡ n → ⊥) → LabelReady names (now code) (now ends) (now records) n) ⌝ }
+    ensures { λ r. ⌜ Wrote (afterBody (marked (now (pairs .entry)) (now (text .entry))) (propAt names (now (code .entry))) (now (records .entry)) n body)
+        write (now (out .entry)) to (now (out .exit)) r ⌝ }
+{
+    if body == n {
+        return to;
+    }
+    let colon = put_all(out, to, b": ", write);
+    put_label(
+        out,
+        colon,
+        records,
+        n,
+        code,
+        ends,
+        names,
+        pairs,
+        text,
+        write,
+    )
+}
+
 // Part `k` of record `n`, one of A to G, in brackets where its position asks for them.
 fn part(
     out: &mut [u8],
@@ -268,28 +342,16 @@ fn part(
     if n <= number {
         return put_all(out, to, b"()", write);
     }
-    if is_bracketed(records, number, PART_POSITIONS[k], style) {
-        let start = put(out, to, b'(', write);
-        let end = print_term(
-            out,
-            start,
-            records,
-            number,
-            style,
-            code,
-            ends,
-            names,
-            pairs,
-            text,
-            write,
-        );
-        return put(out, end, b')', write);
-    }
-    print_term(
+    let bracketed = is_bracketed(records, number, PART_POSITIONS[k], style);
+    let body = unascribed(records, number);
+    let inner = is_body_bracketed(records, number, body, style);
+    let open = put_bracket(out, to, b'(', bracketed, write);
+    let start = put_bracket(out, open, b'(', inner, write);
+    let end = print_term(
         out,
-        to,
+        start,
         records,
-        number,
+        body,
         style,
         code,
         ends,
@@ -297,7 +359,22 @@ fn part(
         pairs,
         text,
         write,
-    )
+    );
+    let close = put_bracket(out, end, b')', inner, write);
+    let labelled = put_ascription(
+        out,
+        close,
+        records,
+        number,
+        body,
+        code,
+        ends,
+        names,
+        pairs,
+        text,
+        write,
+    );
+    put_bracket(out, labelled, b')', bracketed, write)
 }
 
 // Whether a byte lies from the first to the last of a run.
