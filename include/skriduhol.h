@@ -16,7 +16,7 @@
  *   - The first six functions return 0 for an accepted answer, and then *value is what the function's comment says; or they
  *     return the number of a refusal, 1 to 19, and then *value is its place. *value is set either way.
  *   - An accepted answer fills the first elements of `out` and nothing after them. A refusal leaves all of `out` as it was.
- *   - A call takes at most 256 KiB of stack.
+ *   - A call takes at most 256 KiB of stack: measured on the deepest sheets, not proved (docs/PERFORMANCE.md).
  *
  * The refusals, in the order in which they are tried
  *

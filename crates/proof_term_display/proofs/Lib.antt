@@ -1,3 +1,4 @@
+mod Arms
 pub mod Tables
 pub mod Labels
 pub mod Items
@@ -5,3 +6,4 @@ pub mod Formats
 pub mod Ready
 pub mod Progress
 pub mod Parts
+pub mod Ascriptions

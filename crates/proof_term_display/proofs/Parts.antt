@@ -39,20 +39,9 @@ module _ (s : Style) (names : ℕ) (code pairs text records : List ℕ) (n k num
     abbrev term : ProofTerm Name
     term = renameTerm (marked pairs text) (termAt (propAt names code) records number)
 
-    part-text : wrap (isBracketed (getD positions (partPosition k) none) s (form term)) (displayTerm s term) ≡ recordItem s names code pairs text records n (part k)
+    pub part-text : wrap (isBracketed (getD positions (partPosition k) none) s (form term)) (displayTerm s term) ≡ recordItem s names code pairs text records n (part k)
     unfolding partText itemText
     part-text = rw (← is, part-below (propAt names code) records n number h)
-
-    pub bracketed-text :
-        isBracketed (getD positions (partPosition k) none) s (form term) ≡ true →
-        utf8 "(" ++ (displayTerm s term ++ utf8 ")") ≡ recordItem s names code pairs text records n (part k)
-    unfolding wrap
-    bracketed-text e = sym (ap (λ b. wrap b (displayTerm s term)) e) ∙ part-text
-
-    pub bare-text :
-        isBracketed (getD positions (partPosition k) none) s (form term) ≡ false → displayTerm s term ≡ recordItem s names code pairs text records n (part k)
-    unfolding wrap
-    bare-text e = sym (ap (λ b. wrap b (displayTerm s term)) e) ∙ part-text
 
 module _ {names : ℕ} {code ends pairs text records : List ℕ} {n : ℕ} (k number : ℕ) (is : number ≡ fieldAt records n (partField k)) (h : number < n) where
   pub printable-part :

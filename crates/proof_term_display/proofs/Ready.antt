@@ -39,7 +39,7 @@ module _ (names : ℕ) (props : ℕ → Prop ℕ) (kind number : ℕ) where
 
 module _ (names : ℕ) (code ends records : List ℕ) (n : ℕ) where
   -- each item of a list can be printed
-  pub Ready : List Item → Type 0
+  unfoldable pub Ready : List Item → Type 0
   Ready [] = Prim.Unit {0}
   Ready (fixed b ∷ is) = Ready is
   Ready (name i ∷ is) = ItemReady names code ends records n (name i) × Ready is

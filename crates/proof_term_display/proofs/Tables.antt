@@ -15,7 +15,7 @@ use Rattle.definitions.specs.Display.{Form, closed, call, function, block, ascr
 use Rattle.proof_term.specs.Records.{recordSize, fieldAt, leaf, formTerm, forms, recordTerm}
 use Rattle.proof_term.specs.Counting.{ownCounts, ownAnnotations}
 use Rattle.proof_term.proofs.Records.{termAt-kind}
-use Rattle.proof_term_display.specs.Brackets.{positions, styles, columns, column, isBracketed}
+use Rattle.proof_term_display.specs.Brackets.{positions, styles, columns, column, isBracketed, bracketTable}
 use Rattle.proof_term_display.specs.Format.{partField, partPosition}
 use Rattle.proof_term_display.specs.Item.{KindAt}
 
@@ -61,9 +61,6 @@ column-form block = refl
 column-form ascription = refl
 
 -- the table of brackets
-abbrev pub bracketTable : List (List (List Bool))
-bracketTable = map (λ p. map (λ s. map (λ f. isBracketed p s f) columns) styles) positions
-
 pub bracket-rule :
     (p row k : ℕ) (s : Style) (f : Form) → p < 5 → row < 2 → getD styles row Plain ≡ s → k ≡ column f →
     getD (getD (getD bracketTable p []) row []) k false ≡ isBracketed (getD positions p none) s f
@@ -82,15 +79,17 @@ bracket-rule p row k s f hp hr styled formed =
 abbrev formTable : List ℕ
 formTable = 0 ∷ 0 ∷ 1 ∷ 1 ∷ 2 ∷ 1 ∷ 3 ∷ 1 ∷ 1 ∷ 3 ∷ 1 ∷ 4 ∷ 0 ∷ 0 ∷ []
 
-pub form-below : (kind : ℕ) → getD formTable kind 0 < 5
-form-below kind = omega (arith, entry-below formTable kind)
-
-pub form-rule :
+form-rule :
     (f : ℕ → Name) (props : ℕ → Prop ℕ) (term : ℕ → ProofTerm ℕ) (kind a b c d e : ℕ) →
     getD formTable kind 0 ≡ column (form (renameTerm f (recordTerm props term kind a b c d e)))
 unfolding column form renameTerm
 form-rule f props term kind a b c d e =
     List·getD-map (λ g. column (form (renameTerm f (formTerm term g a b c)))) (forms props a b c d e) kind (leaf Unit)
+
+pub form-at : {value : ℕ} (kind : ℕ) → value ≡ getD formTable kind 0
+    → (f : ℕ → Name) (props : ℕ → Prop ℕ) (term : ℕ → ProofTerm ℕ) (a b c d e : ℕ)
+    → value ≡ column (form (renameTerm f (recordTerm props term kind a b c d e)))
+form-at kind is f props term a b c d e = is ∙ form-rule f props term kind a b c d e
 
 -- The kind of a record, which is known or counts as Unit's.
 module _ (records : List ℕ) (n kind : ℕ) (e : kind ≡ fieldAt records n 0) where

@@ -2,7 +2,7 @@
 use Prim.Native.Nat.{ℕ}
 use mathlib.Core.Bool.{Bool, false}
 use mathlib.Core.Option.{Option, none, some}
-use mathlib.Core.List.{List, [], _∷_}
+use mathlib.Core.List.{List, [], _∷_, map}
 use Rattle.definitions.specs.declared.Style.{Style}
 use Rattle.definitions.specs.declared.Style.the-variants.{Plain, Strict}
 use Rattle.definitions.specs.Display.{Form, closed, call, function, block, ascription, Position, functionOf, argumentOf, bodyOf, ascribedBy, brackets, bracketed}
@@ -29,3 +29,7 @@ column ascription = 4
 unfoldable pub isBracketed : Option Position → Style → Form → Bool
 isBracketed none s f = false
 isBracketed (some p) s f = bracketed (brackets p s) f
+
+-- the table, by positions, styles and forms
+abbrev pub bracketTable : List (List (List Bool))
+bracketTable = map (λ p. map (λ s. map (λ f. isBracketed p s f) columns) styles) positions

@@ -5,7 +5,6 @@ use output::put_all;
 use output::put_name;
 use proof_term::DATATYPE;
 use proof_term::NO_LABEL;
-use proof_term::UNIT;
 use proof_term::field;
 use prop::print;
 ghost use mathlib.Core.Path.{_≡_};
@@ -24,7 +23,8 @@ ghost use Rattle.definitions.specs.Display.{form, displayLabel, displayParamete
 ghost use Rattle.output.specs.Wrote.{Wrote};
 ghost use Rattle.proof_term.specs.Records.{recordSize, fieldAt, labelOf, parameterLabel, recordTerm, termAt};
 ghost use Rattle.prefix_code.specs.PropAt.{propAt};
-ghost use Rattle.proof_term_display.specs.Brackets.{positions, styles, column, isBracketed};
+ghost use Rattle.proof_term_display.specs.Ascriptions.{bracket, Unascribed, bodyBracketed, afterBody};
+ghost use Rattle.proof_term_display.specs.Brackets.{positions, styles, column, isBracketed, bracketTable};
 ghost use Rattle.proof_term_display.specs.Format.{itemOf, items, formats, part};
 ghost use Rattle.proof_term_display.specs.Printable.{PrintableTerm};
 ghost use Rattle.proof_term_display.specs.Item.{KindAt, LabelReady, ItemReady, recordItem};
@@ -33,33 +33,15 @@ ghost use Rattle.proof_term_display.specs.Item.{KindAt, LabelReady, Item
 const KINDS: usize = 14;
 
 // The forms of terms, as far as brackets go.
-const CLOSED: u8 = 0;
+const CLOSED: usize = 0;
 
-const CALL: u8 = 1;
+const CALL: usize = 1;
 
-const FUNCTION: u8 = 2;
+const FUNCTION: usize = 2;
 
-const BLOCK: u8 = 3;
+const BLOCK: usize = 3;
 
-const ASCRIPTION: u8 = 4;
-
-// The form of each kind, in the order of the kinds.
-const FORMS: [u8; 14] = [
-    CLOSED,
-    CLOSED,
-    CALL,
-    CALL,
-    FUNCTION,
-    CALL,
-    BLOCK,
-    CALL,
-    CALL,
-    BLOCK,
-    CALL,
-    ASCRIPTION,
-    CLOSED,
-    CLOSED,
-];
+const ASCRIPTION: usize = 4;
 
 // The positions of parts.
 const FUNCTION_OF: u8 = 0;
@@ -71,30 +53,6 @@ const BODY_OF: u8 = 2;
 const ASCRIBED_BY: u8 = 3;
 
 const ELSEWHERE: u8 = 4;
-
-// Whether a part is bracketed, by its position, the style and its form: closed, call, function, block, ascription.
-const BRACKETS: [[[bool; 5]; 2]; 5] = [
-    [
-        [false, false, true, false, true], // the function of an application, plain
-        [false, false, true, true, true], // the function of an application, strict
-    ],
-    [
-        [false, true, true, false, true], // its argument, plain
-        [false, true, true, false, true], // its argument, strict
-    ],
-    [
-        [false, true, true, true, true], // the body of a named function, plain
-        [false, true, true, true, true], // the body of a named function, strict
-    ],
-    [
-        [false, false, true, true, true], // the body of an ascription, plain
-        [false, false, true, true, true], // the body of an ascription, strict
-    ],
-    [
-        [false, false, false, false, false], // elsewhere, plain
-        [false, false, false, false, false], // elsewhere, strict
-    ],
-];
 
 const FORMAT_SIZE: usize = 32;
 
@@ -120,7 +78,7 @@ fn kind_at(records: &[u16], n: usize) -> usize
     if kind < KINDS {
         return kind;
     }
-    UNIT
+    proof_term::UNIT
 }
 
 // The form of a term by its record's kind.
@@ -129,7 +87,22 @@ fn form_of(kind: usize) -> usize
     ensures { λ r. ⌜ ((f : ℕ → Name) (props : ℕ → Prop ℕ) (term : ℕ → ProofTerm ℕ) (a b c d e : ℕ) →
         r ≡ column (form (renameTerm f (recordTerm props term kind a b c d e)))) ⌝ }
 {
-    FORMS[kind] as usize
+    match kind {
+        proof_term::IDENT => CLOSED,
+        proof_term::PAIR => CLOSED,
+        proof_term::PROJECT_FST => CALL,
+        proof_term::PROJECT_SND => CALL,
+        proof_term::FUNCTION => FUNCTION,
+        proof_term::APPLICATION => CALL,
+        proof_term::LET_IN => BLOCK,
+        proof_term::OR_LEFT => CALL,
+        proof_term::OR_RIGHT => CALL,
+        proof_term::CASE => BLOCK,
+        proof_term::ABORT => CALL,
+        proof_term::TYPE_ASCRIPTION => ASCRIPTION,
+        proof_term::UNIT => CLOSED,
+        _ => CLOSED,
+    }
 }
 
 // The row of a style in the table of brackets.
@@ -142,15 +115,45 @@ fn row_of(style: Style) -> usize
     }
 }
 
+// Whether a part is bracketed in a position, by the style and its form: closed, call, function, block, ascription.
+fn brackets_of(position: u8) -> [[bool; 5]; 2]
+    requires { ⌜ position < 5 ⌝ }
+    ensures { λ r. ⌜ r ≡ getD bracketTable position [] ⌝ }
+{
+    match position {
+        FUNCTION_OF => [
+            [false, false, true, false, true], // the function of an application, plain
+            [false, false, true, true, true], // the function of an application, strict
+        ],
+        ARGUMENT_OF => [
+            [false, true, true, false, true], // its argument, plain
+            [false, true, true, false, true], // its argument, strict
+        ],
+        BODY_OF => [
+            [false, true, true, true, true], // the body of a named function, plain
+            [false, true, true, true, true], // the body of a named function, strict
+        ],
+        ASCRIBED_BY => [
+            [false, false, true, true, true], // the body of an ascription, plain
+            [false, false, true, true, true], // the body of an ascription, strict
+        ],
+        _ => [
+            [false, false, false, false, false], // elsewhere, plain
+            [false, false, false, false, false], // elsewhere, strict
+        ],
+    }
+}
+
 // Whether the term of record `n` is bracketed in a position.
-fn is_bracketed(records: &[u16], n: usize, position: usize, style: Style) -> bool
+fn is_bracketed(records: &[u16], n: usize, position: u8, style: Style) -> bool
     requires { ⌜ (recordSize * (n + 1) ≤ length (now records)) × (position < 5) ⌝ }
     ensures { λ r. ⌜ ((f : ℕ → Name) (props : ℕ → Prop ℕ) →
         r ≡ isBracketed (getD positions position none) style (form (renameTerm f (termAt props (now (records .entry)) n)))) ⌝ }
 {
     let row = row_of(style);
     let column = form_of(kind_at(records, n));
-    BRACKETS[position][row][column]
+    let rows = brackets_of(position);
+    rows[row][column]
 }
 
 // The format of a kind, up to the full stop. A digit stands for the name in that number of the record. A, B and C stand for its
@@ -161,19 +164,19 @@ fn format_of(kind: usize) -> [u8; 32]
     ensures { λ r. ⌜ (length r ≡ 32) × (items r ≡ getD formats kind []) ⌝ }
 {
     match kind {
-        0 => *b"1...............................",
-        1 => *b"(A, B)..........................",
-        2 => *b"fst D...........................",
-        3 => *b"snd D...........................",
-        4 => *b"fn 2L => A......................",
-        5 => *b"F G.............................",
-        6 => *b"let (3, 4) = A in B.............",
-        7 => *b"inl D...........................",
-        8 => *b"inr D...........................",
-        9 => *b"case A of inl 4 => B, inr 5 => C",
-        10 => *b"abort D.........................",
-        11 => *b"E: M............................",
-        12 => *b"()..............................",
+        proof_term::IDENT => *b"1...............................",
+        proof_term::PAIR => *b"(A, B)..........................",
+        proof_term::PROJECT_FST => *b"fst D...........................",
+        proof_term::PROJECT_SND => *b"snd D...........................",
+        proof_term::FUNCTION => *b"fn 2L => A......................",
+        proof_term::APPLICATION => *b"F G.............................",
+        proof_term::LET_IN => *b"let (3, 4) = A in B.............",
+        proof_term::OR_LEFT => *b"inl D...........................",
+        proof_term::OR_RIGHT => *b"inr D...........................",
+        proof_term::CASE => *b"case A of inl 4 => B, inr 5 => C",
+        proof_term::ABORT => *b"abort D.........................",
+        proof_term::TYPE_ASCRIPTION => *b"E: M............................",
+        proof_term::UNIT => *b"()..............................",
         _ => *b"sorry...........................",
     }
 }
@@ -241,6 +244,79 @@ fn put_parameter_label(
     )
 }
 
+// A bracket, if there is one.
+fn put_bracket(out: &mut [u8], to: usize, b: u8, bracketed: bool, write: bool) -> usize
+    ensures { λ r. ⌜ Wrote (bracket bracketed b) write (now (out .entry)) to (now (out .exit)) r ⌝ }
+{
+    if bracketed {
+        return put(out, to, b, write);
+    }
+    to
+}
+
+// The record that is printed for record `n`: the body of an ascription, which so takes no frame of its own, or `n` itself.
+fn unascribed(records: &[u16], n: usize) -> usize
+    requires { ⌜ recordSize * (n + 1) ≤ length (now records) ⌝ }
+    ensures { λ r. ⌜ Unascribed (now (records .entry)) n r ⌝ }
+{
+    if field(records, n, 0) != proof_term::TYPE_ASCRIPTION {
+        return n;
+    }
+    let body = field(records, n, 1);
+    if n <= body {
+        return n;
+    }
+    body
+}
+
+// Whether the body of an ascription is bracketed.
+fn is_body_bracketed(records: &[u16], n: usize, body: usize, style: Style) -> bool
+    requires { ⌜ recordSize * (body + 1) ≤ length (now records) ⌝ }
+    ensures { λ r. ⌜ ((f : ℕ → Name) (props : ℕ → Prop ℕ) → r ≡ bodyBracketed f props (now (records .entry)) n body style) ⌝ }
+{
+    if body == n {
+        return false;
+    }
+    is_bracketed(records, body, ASCRIBED_BY, style)
+}
+
+// What stands after the body of an ascription: a colon and its label.
+fn put_ascription(
+    out: &mut [u8],
+    to: usize,
+    records: &[u16],
+    n: usize,
+    body: usize,
+    code: &[u8],
+    ends: &[u16],
+    names: usize,
+    pairs: &[u8],
+    text: &[u8],
+    write: bool,
+) -> usize
+    requires { ⌜ PrintableTerm (now records) n names (now code) (now ends) (now pairs) (now text) ⌝ }
+    requires { ⌜ ((body ≡ n → ⊥) → LabelReady names (now code) (now ends) (now records) n) ⌝ }
+    ensures { λ r. ⌜ Wrote (afterBody (marked (now (pairs .entry)) (now (text .entry))) (propAt names (now (code .entry))) (now (records .entry)) n body)
+        write (now (out .entry)) to (now (out .exit)) r ⌝ }
+{
+    if body == n {
+        return to;
+    }
+    let colon = put_all(out, to, b": ", write);
+    put_label(
+        out,
+        colon,
+        records,
+        n,
+        code,
+        ends,
+        names,
+        pairs,
+        text,
+        write,
+    )
+}
+
 // Part `k` of record `n`, one of A to G, in brackets where its position asks for them.
 fn part(
     out: &mut [u8],
@@ -266,28 +342,16 @@ fn part(
     if n <= number {
         return put_all(out, to, b"()", write);
     }
-    if is_bracketed(records, number, PART_POSITIONS[k] as usize, style) {
-        let start = put(out, to, b'(', write);
-        let end = print_term(
-            out,
-            start,
-            records,
-            number,
-            style,
-            code,
-            ends,
-            names,
-            pairs,
-            text,
-            write,
-        );
-        return put(out, end, b')', write);
-    }
-    print_term(
+    let bracketed = is_bracketed(records, number, PART_POSITIONS[k], style);
+    let body = unascribed(records, number);
+    let inner = is_body_bracketed(records, number, body, style);
+    let open = put_bracket(out, to, b'(', bracketed, write);
+    let start = put_bracket(out, open, b'(', inner, write);
+    let end = print_term(
         out,
-        to,
+        start,
         records,
-        number,
+        body,
         style,
         code,
         ends,
@@ -295,7 +359,22 @@ fn part(
         pairs,
         text,
         write,
-    )
+    );
+    let close = put_bracket(out, end, b')', inner, write);
+    let labelled = put_ascription(
+        out,
+        close,
+        records,
+        number,
+        body,
+        code,
+        ends,
+        names,
+        pairs,
+        text,
+        write,
+    );
+    put_bracket(out, labelled, b')', bracketed, write)
 }
 
 // Whether a byte lies from the first to the last of a run.

@@ -3,8 +3,6 @@
 #![deny(unsafe_code)]
 
 mod c;
-pub mod drawings;
-pub mod sheet;
 
 use std::fmt;
 

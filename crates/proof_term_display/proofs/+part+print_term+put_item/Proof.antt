@@ -11,7 +11,8 @@ use Rattle.proof_term_display.specs.Item.{ItemReady}
 use Rattle.proof_term_display.proofs.Tables.{part-field-below, part-position-below}
 use Rattle.proof_term_display.proofs.Items.{between, item-name, item-part, item-of-parameter, item-of-ascription, item-fixed}
 use Rattle.proof_term_display.proofs.Progress.{Underway, start, ends-here, ends-past, item-ready, goes-on}
-use Rattle.proof_term_display.proofs.Parts.{unit-text, bracketed-text, bare-text, printable-part}
+use Rattle.proof_term_display.proofs.Parts.{unit-text, printable-part}
+use Rattle.proof_term_display.proofs.Ascriptions.{not-after, body-printable, label-printable, part-written}
 use Rattle.proof_term_display.proofs.part.Reads as part
 use Rattle.proof_term_display.proofs.part.Kinds as part-kinds
 use Rattle.proof_term_display.proofs.+part+print_term+put_item.Lts-part as part-lts
@@ -28,7 +29,11 @@ use Rattle.proof_term.proofs.field.Reads as field-reads
 use Rattle.proof_term_display.proofs.format_of.Reads as format-of-reads
 use Rattle.proof_term_display.proofs.is_between.Reads as is-between-reads
 use Rattle.proof_term_display.proofs.is_bracketed.Reads as is-bracketed-reads
+use Rattle.proof_term_display.proofs.is_body_bracketed.Reads as is-body-bracketed-reads
 use Rattle.proof_term_display.proofs.kind_at.Reads as kind-at-reads
+use Rattle.proof_term_display.proofs.put_ascription.Reads as put-ascription-reads
+use Rattle.proof_term_display.proofs.put_bracket.Reads as put-bracket-reads
+use Rattle.proof_term_display.proofs.unascribed.Reads as unascribed-reads
 use Rattle.proof_term_display.proofs.put_label.Reads as put-label-reads
 use Rattle.proof_term_display.proofs.put_parameter_label.Reads as put-parameter-label-reads
 use Rattle.proof_term_display.proofs.+part+print_term+put_item.{statement}
@@ -77,10 +82,16 @@ module _ (t : ℕ) where
     put-all-reads.Learnt,
     is-bracketed-reads.Asked,
     is-bracketed-reads.Learnt,
-    put-reads.Asked,
-    put-reads.Learnt,
+    unascribed-reads.Asked,
+    unascribed-reads.Learnt,
+    is-body-bracketed-reads.Asked,
+    is-body-bracketed-reads.Learnt,
+    put-bracket-reads.Asked,
+    put-bracket-reads.Learnt,
     print-term-below,
     print-term.Post,
+    put-ascription-reads.Asked,
+    put-ascription-reads.Learnt,
   )
 
   abbrev put-item-claims : put-item-lts.Claims
@@ -137,49 +148,55 @@ module _ (t : ℕ) where
   part-array-read-is-bracketed : part-lts.Need-array-read-is-bracketed part-claims part-at part.Post
   part-array-read-is-bracketed c = c .before .before .before .before .before .before .before .before .pre .1 .0
 
-  part-cast-is-bracketed : part-lts.Need-cast-is-bracketed part-claims part-at part.Post
-  part-cast-is-bracketed c = omega (arith, part-position-below (c .before .before .before .before .before .before .before .before .args .k))
-
   part-is-bracketed-requires : part-lts.Need-is-bracketed-requires part-claims part-at part.Post
   part-is-bracketed-requires c κs =
       let start = c .before .before .before .before .before .before .before .before in
       (omega (arith, start .pre .1 .1 .0 .held), part-position-below (start .args .k))
 
-  part-put-requires : part-lts.Need-put-requires part-claims part-at part.Post
-  part-put-requires c κs = tt
+  part-unascribed-requires : part-lts.Need-unascribed-requires part-claims part-at part.Post
+  part-unascribed-requires c κs = omega (arith, c .before .before .before .before .before .before .before .before .before .pre .1 .1 .0 .held)
+
+  part-is-body-bracketed-requires : part-lts.Need-is-body-bracketed-requires part-claims part-at part.Post
+  part-is-body-bracketed-requires c κs = omega (arith, c .before .before .before .before .before .before .before .before .before .before .pre .1 .1 .0 .held, not-after (c .unascribed .ensures))
+
+  part-put-bracket-requires : part-lts.Need-put-bracket-requires part-claims part-at part.Post
+  part-put-bracket-requires c κs = tt
+
+  part-put-bracket-requires-2 : part-lts.Need-put-bracket-requires-2 part-claims part-at part.Post
+  part-put-bracket-requires-2 c κs = tt
 
   part-print-term-requires : part-lts.Need-print-term-requires part-claims part-at part.Post
   part-print-term-requires c κs =
-      let start = c .before .before .before .before .before .before .before .before .before .before .before .before .before .before .before in (
-        omega arith,
-        printable-part (start .args .k) _ (c .before .before .before .before .before .before .before .before .field .ensures .0) (c .before .before .before .before .before .before .before .if1 .left) (start .pre .1 .1 .0) (start .pre .1 .1 .1),
+      let start = c .before .before .before .before .before .before .before .before .before .before .before .before .before .before .before .before .before .before .before .before in
+      let which = c .before .before .before .before .before .before .before .before .before .before .unascribed .ensures in (
+        omega (arith, not-after which),
+        body-printable which (printable-part (start .args .k) _ (c .before .before .before .before .before .before .before .before .before .before .before .before .before .field .ensures .0) (c .before .before .before .before .before .before .before .before .before .before .before .before .if1 .left) (start .pre .1 .1 .0) (start .pre .1 .1 .1)),
       )
 
-  part-put-requires-2 : part-lts.Need-put-requires-2 part-claims part-at part.Post
-  part-put-requires-2 c κs = tt
+  part-put-bracket-requires-3 : part-lts.Need-put-bracket-requires-3 part-claims part-at part.Post
+  part-put-bracket-requires-3 c κs = tt
+
+  part-put-ascription-requires : part-lts.Need-put-ascription-requires part-claims part-at part.Post
+  part-put-ascription-requires c κs =
+      let start = c .before .before .before .before .before .before .before .before .before .before .before .before .before .before .before .before .before .before .before .before .before .before .before .before .before .before .before .before in
+      let number-printable = printable-part (start .args .k) _ (c .before .before .before .before .before .before .before .before .before .before .before .before .before .before .before .before .before .before .before .before .before .field .ensures .0) (c .before .before .before .before .before .before .before .before .before .before .before .before .before .before .before .before .before .before .before .before .if1 .left) (start .pre .1 .1 .0) (start .pre .1 .1 .1) in
+      (number-printable, label-printable (c .before .before .before .before .before .before .before .before .before .before .before .before .before .before .before .before .before .before .unascribed .ensures) number-printable)
+
+  part-put-bracket-requires-4 : part-lts.Need-put-bracket-requires-4 part-claims part-at part.Post
+  part-put-bracket-requires-4 c κs = tt
 
   part-returns-2 : part-lts.Need-returns-2 part-claims part-at part.Post
   part-returns-2 c =
-      rw (← bracketed-text _ _ _ _ _ _ _ _ _ (c .before .before .before .before .before .before .before .before .before .before .before .before .before .before .before .field .ensures .0) (c .before .before .before .before .before .before .before .before .before .before .before .before .before .before .if1 .left) (sym (c .before .before .before .before .before .before .before .before .before .before .before .before .before .is-bracketed .ensures _ _) ∙ c .before .before .before .before .before .before .before .before .before .before .before .before .if2 .taken))
-      (then (c .before .before .before .before .before .before .before .before .before .before .put .ensures) (then (c .before .before .before .before .before .before .print-term .ensures) (c .before .before .put2 .ensures)))
+      part-written _ _ _ _ _ _ _ _ _ (c .before .before .before .before .before .before .before .before .before .before .before .before .before .before .before .before .before .before .before .before .before .before .before .before .before .before .before .before .field .ensures .0) (c .before .before .before .before .before .before .before .before .before .before .before .before .before .before .before .before .before .before .before .before .before .before .before .before .before .before .before .if1 .left) (c .before .before .before .before .before .before .before .before .before .before .before .before .before .before .before .before .before .before .before .before .before .before .before .before .before .unascribed .ensures) (c .before .before .before .before .before .before .before .before .before .before .before .before .before .before .before .before .before .before .before .before .before .before .before .before .before .before .is-bracketed .ensures _ _) (c .before .before .before .before .before .before .before .before .before .before .before .before .before .before .before .before .before .before .before .before .before .before .before .before .is-body-bracketed .ensures _ _)
+      (c .before .before .before .before .before .before .before .before .before .before .before .before .before .before .before .before .before .before .before .before .before .before .put-bracket .ensures)
+      (c .before .before .before .before .before .before .before .before .before .before .before .before .before .before .before .before .before .before .put-bracket2 .ensures)
+      (c .before .before .before .before .before .before .before .before .before .before .before .before .before .before .print-term .ensures)
+      (c .before .before .before .before .before .before .before .before .before .before .put-bracket3 .ensures)
+      (c .before .before .before .before .before .before .put-ascription .ensures)
+      (c .before .before .put-bracket4 .ensures)
 
   part-same-length-2 : part-lts.Need-same-length-2 part-claims part-at part.Post
   part-same-length-2 c = same-length (part-returns-2 c)
-
-  part-print-term-requires-2 : part-lts.Need-print-term-requires-2 part-claims part-at part.Post
-  part-print-term-requires-2 c κs =
-      let start = c .before .before .before .before .before .before .before .before .before .before .before in (
-        omega arith,
-        printable-part (start .args .k) _ (c .before .before .before .before .field .ensures .0) (c .before .before .before .if1 .left) (start .pre .1 .1 .0) (start .pre .1 .1 .1),
-      )
-
-  part-returns-3 : part-lts.Need-returns-3 part-claims part-at part.Post
-  part-returns-3 c =
-      rw (← bare-text _ _ _ _ _ _ _ _ _ (c .before .before .before .before .before .before .before .field .ensures .0) (c .before .before .before .before .before .before .if1 .left) (sym (c .before .before .before .before .before .is-bracketed .ensures _ _) ∙ c .before .before .before .before .if2 .left))
-      (c .before .before .print-term2 .ensures)
-
-  part-same-length-3 : part-lts.Need-same-length-3 part-claims part-at part.Post
-  part-same-length-3 c = same-length (part-returns-3 c)
 
   put-item-is-between-requires : put-item-lts.Need-is-between-requires put-item-claims put-item-at put-item.Post
   put-item-is-between-requires c κs = tt
@@ -351,16 +368,17 @@ pub +part+print-term+put-item-spec : {M : Type 1} → statement M
     (part-same-length t)
     (part-returns t)
     (part-array-read-is-bracketed t)
-    (part-cast-is-bracketed t)
     (part-is-bracketed-requires t)
-    (part-put-requires t)
+    (part-unascribed-requires t)
+    (part-is-body-bracketed-requires t)
+    (part-put-bracket-requires t)
+    (part-put-bracket-requires-2 t)
     (part-print-term-requires t)
-    (part-put-requires-2 t)
+    (part-put-bracket-requires-3 t)
+    (part-put-ascription-requires t)
+    (part-put-bracket-requires-4 t)
     (part-same-length-2 t)
-    (part-returns-2 t)
-    (part-print-term-requires-2 t)
-    (part-same-length-3 t)
-    (part-returns-3 t))
+    (part-returns-2 t))
     (λ t. print-term-lts.spec (print-term-claims t)
     (print-term-at t)
     print-term.Post

@@ -1,22 +1,9 @@
 -- Each arm has the format of its kind, in 32 bytes.
-use Prim.Native.Nat.{ℕ, zero, suc, _≤_, _<_}
-use mathlib.Core.Path.{_≡_, refl}
-use native.Mathlib.Omega.{arith}
+use mathlib.Core.Path.{refl}
 use Rattle.proof_term_display.specs.Format.{itemOf, items, formats}
+use Rattle.proof_term_display.proofs.Arms.{last-arm}
 use Rattle.proof_term_display.proofs.format_of.Statement.{statement}
 use Rattle.proof_term_display.proofs.format_of.Tie as tie
-
--- what is none of the first numbers is not below them
-abbrev Missed : ℕ → ℕ → Type 0
-Missed zero kind = Unit {0}
-Missed (suc n) kind = Missed n kind × (kind ≡ n → ⊥)
-
-missed : (n : ℕ) {kind : ℕ} → Missed n kind → n ≤ kind
-missed zero h = omega arith
-missed (suc n) h = let above = missed n (h .0) in let apart = h .1 in omega arith
-
-last : {kind : ℕ} → Missed 13 kind → kind < 14 → kind ≡ 13
-last h below = let above = missed 13 h in omega arith
 
 returns : tie.Need-returns
 unfolding itemOf items formats
@@ -72,7 +59,7 @@ returns-13 c = (refl, rw (c .before .before .match .keys13))
 
 returns-14 : tie.Need-returns-14
 unfolding itemOf items formats
-returns-14 c = (refl, rw (last (c .before .before .match .rest) (c .before .before .before .pre)))
+returns-14 c = (refl, rw (last-arm 13 (c .before .before .match .rest) (c .before .before .before .pre)))
 
 pub format-of-spec : {M : Type 1} → statement M
 format-of-spec =

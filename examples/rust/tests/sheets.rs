@@ -1,0 +1,85 @@
+//! The example sheets through the wrapper: answers, refusals, and what becomes of the lent memory.
+use skriduhol::{
+    atom_list, board_output, compare, datatype_list, label_count, plain_text, strict_text, Refusal,
+    BOARD_ROOM, LONGEST_SHEET,
+};
+
+const SMALLEST: &[u8] = include_bytes!("../../sheets/smallest.sheet");
+const SECOND: &[u8] = include_bytes!("../../sheets/second_drawing.sheet");
+const LABELLED: &[u8] = include_bytes!("../../sheets/labelled_function.sheet");
+const REFUSED: &[u8] = include_bytes!("../../sheets/refused.sheet");
+
+const SECOND_TEXT: &str = "atom A;\natom B;\n\n\nfn u => inl u";
+
+/// A byte that no text ends in, to see what was written.
+const UNTOUCHED: u8 = 0xa5;
+
+/// The plain text in a room of so many bytes, with the memory as it stands after.
+fn text_in(room: usize, sheet: &[u8]) -> (Result<usize, Refusal>, Vec<u8>) {
+    let mut out = vec![UNTOUCHED; room];
+    let answer = plain_text(sheet, &mut out);
+    (answer, out)
+}
+
+fn text_of(sheet: &[u8]) -> Result<String, Refusal> {
+    let (answer, mut out) = text_in(BOARD_ROOM, sheet);
+    out.truncate(answer?);
+    Ok(String::from_utf8(out).expect("a text is UTF-8"))
+}
+
+fn refusal<T>(number: u8, place: usize) -> Result<T, Refusal> {
+    Err(Refusal { number, place })
+}
+
+#[test]
+fn texts() {
+    assert_eq!(text_of(SMALLEST), Ok("\n\n\n()".into()));
+    assert_eq!(text_of(SECOND), Ok(SECOND_TEXT.into()));
+    assert_eq!(
+        text_of(LABELLED),
+        Ok("atom A;\n\n\n(fn u: A => u) v".into())
+    );
+    assert_eq!(text_of(REFUSED), refusal(14, 1));
+}
+
+#[test]
+fn any_bytes_get_an_answer() {
+    assert_eq!(text_of(&[]), refusal(1, 0));
+    assert_eq!(text_of(&[0; 12]), refusal(2, 0));
+    assert_eq!(text_of(&SMALLEST[..34]), refusal(3, 0));
+    assert_eq!(text_of(&[0xff; LONGEST_SHEET + 1]), refusal(2, 0));
+}
+
+#[test]
+fn memory_past_the_answer_and_under_a_refusal_is_untouched() {
+    assert_eq!(text_in(30, SECOND), (refusal(16, 0), vec![UNTOUCHED; 30]));
+    assert_eq!(text_in(31, SECOND), (Ok(31), SECOND_TEXT.into()));
+    let past = [SECOND_TEXT.as_bytes(), &[UNTOUCHED; 2]].concat();
+    assert_eq!(text_in(33, SECOND), (Ok(31), past));
+    assert_eq!(text_in(0, SECOND), (refusal(16, 0), vec![]));
+}
+
+#[test]
+fn the_other_operations() {
+    let mut bytes = vec![UNTOUCHED; 64];
+    assert_eq!(strict_text(SECOND, &mut bytes), Ok(31));
+    let mut numbers = [7u16; 4];
+    assert_eq!(atom_list(LABELLED, &mut numbers), Ok(2));
+    assert_eq!(numbers, [0, 0, 7, 7]);
+    assert_eq!(atom_list(LABELLED, &mut [0; 1]), refusal(16, 0));
+    assert_eq!(datatype_list(LABELLED, &mut numbers), Ok(0));
+    assert_eq!(label_count(LABELLED), Ok(1));
+    assert_eq!(label_count(REFUSED), refusal(14, 1));
+    assert_eq!(compare(LABELLED, 0, 2), Ok(true));
+    assert_eq!(compare(LABELLED, 0, 1), Ok(false));
+    assert_eq!(compare(LABELLED, 0, 4), refusal(17, 0));
+}
+
+#[test]
+fn the_board_prints_a_text_or_the_refusals_line() {
+    let mut out = Box::new([UNTOUCHED; BOARD_ROOM]);
+    assert_eq!(board_output(REFUSED, &mut out), 16);
+    assert_eq!(&out[..16], b"refused 14 at 1\n");
+    assert_eq!(out[16], UNTOUCHED);
+    assert_eq!(board_output(SECOND, &mut out), 31);
+}
