@@ -43,29 +43,51 @@ const FULL: Plan = Plan {
 /// A sheet with so many labels or more is a label sheet.
 const MANY_LABELS: usize = 500;
 
+/// Prints a table, and gives the figure that is required of it, if there is one.
+type Section = fn(&Plan, &mut Lent) -> Option<Required>;
+
+const SECTIONS: [(&str, Section); 5] = [
+    ("sound", |plan, lent| Some(sound_sheets(plan, lent))),
+    ("worst", |plan, lent| Some(worst_sheets(plan, lent))),
+    ("growth", |plan, lent| Some(growth(plan, lent))),
+    ("stack", |plan, lent| Some(stack_use(plan, lent))),
+    ("operations", |plan, lent| {
+        other_operations(plan, lent);
+        None
+    }),
+];
+
+fn usage() -> ! {
+    eprintln!("usage: bench/run short|full [sound|worst|growth|stack|operations]...");
+    exit(2)
+}
+
 fn main() {
-    let plan = match std::env::args().nth(1).as_deref() {
-        None | Some("full") => FULL,
+    let args: Vec<String> = std::env::args().skip(1).collect();
+    let plan = match args.first().map(String::as_str) {
         Some("short") => SHORT,
-        _ => {
-            eprintln!("usage: bench/run [short|full]");
-            exit(2)
-        }
+        Some("full") => FULL,
+        _ => usage(),
     };
+    let chosen = args[1..].to_vec();
+    if !chosen.iter().all(|name| SECTIONS.iter().any(|(known, _)| name == known)) {
+        usage();
+    }
     // The Rust recurses deeply on the deepest trees.
-    let run = std::thread::Builder::new().stack_size(1 << 30).spawn(move || run(&plan)).unwrap();
+    let run = std::thread::Builder::new().stack_size(1 << 30).spawn(move || run(&plan, &chosen)).unwrap();
     exit(run.join().unwrap_or(101))
 }
 
-fn run(plan: &Plan) -> i32 {
+/// Measures the sections named, or all.
+fn run(plan: &Plan, chosen: &[String]) -> i32 {
     let mut lent = Lent::new();
-    let required = [
-        sound_sheets(plan, &mut lent),
-        worst_sheets(plan, &mut lent),
-        growth(plan, &mut lent),
-        stack_use(plan, &mut lent),
-    ];
-    other_operations(plan, &mut lent);
+    let mut required = Vec::new();
+    for (name, section) in SECTIONS {
+        if chosen.is_empty() || chosen.iter().any(|one| one == name) {
+            required.extend(section(plan, &mut lent));
+            println!();
+        }
+    }
     !verdict(&required) as i32
 }
 
@@ -77,7 +99,7 @@ fn sound_sheets(plan: &Plan, lent: &mut Lent) -> Required {
 }
 
 fn worst_sheets(plan: &Plan, lent: &mut Lent) -> Required {
-    println!("\n## Worst cases, with texts of at most {} bytes\n", grouped(plan.longest_text));
+    println!("## Worst cases, with texts of at most {} bytes\n", grouped(plan.longest_text));
     let mut all = sheets::worst();
     all.retain(|(_, sheet)| ask(Question::PlainText, sheet, lent).unwrap() <= plan.longest_text);
     let texts = texts(&plan.effort, &all, lent);
@@ -86,7 +108,7 @@ fn worst_sheets(plan: &Plan, lent: &mut Lent) -> Required {
 }
 
 fn growth(plan: &Plan, lent: &mut Lent) -> Required {
-    println!("\n## Growth: one proposition as the label of more and more functions\n");
+    println!("## Growth: one proposition as the label of more and more functions\n");
     let texts = texts(&plan.effort, &sheets::growth(plan.longest_text), lent);
     let per_byte = texts.iter().map(Text::ours_per_byte);
     let (least, most) = (per_byte.clone().fold(f64::MAX, f64::min), per_byte.fold(0.0, f64::max));
@@ -97,7 +119,7 @@ fn growth(plan: &Plan, lent: &mut Lent) -> Required {
 
 fn stack_use(plan: &Plan, lent: &mut Lent) -> Required {
     let all = sheets::for_the_stack(plan.random_sheets);
-    println!("\n## Stack: the most over {} sheets\n\n| operation | bytes | sheet |\n|---|--:|---|", grouped(all.len()));
+    println!("## Stack: the most over {} sheets\n\n| operation | bytes | sheet |\n|---|--:|---|", grouped(all.len()));
     let mut stack = Stack::new();
     let mut most = 0;
     for (k, (name, _)) in questions(0).into_iter().enumerate() {
@@ -112,7 +134,7 @@ fn stack_use(plan: &Plan, lent: &mut Lent) -> Required {
 
 /// On two sound sheets and on two of the worst within the board's room.
 fn other_operations(plan: &Plan, lent: &mut Lent) {
-    println!("\n## The other operations\n");
+    println!("## The other operations\n");
     let chosen = ["1,008 labels within the board's room", "one label of 58,000 bytes"];
     let worst = sheets::worst().into_iter().filter(|(what, _)| chosen.contains(&what.as_str()));
     let all: Vec<Named> = sheets::sound(2).into_iter().chain(worst).collect();

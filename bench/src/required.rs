@@ -17,7 +17,7 @@ pub fn at_least(what: &'static str, least: f64, mut ratios: Vec<f64>) -> Require
 
 /// Prints which are met; whether all are.
 pub fn verdict(all: &[Required]) -> bool {
-    println!("\n## Required figures\n\n| figure | required | measured | |\n|---|---|---|---|");
+    println!("## Required figures\n\n| figure | required | measured | |\n|---|---|---|---|");
     for Required { what, bound, measured, met } in all {
         println!("| {what} | {bound} | {measured} | {} |", if *met { "met" } else { "MISSED" });
     }
