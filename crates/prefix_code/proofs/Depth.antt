@@ -1,11 +1,11 @@
 -- How deep a proposition nests, by its head and its parts.
-use Prim.Native.Nat.{ℕ, zero, suc, _-_, _≤_, _<_}
+use Prim.Native.Nat.{ℕ, zero, suc, _+_, _*_, _-_, _≤_, _<_}
 use mathlib.Core.Path.{_≡_}
-use mathlib.Core.List.{List}
+use mathlib.Core.List.{List, _++_}
 use native.Mathlib.Omega.{arith}
-use lib.ListN.{length, getD}
+use lib.ListN.{length, length-append, getD}
 use Rattle.definitions.specs.Prop.{Prop, True, False, Binary, Atom, Quantified, nesting}
-use Rattle.definitions.specs.Code.{Codable}
+use Rattle.definitions.specs.Code.{u16, encode, Codable}
 use Rattle.prefix_code.specs.Scan.{Stands, Ends, Shallow, shallowCoding}
 use Rattle.prefix_code.specs.Head.{CodableHead, headCoding, partsAfter}
 use Rattle.prefix_code.proofs.Runs.{run-of, no-ends, Walked}
@@ -29,6 +29,16 @@ nesting-positive False = omega arith
 nesting-positive (Binary c p q) = omega arith
 nesting-positive (Atom a ps) = omega arith
 nesting-positive (Quantified q x t p) = omega arith
+
+-- each level but the innermost takes at least two bytes
+pub two-bytes-a-level : (p : Prop ℕ) → 2 * nesting p ≤ length (encode p) + 1
+unfolding nesting encode u16
+two-bytes-a-level True = omega arith
+two-bytes-a-level False = omega arith
+two-bytes-a-level (Binary c p q) =
+    omega (arith, length-append (encode p) (encode q), two-bytes-a-level p, two-bytes-a-level q, nesting-positive p, nesting-positive q)
+two-bytes-a-level (Atom a ps) = omega arith
+two-bytes-a-level (Quantified q x t p) = omega (arith, length-append (u16 x) (u16 t ++ encode p), length-append (u16 t) (encode p), two-bytes-a-level p)
 
 module _ (names : ℕ) (l : List ℕ) (at r : ℕ) where
   -- none nests 0 deep

@@ -1,5 +1,5 @@
 -- What the end of the code at 0 says of all the bytes: what they decode to, and how deep that nests.
-use Prim.Native.Nat.{ℕ, _<_}
+use Prim.Native.Nat.{ℕ, _*_, _≤_, _<_}
 use mathlib.Core.Path.{_≡_, refl, sym, ap, _∙_}
 use mathlib.Core.Bool.{false, not}
 use mathlib.Core.Option.{Option, none, some, Option·getD}
@@ -14,6 +14,7 @@ use Rattle.definitions.specs.Code.{encode, decode}
 use Rattle.definitions.specs.Admission.{isNone}
 use Rattle.definitions.proofs.PrefixCode.{Bytes, decode-encode, encode-decode, encode-injective}
 use Rattle.prefix_code.specs.Scan.{Stands, Ends, At, Scanned, Shallow, shallowCoding}
+use Rattle.prefix_code.proofs.Depth.{two-bytes-a-level}
 
 module _ (names : ℕ) (l : List ℕ) (bytes : Bytes l) where
   -- bytes that decode are the code of what they decode to
@@ -66,3 +67,13 @@ module _ (names : ℕ) (l : List ℕ) (bytes : Bytes l) where
               let (q, rest, t, end) = s .only (omega arith) in
               let same = encode-injective names q p rest [] (t .0 .0) (whole .0) (sym (t .1) ∙ whole .1) .0 in
               absurd (omega (arith, ap nesting same, t .0 .1))
+
+  -- short code nests no deeper
+  pub short-whole : (depth : ℕ) → isNone (decode names l) ≡ false → length l ≤ 2 * depth
+      → false ≡ ltb depth (nesting (Option·getD (decode names l) False))
+  unfolding isNone
+  short-whole depth is short = go (decode names l) refl is
+    where
+      go : (d : Option (Prop ℕ)) → decode names l ≡ d → isNone d ≡ false → false ≡ ltb depth (nesting (Option·getD d False))
+      go none e n = let z : _≡_ {A = ℕ} 0 1 = cc in absurd (omega arith)
+      go (some p) e n = sym (le-ltb depth (nesting p) (omega (arith, two-bytes-a-level p, decoded-length p e)))

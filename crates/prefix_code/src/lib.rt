@@ -19,7 +19,7 @@ const PARAMETER_LIMIT: u8 = 8;
 const NESTING_LIMIT: usize = 64;
 
 // How many propositions follow each head byte.
-const PARTS: [usize; 8] = [0, 0, 2, 2, 2, 0, 1, 1];
+const PARTS: [u8; 8] = [0, 0, 2, 2, 2, 0, 1, 1];
 
 // Where the parameter at `at` ends, and past the end of the code if none stands there.
 pub fn parameter_end(code: &[u8], at: usize, names: usize) -> usize
@@ -107,7 +107,7 @@ pub fn parts_after(head: u8) -> usize
     requires { ⌜ head < 8 ⌝ }
     ensures { λ r. ⌜ r ≡ partsAfter head ⌝ }
 {
-    PARTS[head as usize]
+    PARTS[head as usize] as usize
 }
 
 // Where the proposition at `at` ends, and past the end of the code if none stands there.
@@ -159,10 +159,14 @@ pub fn is_code(code: &[u8], names: usize) -> bool
     scan(code, 0, names) == code.len()
 }
 
-// Does the proposition nest deeper than the limit? That is refusal 8.
+// Does the proposition nest deeper than the limit? That is refusal 8. Each level but the innermost takes at least two bytes, so
+// short code nests no deeper.
 pub fn is_deep(code: &[u8], names: usize) -> bool
     requires { ⌜ isNone (decode names (now code)) ≡ false ⌝ }
     ensures { λ r. ⌜ r ≡ ltb propositionNestingLimit (nesting (Option·getD (decode names (now (code .entry))) False)) ⌝ }
 {
+    if code.len() <= 2 * NESTING_LIMIT {
+        return false;
+    }
     code.len() < shallow_end(code, 0, names, NESTING_LIMIT)
 }
