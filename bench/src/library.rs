@@ -1,18 +1,6 @@
-//! Skriduhol through its C interface, include/skriduhol.h.
-use oracle::{
-    answer::Question,
-    sheet::{Refusal, BOARD_ROOM},
-};
-
-extern "C" {
-    fn skriduhol_plain_text(sheet: *const u8, length: usize, out: *mut u8, room: usize, value: *mut usize) -> u8;
-    fn skriduhol_strict_text(sheet: *const u8, length: usize, out: *mut u8, room: usize, value: *mut usize) -> u8;
-    fn skriduhol_atom_list(sheet: *const u8, length: usize, out: *mut u16, room: usize, value: *mut usize) -> u8;
-    fn skriduhol_datatype_list(sheet: *const u8, length: usize, out: *mut u16, room: usize, value: *mut usize) -> u8;
-    fn skriduhol_label_count(sheet: *const u8, length: usize, value: *mut usize) -> u8;
-    fn skriduhol_compare(sheet: *const u8, length: usize, i: usize, j: usize, value: *mut usize) -> u8;
-    fn skriduhol_board_output(sheet: *const u8, length: usize, out: *mut u8) -> usize;
-}
+//! Skriduhol through the wrapper in examples/rust.
+use oracle::answer::Question;
+use skriduhol::Refusal;
 
 /// The memory that is lent for answers.
 pub struct Lent {
@@ -29,29 +17,17 @@ impl Lent {
 
 /// The length of the answer, the count, or 1 for yes and 0 for no; or the refusal.
 pub fn ask(question: Question, sheet: &[u8], lent: &mut Lent) -> Result<usize, Refusal> {
-    let (at, length) = (sheet.as_ptr(), sheet.len());
-    let (bytes, byte_room) = (lent.bytes.as_mut_ptr(), lent.bytes.len());
-    let (numbers, number_room) = (lent.numbers.as_mut_ptr(), lent.numbers.len());
-    assert!(byte_room >= BOARD_ROOM);
-    let mut value = 0;
-    // SAFETY: each pointer is given with its own length, and the board's room was asserted.
-    let number = unsafe {
-        match question {
-            Question::PlainText => skriduhol_plain_text(at, length, bytes, byte_room, &mut value),
-            Question::StrictText => skriduhol_strict_text(at, length, bytes, byte_room, &mut value),
-            Question::AtomList => skriduhol_atom_list(at, length, numbers, number_room, &mut value),
-            Question::DatatypeList => skriduhol_datatype_list(at, length, numbers, number_room, &mut value),
-            Question::LabelCount => skriduhol_label_count(at, length, &mut value),
-            Question::Comparison(i, j) => skriduhol_compare(at, length, i, j, &mut value),
-            Question::BoardOutput => {
-                value = skriduhol_board_output(at, length, bytes);
-                0
-            }
+    match question {
+        Question::PlainText => skriduhol::plain_text(sheet, &mut lent.bytes),
+        Question::StrictText => skriduhol::strict_text(sheet, &mut lent.bytes),
+        Question::AtomList => skriduhol::atom_list(sheet, &mut lent.numbers),
+        Question::DatatypeList => skriduhol::datatype_list(sheet, &mut lent.numbers),
+        Question::LabelCount => skriduhol::label_count(sheet),
+        Question::Comparison(i, j) => skriduhol::compare(sheet, i, j).map(usize::from),
+        Question::BoardOutput => {
+            let board = lent.bytes.first_chunk_mut().expect("the board's room is lent");
+            Ok(skriduhol::board_output(sheet, board))
         }
-    };
-    match number {
-        0 => Ok(value),
-        number => Err(Refusal { number, place: value }),
     }
 }
 

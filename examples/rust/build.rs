@@ -1,9 +1,14 @@
-//! Links the proved library, which `rt staticlib skriduhol_c` writes below the repository's target/.
-use std::path::Path;
+//! Links the proved library: libskriduhol_c.a in the folder that SKRIDUHOL_LIB names, without it in the repository's
+//! target/staticlib, where `rt staticlib skriduhol_c` writes it.
+use std::{env, path::PathBuf};
 
 fn main() {
-    let here = std::env::var("CARGO_MANIFEST_DIR").expect("cargo names the package's folder");
-    let built = Path::new(&here).join("../../target/staticlib");
+    println!("cargo:rerun-if-env-changed=SKRIDUHOL_LIB");
+    let here = env::var("CARGO_MANIFEST_DIR").expect("cargo names the package's folder");
+    let built = env::var("SKRIDUHOL_LIB").map_or_else(
+        |_| PathBuf::from(here).join("../../target/staticlib"),
+        PathBuf::from,
+    );
     println!("cargo:rustc-link-search=native={}", built.display());
     println!("cargo:rustc-link-lib=static=skriduhol_c");
     println!(
