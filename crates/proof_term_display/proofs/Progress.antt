@@ -13,11 +13,11 @@ use Rattle.output.specs.Wrote.{Wrote}
 use Rattle.output.proofs.Writing as writing
 use Rattle.proof_term.specs.Records.{fieldAt, termAt, partAt}
 use Rattle.prefix_code.specs.PropAt.{propAt}
-use Rattle.proof_term_display.specs.Format.{Item, itemOf, items, formats}
+use Rattle.proof_term_display.specs.Format.{Item, itemOf, items, FormatTable}
 use Rattle.proof_term_display.specs.Printable.{PrintableTerm}
 use Rattle.proof_term_display.specs.Item.{KindAt, ItemReady, recordItem}
 use Rattle.proof_term_display.proofs.Items.{items-next, items-end, items-past}
-use Rattle.proof_term_display.proofs.Formats.{rendered, format-text}
+use Rattle.proof_term_display.proofs.Formats.{rendered, format-text, row-size, row-items}
 use Rattle.proof_term_display.proofs.Ready.{Ready, ready-next, ready}
 
 -- of `whole`, which is written from `to` on, all is done but what is left
@@ -54,17 +54,17 @@ module _ (s : Style) (names : ℕ) (code ends pairs text records : List ℕ) (n 
     pub begun : Begun whole write before to after at (texts (items (drop i format)))
     pub rest : Ready names code ends records n (items (drop i format))
 
-  module _ {write : Bool} {before format : List ℕ} {to : ℕ} where
+  module _ {write : Bool} {before : List ℕ} {to : ℕ} where
     pub start :
-        {kind : ℕ} → PrintableTerm records n names code ends pairs text → KindAt records n kind → length format ≡ 32 → items format ≡ getD formats kind [] →
-        Underway write before to format before to 0
-    start {kind} p k size is =
-        let shown : texts (items (drop 0 format)) ≡ whole =
-        ap texts is ∙ format-text s (marked pairs text) (propAt names code) (partAt (propAt names code) records n) (fieldAt records n) kind (k .known)
+        {kind : ℕ} {table : List (List ℕ)} → PrintableTerm records n names code ends pairs text → KindAt records n kind → FormatTable table →
+        Underway write before to (getD table kind []) before to 0
+    start {kind} {table} p k t =
+        let shown : texts (items (getD table kind [])) ≡ whole =
+        ap texts (row-items t kind) ∙ format-text s (marked pairs text) (propAt names code) (partAt (propAt names code) records n) (fieldAt records n) kind (k .known)
         ∙ ap (λ t. displayTerm s (renameTerm (marked pairs text) t)) (sym (k .holds (propAt names code))) in
-        record { size = size; begun = rw shown begin; rest = rw is (ready names code ends records n p k) }
+        record { size = row-size t kind (k .known); begun = rw shown begin; rest = rw (row-items t kind) (ready names code ends records n p k) }
 
-    module _ {after : List ℕ} {at i : ℕ} (u : Underway write before to format after at i) where
+    module _ {format after : List ℕ} {at i : ℕ} (u : Underway write before to format after at i) where
       pub ends-here : getD format i 0 ≡ 46 → i < 32 → Wrote whole write before to after at
       unfolding rendered
       ends-here e h = finish (rw (items-end format i (omega (arith, u .size)) e) at (u .begun))

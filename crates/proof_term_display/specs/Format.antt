@@ -1,9 +1,10 @@
 -- The texts of the kinds of records as formats: bytes that stand for themselves, and bytes that stand for a name, a part or a label.
 use Prim.Native.Nat.{ℕ, _-_}
+use mathlib.Core.Path.{_≡_}
 use mathlib.Core.Bool.{_&&_, cond}
 use mathlib.Core.Option.{none}
-use mathlib.Core.List.{List, [], _∷_}
-use lib.ListN.{getD}
+use mathlib.Core.List.{List, [], _∷_, map}
+use lib.ListN.{length, getD}
 use lib.Dec.{leb, eqb}
 use Rattle.definitions.specs.declared.Style.{Style}
 use Rattle.definitions.specs.Utf8.{utf8}
@@ -63,6 +64,11 @@ formats =
     ∷ items (utf8 "()")
     ∷ items (utf8 "sorry")
     ∷ []
+
+-- a table of the formats as bytes, 32 for each kind
+pub record FormatTable (table : List (List ℕ)) : Type 0 where
+  pub sizes : map length table ≡ map (λ format. 32) formats
+  pub shows : map items table ≡ formats
 
 -- The text of each item of a record, by the record's numbers and the terms of its parts.
 module _ (s : Style) (f : ℕ → Name) (props : ℕ → Prop ℕ) (term : ℕ → ProofTerm ℕ) (field : ℕ → ℕ) where

@@ -25,7 +25,7 @@ ghost use Rattle.proof_term.specs.Records.{recordSize, fieldAt, labelOf, parame
 ghost use Rattle.prefix_code.specs.PropAt.{propAt};
 ghost use Rattle.proof_term_display.specs.Ascriptions.{bracket, Unascribed, bodyBracketed, afterBody};
 ghost use Rattle.proof_term_display.specs.Brackets.{positions, styles, column, isBracketed, bracketTable};
-ghost use Rattle.proof_term_display.specs.Format.{itemOf, items, formats, part};
+ghost use Rattle.proof_term_display.specs.Format.{itemOf, part, FormatTable};
 ghost use Rattle.proof_term_display.specs.Printable.{PrintableTerm};
 ghost use Rattle.proof_term_display.specs.Item.{KindAt, LabelReady, ItemReady, recordItem};
 
@@ -156,30 +156,25 @@ fn is_bracketed(records: &[u16], n: usize, position: u8, style: Style) -> bool
     rows[row][column]
 }
 
-// The format of a kind, up to the full stop. A digit stands for the name in that number of the record. A, B and C stand for its
+// The format of each kind, up to the full stop. A digit stands for the name in that number of the record. A, B and C stand for its
 // parts, D for the body of a named function, E for that of an ascription, F and G for the function and the argument of an
 // application, L for the label of a parameter, if it has one, and M for that of an ascription.
-fn format_of(kind: usize) -> [u8; 32]
-    requires { ⌜ kind < 14 ⌝ }
-    ensures { λ r. ⌜ (length r ≡ 32) × (items r ≡ getD formats kind []) ⌝ }
-{
-    match kind {
-        proof_term::IDENT => *b"1...............................",
-        proof_term::PAIR => *b"(A, B)..........................",
-        proof_term::PROJECT_FST => *b"fst D...........................",
-        proof_term::PROJECT_SND => *b"snd D...........................",
-        proof_term::FUNCTION => *b"fn 2L => A......................",
-        proof_term::APPLICATION => *b"F G.............................",
-        proof_term::LET_IN => *b"let (3, 4) = A in B.............",
-        proof_term::OR_LEFT => *b"inl D...........................",
-        proof_term::OR_RIGHT => *b"inr D...........................",
-        proof_term::CASE => *b"case A of inl 4 => B, inr 5 => C",
-        proof_term::ABORT => *b"abort D.........................",
-        proof_term::TYPE_ASCRIPTION => *b"E: M............................",
-        proof_term::UNIT => *b"()..............................",
-        _ => *b"sorry...........................",
-    }
-}
+const FORMATS: [[u8; 32]; 14] = [
+    *b"1...............................", // a name
+    *b"(A, B)..........................",
+    *b"fst D...........................",
+    *b"snd D...........................",
+    *b"fn 2L => A......................",
+    *b"F G.............................", // an application
+    *b"let (3, 4) = A in B.............",
+    *b"inl D...........................",
+    *b"inr D...........................",
+    *b"case A of inl 4 => B, inr 5 => C",
+    *b"abort D.........................",
+    *b"E: M............................", // an ascription
+    *b"()..............................",
+    *b"sorry...........................",
+];
 
 // The label of record `n`: a proposition or a datatype.
 fn put_label(
@@ -321,6 +316,7 @@ fn put_ascription(
 fn part(
     out: &mut [u8],
     to: usize,
+    formats: &[[u8; 32]; 14],
     records: &[u16],
     n: usize,
     k: usize,
@@ -333,6 +329,7 @@ fn part(
     write: bool,
 ) -> usize
     requires { ⌜ k < 7 ⌝ }
+    requires { ⌜ FormatTable (now formats) ⌝ }
     requires { ⌜ PrintableTerm (now records) n names (now code) (now ends) (now pairs) (now text) ⌝ }
     requires { ⌜ ItemReady names (now code) (now ends) (now records) n (part k) ⌝ }
     ensures { λ r. ⌜ Wrote (recordItem style names (now (code .entry)) (now (pairs .entry)) (now (text .entry)) (now (records .entry)) n (part k))
@@ -347,9 +344,10 @@ fn part(
     let inner = is_body_bracketed(records, number, body, style);
     let open = put_bracket(out, to, b'(', bracketed, write);
     let start = put_bracket(out, open, b'(', inner, write);
-    let end = print_term(
+    let end = print_node(
         out,
         start,
+        formats,
         records,
         body,
         style,
@@ -392,6 +390,7 @@ fn put_item(
     out: &mut [u8],
     to: usize,
     b: u8,
+    formats: &[[u8; 32]; 14],
     records: &[u16],
     n: usize,
     style: Style,
@@ -402,6 +401,7 @@ fn put_item(
     text: &[u8],
     write: bool,
 ) -> usize
+    requires { ⌜ FormatTable (now formats) ⌝ }
     requires { ⌜ PrintableTerm (now records) n names (now code) (now ends) (now pairs) (now text) ⌝ }
     requires { ⌜ ItemReady names (now code) (now ends) (now records) n (itemOf b) ⌝ }
     ensures { λ r. ⌜ Wrote (recordItem style names (now (code .entry)) (now (pairs .entry)) (now (text .entry)) (now (records .entry)) n (itemOf b))
@@ -416,6 +416,7 @@ fn put_item(
         return part(
             out,
             to,
+            formats,
             records,
             n,
             k,
@@ -437,6 +438,54 @@ fn put_item(
     put(out, to, b, write)
 }
 
+// The term of record `n`, by the formats that are lent.
+fn print_node(
+    out: &mut [u8],
+    to: usize,
+    formats: &[[u8; 32]; 14],
+    records: &[u16],
+    n: usize,
+    style: Style,
+    code: &[u8],
+    ends: &[u16],
+    names: usize,
+    pairs: &[u8],
+    text: &[u8],
+    write: bool,
+) -> usize
+    requires { ⌜ FormatTable (now formats) ⌝ }
+    requires { ⌜ PrintableTerm (now records) n names (now code) (now ends) (now pairs) (now text) ⌝ }
+    ensures { λ r. ⌜ Wrote (displayTerm style (renameTerm (marked (now (pairs .entry)) (now (text .entry)))
+        (termAt (propAt names (now (code .entry))) (now (records .entry)) n))) write (now (out .entry)) to (now (out .exit)) r ⌝ }
+{
+    let kind = kind_at(records, n);
+    let mut at = to;
+    let mut i = 0;
+    while i < FORMAT_SIZE {
+        let b = formats[kind][i];
+        if b == b'.' {
+            return at;
+        }
+        at = put_item(
+            out,
+            at,
+            b,
+            formats,
+            records,
+            n,
+            style,
+            code,
+            ends,
+            names,
+            pairs,
+            text,
+            write,
+        );
+        i += 1;
+    }
+    at
+}
+
 // The term of record `n`.
 pub fn print_term(
     out: &mut [u8],
@@ -455,29 +504,19 @@ pub fn print_term(
     ensures { λ r. ⌜ Wrote (displayTerm style (renameTerm (marked (now (pairs .entry)) (now (text .entry)))
         (termAt (propAt names (now (code .entry))) (now (records .entry)) n))) write (now (out .entry)) to (now (out .exit)) r ⌝ }
 {
-    let format = format_of(kind_at(records, n));
-    let mut at = to;
-    let mut i = 0;
-    while i < FORMAT_SIZE {
-        let b = format[i];
-        if b == b'.' {
-            return at;
-        }
-        at = put_item(
-            out,
-            at,
-            b,
-            records,
-            n,
-            style,
-            code,
-            ends,
-            names,
-            pairs,
-            text,
-            write,
-        );
-        i += 1;
-    }
-    at
+    let formats = FORMATS;
+    print_node(
+        out,
+        to,
+        &formats,
+        records,
+        n,
+        style,
+        code,
+        ends,
+        names,
+        pairs,
+        text,
+        write,
+    )
 }

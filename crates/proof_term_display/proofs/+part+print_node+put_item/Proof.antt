@@ -2,7 +2,9 @@
 -- items, then its parts. The term's text is written by the items of its format, one after the other.
 use Prim.Native.Nat.{ℕ, _+_, _*_, _-_, _<_}
 use mathlib.Core.Path.{refl, sym, _∙_}
+use mathlib.Core.List.{[]}
 use native.Mathlib.Omega.{arith}
+use lib.ListN.{getD}
 use borrow.Fn.Kinds.{In}
 use borrow.Fn.PlainCycle.{Measures, is, falls, and}
 use Rattle.output.proofs.Writing.{then, same-length}
@@ -15,18 +17,17 @@ use Rattle.proof_term_display.proofs.Parts.{unit-text, printable-part}
 use Rattle.proof_term_display.proofs.Ascriptions.{not-after, body-printable, label-printable, part-written}
 use Rattle.proof_term_display.proofs.part.Reads as part
 use Rattle.proof_term_display.proofs.part.Kinds as part-kinds
-use Rattle.proof_term_display.proofs.+part+print_term+put_item.Lts-part as part-lts
-use Rattle.proof_term_display.proofs.print_term.Reads as print-term
-use Rattle.proof_term_display.proofs.print_term.Kinds as print-term-kinds
-use Rattle.proof_term_display.proofs.+part+print_term+put_item.Lts-print_term as print-term-lts
+use Rattle.proof_term_display.proofs.+part+print_node+put_item.Lts-part as part-lts
+use Rattle.proof_term_display.proofs.print_node.Reads as print-node
+use Rattle.proof_term_display.proofs.print_node.Kinds as print-node-kinds
+use Rattle.proof_term_display.proofs.+part+print_node+put_item.Lts-print_node as print-node-lts
 use Rattle.proof_term_display.proofs.put_item.Reads as put-item
 use Rattle.proof_term_display.proofs.put_item.Kinds as put-item-kinds
-use Rattle.proof_term_display.proofs.+part+print_term+put_item.Lts-put_item as put-item-lts
+use Rattle.proof_term_display.proofs.+part+print_node+put_item.Lts-put_item as put-item-lts
 use Rattle.output.proofs.put.Reads as put-reads
 use Rattle.output.proofs.put_all.Reads as put-all-reads
 use Rattle.output.proofs.put_name.Reads as put-name-reads
 use Rattle.proof_term.proofs.field.Reads as field-reads
-use Rattle.proof_term_display.proofs.format_of.Reads as format-of-reads
 use Rattle.proof_term_display.proofs.is_between.Reads as is-between-reads
 use Rattle.proof_term_display.proofs.is_bracketed.Reads as is-bracketed-reads
 use Rattle.proof_term_display.proofs.is_body_bracketed.Reads as is-body-bracketed-reads
@@ -36,43 +37,43 @@ use Rattle.proof_term_display.proofs.put_bracket.Reads as put-bracket-r
 use Rattle.proof_term_display.proofs.unascribed.Reads as unascribed-reads
 use Rattle.proof_term_display.proofs.put_label.Reads as put-label-reads
 use Rattle.proof_term_display.proofs.put_parameter_label.Reads as put-parameter-label-reads
-use Rattle.proof_term_display.proofs.+part+print_term+put_item.{statement}
-use Rattle.proof_term_display.proofs.+part+print_term+put_item.Tie.{close}
+use Rattle.proof_term_display.proofs.+part+print_node+put_item.{statement}
+use Rattle.proof_term_display.proofs.+part+print_node+put_item.Tie.{close}
 
-abbrev μ-part : Measures 6 part-kinds.ps ℕ
-μ-part κs a = 3 * (a .1 .1 .1 .0)
+abbrev μ-part : Measures 7 part-kinds.ps ℕ
+μ-part κs a = 3 * (a .1 .1 .1 .1 .0)
 
-abbrev μ-put-item : Measures 6 put-item-kinds.ps ℕ
-μ-put-item κs a = 3 * (a .1 .1 .1 .1 .0) + 1
+abbrev μ-put-item : Measures 7 put-item-kinds.ps ℕ
+μ-put-item κs a = 3 * (a .1 .1 .1 .1 .1 .0) + 1
 
-abbrev μ-print-term : Measures 6 print-term-kinds.ps ℕ
-μ-print-term κs a = 3 * (a .1 .1 .1 .0) + 2
+abbrev μ-print-node : Measures 7 print-node-kinds.ps ℕ
+μ-print-node κs a = 3 * (a .1 .1 .1 .1 .0) + 2
 
-abbrev Inv-loop : print-term-lts.InvT-loop
-Inv-loop out₀ to records n style code ends names pairs text write format at₀ i₀ out at i =
-    Underway style names code ends pairs text records n write out₀ to format out at i
+abbrev Inv-loop : print-node-lts.InvT-loop
+Inv-loop out₀ to formats records n style code ends names pairs text write kind at₀ i₀ out at i =
+    Underway style names code ends pairs text records n write out₀ to (getD formats kind []) out at i
 
-abbrev μ-loop : print-term-lts.MeasureT-loop
-μ-loop out₀ to records n style code ends names pairs text write format at₀ i₀ out at i = 32 - i
+abbrev μ-loop : print-node-lts.MeasureT-loop
+μ-loop out₀ to formats records n style code ends names pairs text write kind at₀ i₀ out at i = 32 - i
 
 module _ (t : ℕ) where
-  abbrev part-at : In 6 part-kinds.ps
-  part-at = and 6 part-kinds.ps (is 6 part-kinds.ps μ-part t) part.Pre
+  abbrev part-at : In 7 part-kinds.ps
+  part-at = and 7 part-kinds.ps (is 7 part-kinds.ps μ-part t) part.Pre
 
-  abbrev part-below : In 6 part-kinds.ps
-  part-below = and 6 part-kinds.ps (falls 6 part-kinds.ps _<_ μ-part t) part.Pre
+  abbrev part-below : In 7 part-kinds.ps
+  part-below = and 7 part-kinds.ps (falls 7 part-kinds.ps _<_ μ-part t) part.Pre
 
-  abbrev put-item-at : In 6 put-item-kinds.ps
-  put-item-at = and 6 put-item-kinds.ps (is 6 put-item-kinds.ps μ-put-item t) put-item.Pre
+  abbrev put-item-at : In 7 put-item-kinds.ps
+  put-item-at = and 7 put-item-kinds.ps (is 7 put-item-kinds.ps μ-put-item t) put-item.Pre
 
-  abbrev put-item-below : In 6 put-item-kinds.ps
-  put-item-below = and 6 put-item-kinds.ps (falls 6 put-item-kinds.ps _<_ μ-put-item t) put-item.Pre
+  abbrev put-item-below : In 7 put-item-kinds.ps
+  put-item-below = and 7 put-item-kinds.ps (falls 7 put-item-kinds.ps _<_ μ-put-item t) put-item.Pre
 
-  abbrev print-term-at : In 6 print-term-kinds.ps
-  print-term-at = and 6 print-term-kinds.ps (is 6 print-term-kinds.ps μ-print-term t) print-term.Pre
+  abbrev print-node-at : In 7 print-node-kinds.ps
+  print-node-at = and 7 print-node-kinds.ps (is 7 print-node-kinds.ps μ-print-node t) print-node.Pre
 
-  abbrev print-term-below : In 6 print-term-kinds.ps
-  print-term-below = and 6 print-term-kinds.ps (falls 6 print-term-kinds.ps _<_ μ-print-term t) print-term.Pre
+  abbrev print-node-below : In 7 print-node-kinds.ps
+  print-node-below = and 7 print-node-kinds.ps (falls 7 print-node-kinds.ps _<_ μ-print-node t) print-node.Pre
 
   abbrev part-claims : part-lts.Claims
   part-claims = (
@@ -88,8 +89,8 @@ module _ (t : ℕ) where
     is-body-bracketed-reads.Learnt,
     put-bracket-reads.Asked,
     put-bracket-reads.Learnt,
-    print-term-below,
-    print-term.Post,
+    print-node-below,
+    print-node.Post,
     put-ascription-reads.Asked,
     put-ascription-reads.Learnt,
   )
@@ -112,12 +113,10 @@ module _ (t : ℕ) where
     put-reads.Learnt,
   )
 
-  abbrev print-term-claims : print-term-lts.Claims
-  print-term-claims = (
+  abbrev print-node-claims : print-node-lts.Claims
+  print-node-claims = (
     kind-at-reads.Asked,
     kind-at-reads.Learnt,
-    format-of-reads.Asked,
-    format-of-reads.Learnt,
     put-item-below,
     put-item.Post,
   )
@@ -131,7 +130,7 @@ module _ (t : ℕ) where
   part-field-requires : part-lts.Need-field-requires part-claims part-at part.Post
   part-field-requires c κs =
       let start = c .before .before .before .before .before .before in
-      (start .pre .1 .1 .0 .held, part-field-below (start .args .k))
+      (start .pre .1 .1 .1 .0 .held, part-field-below (start .args .k))
 
   part-slice-aggregate-put-all : part-lts.Need-slice-aggregate-put-all part-claims part-at part.Post
   part-slice-aggregate-put-all c = refl
@@ -151,13 +150,13 @@ module _ (t : ℕ) where
   part-is-bracketed-requires : part-lts.Need-is-bracketed-requires part-claims part-at part.Post
   part-is-bracketed-requires c κs =
       let start = c .before .before .before .before .before .before .before .before in
-      (omega (arith, start .pre .1 .1 .0 .held), part-position-below (start .args .k))
+      (omega (arith, start .pre .1 .1 .1 .0 .held), part-position-below (start .args .k))
 
   part-unascribed-requires : part-lts.Need-unascribed-requires part-claims part-at part.Post
-  part-unascribed-requires c κs = omega (arith, c .before .before .before .before .before .before .before .before .before .pre .1 .1 .0 .held)
+  part-unascribed-requires c κs = omega (arith, c .before .before .before .before .before .before .before .before .before .pre .1 .1 .1 .0 .held)
 
   part-is-body-bracketed-requires : part-lts.Need-is-body-bracketed-requires part-claims part-at part.Post
-  part-is-body-bracketed-requires c κs = omega (arith, c .before .before .before .before .before .before .before .before .before .before .pre .1 .1 .0 .held, not-after (c .unascribed .ensures))
+  part-is-body-bracketed-requires c κs = omega (arith, c .before .before .before .before .before .before .before .before .before .before .pre .1 .1 .1 .0 .held, not-after (c .unascribed .ensures))
 
   part-put-bracket-requires : part-lts.Need-put-bracket-requires part-claims part-at part.Post
   part-put-bracket-requires c κs = tt
@@ -165,12 +164,12 @@ module _ (t : ℕ) where
   part-put-bracket-requires-2 : part-lts.Need-put-bracket-requires-2 part-claims part-at part.Post
   part-put-bracket-requires-2 c κs = tt
 
-  part-print-term-requires : part-lts.Need-print-term-requires part-claims part-at part.Post
-  part-print-term-requires c κs =
+  part-print-node-requires : part-lts.Need-print-node-requires part-claims part-at part.Post
+  part-print-node-requires c κs =
       let start = c .before .before .before .before .before .before .before .before .before .before .before .before .before .before .before .before .before .before .before .before in
       let which = c .before .before .before .before .before .before .before .before .before .before .unascribed .ensures in (
         omega (arith, not-after which),
-        body-printable which (printable-part (start .args .k) _ (c .before .before .before .before .before .before .before .before .before .before .before .before .before .field .ensures .0) (c .before .before .before .before .before .before .before .before .before .before .before .before .if1 .left) (start .pre .1 .1 .0) (start .pre .1 .1 .1)),
+        (start .pre .1 .1 .0, body-printable which (printable-part (start .args .k) _ (c .before .before .before .before .before .before .before .before .before .before .before .before .before .field .ensures .0) (c .before .before .before .before .before .before .before .before .before .before .before .before .if1 .left) (start .pre .1 .1 .1 .0) (start .pre .1 .1 .1 .1))),
       )
 
   part-put-bracket-requires-3 : part-lts.Need-put-bracket-requires-3 part-claims part-at part.Post
@@ -179,7 +178,7 @@ module _ (t : ℕ) where
   part-put-ascription-requires : part-lts.Need-put-ascription-requires part-claims part-at part.Post
   part-put-ascription-requires c κs =
       let start = c .before .before .before .before .before .before .before .before .before .before .before .before .before .before .before .before .before .before .before .before .before .before .before .before .before .before .before .before in
-      let number-printable = printable-part (start .args .k) _ (c .before .before .before .before .before .before .before .before .before .before .before .before .before .before .before .before .before .before .before .before .before .field .ensures .0) (c .before .before .before .before .before .before .before .before .before .before .before .before .before .before .before .before .before .before .before .before .if1 .left) (start .pre .1 .1 .0) (start .pre .1 .1 .1) in
+      let number-printable = printable-part (start .args .k) _ (c .before .before .before .before .before .before .before .before .before .before .before .before .before .before .before .before .before .before .before .before .before .field .ensures .0) (c .before .before .before .before .before .before .before .before .before .before .before .before .before .before .before .before .before .before .before .before .if1 .left) (start .pre .1 .1 .1 .0) (start .pre .1 .1 .1 .1) in
       (number-printable, label-printable (c .before .before .before .before .before .before .before .before .before .before .before .before .before .before .before .before .before .before .unascribed .ensures) number-printable)
 
   part-put-bracket-requires-4 : part-lts.Need-put-bracket-requires-4 part-claims part-at part.Post
@@ -190,7 +189,7 @@ module _ (t : ℕ) where
       part-written _ _ _ _ _ _ _ _ _ (c .before .before .before .before .before .before .before .before .before .before .before .before .before .before .before .before .before .before .before .before .before .before .before .before .before .before .before .before .field .ensures .0) (c .before .before .before .before .before .before .before .before .before .before .before .before .before .before .before .before .before .before .before .before .before .before .before .before .before .before .before .if1 .left) (c .before .before .before .before .before .before .before .before .before .before .before .before .before .before .before .before .before .before .before .before .before .before .before .before .before .unascribed .ensures) (c .before .before .before .before .before .before .before .before .before .before .before .before .before .before .before .before .before .before .before .before .before .before .before .before .before .before .is-bracketed .ensures _ _) (c .before .before .before .before .before .before .before .before .before .before .before .before .before .before .before .before .before .before .before .before .before .before .before .before .is-body-bracketed .ensures _ _)
       (c .before .before .before .before .before .before .before .before .before .before .before .before .before .before .before .before .before .before .before .before .before .before .put-bracket .ensures)
       (c .before .before .before .before .before .before .before .before .before .before .before .before .before .before .before .before .before .before .put-bracket2 .ensures)
-      (c .before .before .before .before .before .before .before .before .before .before .before .before .before .before .print-term .ensures)
+      (c .before .before .before .before .before .before .before .before .before .before .before .before .before .before .print-node .ensures)
       (c .before .before .before .before .before .before .before .before .before .before .put-bracket3 .ensures)
       (c .before .before .before .before .before .before .put-ascription .ensures)
       (c .before .before .put-bracket4 .ensures)
@@ -217,7 +216,7 @@ module _ (t : ℕ) where
   put-item-field-requires c κs =
       let start = c .before .before .before .before .before .before .before .before in
       let is-name = sym (c .before .is-between .ensures) ∙ c .if1 .taken in
-      (start .pre .1 .0 .held, omega (arith, between 49 (start .args .b) 53 is-name))
+      (start .pre .1 .1 .0 .held, omega (arith, between 49 (start .args .b) 53 is-name))
 
   put-item-put-name-requires : put-item-lts.Need-put-name-requires put-item-claims put-item-at put-item.Post
   unfolding ItemReady
@@ -225,8 +224,8 @@ module _ (t : ℕ) where
       let start = c .before .before .before .before .before .before .before .before .before .before in
       let is-name = sym (c .before .before .before .is-between .ensures) ∙ c .before .before .if1 .taken in
       let below : c .before .field .result < start .args .names =
-      rw (c .before .field .ensures .0) (rw (item-name (start .args .b) is-name) at (start .pre .1 .1)) in
-      let named = start .pre .1 .0 .named _ below in
+      rw (c .before .field .ensures .0) (rw (item-name (start .args .b) is-name) at (start .pre .1 .1 .1)) in
+      let named = start .pre .1 .1 .0 .named _ below in
       (named .there, named .within)
 
   put-item-returns : put-item-lts.Need-returns put-item-claims put-item-at put-item.Post
@@ -261,7 +260,7 @@ module _ (t : ℕ) where
         omega arith,
         (
           omega (arith, between 65 (start .args .b) 71 is-part),
-          (start .pre .1 .0, rw (item-part (start .args .b) no-name is-part) at (start .pre .1 .1)),
+          (start .pre .1 .0, (start .pre .1 .1 .0, rw (item-part (start .args .b) no-name is-part) at (start .pre .1 .1 .1))),
         ),
       )
 
@@ -278,7 +277,7 @@ module _ (t : ℕ) where
   unfolding ItemReady
   put-item-put-parameter-label-requires c κs =
       let start = c .before .before .before .before .before .before .before .before .before .before .before .before in
-      (start .pre .1 .0, rw (item-of-parameter (start .args .b) (c .before .if3 .taken)) at (start .pre .1 .1))
+      (start .pre .1 .1 .0, rw (item-of-parameter (start .args .b) (c .before .if3 .taken)) at (start .pre .1 .1 .1))
 
   put-item-returns-3 : put-item-lts.Need-returns-3 put-item-claims put-item-at put-item.Post
   unfolding itemText
@@ -291,7 +290,7 @@ module _ (t : ℕ) where
   unfolding ItemReady
   put-item-put-label-requires c κs =
       let start = c .before .before .before .before .before .before .before .before .before .before .before .before .before in
-      (start .pre .1 .0, rw (item-of-ascription (start .args .b) (c .before .if4 .taken)) at (start .pre .1 .1))
+      (start .pre .1 .1 .0, rw (item-of-ascription (start .args .b) (c .before .if4 .taken)) at (start .pre .1 .1 .1))
 
   put-item-returns-4 : put-item-lts.Need-returns-4 put-item-claims put-item-at put-item.Post
   unfolding itemText
@@ -314,50 +313,52 @@ module _ (t : ℕ) where
   put-item-same-length-5 : put-item-lts.Need-same-length-5 put-item-claims put-item-at put-item.Post
   put-item-same-length-5 c = same-length (put-item-returns-5 c)
 
-  print-term-kind-at-requires : print-term-lts.Need-kind-at-requires print-term-claims print-term-at print-term.Post Inv-loop μ-loop
-  print-term-kind-at-requires c κs = c .before .before .before .before .before .before .pre .1 .held
+  print-node-kind-at-requires : print-node-lts.Need-kind-at-requires print-node-claims print-node-at print-node.Post Inv-loop μ-loop
+  print-node-kind-at-requires c κs = c .before .before .before .before .before .before .pre .1 .1 .held
 
-  print-term-format-of-requires : print-term-lts.Need-format-of-requires print-term-claims print-term-at print-term.Post Inv-loop μ-loop
-  print-term-format-of-requires c κs = c .kind-at .ensures .known
+  print-node-loop-holds : print-node-lts.Need-loop-holds print-node-claims print-node-at print-node.Post Inv-loop μ-loop
+  print-node-loop-holds c =
+      let entry = c .before .before .before .before .before .before .before .pre in
+      start _ _ _ _ _ _ _ _ (entry .1 .1) (c .kind-at .ensures) (entry .1 .0)
 
-  print-term-loop-holds : print-term-lts.Need-loop-holds print-term-claims print-term-at print-term.Post Inv-loop μ-loop
-  print-term-loop-holds c =
-      start _ _ _ _ _ _ _ _ (c .before .before .before .before .before .before .before .before .pre .1) (c .before .kind-at .ensures) (c .format-of .ensures .0) (c .format-of .ensures .1)
+  print-node-mul-b : print-node-lts.Need-mul-b print-node-claims print-node-at print-node.Post Inv-loop μ-loop
+  print-node-mul-b c = let known = c .before .before .kind-at .ensures .known in omega arith
 
-  print-term-array-read-b : print-term-lts.Need-array-read-b print-term-claims print-term-at print-term.Post Inv-loop μ-loop
-  print-term-array-read-b c = c .loop-test .taken
+  print-node-index-1-b : print-node-lts.Need-index-1-b print-node-claims print-node-at print-node.Post Inv-loop μ-loop
+  print-node-index-1-b c = c .before .before .kind-at .ensures .known
 
-  print-term-returns : print-term-lts.Need-returns print-term-claims print-term-at print-term.Post Inv-loop μ-loop
-  print-term-returns c = ends-here _ _ _ _ _ _ _ _ (c .before .before .loop .inv) (c .if1 .taken) (c .before .loop-test .taken)
+  print-node-index-2-b : print-node-lts.Need-index-2-b print-node-claims print-node-at print-node.Post Inv-loop μ-loop
+  print-node-index-2-b c = c .loop-test .taken
 
-  print-term-same-length : print-term-lts.Need-same-length print-term-claims print-term-at print-term.Post Inv-loop μ-loop
-  print-term-same-length c = same-length (print-term-returns c)
+  print-node-returns : print-node-lts.Need-returns print-node-claims print-node-at print-node.Post Inv-loop μ-loop
+  print-node-returns c = ends-here _ _ _ _ _ _ _ _ (c .before .before .before .loop .inv) (c .if1 .taken) (c .before .before .loop-test .taken)
 
-  print-term-put-item-requires : print-term-lts.Need-put-item-requires print-term-claims print-term-at print-term.Post Inv-loop μ-loop
-  print-term-put-item-requires c κs = (
+  print-node-same-length : print-node-lts.Need-same-length print-node-claims print-node-at print-node.Post Inv-loop μ-loop
+  print-node-same-length c = same-length (print-node-returns c)
+
+  print-node-put-item-requires : print-node-lts.Need-put-item-requires print-node-claims print-node-at print-node.Post Inv-loop μ-loop
+  print-node-put-item-requires c κs = (
     omega arith,
-    (c .before .before .before .before .before .before .before .before .before .before .before .before .pre .1, item-ready _ _ _ _ _ _ _ _ (c .before .before .before .loop .inv) (c .before .before .loop-test .taken) (c .before .if1 .left)),
+    (c .before .before .before .before .before .before .before .before .before .before .before .before .pre .1 .0, (c .before .before .before .before .before .before .before .before .before .before .before .before .pre .1 .1, item-ready _ _ _ _ _ _ _ _ (c .before .before .before .before .loop .inv) (c .before .before .before .loop-test .taken) (c .before .if1 .left))),
   )
 
-  print-term-add-i : print-term-lts.Need-add-i print-term-claims print-term-at print-term.Post Inv-loop μ-loop
-  print-term-add-i c = omega arith
+  print-node-add-i : print-node-lts.Need-add-i print-node-claims print-node-at print-node.Post Inv-loop μ-loop
+  print-node-add-i c = omega arith
 
-  print-term-loop-less : print-term-lts.Need-loop-less print-term-claims print-term-at print-term.Post Inv-loop μ-loop
-  print-term-loop-less c = omega arith
+  print-node-loop-less : print-node-lts.Need-loop-less print-node-claims print-node-at print-node.Post Inv-loop μ-loop
+  print-node-loop-less c = omega arith
 
-  print-term-loop-again : print-term-lts.Need-loop-again print-term-claims print-term-at print-term.Post Inv-loop μ-loop
-  print-term-loop-again c =
-      goes-on _ _ _ _ _ _ _ _ (c .before .before .before .before .before .before .loop .inv) (c .before .before .before .before .before .loop-test .taken) (c .before .before .before .before .if1 .left)
-      (c .before .before .put-item .ensures)
+  print-node-loop-again : print-node-lts.Need-loop-again print-node-claims print-node-at print-node.Post Inv-loop μ-loop
+  print-node-loop-again c = goes-on _ _ _ _ _ _ _ _ (c .before .before .before .before .before .before .before .loop .inv) (c .before .before .before .before .before .before .loop-test .taken) (c .before .before .before .before .if1 .left) (c .before .before .put-item .ensures)
 
-  print-term-returns-2 : print-term-lts.Need-returns-2 print-term-claims print-term-at print-term.Post Inv-loop μ-loop
-  print-term-returns-2 c = ends-past _ _ _ _ _ _ _ _ (c .before .loop .inv) (c .loop-test .left)
+  print-node-returns-2 : print-node-lts.Need-returns-2 print-node-claims print-node-at print-node.Post Inv-loop μ-loop
+  print-node-returns-2 c = ends-past _ _ _ _ _ _ _ _ (c .before .loop .inv) (c .loop-test .left)
 
-  print-term-same-length-2 : print-term-lts.Need-same-length-2 print-term-claims print-term-at print-term.Post Inv-loop μ-loop
-  print-term-same-length-2 c = same-length (print-term-returns-2 c)
+  print-node-same-length-2 : print-node-lts.Need-same-length-2 print-node-claims print-node-at print-node.Post Inv-loop μ-loop
+  print-node-same-length-2 c = same-length (print-node-returns-2 c)
 
-pub +part+print-term+put-item-spec : {M : Type 1} → statement M
-+part+print-term+put-item-spec = close μ-part μ-print-term μ-put-item (λ t. part-lts.spec (part-claims t)
+pub +part+print-node+put-item-spec : {M : Type 1} → statement M
++part+print-node+put-item-spec = close μ-part μ-print-node μ-put-item (λ t. part-lts.spec (part-claims t)
     (part-at t)
     part.Post
     (part-array-read-field t)
@@ -373,29 +374,30 @@ pub +part+print-term+put-item-spec : {M : Type 1} → statement M
     (part-is-body-bracketed-requires t)
     (part-put-bracket-requires t)
     (part-put-bracket-requires-2 t)
-    (part-print-term-requires t)
+    (part-print-node-requires t)
     (part-put-bracket-requires-3 t)
     (part-put-ascription-requires t)
     (part-put-bracket-requires-4 t)
     (part-same-length-2 t)
     (part-returns-2 t))
-    (λ t. print-term-lts.spec (print-term-claims t)
-    (print-term-at t)
-    print-term.Post
+    (λ t. print-node-lts.spec (print-node-claims t)
+    (print-node-at t)
+    print-node.Post
     Inv-loop
     μ-loop
-    (print-term-kind-at-requires t)
-    (print-term-format-of-requires t)
-    (print-term-loop-holds t)
-    (print-term-array-read-b t)
-    (print-term-same-length t)
-    (print-term-returns t)
-    (print-term-put-item-requires t)
-    (print-term-add-i t)
-    (print-term-loop-less t)
-    (print-term-loop-again t)
-    (print-term-same-length-2 t)
-    (print-term-returns-2 t))
+    (print-node-kind-at-requires t)
+    (print-node-loop-holds t)
+    (print-node-mul-b t)
+    (print-node-index-1-b t)
+    (print-node-index-2-b t)
+    (print-node-same-length t)
+    (print-node-returns t)
+    (print-node-put-item-requires t)
+    (print-node-add-i t)
+    (print-node-loop-less t)
+    (print-node-loop-again t)
+    (print-node-same-length-2 t)
+    (print-node-returns-2 t))
     λ t. put-item-lts.spec (put-item-claims t)
     (put-item-at t)
     put-item.Post
