@@ -10,7 +10,6 @@ use prop::print;
 ghost use mathlib.Core.Path.{_≡_};
 ghost use mathlib.Core.Bool.{_&&_};
 ghost use mathlib.Core.Option.{none};
-ghost use mathlib.Core.List.{[]};
 ghost use Prim.Native.Nat.{ℕ, _+_, _*_, _≤_, _<_};
 ghost use lib.ListN.{length, getD};
 ghost use lib.Dec.{leb};
@@ -115,51 +114,50 @@ fn row_of(style: Style) -> usize
     }
 }
 
-// Whether a part is bracketed in a position, by the style and its form: closed, call, function, block, ascription.
-fn brackets_of(position: u8) -> [[bool; 5]; 2]
-    requires { ⌜ position < 5 ⌝ }
-    ensures { λ r. ⌜ r ≡ getD bracketTable position [] ⌝ }
-{
-    match position {
-        FUNCTION_OF => [
-            [false, false, true, false, true], // the function of an application, plain
-            [false, false, true, true, true], // the function of an application, strict
-        ],
-        ARGUMENT_OF => [
-            [false, true, true, false, true], // its argument, plain
-            [false, true, true, false, true], // its argument, strict
-        ],
-        BODY_OF => [
-            [false, true, true, true, true], // the body of a named function, plain
-            [false, true, true, true, true], // the body of a named function, strict
-        ],
-        ASCRIBED_BY => [
-            [false, false, true, true, true], // the body of an ascription, plain
-            [false, false, true, true, true], // the body of an ascription, strict
-        ],
-        _ => [
-            [false, false, false, false, false], // elsewhere, plain
-            [false, false, false, false, false], // elsewhere, strict
-        ],
-    }
-}
+// Whether a part is bracketed, by its position, the style and its form: closed, call, function, block, ascription.
+type Brackets = [[[bool; 5]; 2]; 5];
 
-// Whether the term of record `n` is bracketed in a position.
-fn is_bracketed(records: &[u16], n: usize, position: u8, style: Style) -> bool
+const BRACKETS: Brackets = [
+    [
+        [false, false, true, false, true], // the function of an application, plain
+        [false, false, true, true, true], // the function of an application, strict
+    ],
+    [
+        [false, true, true, false, true], // its argument, plain
+        [false, true, true, false, true], // its argument, strict
+    ],
+    [
+        [false, true, true, true, true], // the body of a named function, plain
+        [false, true, true, true, true], // the body of a named function, strict
+    ],
+    [
+        [false, false, true, true, true], // the body of an ascription, plain
+        [false, false, true, true, true], // the body of an ascription, strict
+    ],
+    [
+        [false, false, false, false, false], // elsewhere, plain
+        [false, false, false, false, false], // elsewhere, strict
+    ],
+];
+
+// Whether the term of record `n` is bracketed in a position, by the table that is lent.
+fn is_bracketed(brackets: &Brackets, records: &[u16], n: usize, position: u8, style: Style) -> bool
+    requires { ⌜ now brackets ≡ bracketTable ⌝ }
     requires { ⌜ (recordSize * (n + 1) ≤ length (now records)) × (position < 5) ⌝ }
     ensures { λ r. ⌜ ((f : ℕ → Name) (props : ℕ → Prop ℕ) →
         r ≡ isBracketed (getD positions position none) style (form (renameTerm f (termAt props (now (records .entry)) n)))) ⌝ }
 {
     let row = row_of(style);
     let column = form_of(kind_at(records, n));
-    let rows = brackets_of(position);
-    rows[row][column]
+    brackets[position as usize][row][column]
 }
 
 // The format of each kind, up to the full stop. A digit stands for the name in that number of the record. A, B and C stand for its
 // parts, D for the body of a named function, E for that of an ascription, F and G for the function and the argument of an
 // application, L for the label of a parameter, if it has one, and M for that of an ascription.
-const FORMATS: [[u8; 32]; 14] = [
+type Formats = [[u8; 32]; 14];
+
+const FORMATS: Formats = [
     *b"1...............................", // a name
     *b"(A, B)..........................",
     *b"fst D...........................",
@@ -265,14 +263,21 @@ fn unascribed(records: &[u16], n: usize) -> usize
 }
 
 // Whether the body of an ascription is bracketed.
-fn is_body_bracketed(records: &[u16], n: usize, body: usize, style: Style) -> bool
+fn is_body_bracketed(
+    brackets: &Brackets,
+    records: &[u16],
+    n: usize,
+    body: usize,
+    style: Style,
+) -> bool
+    requires { ⌜ now brackets ≡ bracketTable ⌝ }
     requires { ⌜ recordSize * (body + 1) ≤ length (now records) ⌝ }
     ensures { λ r. ⌜ ((f : ℕ → Name) (props : ℕ → Prop ℕ) → r ≡ bodyBracketed f props (now (records .entry)) n body style) ⌝ }
 {
     if body == n {
         return false;
     }
-    is_bracketed(records, body, ASCRIBED_BY, style)
+    is_bracketed(brackets, records, body, ASCRIBED_BY, style)
 }
 
 // What stands after the body of an ascription: a colon and its label.
@@ -316,7 +321,8 @@ fn put_ascription(
 fn part(
     out: &mut [u8],
     to: usize,
-    formats: &[[u8; 32]; 14],
+    formats: &Formats,
+    brackets: &Brackets,
     records: &[u16],
     n: usize,
     k: usize,
@@ -329,7 +335,7 @@ fn part(
     write: bool,
 ) -> usize
     requires { ⌜ k < 7 ⌝ }
-    requires { ⌜ FormatTable (now formats) ⌝ }
+    requires { ⌜ FormatTable (now formats) × (now brackets ≡ bracketTable) ⌝ }
     requires { ⌜ PrintableTerm (now records) n names (now code) (now ends) (now pairs) (now text) ⌝ }
     requires { ⌜ ItemReady names (now code) (now ends) (now records) n (part k) ⌝ }
     ensures { λ r. ⌜ Wrote (recordItem style names (now (code .entry)) (now (pairs .entry)) (now (text .entry)) (now (records .entry)) n (part k))
@@ -339,15 +345,16 @@ fn part(
     if n <= number {
         return put_all(out, to, b"()", write);
     }
-    let bracketed = is_bracketed(records, number, PART_POSITIONS[k], style);
+    let bracketed = is_bracketed(brackets, records, number, PART_POSITIONS[k], style);
     let body = unascribed(records, number);
-    let inner = is_body_bracketed(records, number, body, style);
+    let inner = is_body_bracketed(brackets, records, number, body, style);
     let open = put_bracket(out, to, b'(', bracketed, write);
     let start = put_bracket(out, open, b'(', inner, write);
     let end = print_node(
         out,
         start,
         formats,
+        brackets,
         records,
         body,
         style,
@@ -390,7 +397,8 @@ fn put_item(
     out: &mut [u8],
     to: usize,
     b: u8,
-    formats: &[[u8; 32]; 14],
+    formats: &Formats,
+    brackets: &Brackets,
     records: &[u16],
     n: usize,
     style: Style,
@@ -401,7 +409,7 @@ fn put_item(
     text: &[u8],
     write: bool,
 ) -> usize
-    requires { ⌜ FormatTable (now formats) ⌝ }
+    requires { ⌜ FormatTable (now formats) × (now brackets ≡ bracketTable) ⌝ }
     requires { ⌜ PrintableTerm (now records) n names (now code) (now ends) (now pairs) (now text) ⌝ }
     requires { ⌜ ItemReady names (now code) (now ends) (now records) n (itemOf b) ⌝ }
     ensures { λ r. ⌜ Wrote (recordItem style names (now (code .entry)) (now (pairs .entry)) (now (text .entry)) (now (records .entry)) n (itemOf b))
@@ -417,6 +425,7 @@ fn put_item(
             out,
             to,
             formats,
+            brackets,
             records,
             n,
             k,
@@ -442,7 +451,8 @@ fn put_item(
 fn print_node(
     out: &mut [u8],
     to: usize,
-    formats: &[[u8; 32]; 14],
+    formats: &Formats,
+    brackets: &Brackets,
     records: &[u16],
     n: usize,
     style: Style,
@@ -453,7 +463,7 @@ fn print_node(
     text: &[u8],
     write: bool,
 ) -> usize
-    requires { ⌜ FormatTable (now formats) ⌝ }
+    requires { ⌜ FormatTable (now formats) × (now brackets ≡ bracketTable) ⌝ }
     requires { ⌜ PrintableTerm (now records) n names (now code) (now ends) (now pairs) (now text) ⌝ }
     ensures { λ r. ⌜ Wrote (displayTerm style (renameTerm (marked (now (pairs .entry)) (now (text .entry)))
         (termAt (propAt names (now (code .entry))) (now (records .entry)) n))) write (now (out .entry)) to (now (out .exit)) r ⌝ }
@@ -471,6 +481,7 @@ fn print_node(
             at,
             b,
             formats,
+            brackets,
             records,
             n,
             style,
@@ -505,10 +516,12 @@ pub fn print_term(
         (termAt (propAt names (now (code .entry))) (now (records .entry)) n))) write (now (out .entry)) to (now (out .exit)) r ⌝ }
 {
     let formats = FORMATS;
+    let brackets = BRACKETS;
     print_node(
         out,
         to,
         &formats,
+        &brackets,
         records,
         n,
         style,

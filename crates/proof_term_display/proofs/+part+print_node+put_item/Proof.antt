@@ -40,40 +40,40 @@ use Rattle.proof_term_display.proofs.put_parameter_label.Reads as put-p
 use Rattle.proof_term_display.proofs.+part+print_node+put_item.{statement}
 use Rattle.proof_term_display.proofs.+part+print_node+put_item.Tie.{close}
 
-abbrev μ-part : Measures 7 part-kinds.ps ℕ
-μ-part κs a = 3 * (a .1 .1 .1 .1 .0)
+abbrev μ-part : Measures 8 part-kinds.ps ℕ
+μ-part κs a = 3 * (a .1 .1 .1 .1 .1 .0)
 
-abbrev μ-put-item : Measures 7 put-item-kinds.ps ℕ
-μ-put-item κs a = 3 * (a .1 .1 .1 .1 .1 .0) + 1
+abbrev μ-put-item : Measures 8 put-item-kinds.ps ℕ
+μ-put-item κs a = 3 * (a .1 .1 .1 .1 .1 .1 .0) + 1
 
-abbrev μ-print-node : Measures 7 print-node-kinds.ps ℕ
-μ-print-node κs a = 3 * (a .1 .1 .1 .1 .0) + 2
+abbrev μ-print-node : Measures 8 print-node-kinds.ps ℕ
+μ-print-node κs a = 3 * (a .1 .1 .1 .1 .1 .0) + 2
 
 abbrev Inv-loop : print-node-lts.InvT-loop
-Inv-loop out₀ to formats records n style code ends names pairs text write kind at₀ i₀ out at i =
+Inv-loop out₀ to formats brackets records n style code ends names pairs text write kind at₀ i₀ out at i =
     Underway style names code ends pairs text records n write out₀ to (getD formats kind []) out at i
 
 abbrev μ-loop : print-node-lts.MeasureT-loop
-μ-loop out₀ to formats records n style code ends names pairs text write kind at₀ i₀ out at i = 32 - i
+μ-loop out₀ to formats brackets records n style code ends names pairs text write kind at₀ i₀ out at i = 32 - i
 
 module _ (t : ℕ) where
-  abbrev part-at : In 7 part-kinds.ps
-  part-at = and 7 part-kinds.ps (is 7 part-kinds.ps μ-part t) part.Pre
+  abbrev part-at : In 8 part-kinds.ps
+  part-at = and 8 part-kinds.ps (is 8 part-kinds.ps μ-part t) part.Pre
 
-  abbrev part-below : In 7 part-kinds.ps
-  part-below = and 7 part-kinds.ps (falls 7 part-kinds.ps _<_ μ-part t) part.Pre
+  abbrev part-below : In 8 part-kinds.ps
+  part-below = and 8 part-kinds.ps (falls 8 part-kinds.ps _<_ μ-part t) part.Pre
 
-  abbrev put-item-at : In 7 put-item-kinds.ps
-  put-item-at = and 7 put-item-kinds.ps (is 7 put-item-kinds.ps μ-put-item t) put-item.Pre
+  abbrev put-item-at : In 8 put-item-kinds.ps
+  put-item-at = and 8 put-item-kinds.ps (is 8 put-item-kinds.ps μ-put-item t) put-item.Pre
 
-  abbrev put-item-below : In 7 put-item-kinds.ps
-  put-item-below = and 7 put-item-kinds.ps (falls 7 put-item-kinds.ps _<_ μ-put-item t) put-item.Pre
+  abbrev put-item-below : In 8 put-item-kinds.ps
+  put-item-below = and 8 put-item-kinds.ps (falls 8 put-item-kinds.ps _<_ μ-put-item t) put-item.Pre
 
-  abbrev print-node-at : In 7 print-node-kinds.ps
-  print-node-at = and 7 print-node-kinds.ps (is 7 print-node-kinds.ps μ-print-node t) print-node.Pre
+  abbrev print-node-at : In 8 print-node-kinds.ps
+  print-node-at = and 8 print-node-kinds.ps (is 8 print-node-kinds.ps μ-print-node t) print-node.Pre
 
-  abbrev print-node-below : In 7 print-node-kinds.ps
-  print-node-below = and 7 print-node-kinds.ps (falls 7 print-node-kinds.ps _<_ μ-print-node t) print-node.Pre
+  abbrev print-node-below : In 8 print-node-kinds.ps
+  print-node-below = and 8 print-node-kinds.ps (falls 8 print-node-kinds.ps _<_ μ-print-node t) print-node.Pre
 
   abbrev part-claims : part-lts.Claims
   part-claims = (
@@ -150,13 +150,15 @@ module _ (t : ℕ) where
   part-is-bracketed-requires : part-lts.Need-is-bracketed-requires part-claims part-at part.Post
   part-is-bracketed-requires c κs =
       let start = c .before .before .before .before .before .before .before .before in
-      (omega (arith, start .pre .1 .1 .1 .0 .held), part-position-below (start .args .k))
+      (start .pre .1 .1 .0 .1, (omega (arith, start .pre .1 .1 .1 .0 .held), part-position-below (start .args .k)))
 
   part-unascribed-requires : part-lts.Need-unascribed-requires part-claims part-at part.Post
   part-unascribed-requires c κs = omega (arith, c .before .before .before .before .before .before .before .before .before .pre .1 .1 .1 .0 .held)
 
   part-is-body-bracketed-requires : part-lts.Need-is-body-bracketed-requires part-claims part-at part.Post
-  part-is-body-bracketed-requires c κs = omega (arith, c .before .before .before .before .before .before .before .before .before .before .pre .1 .1 .1 .0 .held, not-after (c .unascribed .ensures))
+  part-is-body-bracketed-requires c κs =
+      let start = c .before .before .before .before .before .before .before .before .before .before in
+      (start .pre .1 .1 .0 .1, omega (arith, start .pre .1 .1 .1 .0 .held, not-after (c .unascribed .ensures)))
 
   part-put-bracket-requires : part-lts.Need-put-bracket-requires part-claims part-at part.Post
   part-put-bracket-requires c κs = tt
@@ -319,7 +321,7 @@ module _ (t : ℕ) where
   print-node-loop-holds : print-node-lts.Need-loop-holds print-node-claims print-node-at print-node.Post Inv-loop μ-loop
   print-node-loop-holds c =
       let entry = c .before .before .before .before .before .before .before .pre in
-      start _ _ _ _ _ _ _ _ (entry .1 .1) (c .kind-at .ensures) (entry .1 .0)
+      start _ _ _ _ _ _ _ _ (entry .1 .1) (c .kind-at .ensures) (entry .1 .0 .0)
 
   print-node-mul-b : print-node-lts.Need-mul-b print-node-claims print-node-at print-node.Post Inv-loop μ-loop
   print-node-mul-b c = let known = c .before .before .kind-at .ensures .known in omega arith
