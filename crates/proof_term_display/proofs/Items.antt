@@ -8,7 +8,7 @@ use native.Mathlib.Omega.{arith}
 use lib.ListN.{length, getD, drop, drop-of-length-le}
 use lib.Dec.{leb}
 use lib.Seq.{drop-cons}
-use borrow.Author.Tests.{ne-eqb, leb-true}
+use borrow.Author.Tests.{ne-eqb, leb-true, le-leb}
 use Rattle.proof_term_display.specs.Format.{name, part, fixed, ofParameter, ofAscription, itemOf, items}
 
 module _ (format : List ℕ) (i : ℕ) where
@@ -32,6 +32,20 @@ both false b e = absurd (let z : _≡_ {A = ℕ} 0 1 = cc in omega arith)
 pub between : (first b last : ℕ) → leb first b && leb b last ≡ true → (first ≤ b) × (b ≤ last)
 between first b last e = let h = both (leb first b) (leb b last) e in (leb-true first b (h .0), leb-true b last (h .1))
 
+-- and one that is not
+not-both : (a b : Bool) → (a ≡ true → b ≡ true → ⊥) → a && b ≡ false
+not-both true true h = absurd (h refl refl)
+not-both true false h = refl
+not-both false b h = refl
+
+not-between : (first b last : ℕ) → (first ≤ b → b ≤ last → ⊥) → leb first b && leb b last ≡ false
+not-between first b last h = not-both (leb first b) (leb b last) (λ e f. h (leb-true first b e) (leb-true b last f))
+
+outside : (first b last : ℕ) → leb first b && leb b last ≡ false → first ≤ b → b ≤ last → ⊥
+outside first b last e h k =
+    let z : _≡_ {A = Bool} true false = rw (le-leb first b h, le-leb b last k) at e in
+    let n : _≡_ {A = ℕ} 0 1 = cc in omega arith
+
 -- The item of a byte, by the tests that tell it:
 module _ (b : ℕ) where
   pub item-name : leb 49 b && leb b 53 ≡ true → itemOf b ≡ name (b - 48)
@@ -54,3 +68,9 @@ module _ (b : ℕ) where
     pub item-fixed : leb 65 b && leb b 71 ≡ false → (b ≡ 76 → ⊥) → (b ≡ 77 → ⊥) → itemOf b ≡ fixed b
     unfolding itemOf
     item-fixed no-part h k = rw (no-name, no-part, ne-eqb b 76 h, ne-eqb b 77 k)
+
+  pub item-outside : leb 49 b && leb b 77 ≡ false → itemOf b ≡ fixed b
+  item-outside e =
+      let past = outside 49 b 77 e in
+      item-fixed (not-between 49 b 53 (λ h k. past h (omega arith))) (not-between 65 b 71 (λ h k. past (omega arith) (omega arith)))
+      (λ h. past (omega arith) (omega arith)) (λ h. past (omega arith) (omega arith))

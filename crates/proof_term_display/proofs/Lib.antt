@@ -1,4 +1,3 @@
-mod Arms
 pub mod Tables
 pub mod Labels
 pub mod Items

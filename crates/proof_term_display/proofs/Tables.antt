@@ -79,6 +79,9 @@ bracket-rule p row k s f hp hr styled formed =
 abbrev formTable : List ℕ
 formTable = 0 ∷ 0 ∷ 1 ∷ 1 ∷ 2 ∷ 1 ∷ 3 ∷ 1 ∷ 1 ∷ 3 ∷ 1 ∷ 4 ∷ 0 ∷ 0 ∷ []
 
+pub form-below : (kind : ℕ) → getD formTable kind 0 < 5
+form-below kind = omega (arith, entry-below formTable kind)
+
 form-rule :
     (f : ℕ → Name) (props : ℕ → Prop ℕ) (term : ℕ → ProofTerm ℕ) (kind a b c d e : ℕ) →
     getD formTable kind 0 ≡ column (form (renameTerm f (recordTerm props term kind a b c d e)))

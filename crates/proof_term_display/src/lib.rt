@@ -32,15 +32,15 @@ ghost use Rattle.proof_term_display.specs.Item.{KindAt, LabelReady, Item
 const KINDS: usize = 14;
 
 // The forms of terms, as far as brackets go.
-const CLOSED: usize = 0;
+const CLOSED: u8 = 0;
 
-const CALL: usize = 1;
+const CALL: u8 = 1;
 
-const FUNCTION: usize = 2;
+const FUNCTION: u8 = 2;
 
-const BLOCK: usize = 3;
+const BLOCK: u8 = 3;
 
-const ASCRIPTION: usize = 4;
+const ASCRIPTION: u8 = 4;
 
 // The positions of parts.
 const FUNCTION_OF: u8 = 0;
@@ -80,28 +80,31 @@ fn kind_at(records: &[u16], n: usize) -> usize
     proof_term::UNIT
 }
 
+// The form of each kind of term.
+const FORMS: [u8; 14] = [
+    CLOSED,
+    CLOSED,
+    CALL,
+    CALL,
+    FUNCTION,
+    CALL,
+    BLOCK,
+    CALL,
+    CALL,
+    BLOCK,
+    CALL,
+    ASCRIPTION,
+    CLOSED,
+    CLOSED,
+];
+
 // The form of a term by its record's kind.
 fn form_of(kind: usize) -> usize
     requires { ⌜ kind < 14 ⌝ }
     ensures { λ r. ⌜ ((f : ℕ → Name) (props : ℕ → Prop ℕ) (term : ℕ → ProofTerm ℕ) (a b c d e : ℕ) →
         r ≡ column (form (renameTerm f (recordTerm props term kind a b c d e)))) ⌝ }
 {
-    match kind {
-        proof_term::IDENT => CLOSED,
-        proof_term::PAIR => CLOSED,
-        proof_term::PROJECT_FST => CALL,
-        proof_term::PROJECT_SND => CALL,
-        proof_term::FUNCTION => FUNCTION,
-        proof_term::APPLICATION => CALL,
-        proof_term::LET_IN => BLOCK,
-        proof_term::OR_LEFT => CALL,
-        proof_term::OR_RIGHT => CALL,
-        proof_term::CASE => BLOCK,
-        proof_term::ABORT => CALL,
-        proof_term::TYPE_ASCRIPTION => ASCRIPTION,
-        proof_term::UNIT => CLOSED,
-        _ => CLOSED,
-    }
+    FORMS[kind] as usize
 }
 
 // The row of a style in the table of brackets.
@@ -415,6 +418,9 @@ fn put_item(
     ensures { λ r. ⌜ Wrote (recordItem style names (now (code .entry)) (now (pairs .entry)) (now (text .entry)) (now (records .entry)) n (itemOf b))
         write (now (out .entry)) to (now (out .exit)) r ⌝ }
 {
+    if !is_between(b, b'1', b'M') {
+        return put(out, to, b, write);
+    }
     if is_between(b, b'1', b'5') {
         let name = field(records, n, (b - b'0') as usize);
         return put_name(out, to, pairs, text, name, write);

@@ -5,13 +5,14 @@ use mathlib.Core.Path.{refl, sym, _∙_}
 use mathlib.Core.List.{[]}
 use native.Mathlib.Omega.{arith}
 use lib.ListN.{getD}
+use borrow.Author.Tests.{not-true}
 use borrow.Fn.Kinds.{In}
 use borrow.Fn.PlainCycle.{Measures, is, falls, and}
 use Rattle.output.proofs.Writing.{then, same-length}
 use Rattle.proof_term_display.specs.Format.{itemText}
 use Rattle.proof_term_display.specs.Item.{ItemReady}
 use Rattle.proof_term_display.proofs.Tables.{part-field-below, part-position-below}
-use Rattle.proof_term_display.proofs.Items.{between, item-name, item-part, item-of-parameter, item-of-ascription, item-fixed}
+use Rattle.proof_term_display.proofs.Items.{between, item-outside, item-name, item-part, item-of-parameter, item-of-ascription, item-fixed}
 use Rattle.proof_term_display.proofs.Progress.{Underway, start, ends-here, ends-past, item-ready, goes-on}
 use Rattle.proof_term_display.proofs.Parts.{unit-text, printable-part}
 use Rattle.proof_term_display.proofs.Ascriptions.{not-after, body-printable, label-printable, part-written}
@@ -99,6 +100,8 @@ module _ (t : ℕ) where
   put-item-claims = (
     is-between-reads.Asked,
     is-between-reads.Learnt,
+    put-reads.Asked,
+    put-reads.Learnt,
     field-reads.Asked,
     field-reads.Learnt,
     put-name-reads.Asked,
@@ -109,8 +112,6 @@ module _ (t : ℕ) where
     put-parameter-label-reads.Learnt,
     put-label-reads.Asked,
     put-label-reads.Learnt,
-    put-reads.Asked,
-    put-reads.Learnt,
   )
 
   abbrev print-node-claims : print-node-lts.Claims
@@ -202,39 +203,12 @@ module _ (t : ℕ) where
   put-item-is-between-requires : put-item-lts.Need-is-between-requires put-item-claims put-item-at put-item.Post
   put-item-is-between-requires c κs = tt
 
-  put-item-sub-field : put-item-lts.Need-sub-field put-item-claims put-item-at put-item.Post
-  put-item-sub-field c =
-      let start = c .before .before .before .before .before .before .before .before in
-      let is-name = sym (c .before .is-between .ensures) ∙ c .if1 .taken in
-      omega (arith, between 49 (start .args .b) 53 is-name)
-
-  put-item-cast-field : put-item-lts.Need-cast-field put-item-claims put-item-at put-item.Post
-  put-item-cast-field c =
-      let start = c .before .before .before .before .before .before .before .before in
-      let is-name = sym (c .before .is-between .ensures) ∙ c .if1 .taken in
-      omega (arith, between 49 (start .args .b) 53 is-name)
-
-  put-item-field-requires : put-item-lts.Need-field-requires put-item-claims put-item-at put-item.Post
-  put-item-field-requires c κs =
-      let start = c .before .before .before .before .before .before .before .before in
-      let is-name = sym (c .before .is-between .ensures) ∙ c .if1 .taken in
-      (start .pre .1 .1 .0 .held, omega (arith, between 49 (start .args .b) 53 is-name))
-
-  put-item-put-name-requires : put-item-lts.Need-put-name-requires put-item-claims put-item-at put-item.Post
-  unfolding ItemReady
-  put-item-put-name-requires c κs =
-      let start = c .before .before .before .before .before .before .before .before .before .before in
-      let is-name = sym (c .before .before .before .is-between .ensures) ∙ c .before .before .if1 .taken in
-      let below : c .before .field .result < start .args .names =
-      rw (c .before .field .ensures .0) (rw (item-name (start .args .b) is-name) at (start .pre .1 .1 .1)) in
-      let named = start .pre .1 .1 .0 .named _ below in
-      (named .there, named .within)
+  put-item-put-requires : put-item-lts.Need-put-requires put-item-claims put-item-at put-item.Post
+  put-item-put-requires c κs = tt
 
   put-item-returns : put-item-lts.Need-returns put-item-claims put-item-at put-item.Post
   unfolding itemText
-  put-item-returns c =
-      let is-name = sym (c .before .before .before .before .before .before .is-between .ensures) ∙ c .before .before .before .before .before .if1 .taken in
-      rw (item-name _ is-name, ← c .before .before .before .before .field .ensures .0) (c .before .before .put-name .ensures)
+  put-item-returns c = rw (item-outside _ (sym (c .before .before .before .before .before .is-between .ensures) ∙ not-true _ (c .before .before .before .before .if1 .taken))) (c .before .before .put .ensures)
 
   put-item-same-length : put-item-lts.Need-same-length put-item-claims put-item-at put-item.Post
   put-item-same-length c = same-length (put-item-returns c)
@@ -242,23 +216,63 @@ module _ (t : ℕ) where
   put-item-is-between-requires-2 : put-item-lts.Need-is-between-requires-2 put-item-claims put-item-at put-item.Post
   put-item-is-between-requires-2 c κs = tt
 
+  put-item-sub-field : put-item-lts.Need-sub-field put-item-claims put-item-at put-item.Post
+  put-item-sub-field c =
+      let start = c .before .before .before .before .before .before .before .before .before .before in
+      let is-name = sym (c .before .is-between2 .ensures) ∙ c .if2 .taken in
+      omega (arith, between 49 (start .args .b) 53 is-name)
+
+  put-item-cast-field : put-item-lts.Need-cast-field put-item-claims put-item-at put-item.Post
+  put-item-cast-field c =
+      let start = c .before .before .before .before .before .before .before .before .before .before in
+      let is-name = sym (c .before .is-between2 .ensures) ∙ c .if2 .taken in
+      omega (arith, between 49 (start .args .b) 53 is-name)
+
+  put-item-field-requires : put-item-lts.Need-field-requires put-item-claims put-item-at put-item.Post
+  put-item-field-requires c κs =
+      let start = c .before .before .before .before .before .before .before .before .before .before in
+      let is-name = sym (c .before .is-between2 .ensures) ∙ c .if2 .taken in
+      (start .pre .1 .1 .0 .held, omega (arith, between 49 (start .args .b) 53 is-name))
+
+  put-item-put-name-requires : put-item-lts.Need-put-name-requires put-item-claims put-item-at put-item.Post
+  unfolding ItemReady
+  put-item-put-name-requires c κs =
+      let start = c .before .before .before .before .before .before .before .before .before .before .before .before in
+      let is-name = sym (c .before .before .before .is-between2 .ensures) ∙ c .before .before .if2 .taken in
+      let below : c .before .field .result < start .args .names =
+      rw (c .before .field .ensures .0) (rw (item-name (start .args .b) is-name) at (start .pre .1 .1 .1)) in
+      let named = start .pre .1 .1 .0 .named _ below in
+      (named .there, named .within)
+
+  put-item-returns-2 : put-item-lts.Need-returns-2 put-item-claims put-item-at put-item.Post
+  unfolding itemText
+  put-item-returns-2 c =
+      let is-name = sym (c .before .before .before .before .before .before .is-between2 .ensures) ∙ c .before .before .before .before .before .if2 .taken in
+      rw (item-name _ is-name, ← c .before .before .before .before .field .ensures .0) (c .before .before .put-name .ensures)
+
+  put-item-same-length-2 : put-item-lts.Need-same-length-2 put-item-claims put-item-at put-item.Post
+  put-item-same-length-2 c = same-length (put-item-returns-2 c)
+
+  put-item-is-between-requires-3 : put-item-lts.Need-is-between-requires-3 put-item-claims put-item-at put-item.Post
+  put-item-is-between-requires-3 c κs = tt
+
   put-item-sub-k : put-item-lts.Need-sub-k put-item-claims put-item-at put-item.Post
   put-item-sub-k c =
-      let start = c .before .before .before .before .before .before .before .before .before .before in
-      let is-part = sym (c .before .is-between2 .ensures) ∙ c .if2 .taken in
+      let start = c .before .before .before .before .before .before .before .before .before .before .before .before in
+      let is-part = sym (c .before .is-between3 .ensures) ∙ c .if3 .taken in
       omega (arith, between 65 (start .args .b) 71 is-part)
 
   put-item-cast-k : put-item-lts.Need-cast-k put-item-claims put-item-at put-item.Post
   put-item-cast-k c =
-      let start = c .before .before .before .before .before .before .before .before .before .before in
-      let is-part = sym (c .before .is-between2 .ensures) ∙ c .if2 .taken in
+      let start = c .before .before .before .before .before .before .before .before .before .before .before .before in
+      let is-part = sym (c .before .is-between3 .ensures) ∙ c .if3 .taken in
       omega (arith, between 65 (start .args .b) 71 is-part)
 
   put-item-part-requires : put-item-lts.Need-part-requires put-item-claims put-item-at put-item.Post
   put-item-part-requires c κs =
-      let start = c .before .before .before .before .before .before .before .before .before .before .before in
-      let no-name = sym (c .before .before .before .before .is-between .ensures) ∙ c .before .before .before .if1 .left in
-      let is-part = sym (c .before .before .is-between2 .ensures) ∙ c .before .if2 .taken in (
+      let start = c .before .before .before .before .before .before .before .before .before .before .before .before .before in
+      let no-name = sym (c .before .before .before .before .is-between2 .ensures) ∙ c .before .before .before .if2 .left in
+      let is-part = sym (c .before .before .is-between3 .ensures) ∙ c .before .if3 .taken in (
         omega arith,
         (
           omega (arith, between 65 (start .args .b) 71 is-part),
@@ -266,54 +280,54 @@ module _ (t : ℕ) where
         ),
       )
 
-  put-item-returns-2 : put-item-lts.Need-returns-2 put-item-claims put-item-at put-item.Post
-  put-item-returns-2 c =
-      let no-name = sym (c .before .before .before .before .before .before .before .is-between .ensures) ∙ c .before .before .before .before .before .before .if1 .left in
-      let is-part = sym (c .before .before .before .before .before .is-between2 .ensures) ∙ c .before .before .before .before .if2 .taken in
-      rw (item-part _ no-name is-part) (c .before .before .part .ensures)
-
-  put-item-same-length-2 : put-item-lts.Need-same-length-2 put-item-claims put-item-at put-item.Post
-  put-item-same-length-2 c = same-length (put-item-returns-2 c)
-
-  put-item-put-parameter-label-requires : put-item-lts.Need-put-parameter-label-requires put-item-claims put-item-at put-item.Post
-  unfolding ItemReady
-  put-item-put-parameter-label-requires c κs =
-      let start = c .before .before .before .before .before .before .before .before .before .before .before .before in
-      (start .pre .1 .1 .0, rw (item-of-parameter (start .args .b) (c .before .if3 .taken)) at (start .pre .1 .1 .1))
-
   put-item-returns-3 : put-item-lts.Need-returns-3 put-item-claims put-item-at put-item.Post
-  unfolding itemText
-  put-item-returns-3 c = rw (item-of-parameter _ (c .before .before .before .before .if3 .taken)) (c .before .before .put-parameter-label .ensures)
+  put-item-returns-3 c =
+      let no-name = sym (c .before .before .before .before .before .before .before .is-between2 .ensures) ∙ c .before .before .before .before .before .before .if2 .left in
+      let is-part = sym (c .before .before .before .before .before .is-between3 .ensures) ∙ c .before .before .before .before .if3 .taken in
+      rw (item-part _ no-name is-part) (c .before .before .part .ensures)
 
   put-item-same-length-3 : put-item-lts.Need-same-length-3 put-item-claims put-item-at put-item.Post
   put-item-same-length-3 c = same-length (put-item-returns-3 c)
 
-  put-item-put-label-requires : put-item-lts.Need-put-label-requires put-item-claims put-item-at put-item.Post
+  put-item-put-parameter-label-requires : put-item-lts.Need-put-parameter-label-requires put-item-claims put-item-at put-item.Post
   unfolding ItemReady
-  put-item-put-label-requires c κs =
-      let start = c .before .before .before .before .before .before .before .before .before .before .before .before .before in
-      (start .pre .1 .1 .0, rw (item-of-ascription (start .args .b) (c .before .if4 .taken)) at (start .pre .1 .1 .1))
+  put-item-put-parameter-label-requires c κs =
+      let start = c .before .before .before .before .before .before .before .before .before .before .before .before .before .before in
+      (start .pre .1 .1 .0, rw (item-of-parameter (start .args .b) (c .before .if4 .taken)) at (start .pre .1 .1 .1))
 
   put-item-returns-4 : put-item-lts.Need-returns-4 put-item-claims put-item-at put-item.Post
   unfolding itemText
-  put-item-returns-4 c = rw (item-of-ascription _ (c .before .before .before .before .if4 .taken)) (c .before .before .put-label .ensures)
+  put-item-returns-4 c = rw (item-of-parameter _ (c .before .before .before .before .if4 .taken)) (c .before .before .put-parameter-label .ensures)
 
   put-item-same-length-4 : put-item-lts.Need-same-length-4 put-item-claims put-item-at put-item.Post
   put-item-same-length-4 c = same-length (put-item-returns-4 c)
 
-  put-item-put-requires : put-item-lts.Need-put-requires put-item-claims put-item-at put-item.Post
-  put-item-put-requires c κs = tt
+  put-item-put-label-requires : put-item-lts.Need-put-label-requires put-item-claims put-item-at put-item.Post
+  unfolding ItemReady
+  put-item-put-label-requires c κs =
+      let start = c .before .before .before .before .before .before .before .before .before .before .before .before .before .before .before in
+      (start .pre .1 .1 .0, rw (item-of-ascription (start .args .b) (c .before .if5 .taken)) at (start .pre .1 .1 .1))
 
   put-item-returns-5 : put-item-lts.Need-returns-5 put-item-claims put-item-at put-item.Post
   unfolding itemText
-  put-item-returns-5 c =
-      let no-name = sym (c .before .before .before .before .before .before .before .before .before .is-between .ensures) ∙ c .before .before .before .before .before .before .before .before .if1 .left in
-      let no-part = sym (c .before .before .before .before .before .before .before .is-between2 .ensures) ∙ c .before .before .before .before .before .before .if2 .left in
-      let no-label = c .before .before .before .before .before .if3 .left in
-      rw (item-fixed _ no-name no-part no-label (c .before .before .before .before .if4 .left)) (c .before .before .put .ensures)
+  put-item-returns-5 c = rw (item-of-ascription _ (c .before .before .before .before .if5 .taken)) (c .before .before .put-label .ensures)
 
   put-item-same-length-5 : put-item-lts.Need-same-length-5 put-item-claims put-item-at put-item.Post
   put-item-same-length-5 c = same-length (put-item-returns-5 c)
+
+  put-item-put-requires-2 : put-item-lts.Need-put-requires-2 put-item-claims put-item-at put-item.Post
+  put-item-put-requires-2 c κs = tt
+
+  put-item-returns-6 : put-item-lts.Need-returns-6 put-item-claims put-item-at put-item.Post
+  unfolding itemText
+  put-item-returns-6 c =
+      let no-name = sym (c .before .before .before .before .before .before .before .before .before .is-between2 .ensures) ∙ c .before .before .before .before .before .before .before .before .if2 .left in
+      let no-part = sym (c .before .before .before .before .before .before .before .is-between3 .ensures) ∙ c .before .before .before .before .before .before .if3 .left in
+      let no-label = c .before .before .before .before .before .if4 .left in
+      rw (item-fixed _ no-name no-part no-label (c .before .before .before .before .if5 .left)) (c .before .before .put2 .ensures)
+
+  put-item-same-length-6 : put-item-lts.Need-same-length-6 put-item-claims put-item-at put-item.Post
+  put-item-same-length-6 c = same-length (put-item-returns-6 c)
 
   print-node-kind-at-requires : print-node-lts.Need-kind-at-requires print-node-claims print-node-at print-node.Post Inv-loop μ-loop
   print-node-kind-at-requires c κs = c .before .before .before .before .before .before .pre .1 .1 .held
@@ -404,24 +418,28 @@ pub +part+print-node+put-item-spec : {M : Type 1} → statement M
     (put-item-at t)
     put-item.Post
     (put-item-is-between-requires t)
+    (put-item-put-requires t)
+    (put-item-same-length t)
+    (put-item-returns t)
+    (put-item-is-between-requires-2 t)
     (put-item-sub-field t)
     (put-item-cast-field t)
     (put-item-field-requires t)
     (put-item-put-name-requires t)
-    (put-item-same-length t)
-    (put-item-returns t)
-    (put-item-is-between-requires-2 t)
+    (put-item-same-length-2 t)
+    (put-item-returns-2 t)
+    (put-item-is-between-requires-3 t)
     (put-item-sub-k t)
     (put-item-cast-k t)
     (put-item-part-requires t)
-    (put-item-same-length-2 t)
-    (put-item-returns-2 t)
-    (put-item-put-parameter-label-requires t)
     (put-item-same-length-3 t)
     (put-item-returns-3 t)
-    (put-item-put-label-requires t)
+    (put-item-put-parameter-label-requires t)
     (put-item-same-length-4 t)
     (put-item-returns-4 t)
-    (put-item-put-requires t)
+    (put-item-put-label-requires t)
     (put-item-same-length-5 t)
     (put-item-returns-5 t)
+    (put-item-put-requires-2 t)
+    (put-item-same-length-6 t)
+    (put-item-returns-6 t)
