@@ -80,22 +80,22 @@ fn kind_at(records: &[u16], n: usize) -> usize
     proof_term::UNIT
 }
 
-// The form of each kind of term.
-const FORMS: [u8; 14] = [
-    CLOSED,
-    CLOSED,
-    CALL,
-    CALL,
-    FUNCTION,
-    CALL,
-    BLOCK,
-    CALL,
-    CALL,
-    BLOCK,
-    CALL,
-    ASCRIPTION,
-    CLOSED,
-    CLOSED,
+// The form of each kind of term, in the order of the kinds.
+const FORMS: [u8; KINDS] = [
+    CLOSED, // a name
+    CLOSED, // a pair
+    CALL, // fst
+    CALL, // snd
+    FUNCTION, // a function
+    CALL, // an application
+    BLOCK, // let
+    CALL, // inl
+    CALL, // inr
+    BLOCK, // case
+    CALL, // abort
+    ASCRIPTION, // an ascription
+    CLOSED, // unit
+    CLOSED, // sorry
 ];
 
 // The form of a term by its record's kind.
@@ -155,10 +155,10 @@ fn is_bracketed(brackets: &Brackets, records: &[u16], n: usize, position: u8, st
     brackets[position as usize][row][column]
 }
 
-// The format of each kind, up to the full stop. A digit stands for the name in that number of the record. A, B and C stand for its
-// parts, D for the body of a named function, E for that of an ascription, F and G for the function and the argument of an
-// application, L for the label of a parameter, if it has one, and M for that of an ascription.
-type Formats = [[u8; 32]; 14];
+// The format of each kind, in the order of the kinds, up to the full stop. A digit stands for the name in that number of the
+// record. A, B and C stand for its parts, D for the body of a named function, E for that of an ascription, F and G for the function
+// and the argument of an application, L for the label of a parameter, if it has one, and M for that of an ascription.
+type Formats = [[u8; FORMAT_SIZE]; KINDS];
 
 const FORMATS: Formats = [
     *b"1...............................", // a name
@@ -395,7 +395,7 @@ fn is_between(b: u8, first: u8, last: u8) -> bool
     b <= last
 }
 
-// What a byte of a format stands for in record `n`.
+// What a byte of a format stands for in record `n`: itself where it is not among 1 to M, which one test tells for most bytes.
 fn put_item(
     out: &mut [u8],
     to: usize,
@@ -453,7 +453,7 @@ fn put_item(
     put(out, to, b, write)
 }
 
-// The term of record `n`, by the formats that are lent.
+// The term of record `n`, by tables that are lent, since a constant is laid down anew wherever it is named.
 fn print_node(
     out: &mut [u8],
     to: usize,
