@@ -17,7 +17,7 @@ use Rattle.prefix_code.proofs.Heads.{connective-byte, quantifier-byte}
 use Rattle.prefix_code.specs.PropAt.{propAt}
 use Rattle.prop.specs.Ends.{Known}
 use Rattle.prop.specs.Printing.{sign}
-use Rattle.prop.proofs.Parts.{headByte, head-byte, BinaryParts, binary-parts, QuantifiedParts}
+use Rattle.prop.proofs.Parts.{headByte, head-byte, BinaryParts, binary-parts, QuantifiedParts, quantified-parts}
 
 -- The signs of the connectives and quantifiers.
 pub connective-sign : (c : Connective) → utf8 " " ++ (sign (connectiveByte c) ++ utf8 " ") ≡ connectiveText c
@@ -30,6 +30,10 @@ pub quantifier-sign : (q : Quantifier) → sign (quantifierByte q) ≡ quantifie
 unfolding sign quantifierByte quantifierText
 quantifier-sign forAll = refl
 quantifier-sign exists = refl
+
+-- A connective that is neither of the first two is the third.
+pub third-connective : (c : Connective) {head : ℕ} → head ≡ connectiveByte c → (head ≡ 2 → ⊥) → (head ≡ 3 → ⊥) → connectiveByte c ≡ 4
+third-connective c e not-and not-or = omega (arith, e, connective-byte c, not-and, not-or)
 
 -- A side is bracketed if it binds less strongly than the number of its connective's byte.
 pub left-strength : (c : Connective) (strength : ℕ) → ltb strength (getD (0 ∷ 0 ∷ 4 ∷ 3 ∷ 3 ∷ []) (connectiveByte c) 0) ≡ wrapsLeft c strength
@@ -104,6 +108,10 @@ module _ (f : ℕ → Name) where
       strength-elsewhere h =
           let head = head-byte (k .present) in
           rw head (strength-by-head (propAt names l at) (λ e. h (head ∙ e)))
+
+      pub strength-of-quantified : 5 < getD l at 0 → 1 ≡ precedence (named at)
+      unfolding renameProp precedence
+      strength-of-quantified h = rw (quantified-parts names l ends at k h .is)
 
       -- an implication binds as the byte in front of its right side says
       pub strength-of-implication : getD l at 0 ≡ 4 → cond (eqb (getD l middle 0) 1) 999 2 ≡ precedence (named at)

@@ -24,37 +24,24 @@ ghost use Rattle.prop.specs.Printing.{namedProp, Named, AtomPrintable, P
 const PAIR_SIZE: usize = 4;
 
 // Head bytes.
+const TRUE: u8 = 0;
+
 const FALSE: u8 = 1;
 
 const AND: u8 = 2;
+
+const OR: u8 = 3;
 
 const IMPL: u8 = 4;
 
 const ATOM: u8 = 5;
 
-// How strongly each head binds. An implication of ⊥ is printed as a negation, and binds as strongly as an atom.
+const FOR_ALL: u8 = 6;
+
+// How strongly an atom binds, and an implication. That of ⊥ is printed as a negation, and binds as strongly as an atom.
 const ATOM_STRENGTH: usize = 999;
 
 const IMPL_STRENGTH: usize = 2;
-
-const STRENGTH: [usize; 8] = [
-    ATOM_STRENGTH,
-    ATOM_STRENGTH,
-    4,
-    3,
-    IMPL_STRENGTH,
-    ATOM_STRENGTH,
-    1,
-    1,
-];
-
-// How strongly the sides of each connective must bind to stand without brackets.
-const LEFT: [usize; 5] = [0, 0, 4, 3, 3];
-
-const RIGHT: [usize; 5] = [0, 0, 5, 4, 2];
-
-// The bytes of a sign.
-const SIGN_SIZE: usize = 3;
 
 // Fills in where the proposition at `at` ends, and where each of its parts does, each at its start.
 pub fn fill_ends(code: &[u8], at: usize, names: usize, ends: &mut [u16]) -> usize
@@ -90,14 +77,21 @@ pub fn precedence(code: &[u8], ends: &[u16], at: usize) -> usize
         r ≡ Rattle.definitions.specs.Display.precedence (renameProp f (propAt names (now (code .entry)) at))) ⌝ }
 {
     let head = code[at];
-    if head != IMPL {
-        return STRENGTH[head as usize];
+    if head == IMPL {
+        let right = ends[at + 1] as usize;
+        if code[right] == FALSE {
+            return ATOM_STRENGTH;
+        }
+        return IMPL_STRENGTH;
     }
-    let right = ends[at + 1] as usize;
-    if code[right] == FALSE {
-        return ATOM_STRENGTH;
+    match head {
+        TRUE => ATOM_STRENGTH,
+        FALSE => ATOM_STRENGTH,
+        AND => 4,
+        OR => 3,
+        ATOM => ATOM_STRENGTH,
+        _ => 1, // the quantifiers
     }
-    IMPL_STRENGTH
 }
 
 // How strongly a connective's left side must bind to stand without brackets.
@@ -105,7 +99,11 @@ fn left_strength(head: u8) -> usize
     requires { ⌜ head < 5 ⌝ }
     ensures { λ r. ⌜ ((c : Connective) (strength : ℕ) → head ≡ connectiveByte c → ltb strength r ≡ wrapsLeft c strength) ⌝ }
 {
-    LEFT[head as usize]
+    match head {
+        AND => 4, // ∧ and ∨ associate to the left
+        OR => 3,
+        _ => 3, // ⊃ associates to the right
+    }
 }
 
 // The same for its right side.
@@ -113,19 +111,37 @@ fn right_strength(head: u8) -> usize
     requires { ⌜ head < 5 ⌝ }
     ensures { λ r. ⌜ ((c : Connective) (strength : ℕ) → head ≡ connectiveByte c → ltb strength r ≡ wrapsRight c strength) ⌝ }
 {
-    RIGHT[head as usize]
+    match head {
+        AND => 5, // ∧ and ∨ associate to the left
+        OR => 4,
+        _ => 2, // ⊃ associates to the right
+    }
 }
 
-// The sign of a head: ⊤ ⊥ ∧ ∨ ⊃, blanks for an atom, ∀ ∃.
+// The bytes of a head's sign; blanks stand for an atom's, which has none.
+fn sign_of(head: u8) -> [u8; 3]
+    requires { ⌜ head < 8 ⌝ }
+    ensures { λ r. ⌜ r ≡ sign head ⌝ }
+{
+    match head {
+        TRUE => *b"\xE2\x8A\xA4", // ⊤
+        FALSE => *b"\xE2\x8A\xA5", // ⊥
+        AND => *b"\xE2\x88\xA7", // ∧
+        OR => *b"\xE2\x88\xA8", // ∨
+        IMPL => *b"\xE2\x8A\x83", // ⊃
+        ATOM => *b"   ",
+        FOR_ALL => *b"\xE2\x88\x80", // ∀
+        _ => *b"\xE2\x88\x83", // ∃
+    }
+}
+
+// The sign of a head.
 fn put_sign(out: &mut [u8], to: usize, head: u8, write: bool) -> usize
     requires { ⌜ head < 8 ⌝ }
     ensures { λ r. ⌜ Wrote (sign head) write (now (out .entry)) to (now (out .exit)) r ⌝ }
 {
-    let signs =
-        *b"\xE2\x8A\xA4\xE2\x8A\xA5\xE2\x88\xA7\xE2\x88\xA8\xE2\x8A\x83   \xE2\x88\x80\xE2\x88\x83";
-    let start = SIGN_SIZE * head as usize;
-    let end = start + SIGN_SIZE;
-    put_all(out, to, &signs[start..end], write)
+    let bytes = sign_of(head);
+    put_all(out, to, &bytes, write)
 }
 
 // A connective with a blank on each side.
