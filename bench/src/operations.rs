@@ -2,7 +2,7 @@
 use crate::{
     library::{ask, questions, Lent},
     sheets::steps,
-    timing::{alternate, grouped, Effort},
+    timing::{grouped, in_rounds, Effort, Pair, Run},
 };
 use alice::proof_tree_conclusion_alpha_eq;
 use oracle::{
@@ -13,18 +13,18 @@ use oracle::{
 use std::hint::black_box;
 
 /// The Rust's part in an answer, where it has one: the whole export for the lists and the count.
-fn rust_part(question: Question, sheet: &Sheet) -> Option<Box<dyn FnMut()>> {
+fn rust_part(question: Question, sheet: &Sheet) -> Option<Run<'static>> {
     let tree = sheet.tree(sheet.root());
     Some(match question {
-        Question::AtomList | Question::DatatypeList => Box::new(move || {
+        Question::AtomList | Question::DatatypeList => Box::new(move |_: &mut Lent| {
             black_box(tree.as_proof());
         }),
-        Question::LabelCount => Box::new(move || {
+        Question::LabelCount => Box::new(move |_: &mut Lent| {
             black_box(tree.as_proof().proof_term.annotation_count());
         }),
         Question::Comparison(i, j) => {
             let (one, other) = (sheet.conclusion(i), sheet.conclusion(j));
-            Box::new(move || {
+            Box::new(move |_: &mut Lent| {
                 black_box(proof_tree_conclusion_alpha_eq(one.clone(), other.clone()));
             })
         }
@@ -32,26 +32,48 @@ fn rust_part(question: Question, sheet: &Sheet) -> Option<Box<dyn FnMut()>> {
     })
 }
 
-fn line(effort: &Effort, question: Question, bytes: &[u8], lent: &mut Lent) -> String {
+/// An operation on a sheet.
+struct Operation<'a> {
+    what: &'a str,
+    name: &'static str,
+    question: Question,
+    bytes: &'a [u8],
+    in_the_rust: bool,
+}
+
+impl Operation<'_> {
+    fn line(&self, pair: &Pair, lent: &mut Lent) -> String {
+        let answer = grouped(ask(self.question, self.bytes, lent).unwrap());
+        let (rust, ours) = pair.times();
+        let (rust, ratio) = match self.in_the_rust {
+            true => (rust.to_string(), format!("{:.1}", rust.fastest / ours.fastest)),
+            false => Default::default(),
+        };
+        format!("| {} | {} | {answer} | {rust} | {ours} | {ratio} |", self.what, self.name)
+    }
+}
+
+/// Every operation but the plain text on a sheet, with what is timed of it.
+fn of_sheet((what, bytes): &Named) -> Vec<(Operation<'_>, Pair<'_>)> {
     let sheet = decode(bytes).unwrap();
-    let mut answer = 0;
-    let mut ours = || answer = ask(question, bytes, lent).unwrap();
-    let Some(mut rust) = rust_part(question, &sheet) else {
-        let (_, ours) = alternate(effort, &mut || (), &mut ours);
-        return format!("{} | | {ours} | ", grouped(answer));
+    let asked = questions(steps(bytes)).into_iter().filter(|(_, question)| *question != Question::PlainText);
+    let pair = |(name, question)| {
+        let rust = rust_part(question, &sheet);
+        let ours = Box::new(move |lent: &mut Lent| {
+            black_box(ask(question, bytes, lent).unwrap());
+        });
+        let operation = Operation { what, name, question, bytes, in_the_rust: rust.is_some() };
+        (operation, Pair::new(rust.unwrap_or_else(|| Box::new(|_| ())), ours))
     };
-    let (rust, ours) = alternate(effort, &mut rust, &mut ours);
-    format!("{} | {rust} | {ours} | {:.1}", grouped(answer), rust.median / ours.median)
+    asked.map(pair).collect()
 }
 
 /// Each operation on these sheets.
 pub fn operations(effort: &Effort, all: &[Named], lent: &mut Lent) {
+    let (operations, mut pairs): (Vec<_>, Vec<_>) = all.iter().flat_map(of_sheet).unzip();
+    in_rounds(effort, &mut pairs, lent);
     println!("| sheet | operation | answer | Rust ns | Skriduhol ns | ratio |\n|---|---|--:|--:|--:|--:|");
-    for (what, bytes) in all {
-        for (name, question) in questions(steps(bytes)) {
-            if question != Question::PlainText {
-                println!("| {what} | {name} | {} |", line(effort, question, bytes, lent));
-            }
-        }
+    for (operation, pair) in operations.iter().zip(&pairs) {
+        println!("{}", operation.line(pair, lent));
     }
 }

@@ -2,10 +2,11 @@
 use crate::{
     library::{ask, Lent},
     sheets::steps,
-    timing::{alternate, grouped, Effort, Times},
+    timing::{grouped, in_rounds, Effort, Pair, Times},
 };
 use alice::generate_proof_term_from_proof_tree;
 use oracle::{answer::Question, generate::Named, sheet::decode};
+use std::{cell::RefCell, rc::Rc};
 
 pub struct Text {
     what: String,
@@ -18,27 +19,21 @@ pub struct Text {
 }
 
 impl Text {
-    /// Times both in turn. The Rust starts from its tree, Skriduhol from the sheet's bytes. The texts must be equal.
-    fn new(effort: &Effort, (what, bytes): &Named, lent: &mut Lent) -> Self {
-        let sheet = decode(bytes).unwrap();
-        let (tree, goal) = (sheet.tree(sheet.root()), sheet.prop(&sheet.props[sheet.goal]));
+    /// The texts must be equal.
+    fn new((what, bytes): &Named, theirs: &str, pair: &Pair, lent: &mut Lent) -> Self {
         let labels = ask(Question::LabelCount, bytes, lent).unwrap();
-        let (mut theirs, mut length) = (String::new(), 0);
-        let (rust, ours) =
-            alternate(effort, &mut || theirs = generate_proof_term_from_proof_tree(&tree, &goal), &mut || {
-                length = ask(Question::PlainText, bytes, lent).unwrap()
-            });
-        assert!(theirs.as_bytes() == &lent.bytes[..length], "the texts differ: {what}");
-        let (what, steps, sheet_bytes) = (what.clone(), steps(bytes), bytes.len());
-        Text { what, steps, labels, sheet_bytes, text_bytes: length, rust, ours }
+        let text_bytes = ask(Question::PlainText, bytes, lent).unwrap();
+        assert!(theirs.as_bytes() == &lent.bytes[..text_bytes], "the texts differ: {what}");
+        let (rust, ours) = pair.times();
+        Text { what: what.clone(), steps: steps(bytes), labels, sheet_bytes: bytes.len(), text_bytes, rust, ours }
     }
 
     pub fn ratio(&self) -> f64 {
-        self.rust.median / self.ours.median
+        self.rust.fastest / self.ours.fastest
     }
 
     fn per_byte(&self, times: &Times) -> f64 {
-        times.median / self.text_bytes as f64
+        times.fastest / self.text_bytes as f64
     }
 
     /// Skriduhol's nanoseconds for a byte of the text.
@@ -58,13 +53,27 @@ const HEAD: &str = "\
 | sheet | steps | labels | sheet bytes | text bytes | Rust ns | batches | Skriduhol ns | batches | ratio | Rust ns/byte | Skriduhol ns/byte |
 |---|--:|--:|--:|--:|--:|--:|--:|--:|--:|--:|--:|";
 
-/// The texts of these sheets, printed line by line.
+/// What is timed on a sheet, and where the Rust's text is left. The Rust starts from its tree, Skriduhol from the sheet's bytes.
+fn pair((_, bytes): &Named) -> (Rc<RefCell<String>>, Pair<'_>) {
+    let sheet = decode(bytes).unwrap();
+    let (tree, goal) = (sheet.tree(sheet.root()), sheet.prop(&sheet.props[sheet.goal]));
+    let theirs = Rc::new(RefCell::new(String::new()));
+    let left = Rc::clone(&theirs);
+    let rust = Box::new(move |_: &mut Lent| *left.borrow_mut() = generate_proof_term_from_proof_tree(&tree, &goal));
+    let ours = Box::new(move |lent: &mut Lent| {
+        ask(Question::PlainText, bytes, lent).unwrap();
+    });
+    (theirs, Pair::new(rust, ours))
+}
+
+/// The texts of these sheets, a line for each.
 pub fn texts(effort: &Effort, all: &[Named], lent: &mut Lent) -> Vec<Text> {
+    let (theirs, mut pairs): (Vec<_>, Vec<_>) = all.iter().map(pair).unzip();
+    in_rounds(effort, &mut pairs, lent);
+    let sheets = all.iter().zip(theirs).zip(&pairs);
+    let texts: Vec<Text> =
+        sheets.map(|((named, theirs), pair)| Text::new(named, &theirs.borrow(), pair, lent)).collect();
     println!("{HEAD}");
-    let text = |named| {
-        let text = Text::new(effort, named, lent);
-        println!("{}", text.line());
-        text
-    };
-    all.iter().map(text).collect()
+    texts.iter().for_each(|text| println!("{}", text.line()));
+    texts
 }

@@ -1,4 +1,5 @@
 //! Two functions timed in turn, in batches, by the processor time of their thread: other programs' time is not in it.
+use crate::library::Lent;
 use std::{fmt, time::Duration};
 
 #[repr(C)]
@@ -33,32 +34,31 @@ pub struct Effort {
     pub enough: Duration,
 }
 
-/// Nanoseconds for one run: the median of the batches, the least and the greatest.
+/// Nanoseconds for one run in the fastest batch, which other work on the machine slowed down least.
 #[derive(Clone, Copy)]
 pub struct Times {
-    pub median: f64,
-    least: f64,
-    greatest: f64,
+    pub fastest: f64,
+    slowest: f64,
     batches: usize,
 }
 
 impl Times {
-    fn of(mut samples: Vec<f64>) -> Self {
-        samples.sort_by(f64::total_cmp);
-        let batches = samples.len();
-        Times { median: samples[batches / 2], least: samples[0], greatest: samples[batches - 1], batches }
+    fn of(samples: &[f64]) -> Self {
+        let fastest = samples.iter().copied().fold(f64::MAX, f64::min);
+        let slowest = samples.iter().copied().fold(0.0, f64::max);
+        Times { fastest, slowest, batches: samples.len() }
     }
 
-    /// How many batches there are, and how far they lie apart in percent of the median.
+    /// How many batches there are, and how far the slowest lies above the fastest, in percent.
     pub fn spread(&self) -> String {
-        let percent = 100.0 * (self.greatest - self.least) / self.median;
+        let percent = 100.0 * (self.slowest - self.fastest) / self.fastest;
         format!("{}, {percent:.0}%", self.batches)
     }
 }
 
 impl fmt::Display for Times {
     fn fmt(&self, f: &mut fmt::Formatter) -> fmt::Result {
-        f.write_str(&grouped(self.median.round() as usize))
+        f.write_str(&grouped(self.fastest.round() as usize))
     }
 }
 
@@ -70,22 +70,26 @@ pub fn grouped(n: usize) -> String {
     groups.join(",")
 }
 
+/// What is timed. It is handed the memory that is lent.
+pub type Run<'a> = Box<dyn FnMut(&mut Lent) + 'a>;
+
 struct Side<'a> {
-    run: &'a mut dyn FnMut(),
+    run: Run<'a>,
+    /// How many runs make a batch; 0 before the first.
     repeat: u32,
     samples: Vec<f64>,
     spent: Duration,
 }
 
 impl<'a> Side<'a> {
-    fn new(run: &'a mut dyn FnMut()) -> Self {
-        Side { run, repeat: 1, samples: Vec::new(), spent: Duration::ZERO }
+    fn new(run: Run<'a>) -> Self {
+        Side { run, repeat: 0, samples: Vec::new(), spent: Duration::ZERO }
     }
 
-    fn timed(&mut self) -> Duration {
+    fn timed(&mut self, runs: u32, lent: &mut Lent) -> Duration {
         let start = now();
-        for _ in 0..self.repeat {
-            (self.run)();
+        for _ in 0..runs {
+            (self.run)(lent);
         }
         let elapsed = now() - start;
         self.spent += elapsed;
@@ -93,32 +97,53 @@ impl<'a> Side<'a> {
     }
 
     /// The first run decides how many make a batch. It is a batch itself if it is long enough.
-    fn first(&mut self, effort: &Effort) {
-        let elapsed = self.timed();
-        if elapsed >= effort.batch {
+    fn first(&mut self, effort: &Effort, lent: &mut Lent) {
+        let elapsed = self.timed(1, lent);
+        self.repeat = (effort.batch.as_nanos() / elapsed.as_nanos().max(1) + 1) as u32;
+        if self.repeat == 1 {
             self.samples.push(elapsed.as_nanos() as f64);
-        } else {
-            self.repeat = (effort.batch.as_nanos() / elapsed.as_nanos().max(1) + 1) as u32;
         }
     }
 
-    fn next(&mut self, effort: &Effort) {
-        let begun = !self.samples.is_empty();
-        if self.samples.len() < effort.batches && !(begun && self.spent >= effort.enough) {
-            let elapsed = self.timed();
-            self.samples.push(elapsed.as_nanos() as f64 / self.repeat as f64);
+    /// A batch, if one is due. Before a batch of several runs stands one that is not counted, so that the caches hold what they need.
+    fn next(&mut self, effort: &Effort, lent: &mut Lent) {
+        if self.repeat == 0 {
+            self.first(effort, lent);
         }
+        let enough = !self.samples.is_empty() && self.spent >= effort.enough;
+        if enough || self.samples.len() == effort.batches {
+            return;
+        }
+        if self.repeat > 1 {
+            self.timed(1, lent);
+        }
+        let elapsed = self.timed(self.repeat, lent);
+        self.samples.push(elapsed.as_nanos() as f64 / self.repeat as f64);
     }
 }
 
-/// Times of both, a batch of one after a batch of the other.
-pub fn alternate(effort: &Effort, one: &mut dyn FnMut(), other: &mut dyn FnMut()) -> (Times, Times) {
-    let (mut one, mut other) = (Side::new(one), Side::new(other));
-    one.first(effort);
-    other.first(effort);
-    for _ in 0..effort.batches {
-        one.next(effort);
-        other.next(effort);
+/// The Rust's part in an answer and Skriduhol's.
+pub struct Pair<'a> {
+    rust: Side<'a>,
+    ours: Side<'a>,
+}
+
+impl<'a> Pair<'a> {
+    pub fn new(rust: Run<'a>, ours: Run<'a>) -> Self {
+        Pair { rust: Side::new(rust), ours: Side::new(ours) }
     }
-    (Times::of(one.samples), Times::of(other.samples))
+
+    pub fn times(&self) -> (Times, Times) {
+        (Times::of(&self.rust.samples), Times::of(&self.ours.samples))
+    }
+}
+
+/// Times the pairs in rounds, a batch of each side of each in every round, so that a slow spell of the machine falls on all alike.
+pub fn in_rounds(effort: &Effort, pairs: &mut [Pair], lent: &mut Lent) {
+    for _ in 0..effort.batches {
+        for pair in &mut *pairs {
+            pair.rust.next(effort, lent);
+            pair.ours.next(effort, lent);
+        }
+    }
 }
