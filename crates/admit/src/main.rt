@@ -20,8 +20,8 @@ fn write_answer(s: &[u8]) {
     }
 }
 
-// The bytes of the file of a number among the arguments; one that cannot be read has none. The buffer is longer than the
-// longest sheet.
+// A line for the argument of a number: its name and the answer for the file's bytes. A file that cannot be read has none. The
+// buffer is longer than the longest sheet.
 fn answer_argument(i: usize) {
     let mut path = io::buffer();
     let length = os::arg(i, &mut path);

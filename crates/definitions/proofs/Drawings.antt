@@ -1,6 +1,8 @@
--- Every drawing of document 01 marked ● is answered as document 01 says, by computation.
+-- By computation: every drawing of document 01 marked ● is answered as document 01 says, and is written with the reader's rule bytes.
 use mathlib.Core.Path.{_≡_, refl}
-use mathlib.Core.List.{map}
+use mathlib.Core.List.{[], _∷_, map}
+use Rattle.definitions.specs.Tree.{rules}
+use Rattle.definitions.specs.Encode.{ruleNumber}
 use Rattle.definitions.specs.Drawings.{drawings, temptations, asked, expected}
 use Rattle.definitions.proofs.Everything.{everything}
 
@@ -11,3 +13,8 @@ drawings-hold = refl
 pub temptations-hold : map asked temptations ≡ map expected temptations
 unfolding everything
 temptations-hold = refl
+
+-- the writer's byte of each rule is the one that the reader knows it by
+pub rules-numbered : map ruleNumber rules ≡ 0 ∷ 1 ∷ 2 ∷ 3 ∷ 4 ∷ 5 ∷ 6 ∷ 7 ∷ 8 ∷ 9 ∷ 10 ∷ 11 ∷ 12 ∷ 13 ∷ 14 ∷ 15 ∷ 16 ∷ []
+unfolding everything
+rules-numbered = refl

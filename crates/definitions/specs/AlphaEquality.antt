@@ -1,5 +1,5 @@
 -- The textbook's alpha equality: two propositions are alpha equal when they are the same once each bound object is named by
--- its distance to its quantifier. Document 01 names it beside demand 2; a yes of the comparison means it.
+-- its distance to its quantifier. It stands beside document 01: what a yes of the comparison means is said and proved with it.
 use Prim.Native.Nat.{ℕ, _+_}
 use mathlib.Core.Path.{_≡_}
 use mathlib.Core.Bool.{Bool, true, false, cond}

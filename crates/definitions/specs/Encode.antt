@@ -40,12 +40,9 @@ noIdentifier = record { name = 0; uniqueId = 0 }
 unfoldable pub encodeRule : ProofTreeRule → ℕ → Identifier ℕ → Identifier ℕ → List ℕ
 encodeRule r n x y = ruleNumber r ∷ n ∷ (encodeIdentifier x ++ encodeIdentifier y)
 
--- a conclusion: the proposition of a number, or that an object has a datatype
+-- a conclusion that is the proposition of a number
 unfoldable pub encodePropIsTrue : ℕ → List ℕ
 encodePropIsTrue i = u16 0 ++ (u16 i ++ (u16 0 ++ u16 0))
-
-unfoldable pub encodeTypeJudgement : Identifier ℕ → ℕ → List ℕ
-encodeTypeJudgement x t = u16 1 ++ (encodeIdentifier x ++ u16 t)
 
 unfoldable pub concat : List (List ℕ) → List ℕ
 concat [] = []

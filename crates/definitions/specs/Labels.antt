@@ -1,4 +1,5 @@
--- Where labels belong: at each injection, abort, sorry and function in an inferring place, and nowhere else.
+-- Where labels belong on a sheet without quantifiers: at each injection, abort, sorry and function in an inferring place, and
+-- nowhere else.
 -- Document 01, "Places and labels", its last paragraphs, and demand 3.
 use Prim.Native.Nat.{ℕ, _+_}
 use mathlib.Core.Path.{_≡_}

@@ -12,7 +12,7 @@ pub enum Style {
     Strict,
 }
 
-// The lowest place at which a test holds, if there is one.
+// The place that a search found, if there is one.
 pub enum Found {
     Nowhere,
     At(usize),

@@ -278,7 +278,7 @@ pub const CLASSES: [u8; 256] = [
     0,
 ];
 
-// The class of a byte, by a table that is lent, since a constant is laid down anew wherever it is named.
+// The class of a byte, by a table that is lent.
 pub fn class(classes: &[u8; 256], b: u8) -> u8
     requires { ⌜ ClassTable (now classes) ⌝ }
     ensures { λ r. ⌜ r ≡ classNumber (byteClass b) ⌝ }

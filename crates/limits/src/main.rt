@@ -66,7 +66,7 @@ fn dots() -> [u8; BOARD_ROOM]
     [b'.'; BOARD_ROOM]
 }
 
-// The same in a room.
+// The answer and the memory for a room of dots.
 fn answer_in(s: &[u8], room: usize)
     requires { ⌜ room ≤ 65536 ⌝ }
 {

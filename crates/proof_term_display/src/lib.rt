@@ -395,7 +395,7 @@ fn is_between(b: u8, first: u8, last: u8) -> bool
     b <= last
 }
 
-// What a byte of a format stands for in record `n`: itself where it is not among 1 to M, which one test tells for most bytes.
+// What a byte of a format stands for in record `n`. One test tells most of the bytes that stand for themselves: those outside 1 to M.
 fn put_item(
     out: &mut [u8],
     to: usize,

@@ -38,7 +38,7 @@ const ATOM: u8 = 5;
 
 const FOR_ALL: u8 = 6;
 
-// How strongly an atom binds, and an implication. That of ⊥ is printed as a negation, and binds as strongly as an atom.
+// How strongly an atom binds, and an implication. An implication of ⊥ is printed as a negation, and binds as strongly as an atom.
 const ATOM_STRENGTH: usize = 999;
 
 const IMPL_STRENGTH: usize = 2;

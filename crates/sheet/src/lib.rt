@@ -130,7 +130,8 @@ fn check_trees(s: &[u8], h: Sheet, sizes: &mut [u16]) -> Checked
     Checked::Accepted(h)
 }
 
-// Refusals 1 to 11 in their order. Where the sheet is accepted, the table has the sizes of the steps' trees.
+// Refusals 1 to 11 in their order. Where the sheet is accepted, the table has the sizes of the steps' trees; where it is refused,
+// what the table holds is left open.
 pub fn check(s: &[u8], sizes: &mut [u16; Sheet::STEP_LIMIT]) -> Checked
     ensures { λ r. ⌜ r ≡ checkedOf (now (s .entry)) ⌝ }
     ensures { λ r. ⌜ ((h : Sheet) → r ≡ Checked.Accepted h

@@ -16,7 +16,7 @@ ghost use Rattle.sheet.proofs.Admitted.{AcceptedSheet};
 ghost use Rattle.sheet_term.specs.Held.{Gives};
 ghost use Rattle.sheet_term.specs.Counted.{countedOf};
 
-// The numbers of two term records for each of the most steps.
+// Room for two term records, of six numbers each, for each of 1,024 steps.
 pub const TERM_NUMBERS: usize = 12288;
 
 // The header of a sheet and the record that holds its term; or the first of refusals 1 to 15.
@@ -55,7 +55,7 @@ fn export(
     }
 }
 
-// The term of any bytes.
+// The term of any bytes. Where they are refused, what the records hold is left open.
 pub fn sheet_term(s: &[u8], terms: &mut [u16; TERM_NUMBERS]) -> SheetTerm
     ensures { λ r. ⌜ Gives (now (s .entry)) (now (terms .exit)) r ⌝ }
 {

@@ -1,5 +1,5 @@
 // The public operations, for every sequence of bytes and every room: each equals a definition, and a refusal leaves the lent memory
-// as it was.
+// as it was, save that the board's output is then the refusal's line.
 use alpha_eq::Answer;
 use definitions::Refusal;
 use definitions::Style;
