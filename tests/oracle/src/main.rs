@@ -4,10 +4,10 @@ use oracle::{
     generate::{Kind, Sheets},
     list::list,
     rng::Rng,
-    sheet::{decode, Refusal},
-    sound, walk,
+    sheet::Refusal,
+    sound,
 };
-use std::{collections::BTreeMap, fs, io::Write, process::exit, str::FromStr, thread, time::Instant};
+use std::{collections::BTreeMap, fs, io::Write, process::exit, str::FromStr, thread};
 
 const USAGE: &str = "usage:
   oracle answer [--room N] plain|strict|atoms|datatypes|count|board FILE
@@ -15,7 +15,6 @@ const USAGE: &str = "usage:
   oracle generate --kind KIND [--seed N --count M] --out DIR
   oracle fuzz --kind KIND [--seed N --count M]
   oracle accuracy --seed N --count M
-  oracle bench FILE TIMES
   oracle list --seed N --out FILE
 KIND: sound random quantified damaged limits worst slowest";
 
@@ -70,7 +69,6 @@ fn run() -> i32 {
         ["generate", ref rest @ ..] => generate(&sheets(rest), option(rest, "--out")),
         ["fuzz", ref rest @ ..] => fuzz(&sheets(rest)),
         ["accuracy", ref rest @ ..] => accuracy(&random_sheets(Kind::Sound, rest)),
-        ["bench", file, times] => bench(file, number(times)),
         ["list", ref rest @ ..] => write_list(number(option(rest, "--seed")), option(rest, "--out")),
         _ => usage(),
     }
@@ -193,25 +191,6 @@ fn accuracy(sheets: &Sheets) -> i32 {
     }
     println!("{} sound sheets of {steps} steps with {labels} labels", sheets.count());
     findings.code()
-}
-
-/// The time that the Rust takes for one text, without decoding.
-fn bench(file: &str, times: u32) -> i32 {
-    let sheet = match decode(&read(file)).and_then(|sheet| walk::export(&sheet).map(|_| sheet)) {
-        Ok(sheet) => sheet,
-        Err(refusal) => {
-            println!("{refusal}");
-            return 1;
-        }
-    };
-    let (tree, goal) = (sheet.tree(sheet.root()), sheet.prop(&sheet.props[sheet.goal]));
-    let start = Instant::now();
-    let mut length = 0;
-    for _ in 0..times {
-        length = std::hint::black_box(alice::generate_proof_term_from_proof_tree(&tree, &goal)).len();
-    }
-    println!("{} ns per text of {length} bytes", start.elapsed().as_nanos() / times.max(1) as u128);
-    0
 }
 
 fn write_list(seed: u64, file: &str) -> i32 {
