@@ -1,5 +1,5 @@
 //! Skriduhol through the wrapper in examples/rust.
-use oracle::answer::Question;
+use oracle::answer::{Operation, Question};
 use skriduhol::Refusal;
 
 /// The memory that is lent for answers.
@@ -31,15 +31,15 @@ pub fn ask(question: Question, sheet: &[u8], lent: &mut Lent) -> Result<usize, R
     }
 }
 
-/// Every question on a sheet of so many steps, with its name. The comparison is of the first step with the last.
-pub fn questions(steps: usize) -> [(&'static str, Question); 7] {
-    [
-        ("plain text", Question::PlainText),
-        ("strict text", Question::StrictText),
-        ("atom list", Question::AtomList),
-        ("datatype list", Question::DatatypeList),
-        ("label count", Question::LabelCount),
-        ("comparison", Question::Comparison(0, steps.max(1) - 1)),
-        ("board output", Question::BoardOutput),
-    ]
+/// The question of each operation on a sheet of so many steps. The comparison is of the first step with the last.
+pub fn question(operation: Operation, steps: usize) -> Question {
+    match operation {
+        Operation::PlainText => Question::PlainText,
+        Operation::StrictText => Question::StrictText,
+        Operation::AtomList => Question::AtomList,
+        Operation::DatatypeList => Question::DatatypeList,
+        Operation::LabelCount => Question::LabelCount,
+        Operation::Comparison => Question::Comparison(0, steps.max(1) - 1),
+        Operation::BoardOutput => Question::BoardOutput,
+    }
 }

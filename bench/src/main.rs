@@ -7,9 +7,12 @@ mod stack;
 mod texts;
 mod timing;
 
-use library::{ask, questions, Lent};
+use library::{ask, question, Lent};
 use operations::operations;
-use oracle::{answer::Question, generate::Named};
+use oracle::{
+    answer::{Operation, Question},
+    generate::Named,
+};
 use required::{at_least, verdict, Required};
 use sheets::steps;
 use stack::Stack;
@@ -122,10 +125,10 @@ fn stack_use(plan: &Plan, lent: &mut Lent) -> Required {
     println!("## Stack: the most over {} sheets\n\n| operation | bytes | sheet |\n|---|--:|---|", grouped(all.len()));
     let mut stack = Stack::new();
     let mut most = 0;
-    for (k, (name, _)) in questions(0).into_iter().enumerate() {
-        let mut used = |(what, sheet): &Named| (stack.used(questions(steps(sheet))[k].1, sheet, lent), what.clone());
-        let (bytes, what) = all.iter().map(&mut used).max_by_key(|(bytes, _)| *bytes).unwrap();
-        println!("| {name} | {} | {what} |", grouped(bytes));
+    for operation in Operation::ALL {
+        let mut used = |(_, sheet): &Named| stack.used(question(operation, steps(sheet)), sheet, lent);
+        let (bytes, what) = all.iter().map(|named| (used(named), &named.0)).max_by_key(|(bytes, _)| *bytes).unwrap();
+        println!("| {operation} | {} | {what} |", grouped(bytes));
         most = most.max(bytes);
     }
     let (bound, measured) = ("below 262,144 bytes".into(), format!("{} bytes", grouped(most)));

@@ -1,12 +1,12 @@
 //! The operations besides the plain text.
 use crate::{
-    library::{ask, questions, Lent},
+    library::{ask, question, Lent},
     sheets::steps,
     timing::{grouped, in_rounds, Effort, Pair, Run},
 };
 use alice::proof_tree_conclusion_alpha_eq;
 use oracle::{
-    answer::Question,
+    answer::{Operation, Question},
     generate::Named,
     sheet::{decode, Sheet},
 };
@@ -32,16 +32,15 @@ fn rust_part(question: Question, sheet: &Sheet) -> Option<Run<'static>> {
     })
 }
 
-/// An operation on a sheet.
-struct Operation<'a> {
+/// A question on a sheet.
+struct Asked<'a> {
     what: &'a str,
-    name: &'static str,
     question: Question,
     bytes: &'a [u8],
     in_the_rust: bool,
 }
 
-impl Operation<'_> {
+impl Asked<'_> {
     fn line(&self, pair: &Pair, lent: &mut Lent) -> String {
         let answer = grouped(ask(self.question, self.bytes, lent).unwrap());
         let (rust, ours) = pair.times();
@@ -49,31 +48,32 @@ impl Operation<'_> {
             true => (rust.to_string(), format!("{:.1}", rust.fastest / ours.fastest)),
             false => Default::default(),
         };
-        format!("| {} | {} | {answer} | {rust} | {ours} | {ratio} |", self.what, self.name)
+        format!("| {} | {} | {answer} | {rust} | {ours} | {ratio} |", self.what, self.question.operation())
     }
 }
 
 /// Every operation but the plain text on a sheet, with what is timed of it.
-fn of_sheet((what, bytes): &Named) -> Vec<(Operation<'_>, Pair<'_>)> {
+fn of_sheet((what, bytes): &Named) -> Vec<(Asked<'_>, Pair<'_>)> {
     let sheet = decode(bytes).unwrap();
-    let asked = questions(steps(bytes)).into_iter().filter(|(_, question)| *question != Question::PlainText);
-    let pair = |(name, question)| {
+    let others = Operation::ALL.into_iter().filter(|operation| *operation != Operation::PlainText);
+    let pair = |operation| {
+        let question = question(operation, steps(bytes));
         let rust = rust_part(question, &sheet);
         let ours = Box::new(move |lent: &mut Lent| {
             black_box(ask(question, bytes, lent).unwrap());
         });
-        let operation = Operation { what, name, question, bytes, in_the_rust: rust.is_some() };
-        (operation, Pair::new(rust.unwrap_or_else(|| Box::new(|_| ())), ours))
+        let asked = Asked { what, question, bytes, in_the_rust: rust.is_some() };
+        (asked, Pair::new(rust.unwrap_or_else(|| Box::new(|_| ())), ours))
     };
-    asked.map(pair).collect()
+    others.map(pair).collect()
 }
 
 /// Each operation on these sheets.
 pub fn operations(effort: &Effort, all: &[Named], lent: &mut Lent) {
-    let (operations, mut pairs): (Vec<_>, Vec<_>) = all.iter().flat_map(of_sheet).unzip();
+    let (asked, mut pairs): (Vec<_>, Vec<_>) = all.iter().flat_map(of_sheet).unzip();
     in_rounds(effort, &mut pairs, lent);
     println!("| sheet | operation | answer | Rust ns | Skriduhol ns | ratio |\n|---|---|--:|--:|--:|--:|");
-    for (operation, pair) in operations.iter().zip(&pairs) {
-        println!("{}", operation.line(pair, lent));
+    for (asked, pair) in asked.iter().zip(&pairs) {
+        println!("{}", asked.line(pair, lent));
     }
 }

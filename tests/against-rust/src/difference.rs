@@ -1,11 +1,7 @@
 //! Finds where the library, document 01 and the Rust do not say the same of a sheet.
-use crate::{
-    call::Library,
-    questions::{questions, Operation},
-    tally::Tally,
-};
+use crate::{call::Library, questions::questions, tally::Tally};
 use oracle::{
-    answer::{examine, Answer, Examined, Question},
+    answer::{examine, Answer, Examined, Operation, Question},
     rng::Rng,
     sheet::Refusal,
 };

@@ -1,59 +1,9 @@
 //! What is asked of a sheet.
 use oracle::{
-    answer::{Answer, Examined, Question},
+    answer::{Answer, Examined, Operation, Question},
     rng::Rng,
     sheet::BOARD_ROOM,
 };
-use std::fmt;
-
-#[derive(Clone, Copy, PartialEq, Eq, Debug)]
-pub enum Operation {
-    PlainText,
-    StrictText,
-    AtomList,
-    DatatypeList,
-    LabelCount,
-    Comparison,
-    BoardOutput,
-}
-
-impl Operation {
-    pub const ALL: [Operation; 7] = [
-        Operation::PlainText,
-        Operation::StrictText,
-        Operation::AtomList,
-        Operation::DatatypeList,
-        Operation::LabelCount,
-        Operation::Comparison,
-        Operation::BoardOutput,
-    ];
-
-    pub fn of(question: Question) -> Self {
-        match question {
-            Question::PlainText => Operation::PlainText,
-            Question::StrictText => Operation::StrictText,
-            Question::AtomList => Operation::AtomList,
-            Question::DatatypeList => Operation::DatatypeList,
-            Question::LabelCount => Operation::LabelCount,
-            Question::Comparison(..) => Operation::Comparison,
-            Question::BoardOutput => Operation::BoardOutput,
-        }
-    }
-}
-
-impl fmt::Display for Operation {
-    fn fmt(&self, f: &mut fmt::Formatter) -> fmt::Result {
-        f.pad(match self {
-            Operation::PlainText => "plain text",
-            Operation::StrictText => "strict text",
-            Operation::AtomList => "atom list",
-            Operation::DatatypeList => "datatype list",
-            Operation::LabelCount => "label count",
-            Operation::Comparison => "comparison",
-            Operation::BoardOutput => "board output",
-        })
-    }
-}
 
 /// A question and the room lent for its answer, in bytes or numbers.
 pub type Asked = (Question, usize);

@@ -1,6 +1,9 @@
 //! Counts of what was asked and what came out.
-use crate::questions::Operation;
-use oracle::{answer::Answer, generate::Kind, sheet::Refusal};
+use oracle::{
+    answer::{Answer, Operation},
+    generate::Kind,
+    sheet::Refusal,
+};
 use std::{fmt, ops::AddAssign};
 
 const REFUSALS: usize = 19;

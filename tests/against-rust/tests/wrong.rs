@@ -2,10 +2,9 @@
 use against_rust::{
     call::Library,
     kinds::{compare, Found},
-    questions::Operation,
 };
 use oracle::{
-    answer::{examine, Answer, Examined, Question},
+    answer::{examine, Answer, Examined, Operation, Question},
     draw::smallest,
     generate::Kind,
     sheet::{Refusal, BOARD_ROOM},
@@ -37,7 +36,7 @@ impl Asked {
     }
 
     fn is(&self, operation: Operation) -> bool {
-        Operation::of(self.question) == operation
+        self.question.operation() == operation
     }
 
     fn fills(&self) -> bool {

@@ -6,6 +6,7 @@ use crate::{
     text,
     walk::{self, Export, Place},
 };
+use std::fmt;
 
 pub type Finding = String;
 
@@ -18,6 +19,58 @@ pub enum Question {
     LabelCount,
     Comparison(usize, usize),
     BoardOutput,
+}
+
+/// The operation that a question asks for, in the order in which the list numbers them.
+#[derive(Clone, Copy, PartialEq, Eq, Debug)]
+pub enum Operation {
+    PlainText,
+    StrictText,
+    AtomList,
+    DatatypeList,
+    LabelCount,
+    Comparison,
+    BoardOutput,
+}
+
+impl Operation {
+    pub const ALL: [Operation; 7] = [
+        Operation::PlainText,
+        Operation::StrictText,
+        Operation::AtomList,
+        Operation::DatatypeList,
+        Operation::LabelCount,
+        Operation::Comparison,
+        Operation::BoardOutput,
+    ];
+}
+
+impl fmt::Display for Operation {
+    fn fmt(&self, f: &mut fmt::Formatter) -> fmt::Result {
+        f.pad(match self {
+            Operation::PlainText => "plain text",
+            Operation::StrictText => "strict text",
+            Operation::AtomList => "atom list",
+            Operation::DatatypeList => "datatype list",
+            Operation::LabelCount => "label count",
+            Operation::Comparison => "comparison",
+            Operation::BoardOutput => "board output",
+        })
+    }
+}
+
+impl Question {
+    pub fn operation(self) -> Operation {
+        match self {
+            Question::PlainText => Operation::PlainText,
+            Question::StrictText => Operation::StrictText,
+            Question::AtomList => Operation::AtomList,
+            Question::DatatypeList => Operation::DatatypeList,
+            Question::LabelCount => Operation::LabelCount,
+            Question::Comparison(..) => Operation::Comparison,
+            Question::BoardOutput => Operation::BoardOutput,
+        }
+    }
 }
 
 #[derive(Clone, PartialEq, Eq, Debug)]

@@ -92,15 +92,7 @@ impl List {
     }
 
     fn add_question(&mut self, question: Question, room: Option<usize>) {
-        self.bytes.push(match question {
-            Question::PlainText => 0,
-            Question::StrictText => 1,
-            Question::AtomList => 2,
-            Question::DatatypeList => 3,
-            Question::LabelCount => 4,
-            Question::Comparison(..) => 5,
-            Question::BoardOutput => 6,
-        });
+        self.bytes.push(question.operation() as u8);
         if let Question::Comparison(i, j) = question {
             self.bytes.extend([i, j].map(|step| (step as u16).to_le_bytes()).concat());
         }
