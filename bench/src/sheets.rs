@@ -3,7 +3,8 @@ use oracle::{
     draw::{and, atom, code, exists, forall, implies, or, step},
     formula::{Formula, Parameter},
     generate::{Kind, Named, Sheets},
-    sheet::{rule, Plain, Step, CODE, PROP_NESTING, STEPS, STEP_NESTING},
+    sheet::{rule, Plain, CODE, PROP_NESTING, STEPS, STEP_NESTING},
+    worst::{conjunction, labelled, wide_atoms},
 };
 
 /// The steps that a sheet's header gives.
@@ -30,29 +31,7 @@ fn fixed(kind: Kind) -> Vec<Named> {
     Sheets::new(kind, 0, usize::MAX).iter().collect()
 }
 
-/// Four chains of labelled functions, so many in all, joined by pairs in an inferring place.
-fn chains(labels: usize) -> Vec<Step> {
-    let mut steps = Vec::new();
-    for (chain, pairs) in [0, 1, 0, 2].into_iter().enumerate() {
-        let functions = (chain + 1) * labels / 4 - chain * labels / 4;
-        steps.push(step(rule::IDENT, 0, &[0], 0));
-        steps.extend(vec![step(rule::IMPL_INTRO, 1, &[0], 0); functions]);
-        steps.extend(vec![step(rule::AND_INTRO, 2, &[], 0); pairs]);
-    }
-    steps.push(step(rule::AND_ELIM_FST, 1, &[], 0));
-    steps
-}
-
-/// A balanced conjunction of an atom with eight parameters, so many times.
-fn conjunction(leaves: usize) -> Formula {
-    let mut row = vec![Formula::Atom(0, vec![Parameter::Uninstantiated(1); 8]); leaves];
-    while row.len() > 1 {
-        row = row.chunks(2).map(|two| two.iter().cloned().reduce(and).unwrap()).collect();
-    }
-    row.pop().unwrap()
-}
-
-/// What such an atom adds to the conjunction's text and to its code, in bytes.
+/// What a wide atom adds to a conjunction's text and to its code, in bytes.
 const LEAF_TEXT: usize = 311;
 const LEAF_CODE: usize = 29;
 
@@ -60,10 +39,8 @@ const LEAF_CODE: usize = 29;
 fn grown(text: usize) -> Vec<u8> {
     let most = (CODE - 2) / LEAF_CODE;
     let labels = text.div_ceil(most * LEAF_TEXT);
-    let label = conjunction(text / labels / LEAF_TEXT);
-    let names = vec![vec![b'A'; 32], vec![b'x'; 32]];
-    let props = vec![code(&implies(label, Formula::False))];
-    Plain { names, props, steps: chains(labels), goal: 0 }.bytes()
+    let label = conjunction(&wide_atoms(text / labels / LEAF_TEXT), CODE - 2);
+    labelled(label, vec![vec![b'A'; 32], vec![b'x'; 32]], labels).bytes()
 }
 
 /// Texts from 64 KB, doubling, up to 80 MB, or as far as the limit goes.

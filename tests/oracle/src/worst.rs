@@ -3,7 +3,7 @@ use crate::{
     draw::*,
     formula::{Formula, Parameter},
     generate::Named,
-    sheet::{rule, Plain, Step, CODE, NAMES, STEP_NESTING},
+    sheet::{rule, Plain, Step, CODE, NAMES, PARAMETERS, STEP_NESTING},
 };
 
 /// Names of one width that differ at their end.
@@ -12,7 +12,7 @@ fn wide_names(n: usize, width: usize) -> Vec<Vec<u8>> {
 }
 
 /// The leaves as a balanced conjunction, as many as fit this many bytes of code.
-fn conjunction(leaves: &[Formula], room: usize) -> Formula {
+pub fn conjunction(leaves: &[Formula], room: usize) -> Formula {
     let mut size = 0;
     let fit = leaves.iter().take_while(|f| {
         size += code(f).len() + 1;
@@ -29,16 +29,17 @@ fn concluding(prop: Formula, names: Vec<Vec<u8>>, steps: Vec<Step>) -> Plain {
     Plain { names, props: vec![code(&prop)], steps, goal: 0 }
 }
 
-const CHAIN: usize = 252;
+/// The most labels that four chains of functions have, 252 in each.
+const LABELS: usize = 1008;
 
-/// Four chains of labelled functions, joined by pairs, in an inferring place.
-fn labelled(label: Formula, names: Vec<Vec<u8>>, chain: usize) -> Plain {
-    let pair = step(rule::AND_INTRO, 2, &[], 0);
+/// Four chains of labelled functions, so many in all, joined by pairs, in an inferring place.
+pub fn labelled(label: Formula, names: Vec<Vec<u8>>, labels: usize) -> Plain {
     let mut steps = Vec::new();
-    for pairs in [0, 1, 0, 2] {
+    for (chain, pairs) in [0, 1, 0, 2].into_iter().enumerate() {
+        let functions = (chain + 1) * labels / 4 - chain * labels / 4;
         steps.push(step(rule::IDENT, 0, &[0], 0));
-        steps.extend(vec![step(rule::IMPL_INTRO, 1, &[0], 0); chain]);
-        steps.extend(vec![pair; pairs]);
+        steps.extend(vec![step(rule::IMPL_INTRO, 1, &[0], 0); functions]);
+        steps.extend(vec![step(rule::AND_INTRO, 2, &[], 0); pairs]);
     }
     steps.push(step(rule::AND_ELIM_FST, 1, &[], 0));
     concluding(implies(label, Formula::False), names, steps)
@@ -76,15 +77,16 @@ fn different() -> Vec<Formula> {
     (0..3).flat_map(atoms).collect()
 }
 
-fn wide_atoms() -> Vec<Formula> {
-    vec![Formula::Atom(0, vec![Parameter::Uninstantiated(1); 8]); 400]
+/// So many times an atom with eight parameters.
+pub fn wide_atoms(count: usize) -> Vec<Formula> {
+    vec![Formula::Atom(0, vec![Parameter::Uninstantiated(1); PARAMETERS]); count]
 }
 
 fn named(list: Vec<(&str, Plain)>) -> Vec<Named> {
     list.into_iter().map(|(what, sheet)| (what.into(), sheet.bytes())).collect()
 }
 
-/// Those that the Rust answers in seconds; the last three stay within the board's room.
+/// Those that the Rust answers in seconds; the last three have labels and stay within the board's room.
 pub fn worst() -> Vec<Named> {
     let ident = step(rule::IDENT, 0, &[1], 0);
     let argument = [ident, step(rule::ALPHA, 1, &[], 0), step(rule::OR_INTRO_FST, 1, &[], 0)];
@@ -93,15 +95,15 @@ pub fn worst() -> Vec<Named> {
     let short = (0..8).fold(atom(0), |f, _| and(f, atom(0)));
     let one = [step(rule::SORRY, 0, &[], 0), step(rule::AND_ELIM_FST, 1, &[], 0)];
     let names = (0..NAMES).map(|i| format!("n{i}").into_bytes()).collect();
-    let mut three = labelled(conjunction(&different(), CODE - 2), names, 1);
+    let mut three = labelled(conjunction(&different(), CODE - 2), names, 4);
     three.steps[1] = step(rule::ALPHA, 1, &[], 0);
     named(vec![
         ("applications nested 256 on the left", applications(&[ident])),
         ("applications nested 256 on the left, arguments of three steps", applications(&argument)),
         ("applications nested 256 on the right", concluding(implies(atom(1), atom(2)), wide_names(3, 32), right)),
-        ("1,008 labels nested 63, functions nested 253", labelled(deep, wide_names(3, 32), CHAIN)),
-        ("511 sorries labelled with 8,192 bytes, balanced", sorries(conjunction(&wide_atoms(), CODE))),
-        ("1,008 labels within the board's room", labelled(short, vec![b"A".to_vec()], CHAIN)),
+        ("1,008 labels nested 63, functions nested 253", labelled(deep, wide_names(3, 32), LABELS)),
+        ("511 sorries labelled with 8,192 bytes, balanced", sorries(conjunction(&wide_atoms(400), CODE))),
+        ("1,008 labels within the board's room", labelled(short, vec![b"A".to_vec()], LABELS)),
         (
             "one label of 58,000 bytes",
             concluding(conjunction(&vec![atom(0); 2000], CODE), wide_names(1, 30), one.to_vec()),
@@ -113,9 +115,9 @@ pub fn worst() -> Vec<Named> {
 /// Those for which the Rust needs a minute and more each.
 pub fn slowest() -> Vec<Named> {
     let late: Vec<Formula> = atoms(0).chain(vec![atom(NAMES as u16 - 1); 2000]).collect();
-    let sheet = |leaves: &[Formula], names: Vec<Vec<u8>>| labelled(conjunction(leaves, CODE - 2), names, CHAIN);
+    let sheet = |leaves: &[Formula], names: Vec<Vec<u8>>| labelled(conjunction(leaves, CODE - 2), names, LABELS);
     named(vec![
-        ("1,008 labels of 8,190 bytes, wide atoms", sheet(&wide_atoms(), wide_names(2, 32))),
+        ("1,008 labels of 8,190 bytes, wide atoms", sheet(&wide_atoms(400), wide_names(2, 32))),
         ("1,008 labels of 8,190 bytes, bare atoms", sheet(&vec![atom(0); 2000], wide_names(2, 32))),
         ("1,008 labels of 1,163 different atoms", sheet(&different(), wide_names(NAMES, 16))),
         ("1,008 labels of 512 different atoms, the last repeated", sheet(&late, wide_names(NAMES, 16))),
