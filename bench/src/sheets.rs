@@ -76,6 +76,14 @@ const LEVELS: [Level; 20] = [
     (rule::SORRY, 1, 0),
 ];
 
+/// Levels in words.
+fn in_words(row: &[Level]) -> String {
+    let level = |(rule, _, position): &Level| {
+        format!("by {} in its {} premiss", rule::name(*rule), ["first", "second", "third"][*position])
+    };
+    row.iter().map(level).collect::<Vec<String>>().join(" and ")
+}
+
 /// Whether a rule is ascribed in an inferring place.
 fn ascribed((rule, ..): Level) -> bool {
     [rule::OR_INTRO_FST, rule::FALSUM_ELIM, rule::EXISTS_INTRO].contains(&rule)
@@ -129,7 +137,8 @@ fn deepest() -> Vec<Named> {
         let leaf = Formula::Atom(0, vec![Parameter::Instantiated(2, 0); 8]);
         let part = (2..PROP_NESTING).fold(leaf, |f, _| nest(f));
         let props = [nest(part.clone()), implies(part.clone(), atom(0)), forall(2, 1, part)];
-        all.extend(rows.iter().map(|row| (format!("levels {row:?}, propositions by {what}"), deep(row, &props))));
+        let named = |row: &Vec<Level>| format!("nested {}, propositions by {what}", in_words(row));
+        all.extend(rows.iter().map(|row| (named(row), deep(row, &props))));
     }
     all
 }

@@ -57,6 +57,29 @@ pub mod rule {
     pub const SORRY: u8 = 15;
     pub const ALPHA: u8 = 16;
 
+    pub fn name(rule: u8) -> &'static str {
+        match rule {
+            AND_INTRO => "AndIntro",
+            AND_ELIM_FST => "AndElimFst",
+            AND_ELIM_SND => "AndElimSnd",
+            TRUE_INTRO => "TrueIntro",
+            IMPL_INTRO => "ImplIntro",
+            IMPL_ELIM => "ImplElim",
+            IDENT => "Ident",
+            OR_INTRO_FST => "OrIntroFst",
+            OR_INTRO_SND => "OrIntroSnd",
+            OR_ELIM => "OrElim",
+            FALSUM_ELIM => "FalsumElim",
+            FORALL_INTRO => "ForAllIntro",
+            FORALL_ELIM => "ForAllElim",
+            EXISTS_INTRO => "ExistsIntro",
+            EXISTS_ELIM => "ExistsElim",
+            SORRY => "Sorry",
+            ALPHA => "AlphaEquivalent",
+            _ => "no rule",
+        }
+    }
+
     /// How many identifiers a rule has.
     pub fn idents(rule: u8) -> usize {
         match rule {
