@@ -278,7 +278,7 @@ const FAULTS: &[(&str, Operation, Fault)] = &[
     }),
     ("the sheet is written to", Operation::Comparison, |asked, reply| {
         if reply.number == 0 {
-            // SAFETY: an accepted sheet has bytes, and the mock is lent a copy of it.
+            // SAFETY: an accepted sheet has bytes, and the library is lent a copy of it.
             unsafe { *asked.sheet ^= 1 }
         }
     }),

@@ -13,7 +13,7 @@ const USAGE: &str = "usage:
   oracle answer [--room N] plain|strict|atoms|datatypes|count|board FILE
   oracle answer compare I J FILE
   oracle generate --kind KIND [--seed N --count M] --out DIR
-  oracle fuzz --kind KIND [--seed N --count M]
+  oracle compare --kind KIND [--seed N --count M]
   oracle accuracy --seed N --count M
   oracle list --seed N --out FILE
 KIND: sound random quantified damaged limits worst slowest";
@@ -67,7 +67,7 @@ fn run() -> i32 {
         ["answer", "compare", i, j, file] => answer(Question::Comparison(number(i), number(j)), file, None),
         ["answer", question, file] => answer(named(question), file, None),
         ["generate", ref rest @ ..] => generate(&sheets(rest), option(rest, "--out")),
-        ["fuzz", ref rest @ ..] => fuzz(&sheets(rest)),
+        ["compare", ref rest @ ..] => compare(&sheets(rest)),
         ["accuracy", ref rest @ ..] => accuracy(&random_sheets(Kind::Sound, rest)),
         ["list", ref rest @ ..] => write_list(number(option(rest, "--seed")), option(rest, "--out")),
         _ => usage(),
@@ -140,7 +140,7 @@ impl Findings {
 const COMPARISONS: usize = 20;
 
 /// Compares document and Rust on every sheet and on twenty comparisons of its steps, and counts what came out.
-fn fuzz(sheets: &Sheets) -> i32 {
+fn compare(sheets: &Sheets) -> i32 {
     let (mut tally, mut findings) = (BTreeMap::<String, usize>::new(), Findings::default());
     for (i, (what, bytes)) in sheets.iter().enumerate() {
         let outcomes = examine(&bytes).and_then(|examined| outcomes(&examined, Rng::new(1, i as u64)));

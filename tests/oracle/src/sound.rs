@@ -80,41 +80,43 @@ fn sound_step(sheet: &Sheet, props: &[Prop], i: usize, scope: &mut Scope) -> Res
 /// Hypotheses of a judgement, the latest last.
 type Context<'a> = Vec<(&'a str, Prop)>;
 
-fn under<'a, T>(ctx: &mut Context<'a>, name: &'a str, prop: &Prop, run: impl FnOnce(&mut Context<'a>) -> T) -> T {
-    ctx.push((name, prop.clone()));
-    let result = run(ctx);
-    ctx.pop();
+fn under<'a, T>(context: &mut Context<'a>, name: &'a str, prop: &Prop, run: impl FnOnce(&mut Context<'a>) -> T) -> T {
+    context.push((name, prop.clone()));
+    let result = run(context);
+    context.pop();
     result
 }
 
-pub fn infer<'a>(ctx: &mut Context<'a>, term: &'a ProofTerm) -> Option<Prop> {
+pub fn infer<'a>(context: &mut Context<'a>, term: &'a ProofTerm) -> Option<Prop> {
     match term {
-        ProofTerm::Ident(Ident(name, _)) => ctx.iter().rev().find(|(n, _)| n == name).map(|(_, p)| p.clone()),
+        ProofTerm::Ident(Ident(name, _)) => context.iter().rev().find(|(n, _)| n == name).map(|(_, p)| p.clone()),
         ProofTerm::Unit(_) => Some(Prop::True),
-        ProofTerm::ProjectFst(ProjectFst(body, _)) => match infer(ctx, body)? {
+        ProofTerm::ProjectFst(ProjectFst(body, _)) => match infer(context, body)? {
             Prop::And(l, _) => Some(*l),
             _ => None,
         },
-        ProofTerm::ProjectSnd(ProjectSnd(body, _)) => match infer(ctx, body)? {
+        ProofTerm::ProjectSnd(ProjectSnd(body, _)) => match infer(context, body)? {
             Prop::And(_, r) => Some(*r),
             _ => None,
         },
-        ProofTerm::Application(Application { function, applicant, .. }) => match infer(ctx, function)? {
-            Prop::Impl(l, r) => check(ctx, applicant, &l).then_some(*r),
+        ProofTerm::Application(Application { function, applicant, .. }) => match infer(context, function)? {
+            Prop::Impl(l, r) => check(context, applicant, &l).then_some(*r),
             _ => None,
         },
         ProofTerm::TypeAscription(TypeAscription { proof_term, ascription: Type::Prop(prop), .. }) => {
-            check(ctx, proof_term, prop).then(|| prop.clone())
+            check(context, proof_term, prop).then(|| prop.clone())
         }
         ProofTerm::Function(Function { param_ident, param_type: Some(Type::Prop(left)), body, .. }) => {
-            let right = under(ctx, param_ident, left, |ctx| infer(ctx, body))?;
+            let right = under(context, param_ident, left, |context| infer(context, body))?;
             Some(Prop::Impl(left.boxed(), right.boxed()))
         }
-        ProofTerm::Pair(Pair(fst, snd, _)) => Some(Prop::And(infer(ctx, fst)?.boxed(), infer(ctx, snd)?.boxed())),
-        ProofTerm::Case(Case { head, fst_ident, fst_term, snd_ident, snd_term, .. }) => match infer(ctx, head)? {
+        ProofTerm::Pair(Pair(fst, snd, _)) => {
+            Some(Prop::And(infer(context, fst)?.boxed(), infer(context, snd)?.boxed()))
+        }
+        ProofTerm::Case(Case { head, fst_ident, fst_term, snd_ident, snd_term, .. }) => match infer(context, head)? {
             Prop::Or(l, r) => {
-                let fst = under(ctx, fst_ident, &l, |ctx| infer(ctx, fst_term))?;
-                let snd = under(ctx, snd_ident, &r, |ctx| infer(ctx, snd_term))?;
+                let fst = under(context, fst_ident, &l, |context| infer(context, fst_term))?;
+                let snd = under(context, snd_ident, &r, |context| infer(context, snd_term))?;
                 (fst == snd).then_some(fst)
             }
             _ => None,
@@ -125,7 +127,7 @@ pub fn infer<'a>(ctx: &mut Context<'a>, term: &'a ProofTerm) -> Option<Prop> {
 
 /// A form with a checked rule of its own needs no second try by inference: whatever infers also
 /// checks part by part.
-pub fn check<'a>(ctx: &mut Context<'a>, term: &'a ProofTerm, prop: &Prop) -> bool {
+pub fn check<'a>(context: &mut Context<'a>, term: &'a ProofTerm, prop: &Prop) -> bool {
     match (term, prop) {
         (ProofTerm::Function(Function { param_ident, param_type, body, .. }), Prop::Impl(l, r)) => {
             let label = match param_type {
@@ -133,21 +135,22 @@ pub fn check<'a>(ctx: &mut Context<'a>, term: &'a ProofTerm, prop: &Prop) -> boo
                 Some(Type::Prop(label)) => *label == **l,
                 Some(Type::Datatype(_)) => false,
             };
-            label && under(ctx, param_ident, l, |ctx| check(ctx, body, r))
+            label && under(context, param_ident, l, |context| check(context, body, r))
         }
-        (ProofTerm::Pair(Pair(fst, snd, _)), Prop::And(l, r)) => check(ctx, fst, l) && check(ctx, snd, r),
-        (ProofTerm::OrLeft(OrLeft(body, _)), Prop::Or(l, _)) => check(ctx, body, l),
-        (ProofTerm::OrRight(OrRight(body, _)), Prop::Or(_, r)) => check(ctx, body, r),
-        (ProofTerm::Case(Case { head, fst_ident, fst_term, snd_ident, snd_term, .. }), _) => match infer(ctx, head) {
+        (ProofTerm::Pair(Pair(fst, snd, _)), Prop::And(l, r)) => check(context, fst, l) && check(context, snd, r),
+        (ProofTerm::OrLeft(OrLeft(body, _)), Prop::Or(l, _)) => check(context, body, l),
+        (ProofTerm::OrRight(OrRight(body, _)), Prop::Or(_, r)) => check(context, body, r),
+        (ProofTerm::Case(Case { head, fst_ident, fst_term, snd_ident, snd_term, .. }), _) => match infer(context, head)
+        {
             Some(Prop::Or(l, r)) => {
-                under(ctx, fst_ident, &l, |ctx| check(ctx, fst_term, prop))
-                    && under(ctx, snd_ident, &r, |ctx| check(ctx, snd_term, prop))
+                under(context, fst_ident, &l, |context| check(context, fst_term, prop))
+                    && under(context, snd_ident, &r, |context| check(context, snd_term, prop))
             }
             _ => false,
         },
-        (ProofTerm::Abort(Abort(body, _)), _) => check(ctx, body, &Prop::False),
+        (ProofTerm::Abort(Abort(body, _)), _) => check(context, body, &Prop::False),
         (ProofTerm::Sorry(_), _) => true,
-        _ => infer(ctx, term).is_some_and(|inferred| inferred == *prop),
+        _ => infer(context, term).is_some_and(|inferred| inferred == *prop),
     }
 }
 

@@ -189,8 +189,9 @@ pub fn compare(sheet: &Sheet, a: usize, b: usize) -> Result<bool, Refusal> {
     match (sheet.concluded(a), sheet.concluded(b)) {
         (Some(l), Some(r)) => alpha(sheet, l, r, &mut vec![]),
         (None, None) => {
-            let ([n, id, d], [m, jd, e]) = (sheet.steps[a].conclusion, sheet.steps[b].conclusion);
-            Ok(same(sheet, n, m) && id == jd && same(sheet, d, e))
+            let [object, id, datatype] = sheet.steps[a].conclusion;
+            let [other_object, other_id, other_datatype] = sheet.steps[b].conclusion;
+            Ok(same(sheet, object, other_object) && id == other_id && same(sheet, datatype, other_datatype))
         }
         _ => Ok(false),
     }
@@ -203,7 +204,7 @@ fn same(sheet: &Sheet, n: u16, m: u16) -> bool {
 fn alpha(sheet: &Sheet, l: &Formula, r: &Formula, bound: &mut Vec<(u16, u16)>) -> Result<bool, Refusal> {
     match (l, r) {
         (Formula::True, Formula::True) | (Formula::False, Formula::False) => Ok(true),
-        (Formula::Binary(op, l1, l2), Formula::Binary(oq, r1, r2)) if op == oq => {
+        (Formula::Binary(one, l1, l2), Formula::Binary(other, r1, r2)) if one == other => {
             Ok(alpha(sheet, l1, r1, bound)? && alpha(sheet, l2, r2, bound)?)
         }
         (Formula::Quantified(q, x, t, l), Formula::Quantified(p, y, u, r)) if q == p => {
