@@ -30,10 +30,14 @@ const USAGE: &str = "usage: run [--seed N] [--count M] [--kind KIND] [--threads 
   --kind     sound, random, quantified, damaged, limits, worst or slowest (all but slowest)
   --threads  (as many as there are processors)";
 
+/// How many sheets of each random kind there are by default. A run of all kinds with so many must meet every refusal.
+const COUNT: usize = 50_000;
+
 struct Arguments {
     seed: u64,
     count: usize,
-    kinds: Vec<Kind>,
+    /// All but slowest without one.
+    kind: Option<Kind>,
     threads: usize,
 }
 
@@ -47,16 +51,15 @@ fn number<T: FromStr>(text: &str) -> T {
 }
 
 fn arguments() -> Arguments {
-    let kinds = Kind::ALL.into_iter().filter(|kind| *kind != Kind::Slowest).collect();
     let threads = thread::available_parallelism().map_or(1, usize::from);
-    let mut arguments = Arguments { seed: 1, count: 50_000, kinds, threads };
+    let mut arguments = Arguments { seed: 1, count: COUNT, kind: None, threads };
     let mut words = std::env::args().skip(1);
     while let Some(name) = words.next() {
         let value = words.next().unwrap_or_else(|| usage());
         match name.as_str() {
             "--seed" => arguments.seed = number(&value),
             "--count" => arguments.count = number(&value),
-            "--kind" => arguments.kinds = vec![Kind::named(&value).unwrap_or_else(|| usage())],
+            "--kind" => arguments.kind = Some(Kind::named(&value).unwrap_or_else(|| usage())),
             "--threads" => arguments.threads = number::<usize>(&value).max(1),
             _ => usage(),
         }
@@ -65,9 +68,9 @@ fn arguments() -> Arguments {
 }
 
 fn main() {
-    let Arguments { seed, count, kinds, threads } = arguments();
+    let Arguments { seed, count, kind: only, threads } = arguments();
     let mut tallies = Vec::new();
-    for kind in kinds {
+    for kind in Kind::ALL.into_iter().filter(|kind| only.map_or(*kind != Kind::Slowest, |only| *kind == only)) {
         let start = Instant::now();
         let (tally, found) = kinds::compare(&LIBRARY, kind, seed, count, threads);
         if let Some(found) = found {
@@ -85,4 +88,8 @@ fn main() {
         false => println!("Refusals that did not occur: {missing:?}"),
     }
     println!("No difference.");
+    if only.is_none() && count >= COUNT && !missing.is_empty() {
+        println!("But a run of all kinds with {COUNT} sheets or more of each random kind must meet every refusal.");
+        exit(1);
+    }
 }
