@@ -14,18 +14,22 @@ use crate::{
     answer::{examine, Answer, Examined, Finding, Question},
     generate::{Kind, Sheets},
     rng::Rng,
-    sheet::{Refusal, BOARD_ROOM},
+    sheet::{decode, Refusal, BOARD_ROOM, CODE, HEADER_BYTES, NAMES, PAIR_BYTES, PROPS, STEPS, STEP_BYTES, TEXT},
+    text::text,
+    walk::export,
 };
 use std::ops::RangeInclusive;
 
 /// Sheets of each random kind: so many small ones, and a few larger ones.
-const SMALL: usize = 250;
+const SMALL: usize = 200;
 const LARGE: usize = 3;
 /// The longest sheet, and the longest answer, of a small and of a large one.
 const SMALL_BYTES: usize = 800;
 const LARGE_BYTES: usize = 8000;
 /// The longest sheet of document 01; the limits have longer ones, which 3 refuses.
-const LONGEST_SHEET: usize = 38_924;
+const LONGEST_SHEET: usize = HEADER_BYTES + PAIR_BYTES * (NAMES + PROPS) + STEP_BYTES * STEPS + TEXT + CODE;
+/// So many of the worst sheets.
+const WORST: usize = 3;
 
 #[derive(Default)]
 pub struct List {
@@ -41,7 +45,9 @@ pub fn list(seed: u64) -> Result<List, Finding> {
     for (_, sheet) in Sheets::new(Kind::Limits, 0, 0).iter().filter(|(_, sheet)| sheet.len() <= LONGEST_SHEET) {
         list.add(&sheet, &examine(&sheet)?, SMALL_BYTES, &mut rng)?;
     }
-    for (_, sheet) in Sheets::new(Kind::Worst, 0, 0).iter().take(LARGE) {
+    for (_, sheet) in
+        Sheets::new(Kind::Worst, 0, 0).iter().filter(|(_, sheet)| labelled_on_the_board(sheet)).take(WORST)
+    {
         list.add(&sheet, &examine(&sheet)?, SMALL_BYTES, &mut rng)?;
     }
     for kind in [Kind::Sound, Kind::Random, Kind::Quantified, Kind::Damaged] {
@@ -50,6 +56,12 @@ pub fn list(seed: u64) -> Result<List, Finding> {
     }
     list.bytes.splice(0..0, (list.sheets as u32).to_le_bytes());
     Ok(list)
+}
+
+/// Has the sheet a label, and does the board print its text?
+fn labelled_on_the_board(sheet: &[u8]) -> bool {
+    let exported = decode(sheet).and_then(|sheet| export(&sheet).map(|export| (sheet, export)));
+    exported.is_ok_and(|(sheet, export)| export.labels > 0 && text(&sheet, &export, false).len() <= BOARD_ROOM)
 }
 
 impl List {
@@ -123,7 +135,8 @@ const COMPARISONS: usize = 6;
 /// So many of a hundred answers are asked for with more room than they fill.
 const MORE: usize = 10;
 
-/// Questions with their rooms, for those that are lent one: exactly enough, one short, or as much as is ever lent.
+/// Questions with their rooms, for those that are lent one: one short, but never more than the board lends; exactly
+/// enough, and at times up to 100 more, for an answer that is not too long; and anything below 100 for a refusal.
 fn questions(examined: &Examined, longest: usize, rng: &mut Rng) -> Vec<(Question, Option<usize>)> {
     let mut all = vec![(Question::LabelCount, None)];
     let mut long = false;

@@ -1,6 +1,6 @@
 //! The list is read back by its format, and each answer asked for once more.
 use oracle::{
-    answer::{examine, Answer, Question},
+    answer::{examine, Answer, Operation, Question},
     list::list,
     sheet::Refusal,
 };
@@ -55,13 +55,14 @@ fn the_list_reads_back() {
     let list = list(1).unwrap();
     assert!(list.sheets >= 1500 && list.bytes.len() <= 2_000_000);
     let mut reader = Reader(&list.bytes);
-    let (mut refused, mut exact, mut short, mut more) = ([0; 20], 0, 0, 0);
+    let (mut asked, mut refused, mut exact, mut short, mut more) = ([0; Operation::ALL.len()], [0; 20], 0, 0, 0);
     assert_eq!(reader.number(4), list.sheets);
     for _ in 0..list.sheets {
         let length = reader.number(4);
         let examined = examine(&reader.bytes(length)).unwrap();
         for _ in 0..reader.number(1) {
             let (question, room) = reader.question();
+            asked[question.operation() as usize] += 1;
             let answer = reader.answer(question);
             assert_eq!(answer, examined.answer(question, room).unwrap());
             let enough = examined.answer(question, None).unwrap();
@@ -73,6 +74,7 @@ fn the_list_reads_back() {
         }
     }
     assert!(reader.0.is_empty());
+    assert!(asked.iter().all(|count| *count > 0), "{asked:?}");
     assert!(refused.iter().all(|count| *count > 0) && exact > 1000 && short > 1000, "{refused:?} {exact} {short}");
     assert!(more > 100, "{more}");
 }
