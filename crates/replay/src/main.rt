@@ -1,5 +1,5 @@
 // Asks each question of a fixed list of sheets, and says how many of the answers agree with those that the list holds: the Rust's,
-// and document 01's where the Rust has none. tests/oracle/README.md has the form of the list, and says how it was made.
+// and document 01's where the Rust has none. tests/oracle/README.md has the form of the list, and README.md says how it is made.
 use alpha_eq::Answer;
 use definitions::Refusal;
 use libc::STDOUT_FILENO;

@@ -1,15 +1,5 @@
 //! A sample of the answers as one file, for a program that asks the library the same questions.
-//!
-//! The file is the number of entries (u32) and the entries. Numbers are low byte first.
-//!
-//! - An entry: the sheet's length (u32), its bytes, the number of questions (u8), the questions.
-//! - A question: its kind (u8): 0 plain text, 1 strict text, 2 atom list, 3 datatype list, 4 label count, 5 comparison,
-//!   6 board output. Kinds 0 to 3 then have the room (u32), in bytes or, for the lists, in numbers, at most 65,536;
-//!   kind 5 has the two steps (u16, u16). The expected answer follows.
-//! - An answer: 0 or the refusal's number (u8), and a value (u32): the length of the text in bytes or of the list in
-//!   numbers, the label count, 1 for yes and 0 for no, or the refusal's place. An accepted answer of kinds 0 to 3, and
-//!   every one of kind 6, then has the text's bytes or the list's numbers (u16 each). Kind 6 is never refused: what the
-//!   board prints for a refusal is its answer.
+//! `README.md` has its form, and says which sheets are in it.
 use crate::{
     answer::{examine, Answer, Examined, Finding, Question},
     generate::{Kind, Sheets},
