@@ -18,28 +18,28 @@
  *   - An accepted answer fills the first elements of `out` and nothing after them. A refusal leaves all of `out` as it was.
  *   - A call takes at most 256 KiB of stack: measured on the deepest sheets, not proved (docs/PERFORMANCE.md).
  *
- * The refusals, in the order in which they are tried
+ * The refusals, in the order in which they are tried. The place is 0, or the number of a name, a proposition or a step.
  *
- *   number  place              reason
- *    1      0                  fewer than 12 bytes came
- *    2      0                  a header number lies outside its range
- *    3      0                  the byte count is not the one that the header gives
- *    4      name number        a name's pair is out of order, ends past the text, or has a length outside 1 to 32
- *    5      name number        a name holds a byte that its position does not allow
- *    6      proposition number a proposition's pair is out of order, ends past the code, or has length 0
- *    7      proposition number a proposition's code is not exactly one proposition over names of the sheet
- *    8      proposition number a proposition nests deeper than 64
- *    9      step number        a step's rule, kind, name or proposition number is out of range, or an unused field is not 0
- *   10      step number        a step finds too few trees before it, or the last step leaves more than one
- *   11      step number        a step's tree nests deeper than 256
- *   12      step number        a step has the wrong premiss count
- *   13      step number        an ascription is needed where the conclusion is a type judgement
- *   14      step number        a function of ImplIntro needs a label and its conclusion is no implication
- *   15      step number        a function of ForAllIntro needs a label and its conclusion is no universal
- *   16      0                  `out` is shorter than the answer
- *   17      0                  a comparison names a step that the sheet has not
- *   18      0                  two atoms of one name with different parameter counts are compared
- *   19      0                  two uninstantiated parameters meet, neither of them bound
+ *   number  place        reason
+ *    1      0            fewer than 12 bytes came
+ *    2      0            a header number lies outside its range
+ *    3      0            the byte count is not the one that the header gives
+ *    4      name         a name's pair starts before the last one's end, ends past the text, or has a length outside 1 to 32
+ *    5      name         a name holds a byte that its position does not allow
+ *    6      proposition  a proposition's pair starts before the last one's end, ends past the code, or has length 0
+ *    7      proposition  its code is not exactly one proposition over its whole length with names of the sheet
+ *    8      proposition  it nests deeper than 64
+ *    9      step         a rule, kind, name or proposition number is out of range, or an unused field is not 0
+ *   10      step         a step finds too few trees before it, or the last step leaves more than one
+ *   11      step         its tree nests deeper than 256
+ *   12      step         a visited step has the wrong premiss count
+ *   13      step         an ascription is needed where the conclusion is a type judgement
+ *   14      step         a function of ImplIntro needs a label and its conclusion is no implication
+ *   15      step         a function of ForAllIntro needs a label and its conclusion is no ∀
+ *   16      0            the lent output is shorter than the answer
+ *   17      0            a comparison names a step that the sheet has not
+ *   18      0            two atoms of one name with different parameter counts are compared
+ *   19      0            two uninstantiated parameters meet with neither bound on its side
  *
  * Texts and lists use 1 to 16, the label count 1 to 15, a comparison 1 to 11 and 17 to 19. 16 is tried last. It does not say how
  * much room is missing: most answers fit 65,536 elements, but a text can pass 88 million bytes and a list 3 million numbers.
