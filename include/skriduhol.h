@@ -15,7 +15,8 @@
  *     threads may call at the same time, each on its own memory.
  *   - The first six functions return 0 for an accepted answer, and then *value is what the function's comment says; or they
  *     return the number of a refusal, 1 to 19, and then *value is its place. *value is set either way.
- *   - An accepted answer fills the first elements of `out` and nothing after them. A refusal leaves all of `out` as it was.
+ *   - An accepted answer fills the first elements of `out` and nothing after them. A refusal leaves all of `out` as it was;
+ *     skriduhol_board_output alone writes a line for it, and nothing after that line.
  *   - A call takes at most 256 KiB of stack: measured on the deepest sheets, not proved (docs/PERFORMANCE.md).
  *
  * The refusals, in the order in which they are tried. The place is 0, or the number of a name, a proposition or a step.
