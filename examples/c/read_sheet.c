@@ -65,6 +65,11 @@ int main(int argc, char **argv) {
         return 2;
     }
     size_t length = fread(sheet, 1, sizeof sheet, file);
+    /* A folder can be opened, and fails here. */
+    if (ferror(file)) {
+        perror(argv[1]);
+        return 2;
+    }
     fclose(file);
     return print_text(length) || print_label_count(length) || print_list("atoms", skriduhol_atom_list, length)
         || print_list("datatypes", skriduhol_datatype_list, length);

@@ -1,6 +1,5 @@
 //! Reads a sheet from a file and prints its text, its label count and its lists, or the refusal.
 use skriduhol::{atom_list, datatype_list, label_count, plain_text, Refusal, BOARD_ROOM};
-use std::error::Error;
 use std::process::ExitCode;
 
 fn main() -> ExitCode {
@@ -8,23 +7,29 @@ fn main() -> ExitCode {
         eprintln!("usage: read_sheet FILE");
         return ExitCode::from(2);
     };
-    match print_sheet(&path) {
-        Ok(()) => ExitCode::SUCCESS,
+    let sheet = match std::fs::read(&path) {
+        Ok(sheet) => sheet,
         Err(error) => {
-            println!("{error}");
+            eprintln!("{path}: {error}");
+            return ExitCode::from(2);
+        }
+    };
+    match print_sheet(&sheet) {
+        Ok(()) => ExitCode::SUCCESS,
+        Err(refusal) => {
+            println!("{refusal}");
             ExitCode::FAILURE
         }
     }
 }
 
-fn print_sheet(path: &str) -> Result<(), Box<dyn Error>> {
-    let sheet = std::fs::read(path)?;
+fn print_sheet(sheet: &[u8]) -> Result<(), Refusal> {
     let mut text = vec![0; BOARD_ROOM];
-    let length = plain_text(&sheet, &mut text)?;
+    let length = plain_text(sheet, &mut text)?;
     println!("{}", String::from_utf8_lossy(&text[..length]));
-    println!("labels: {}", label_count(&sheet)?);
-    print_list("atoms", &sheet, atom_list)?;
-    print_list("datatypes", &sheet, datatype_list)?;
+    println!("labels: {}", label_count(sheet)?);
+    print_list("atoms", sheet, atom_list)?;
+    print_list("datatypes", sheet, datatype_list)?;
     Ok(())
 }
 
