@@ -1,5 +1,6 @@
 //! The proved library behind proof boards, for Rust: a sheet's text, its lists, its label count, and the comparison of two
-//! conclusions. Every function answers for any bytes; a refusal leaves the lent memory as it was.
+//! conclusions. Every function answers for any bytes. A refusal leaves the lent memory as it was, save that `board_output` then
+//! writes the refusal's line.
 #![deny(unsafe_code)]
 
 mod c;
