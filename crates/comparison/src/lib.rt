@@ -4,7 +4,6 @@ use alpha_eq::Answer;
 use definitions::Refusal;
 use identifier::pair_offset;
 use identifier::same_name;
-use number::number_at;
 use sheet::Checked;
 use sheet::Sheet;
 use sheet::code_bytes;
@@ -13,6 +12,7 @@ use sheet::name_pairs;
 use sheet::proposition_pairs;
 use sheet::step_records;
 use sheet::text_bytes;
+use steps::step_number;
 ghost use mathlib.Core.Path.{_≡_};
 ghost use mathlib.Core.Bool.{_&&_};
 ghost use Prim.Native.Nat.{_<_};
@@ -44,15 +44,14 @@ fn conclusion_of(records: &[u8], k: usize) -> Conclusion
     requires { ⌜ HasStep (now records) k ⌝ }
     ensures { λ r. ⌜ r ≡ conclusionAt (now (records .entry)) k ⌝ }
 {
-    let at = Sheet::STEP_SIZE * k;
-    let first = number_at(records, at + 12);
-    if number_at(records, at + 10) == 0 {
+    let first = step_number(records, k, 12);
+    if step_number(records, k, 10) == 0 {
         return Conclusion::PropIsTrue(first);
     }
     Conclusion::TypeJudgement(Judgement {
         name: first,
-        unique_id: number_at(records, at + 14),
-        datatype: number_at(records, at + 16),
+        unique_id: step_number(records, k, 14),
+        datatype: step_number(records, k, 16),
     })
 }
 

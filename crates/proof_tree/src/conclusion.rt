@@ -1,12 +1,12 @@
 // A step's conclusion, as it is taken apart for a label.
 use crate::step::refusal;
-use crate::step::step_number;
 use crate::table::Ending;
 use definitions::Refusal;
 use number::number_at;
 use proof_term::DATATYPE;
 use proof_term::NO_LABEL;
 use proof_term::PROPOSITION;
+use steps::step_number;
 ghost use Prim.Native.Nat.{ℕ, _+_, _*_, _<_, _≤_};
 ghost use mathlib.Core.Path.{_≡_};
 ghost use lib.ListN.{length};

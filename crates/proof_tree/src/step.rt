@@ -1,11 +1,11 @@
 // What a step's record says, and which steps finish its premisses.
 use definitions::Refusal;
-use number::number_at;
 use steps::STEP_SIZE;
+use steps::premiss_count;
 ghost use Prim.Native.Nat.{_+_, _<_, _≤_};
 ghost use mathlib.Core.Path.{_≡_};
 ghost use lib.ListN.{length};
-ghost use Rattle.definitions.specs.Sheet.{stepSize, ruleByte, premissCount, stepNumber};
+ghost use Rattle.definitions.specs.Sheet.{ruleByte, premissCount};
 ghost use Rattle.steps.specs.Records.{HasStep};
 ghost use Rattle.steps.specs.Tables.{SizeTable};
 ghost use Rattle.proof_tree.specs.Premisses.{PremissStep};
@@ -15,21 +15,6 @@ pub fn rule_byte(records: &[u8], k: usize) -> usize
     ensures { λ r. ⌜ r ≡ ruleByte (now (records .entry)) k ⌝ }
 {
     records[STEP_SIZE * k] as usize
-}
-
-pub fn premiss_count(records: &[u8], k: usize) -> u8
-    requires { ⌜ HasStep (now records) k ⌝ }
-    ensures { λ r. ⌜ r ≡ premissCount (now (records .entry)) k ⌝ }
-{
-    records[STEP_SIZE * k + 1]
-}
-
-// The number at an offset of a step.
-pub fn step_number(records: &[u8], k: usize, at: usize) -> usize
-    requires { ⌜ (HasStep (now records) k) × (at + 1 < stepSize) ⌝ }
-    ensures { λ r. ⌜ (r ≡ stepNumber (now (records .entry)) k at) × (r < 65536) ⌝ }
-{
-    number_at(records, STEP_SIZE * k + at)
 }
 
 // How many of the premisses come after the one of a position.

@@ -1,5 +1,4 @@
 // The term that a rule has in source document 000, as a record over those of its premisses.
-use crate::step::step_number;
 use crate::table::RuleTerm;
 use proof_term::abort;
 use proof_term::application;
@@ -14,6 +13,7 @@ use proof_term::project_fst;
 use proof_term::project_snd;
 use proof_term::sorry;
 use proof_term::unit;
+use steps::step_number;
 ghost use Prim.Native.Nat.{_≤_};
 ghost use lib.ListN.{getD};
 ghost use Rattle.definitions.specs.Sheet.{stepNumber};

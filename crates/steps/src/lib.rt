@@ -23,9 +23,9 @@ pub const TREE_NESTING_LIMIT: u16 = 256;
 const IDENTIFIER_COUNTS: [u8; 17] = [0, 0, 0, 0, 1, 0, 1, 0, 0, 2, 0, 1, 0, 0, 2, 0, 0];
 
 // The number at an offset of a step.
-fn step_number(records: &[u8], k: usize, at: usize) -> usize
+pub fn step_number(records: &[u8], k: usize, at: usize) -> usize
     requires { ⌜ (HasStep (now records) k) × (at + 1 < stepSize) ⌝ }
-    ensures { λ r. ⌜ r ≡ stepNumber (now (records .entry)) k at ⌝ }
+    ensures { λ r. ⌜ (r ≡ stepNumber (now (records .entry)) k at) × (r < 65536) ⌝ }
 {
     number_at(records, STEP_SIZE * k + at)
 }
@@ -121,7 +121,7 @@ pub fn first_bad_step(records: &[u8], steps: usize, names: usize, propositions: 
     Found::Nowhere
 }
 
-fn premiss_count(records: &[u8], k: usize) -> u8
+pub fn premiss_count(records: &[u8], k: usize) -> u8
     requires { ⌜ HasStep (now records) k ⌝ }
     ensures { λ r. ⌜ r ≡ premissCount (now (records .entry)) k ⌝ }
 {

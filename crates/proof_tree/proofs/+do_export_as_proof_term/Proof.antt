@@ -22,7 +22,7 @@ use Rattle.proof_tree.proofs.do_export_as_proof_term.Kinds as kinds
 use Rattle.proof_tree.proofs.+do_export_as_proof_term.Lts-do_export_as_proof_term as lts
 use Rattle.proof_tree.proofs.placed_term.Reads as placed-term-reads
 use Rattle.proof_tree.proofs.step.premiss.Reads as premiss-reads
-use Rattle.proof_tree.proofs.step.premiss_count.Reads as premiss-count-reads
+use Rattle.steps.proofs.premiss_count.Reads as premiss-count-reads
 use Rattle.proof_tree.proofs.step.refusal.Reads as refusal-reads
 use Rattle.proof_tree.proofs.step.rule_byte.Reads as rule-byte-reads
 use Rattle.proof_tree.proofs.table.admits_count.Reads as admits-count-reads

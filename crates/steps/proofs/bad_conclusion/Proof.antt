@@ -39,16 +39,16 @@ bad-type-judgement-requires c κs = search needs
 returns : tie.Need-returns
 returns c =
     c .bad-prop-is-true .ensures _
-    ∙ sym (of-kind-0 _ _ _ _ (sym (c .before .before .step-number .ensures) ∙ c .before .match .keys1))
+    ∙ sym (of-kind-0 _ _ _ _ (sym (c .before .before .step-number .ensures .0) ∙ c .before .match .keys1))
 
 returns-2 : tie.Need-returns-2
 returns-2 c =
     c .bad-type-judgement .ensures _
-    ∙ sym (of-kind-1 _ _ _ _ (sym (c .before .before .step-number .ensures) ∙ c .before .match .keys2))
+    ∙ sym (of-kind-1 _ _ _ _ (sym (c .before .before .step-number .ensures .0) ∙ c .before .match .keys2))
 
 returns-3 : tie.Need-returns-3
 returns-3 c =
-    let e = c .before .step-number .ensures in
+    let e = c .before .step-number .ensures .0 in
     sym (of-no-kind _ _ _ _ (λ z. c .match .rest .0 .1 (e ∙ z)) (λ z. c .match .rest .1 (e ∙ z)))
 
 pub bad-conclusion-spec : {M : Type 1} → statement M

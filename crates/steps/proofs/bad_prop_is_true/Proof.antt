@@ -23,18 +23,18 @@ not-zero-requires-2 c κs = search needs
 
 returns : tie.Need-returns
 unfolding badPropIsTrue
-returns c names = first-holds _ (ap (leb _) (c .before .step-number .ensures)) (le-leb _ _ (c .if1 .taken))
+returns c names = first-holds _ (ap (leb _) (c .before .step-number .ensures .0)) (le-leb _ _ (c .if1 .taken))
 
 returns-2 : tie.Need-returns-2
 unfolding badPropIsTrue
 returns-2 c names =
-    second-decides (ap (leb _) (c .before .before .before .step-number .ensures)) (lt-leb _ _ (c .before .before .if1 .left))
+    second-decides (ap (leb _) (c .before .before .before .step-number .ensures .0)) (lt-leb _ _ (c .before .before .if1 .left))
     (first-holds _ (c .before .not-zero .ensures names _) (c .if2 .taken))
 
 returns-3 : tie.Need-returns-3
 unfolding badPropIsTrue
 returns-3 c names =
-    second-decides (ap (leb _) (c .before .before .before .before .step-number .ensures))
+    second-decides (ap (leb _) (c .before .before .before .before .step-number .ensures .0))
     (lt-leb _ _ (c .before .before .before .if1 .left))
     (second-decides (c .before .before .not-zero .ensures names _) (c .before .if2 .left) (c .not-zero2 .ensures names _))
 

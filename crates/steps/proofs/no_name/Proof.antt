@@ -11,7 +11,7 @@ step-number-requires c κs = search needs
 
 returns : tie.Need-returns
 unfolding noName
-returns c propositions = ap (leb _) (c .step-number .ensures)
+returns c propositions = ap (leb _) (c .step-number .ensures .0)
 
 pub no-name-spec : {M : Type 1} → statement M
 no-name-spec = tie.close (tie.spec step-number-requires returns)

@@ -13,7 +13,7 @@ step-number-requires c κs = search needs
 
 returns : tie.Need-returns
 unfolding notZero
-returns c names propositions = ap (λ (n : ℕ). not (eqb n 0)) (c .step-number .ensures)
+returns c names propositions = ap (λ (n : ℕ). not (eqb n 0)) (c .step-number .ensures .0)
 
 pub not-zero-spec : {M : Type 1} → statement M
 not-zero-spec = tie.close (tie.spec step-number-requires returns)

@@ -18,7 +18,7 @@ number-at-requires c κs = omega arith
 
 returns : tie.Need-returns
 unfolding stepSize stepNumber
-returns c = c .number-at .ensures .0
+returns c = c .number-at .ensures
 
 pub step-number-spec : {M : Type 1} → statement M
 step-number-spec = tie.close (tie.spec mul-number-at add-number-at number-at-requires returns)
