@@ -28,9 +28,10 @@ use Rattle.sheet.specs.declared.header.Sheet.{Sheet}
 use Rattle.sheet.specs.Header.{headerOf}
 use Rattle.sheet.proofs.Admitted.{AcceptedSheet}
 use Rattle.sheet_term.specs.Held.{HeldTerm}
+use Rattle.sheet_term.proofs.Held.{label-present}
 use Rattle.text.specs.Declaring.{headingLines, termOf, Declares}
 use Rattle.text.proofs.Accepted.{name-marked}
-use Rattle.text.proofs.Labels.{proposition-present, proposition-is, label-present}
+use Rattle.text.proofs.Labels.{proposition-present, proposition-is}
 use Rattle.text.proofs.Heading.{named-term}
 use Rattle.text.proofs.Renaming.{prop-atoms-renamed, prop-datatypes-renamed, atoms-renamed, datatypes-renamed}
 
@@ -74,7 +75,7 @@ module _ {s : List ℕ} {h : Sheet} (a : AcceptedSheet s h) (bytes : Bytes s) wh
 
   labels-stand : {terms : List ℕ} {n : ℕ} → HeldTerm s terms n → LabelsFit (h .names) (codeBytes s) terms n (propAt (h .names) (codeBytes s))
   unfolding headerOf
-  labels-stand term = rw (a .header) (labels-fit (term .below) (λ m l p. label-present (a .sheet) bytes (term .labels m l p)))
+  labels-stand term = rw (a .header) (labels-fit (term .below) (λ m l p. label-present a bytes (term .labels m l p)))
 
   goal-stands : Present (h .names) (codeBytes s) (pairOffset (propositionPairs s) (h .goal))
   unfolding headerOf
