@@ -1,12 +1,13 @@
--- How a search from place 0 upwards finds the lowest place at which a test holds.
+-- How a search from place 0 upwards finds the lowest place at which a test holds, and what it answers.
 use Prim.Native.Nat.{ℕ, zero, suc, _+_, _<_}
-use mathlib.Core.Path.{_≡_, _∙_}
+use mathlib.Core.Path.{_≡_, sym, ap}
 use mathlib.Core.Bool.{Bool, true, false}
 use mathlib.Core.Option.{none, some}
 use native.Mathlib.Omega.{arith}
 use native.Mathlib.Decide.{decLt}
 use native.Mathlib.Numerals.{add-one}
-use Rattle.definitions.specs.Outcome.{firstOf, lowest}
+use Rattle.definitions.specs.declared.Found.the-variants.{Nowhere, At}
+use Rattle.definitions.specs.Outcome.{firstOf, lowest, foundAt}
 
 module _ (test : ℕ → Bool) where
   -- one more place at which the test fails
@@ -23,3 +24,14 @@ module _ (test : ℕ → Bool) where
       go : Dec (i < count) → (i < count → lowest test count ≡ some i) → lowest test (suc count) ≡ some i
       go (yes k) again = rw (lowest, again k)
       go (no k) again = let same : count ≡ i = omega arith in rw (same, lowest, h, e)
+
+  module _ (i count : ℕ) (passed : lowest test i ≡ none) where
+    -- the answer at the first place at which it holds
+    pub found-here : test i ≡ true → i < count → At i ≡ foundAt (lowest test count)
+    unfolding foundAt
+    found-here e l = sym (ap foundAt (lowest-found i count passed e l))
+
+    -- the answer past the last place
+    pub found-nowhere : i ≡ count → Nowhere ≡ foundAt (lowest test count)
+    unfolding foundAt
+    found-nowhere e = sym (ap foundAt (rw e at passed))

@@ -1,5 +1,4 @@
 pub mod Either
-pub mod Search
 pub mod LastTrees
 pub mod Premisses
 pub mod Walk

@@ -10,9 +10,8 @@ use borrow.Author.Needs.{needs}
 use Rattle.definitions.specs.Outcome.{lowest}
 use Rattle.definitions.specs.Sheet.{stepSize, stepLimit}
 use Rattle.definitions.specs.Admission.{tooFewTrees}
-use Rattle.definitions.proofs.Lowest.{lowest-passed}
+use Rattle.definitions.proofs.Lowest.{lowest-passed, found-here, found-nowhere}
 use Rattle.steps.specs.Tables.{TreeStart, SizeTable}
-use Rattle.steps.proofs.Search.{found-here, found-nowhere}
 use Rattle.steps.proofs.Tables.{size-table-none, size-table-more}
 use Rattle.steps.proofs.fill_sizes.Statement.{statement}
 use Rattle.steps.proofs.fill_sizes.Tie as tie

@@ -6,8 +6,7 @@ use native.Mathlib.Omega.{arith}
 use Rattle.definitions.specs.Outcome.{lowest}
 use Rattle.definitions.specs.Sheet.{stepSize}
 use Rattle.definitions.specs.Admission.{badStep}
-use Rattle.definitions.proofs.Lowest.{lowest-passed}
-use Rattle.steps.proofs.Search.{found-here, found-nowhere}
+use Rattle.definitions.proofs.Lowest.{lowest-passed, found-here, found-nowhere}
 use Rattle.steps.proofs.first_bad_step.Statement.{statement}
 use Rattle.steps.proofs.first_bad_step.Tie as tie
 

@@ -11,9 +11,8 @@ use Rattle.definitions.specs.Outcome.{lowest}
 use Rattle.definitions.specs.Sheet.{stepSize, treeNestingLimit}
 use Rattle.definitions.specs.Tree.{height, treeIn}
 use Rattle.definitions.specs.Admission.{deepTree}
-use Rattle.definitions.proofs.Lowest.{lowest-passed}
+use Rattle.definitions.proofs.Lowest.{lowest-passed, found-here, found-nowhere}
 use Rattle.steps.specs.Tables.{HeightTable}
-use Rattle.steps.proofs.Search.{found-here, found-nowhere}
 use Rattle.steps.proofs.Tables.{size-table-shorter, height-table-none, height-table-more}
 use Rattle.steps.proofs.first_deep_tree.Statement.{statement}
 use Rattle.steps.proofs.first_deep_tree.Tie as tie

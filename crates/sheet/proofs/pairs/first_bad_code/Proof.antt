@@ -4,7 +4,8 @@ use mathlib.Core.Bool.{Bool·not-not}
 use native.Mathlib.Omega.{arith}
 use Rattle.definitions.specs.Sheet.{pairSize}
 use Rattle.definitions.specs.Admission.{badCode}
-use Rattle.sheet.proofs.Upward.{Passed, at-start, onward, found, nowhere}
+use Rattle.definitions.proofs.Lowest.{found-here, found-nowhere}
+use Rattle.sheet.proofs.Upward.{Passed, at-start, onward}
 use Rattle.sheet.proofs.pairs.first_bad_code.Statement.{statement}
 use Rattle.sheet.proofs.pairs.first_bad_code.Tie as tie
 
@@ -33,7 +34,7 @@ returns c =
     let after-loop = after-loop-test .before in
     let start = after-loop .before .before .before in
     let bad = badCode (start .args .names) (start .args .pairs .now) (start .args .code .now) (after-loop .loop .i) in
-    found (after-loop .loop .inv) (after-loop-test .loop-test .taken) (cc (Bool·not-not bad))
+    found-here _ _ _ (after-loop .loop .inv .none-below) (cc (Bool·not-not bad)) (after-loop-test .loop-test .taken)
 
 add-i : tie.Need-add-i Inv-loop μ-loop
 add-i c = omega arith
@@ -51,7 +52,7 @@ loop-again c =
     onward (after-loop .loop .inv) (after-loop-test .loop-test .taken) (cc (Bool·not-not bad))
 
 returns-2 : tie.Need-returns-2 Inv-loop μ-loop
-returns-2 c = nowhere (c .before .loop .inv) (c .loop-test .left)
+returns-2 c = found-nowhere _ _ _ (c .before .loop .inv .none-below) (omega arith)
 
 pub first-bad-code-spec : {M : Type 1} → statement M
 first-bad-code-spec =

@@ -3,7 +3,8 @@ use Prim.Native.Nat.{_-_}
 use native.Mathlib.Omega.{arith}
 use Rattle.definitions.specs.Sheet.{pairSize}
 use Rattle.definitions.specs.Admission.{badName}
-use Rattle.sheet.proofs.Upward.{Passed, at-start, onward, found, nowhere}
+use Rattle.definitions.proofs.Lowest.{found-here, found-nowhere}
+use Rattle.sheet.proofs.Upward.{Passed, at-start, onward}
 use Rattle.sheet.proofs.pairs.first_bad_name.Statement.{statement}
 use Rattle.sheet.proofs.pairs.first_bad_name.Tie as tie
 
@@ -30,7 +31,7 @@ unfolding badName
 returns c =
     let after-loop-test = c .before .before .before in
     let after-loop = after-loop-test .before in
-    found (after-loop .loop .inv) (after-loop-test .loop-test .taken) (cc)
+    found-here _ _ _ (after-loop .loop .inv .none-below) (cc) (after-loop-test .loop-test .taken)
 
 add-i : tie.Need-add-i Inv-loop μ-loop
 add-i c = omega arith
@@ -46,7 +47,7 @@ loop-again c =
     onward (after-loop .loop .inv) (after-loop-test .loop-test .taken) (cc)
 
 returns-2 : tie.Need-returns-2 Inv-loop μ-loop
-returns-2 c = nowhere (c .before .loop .inv) (c .loop-test .left)
+returns-2 c = found-nowhere _ _ _ (c .before .loop .inv .none-below) (omega arith)
 
 pub first-bad-name-spec : {M : Type 1} → statement M
 first-bad-name-spec =

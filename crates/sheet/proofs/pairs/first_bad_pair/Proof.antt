@@ -6,8 +6,9 @@ use native.Mathlib.Omega.{arith}
 use native.Mathlib.Numerals.{add-one}
 use borrow.Author.Tests.{ltb-true, ltb-false}
 use Rattle.definitions.specs.Sheet.{pairSize, numberAt, pairOffset, pairLength, pairEnd, lastEnd}
+use Rattle.definitions.proofs.Lowest.{found-here, found-nowhere}
 use Rattle.sheet.specs.Pairs.{badPair}
-use Rattle.sheet.proofs.Upward.{Passed, at-start, onward, found, nowhere}
+use Rattle.sheet.proofs.Upward.{Passed, at-start, onward}
 use Rattle.sheet.proofs.Placed.{good-passes, bad-pair}
 use Rattle.sheet.proofs.pairs.first_bad_pair.Statement.{statement}
 use Rattle.sheet.proofs.pairs.first_bad_pair.Tie as tie
@@ -45,11 +46,12 @@ unfolding pairEnd
 returns c =
     let after-loop-test = c .before .before .before in
     let after-loop = after-loop-test .before in
-    found (after-loop .loop .inv .0) (after-loop-test .loop-test .taken)
+    found-here _ _ _ (after-loop .loop .inv .0 .none-below)
     (bad-pair _ _ _ _ λ g.
     ⊎-elim (λ w. omega arith)
     (⊎-elim (λ w. omega (arith, ltb-true)) (⊎-elim (λ w. omega (arith, ltb-true)) (λ w. omega (arith, ltb-true))))
     (c .if1 .came))
+    (after-loop-test .loop-test .taken)
 
 add-i : tie.Need-add-i Inv-loop μ-loop
 add-i c = omega arith
@@ -67,7 +69,7 @@ loop-again c =
     )
 
 returns-2 : tie.Need-returns-2 Inv-loop μ-loop
-returns-2 c = nowhere (c .before .loop .inv .0) (c .loop-test .left)
+returns-2 c = found-nowhere _ _ _ (c .before .loop .inv .0 .none-below) (omega arith)
 
 pub first-bad-pair-spec : {M : Type 1} → statement M
 first-bad-pair-spec =

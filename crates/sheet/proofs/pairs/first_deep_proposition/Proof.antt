@@ -4,7 +4,8 @@ use native.Mathlib.Omega.{arith}
 use Rattle.definitions.specs.Sheet.{pairSize}
 use Rattle.definitions.specs.Tree.{propIn}
 use Rattle.definitions.specs.Admission.{badCode, deepProposition}
-use Rattle.sheet.proofs.Upward.{Passed, at-start, onward, found, nowhere}
+use Rattle.definitions.proofs.Lowest.{found-here, found-nowhere}
+use Rattle.sheet.proofs.Upward.{Passed, at-start, onward}
 use Rattle.sheet.proofs.pairs.first_deep_proposition.Statement.{statement}
 use Rattle.sheet.proofs.pairs.first_deep_proposition.Tie as tie
 
@@ -34,7 +35,7 @@ unfolding deepProposition propIn
 returns c =
     let after-loop-test = c .before .before .before in
     let after-loop = after-loop-test .before in
-    found (after-loop .loop .inv) (after-loop-test .loop-test .taken) (cc)
+    found-here _ _ _ (after-loop .loop .inv .none-below) (cc) (after-loop-test .loop-test .taken)
 
 add-i : tie.Need-add-i Inv-loop μ-loop
 add-i c = omega arith
@@ -50,7 +51,7 @@ loop-again c =
     onward (after-loop .loop .inv) (after-loop-test .loop-test .taken) (cc)
 
 returns-2 : tie.Need-returns-2 Inv-loop μ-loop
-returns-2 c = nowhere (c .before .loop .inv) (c .loop-test .left)
+returns-2 c = found-nowhere _ _ _ (c .before .loop .inv .none-below) (omega arith)
 
 pub first-deep-proposition-spec : {M : Type 1} → statement M
 first-deep-proposition-spec =
