@@ -54,12 +54,12 @@ is-some (some a) h = (a, refl)
 -- Of a pair that marks the code of one proposition:
 module _ (names : ℕ) (pairs code : List ℕ) (i : ℕ) (bytes : Bytes code) (coded : isNone (decode names (marked pairs code i)) ≡ false) where
   -- the proposition stands where the pair says, over the pair's whole length
-  record Standing : Type 0 where
-    rest : List ℕ
-    stands : At names code (pairOffset pairs i) (propIn names pairs code i) rest
+  pub record Standing : Type 0 where
+    pub rest : List ℕ
+    pub stands : At names code (pairOffset pairs i) (propIn names pairs code i) rest
     long : pairEnd pairs i ≤ length code → length (encode (propIn names pairs code i)) ≡ pairLength pairs i
 
-  standing : Standing
+  pub standing : Standing
   unfolding Stands marked propIn pairEnd
   standing =
       let (p, e) = is-some (decode names (marked pairs code i)) coded in
