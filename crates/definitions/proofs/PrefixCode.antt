@@ -17,7 +17,8 @@ read-number : (n : ℕ) (rest : List ℕ) → number (u16 n ++ rest) ≡ given n
 unfolding number byte yield followedBy _>>=_ u16
 read-number n rest = let e : n % 256 + 256 * (n / 256) ≡ n = omega arith in rw e
 
-code-nonempty : (p : Prop ℕ) → 0 < length (encode p)
+-- a code has a byte in front
+pub code-nonempty : (p : Prop ℕ) → 0 < length (encode p)
 unfolding encode
 code-nonempty True = omega arith
 code-nonempty False = omega arith

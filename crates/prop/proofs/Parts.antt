@@ -1,14 +1,15 @@
 -- What the bytes and the table tell of the proposition at a position: its byte in front, and where its parts stand, with their ends.
 use Prim.Native.Nat.{ℕ, _+_, _≤_, _<_}
-use mathlib.Core.Path.{_≡_, refl, ap, _∙_}
+use mathlib.Core.Path.{_≡_, refl, _∙_}
 use mathlib.Core.Logic.{by-cases}
-use mathlib.Core.List.{List, [], _∷_, _++_}
+use mathlib.Core.List.{List, _∷_, _++_}
 use native.Mathlib.Omega.{arith}
 use native.Mathlib.Decide.{decLt}
-use lib.ListN.{length, getD, length-append, List·getD-eq-default}
+use lib.ListN.{length, getD, List·getD-eq-default}
 use Rattle.definitions.specs.Prop.{Prop, True, False, Binary, Atom, Quantified, Connective, connectiveByte, Quantifier, quantifierByte}
 use Rattle.definitions.specs.Code.{encode}
 use Rattle.definitions.specs.Sheet.{numberAt}
+use Rattle.definitions.proofs.PrefixCode.{code-nonempty}
 use Rattle.prefix_code.specs.Scan.{Stands, At}
 use Rattle.prefix_code.proofs.Positions.{byte-at}
 use Rattle.prefix_code.proofs.Forms.{binary-at, quantified-at}
@@ -38,9 +39,6 @@ unfolding Stands
 head-byte {names} {l} {at} h =
     let (tail, e) = byte-in-front (propAt names l at) (h .rest) in
     byte-at l at (at + 1) (headByte (propAt names l at)) tail refl (h .stands .1 ∙ e) .value
-
-code-long : (p : Prop ℕ) → 0 < length (encode p)
-code-long p = let (tail, e) = byte-in-front p [] in omega (arith, simp length-append at (ap length e))
 
 -- the table has the end of the proposition itself
 pub own-end : (ends : List ℕ) (at : ℕ) (p : Prop ℕ) → EndsOf ends at p → EndAt ends at p
@@ -88,7 +86,7 @@ module _ (names : ℕ) (l ends : List ℕ) where
           let b = binary-at names l at (k .present .rest) (propAt names l at) (k .present .stands) low high in
           let ends-of : EndsOf ends at (Binary (b .connective) (b .left) (b .right)) = rw (b .is) at (k .ends) in
           let middle : getD ends (at + 1) 0 ≡ at + 1 + length (encode (b .left)) = own-end ends (at + 1) (b .left) (ends-of .1) in
-          let long = code-long (b .left) in
+          let long = code-nonempty (b .left) in
           let left-is = prop-at names l (at + 1) (b .left) (encode (b .right) ++ k .present .rest) (b .left-at) in
           let right-is = prop-at names l (at + 1 + length (encode (b .left))) (b .right) (k .present .rest) (b .right-at) in
           record {

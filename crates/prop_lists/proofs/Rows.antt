@@ -1,13 +1,13 @@
 -- A row of propositions reads back. Behind the head of its first one stands a row again: that one's parts, and then the others.
 use Prim.Native.Nat.{ℕ, zero, suc, _+_, _-_, _≤_, _<_}
-use mathlib.Core.Path.{_≡_, refl, sym, ap, _∙_}
+use mathlib.Core.Path.{_≡_, refl, ap, _∙_}
 use mathlib.Core.List.{List, [], _∷_, _++_, append-assoc, append-nil, flatMap}
 use native.Mathlib.Omega.{arith}
 use lib.ListN.{length, drop, length-append, length-drop}
 use lib.Seq.{take-at}
 use Rattle.definitions.specs.Prop.{Prop, True, False, Binary, Atom, Quantified, getAtoms, getDatatypes}
 use Rattle.definitions.specs.Code.{followedBy, _>>=_, byte, proposition, u16, encode, Codable}
-use Rattle.definitions.proofs.PrefixCode.{read-encode}
+use Rattle.definitions.proofs.PrefixCode.{code-nonempty, read-encode}
 use Rattle.prefix_code.specs.Scan.{Stands, Ends, At}
 use Rattle.prefix_code.specs.Head.{Head, TrueHead, FalseHead, BinaryHead, AtomHead, QuantifiedHead, encodeHead, CodableHead, headCoding}
 use Rattle.prefix_code.proofs.Positions.{after, extent}
@@ -78,19 +78,15 @@ module _ (names : ℕ) where
   codable-append [] qs f g = g
   codable-append (p ∷ ps) qs f g = (f .0, codable-append ps qs (f .1) g)
 
-  code-long : (p : Prop ℕ) → Codable names p → 0 < length (encode p)
-  unfolding Stands
-  code-long p g = inside-at names (encode p) 0 [] p (g, sym (append-nil (encode p))) .0
-
   -- as many bytes as a row has are enough to read it
   read-row : (bytes : ℕ) (ps : List (Prop ℕ)) → CodableRow names ps → length (encodeRow ps) ≤ bytes → readRow names bytes (encodeRow ps) ≡ ps
   unfolding readRow andAfter CodableRow flatMap proposition byte followedBy _>>=_
   read-row zero [] g h = refl
   read-row (suc bytes) [] g h = refl
-  read-row zero (p ∷ ps) g h = absurd (omega (arith, code-long p (g .0), length-append (encode p) (encodeRow ps)))
+  read-row zero (p ∷ ps) g h = absurd (omega (arith, code-nonempty p, length-append (encode p) (encodeRow ps)))
   read-row (suc bytes) (p ∷ ps) g h =
       let sum = length-append (encode p) (encodeRow ps) in
-      let long = code-long p (g .0) in
+      let long = code-nonempty p in
       ap (λ r. andAfter names r (readRow names bytes)) (read-encode names (suc bytes) p (encodeRow ps) (g .0) (omega arith))
       ∙ ap (λ qs. p ∷ qs) (read-row bytes ps (g .1) (omega arith))
 
