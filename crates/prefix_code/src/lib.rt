@@ -13,10 +13,10 @@ ghost use Rattle.prefix_code.specs.Scan.{Ends, Scanned, parameterCoding,
 ghost use Rattle.prefix_code.specs.Head.{headCoding, partsAfter};
 
 // An atom has at most so many parameters.
-const PARAMETER_LIMIT: u8 = 8;
+pub const PARAMETER_LIMIT: u8 = 8;
 
 // A proposition nests at most so deep.
-const NESTING_LIMIT: usize = 64;
+pub const NESTING_LIMIT: usize = 64;
 
 // How many propositions follow each head byte.
 const PARTS: [u8; 8] = [0, 0, 2, 2, 2, 0, 1, 1];

@@ -41,9 +41,9 @@ impl Sheet {
 
     pub const NAME_LENGTH_LIMIT: usize = 32;
 
-    pub const PARAMETER_LIMIT: usize = 8;
+    pub const PARAMETER_LIMIT: usize = prefix_code::PARAMETER_LIMIT as usize;
 
-    pub const PROPOSITION_NESTING_LIMIT: usize = 64;
+    pub const PROPOSITION_NESTING_LIMIT: usize = prefix_code::NESTING_LIMIT;
 
     pub const TREE_NESTING_LIMIT: usize = steps::TREE_NESTING_LIMIT as usize;
 
