@@ -1,5 +1,4 @@
 -- The laws of the comparison.
-pub mod Names
 pub mod Bindings
 pub mod Outcomes
 pub mod Standing

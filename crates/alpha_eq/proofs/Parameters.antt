@@ -9,11 +9,11 @@ use lib.ListN.{length, drop, getD, length-append}
 use lib.Dec.{eqb}
 use Rattle.definitions.specs.Outcome.{Outcome, accepted}
 use Rattle.definitions.specs.Name.{eqName}
-use Rattle.definitions.specs.Sheet.{numberAt, marked}
+use Rattle.definitions.specs.Sheet.{numberAt, marked, NameWithin}
 use Rattle.definitions.specs.Prop.{PropParameter, renameParameter}
 use Rattle.definitions.specs.Code.{u16, encodeParameter, encodeParameters, CodableParameters}
 use Rattle.definitions.specs.Comparison.{no as a-no, andAlso, alphaEqParameter, alphaEqParameters}
-use Rattle.identifier.specs.Pairs.{PairsWithin}
+use Rattle.identifier.proofs.Within.{last-within}
 use Rattle.prefix_code.specs.Scan.{Stands, Several, parameterCoding, parametersCoding}
 use Rattle.prefix_code.proofs.Positions.{after}
 use Rattle.prefix_code.proofs.Parameters.{ParameterBytes, parameter-bytes}
@@ -36,11 +36,11 @@ module _ {names : ℕ} {code : List ℕ} {at : ℕ} (s : Standing parameterCodin
 
 -- the names of two lie in the text
 pub names-within : {pairs text memory : List ℕ} {depth : ℕ} {code : List ℕ} {i j x y : ℕ} → Comparable parameterCoding code i j pairs text memory depth
-    → x ≡ numberAt code (i + 1) → y ≡ numberAt code (j + 1) → PairsWithin pairs text x × PairsWithin pairs text y
+    → x ≡ numberAt code (i + 1) → y ≡ numberAt code (j + 1) → NameWithin pairs text x × NameWithin pairs text y
 names-within {x} {y} asked x-at y-at =
     let l = parameter-at (asked .two .left) in
     let r = parameter-at (asked .two .right) in
-    (asked .named x (omega arith), asked .named y (omega arith))
+    (last-within (asked .named x (omega arith)), last-within (asked .named y (omega arith)))
 
 module _ (pairs text memory : List ℕ) (depth : ℕ) (code : List ℕ) (i j : ℕ) where
   -- of different kinds: no

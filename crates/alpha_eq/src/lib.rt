@@ -2,15 +2,11 @@
 // Names are equal where their bytes are, the latest binding decides, and the first no ends the walk. Where the Rust panics, the
 // answer is refusal 18 or 19.
 use definitions::Refusal;
-use identifier::pair_length;
-use identifier::pair_offset;
-use identifier::same_name;
+use identifier::same_bytes;
 use number::number_at;
 ghost use mathlib.Core.Path.{_≡_};
 ghost use lib.ListN.{getD};
-ghost use Rattle.definitions.specs.Name.{eqName};
-ghost use Rattle.definitions.specs.Sheet.{marked};
-ghost use Rattle.identifier.specs.Pairs.{PairsWithin};
+ghost use Rattle.definitions.specs.Sheet.{marked, NameWithin};
 ghost use Rattle.prefix_code.specs.Scan.{propositionCoding, parameterCoding};
 ghost use Rattle.alpha_eq.specs.Bindings.{Bound, Kept};
 ghost use Rattle.alpha_eq.specs.Comparing.{outcomeOf, compared, ofSides, ofApplied, ofScope, formCoding, severalCoding, boundAlikeIn, alphaEqParameterIn, alphaEqParametersIn, alphaEqAtomIn, alphaEqUnderIn, alphaEqSidesIn, alphaEqScopeIn, Comparable, Answers, WithRoom, TwoPropositions, Decides};
@@ -41,20 +37,6 @@ const UNBOUND: Refusal = Refusal {
     place: 0,
 };
 
-// Whether the names of two numbers have the same bytes.
-fn same_bytes(pairs: &[u8], text: &[u8], a: usize, b: usize) -> bool
-    requires { ⌜ PairsWithin (now pairs) (now text) a × PairsWithin (now pairs) (now text) b ⌝ }
-    ensures { λ r. ⌜ r ≡ eqName
-        (marked (now (pairs .entry)) (now (text .entry)) a)
-        (marked (now (pairs .entry)) (now (text .entry)) b) ⌝ }
-{
-    let start = pair_offset(pairs, a);
-    let end = start + pair_length(pairs, a);
-    let other = pair_offset(pairs, b);
-    let other_end = other + pair_length(pairs, b);
-    same_name(&text[start..end], &text[other..other_end])
-}
-
 // A yes with these ends, a no, or the refusal.
 fn with_ends(answer: Answer, i: usize, j: usize) -> Compared
     ensures { λ r. ⌜ r ≡ compared (outcomeOf answer) i j ⌝ }
@@ -76,7 +58,7 @@ fn bound_alike(
     y: usize,
 ) -> Answer
     requires { ⌜ Bound (now pairs) (now text) (now bindings) depth ⌝ }
-    requires { ⌜ PairsWithin (now pairs) (now text) x × PairsWithin (now pairs) (now text) y ⌝ }
+    requires { ⌜ NameWithin (now pairs) (now text) x × NameWithin (now pairs) (now text) y ⌝ }
     ensures { λ r. ⌜ outcomeOf r ≡ boundAlikeIn (now (pairs .entry)) (now (text .entry)) (now (bindings .entry)) depth x y ⌝ }
 {
     let mut unseen = depth;

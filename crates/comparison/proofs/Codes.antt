@@ -1,11 +1,10 @@
--- In an accepted sheet the code of a proposition stands at its pair's offset, and each name's pair marks bytes of the text.
+-- In an accepted sheet the code of a proposition stands at its pair's offset.
 use Prim.Native.Nat.{ℕ, _+_, _*_, _<_, _≤_}
 use mathlib.Core.Path.{_≡_}
 use mathlib.Core.List.{List}
 use native.Mathlib.Omega.{arith}
-use native.Mathlib.Nat.{le-refl}
 use lib.ListN.{length}
-use Rattle.definitions.specs.Sheet.{pairSize, stepSize, pairOffset, pairEnd, marked, names, propositions, steps, namePairs, textBytes, propositionPairs, stepRecords, codeBytes, nameOf}
+use Rattle.definitions.specs.Sheet.{pairSize, stepSize, pairOffset, marked, names, propositions, steps, namePairs, textBytes, propositionPairs, stepRecords, codeBytes, nameOf}
 use Rattle.definitions.specs.Tree.{propOf}
 use Rattle.definitions.specs.Admission.{badCode}
 use Rattle.definitions.specs.Comparison.{alphaEq}
@@ -39,11 +38,6 @@ module _ {s : List ℕ} {h : Sheet} (a : AcceptedSheet s h) where
   pub proposition-pair : {p : ℕ} → p < propositions s → pairSize * (p + 1) ≤ length (propositionPairs s)
   unfolding pairSize
   proposition-pair below = omega (arith, has-codes (a .sheet) .pairs-within .present)
-
-  pub name-marked : {n : ℕ} → n < names s → (pairSize * (n + 1) ≤ length (namePairs s)) × (pairEnd (namePairs s) n ≤ length (textBytes s))
-  name-marked below =
-      let within = names-within (a .sheet) below in
-      (within .present, within .ends _ (le-refl _))
 
   -- Over bytes:
   module _ (bytes : Bytes s) where

@@ -3,11 +3,10 @@
 use alpha_eq::Answer;
 use definitions::Refusal;
 use identifier::pair_offset;
-use identifier::same_name;
+use identifier::same_bytes;
 use sheet::Checked;
 use sheet::Sheet;
 use sheet::code_bytes;
-use sheet::marked_bytes;
 use sheet::name_pairs;
 use sheet::proposition_pairs;
 use sheet::step_records;
@@ -61,9 +60,7 @@ fn same_named(s: &[u8], h: Sheet, a: usize, b: usize) -> bool
     requires { ⌜ (a < names (now s)) × (b < names (now s)) ⌝ }
     ensures { λ r. ⌜ r ≡ eqName (nameOf (now (s .entry)) a) (nameOf (now (s .entry)) b) ⌝ }
 {
-    let pairs = name_pairs(s, h);
-    let text = text_bytes(s, h);
-    same_name(marked_bytes(pairs, text, a), marked_bytes(pairs, text, b))
+    same_bytes(name_pairs(s, h), text_bytes(s, h), a, b)
 }
 
 // Two type judgements: the names of the objects, their ids, the names of the datatypes.

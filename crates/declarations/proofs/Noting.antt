@@ -12,10 +12,10 @@ use lib.Seq.{getD-set-same, getD-set-other}
 use Rattle.definitions.specs.Name.{Name}
 use Rattle.definitions.specs.Prop.{AtomUse}
 use Rattle.definitions.specs.Code.{parameterLimit}
-use Rattle.definitions.specs.Sheet.{marked}
+use Rattle.definitions.specs.Sheet.{marked, NameWithin}
 use Rattle.definitions.specs.Text.{occurs, firsts, eqAtomUse}
 use Rattle.proof_term_lists.specs.Labels.{useOf}
-use Rattle.declarations.specs.Declared.{useOver, usesOver, entriesOf, flagOf, flagged, Marks, Held, Notable, Noted, Notes, Searchable}
+use Rattle.declarations.specs.Declared.{useOver, usesOver, entriesOf, flagOf, flagged, Held, Notable, Noted, Notes, Searchable}
 use Rattle.declarations.proofs.Firsts.{occurs-append, occurs-firsts, firsts-known, firsts-new, eqAtomUse-true, eqAtomUse-refl}
 use Rattle.declarations.proofs.Declared.{flagged-few, flagged-more, entries-kept}
 
@@ -127,7 +127,7 @@ module _ {pairs text declared : List ℕ} {len : ℕ} {seen : List ℕ} {name co
         getD-set-other (set declared (2 * len) name) (2 * len + 1) (2 * j) count 0 (λ e. omega arith)
         ∙ getD-set-other declared (2 * len) (2 * j) name 0 (λ e. omega arith)
 
-    marks-stored : (j : ℕ) → j < len + 1 → Marks pairs text (getD stored (2 * j) 0)
+    marks-stored : (j : ℕ) → j < len + 1 → NameWithin pairs text (getD stored (2 * j) 0)
     marks-stored j h = by-cases (decLt j len)
         (λ k. rw (kept-below j k) (held .marks j k))
         (λ k. let last : j ≡ len = omega arith in rw (last, name-stored) (this .marks))

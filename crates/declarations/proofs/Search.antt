@@ -11,15 +11,15 @@ use lib.Seq.{getD-take, getD-drop}
 use borrow.Author.Tests.{eq-eqb, ne-eqb}
 use Rattle.definitions.specs.Name.{Name}
 use Rattle.definitions.specs.Prop.{AtomUse}
-use Rattle.definitions.specs.Sheet.{pairOffset, pairLength, pairEnd, marked}
+use Rattle.definitions.specs.Sheet.{pairOffset, pairLength, pairEnd, marked, NameWithin}
 use Rattle.definitions.specs.Text.{occurs, eqAtomUse}
 use Rattle.identifier.proofs.Equality.{eqName-lengths, eqName-differ, eqName-alike}
 use Rattle.proof_term_lists.specs.Labels.{useOf}
-use Rattle.declarations.specs.Declared.{useOver, usesOver, entryAt, entriesOf, Marks, Searchable}
+use Rattle.declarations.specs.Declared.{useOver, usesOver, entryAt, entriesOf, Searchable}
 use Rattle.declarations.proofs.Firsts.{occurs-append}
 
 -- the bytes of a name, in the text
-module _ {pairs text : List ℕ} {i : ℕ} (marks : Marks pairs text i) where
+module _ {pairs text : List ℕ} {i : ℕ} (marks : NameWithin pairs text i) where
   marked-length : length (marked pairs text i) ≡ pairLength pairs i
   unfolding marked pairEnd
   marked-length = simp (length-take, length-drop) (omega (arith, marks .ends))
@@ -79,10 +79,10 @@ pub record Candidate (pairs text declared : List ℕ) (len name count offset siz
   pub length-of-j : size ≡ pairLength pairs (getD declared (2 * j) 0)
 
 module _ {pairs text declared : List ℕ} {len name count offset size j start : ℕ} (this : Candidate pairs text declared len name count offset size j start) where
-  of-j : Marks pairs text (getD declared (2 * j) 0)
+  of-j : NameWithin pairs text (getD declared (2 * j) 0)
   of-j = this .asked .marks j (this .before)
 
-  of-name : Marks pairs text name
+  of-name : NameWithin pairs text name
   of-name = this .asked .wanted
 
   lengths : (length (marked pairs text (getD declared (2 * j) 0)) ≡ size) × (length (marked pairs text name) ≡ size)

@@ -8,7 +8,7 @@ use lib.Dec.{eqb}
 use Rattle.definitions.specs.Name.{Name}
 use Rattle.definitions.specs.Prop.{Prop, AtomUse, getAtoms, getDatatypes}
 use Rattle.definitions.specs.Code.{parameterLimit}
-use Rattle.definitions.specs.Sheet.{pairSize, pairEnd, marked}
+use Rattle.definitions.specs.Sheet.{marked, NameWithin}
 use Rattle.prefix_code.specs.Scan.{At}
 use Rattle.definitions.specs.Text.{occurs, firsts, eqAtomUse}
 use Rattle.proof_term_lists.specs.Labels.{useOf, datatypeUses}
@@ -37,20 +37,15 @@ unfoldable pub flagged : List ℕ → ℕ
 flagged [] = 0
 flagged (a ∷ seen) = cond (eqb a 0) 0 1 + flagged seen
 
--- the pair of a name is there, and it ends within the text
-pub record Marks (pairs text : List ℕ) (name : ℕ) : Type 0 where
-  pub present : pairSize * (name + 1) ≤ length pairs
-  pub ends : pairEnd pairs name ≤ length text
-
 -- each declaration has a name, and each stands for a flag that is set, so that there is room for as many as there are flags
 pub record Held (pairs text declared : List ℕ) (len : ℕ) (seen : List ℕ) : Type 0 where
-  pub marks : (j : ℕ) → j < len → Marks pairs text (getD declared (2 * j) 0)
+  pub marks : (j : ℕ) → j < len → NameWithin pairs text (getD declared (2 * j) 0)
   pub room : 2 * length seen ≤ length declared
   pub few : len ≤ flagged seen
 
 -- a use that can be noted
 pub record Notable (pairs text seen : List ℕ) (name count : ℕ) : Type 0 where
-  pub marks : Marks pairs text name
+  pub marks : NameWithin pairs text name
   pub small : name < 65536
   pub few : count ≤ parameterLimit
   pub flag : flagOf name count < length seen
@@ -71,12 +66,12 @@ pub record Notes (pairs text : List ℕ) (uses : List (AtomUse ℕ)) (declared :
 -- what the search asks: the declarations are there, each has a name, and so has the use that is looked for
 pub record Searchable (pairs text declared : List ℕ) (len name : ℕ) : Type 0 where
   pub there : 2 * len ≤ length declared
-  pub marks : (j : ℕ) → j < len → Marks pairs text (getD declared (2 * j) 0)
-  pub wanted : Marks pairs text name
+  pub marks : (j : ℕ) → j < len → NameWithin pairs text (getD declared (2 * j) 0)
+  pub wanted : NameWithin pairs text name
 
 -- every name of the sheet has its pair and its flags
 pub record Named (pairs text seen : List ℕ) (names : ℕ) : Type 0 where
-  pub marks : (name : ℕ) → name < names → Marks pairs text name
+  pub marks : (name : ℕ) → name < names → NameWithin pairs text name
   pub flags : flagOf names 0 ≤ length seen
 
 -- what a proposition adds: its datatypes, or its atoms

@@ -22,11 +22,11 @@ ghost use lib.ListN.{length, getD};
 ghost use Rattle.definitions.specs.Prop.{Prop};
 ghost use Rattle.prefix_code.specs.Scan.{At};
 ghost use Rattle.output.specs.Wrote.{Wrote};
-ghost use Rattle.definitions.specs.Sheet.{marked};
+ghost use Rattle.definitions.specs.Sheet.{marked, NameWithin};
 ghost use Rattle.definitions.specs.Text.{occurs, eqAtomUse};
 ghost use Rattle.prop_lists.specs.Row.{Row};
 ghost use Rattle.prop_lists.specs.Entries.{atomsFrom, datatypesFrom};
-ghost use Rattle.declarations.specs.Declared.{useOver, usesOver, entriesOf, listed, Marks, Held, Named, Notable, Notes, Searchable, SomeProp};
+ghost use Rattle.declarations.specs.Declared.{useOver, usesOver, entriesOf, listed, Held, Named, Notable, Notes, Searchable, SomeProp};
 ghost use Rattle.proof_term.specs.Records.{recordSize, labelOf, termAt};
 ghost use Rattle.proof_term_lists.specs.Labels.{useOf, datatypeUses, labelUses, termUses, LabelFits, LabelsFit, SomeLabel, SomeLabels};
 ghost use Rattle.declarations.specs.Lines.{countText, breakBefore, declaration, declarationLines};
@@ -285,7 +285,7 @@ fn put_declaration(
     text: &[u8],
     write: bool,
 ) -> usize
-    requires { ⌜ Marks (now pairs) (now text) name ⌝ }
+    requires { ⌜ NameWithin (now pairs) (now text) name ⌝ }
     ensures { λ r. ⌜ Wrote (declaration datatypes (useOver (marked (now (pairs .entry)) (now (text .entry))) (useOf name count))) write (now (out .entry)) to (now (out .exit)) r ⌝ }
 {
     if datatypes {
@@ -320,7 +320,7 @@ pub fn put_declarations(
     text: &[u8],
     write: bool,
 ) -> usize
-    requires { ⌜ (2 * len ≤ length (now declared)) × ((j : ℕ) → j < len → Marks (now pairs) (now text) (getD (now declared) (2 * j) 0)) ⌝ }
+    requires { ⌜ (2 * len ≤ length (now declared)) × ((j : ℕ) → j < len → NameWithin (now pairs) (now text) (getD (now declared) (2 * j) 0)) ⌝ }
     ensures { λ r. ⌜ Wrote (declarationLines datatypes (usesOver (marked (now (pairs .entry)) (now (text .entry))) (entriesOf (now (declared .entry)) len))) write (now (out .entry)) to (now (out .exit)) r ⌝ }
 {
     let mut at = to;

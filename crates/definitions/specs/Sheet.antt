@@ -1,8 +1,8 @@
 -- The sheet: its header, and where its parts lie. Document 01, "The sheet".
-use Prim.Native.Nat.{ℕ, zero, suc, _+_, _*_}
+use Prim.Native.Nat.{ℕ, zero, suc, _+_, _*_, _≤_}
 use mathlib.Core.Bool.{Bool, _||_}
 use mathlib.Core.List.{List}
-use lib.ListN.{getD, take, drop}
+use lib.ListN.{length, getD, take, drop}
 use lib.Dec.{ltb, leb}
 use Rattle.definitions.specs.Name.{Name}
 
@@ -64,6 +64,11 @@ module _ (pairs : List ℕ) where
   -- the bytes that the pair of a number marks: a name in the text, or a proposition's code
   unfoldable pub marked : List ℕ → ℕ → List ℕ
   marked bytes i = take (pairLength i) (drop (pairOffset i) bytes)
+
+-- the name of a number lies within the text: its pair is there, and ends within it
+pub record NameWithin (pairs text : List ℕ) (name : ℕ) : Type 0 where
+  pub present : pairSize * (name + 1) ≤ length pairs
+  pub ends : pairEnd pairs name ≤ length text
 
 -- Of step records: a step's rule byte, its premiss count, and the numbers that follow, at offsets 2 to 16.
 module _ (records : List ℕ) where

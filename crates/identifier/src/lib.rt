@@ -12,7 +12,7 @@ ghost use Prim.Native.Nat.{_+_, _*_, _≤_};
 ghost use lib.ListN.{length};
 ghost use Rattle.definitions.specs.Name.{isName, eqName};
 ghost use Rattle.definitions.specs.Outcome.{lowest, foundAt};
-ghost use Rattle.definitions.specs.Sheet.{pairSize, pairOffset, pairLength};
+ghost use Rattle.definitions.specs.Sheet.{pairSize, pairOffset, pairLength, pairEnd, marked, NameWithin};
 ghost use Rattle.identifier.specs.Pairs.{PairsWithin, sameBytes};
 
 // Whether each byte is one that its position allows.
@@ -70,6 +70,26 @@ pub fn pair_length(pairs: &[u8], i: usize) -> usize
     ensures { λ r. ⌜ r ≡ pairLength (now (pairs .entry)) i ⌝ }
 {
     number_at(pairs, PAIR_SIZE * i + 2)
+}
+
+// The bytes that the pair of a number marks.
+pub fn marked_bytes<'a>(pairs: &[u8], bytes: &'a [u8], i: usize) -> &'a [u8]
+    requires { ⌜ (pairSize * (i + 1) ≤ length (now pairs)) × (pairEnd (now pairs) i ≤ length (now bytes)) ⌝ }
+    ensures { λ r. ⌜ now r ≡ marked (now (pairs .entry)) (now (bytes .entry)) i ⌝ }
+{
+    let offset = pair_offset(pairs, i);
+    let end = offset + pair_length(pairs, i);
+    &bytes[offset..end]
+}
+
+// Whether the names of two numbers have the same bytes.
+pub fn same_bytes(pairs: &[u8], text: &[u8], a: usize, b: usize) -> bool
+    requires { ⌜ NameWithin (now pairs) (now text) a × NameWithin (now pairs) (now text) b ⌝ }
+    ensures { λ r. ⌜ r ≡ eqName
+        (marked (now (pairs .entry)) (now (text .entry)) a)
+        (marked (now (pairs .entry)) (now (text .entry)) b) ⌝ }
+{
+    same_name(marked_bytes(pairs, text, a), marked_bytes(pairs, text, b))
 }
 
 // The first name before number i with the same bytes as name i.

@@ -4,7 +4,7 @@ use mathlib.Core.Bool.{cond}
 use mathlib.Core.List.{List, [], _∷_}
 use lib.ListN.{length, getD}
 use lib.Dec.{eqb}
-use Rattle.definitions.specs.Sheet.{pairSize, pairEnd}
+use Rattle.definitions.specs.Sheet.{NameWithin}
 use Rattle.definitions.specs.IdentifierContext.{EntryType, proposition, datatype, IdentifierContext}
 use Rattle.definitions.specs.IdentifierContext as definition
 use Rattle.identifier_context.specs.declared.Entry.{Entry}
@@ -41,11 +41,6 @@ module _ (entries : List ℕ) where
   unfoldable pub contextOf : ℕ → IdentifierContext
   contextOf zero = []
   contextOf (suc n) = entryOf (entryAt n) ∷ contextOf n
-
--- A number that the sheet's checks admit as a name: its pair is there, and ends within the text.
-pub record NameWithin (pairs text : List ℕ) (name : ℕ) : Type 0 where
-  pub present : pairSize * (name + 1) ≤ length pairs
-  pub ends : pairEnd pairs name ≤ length text
 
 -- What an operation asks of the lent memory: the first n entries are there, and their names are names.
 pub record Holds (pairs text entries : List ℕ) (n : ℕ) : Type 0 where

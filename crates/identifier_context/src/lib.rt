@@ -2,15 +2,12 @@
 // The caller keeps the count of entries. Names are numbers of the sheet, and equal where their bytes are.
 use definitions::Found;
 use definitions::Refusal;
-use identifier::pair_length;
-use identifier::pair_offset;
-use identifier::same_name;
+use identifier::same_bytes;
 ghost use mathlib.Core.Path.{_≡_};
 ghost use Prim.Native.Nat.{_+_, _-_, _*_, _≤_, _<_};
 ghost use lib.ListN.{length};
-ghost use Rattle.definitions.specs.Name.{eqName};
-ghost use Rattle.definitions.specs.Sheet.{marked};
-ghost use Rattle.identifier_context.specs.Memory.{NameWithin, Holds, entrySize, nameAt, entryOf, entryAt, contextOf};
+ghost use Rattle.definitions.specs.Sheet.{marked, NameWithin};
+ghost use Rattle.identifier_context.specs.Memory.{Holds, entrySize, nameAt, entryOf, entryAt, contextOf};
 ghost use Rattle.identifier_context.specs.Promises.{Inserts, Finds, Removes, nameAsked, admitted, shifted, closed, isVisible, visibleBefore, visibleFrom};
 
 // The numbers of an entry.
@@ -74,26 +71,6 @@ pub fn entry_at(entries: &[u16], i: usize) -> Entry
     }
 }
 
-// The bytes of the name of a number.
-fn name_bytes<'a>(pairs: &[u8], text: &'a [u8], name: u16) -> &'a [u8]
-    requires { ⌜ NameWithin (now pairs) (now text) name ⌝ }
-    ensures { λ r. ⌜ now r ≡ marked (now (pairs .entry)) (now (text .entry)) name ⌝ }
-{
-    let start = pair_offset(pairs, name as usize);
-    let end = start + pair_length(pairs, name as usize);
-    &text[start..end]
-}
-
-// Whether two numbers stand for the same name.
-fn same_bytes(pairs: &[u8], text: &[u8], a: u16, b: u16) -> bool
-    requires { ⌜ NameWithin (now pairs) (now text) a × NameWithin (now pairs) (now text) b ⌝ }
-    ensures { λ r. ⌜ r ≡ eqName
-        (marked (now (pairs .entry)) (now (text .entry)) a)
-        (marked (now (pairs .entry)) (now (text .entry)) b) ⌝ }
-{
-    same_name(name_bytes(pairs, text, a), name_bytes(pairs, text, b))
-}
-
 // Whether a lookup admits the entry of an index.
 fn admits(entries: &[u16], i: usize, pairs: &[u8], text: &[u8], lookup: Lookup) -> bool
     requires { ⌜ (entrySize * (i + 1) ≤ length (now entries))
@@ -104,12 +81,12 @@ fn admits(entries: &[u16], i: usize, pairs: &[u8], text: &[u8], lookup: Lookup) 
 {
     let entry = entry_at(entries, i);
     match lookup {
-        Lookup::ByName(name) => same_bytes(pairs, text, name, entry.name),
+        Lookup::ByName(name) => same_bytes(pairs, text, name as usize, entry.name as usize),
         Lookup::ByIdentifier(name, id) => {
             if entry.id != id {
                 return false;
             }
-            same_bytes(pairs, text, name, entry.name)
+            same_bytes(pairs, text, name as usize, entry.name as usize)
         }
     }
 }

@@ -1,12 +1,12 @@
 -- What it takes to print a proposition, and the signs of which its text is made.
-use Prim.Native.Nat.{ℕ, _+_, _*_, _≤_, _<_}
+use Prim.Native.Nat.{ℕ, _*_, _<_}
 use mathlib.Core.Path.{_≡_}
 use mathlib.Core.List.{List}
-use lib.ListN.{length, getD, take, drop}
+use lib.ListN.{getD, take, drop}
 use Rattle.definitions.specs.Utf8.{utf8}
 use Rattle.definitions.specs.Name.{Name}
 use Rattle.definitions.specs.Prop.{Prop, renameProp}
-use Rattle.definitions.specs.Sheet.{pairSize, pairEnd, marked}
+use Rattle.definitions.specs.Sheet.{marked, NameWithin}
 use Rattle.prefix_code.specs.PropAt.{propAt, Present}
 use Rattle.prop.specs.Ends.{Known}
 
@@ -14,21 +14,16 @@ use Rattle.prop.specs.Ends.{Known}
 abbrev pub namedProp : ℕ → List ℕ → List ℕ → List ℕ → ℕ → Prop Name
 namedProp names code pairs text at = renameProp (marked pairs text) (propAt names code at)
 
--- the pair of a name is there, and ends within the text
-pub record Named (pairs text : List ℕ) (n : ℕ) : Type 0 where
-  pub there : pairSize * (n + 1) ≤ length pairs
-  pub within : pairEnd pairs n ≤ length text
-
 -- a proposition stands at `at` with its ends in the table, and each name below `names` is there
 pub record Printable (names : ℕ) (code ends pairs text : List ℕ) (at : ℕ) : Type 0 where
   pub known : Known names code ends at
-  pub named : (n : ℕ) → n < names → Named pairs text n
+  pub named : (n : ℕ) → n < names → NameWithin pairs text n
 
 -- an atom stands at `at`, and each name below `names` is there
 pub record AtomPrintable (names : ℕ) (code pairs text : List ℕ) (at : ℕ) : Type 0 where
   pub present : Present names code at
   pub byte : getD code at 0 ≡ 5
-  pub named : (n : ℕ) → n < names → Named pairs text n
+  pub named : (n : ℕ) → n < names → NameWithin pairs text n
 
 -- a proposition stands at `at` with its ends in the table, whatever the count of names is
 pub record Legible (code ends : List ℕ) (at : ℕ) : Type 0 where

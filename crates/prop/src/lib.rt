@@ -13,12 +13,12 @@ ghost use lib.Dec.{ltb};
 ghost use Rattle.definitions.specs.Utf8.{utf8};
 ghost use Rattle.definitions.specs.Name.{Name};
 ghost use Rattle.definitions.specs.Prop.{Connective, connectiveByte, Quantifier, quantifierByte, renameProp};
-ghost use Rattle.definitions.specs.Sheet.{pairOffset, marked};
+ghost use Rattle.definitions.specs.Sheet.{pairOffset, marked, NameWithin};
 ghost use Rattle.definitions.specs.Display.{wrap, wrapsLeft, wrapsRight, connectiveText, quantifierText, displayProp};
 ghost use Rattle.output.specs.Wrote.{Wrote};
 ghost use Rattle.prefix_code.specs.PropAt.{propAt};
 ghost use Rattle.prop.specs.Ends.{Known, Fillable, Filled, AllFillable};
-ghost use Rattle.prop.specs.Printing.{namedProp, Named, AtomPrintable, Printable, Legible, sign};
+ghost use Rattle.prop.specs.Printing.{namedProp, AtomPrintable, Printable, Legible, sign};
 
 // The bytes of a pair of offset and length.
 const PAIR_SIZE: usize = 4;
@@ -167,8 +167,8 @@ fn put_quantifier(
     write: bool,
 ) -> usize
     requires { ⌜ head < 8 ⌝ }
-    requires { ⌜ Named (now pairs) (now text) object ⌝ }
-    requires { ⌜ Named (now pairs) (now text) datatype ⌝ }
+    requires { ⌜ NameWithin (now pairs) (now text) object ⌝ }
+    requires { ⌜ NameWithin (now pairs) (now text) datatype ⌝ }
     ensures { λ r. ⌜ ((q : Quantifier) → head ≡ quantifierByte q →
         Wrote (quantifierText q ++ (marked (now (pairs .entry)) (now (text .entry)) object ++ (utf8 ":" ++
         (marked (now (pairs .entry)) (now (text .entry)) datatype ++ utf8 ". ")))) write (now (out .entry)) to (now (out .exit)) r) ⌝ }

@@ -12,11 +12,12 @@ use Rattle.definitions.specs.Name.{isName}
 use Rattle.definitions.specs.Prop.{nesting}
 use Rattle.definitions.specs.Code.{decode}
 use Rattle.definitions.specs.Outcome.{refused, accepted}
-use Rattle.definitions.specs.Sheet.{pairSize, codeLength, codeStart, names, propositions, steps, namePairs, textBytes, propositionPairs, stepRecords, codeBytes, nameOf, marked, premissCount, propositionNestingLimit, treeNestingLimit}
+use Rattle.definitions.specs.Sheet.{pairSize, codeLength, codeStart, names, propositions, steps, namePairs, textBytes, propositionPairs, stepRecords, codeBytes, nameOf, marked, premissCount, propositionNestingLimit, treeNestingLimit, NameWithin}
 use Rattle.definitions.specs.Tree.{ProofTree, height, treesBefore, treeIn, propIn, propOf, treeOf, rootOf}
 use Rattle.definitions.specs.Admission.{isNone, badName, badCode, deepProposition, tooFewTrees, treesLeft, deepTree, admitted}
 use Rattle.definitions.proofs.PrefixCode.{Bytes}
 use Rattle.identifier.specs.Pairs.{PairsWithin}
+use Rattle.identifier.proofs.Within.{last-within}
 use Rattle.prefix_code.proofs.Reading.{part-bytes}
 use Rattle.steps.specs.Records.{HasSteps}
 use Rattle.sheet.specs.declared.header.Sheet.{Sheet}
@@ -173,6 +174,10 @@ module _ {s : List ℕ} (a : Admitted s) where
   pub names-within : {i : ℕ} → i < names s → PairsWithin (namePairs s) (textBytes s) i
   unfolding pairSize
   names-within h = record { present = omega (arith, has-names .present); ends = λ j l. has-names .ends j (omega arith) }
+
+  -- the name of one of them
+  pub name-within : (i : ℕ) → i < names s → NameWithin (namePairs s) (textBytes s) i
+  name-within i h = last-within (names-within h)
 
 pub its-header : {s : List ℕ} {h : Sheet} → AcceptedSheet s h → HasHeader s h
 its-header a = rw (a .header) (has-header (a .sheet))

@@ -11,7 +11,6 @@ pub use pairs::first_bad_code;
 pub use pairs::first_bad_name;
 pub use pairs::first_bad_pair;
 pub use pairs::first_deep_proposition;
-pub use pairs::marked_bytes;
 pub use parts::code_bytes;
 pub use parts::name_pairs;
 pub use parts::proposition_pairs;

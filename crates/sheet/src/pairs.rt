@@ -1,16 +1,16 @@
 // Pairs of offset and length, and what stands in the bytes that they mark.
-use crate::parts::between;
 use definitions::Found;
 use identifier::is_name;
+use identifier::marked_bytes;
 use identifier::pair_length;
 use identifier::pair_offset;
 use prefix_code::is_code;
 use prefix_code::is_deep;
 ghost use mathlib.Core.Path.{_≡_};
-ghost use Prim.Native.Nat.{_+_, _*_, _≤_};
+ghost use Prim.Native.Nat.{_*_, _≤_};
 ghost use lib.ListN.{length};
 ghost use Rattle.definitions.specs.Outcome.{lowest, foundAt};
-ghost use Rattle.definitions.specs.Sheet.{pairSize, pairEnd, marked};
+ghost use Rattle.definitions.specs.Sheet.{pairSize};
 ghost use Rattle.definitions.specs.Admission.{badName, badCode, deepProposition};
 ghost use Rattle.sheet.specs.Pairs.{badPair, HasPairs, HasCodes};
 
@@ -30,16 +30,6 @@ pub fn first_bad_pair(pairs: &[u8], count: usize, bytes: usize, longest: usize) 
         last_end = end;
     }
     Found::Nowhere
-}
-
-// The bytes that the pair of a number marks.
-pub fn marked_bytes<'a>(pairs: &[u8], bytes: &'a [u8], i: usize) -> &'a [u8]
-    requires { ⌜ (pairSize * (i + 1) ≤ length (now pairs)) × (pairEnd (now pairs) i ≤ length (now bytes)) ⌝ }
-    ensures { λ r. ⌜ now r ≡ marked (now (pairs .entry)) (now (bytes .entry)) i ⌝ }
-{
-    let offset = pair_offset(pairs, i);
-    let end = offset + pair_length(pairs, i);
-    between(bytes, offset, end)
 }
 
 // Refusal 5: the lowest name with a byte that its position does not allow.

@@ -26,11 +26,10 @@ use Rattle.declarations.proofs.Declared.{flagged-few}
 use Rattle.declarations.proofs.Lines.{atoms-declared, datatypes-declared}
 use Rattle.sheet.specs.declared.header.Sheet.{Sheet}
 use Rattle.sheet.specs.Header.{headerOf}
-use Rattle.sheet.proofs.Admitted.{AcceptedSheet}
+use Rattle.sheet.proofs.Admitted.{AcceptedSheet, name-within}
 use Rattle.sheet_term.specs.Held.{HeldTerm}
 use Rattle.sheet_term.proofs.Held.{label-present}
 use Rattle.text.specs.Declaring.{headingLines, termOf, Declares}
-use Rattle.text.proofs.Accepted.{name-marked}
 use Rattle.text.proofs.Labels.{proposition-present, proposition-is}
 use Rattle.text.proofs.Heading.{named-term}
 use Rattle.text.proofs.Renaming.{prop-atoms-renamed, prop-datatypes-renamed, atoms-renamed, datatypes-renamed}
@@ -71,7 +70,7 @@ module _ {s : List ℕ} {h : Sheet} (a : AcceptedSheet s h) (bytes : Bytes s) wh
   -- each name has its flags
   names-flagged : {seen : List ℕ} → length seen ≡ flagCount → Named (namePairs s) (textBytes s) seen (h .names)
   unfolding headerOf nameLimit
-  names-flagged long = rw (a .header) (record { marks = name-marked a; flags = omega (arith, a .sheet .in-range .names) })
+  names-flagged long = rw (a .header) (record { marks = name-within (a .sheet); flags = omega (arith, a .sheet .in-range .names) })
 
   labels-stand : {terms : List ℕ} {n : ℕ} → HeldTerm s terms n → LabelsFit (h .names) (codeBytes s) terms n (propAt (h .names) (codeBytes s))
   unfolding headerOf

@@ -9,12 +9,11 @@ use Rattle.definitions.specs.Admission.{badCode}
 use Rattle.sheet.specs.declared.header.Sheet.{Sheet}
 use Rattle.sheet.specs.Header.{headerOf}
 use Rattle.sheet.proofs.Slices.{lengths}
-use Rattle.sheet.proofs.Admitted.{AcceptedSheet, has-codes}
+use Rattle.sheet.proofs.Admitted.{AcceptedSheet, has-codes, name-within}
 use Rattle.prop.specs.Ends.{Known, AllFillable}
 use Rattle.proof_term_display.specs.Printable.{PrintableTerm}
 use Rattle.sheet_term.specs.Held.{HeldTerm}
 use Rattle.text.specs.Declaring.{EndsKnown}
-use Rattle.text.proofs.Accepted.{name-marked}
 use Rattle.text.proofs.Labels.{label-known}
 
 module _ {s : List ℕ} {h : Sheet} (a : AcceptedSheet s h) where
@@ -47,5 +46,5 @@ module _ {s : List ℕ} {h : Sheet} (a : AcceptedSheet s h) where
     held = term .held;
     below = term .below;
     labels = λ m h p. label-known table (term .labels m h p);
-    named = λ i h. record { there = name-marked a i h .present; within = name-marked a i h .ends };
+    named = name-within (a .sheet);
   })

@@ -7,14 +7,14 @@ use lib.ListN.{length, getD}
 use Rattle.definitions.specs.Outcome.{accepted}
 use Rattle.definitions.specs.Name.{Name}
 use Rattle.definitions.specs.Prop.{Prop, getAtoms, getDatatypes}
-use Rattle.definitions.specs.Sheet.{names, propositions, namePairs, textBytes, propositionPairs, codeBytes, nameOf, pairOffset}
+use Rattle.definitions.specs.Sheet.{names, propositions, namePairs, textBytes, propositionPairs, codeBytes, nameOf, pairOffset, NameWithin}
 use Rattle.definitions.specs.Term.{ProofTerm, atomList, datatypeList, renameTerm}
 use Rattle.definitions.specs.Text.{atomDeclarations, datatypeDeclarations}
 use Rattle.definitions.specs.Answers.{namedTerm, goalProp}
 use Rattle.prefix_code.specs.PropAt.{propAt}
 use Rattle.prop.specs.Ends.{Known}
 use Rattle.proof_term.specs.Records.{termAt}
-use Rattle.declarations.specs.Declared.{usesOver, entriesOf, Marks}
+use Rattle.declarations.specs.Declared.{usesOver, entriesOf}
 use Rattle.declarations.specs.Lines.{declarationLines}
 
 -- the datatype declarations, or else the atom declarations, of a term and a goal
@@ -31,7 +31,7 @@ module _ (s : List ℕ) where
   -- so many declarations stand in lent memory, each of a name of the sheet, and their lines are those of the sheet's text
   pub record Declares (datatypes : Bool) (declared : List ℕ) (len : ℕ) : Type 0 where
     pub there : 2 * len ≤ length declared
-    pub marks : (j : ℕ) → j < len → Marks (namePairs s) (textBytes s) (getD declared (2 * j) 0)
+    pub marks : (j : ℕ) → j < len → NameWithin (namePairs s) (textBytes s) (getD declared (2 * j) 0)
     pub lines : (t : ProofTerm Name) → namedTerm s ≡ accepted t
         → declarationLines datatypes (usesOver (nameOf s) (entriesOf declared len)) ≡ headingLines datatypes t (goalProp s)
 

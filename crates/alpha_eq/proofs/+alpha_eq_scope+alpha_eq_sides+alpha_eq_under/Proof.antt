@@ -6,6 +6,7 @@ use native.Mathlib.Omega.{arith}
 use lib.ListN.{length, length-set}
 use borrow.Author.Needs.{needs}
 use borrow.Author.Tests.{not-true, not-false}
+use Rattle.identifier.proofs.Within.{last-within}
 use Rattle.alpha_eq.specs.Comparing.{ofSides, ofApplied, ofScope}
 use Rattle.alpha_eq.proofs.Outcomes.{stops}
 use Rattle.alpha_eq.proofs.Bindings.{kept-all, kept-fewer, kept-trans, kept-pushed}
@@ -24,7 +25,7 @@ use Rattle.alpha_eq.proofs.alpha_eq_under.Reads as alpha-eq-under
 use Rattle.alpha_eq.proofs.alpha_eq_under.Kinds as alpha-eq-under-kinds
 use Rattle.alpha_eq.proofs.+alpha_eq_scope+alpha_eq_sides+alpha_eq_under.Lts-alpha_eq_under as alpha-eq-under-lts
 use Rattle.alpha_eq.proofs.alpha_eq_atom.Reads as alpha-eq-atom-reads
-use Rattle.alpha_eq.proofs.same_bytes.Reads as same-bytes-reads
+use Rattle.identifier.proofs.same_bytes.Reads as same-bytes-reads
 use Rattle.number.proofs.number_at.Reads as number-at-reads
 use Rattle.alpha_eq.proofs.+alpha_eq_scope+alpha_eq_sides+alpha_eq_under.{statement}
 use Rattle.alpha_eq.proofs.+alpha_eq_scope+alpha_eq_sides+alpha_eq_under.Tie.{close}
@@ -79,10 +80,12 @@ alpha-eq-scope-number-at-requires-2 t c κs = omega (arith, scope-at (c .before 
 
 alpha-eq-scope-same-bytes-requires : (t : ℕ) → alpha-eq-scope-lts.Need-same-bytes-requires (alpha-eq-scope-claims t) (alpha-eq-scope-at t) alpha-eq-scope.Post
 alpha-eq-scope-same-bytes-requires t c κs = (
-  c .before .before .before .before .before .before .pre .1 .0 .forms .named (c .before .number-at .result)
-      (omega (arith, scope-at (c .before .before .before .before .before .before .pre .1 .0 .forms .two .left))),
-  c .before .before .before .before .before .before .pre .1 .0 .forms .named (c .number-at2 .result)
-      (omega (arith, scope-at (c .before .before .before .before .before .before .pre .1 .0 .forms .two .right))),
+  last-within
+      (c .before .before .before .before .before .before .pre .1 .0 .forms .named (c .before .number-at .result)
+      (omega (arith, scope-at (c .before .before .before .before .before .before .pre .1 .0 .forms .two .left)))),
+  last-within
+      (c .before .before .before .before .before .before .pre .1 .0 .forms .named (c .number-at2 .result)
+      (omega (arith, scope-at (c .before .before .before .before .before .before .pre .1 .0 .forms .two .right)))),
 )
 
 alpha-eq-scope-returns : (t : ℕ) → alpha-eq-scope-lts.Need-returns (alpha-eq-scope-claims t) (alpha-eq-scope-at t) alpha-eq-scope.Post

@@ -2,6 +2,7 @@
 use Prim.Native.Nat.{_+_}
 use native.Mathlib.Omega.{arith}
 use borrow.Author.Tests.{not-true, not-false}
+use Rattle.identifier.proofs.Within.{last-within}
 use Rattle.alpha_eq.proofs.Atoms.{atom-at, two-lists, other-name, other-count, by-parameters}
 use Rattle.alpha_eq.proofs.alpha_eq_atom.Statement.{statement}
 use Rattle.alpha_eq.proofs.alpha_eq_atom.Tie as tie
@@ -20,10 +21,12 @@ number-at-requires-2 c κs = omega (arith, atom-at (c .before .before .before .b
 
 same-bytes-requires : tie.Need-same-bytes-requires
 same-bytes-requires c κs = (
-  c .before .before .before .before .before .before .pre .named (c .before .number-at .result)
-      (omega (arith, atom-at (c .before .before .before .before .before .before .pre .two .left))),
-  c .before .before .before .before .before .before .pre .named (c .number-at2 .result)
-      (omega (arith, atom-at (c .before .before .before .before .before .before .pre .two .right))),
+  last-within
+      (c .before .before .before .before .before .before .pre .named (c .before .number-at .result)
+      (omega (arith, atom-at (c .before .before .before .before .before .before .pre .two .left)))),
+  last-within
+      (c .before .before .before .before .before .before .pre .named (c .number-at2 .result)
+      (omega (arith, atom-at (c .before .before .before .before .before .before .pre .two .right)))),
 )
 
 add-count : tie.Need-add-count

@@ -6,6 +6,7 @@ use mathlib.Core.Path.{_≡_, refl, sym, _∙_}
 use native.Mathlib.Omega.{arith}
 use borrow.Author.Needs.{needs}
 use Rattle.definitions.specs.Outcome.{refuse}
+use Rattle.identifier.proofs.Within.{last-within}
 use Rattle.alpha_eq.specs.Comparing.{outcomeOf, boundAlikeIn}
 use Rattle.alpha_eq.proofs.Bindings.{latest-binding, none-bound}
 use Rattle.alpha_eq.proofs.bound_alike.Statement.{statement}
@@ -41,7 +42,7 @@ cast-same-bytes : tie.Need-cast-same-bytes Inv-loop μ-loop
 cast-same-bytes c = widened (c .shared-slice-known4 .given _)
 
 same-bytes-requires : tie.Need-same-bytes-requires Inv-loop μ-loop
-same-bytes-requires c κs = (c .before .before .before .before .before .before .pre .0 .named _ (omega arith), c .before .before .before .before .before .before .pre .1 .0)
+same-bytes-requires c κs = (last-within (c .before .before .before .before .before .before .pre .0 .named _ (omega arith)), c .before .before .before .before .before .before .pre .1 .0)
 
 add-same-bytes : tie.Need-add-same-bytes Inv-loop μ-loop
 add-same-bytes c = search needs
@@ -56,7 +57,7 @@ cast-same-bytes-2 : tie.Need-cast-same-bytes-2 Inv-loop μ-loop
 cast-same-bytes-2 c = widened (c .shared-slice-known5 .given _)
 
 same-bytes-requires-2 : tie.Need-same-bytes-requires-2 Inv-loop μ-loop
-same-bytes-requires-2 c κs = (c .before .before .before .before .before .before .before .before .pre .0 .named _ (omega arith), c .before .before .before .before .before .before .before .before .pre .1 .1)
+same-bytes-requires-2 c κs = (last-within (c .before .before .before .before .before .before .before .before .pre .0 .named _ (omega arith)), c .before .before .before .before .before .before .before .before .pre .1 .1)
 
 returns : tie.Need-returns Inv-loop μ-loop
 unfolding outcomeOf

@@ -242,7 +242,7 @@ module _ (t : ℕ) where
       let below : c .before .field .result < start .args .names =
       rw (c .before .field .ensures .0) (rw (item-name (start .args .b) is-name) at (start .pre .1 .1 .1)) in
       let named = start .pre .1 .1 .0 .named _ below in
-      (named .there, named .within)
+      (named .present, named .ends)
 
   put-item-returns-2 : put-item-lts.Need-returns-2 put-item-claims put-item-at put-item.Post
   unfolding itemText

@@ -18,7 +18,7 @@ put-name-requires c κs =
     let is-datatype = sym (c .before .before .field2 .ensures .0) ∙ c .before .if1 .taken in
     let below : c .before .before .before .field .result < start .args .names = rw (c .before .before .before .field .ensures .0) (start .pre .1 .is-datatype is-datatype) in
     let named = start .pre .0 .named _ below in
-    (named .there, named .within)
+    (named .present, named .ends)
 
 same-length : tie.Need-same-length
 same-length c = search needs

@@ -22,7 +22,7 @@ number-at-requires c κs = omega (arith, atom-name (c .before .before .before .b
 put-name-requires : tie.Need-put-name-requires Inv-loop μ-loop
 put-name-requires c κs =
     let named = c .before .before .before .before .before .before .pre .named (c .number-at .result) (rw (c .number-at .ensures .0) (atom-name (c .before .before .before .before .before .before .pre .present) (c .before .before .before .before .before .before .pre .byte) .below)) in
-    (named .there, named .within)
+    (named .present, named .ends)
 
 add-needed : tie.Need-add-needed Inv-loop μ-loop
 add-needed c = omega (arith, atom-name (c .before .before .before .before .before .before .before .before .before .pre .present) (c .before .before .before .before .before .before .before .before .before .pre .byte))
@@ -54,7 +54,7 @@ number-at-requires-2 c κs = omega (arith, parameter-name _ _ _ _ (c .before .be
 put-name-requires-2 : tie.Need-put-name-requires-2 Inv-loop μ-loop
 put-name-requires-2 c κs =
     let named = c .before .before .before .before .before .before .before .before .before .before .before .before .before .before .before .before .before .before .before .pre .named (c .number-at2 .result) (rw (c .number-at2 .ensures .0) (parameter-name _ _ _ _ (c .before .before .before .loop .inv) (c .before .before .loop-test .taken) .below)) in
-    (named .there, named .within)
+    (named .present, named .ends)
 
 parameter-end-requires : tie.Need-parameter-end-requires Inv-loop μ-loop
 parameter-end-requires c κs = omega (arith, parameter-name _ _ _ _ (c .before .before .before .before .before .before .loop .inv) (c .before .before .before .before .before .loop-test .taken))

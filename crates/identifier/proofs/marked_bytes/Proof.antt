@@ -1,11 +1,11 @@
--- The pair of the number marks a part of the text.
+-- The pair of the number marks a part of the bytes.
 use Prim.Native.Nat.{_+_, _-_}
 use mathlib.Core.Path.{_≡_}
 use native.Mathlib.Omega.{arith}
 use borrow.Author.Needs.{needs}
 use Rattle.definitions.specs.Sheet.{pairEnd, marked}
-use Rattle.identifier_context.proofs.name_bytes.Statement.{statement}
-use Rattle.identifier_context.proofs.name_bytes.Tie as tie
+use Rattle.identifier.proofs.marked_bytes.Statement.{statement}
+use Rattle.identifier.proofs.marked_bytes.Tie as tie
 
 pair-offset-requires : tie.Need-pair-offset-requires
 pair-offset-requires c κs = search needs
@@ -15,7 +15,7 @@ pair-length-requires c κs = search needs
 
 add-end : tie.Need-add-end
 unfolding pairEnd
-add-end c = omega (arith, c .before .before .before .before .pre .ends)
+add-end c = omega (arith, c .before .before .before .before .pre .1)
 
 sub-result : tie.Need-sub-result
 sub-result c = search needs
@@ -25,7 +25,7 @@ part-result-start c = search needs
 
 part-result-end : tie.Need-part-result-end
 unfolding pairEnd
-part-result-end c = omega (arith, c .before .before .before .before .pre .ends)
+part-result-end c = omega (arith, c .before .before .before .before .pre .1)
 
 returns : tie.Need-returns
 unfolding marked
@@ -34,8 +34,8 @@ returns c =
     let size : start + c .before .pair-length .result - start ≡ c .before .pair-length .result = omega arith in
     rw (size, c .before .before .pair-offset .ensures, c .before .pair-length .ensures)
 
-pub name-bytes-spec : {M : Type 1} → statement M
-name-bytes-spec =
+pub marked-bytes-spec : {M : Type 1} → statement M
+marked-bytes-spec =
     tie.close
     (tie.spec
     pair-offset-requires
