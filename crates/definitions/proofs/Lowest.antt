@@ -1,8 +1,8 @@
 -- How a search from place 0 upwards finds the lowest place at which a test holds, and what it answers.
 use Prim.Native.Nat.{ℕ, zero, suc, _+_, _<_}
-use mathlib.Core.Path.{_≡_, sym, ap}
+use mathlib.Core.Path.{_≡_, refl, sym, ap}
 use mathlib.Core.Bool.{Bool, true, false}
-use mathlib.Core.Option.{none, some}
+use mathlib.Core.Option.{Option, none, some}
 use native.Mathlib.Omega.{arith}
 use native.Mathlib.Decide.{decLt}
 use native.Mathlib.Numerals.{add-one}
@@ -35,3 +35,20 @@ module _ (test : ℕ → Bool) where
     pub found-nowhere : i ≡ count → Nowhere ≡ foundAt (lowest test count)
     unfolding foundAt
     found-nowhere e = sym (ap foundAt (rw e at passed))
+
+-- below the count of a search that finds none, the test fails everywhere
+pub all-fail : (test : ℕ → Bool) (count : ℕ) → lowest test count ≡ none → (i : ℕ) → i < count → test i ≡ false
+unfolding lowest firstOf
+all-fail test zero e i h = absurd (omega arith)
+all-fail test (suc count) e i h = go (lowest test count) (test count) refl refl e (all-fail test count)
+  where
+    go : (earlier : Option ℕ) (here : Bool) → lowest test count ≡ earlier → test count ≡ here
+        → firstOf earlier here count ≡ none
+        → (lowest test count ≡ none → (j : ℕ) → j < count → test j ≡ false) → test i ≡ false
+    go (some j) here same at f below = absurd (let z : _≡_ {A = ℕ} 0 1 = cc in omega arith)
+    go none true same at f below = absurd (let z : _≡_ {A = ℕ} 0 1 = cc in omega arith)
+    go none false same at f below = choose (decLt i count)
+      where
+        choose : Dec (i < count) → test i ≡ false
+        choose (yes k) = below same i k
+        choose (no k) = let is : i ≡ count = omega arith in rw is at

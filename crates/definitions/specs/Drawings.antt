@@ -9,7 +9,7 @@ use Rattle.definitions.specs.declared.Style.the-variants.{Plain, Strict}
 use Rattle.definitions.specs.Utf8.{utf8}
 use Rattle.definitions.specs.Outcome.{Outcome, accepted, refuse, mapOutcome}
 use Rattle.definitions.specs.Prop.{Prop, True, False, And, Or, Impl, Atom, ForAll, Uninstantiated}
-use Rattle.definitions.specs.Tree.{Identifier, ProofTreeRule, AndIntro, AndElimFst, AndElimSnd, TrueIntro, ImplIntro, ImplElim, Ident, OrIntroFst, OrElim, Sorry, AlphaEquivalent}
+use Rattle.definitions.specs.Tree.{Identifier, ProofTreeRule, AndIntro, AndElimFst, AndElimSnd, TrueIntro, ImplIntro, ImplElim, Ident, OrIntroFst, OrIntroSnd, OrElim, Sorry, AlphaEquivalent}
 use Rattle.definitions.specs.Encode.{noIdentifier, encodeRule, encodePropIsTrue, encodeSheet}
 use Rattle.definitions.specs.Answers.{textAnswer, atomsAnswer, datatypesAnswer, labelCount, comparison, boardRoom}
 
@@ -141,6 +141,14 @@ sorries p q =
 unfoldable pub ofObject : ℕ → Prop ℕ
 ofObject x = Atom 0 (Uninstantiated x ∷ [])
 
+-- ImplIntro u over AndElimFst over AndIntro of OrIntroFst and OrIntroSnd, each of Ident u: two labels
+unfoldable pub twoLabels : List ℕ
+twoLabels =
+    let either = Or (letter 0) (letter 0) in
+    sheet ("A" ∷ "u" ∷ []) (letter 0 ∷ either ∷ And either either ∷ Impl (letter 0) either ∷ []) 3
+    (stepNaming Ident 1 0 0 ∷ step OrIntroFst 1 1 ∷ stepNaming Ident 1 0 0 ∷ step OrIntroSnd 1 1 ∷ step AndIntro 2 2
+    ∷ step AndElimFst 1 1 ∷ stepNaming ImplIntro 1 1 3 ∷ [])
+
 unfoldable pub drawings : List Drawing
 drawings =
     drawing smallest (text Plain) (prints "\n\n\n()")
@@ -165,13 +173,15 @@ drawings =
     ∷ drawing (sorries (ForAll 2 1 (ForAll 3 1 (ofObject 2))) (ForAll 2 1 (ForAll 2 1 (ofObject 2)))) (compare 0 1) (says false)
     ∷ []
 
--- two sheets that tell right from tempting and wrong, beside those above: names are compared by bytes, and the right sides of
--- a comparison are not visited after a no on the left, where they would be refused
+-- sheets that tell right from tempting and wrong, beside those above: names are compared by bytes; the right sides of a
+-- comparison are not visited after a no on the left, where they would be refused; and a label does not end the labelling
 unfoldable pub temptations : List Drawing
 temptations =
     drawing (sheet ("A" ∷ "A" ∷ []) (letter 0 ∷ letter 1 ∷ []) 0 (step Sorry 0 0 ∷ step Sorry 0 1 ∷ step AndIntro 2 0 ∷ []))
     (compare 0 1) (says true)
     ∷ drawing (sorries (And True (ofObject 2)) (And False (ofObject 2))) (compare 0 1) (says false)
+    ∷ drawing twoLabels (text Plain) (prints "atom A;\n\n\nfn u => fst (inl u: A ∨ A, inr u: A ∨ A)")
+    ∷ drawing twoLabels labels (counts 2)
     ∷ []
 
 unfoldable pub asked : Drawing → Outcome Answer

@@ -27,7 +27,7 @@ use Rattle.sheet.specs.Pairs.{HasPairs, HasCodes}
 use Rattle.sheet.specs.Checks.{checkedOf}
 use Rattle.sheet.specs.Admitted.{Admitted}
 use Rattle.sheet.proofs.Outcomes.{each-accepted, test-failed, none-lowest}
-use Rattle.sheet.proofs.Searched.{all-fail}
+use Rattle.definitions.proofs.Lowest.{all-fail}
 use Rattle.sheet.proofs.Ranges.{in-range}
 use Rattle.sheet.proofs.Given.{good-pairs, good-name-pair, good-proposition-pair}
 use Rattle.sheet.proofs.Stages.{stage-accepted, stage-refuses}
