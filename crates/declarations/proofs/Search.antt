@@ -1,5 +1,5 @@
 -- The search among the declarations: what the count, the length and the bytes of declaration j say of it.
-use Prim.Native.Nat.{ℕ, zero, suc, _+_, _*_, _<_}
+use Prim.Native.Nat.{ℕ, zero, suc, _+_, _*_, _≤_, _<_}
 use mathlib.Core.Path.{_≡_, sym, ap, _∙_}
 use mathlib.Core.Bool.{true, false, _||_, or-false, or-true, and-false}
 use mathlib.Core.List.{List, [], _∷_, map-append}
@@ -8,6 +8,7 @@ use native.Mathlib.Decide.{decLt}
 use native.Mathlib.Numerals.{add-one}
 use lib.ListN.{length, getD, length-take, length-drop}
 use lib.Seq.{getD-take, getD-drop}
+use borrow.Author.Count.{below-more}
 use borrow.Author.Tests.{eq-eqb, ne-eqb}
 use Rattle.definitions.specs.Name.{Name}
 use Rattle.definitions.specs.Prop.{AtomUse}
@@ -54,24 +55,30 @@ abbrev pub Passed : List ℕ → List ℕ → List ℕ → ℕ → ℕ → ℕ �
 Passed pairs text declared name count j =
     occurs eqAtomUse (useOver (marked pairs text) (useOf name count)) (usesOver (marked pairs text) (entriesOf declared j)) ≡ false
 
-module _ {pairs text declared : List ℕ} {len name : ℕ} (count : ℕ) (asked : Searchable pairs text declared len name) (j : ℕ) (before : j < len) (passed : Passed pairs text declared name count j) where
+-- the search is at declaration j
+pub record Reached (pairs text declared : List ℕ) (len name count j : ℕ) : Type 0 where
+  pub asked : Searchable pairs text declared len name
+  pub before : j < len
+  pub passed : Passed pairs text declared name count j
+
+module _ {pairs text declared : List ℕ} {len name count j : ℕ} (this : Reached pairs text declared len name count j) where
   -- a declaration with another count, or with a name of another length, is passed over
   pub other-count : (getD declared (2 * j + 1) 0 ≡ count → ⊥) → Passed pairs text declared name count (j + 1)
   unfolding eqAtomUse
-  other-count d = passed-over _ _ declared j passed (rw (ne-eqb count (getD declared (2 * j + 1) 0) (λ e. d (sym e)), and-false))
+  other-count d =
+      passed-over _ _ declared j (this .passed)
+      (rw (ne-eqb count (getD declared (2 * j + 1) 0) (λ e. d (sym e)), and-false))
 
   pub other-length : (pairLength pairs (getD declared (2 * j) 0) ≡ pairLength pairs name → ⊥) → Passed pairs text declared name count (j + 1)
   unfolding eqAtomUse
   other-length d =
-      passed-over _ _ declared j passed
+      passed-over _ _ declared j (this .passed)
       (rw (eqName-lengths (marked pairs text name) (marked pairs text (getD declared (2 * j) 0))
-      (λ e. d (omega (arith, marked-length (asked .wanted), marked-length (asked .marks j before))))))
+      (λ e. d (omega (arith, marked-length (this .asked .wanted), marked-length (this .asked .marks j (this .before)))))))
 
--- no declaration before j has the bytes and the count; declaration j has the count, and its name, which starts at `start`, is as long
+-- declaration j has the count, and its name, which starts at `start`, is as long
 pub record Candidate (pairs text declared : List ℕ) (len name count offset size j start : ℕ) : Type 0 where
-  pub asked : Searchable pairs text declared len name
-  pub before : j < len
-  pub passed : Passed pairs text declared name count j
+  pub reached : Reached pairs text declared len name count j
   pub count-of-j : getD declared (2 * j + 1) 0 ≡ count
   pub offset-of-name : offset ≡ pairOffset pairs name
   pub offset-of-j : start ≡ pairOffset pairs (getD declared (2 * j) 0)
@@ -80,10 +87,10 @@ pub record Candidate (pairs text declared : List ℕ) (len name count offset siz
 
 module _ {pairs text declared : List ℕ} {len name count offset size j start : ℕ} (this : Candidate pairs text declared len name count offset size j start) where
   of-j : NameWithin pairs text (getD declared (2 * j) 0)
-  of-j = this .asked .marks j (this .before)
+  of-j = this .reached .asked .marks j (this .reached .before)
 
   of-name : NameWithin pairs text name
-  of-name = this .asked .wanted
+  of-name = this .reached .asked .wanted
 
   lengths : (length (marked pairs text (getD declared (2 * j) 0)) ≡ size) × (length (marked pairs text name) ≡ size)
   lengths = (omega (arith, marked-length of-j), omega (arith, marked-length of-name))
@@ -103,21 +110,40 @@ module _ {pairs text declared : List ℕ} {len name count offset size j start : 
   pub other-byte : (k : ℕ) → k < size → (getD text (start + k) 0 ≡ getD text (offset + k) 0 → ⊥) → Passed pairs text declared name count (j + 1)
   unfolding eqAtomUse
   other-byte k h d =
-      passed-over _ _ declared j (this .passed)
+      passed-over _ _ declared j (this .reached .passed)
       (rw (eqName-differ (marked pairs text name) (marked pairs text (getD declared (2 * j) 0)) k
       (omega (arith, lengths))
       (omega (arith, lengths))
       (λ e. d (sym (byte-of-j k h) ∙ (sym e ∙ byte-of-name k h)))))
 
   -- a declaration with the same bytes is the one that was looked for
-  pub same-bytes : ((k : ℕ) → k < size → getD text (start + k) 0 ≡ getD text (offset + k) 0)
+  same-bytes : ((k : ℕ) → k < size → getD text (start + k) 0 ≡ getD text (offset + k) 0)
       → occurs eqAtomUse (useOver (marked pairs text) (useOf name count)) (usesOver (marked pairs text) (entriesOf declared len)) ≡ true
   unfolding eqAtomUse
   same-bytes same =
       let (long-j, long-name) = lengths in
-      found _ _ declared j len (this .before)
+      found _ _ declared j len (this .reached .before)
       (rw (
         eqName-alike (marked pairs text name) (marked pairs text (getD declared (2 * j) 0)) (omega arith)
             (λ k h. let h′ : k < size = omega arith in byte-of-name k h′ ∙ (sym (same k h′) ∙ sym (byte-of-j k h′))),
         eq-eqb count (getD declared (2 * j + 1) 0) (sym (this .count-of-j)),
       ))
+
+-- the first k bytes of its name are the same
+pub record Alike (pairs text declared : List ℕ) (len name count offset size j start k : ℕ) : Type 0 where
+  pub candidate : Candidate pairs text declared len name count offset size j start
+  pub up-to : k ≤ size
+  pub same : (m : ℕ) → m < k → getD text (start + m) 0 ≡ getD text (offset + m) 0
+
+pub none-compared : {pairs text declared : List ℕ} {len name count offset size j start : ℕ}
+    → Candidate pairs text declared len name count offset size j start → Alike pairs text declared len name count offset size j start 0
+none-compared this = record { candidate = this; up-to = omega arith; same = λ m h. absurd (omega arith) }
+
+module _ {pairs text declared : List ℕ} {len name count offset size j start k : ℕ} (these : Alike pairs text declared len name count offset size j start k) where
+  pub one-more-alike : k < size → getD text (start + k) 0 ≡ getD text (offset + k) 0
+      → Alike pairs text declared len name count offset size j start (k + 1)
+  one-more-alike h e = record { candidate = these .candidate; up-to = omega arith; same = below-more _ _ (these .same) e }
+
+  pub all-alike : size ≤ k
+      → occurs eqAtomUse (useOver (marked pairs text) (useOf name count)) (usesOver (marked pairs text) (entriesOf declared len)) ≡ true
+  all-alike h = same-bytes (these .candidate) (λ m l. these .same m (omega (arith, these .up-to)))

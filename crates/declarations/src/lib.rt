@@ -34,7 +34,8 @@ ghost use Rattle.declarations.specs.Lines.{countText, breakBefore, decla
 // The flags of a name: one for each count from 0 to 8.
 const NAME_FLAGS: usize = 9;
 
-// Whether a declaration has this count and the bytes of this name.
+// Whether a declaration has this count and the bytes of this name. At the first that has, both loops are left, and its number j is
+// below `len`.
 fn is_declared(
     declared: &[u16],
     len: usize,
@@ -61,7 +62,10 @@ fn is_declared(
         }
         let earlier = pair_offset(pairs, other);
         let mut k = 0;
-        while k < length {
+        loop {
+            if length <= k {
+                break 'declarations;
+            }
             let byte = text[earlier + k];
             let wanted = text[offset + k];
             if byte != wanted {
@@ -70,9 +74,8 @@ fn is_declared(
             }
             k += 1;
         }
-        return true;
     }
-    false
+    j < len
 }
 
 // Adds a use, unless a declaration has its name bytes and count. A use that was noted under the same number is known by its flag,

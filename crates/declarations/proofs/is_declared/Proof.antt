@@ -1,20 +1,20 @@
 -- The declarations loop: none before j has the bytes and the count. The bytes loop: declaration j has the count and a name of the
--- same length, and its first k bytes are the same.
-use Prim.Native.Nat.{ℕ, _+_, _*_, _≤_, _<_, _-_}
-use mathlib.Core.Path.{_≡_, refl, sym}
+-- same length, and its first k bytes are the same. Both are left where all its bytes are the same, and then j is below the length.
+use Prim.Native.Nat.{ℕ, _*_, _≤_, _+_, _-_}
+use mathlib.Core.Path.{_≡_, refl, sym, _∙_}
+use mathlib.Core.Logic.{⊎-elim}
 use native.Mathlib.Omega.{arith}
-use lib.ListN.{getD}
-use borrow.Author.Count.{below-more}
+use denote.Ref.{now}
+use borrow.Author.Tests.{lt-ltb, le-ltb}
 use Rattle.definitions.specs.Text.{occurs}
 use Rattle.declarations.specs.Declared.{entriesOf}
-use Rattle.declarations.proofs.Search.{Passed, Candidate, other-count, other-length, in-text, other-byte, same-bytes}
+use Rattle.declarations.proofs.Search.{Passed, Reached, Alike, other-count, other-length, in-text, other-byte, none-compared, one-more-alike, all-alike}
 use Rattle.declarations.proofs.is_declared.Statement.{statement}
 use Rattle.declarations.proofs.is_declared.Tie as tie
 
 abbrev Inv-loop : tie.InvT-loop
 Inv-loop declared len name count pairs text offset length j₀ other earlier k₀ j k =
-    (j ≡ j₀) × Candidate pairs text declared len name count offset length j earlier
-    × (k ≤ length) × ((m : ℕ) → m < k → getD text (earlier + m) 0 ≡ getD text (offset + m) 0)
+    (j ≡ j₀) × Alike pairs text declared len name count offset length j earlier k
 
 abbrev μ-loop : tie.MeasureT-loop
 μ-loop declared len name count pairs text offset length j₀ other earlier k₀ j k = length - k
@@ -25,11 +25,38 @@ Inv-declarations declared len name count pairs text offset length j₀ j = (j �
 abbrev μ-declarations : tie.MeasureT-declarations
 μ-declarations declared len name count pairs text offset length j₀ j = len - j
 
+-- Each name leads from a place back to an earlier one: to the start of the function;
+abbrev entry : tie.At-declarations Inv-loop μ-loop Inv-declarations μ-declarations → tie.Start Inv-loop μ-loop Inv-declarations μ-declarations
+entry c = c .before .before .before .before .before .before
+
+-- over the two numbers of declaration j, over the length of its name, and over where its name starts;
+abbrev numbers : tie.After-shared-slice-known5 Inv-loop μ-loop Inv-declarations μ-declarations → tie.In-declarations Inv-loop μ-loop Inv-declarations μ-declarations
+numbers c = c .before .before
+
+abbrev name-length : tie.After-pair-length2 Inv-loop μ-loop Inv-declarations μ-declarations → tie.In-declarations Inv-loop μ-loop Inv-declarations μ-declarations
+name-length c = numbers (c .before .before)
+
+abbrev name-start : tie.After-pair-offset2 Inv-loop μ-loop Inv-declarations μ-declarations → tie.In-declarations Inv-loop μ-loop Inv-declarations μ-declarations
+name-start c = name-length (c .before .before)
+
+-- and over a byte of each name
+abbrev bytes : tie.After-shared-slice-known7 Inv-loop μ-loop Inv-declarations μ-declarations → tie.In-loop Inv-loop μ-loop Inv-declarations μ-declarations
+bytes c = c .before .before
+
+reached : (c : tie.In-declarations Inv-loop μ-loop Inv-declarations μ-declarations) → let s = entry (c .before) .args in
+    Reached (now (s .pairs)) (now (s .text)) (now (s .declared)) (s .len) (s .name) (s .count) (c .before .declarations .j)
+reached c =
+    record {
+      asked = entry (c .before) .pre;
+      before = c .declarations-test .taken;
+      passed = c .before .declarations .inv .1;
+    }
+
 pair-offset-requires : tie.Need-pair-offset-requires Inv-loop μ-loop Inv-declarations μ-declarations
-pair-offset-requires c κs = (c .before .before .before .pre .wanted .present)
+pair-offset-requires c κs = c .before .before .before .pre .wanted .present
 
 pair-length-requires : tie.Need-pair-length-requires Inv-loop μ-loop Inv-declarations μ-declarations
-pair-length-requires c κs = (c .before .before .before .before .pre .wanted .present)
+pair-length-requires c κs = c .before .before .before .before .pre .wanted .present
 
 declarations-holds : tie.Need-declarations-holds Inv-loop μ-loop Inv-declarations μ-declarations
 unfolding occurs entriesOf
@@ -42,7 +69,7 @@ mul-other-2 : tie.Need-mul-other-2 Inv-loop μ-loop Inv-declarations μ-declarat
 mul-other-2 c = omega arith
 
 shared-slice-read-other : tie.Need-shared-slice-read-other Inv-loop μ-loop Inv-declarations μ-declarations
-shared-slice-read-other c = omega (arith, (c .before .before .before .before .before .before .before .before .pre .there))
+shared-slice-read-other c = omega (arith, reached (c .before) .asked .there)
 
 cast-other : tie.Need-cast-other Inv-loop μ-loop Inv-declarations μ-declarations
 cast-other c = omega (arith, c .shared-slice-known4 .given (2 * c .before .before .declarations .j))
@@ -51,16 +78,16 @@ mul-if1 : tie.Need-mul-if1 Inv-loop μ-loop Inv-declarations μ-declarations
 mul-if1 c = omega arith
 
 add-if1 : tie.Need-add-if1 Inv-loop μ-loop Inv-declarations μ-declarations
-add-if1 c = omega (arith, (c .before .before .before .before .before .before .before .before .pre .there))
+add-if1 c = omega (arith, reached (c .before) .asked .there)
 
 mul-if1-2 : tie.Need-mul-if1-2 Inv-loop μ-loop Inv-declarations μ-declarations
-mul-if1-2 c = omega (arith, (c .before .before .before .before .before .before .before .before .pre .there))
+mul-if1-2 c = omega (arith, reached (c .before) .asked .there)
 
 shared-slice-read-if1 : tie.Need-shared-slice-read-if1 Inv-loop μ-loop Inv-declarations μ-declarations
-shared-slice-read-if1 c = omega (arith, (c .before .before .before .before .before .before .before .before .before .pre .there))
+shared-slice-read-if1 c = omega (arith, reached (numbers c) .asked .there)
 
 cast-if1 : tie.Need-cast-if1 Inv-loop μ-loop Inv-declarations μ-declarations
-cast-if1 c = omega (arith, c .shared-slice-known5 .given (2 * c .before .before .before .declarations .j + 1))
+cast-if1 c = omega (arith, c .shared-slice-known5 .given (2 * numbers c .before .declarations .j + 1))
 
 add-j : tie.Need-add-j Inv-loop μ-loop Inv-declarations μ-declarations
 add-j c = omega arith
@@ -69,10 +96,10 @@ declarations-less : tie.Need-declarations-less Inv-loop μ-loop Inv-declarations
 declarations-less c = omega arith
 
 declarations-again : tie.Need-declarations-again Inv-loop μ-loop Inv-declarations μ-declarations
-declarations-again c = (omega arith, other-count _ (c .before .before .before .before .before .before .before .before .before .before .pre) _ (c .before .before .before .declarations-test .taken) (c .before .before .before .before .declarations .inv .1) (c .if1 .taken))
+declarations-again c = (omega arith, other-count (reached (numbers (c .before))) (c .if1 .taken))
 
 pair-length-requires-2 : tie.Need-pair-length-requires-2 Inv-loop μ-loop Inv-declarations μ-declarations
-pair-length-requires-2 c κs = (c .before .before .before .before .before .before .before .before .before .before .pre .marks) _ (c .before .before .before .declarations-test .taken) .present
+pair-length-requires-2 c κs = let this = reached (numbers (c .before)) in this .asked .marks _ (this .before) .present
 
 add-j-2 : tie.Need-add-j-2 Inv-loop μ-loop Inv-declarations μ-declarations
 add-j-2 c = omega arith
@@ -81,39 +108,37 @@ declarations-less-2 : tie.Need-declarations-less-2 Inv-loop μ-loop Inv-declarat
 declarations-less-2 c = omega arith
 
 declarations-again-2 : tie.Need-declarations-again-2 Inv-loop μ-loop Inv-declarations μ-declarations
-declarations-again-2 c = (omega arith, other-length _ (c .before .before .before .before .before .before .before .before .before .before .before .before .pre) _ (c .before .before .before .before .before .declarations-test .taken) (c .before .before .before .before .before .before .declarations .inv .1) (omega arith))
+declarations-again-2 c = (omega arith, other-length (reached (name-length (c .before))) (omega arith))
 
 pair-offset-requires-2 : tie.Need-pair-offset-requires-2 Inv-loop μ-loop Inv-declarations μ-declarations
-pair-offset-requires-2 c κs = (c .before .before .before .before .before .before .before .before .before .before .before .before .pre .marks) _ (c .before .before .before .before .before .declarations-test .taken) .present
+pair-offset-requires-2 c κs = let this = reached (name-length (c .before)) in this .asked .marks _ (this .before) .present
 
 loop-holds : tie.Need-loop-holds Inv-loop μ-loop Inv-declarations μ-declarations
-loop-holds c = (
-  refl,
-  record {
-    asked = (c .before .before .before .before .before .before .before .before .before .before .before .before .before .pre);
-    before = (c .before .before .before .before .before .before .declarations-test .taken);
-    passed = (c .before .before .before .before .before .before .before .declarations .inv .1);
-    count-of-j = omega arith;
-    offset-of-name = (c .before .before .before .before .before .before .before .before .before .pair-offset .ensures);
-    offset-of-j = (c .pair-offset2 .ensures);
-    length-of-name = (c .before .before .before .before .before .before .before .before .pair-length .ensures);
-    length-of-j = omega arith;
-  },
-  omega arith,
-  λ m h. absurd (omega arith),
-)
+loop-holds c =
+    let measured = name-start c .before .before in (
+      refl,
+      none-compared
+          record {
+            reached = reached (name-start c);
+            count-of-j = omega arith;
+            offset-of-name = measured .before .pair-offset .ensures;
+            offset-of-j = c .pair-offset2 .ensures;
+            length-of-name = measured .pair-length .ensures;
+            length-of-j = omega arith;
+          },
+    )
 
 add-byte : tie.Need-add-byte Inv-loop μ-loop Inv-declarations μ-declarations
-add-byte c = omega (arith, in-text (c .before .loop .inv .1) _ (c .loop-test .taken))
+add-byte c = omega (arith, in-text (c .before .loop .inv .1 .candidate) _ (c .loop-test .left))
 
 shared-slice-read-byte : tie.Need-shared-slice-read-byte Inv-loop μ-loop Inv-declarations μ-declarations
-shared-slice-read-byte c = in-text (c .before .before .loop .inv .1) _ (c .before .loop-test .taken) .0
+shared-slice-read-byte c = in-text (c .before .before .loop .inv .1 .candidate) _ (c .before .loop-test .left) .0
 
 add-wanted : tie.Need-add-wanted Inv-loop μ-loop Inv-declarations μ-declarations
-add-wanted c = omega (arith, in-text (c .before .before .loop .inv .1) _ (c .before .loop-test .taken))
+add-wanted c = omega (arith, in-text (c .before .before .loop .inv .1 .candidate) _ (c .before .loop-test .left))
 
 shared-slice-read-wanted : tie.Need-shared-slice-read-wanted Inv-loop μ-loop Inv-declarations μ-declarations
-shared-slice-read-wanted c = in-text (c .before .before .before .loop .inv .1) _ (c .before .before .loop-test .taken) .1
+shared-slice-read-wanted c = in-text (bytes c .before .loop .inv .1 .candidate) _ (bytes c .loop-test .left) .1
 
 add-j-3 : tie.Need-add-j-3 Inv-loop μ-loop Inv-declarations μ-declarations
 add-j-3 c = omega arith
@@ -122,7 +147,9 @@ declarations-less-3 : tie.Need-declarations-less-3 Inv-loop μ-loop Inv-declarat
 declarations-less-3 c = omega arith
 
 declarations-again-3 : tie.Need-declarations-again-3 Inv-loop μ-loop Inv-declarations μ-declarations
-declarations-again-3 c = (omega arith, other-byte (c .before .before .before .before .loop .inv .1) _ (c .before .before .before .loop-test .taken) (c .if3 .taken))
+declarations-again-3 c =
+    let compared = bytes (c .before) in
+    (omega arith, other-byte (compared .before .loop .inv .1 .candidate) _ (compared .loop-test .left) (c .if3 .taken))
 
 add-k : tie.Need-add-k Inv-loop μ-loop Inv-declarations μ-declarations
 add-k c = omega arith
@@ -132,18 +159,25 @@ loop-less c = omega arith
 
 loop-again : tie.Need-loop-again Inv-loop μ-loop Inv-declarations μ-declarations
 loop-again c =
-    let held = (c .before .before .before .before .loop .inv) in
-    (held .0, held .1, omega arith, below-more _ _ (held .3) (c .if3 .left))
+    let compared = bytes (c .before) in
+    let held = compared .before .loop .inv in
+    (held .0, one-more-alike (held .1) (compared .loop-test .left) (c .if3 .left))
 
+-- the declarations came to their end, or both loops were left at declaration j
 returns : tie.Need-returns Inv-loop μ-loop Inv-declarations μ-declarations
 returns c =
-    let held = (c .before .loop .inv) in
-    sym (same-bytes (held .1) (λ m h. held .3 m (omega arith)))
-
-returns-2 : tie.Need-returns-2 Inv-loop μ-loop Inv-declarations μ-declarations
-returns-2 c =
-    let all : (c .before .declarations .j) ≡ (c .before .before .before .before .before .before .before .args .len) = omega arith in
-    sym (rw all at (c .before .declarations .inv .1))
+    let len = entry (c .before) .args .len in
+    let (up-to, passed) = c .before .declarations .inv in
+    ⊎-elim
+    (λ w.
+    let (test, same) = w in
+    let all : c .before .declarations .j ≡ len = omega (arith, test .left, up-to) in
+    le-ltb (c .declarations-test .j) len (omega (arith, same)) ∙ sym (rw all at passed))
+    (λ w.
+    let (test, name, count, if1, length, if2, start, loop, end, same) = w in
+    let (j-same, alike) = loop .inv in
+    lt-ltb (c .declarations-test .j) len (omega (arith, same, j-same, alike .candidate .reached .before)) ∙ sym (all-alike alike (end .taken)))
+    (c .declarations-test .came)
 
 pub is-declared-spec : {M : Type 1} → statement M
 is-declared-spec =
@@ -184,5 +218,4 @@ is-declared-spec =
     add-k
     loop-less
     loop-again
-    returns
-    returns-2)
+    returns)
