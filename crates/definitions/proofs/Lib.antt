@@ -1,5 +1,6 @@
 pub mod Everything
 pub mod Lowest
+pub mod Upward
 pub mod Arms
 pub mod Decimal
 pub mod Names

@@ -92,31 +92,16 @@ pub fn same_bytes(pairs: &[u8], text: &[u8], a: usize, b: usize) -> bool
     same_name(marked_bytes(pairs, text, a), marked_bytes(pairs, text, b))
 }
 
-// The first name before number i with the same bytes as name i.
+// The first name before number i with the same bytes as name i. No operation asks for it: it is the plain search that an index of
+// the names (document 02, ticket 14) has to agree with.
 pub fn first_equal(pairs: &[u8], text: &[u8], i: usize) -> Found
     requires { ⌜ PairsWithin (now pairs) (now text) i ⌝ }
     ensures { λ r. ⌜ r ≡ foundAt (lowest (sameBytes (now (pairs .entry)) (now (text .entry)) i) i) ⌝ }
 {
-    let offset = pair_offset(pairs, i);
-    let length = pair_length(pairs, i);
-    let mut j = 0;
-    'names: while j < i {
-        if pair_length(pairs, j) != length {
-            j += 1;
-            continue 'names;
+    for j in 0..i {
+        if same_bytes(pairs, text, j, i) {
+            return Found::At(j);
         }
-        let earlier = pair_offset(pairs, j);
-        let mut k = 0;
-        while k < length {
-            let byte = text[earlier + k];
-            let wanted = text[offset + k];
-            if byte != wanted {
-                j += 1;
-                continue 'names;
-            }
-            k += 1;
-        }
-        return Found::At(j);
     }
     Found::Nowhere
 }

@@ -8,7 +8,7 @@ use borrow.Author.Tests.{ltb-true, ltb-false}
 use Rattle.definitions.specs.Sheet.{pairSize, numberAt, pairOffset, pairLength, pairEnd, lastEnd}
 use Rattle.definitions.proofs.Lowest.{found-here, found-nowhere}
 use Rattle.sheet.specs.Pairs.{badPair}
-use Rattle.sheet.proofs.Upward.{Passed, at-start, onward}
+use Rattle.definitions.proofs.Upward.{Passed, at-start, onward}
 use Rattle.sheet.proofs.Placed.{good-passes, bad-pair}
 use Rattle.sheet.proofs.pairs.first_bad_pair.Statement.{statement}
 use Rattle.sheet.proofs.pairs.first_bad_pair.Tie as tie

@@ -5,7 +5,7 @@ use Rattle.definitions.specs.Sheet.{pairSize}
 use Rattle.definitions.specs.Tree.{propIn}
 use Rattle.definitions.specs.Admission.{badCode, deepProposition}
 use Rattle.definitions.proofs.Lowest.{found-here, found-nowhere}
-use Rattle.sheet.proofs.Upward.{Passed, at-start, onward}
+use Rattle.definitions.proofs.Upward.{Passed, at-start, onward}
 use Rattle.sheet.proofs.pairs.first_deep_proposition.Statement.{statement}
 use Rattle.sheet.proofs.pairs.first_deep_proposition.Tie as tie
 
