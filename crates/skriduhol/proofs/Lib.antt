@@ -2,4 +2,4 @@ pub mod Texts
 pub mod Lists
 pub mod Accuracy
 pub mod Board
-pub mod SecondDrawing
+pub mod Drawings
