@@ -13,12 +13,12 @@ use Rattle.definitions.specs.Export.{checking, export}
 use Rattle.definitions.specs.Text.{heading, text}
 use Rattle.definitions.specs.Answers.{inRoom, sheetTerm, namedTerm, goalProp, sheetText, textAnswer, labelCount}
 use Rattle.definitions.specs.Labels.{total}
-use Rattle.definitions.specs.Sound.{Deduced, weakest, context, Sound}
+use Rattle.definitions.specs.Sound.{Deduced, shadowing, context, Sound}
 use Rattle.definitions.specs.Accuracy.{Accurate}
 use Rattle.definitions.proofs.Renaming.{export-same, annotationCount-same, inferringTally-same}
 use Rattle.definitions.proofs.Labelling.{labels-counted}
 use Rattle.definitions.proofs.Exporting.{exports, check}
-use Rattle.definitions.proofs.Conventions.{deduced-weakest}
+use Rattle.definitions.proofs.Conventions.{deduced-shadowing}
 
 -- an outcome whose changed value is accepted was accepted
 was-accepted : {A B : Type 0} (f : A → B) (o : Outcome A) (b : B) → mapOutcome f o ≡ accepted b → (a : A) × (o ≡ accepted a) × (f a ≡ b)
@@ -31,8 +31,8 @@ in-room : (room : ℕ) (o : Outcome (List ℕ)) (a : List ℕ) → o ≡ accepte
 unfolding inRoom _>>=_ refuseIf
 in-room room o a e h = rw (e, le-ltb room (length a) h)
 
--- demand 3, under the weakest convention
-pub accuracy : (s : List ℕ) (d : Deduced weakest s) → Accurate s d
+-- demand 3, under the shadowing convention
+pub accuracy : (s : List ℕ) (d : Deduced shadowing s) → Accurate s d
 unfolding namedTerm sheetTerm sheetText textAnswer labelCount mapOutcome _>>=_ text context
 accuracy s d =
     let f = nameOf s in
@@ -56,5 +56,5 @@ accuracy s d =
     }
 
 -- demand 3 for document 01's sound sheets
-pub sound-accuracy : (s : List ℕ) (d : Sound s) → Accurate s (deduced-weakest s (d .deduced))
-sound-accuracy s d = accuracy s (deduced-weakest s (d .deduced))
+pub sound-accuracy : (s : List ℕ) (d : Sound s) → Accurate s (deduced-shadowing s (d .deduced))
+sound-accuracy s d = accuracy s (deduced-shadowing s (d .deduced))

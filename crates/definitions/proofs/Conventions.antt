@@ -1,5 +1,5 @@
--- Document 01's convention asks for all that accuracy needs: where no two hypotheses in scope share a name, the hypothesis of
--- a name and id is the latest of its name.
+-- Document 01's convention asks for all that the shadowing one does: where no two hypotheses in scope share a name, the hypothesis
+-- of a name and id is the latest of its name.
 use Prim.Native.Nat.{ℕ}
 use mathlib.Core.Path.{_≡_, refl, sym, _∙_}
 use mathlib.Core.Bool.{false, true}
@@ -9,7 +9,7 @@ use Rattle.definitions.specs.Name.{Name, eqName}
 use Rattle.definitions.specs.Prop.{Prop}
 use Rattle.definitions.specs.Tree.{Identifier, PropIsTrue, Step, ProofTree, over, Premisses}
 use Rattle.definitions.specs.CheckingRules.{lookup}
-use Rattle.definitions.specs.Sound.{Hypothesis, Hypotheses, assume, Convention, Concludes, Deduction, andIntro, andElimFst, andElimSnd, trueIntro, implIntro, implElim, ident, orIntroFst, orIntroSnd, orElim, falsumElim, sorry, alphaEquivalent, Fresh, documented, context, weakest, Deduced}
+use Rattle.definitions.specs.Sound.{Hypothesis, Hypotheses, assume, Convention, Concludes, Deduction, andIntro, andElimFst, andElimSnd, trueIntro, implIntro, implElim, ident, orIntroFst, orIntroSnd, orElim, falsumElim, sorry, alphaEquivalent, Fresh, documented, context, shadowing, Deduced}
 use Rattle.definitions.proofs.Names.{eqName-refl}
 
 -- no two hypotheses share a name
@@ -30,29 +30,29 @@ unfolding lookup context
 latest {h = h} (added f d) (List·Memᴰ·head p) = rw (p, eqName-refl)
 latest {h = h} (added {x = x} f d) (List·Memᴰ·tail i) = rw (apart x f i) (latest d i)
 
-weaken : {hs : Hypotheses} {t : ProofTree Name} {a : Prop Name} → Distinct hs → Deduction documented hs t a → Deduction weakest hs t a
-unfolding documented weakest
-weaken u (andIntro c d e) = andIntro c (weaken u d) (weaken u e)
-weaken u (andElimFst c d) = andElimFst c (weaken u d)
-weaken u (andElimSnd c d) = andElimSnd c (weaken u d)
-weaken u (trueIntro c p) = trueIntro c tt
-weaken u (implIntro c f d) = implIntro c tt (weaken (added f u) d)
-weaken u (implElim c d e) = implElim c (weaken u d) (weaken u e)
-weaken u (ident c i p) = ident c (latest u i) tt
-weaken u (orIntroFst c d) = orIntroFst c (weaken u d)
-weaken u (orIntroSnd c d) = orIntroSnd c (weaken u d)
-weaken u (orElim c d f e g h) = orElim c (weaken u d) tt (weaken (added f u) e) tt (weaken (added g u) h)
-weaken u (falsumElim c d) = falsumElim c (weaken u d)
-weaken u (sorry c p) = sorry c tt
-weaken u (alphaEquivalent c p d) = alphaEquivalent c tt (weaken u d)
+widen : {hs : Hypotheses} {t : ProofTree Name} {a : Prop Name} → Distinct hs → Deduction documented hs t a → Deduction shadowing hs t a
+unfolding documented shadowing
+widen u (andIntro c d e) = andIntro c (widen u d) (widen u e)
+widen u (andElimFst c d) = andElimFst c (widen u d)
+widen u (andElimSnd c d) = andElimSnd c (widen u d)
+widen u (trueIntro c p) = trueIntro c tt
+widen u (implIntro c f d) = implIntro c tt (widen (added f u) d)
+widen u (implElim c d e) = implElim c (widen u d) (widen u e)
+widen u (ident c i p) = ident c (latest u i) tt
+widen u (orIntroFst c d) = orIntroFst c (widen u d)
+widen u (orIntroSnd c d) = orIntroSnd c (widen u d)
+widen u (orElim c d f e g h) = orElim c (widen u d) tt (widen (added f u) e) tt (widen (added g u) h)
+widen u (falsumElim c d) = falsumElim c (widen u d)
+widen u (sorry c p) = sorry c tt
+widen u (alphaEquivalent c p d) = alphaEquivalent c tt (widen u d)
 
-pub deduced-weakest : (s : List ℕ) → Deduced documented s → Deduced weakest s
-deduced-weakest s d =
+pub deduced-shadowing : (s : List ℕ) → Deduced documented s → Deduced shadowing s
+deduced-shadowing s d =
     record {
       root = d .root;
       isAdmitted = d .isAdmitted;
       prop = d .prop;
-      deduction = weaken nothing (d .deduction);
+      deduction = widen nothing (d .deduction);
     }
 
 -- a deduction is of its root's own conclusion

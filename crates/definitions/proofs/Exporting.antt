@@ -18,7 +18,7 @@ use Rattle.definitions.specs.Export.{Place, checking, inferring, Ending,
 use Rattle.definitions.specs.Labels as labels
 use Rattle.definitions.specs.Labels.{total, tally, tallyOf, placedTally, Labelled, AllLabelled, done, next}
 use Rattle.definitions.specs.CheckingRules.{Context, bind, LabelIs, Infers, Checks, infer-name, infer-unit, infer-fst, infer-snd, infer-application, infer-ascribed, infer-function, infer-pair, infer-case, check-function, check-pair, check-inl, check-inr, check-case, check-abort, check-sorry, check-inferred}
-use Rattle.definitions.specs.Sound.{Hypotheses, assume, context, weakest, Concludes, Deduction, andIntro, andElimFst, andElimSnd, trueIntro, implIntro, implElim, ident, orIntroFst, orIntroSnd, orElim, falsumElim, sorry, alphaEquivalent}
+use Rattle.definitions.specs.Sound.{Hypotheses, assume, context, shadowing, Concludes, Deduction, andIntro, andElimFst, andElimSnd, trueIntro, implIntro, implElim, ident, orIntroFst, orIntroSnd, orElim, falsumElim, sorry, alphaEquivalent}
 
 -- the checking rules accept the term in the place
 pub data Accepts : Place → Context → ProofTerm Name → Prop Name → Type 0 where
@@ -173,8 +173,8 @@ abstraction {t} hs z a b inferring c x =
       accepts = rw (c .rule) (infers (infer-function (inference (x .accepts))));
     }
 
-pub exports : {hs : Hypotheses} {t : ProofTree Name} {a : Prop Name} → Deduction weakest hs t a → (m : Place) → Exports hs t a m
-unfolding weakest context admitsCount admits count places ending row rowOf inferringTerm ruleTerm premissTerm total tally tallyOf
+pub exports : {hs : Hypotheses} {t : ProofTree Name} {a : Prop Name} → Deduction shadowing hs t a → (m : Place) → Exports hs t a m
+unfolding shadowing context admitsCount admits count places ending row rowOf inferringTerm ruleTerm premissTerm total tally tallyOf
 exports {hs} (andIntro {z = z} c d e) m =
     let x = exports d m in
     let y = exports e m in

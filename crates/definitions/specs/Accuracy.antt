@@ -14,9 +14,9 @@ use Rattle.definitions.specs.Display.{displayTerm}
 use Rattle.definitions.specs.Answers.{namedTerm, textAnswer, labelCount}
 use Rattle.definitions.specs.CheckingRules.{Checks}
 use Rattle.definitions.specs.Labels.{Labelled, inferringTally, total}
-use Rattle.definitions.specs.Sound.{Deduced, weakest}
+use Rattle.definitions.specs.Sound.{Deduced, shadowing}
 
-pub record Accurate (s : List ℕ) (d : Deduced weakest s) : Type 0 where
+pub record Accurate (s : List ℕ) (d : Deduced shadowing s) : Type 0 where
   -- the sheet's term, with names as bytes
   pub term : ProofTerm Name
   pub isTerm : namedTerm s ≡ accepted term

@@ -96,10 +96,10 @@ documented =
 unfoldable pub context : Hypotheses → Context
 context hs = map (λ h. record { name = h .identifier .name; prop = h .prop }) hs
 
--- the least that accuracy needs: the latest hypothesis of Ident's name has its proposition, whatever its id; hypotheses may
--- hide earlier ones; premisses that are not read may be any
-unfoldable pub weakest : Convention
-weakest =
+-- one that asks less, under which accuracy holds as well: the latest hypothesis of Ident's name has its proposition, whatever
+-- its id; hypotheses may hide earlier ones; premisses that are not read may be any
+unfoldable pub shadowing : Convention
+shadowing =
     record {
       Concluded = λ x a hs. lookup (x .name) (context hs) ≡ some a;
       Added = λ x hs. Unit {0};

@@ -10,11 +10,11 @@ use Rattle.definitions.specs.Sheet.{nameOf}
 use Rattle.definitions.specs.Export.{checking}
 use Rattle.definitions.specs.Labels.{inferringTally, total}
 use Rattle.definitions.specs.Answers.{textAnswer, labelCount}
-use Rattle.definitions.specs.Sound.{Deduced, weakest, Sound}
+use Rattle.definitions.specs.Sound.{Deduced, shadowing, Sound}
 use Rattle.definitions.specs.Accuracy.{Accurate}
 use Rattle.definitions.proofs.Renaming.{inferringTally-same}
 use Rattle.definitions.proofs.Labelling.{labels-counted}
-use Rattle.definitions.proofs.Conventions.{deduced-weakest}
+use Rattle.definitions.proofs.Conventions.{deduced-shadowing}
 use Rattle.definitions.proofs.Accuracy.{accuracy}
 use Rattle.output.specs.declared.Written.{Written}
 use Rattle.output.specs.Written.{Fills}
@@ -24,7 +24,7 @@ use Rattle.sheet_term.specs.Counted.{countedOf}
 use Rattle.skriduhol.specs.Accurate.{HandsOver, Counts, AccurateText, AccurateCount, AllThree}
 
 -- Of one accuracy statement:
-module _ {s : List ℕ} {d : Deduced weakest s} (a : Accurate s d) where
+module _ {s : List ℕ} {d : Deduced shadowing s} (a : Accurate s d) where
   hands-over : (style : Style) {before after : List ℕ} {r : Written}
       → Fills (textAnswer s style (length before)) before after r → HandsOver a style before after r
   hands-over style {before} fills = record { handed-over = λ fits. rw (a .texts style (length before) fits) at fills }
@@ -60,7 +60,7 @@ module _
     {count-result : Counted}
     (count : count-result ≡ countedOf (labelCount s))
   where
-    pub all-three : (d : Deduced weakest s)
+    pub all-three : (d : Deduced shadowing s)
         → AllThree s d plain-before plain-after plain-result strict-before strict-after strict-result count-result
     all-three d =
         let a = accuracy s d in
@@ -73,5 +73,5 @@ module _
 
     -- for document 01's sound sheets
     pub all-three-sound : (d : Sound s)
-        → AllThree s (deduced-weakest s (d .deduced)) plain-before plain-after plain-result strict-before strict-after strict-result count-result
-    all-three-sound d = all-three (deduced-weakest s (d .deduced))
+        → AllThree s (deduced-shadowing s (d .deduced)) plain-before plain-after plain-result strict-before strict-after strict-result count-result
+    all-three-sound d = all-three (deduced-shadowing s (d .deduced))

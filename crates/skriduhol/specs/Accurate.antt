@@ -1,5 +1,5 @@
 -- Demand 3 of the very bytes and the very count that are handed over, for every sound sheet and every room.
--- Its premise is the weakest under which it holds; document 01's sound sheets meet it (`deduced-weakest` of `definitions`).
+-- Its premise asks less than document 01's soundness, whose sheets meet it (`deduced-shadowing` of `definitions`).
 use Prim.Native.Nat.{ℕ, _≤_}
 use mathlib.Core.Path.{_≡_}
 use mathlib.Core.List.{List, _++_}
@@ -11,7 +11,7 @@ use Rattle.definitions.specs.Term.{annotationCount}
 use Rattle.definitions.specs.Export.{checking}
 use Rattle.definitions.specs.Display.{displayTerm}
 use Rattle.definitions.specs.Labels.{inferringTally, total}
-use Rattle.definitions.specs.Sound.{Deduced, weakest}
+use Rattle.definitions.specs.Sound.{Deduced, shadowing}
 use Rattle.definitions.specs.Accuracy.{Accurate}
 use Rattle.output.specs.declared.Written.{Written}
 use Rattle.output.specs.Written.{Fills}
@@ -20,7 +20,7 @@ use Rattle.sheet_term.specs.declared.Counted.the-variants.{Labels}
 
 -- An accuracy statement has the sheet's term, which the checking rules accept for the root's proposition and which has one label
 -- for each injection, abort, sorry and function in an inferring place and none elsewhere. Of that term:
-module _ {s : List ℕ} {d : Deduced weakest s} (a : Accurate s d) where
+module _ {s : List ℕ} {d : Deduced shadowing s} (a : Accurate s d) where
   -- in enough room the memory begins with the heading and the term as printed, and after them it is as it was
   pub record HandsOver (style : Style) (before after : List ℕ) (r : Written) : Type 0 where
     pub handed-over : length (a .heading ++ displayTerm style (a .term)) ≤ length before
@@ -32,27 +32,27 @@ module _ {s : List ℕ} {d : Deduced weakest s} (a : Accurate s d) where
     pub of-places : r ≡ Labels (total (inferringTally (d .root) checking))
 
 -- a text of a sound sheet, plain or strict, is that of an accuracy statement
-pub record TextOf (style : Style) (s : List ℕ) (d : Deduced weakest s) (before after : List ℕ) (r : Written) : Type 0 where
+pub record TextOf (style : Style) (s : List ℕ) (d : Deduced shadowing s) (before after : List ℕ) (r : Written) : Type 0 where
   pub statement : Accurate s d
   pub text : HandsOver statement style before after r
 
 -- a label count of a sound sheet is that of an accuracy statement
-pub record CountOf (s : List ℕ) (d : Deduced weakest s) (r : Counted) : Type 0 where
+pub record CountOf (s : List ℕ) (d : Deduced shadowing s) (r : Counted) : Type 0 where
   pub statement : Accurate s d
   pub count : Counts statement r
 
 -- so it is of every sound sheet: the clause of `plain_text` and `strict_text`
 pub record AccurateText (style : Style) (s before after : List ℕ) (r : Written) : Type 0 where
-  pub accurate : (d : Deduced weakest s) → TextOf style s d before after r
+  pub accurate : (d : Deduced shadowing s) → TextOf style s d before after r
 
 -- so it is of every sound sheet: the clause of `label_count`
 pub record AccurateCount (s : List ℕ) (r : Counted) : Type 0 where
-  pub accurate : (d : Deduced weakest s) → CountOf s d r
+  pub accurate : (d : Deduced shadowing s) → CountOf s d r
 
 -- the plain text, the strict text and the label count of a sound sheet, all of one statement
 pub record AllThree
     (s : List ℕ)
-    (d : Deduced weakest s)
+    (d : Deduced shadowing s)
     (plain-before plain-after : List ℕ)
     (plain-result : Written)
     (strict-before strict-after : List ℕ)
