@@ -10,6 +10,7 @@ pub mod Readings
 pub mod PrefixCode
 pub mod Verdicts
 pub mod AlphaEquality
+pub mod Refusals
 pub mod Renaming
 pub mod Labelling
 pub mod Exporting

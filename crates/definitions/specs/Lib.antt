@@ -15,6 +15,7 @@ pub mod Comparison
 pub mod AlphaEquality
 pub mod IdentifierContext
 pub mod Answers
+pub mod Refusals
 pub mod CheckingRules
 pub mod Sound
 pub mod Labels
