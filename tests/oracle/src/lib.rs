@@ -1,5 +1,6 @@
 //! An oracle for proof boards: document 01 beside the original Rust.
 pub mod answer;
+pub mod context;
 pub mod draw;
 pub mod formula;
 pub mod generate;

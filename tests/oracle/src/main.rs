@@ -1,6 +1,7 @@
 //! The command line. `README.md` says how each command is used.
 use oracle::{
     answer::{examine, Answer, Examined, Question},
+    context,
     generate::{Kind, Sheets},
     list::list,
     rng::Rng,
@@ -16,6 +17,7 @@ const USAGE: &str = "usage:
   oracle compare --kind KIND [--seed N --count M]
   oracle accuracy --seed N --count M
   oracle list --seed N --out FILE
+  oracle contexts --seed N --out FILE
 KIND: sound random quantified damaged limits worst slowest";
 
 /// The original recurses into deep trees, and the decoder into deep code before refusal 8 is tried.
@@ -70,6 +72,7 @@ fn run() -> i32 {
         ["compare", ref rest @ ..] => compare(&sheets(rest)),
         ["accuracy", ref rest @ ..] => accuracy(&random_sheets(Kind::Sound, rest)),
         ["list", ref rest @ ..] => write_list(number(option(rest, "--seed")), option(rest, "--out")),
+        ["contexts", ref rest @ ..] => write_contexts(number(option(rest, "--seed")), option(rest, "--out")),
         _ => usage(),
     }
 }
@@ -205,4 +208,11 @@ fn write_list(seed: u64, file: &str) -> i32 {
             3
         }
     }
+}
+
+fn write_contexts(seed: u64, file: &str) -> i32 {
+    let list = context::list(seed);
+    println!("{} contexts, {} questions, {} bytes", list.contexts, list.questions, list.bytes.len());
+    fs::write(file, list.bytes).unwrap();
+    0
 }
