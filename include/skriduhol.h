@@ -5,7 +5,8 @@
  * Rattle, in crates/skriduhol_c; `rt staticlib skriduhol_c` writes target/staticlib/libskriduhol_c.a for x86-64 Linux.
  *
  * What a caller owes
- *   - Each pointer is not null, also where its length is 0, and is aligned for its type.
+ *   - Each pointer is aligned for its type and not null, also where its length is 0: a function takes it for a reference,
+ *     and nothing is promised of a null one. An empty std::vector may have a null pointer: lend the address of any element then.
  *   - `sheet` can be read for `sheet_length` bytes; `out` can be written for `room` elements, and all of them have a value
  *     (clear the memory once); `value` can be written.
  *   - `out` and `value` overlap neither each other nor the sheet, and no other thread touches the three during the call.
@@ -14,36 +15,10 @@
  *   - Each call returns. Nothing is allocated, no file is touched, no pointer is kept, and there is no state between calls, so
  *     threads may call at the same time, each on its own memory.
  *   - The first six functions return 0 for an accepted answer, and then *value is what the function's comment says; or they
- *     return the number of a refusal, 1 to 19, and then *value is its place. *value is set either way.
+ *     return the number of a refusal, 1 to 19 (enum skriduhol_refusal), and then *value is its place. *value is set either way.
  *   - An accepted answer fills the first elements of `out` and nothing after them. A refusal leaves all of `out` as it was;
  *     skriduhol_board_output alone writes a line for it, and nothing after that line.
  *   - A call takes at most 256 KiB of stack: measured on the deepest sheets, not proved (docs/PERFORMANCE.md).
- *
- * The refusals, in the order in which they are tried. The place is 0, or the number of a name, a proposition or a step.
- *
- *   number  place        reason
- *    1      0            fewer than 12 bytes came
- *    2      0            a header number lies outside its range
- *    3      0            the byte count is not the one that the header gives
- *    4      name         a name's pair starts before the last one's end, ends past the text, or has a length outside 1 to 32
- *    5      name         a name holds a byte that its position does not allow
- *    6      proposition  a proposition's pair starts before the last one's end, ends past the code, or has length 0
- *    7      proposition  its code is not exactly one proposition over its whole length with names of the sheet
- *    8      proposition  it nests deeper than 64
- *    9      step         a rule, kind, name or proposition number is out of range, or an unused field is not 0
- *   10      step         a step finds too few trees before it, or the last step leaves more than one
- *   11      step         its tree nests deeper than 256
- *   12      step         a visited step has the wrong premiss count
- *   13      step         an ascription is needed where the conclusion is a type judgement
- *   14      step         a function of ImplIntro needs a label and its conclusion is no implication
- *   15      step         a function of ForAllIntro needs a label and its conclusion is no ∀
- *   16      0            the lent output is shorter than the answer
- *   17      0            a comparison names a step that the sheet has not
- *   18      0            two atoms of one name with different parameter counts are compared
- *   19      0            two uninstantiated parameters meet with neither bound on its side
- *
- * Texts and lists use 1 to 16, the label count 1 to 15, a comparison 1 to 11 and 17 to 19. 16 is tried last. It does not say how
- * much room is missing: most answers fit 65,536 elements, but a text can pass 88 million bytes and a list 3 million numbers.
  */
 #ifndef SKRIDUHOL_H
 #define SKRIDUHOL_H
@@ -54,6 +29,55 @@
 #ifdef __cplusplus
 extern "C" {
 #endif
+
+/* The version of this header: it grows with each change that a caller has to follow. */
+#define SKRIDUHOL_VERSION 1
+
+/* Refusals, in the order in which they are tried: before each its place, which is 0 or the number of a name, a proposition or a
+   step, and its reason.
+
+   Texts and lists use 1 to 16, the label count 1 to 15, a comparison 1 to 11 and 17 to 19. 16 is tried last. It does not say how
+   much room is missing: most answers fit 65,536 elements, but a text can pass 88 million bytes and a list 3 million numbers. */
+enum skriduhol_refusal {
+    /* 0: fewer than 12 bytes came */
+    SKRIDUHOL_REFUSED_NO_HEADER = 1,
+    /* 0: a header number lies outside its range */
+    SKRIDUHOL_REFUSED_HEADER_RANGE = 2,
+    /* 0: the byte count is not the one that the header gives */
+    SKRIDUHOL_REFUSED_BYTE_COUNT = 3,
+    /* name: a name's pair starts before the last one's end, ends past the text, or has a length outside 1 to 32 */
+    SKRIDUHOL_REFUSED_NAME_PAIR = 4,
+    /* name: a name holds a byte that its position does not allow */
+    SKRIDUHOL_REFUSED_NAME_BYTE = 5,
+    /* proposition: a proposition's pair starts before the last one's end, ends past the code, or has length 0 */
+    SKRIDUHOL_REFUSED_PROPOSITION_PAIR = 6,
+    /* proposition: its code is not exactly one proposition over its whole length with names of the sheet */
+    SKRIDUHOL_REFUSED_PROPOSITION_CODE = 7,
+    /* proposition: it nests deeper than 64 */
+    SKRIDUHOL_REFUSED_PROPOSITION_NESTING = 8,
+    /* step: a rule, kind, name or proposition number is out of range, or an unused field is not 0 */
+    SKRIDUHOL_REFUSED_STEP_FIELD = 9,
+    /* step: a step finds too few trees before it, or the last step leaves more than one */
+    SKRIDUHOL_REFUSED_TREE_COUNT = 10,
+    /* step: its tree nests deeper than 256 */
+    SKRIDUHOL_REFUSED_TREE_NESTING = 11,
+    /* step: a visited step has the wrong premiss count */
+    SKRIDUHOL_REFUSED_PREMISS_COUNT = 12,
+    /* step: an ascription is needed where the conclusion is a type judgement */
+    SKRIDUHOL_REFUSED_ASCRIBED_JUDGEMENT = 13,
+    /* step: a function of ImplIntro needs a label and its conclusion is no implication */
+    SKRIDUHOL_REFUSED_NO_IMPLICATION = 14,
+    /* step: a function of ForAllIntro needs a label and its conclusion is no ∀ */
+    SKRIDUHOL_REFUSED_NO_UNIVERSAL = 15,
+    /* 0: the lent output is shorter than the answer */
+    SKRIDUHOL_REFUSED_ROOM = 16,
+    /* 0: a comparison names a step that the sheet has not */
+    SKRIDUHOL_REFUSED_COMPARED_STEP = 17,
+    /* 0: two atoms of one name with different parameter counts are compared */
+    SKRIDUHOL_REFUSED_PARAMETER_COUNT = 18,
+    /* 0: two uninstantiated parameters meet with neither bound on its side */
+    SKRIDUHOL_REFUSED_UNBOUND_PARAMETER = 19
+};
 
 /* The bytes that skriduhol_board_output writes into. */
 #define SKRIDUHOL_BOARD_ROOM 65536

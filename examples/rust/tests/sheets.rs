@@ -50,6 +50,23 @@ fn any_bytes_get_an_answer() {
     assert_eq!(text_of(&[0xff; LONGEST_SHEET + 1]), refusal(2, 0));
 }
 
+/// An empty slice of Rust has a pointer that is not null and is aligned, as the functions ask.
+#[test]
+fn empty_slices_get_an_answer() {
+    assert_eq!(plain_text(&[], &mut []), refusal(1, 0));
+    assert_eq!(strict_text(&[], &mut []), refusal(1, 0));
+    assert_eq!(atom_list(&Vec::new(), &mut []), refusal(1, 0));
+    assert_eq!(datatype_list(&[], &mut Vec::new()), refusal(1, 0));
+    assert_eq!(label_count(&Vec::new()), refusal(1, 0));
+    assert_eq!(compare(&[], 0, 0), refusal(1, 0));
+    assert_eq!(strict_text(SECOND, &mut Vec::new()), refusal(16, 0));
+    assert_eq!(atom_list(LABELLED, &mut Vec::new()), refusal(16, 0));
+    assert_eq!(datatype_list(LABELLED, &mut Vec::new()), Ok(0));
+    let mut out = Box::new([UNTOUCHED; BOARD_ROOM]);
+    assert_eq!(board_output(&[], &mut out), 15);
+    assert_eq!(&out[..15], b"refused 1 at 0\n");
+}
+
 #[test]
 fn memory_past_the_answer_and_under_a_refusal_is_untouched() {
     assert_eq!(text_in(30, SECOND), (refusal(16, 0), vec![UNTOUCHED; 30]));
