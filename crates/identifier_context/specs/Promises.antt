@@ -1,5 +1,5 @@
 -- What each operation promises of its answer, of the context, and of every number of the lent memory.
-use Prim.Native.Nat.{ℕ, suc, _+_, _-_, _*_, _/_, _<_}
+use Prim.Native.Nat.{ℕ, zero, suc, min, _+_, _-_, _*_, _/_, _<_}
 use mathlib.Core.Path.{_≡_}
 use mathlib.Core.Bool.{Bool, not, cond}
 use mathlib.Core.Option.{Option, none, some}
@@ -123,3 +123,13 @@ module _ (nameOf : ℕ → Name) where
   unfoldable pub visibleFrom : List ℕ → ℕ → Found → List definition.Entry
   visibleFrom entries n Nowhere = []
   visibleFrom entries n (At i) = entryOf (entryAt entries i) ∷ visibleBefore (contextOf entries n) i
+
+  -- the index of the latest visible entry before one
+  unfoldable pub latestVisible : List ℕ → ℕ → ℕ → Option ℕ
+  latestVisible entries n zero = none
+  latestVisible entries n (suc i) = cond (isVisible entries n i) (some i) (latestVisible entries n i)
+
+  -- an answer is that index among the n entries: its entry is what `getAllVisible` lists next
+  pub record Shows (entries : List ℕ) (n before : ℕ) (r : Found) : Type 0 where
+    pub index : r ≡ foundAt (latestVisible entries n (min before n))
+    pub listed : visibleFrom entries n r ≡ visibleBefore (contextOf entries n) before

@@ -7,8 +7,8 @@ ghost use mathlib.Core.Path.{_≡_};
 ghost use Prim.Native.Nat.{_+_, _-_, _*_, _≤_, _<_};
 ghost use lib.ListN.{length};
 ghost use Rattle.definitions.specs.Sheet.{marked, NameWithin};
-ghost use Rattle.identifier_context.specs.Memory.{Holds, entrySize, nameAt, entryOf, entryAt, contextOf};
-ghost use Rattle.identifier_context.specs.Promises.{Inserts, Finds, Removes, nameAsked, admitted, shifted, closed, isVisible, visibleBefore, visibleFrom};
+ghost use Rattle.identifier_context.specs.Memory.{Holds, entrySize, nameAt, entryOf, entryAt};
+ghost use Rattle.identifier_context.specs.Promises.{Inserts, Finds, Removes, nameAsked, admitted, shifted, closed, isVisible, Shows};
 
 // The numbers of an entry.
 pub const ENTRY_SIZE: usize = 4;
@@ -211,8 +211,7 @@ fn is_visible(entries: &[u16], len: usize, pairs: &[u8], text: &[u8], i: usize) 
 // The index of the latest visible entry before one: from the count on, this hands out what the Rust's get_all_visible collects.
 pub fn next_visible(entries: &[u16], len: usize, pairs: &[u8], text: &[u8], before: usize) -> Found
     requires { ⌜ Holds (now pairs) (now text) (now entries) len ⌝ }
-    ensures { λ r. ⌜ visibleFrom (marked (now (pairs .entry)) (now (text .entry))) (now (entries .entry)) len r
-        ≡ visibleBefore (marked (now (pairs .entry)) (now (text .entry))) (contextOf (now (entries .entry)) len) before ⌝ }
+    ensures { λ r. ⌜ Shows (marked (now (pairs .entry)) (now (text .entry))) (now (entries .entry)) len before r ⌝ }
 {
     let mut left = before;
     if len < left {
