@@ -5,7 +5,6 @@ ghost use mathlib.Core.Bool.{false, not};
 ghost use mathlib.Core.Option.{Option·getD};
 ghost use lib.ListN.{length};
 ghost use lib.Dec.{ltb};
-ghost use Rattle.definitions.specs.Sheet.{propositionNestingLimit};
 ghost use Rattle.definitions.specs.Prop.{False, nesting};
 ghost use Rattle.definitions.specs.Code.{decode};
 ghost use Rattle.definitions.specs.Admission.{isNone};
@@ -14,9 +13,6 @@ ghost use Rattle.prefix_code.specs.Head.{headCoding, partsAfter};
 
 // An atom has at most so many parameters.
 pub const PARAMETER_LIMIT: u8 = 8;
-
-// A proposition nests at most so deep.
-pub const NESTING_LIMIT: usize = 64;
 
 // How many propositions follow each head byte.
 const PARTS: [u8; 8] = [0, 0, 2, 2, 2, 0, 1, 1];
@@ -159,14 +155,14 @@ pub fn is_code(code: &[u8], names: usize) -> bool
     scan(code, 0, names) == code.len()
 }
 
-// Does the proposition nest deeper than the limit? That is refusal 8. Each level but the innermost takes at least two bytes, so
-// short code nests no deeper.
-pub fn is_deep(code: &[u8], names: usize) -> bool
+// Does the proposition nest deeper than a limit? With that of a sheet, this is refusal 8. Each level but the innermost takes at
+// least two bytes, so short code nests no deeper.
+pub fn is_deep(code: &[u8], names: usize, limit: usize) -> bool
     requires { ⌜ isNone (decode names (now code)) ≡ false ⌝ }
-    ensures { λ r. ⌜ r ≡ ltb propositionNestingLimit (nesting (Option·getD (decode names (now (code .entry))) False)) ⌝ }
+    ensures { λ r. ⌜ r ≡ ltb limit (nesting (Option·getD (decode names (now (code .entry))) False)) ⌝ }
 {
-    if code.len() <= 2 * NESTING_LIMIT {
+    if code.len() / 2 < limit {
         return false;
     }
-    code.len() < shallow_end(code, 0, names, NESTING_LIMIT)
+    code.len() < shallow_end(code, 0, names, limit)
 }

@@ -43,7 +43,7 @@ impl Sheet {
 
     pub const PARAMETER_LIMIT: usize = prefix_code::PARAMETER_LIMIT as usize;
 
-    pub const PROPOSITION_NESTING_LIMIT: usize = prefix_code::NESTING_LIMIT;
+    pub const PROPOSITION_NESTING_LIMIT: usize = 64;
 
     pub const TREE_NESTING_LIMIT: usize = steps::TREE_NESTING_LIMIT as usize;
 

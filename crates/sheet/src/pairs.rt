@@ -1,4 +1,5 @@
 // Pairs of offset and length, and what stands in the bytes that they mark.
+use crate::header::Sheet;
 use definitions::Found;
 use identifier::is_name;
 use identifier::marked_bytes;
@@ -67,7 +68,7 @@ pub fn first_deep_proposition(pairs: &[u8], code: &[u8], count: usize, names: us
 {
     for i in 0..count {
         let proposition = marked_bytes(pairs, code, i);
-        if is_deep(proposition, names) {
+        if is_deep(proposition, names, Sheet::PROPOSITION_NESTING_LIMIT) {
             return Found::At(i);
         }
     }

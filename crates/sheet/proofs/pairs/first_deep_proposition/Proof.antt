@@ -1,7 +1,7 @@
 -- The propositions' nestings are judged in their order.
 use Prim.Native.Nat.{_-_}
 use native.Mathlib.Omega.{arith}
-use Rattle.definitions.specs.Sheet.{pairSize}
+use Rattle.definitions.specs.Sheet.{pairSize, propositionNestingLimit}
 use Rattle.definitions.specs.Tree.{propIn}
 use Rattle.definitions.specs.Admission.{badCode, deepProposition}
 use Rattle.definitions.proofs.Lowest.{found-here, found-nowhere}
@@ -31,7 +31,7 @@ is-deep-requires c κs =
     rw (c .marked-bytes .ensures) (start .pre .decoded _ (c .before .loop-test .taken))
 
 returns : tie.Need-returns Inv-loop μ-loop
-unfolding deepProposition propIn
+unfolding deepProposition propIn propositionNestingLimit
 returns c =
     let after-loop-test = c .before .before .before in
     let after-loop = after-loop-test .before in
@@ -44,7 +44,7 @@ loop-less : tie.Need-loop-less Inv-loop μ-loop
 loop-less c = omega arith
 
 loop-again : tie.Need-loop-again Inv-loop μ-loop
-unfolding deepProposition propIn
+unfolding deepProposition propIn propositionNestingLimit
 loop-again c =
     let after-loop-test = c .before .before .before in
     let after-loop = after-loop-test .before in
