@@ -11,7 +11,7 @@ use Rattle.definitions.specs.declared.Refusal.{Refusal}
 use Rattle.definitions.specs.Name.{isName}
 use Rattle.definitions.specs.Prop.{nesting}
 use Rattle.definitions.specs.Code.{decode}
-use Rattle.definitions.specs.Outcome.{refused, accepted}
+use Rattle.definitions.specs.Outcome.{refused, accepted, foundAt}
 use Rattle.definitions.specs.Sheet.{pairSize, codeLength, codeStart, names, propositions, steps, namePairs, textBytes, propositionPairs, stepRecords, codeBytes, nameOf, marked, premissCount, propositionNestingLimit, treeNestingLimit, NameWithin}
 use Rattle.definitions.specs.Tree.{ProofTree, height, treesBefore, treeIn, propIn, propOf, treeOf, rootOf}
 use Rattle.definitions.specs.Admission.{isNone, badName, badCode, deepProposition, tooFewTrees, treesLeft, deepTree, admitted}
@@ -20,17 +20,20 @@ use Rattle.identifier.specs.Pairs.{PairsWithin}
 use Rattle.identifier.proofs.Within.{last-within}
 use Rattle.prefix_code.proofs.Reading.{part-bytes}
 use Rattle.steps.specs.Records.{HasSteps}
+use Rattle.steps.specs.Tables.{SizeTable, passed}
 use Rattle.sheet.specs.declared.header.Sheet.{Sheet}
 use Rattle.sheet.specs.declared.Checked.the-variants.{Accepted, Refused}
 use Rattle.sheet.specs.Header.{headerOf, InRange, HasHeader}
 use Rattle.sheet.specs.Pairs.{HasPairs, HasCodes}
-use Rattle.sheet.specs.Checks.{checkedOf}
+use Rattle.sheet.specs.Checks.{checkedOf, treeChecks}
+use Rattle.sheet.specs.Sizes.{stepsFindingTrees, unlessRefused, sizedSteps, Sized}
 use Rattle.sheet.specs.Admitted.{Admitted}
 use Rattle.sheet.proofs.Outcomes.{each-accepted, test-failed, none-lowest}
 use Rattle.definitions.proofs.Lowest.{all-fail}
 use Rattle.sheet.proofs.Ranges.{in-range}
 use Rattle.sheet.proofs.Given.{good-pairs, good-name-pair, good-proposition-pair}
 use Rattle.sheet.proofs.Stages.{stage-accepted, stage-refuses}
+use Rattle.sheet.proofs.Order.{fromNames, fromPropositions, fromSteps, fromTrees, in-stages}
 use Rattle.sheet.proofs.Slices.{lengths}
 
 is-some : {A : Type 0} (o : Option A) (d : A) → isNone o ≡ false → o ≡ some (Option·getD o d)
@@ -144,6 +147,24 @@ accepted-sheet s {h} e =
 pub refused-sheet : (s : List ℕ) {x : Refusal} → checkedOf s ≡ Refused x → admitted s ≡ refused x
 unfolding checkedOf
 refused-sheet s e = stage-refuses _ _ refl e
+
+-- where no stage refuses, every step's tree is sized
+all-sized : (s : List ℕ) {h : Sheet} → checkedOf s ≡ Accepted h → sizedSteps s ≡ steps s
+unfolding checkedOf fromNames fromPropositions fromSteps fromTrees treeChecks sizedSteps unlessRefused stepsFindingTrees passed foundAt
+all-sized s e =
+    let (_, _, whole) = stage-accepted _ (admitted s) refl e in
+    let (_, header, e) = each-accepted _ _ (in-stages s ∙ whole) in
+    let (_, names, e) = each-accepted _ _ e in
+    let (_, propositions, e) = each-accepted _ _ e in
+    let (_, steps, e) = each-accepted _ _ e in
+    let (_, trees, e) = each-accepted _ _ e in
+    let (_, ten, e) = each-accepted _ _ trees in
+    rw (header, names, propositions, steps, none-lowest _ _ _ ten)
+
+-- so the table of an accepted sheet has all the sizes
+pub accepted-sizes : (s : List ℕ) {h : Sheet} {before after : List ℕ} → checkedOf s ≡ Accepted h
+    → Sized s (sizedSteps s) before after → SizeTable (stepRecords s) (steps s) after
+accepted-sizes s e sized = rw (all-sized s e) at (sized .table)
 
 -- the code of a sheet of bytes is bytes
 pub code-of-bytes : (s : List ℕ) → Bytes s → Bytes (codeBytes s)

@@ -2,4 +2,5 @@
 pub mod Header
 pub mod Pairs
 pub mod Checks
+pub mod Sizes
 pub mod Admitted

@@ -45,7 +45,7 @@ impl Sheet {
 
     pub const PROPOSITION_NESTING_LIMIT: usize = 64;
 
-    pub const TREE_NESTING_LIMIT: usize = steps::TREE_NESTING_LIMIT as usize;
+    pub const TREE_NESTING_LIMIT: u16 = 256;
 
     // The bytes of the header, of a pair of offset and length, and of a step.
     pub const HEADER_SIZE: usize = 12;

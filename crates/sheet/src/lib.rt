@@ -23,10 +23,10 @@ use steps::leaves_trees;
 ghost use mathlib.Core.Path.{_≡_};
 ghost use Prim.Native.Nat.{_<_, _≤_};
 ghost use lib.ListN.{length};
-ghost use Rattle.definitions.specs.Sheet.{stepLimit, steps, stepRecords};
-ghost use Rattle.steps.specs.Tables.{SizeTable};
+ghost use Rattle.definitions.specs.Sheet.{stepLimit};
 ghost use Rattle.sheet.specs.Header.{headerOf, HasHeader};
 ghost use Rattle.sheet.specs.Checks.{checkedOf, answered, headerChecks, nameChecks, propositionChecks, stepChecks, treeChecks};
+ghost use Rattle.sheet.specs.Sizes.{stepsFindingTrees, sizedSteps, Sized};
 
 // What refusals 1 to 11 say of some bytes: the header of a sheet, or the first refusal.
 pub enum Checked {
@@ -112,7 +112,7 @@ fn check_steps(s: &[u8], h: Sheet) -> Checked
 fn check_trees(s: &[u8], h: Sheet, sizes: &mut [u16]) -> Checked
     requires { ⌜ (HasHeader (now s) h) × (stepLimit ≤ length (now sizes)) ⌝ }
     ensures { λ r. ⌜ r ≡ answered h (treeChecks (now (s .entry))) ⌝ }
-    ensures { λ r. ⌜ (r ≡ Checked.Accepted h → SizeTable (stepRecords (now (s .entry))) (steps (now (s .entry))) (now (sizes .exit))) ⌝ }
+    ensures { λ r. ⌜ Sized (now (s .entry)) (stepsFindingTrees (now (s .entry))) (now (sizes .entry)) (now (sizes .exit)) ⌝ }
 {
     let records = step_records(s, h);
     let steps = h.steps;
@@ -123,18 +123,23 @@ fn check_trees(s: &[u8], h: Sheet, sizes: &mut [u16]) -> Checked
         return refuse(10, steps - 1);
     }
     let mut heights = [0u16; Sheet::STEP_LIMIT];
-    if let Found::At(k) = first_deep_tree(records, steps, sizes, &mut heights) {
+    if let Found::At(k) = first_deep_tree(
+        records,
+        steps,
+        sizes,
+        &mut heights,
+        Sheet::TREE_NESTING_LIMIT,
+    ) {
         return refuse(11, k);
     }
     Checked::Accepted(h)
 }
 
-// Refusals 1 to 11 in their order. Where the sheet is accepted, the table has the sizes of the steps' trees; where it is refused,
-// what the table holds is left open.
+// Refusals 1 to 11 in their order. The table gets the sizes of the steps' trees: of all, where the sheet is accepted, and else of
+// those that the checks reached.
 pub fn check(s: &[u8], sizes: &mut [u16; Sheet::STEP_LIMIT]) -> Checked
     ensures { λ r. ⌜ r ≡ checkedOf (now (s .entry)) ⌝ }
-    ensures { λ r. ⌜ ((h : Sheet) → r ≡ Checked.Accepted h
-        → SizeTable (stepRecords (now (s .entry))) (steps (now (s .entry))) (now (sizes .exit))) ⌝ }
+    ensures { λ r. ⌜ Sized (now (s .entry)) (sizedSteps (now (s .entry))) (now (sizes .entry)) (now (sizes .exit)) ⌝ }
 {
     let header = check_header(s);
     let Checked::Accepted(h) = header else {

@@ -9,7 +9,7 @@ use lib.Seq.{getD-set-same, getD-set-other}
 use borrow.Author.Count.{below-more}
 use Rattle.definitions.specs.declared.Found.the-variants.{At}
 use Rattle.definitions.specs.Tree.{height, treeIn}
-use Rattle.definitions.specs.Admission.{tooFewTrees, deepTree}
+use Rattle.definitions.specs.Admission.{tooFewTrees}
 use Rattle.steps.specs.Size.{size}
 use Rattle.steps.specs.Tables.{TreeStart, SizeTable, HeightTable}
 
@@ -45,16 +45,13 @@ module _ (records table : List ℕ) where
       }
 
   pub height-table-none : HeightTable records 0 table
-  height-table-none =
-      record { shallow = λ names pairs code k h. absurd (omega arith); heights = λ names pairs code k h. absurd (omega arith) }
+  height-table-none = record { heights = λ names pairs code k h. absurd (omega arith) }
 
   pub height-table-more : (k v : ℕ) → k < length table → HeightTable records k table
       → ((names : ℕ) (pairs code : List ℕ) → v ≡ height (treeIn names pairs code records k))
-      → ((names : ℕ) (pairs code : List ℕ) → deepTree names pairs code records k ≡ false)
       → HeightTable records (k + 1) (set table k v)
-  height-table-more k v h t e s =
+  height-table-more k v h t e =
       record {
-        shallow = λ names pairs code. below-more _ k (t .shallow names pairs code) (s names pairs code);
         heights = λ names pairs code.
             entries-more (λ i. height (treeIn names pairs code records i)) table k v h (t .heights names pairs code)
             (e names pairs code);

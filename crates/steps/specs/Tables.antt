@@ -5,11 +5,12 @@ use mathlib.Core.Path.{_≡_}
 use mathlib.Core.Bool.{true, false}
 use mathlib.Core.List.{List}
 use lib.ListN.{getD, drop}
+use lib.Dec.{ltb}
 use Rattle.definitions.specs.declared.Found.{Found}
 use Rattle.definitions.specs.declared.Found.the-variants.{Nowhere, At}
 use Rattle.definitions.specs.Outcome.{lowest, foundAt}
 use Rattle.definitions.specs.Tree.{height, treeIn}
-use Rattle.definitions.specs.Admission.{tooFewTrees, deepTree}
+use Rattle.definitions.specs.Admission.{tooFewTrees}
 use Rattle.steps.specs.Size.{size}
 
 -- where the tree of step k starts: nowhere if the step finds too few trees, else so that the tree has the steps up to k
@@ -26,15 +27,25 @@ pub record SizeTable (records : List ℕ) (steps : ℕ) (table : List ℕ) : Typ
   pub sizes : (names : ℕ) (pairs code : List ℕ) (k : ℕ)
       → k < steps → getD table k 0 ≡ size (treeIn names pairs code records k)
 
--- refusal 10's first part; if no step finds too few trees, the table is filled, and past the steps it is as before
+-- how many steps a search passes: those before the one that it finds, or else all
+unfoldable pub passed : Found → ℕ → ℕ
+passed Nowhere steps = steps
+passed (At k) steps = k
+
+-- refusal 10's first part; of the steps that it passes the table has the sizes, and past them it is as before
 pub record FilledSizes (records : List ℕ) (steps : ℕ) (before : List ℕ) (r : Found) (after : List ℕ) : Type 0 where
   pub found : (names : ℕ) (pairs code : List ℕ) → r ≡ foundAt (lowest (tooFewTrees names pairs code records) steps)
-  pub table : r ≡ Nowhere → SizeTable records steps after
-  pub kept : drop steps after ≡ drop steps before
+  pub table : SizeTable records (passed r steps) after
+  pub kept : drop (passed r steps) after ≡ drop (passed r steps) before
 
--- each of the first steps' trees nests at most 256 deep, and the table has its nesting
+-- the table has the nesting of each of the first steps' trees
 pub record HeightTable (records : List ℕ) (steps : ℕ) (table : List ℕ) : Type 0 where
-  pub shallow : (names : ℕ) (pairs code : List ℕ) (k : ℕ)
-      → k < steps → deepTree names pairs code records k ≡ false
   pub heights : (names : ℕ) (pairs code : List ℕ) (k : ℕ)
       → k < steps → getD table k 0 ≡ height (treeIn names pairs code records k)
+
+-- the lowest step whose tree nests deeper than a limit; of the steps passed the table has the nestings, and past them it is as before
+pub record FilledHeights (records : List ℕ) (steps limit : ℕ) (before : List ℕ) (r : Found) (after : List ℕ) : Type 0 where
+  pub found : (names : ℕ) (pairs code : List ℕ)
+      → r ≡ foundAt (lowest (λ k. ltb limit (height (treeIn names pairs code records k))) steps)
+  pub table : HeightTable records (passed r steps) after
+  pub kept : drop (passed r steps) after ≡ drop (passed r steps) before

@@ -9,15 +9,12 @@ ghost use Rattle.definitions.specs.Outcome.{lowest, foundAt};
 ghost use Rattle.definitions.specs.Sheet.{stepSize, stepLimit, premissCount, stepNumber};
 ghost use Rattle.definitions.specs.Tree.{rules, Sorry, identifierCount, height, treeIn};
 ghost use Rattle.definitions.specs.Admission.{noName, notZero, badIdentifier, badPropIsTrue, badTypeJudgement, badConclusion};
-ghost use Rattle.definitions.specs.Admission.{badStep, treesLeft, deepTree};
+ghost use Rattle.definitions.specs.Admission.{badStep, treesLeft};
 ghost use Rattle.steps.specs.Records.{HasStep, HasSteps};
-ghost use Rattle.steps.specs.Tables.{TreeStart, SizeTable, FilledSizes, HeightTable};
+ghost use Rattle.steps.specs.Tables.{TreeStart, SizeTable, FilledSizes, HeightTable, FilledHeights};
 
 // The bytes of a step.
 pub const STEP_SIZE: usize = 18;
-
-// The deepest nesting of a tree.
-pub const TREE_NESTING_LIMIT: u16 = 256;
 
 // How many identifiers a rule has, by its byte.
 const IDENTIFIER_COUNTS: [u8; 17] = [0, 0, 0, 0, 1, 0, 1, 0, 0, 2, 0, 1, 0, 0, 2, 0, 0];
@@ -174,7 +171,7 @@ fn max(a: u16, b: u16) -> u16
 
 // The nesting of the tree of step k: one more than that of its deepest premiss.
 fn tree_height(records: &[u8], k: usize, sizes: &[u16], heights: &[u16]) -> u16
-    requires { ⌜ (HasStep (now records) k) × (k ≤ length (now sizes)) × (k ≤ length (now heights)) ⌝ }
+    requires { ⌜ (HasStep (now records) k) × (k < stepLimit) × (k ≤ length (now sizes)) × (k ≤ length (now heights)) ⌝ }
     requires { ⌜ SizeTable (now records) (k + 1) (now sizes) × HeightTable (now records) k (now heights) ⌝ }
     ensures { λ r. ⌜ ((names : ℕ) (pairs code : List ℕ) → r ≡ height (treeIn names pairs code (now (records .entry)) k)) ⌝ }
 {
@@ -189,15 +186,22 @@ fn tree_height(records: &[u8], k: usize, sizes: &[u16], heights: &[u16]) -> u16
     deepest + 1
 }
 
-// Refusal 11: the lowest step whose tree nests too deep. The heights are those of the steps before it.
-pub fn first_deep_tree(records: &[u8], steps: usize, sizes: &[u16], heights: &mut [u16]) -> Found
-    requires { ⌜ (HasSteps (now records) steps) × (steps ≤ length (now sizes)) × (steps ≤ length (now heights)) ⌝ }
-    requires { ⌜ SizeTable (now records) steps (now sizes) ⌝ }
-    ensures { λ r. ⌜ ((names : ℕ) (pairs code : List ℕ) → r ≡ foundAt (lowest (deepTree names pairs code (now (records .entry))) steps)) ⌝ }
+// The lowest step whose tree nests deeper than a limit: with that of a sheet, this is refusal 11. The heights are those of the
+// steps before it.
+pub fn first_deep_tree(
+    records: &[u8],
+    steps: usize,
+    sizes: &[u16],
+    heights: &mut [u16],
+    limit: u16,
+) -> Found
+    requires { ⌜ (HasSteps (now records) steps) × (steps ≤ stepLimit) ⌝ }
+    requires { ⌜ (steps ≤ length (now sizes)) × (steps ≤ length (now heights)) × SizeTable (now records) steps (now sizes) ⌝ }
+    ensures { λ r. ⌜ FilledHeights (now (records .entry)) steps limit (now (heights .entry)) r (now (heights .exit)) ⌝ }
 {
     for k in 0..steps {
         let height = tree_height(records, k, sizes, heights);
-        if TREE_NESTING_LIMIT < height {
+        if limit < height {
             return Found::At(k);
         }
         heights[k] = height;

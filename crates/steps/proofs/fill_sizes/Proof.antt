@@ -4,6 +4,7 @@ use mathlib.Core.Path.{_≡_, refl, _∙_}
 use mathlib.Core.Option.{none}
 use mathlib.Core.List.{List, []}
 use native.Mathlib.Omega.{arith}
+use native.Mathlib.Nat.{le-refl}
 use lib.ListN.{length, drop, length-set}
 use lib.Seq.{drop-set-lt}
 use borrow.Author.Needs.{needs}
@@ -11,18 +12,18 @@ use Rattle.definitions.specs.Outcome.{lowest}
 use Rattle.definitions.specs.Sheet.{stepSize, stepLimit}
 use Rattle.definitions.specs.Admission.{tooFewTrees}
 use Rattle.definitions.proofs.Lowest.{lowest-passed, found-here, found-nowhere}
-use Rattle.steps.specs.Tables.{TreeStart, SizeTable}
+use Rattle.steps.specs.Tables.{TreeStart, SizeTable, passed}
 use Rattle.steps.proofs.Tables.{size-table-none, size-table-more}
 use Rattle.steps.proofs.fill_sizes.Statement.{statement}
 use Rattle.steps.proofs.fill_sizes.Tie as tie
 
--- the first k entries are filled
+-- the first k entries are filled; from entry k on the table is as before
 record Filling (records : List ℕ) (steps : ℕ) (before sizes : List ℕ) (k : ℕ) : Type 0 where
   inside : k ≤ steps
   long : length sizes ≡ length before
   found : (names : ℕ) (pairs code : List ℕ) → lowest (tooFewTrees names pairs code records) k ≡ none
   table : SizeTable records k sizes
-  kept : drop steps sizes ≡ drop steps before
+  past : (j : ℕ) → k ≤ j → drop j sizes ≡ drop j before
 
 abbrev Inv-loop : tie.InvT-loop
 Inv-loop records steps sizes₀ k₀ sizes k = Filling records steps sizes₀ sizes k
@@ -38,7 +39,7 @@ loop-holds c =
       long = refl;
       found = λ names pairs code. refl;
       table = size-table-none _ _;
-      kept = refl;
+      past = λ j h. refl;
     }
 
 tree-start-requires : tie.Need-tree-start-requires Inv-loop μ-loop
@@ -55,15 +56,15 @@ same-length : tie.Need-same-length Inv-loop μ-loop
 same-length c = c .before .before .before .before .before .loop .inv .long
 
 returns : tie.Need-returns Inv-loop μ-loop
-unfolding TreeStart
+unfolding TreeStart passed
 returns c =
     let f = c .before .before .before .before .before .loop .inv in
     let l = c .before .before .before .before .loop-test .taken in
     let s = rw (c .enum-told .given .1) at (c .before .before .tree-start .ensures) in
     record {
       found = λ names pairs code. found-here _ _ _ (f .found names pairs code) (s names pairs code) l;
-      table = λ e. let z : _≡_ {A = ℕ} 0 1 = cc in absurd (omega arith);
-      kept = f .kept;
+      table = f .table;
+      kept = f .past _ (le-refl _);
     }
 
 add-sizes : tie.Need-add-sizes Inv-loop μ-loop
@@ -94,26 +95,28 @@ loop-again : tie.Need-loop-again Inv-loop μ-loop
 unfolding TreeStart
 loop-again c =
     let f = c .before .before .before .before .before .before .loop .inv in
+    let k = c .before .before .before .before .before .before .loop .k in
     let s = rw (c .before .start .given .1) at (c .before .before .before .tree-start .ensures) in
     record {
       inside = omega arith;
       long = simp length-set (f .long);
       found = λ names pairs code. lowest-passed _ _ (f .found names pairs code) (s names pairs code .0);
       table = size-table-more _ _ _ _ (omega arith) (f .table) s;
-      kept = drop-set-lt _ _ _ _ (c .before .before .before .before .before .loop-test .taken) ∙ f .kept;
+      past = λ j l. drop-set-lt j _ k _ (omega arith) ∙ f .past j (omega arith);
     }
 
 same-length-2 : tie.Need-same-length-2 Inv-loop μ-loop
 same-length-2 c = c .before .loop .inv .long
 
 returns-2 : tie.Need-returns-2 Inv-loop μ-loop
+unfolding passed
 returns-2 c =
     let f = c .before .loop .inv in
     let e : c .before .loop .k ≡ c .before .before .before .before .args .steps = omega arith in
     record {
       found = λ names pairs code. found-nowhere _ _ _ (f .found names pairs code) e;
-      table = λ r. rw e at (f .table);
-      kept = f .kept;
+      table = rw e at (f .table);
+      kept = rw e at (f .past _ (le-refl _));
     }
 
 pub fill-sizes-spec : {M : Type 1} → statement M

@@ -5,10 +5,10 @@ use mathlib.Core.List.{[]}
 use native.Mathlib.Omega.{arith}
 use borrow.Author.Needs.{needs}
 use denote.Ref.{now}
-use Rattle.definitions.specs.Sheet.{premissCount, treeNestingLimit}
+use Rattle.definitions.specs.Sheet.{premissCount, stepLimit}
 use Rattle.steps.specs.Tables.{SizeTable}
 use Rattle.steps.proofs.Walk.{Walk, walk-start, walk-within, size-fits, walk-on, walk-in}
-use Rattle.steps.proofs.Deepest.{Deepest, deepest-none, deepest-more, deepest-all}
+use Rattle.steps.proofs.Deepest.{Deepest, deepest-none, deepest-more, deepest-within, deepest-all}
 use Rattle.steps.proofs.Tables.{size-table-shorter}
 use Rattle.steps.proofs.tree_height.Statement.{statement}
 use Rattle.steps.proofs.tree_height.Tie as tie
@@ -81,8 +81,8 @@ loop-again c =
     )
 
 add-result : tie.Need-add-result Inv-loop μ-loop
-unfolding treeNestingLimit
-add-result c = omega (arith, c .before .loop .inv .1 .shallow)
+unfolding stepLimit
+add-result c = let l = c .before .loop .inv in omega (arith, deepest-within _ _ _ _ _ (l .0) (l .1))
 
 returns : tie.Need-returns Inv-loop μ-loop
 returns c = deepest-all _ _ _ _ (omega arith) (c .before .loop .inv .1)
