@@ -1,9 +1,8 @@
 // A reader holds a sheet and a position in it. Its functions take it apart, and leave the work to functions of a slice and a position.
-use definitions::Refusal;
 use number::number_at;
 ghost use mathlib.Core.Path.{_≡_};
 ghost use Prim.Native.Nat.{_*_};
-ghost use Rattle.reader.specs.Reading.{bytesAfter, numberAfter, positionAfter, headerOf};
+ghost use Rattle.reader.specs.Reading.{bytesAfter, numberAfter, positionAfter};
 
 pub struct Reader<'a> {
     pub sheet: &'a [u8],
@@ -81,55 +80,4 @@ pub fn header_number(s: &[u8], k: usize) -> Number
     ensures { λ r. ⌜ r ≡ numberAfter (now (s .entry)) (2 * k) ⌝ }
 {
     Reader::new(s).moved(k).next_number()
-}
-
-// What reading a header comes to.
-pub enum Header {
-    Numbers {
-        text_length: usize,
-        names: usize,
-        code_length: usize,
-        propositions: usize,
-        steps: usize,
-        goal: usize,
-    },
-    Refused(Refusal),
-}
-
-// Refusal 1: fewer than 12 bytes came.
-const TOO_SHORT: Header = Header::Refused(Refusal {
-    number: 1,
-    place: 0,
-});
-
-// The header of these bytes.
-pub fn read_header(s: &[u8]) -> Header
-    ensures { λ r. ⌜ r ≡ headerOf (now (s .entry)) ⌝ }
-{
-    let Number::At(text_length) = header_number(s, 0) else {
-        return TOO_SHORT;
-    };
-    let Number::At(names) = header_number(s, 1) else {
-        return TOO_SHORT;
-    };
-    let Number::At(code_length) = header_number(s, 2) else {
-        return TOO_SHORT;
-    };
-    let Number::At(propositions) = header_number(s, 3) else {
-        return TOO_SHORT;
-    };
-    let Number::At(steps) = header_number(s, 4) else {
-        return TOO_SHORT;
-    };
-    let Number::At(goal) = header_number(s, 5) else {
-        return TOO_SHORT;
-    };
-    Header::Numbers {
-        text_length,
-        names,
-        code_length,
-        propositions,
-        steps,
-        goal,
-    }
 }

@@ -23,10 +23,14 @@ checkedOf s = answered (headerOf s) (admitted s)
 
 -- Of a sheet's bytes:
 module _ (s : List ℕ) where
+  -- 1: a header's bytes
+  unfoldable pub shortCheck : Outcome (Unit {0})
+  shortCheck = refuseIf (ltb (length s) headerSize) 1 0
+
   -- 1 to 3: the header, and the length that it gives
   unfoldable pub headerChecks : Outcome (Unit {0})
   headerChecks = do
-    _ ← refuseIf (ltb (length s) headerSize) 1 0
+    _ ← shortCheck
     _ ← refuseIf (headerOutOfRange s) 2 0
     refuseIf (not (eqb (length s) (sheetLength s))) 3 0
 

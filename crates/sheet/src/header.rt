@@ -1,11 +1,14 @@
 // The header of a sheet, and where the parts lie that follow it.
-use number::number_at;
+use crate::Checked;
+use definitions::Refusal;
+use reader::Number;
+use reader::header_number;
 ghost use mathlib.Core.Path.{_≡_};
 ghost use mathlib.Core.List.{List};
-ghost use Prim.Native.Nat.{ℕ, _≤_};
-ghost use lib.ListN.{length};
-ghost use Rattle.definitions.specs.Sheet.{headerSize, headerOutOfRange};
+ghost use Prim.Native.Nat.{ℕ};
+ghost use Rattle.definitions.specs.Sheet.{headerOutOfRange};
 ghost use Rattle.sheet.specs.Header.{headerOf, InRange, layoutOf};
+ghost use Rattle.sheet.specs.Checks.{answered, shortCheck};
 
 // The six header numbers: T, N, C, P, S and the goal.
 pub struct Sheet {
@@ -25,6 +28,12 @@ pub struct Layout {
     pub code: usize,
     pub end: usize,
 }
+
+// Refusal 1: fewer bytes came than a header has.
+const TOO_SHORT: Checked = Checked::Refused(Refusal {
+    number: 1,
+    place: 0,
+});
 
 impl Sheet {
     // Document 01's limits: text bytes, names, code bytes, propositions, steps; bytes of a name, parameters of an atom,
@@ -54,19 +63,36 @@ impl Sheet {
 
     pub const STEP_SIZE: usize = steps::STEP_SIZE;
 
-    // The header of these bytes.
-    pub fn header(s: &[u8]) -> Self
-        requires { ⌜ headerSize ≤ length (now s) ⌝ }
-        ensures { λ r. ⌜ r ≡ headerOf (now (s .entry)) ⌝ }
+    // The header of these bytes, number by number through a reader.
+    pub fn header(s: &[u8]) -> Checked
+        ensures { λ r. ⌜ r ≡ answered (headerOf (now (s .entry))) (shortCheck (now (s .entry))) ⌝ }
     {
-        Self {
-            text_length: number_at(s, 0),
-            names: number_at(s, 2),
-            code_length: number_at(s, 4),
-            propositions: number_at(s, 6),
-            steps: number_at(s, 8),
-            goal: number_at(s, 10),
-        }
+        let Number::At(text_length) = header_number(s, 0) else {
+            return TOO_SHORT;
+        };
+        let Number::At(names) = header_number(s, 1) else {
+            return TOO_SHORT;
+        };
+        let Number::At(code_length) = header_number(s, 2) else {
+            return TOO_SHORT;
+        };
+        let Number::At(propositions) = header_number(s, 3) else {
+            return TOO_SHORT;
+        };
+        let Number::At(steps) = header_number(s, 4) else {
+            return TOO_SHORT;
+        };
+        let Number::At(goal) = header_number(s, 5) else {
+            return TOO_SHORT;
+        };
+        Checked::Accepted(Self {
+            text_length,
+            names,
+            code_length,
+            propositions,
+            steps,
+            goal,
+        })
     }
 
     // Whether a header number lies outside its range.

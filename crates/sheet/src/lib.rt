@@ -49,10 +49,10 @@ fn refuse(number: u8, place: usize) -> Checked
 fn check_header(s: &[u8]) -> Checked
     ensures { λ r. ⌜ r ≡ answered (headerOf (now (s .entry))) (headerChecks (now (s .entry))) ⌝ }
 {
-    if s.len() < Sheet::HEADER_SIZE {
-        return refuse(1, 0);
-    }
-    let h = Sheet::header(s);
+    let read = Sheet::header(s);
+    let Checked::Accepted(h) = read else {
+        return read;
+    };
     if h.out_of_range() {
         return refuse(2, 0);
     }

@@ -2,94 +2,108 @@
 use mathlib.Core.Path.{_≡_, sym, ap, _∙_}
 use mathlib.Core.Bool.{not}
 use borrow.Author.Needs.{needs}
-use borrow.Author.Tests.{lt-ltb, le-ltb, eq-eqb, ne-eqb}
-use Rattle.definitions.specs.Sheet.{headerSize, headerOutOfRange, sheetLength}
+use borrow.Author.Tests.{eq-eqb, ne-eqb}
+use Rattle.definitions.specs.Outcome.{accepted}
+use Rattle.definitions.specs.Sheet.{headerOutOfRange, sheetLength}
 use Rattle.sheet.specs.declared.header.Layout.{Layout}
 use Rattle.sheet.specs.declared.Checked.the-variants.{Accepted}
-use Rattle.sheet.specs.Header.{layoutOf}
-use Rattle.sheet.specs.Checks.{headerChecks}
+use Rattle.sheet.specs.Header.{headerOf, layoutOf}
+use Rattle.sheet.specs.Checks.{headerChecks, shortCheck}
 use Rattle.sheet.proofs.Ranges.{in-range}
-use Rattle.sheet.proofs.Stages.{refused-if, not-refused-if, refused-last, accepted-last, refused-now, passed-on}
+use Rattle.sheet.proofs.Stages.{refused-if, not-refused-if, refused-last, accepted-last, refused-now, passed-on, stage-accepted, stage-refused}
 use Rattle.sheet.proofs.check_header.Statement.{statement}
 use Rattle.sheet.proofs.check_header.Tie as tie
 
-range-test : (c : tie.After-out-of-range)
-    → headerOutOfRange (c .before .before .before .before .args .s .now) ≡ c .out-of-range .result
-range-test c = sym (c .out-of-range .ensures _ (c .before .header .ensures))
+-- back from the header that was read to the start
+abbrev start : tie.After-known-told → tie.Start
+start c = c .before .before .before .before .before
 
-laid-out : (c : tie.After-layout)
-    → c .layout .result .end ≡ sheetLength (c .before .before .before .before .before .before .args .s .now)
+is-header : (c : tie.After-known-told) → c .before .read .given .0 .0 ≡ headerOf (start c .args .s .now)
+is-header c = stage-accepted _ _ (c .before .before .before .header .ensures) (c .before .read .given .1) .0
+
+-- 1 did not come
+long-enough : (c : tie.After-known-told) → shortCheck (start c .args .s .now) ≡ accepted tt
+long-enough c = stage-accepted _ _ (c .before .before .before .header .ensures) (c .before .read .given .1) .2
+
+-- back from the range test, and from the layout, to the header that was read
+abbrev read-before : tie.After-out-of-range → tie.After-known-told
+read-before c = c .before
+
+abbrev tested-before : tie.After-layout → tie.After-out-of-range
+tested-before c = c .before .before
+
+range-test : (c : tie.After-out-of-range) → headerOutOfRange (start (read-before c) .args .s .now) ≡ c .out-of-range .result
+range-test c = sym (c .out-of-range .ensures _ (is-header (read-before c)))
+
+laid-out : (c : tie.After-layout) → c .layout .result .end ≡ sheetLength (start (read-before (tested-before c)) .args .s .now)
 unfolding layoutOf
-laid-out c =
-    let after-header = c .before .before .before in
-    ap (λ (l : Layout). l .end) (c .layout .ensures _ (after-header .header .ensures))
-
-refuse-requires : tie.Need-refuse-requires
-refuse-requires c κs = search needs
-
-returns : tie.Need-returns
-unfolding headerChecks headerSize
-returns c = refused-now _ _ (refused-if _ _ (lt-ltb _ _ (c .before .if1 .taken))) (c .refuse .ensures)
+laid-out c = ap (λ (l : Layout). l .end) (c .layout .ensures _ (is-header (read-before (tested-before c))))
 
 header-requires : tie.Need-header-requires
-unfolding headerSize
-header-requires c κs = c .if1 .left
+header-requires c κs = search needs
+
+enum-known-read : tie.Need-enum-known-read
+enum-known-read c = search needs
+
+enum-told : tie.Need-enum-told
+enum-told c = search needs
+
+returns : tie.Need-returns
+unfolding headerChecks
+returns c = stage-refused _ _ _ (c .before .before .header .ensures) (c .enum-told .given .1)
 
 out-of-range-requires : tie.Need-out-of-range-requires
 out-of-range-requires c κs = search needs
 
+refuse-requires : tie.Need-refuse-requires
+refuse-requires c κs = search needs
+
+returns-2 : tie.Need-returns-2
+unfolding headerChecks
+returns-2 c =
+    let tested = c .before .before in
+    passed-on _ _ (long-enough (read-before tested))
+    (refused-now _ _ (refused-if _ _ (range-test tested ∙ c .before .if1 .taken)) (c .refuse .ensures))
+
+layout-requires : tie.Need-layout-requires
+layout-requires c κs = rw (is-header (read-before (c .before))) (in-range _ (range-test (c .before) ∙ c .if1 .left))
+
 refuse-requires-2 : tie.Need-refuse-requires-2
 refuse-requires-2 c κs = search needs
 
-returns-2 : tie.Need-returns-2
-unfolding headerChecks headerSize
-returns-2 c =
-    let after-if1 = c .before .before .before .before in
-    passed-on _ _ (not-refused-if _ _ (le-ltb _ _ (after-if1 .if1 .left)))
-    (refused-now _ _ (refused-if _ _ (range-test (c .before .before) ∙ c .before .if2 .taken)) (c .refuse2 .ensures))
-
-layout-requires : tie.Need-layout-requires
-layout-requires c κs = rw (c .before .before .header .ensures) (in-range _ (range-test (c .before) ∙ c .if2 .left))
-
-refuse-requires-3 : tie.Need-refuse-requires-3
-refuse-requires-3 c κs = search needs
-
 returns-3 : tie.Need-returns-3
-unfolding headerChecks headerSize
+unfolding headerChecks
 returns-3 c =
-    let after-layout = c .before .before .before in
-    let after-if2 = after-layout .before in
-    let after-out-of-range = after-if2 .before in
-    let after-if1 = after-out-of-range .before .before in
-    passed-on _ _ (not-refused-if _ _ (le-ltb _ _ (after-if1 .if1 .left)))
-    (passed-on _ _ (not-refused-if _ _ (range-test after-out-of-range ∙ after-if2 .if2 .left))
+    let laid = c .before .before .before in
+    let tested = tested-before laid in
+    passed-on _ _ (long-enough (read-before tested))
+    (passed-on _ _ (not-refused-if _ _ (range-test tested ∙ laid .before .if1 .left))
     (refused-last _
-    (refused-if _ _ (ap not (ne-eqb _ _ (λ e. c .before .if3 .taken (e ∙ sym (laid-out after-layout))))))
-    (c .refuse3 .ensures)))
+    (refused-if _ _ (ap not (ne-eqb _ _ (λ e. c .before .if2 .taken (e ∙ sym (laid-out laid))))))
+    (c .refuse2 .ensures)))
 
 returns-4 : tie.Need-returns-4
-unfolding headerChecks headerSize
+unfolding headerChecks
 returns-4 c =
-    let after-if2 = c .before .before .before in
-    let after-out-of-range = after-if2 .before in
-    let after-header = after-out-of-range .before in
-    let after-if1 = after-header .before in
-    ap Accepted (after-header .header .ensures)
-    ∙ passed-on _ _ (not-refused-if _ _ (le-ltb _ _ (after-if1 .if1 .left)))
-    (passed-on _ _ (not-refused-if _ _ (range-test after-out-of-range ∙ after-if2 .if2 .left))
-    (accepted-last _ (not-refused-if _ _ (ap not (eq-eqb _ _ (c .if3 .left ∙ laid-out (c .before .before)))))))
+    let laid = c .before .before in
+    let tested = tested-before laid in
+    ap Accepted (is-header (read-before tested))
+    ∙ passed-on _ _ (long-enough (read-before tested))
+    (passed-on _ _ (not-refused-if _ _ (range-test tested ∙ laid .before .if1 .left))
+    (accepted-last _ (not-refused-if _ _ (ap not (eq-eqb _ _ (c .if2 .left ∙ laid-out laid))))))
 
 pub check-header-spec : {M : Type 1} → statement M
 check-header-spec =
     tie.close
     (tie.spec
-    refuse-requires
-    returns
     header-requires
+    enum-known-read
+    enum-told
+    returns
     out-of-range-requires
-    refuse-requires-2
+    refuse-requires
     returns-2
     layout-requires
-    refuse-requires-3
+    refuse-requires-2
     returns-3
     returns-4)
