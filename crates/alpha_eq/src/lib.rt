@@ -4,6 +4,7 @@
 use definitions::Refusal;
 use identifier::same_bytes;
 use number::number_at;
+use sheet::Sheet;
 ghost use mathlib.Core.Path.{_≡_};
 ghost use lib.ListN.{getD};
 ghost use Rattle.definitions.specs.Sheet.{marked, NameWithin};
@@ -264,8 +265,8 @@ pub fn alpha_eq_under(
     alpha_eq_scope(code, i, j, pairs, text, bindings, depth)
 }
 
-// Two name numbers for each of 64 quantifiers, which is as deep as a proposition nests.
-const BINDINGS: usize = 128;
+// Two name numbers for each quantifier above a place: as many as a proposition nests deep.
+const BINDINGS: usize = 2 * Sheet::PROPOSITION_NESTING_LIMIT;
 
 // Are the propositions at i and j the same up to the names of their bound objects?
 pub fn alpha_eq(code: &[u8], i: usize, j: usize, pairs: &[u8], text: &[u8]) -> Answer

@@ -2,13 +2,14 @@
 // as the bytes that came.
 use libc::STDIN_FILENO;
 use libc::STDOUT_FILENO;
+use sheet::Sheet;
 use skriduhol::BOARD_ROOM;
 ghost use mathlib.Core.Path.{_≡_};
 ghost use lib.ListN.{length};
 ghost use Rattle.board.specs.Input.{inputRoom};
 
 // One byte more than the longest sheet: a longer input has the answer of its first part.
-const INPUT_ROOM: usize = 38925;
+const INPUT_ROOM: usize = Sheet::LENGTH_LIMIT + 1;
 
 // Memory for the input.
 fn input_memory() -> [u8; INPUT_ROOM]

@@ -6,6 +6,7 @@ use output::put;
 use output::put_all;
 use output::put_decimal;
 use output::put_name;
+use prefix_code::PARAMETER_LIMIT;
 use prefix_code::scan;
 use proof_term::DATATYPE;
 use proof_term::field;
@@ -31,8 +32,8 @@ ghost use Rattle.proof_term.specs.Records.{recordSize, labelOf, termAt};
 ghost use Rattle.proof_term_lists.specs.Labels.{useOf, datatypeUses, labelUses, termUses, LabelFits, LabelsFit, SomeLabel, SomeLabels};
 ghost use Rattle.declarations.specs.Lines.{countText, breakBefore, declaration, declarationLines};
 
-// The flags of a name: one for each count from 0 to 8.
-const NAME_FLAGS: usize = 9;
+// The flags of a name: one for each count of parameters from 0 on.
+const NAME_FLAGS: usize = PARAMETER_LIMIT as usize + 1;
 
 // Whether a declaration has this count and the bytes of this name. At the first that has, both loops are left, and its number j is
 // below `len`.

@@ -9,7 +9,7 @@ ghost use Rattle.proof_term.specs.Counting.{Small, ownAnnotations};
 ghost use Rattle.proof_term.specs.Making.{Room, Pushed, Made};
 
 // The numbers of a record.
-const RECORD_SIZE: usize = 6;
+pub const RECORD_SIZE: usize = 6;
 
 // The kinds of records, in the Rust's order.
 pub const IDENT: usize = 0;
@@ -40,6 +40,9 @@ pub const UNIT: usize = 12;
 
 pub const SORRY: usize = 13;
 
+// How many kinds there are.
+pub const KINDS: usize = SORRY + 1;
+
 // The kinds of labels: none, a proposition by the number that stands for it, a datatype by its name.
 pub const NO_LABEL: usize = 0;
 
@@ -48,7 +51,7 @@ pub const PROPOSITION: usize = 1;
 pub const DATATYPE: usize = 2;
 
 // How many of a record's numbers are parts, for each kind; in bytes, since each look lays the table down in the frame of a walk.
-const PART_COUNTS: [u8; 14] = [0, 2, 1, 1, 1, 2, 2, 1, 1, 3, 1, 1, 0, 0];
+const PART_COUNTS: [u8; KINDS] = [0, 2, 1, 1, 1, 2, 2, 1, 1, 3, 1, 1, 0, 0];
 
 // Stores record `used` and gives the number of the next one.
 pub fn push(

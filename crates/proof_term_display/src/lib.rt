@@ -4,6 +4,7 @@ use output::put;
 use output::put_all;
 use output::put_name;
 use proof_term::DATATYPE;
+use proof_term::KINDS;
 use proof_term::NO_LABEL;
 use proof_term::field;
 use prop::print;
@@ -27,9 +28,6 @@ ghost use Rattle.proof_term_display.specs.Brackets.{positions, styles, c
 ghost use Rattle.proof_term_display.specs.Format.{itemOf, part, FormatTable};
 ghost use Rattle.proof_term_display.specs.Printable.{PrintableTerm};
 ghost use Rattle.proof_term_display.specs.Item.{KindAt, LabelReady, ItemReady, recordItem};
-
-// How many kinds of records there are.
-const KINDS: usize = 14;
 
 // The forms of terms, as far as brackets go.
 const CLOSED: u8 = 0;

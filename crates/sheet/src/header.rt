@@ -63,6 +63,13 @@ impl Sheet {
 
     pub const STEP_SIZE: usize = steps::STEP_SIZE;
 
+    // The bytes of the longest sheet.
+    pub const LENGTH_LIMIT: usize = Self::HEADER_SIZE
+        + Self::PAIR_SIZE * (Self::NAME_LIMIT + Self::PROPOSITION_LIMIT)
+        + Self::STEP_SIZE * Self::STEP_LIMIT
+        + Self::TEXT_LIMIT
+        + Self::CODE_LIMIT;
+
     // The header of these bytes, number by number through a reader.
     pub fn header(s: &[u8]) -> Checked
         ensures { λ r. ⌜ r ≡ answered (headerOf (now (s .entry))) (shortCheck (now (s .entry))) ⌝ }

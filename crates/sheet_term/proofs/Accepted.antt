@@ -7,6 +7,7 @@ use lib.ListN.{length}
 use Rattle.definitions.specs.Sheet.{pairSize, names, propositions, steps, stepRecords, propositionPairs, codeBytes, stepNumber, codeLimit, stepLimit, stepSize}
 use Rattle.definitions.specs.Admission.{badCode}
 use Rattle.steps.specs.Tables.{SizeTable}
+use Rattle.proof_term.specs.Records.{recordSize}
 use Rattle.sheet.specs.Admitted.{Admitted}
 use Rattle.sheet.proofs.Slices.{lengths}
 use Rattle.sheet.specs.Header.{headerOf}
@@ -25,7 +26,7 @@ module _ {s : List ℕ} (a : Admitted s) where
         decoded = has-codes a .decoded i h;
       }
 
-  exportable : {sizes : List ℕ} → length sizes ≡ 1024 → SizeTable (stepRecords s) (steps s) sizes
+  exportable : {sizes : List ℕ} → length sizes ≡ stepLimit → SizeTable (stepRecords s) (steps s) sizes
       → Exportable (names s) (propositionPairs s) (codeBytes s) (stepRecords s) sizes (steps s)
   unfolding headerOf stepLimit codeLimit stepSize
   exportable l table =
@@ -46,7 +47,8 @@ module _ {s : List ℕ} (a : Admitted s) where
 -- Of an accepted sheet:
 module _ {s : List ℕ} {h : Sheet} (a : AcceptedSheet s h) where
   -- what the walk asks
-  pub ready : {sizes terms : List ℕ} → length sizes ≡ 1024 → length terms ≡ 12288 → SizeTable (stepRecords s) (steps s) sizes
+  pub ready : {sizes terms : List ℕ} → length sizes ≡ stepLimit → length terms ≡ 2 * recordSize * stepLimit
+      → SizeTable (stepRecords s) (steps s) sizes
       → (Exportable (h .names) (propositionPairs s) (codeBytes s) (stepRecords s) sizes (h .steps) × (0 < h .steps)) × RoomFor terms (2 * h .steps)
   unfolding headerOf stepLimit
   ready l m table =

@@ -1,5 +1,5 @@
 -- What the walk's outcome over an accepted sheet gives to the readers of its term.
-use Prim.Native.Nat.{ℕ, _-_}
+use Prim.Native.Nat.{ℕ, _-_, _*_}
 use mathlib.Core.Path.{_≡_, _∙_}
 use mathlib.Core.Logic.{⊎-elim}
 use mathlib.Core.List.{List}
@@ -16,6 +16,7 @@ use Rattle.definitions.specs.Answers.{sheetTerm}
 use Rattle.definitions.proofs.PrefixCode.{Bytes}
 use Rattle.prefix_code.specs.PropAt.{Present}
 use Rattle.prefix_code.proofs.Reading.{present-in}
+use Rattle.proof_term.specs.Records.{recordSize}
 use Rattle.proof_term.specs.Readable.{NamesBelow}
 use Rattle.sheet.specs.Header.{headerOf}
 use Rattle.sheet.specs.declared.header.Sheet.{Sheet}
@@ -68,7 +69,7 @@ module _ {s : List ℕ} {h : Sheet} (a : AcceptedSheet s h) where
         (λ j l. a .sheet .good-step j (omega (arith, a .sheet .in-range .some-step))) checking t e
 
     -- Of the walk's answer at the last step:
-    module _ {before after : List ℕ} {r : Exported} (room : length after ≡ 12288)
+    module _ {before after : List ℕ} {r : Exported} (room : length after ≡ 2 * recordSize * stepLimit)
         (walked : StepExported (h .names) (propositionPairs s) (codeBytes s) (stepRecords s) (h .steps - 1) checking before 0 after r) where
       held : {next : ℕ} → r ≡ Term next → HeldTerm s after (next - 1)
       unfolding headerOf stepLimit

@@ -6,7 +6,7 @@ use mathlib.Core.List.{List}
 use lib.ListN.{length, getD}
 use Rattle.definitions.specs.declared.Refusal.{Refusal}
 use Rattle.definitions.specs.Outcome.{accepted, refused}
-use Rattle.definitions.specs.Sheet.{names, propositions, propositionPairs, codeBytes, pairOffset}
+use Rattle.definitions.specs.Sheet.{names, propositions, propositionPairs, codeBytes, pairOffset, stepLimit}
 use Rattle.definitions.specs.Answers.{sheetTerm}
 use Rattle.prefix_code.specs.PropAt.{propAt}
 use Rattle.proof_term.specs.Records.{recordSize, fieldAt, termAt}
@@ -28,7 +28,7 @@ pub record LabelStands (s : List ℕ) (offset : ℕ) : Type 0 where
 -- record n of the whole memory holds the sheet's term: its names are the sheet's, and its proposition labels stand in the code
 pub record HeldTerm (s terms : List ℕ) (n : ℕ) : Type 0 where
   pub is-term : sheetTerm s ≡ accepted (termAt (propAt (names s) (codeBytes s)) terms n)
-  pub room : length terms ≡ 12288
+  pub room : length terms ≡ 2 * recordSize * stepLimit
   pub held : recordSize * (n + 1) ≤ length terms
   pub few : termSize (termAt (propAt (names s) (codeBytes s)) terms n) ≤ 65536
   pub below : NamesBelow (names s) (termAt (propAt (names s) (codeBytes s)) terms n)

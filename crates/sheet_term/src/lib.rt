@@ -1,5 +1,6 @@
 // The term of a sheet in records, for every sequence of bytes, and what its readers may know of it.
 use definitions::Refusal;
+use proof_term::RECORD_SIZE;
 use proof_term::annotation_count;
 use proof_tree::Exported;
 use proof_tree::export_as_proof_term;
@@ -16,8 +17,8 @@ ghost use Rattle.sheet.proofs.Admitted.{AcceptedSheet};
 ghost use Rattle.sheet_term.specs.Held.{Gives};
 ghost use Rattle.sheet_term.specs.Counted.{countedOf};
 
-// Room for two term records, of six numbers each, for each of 1,024 steps.
-pub const TERM_NUMBERS: usize = 12288;
+// Room for two term records for each step.
+pub const TERM_NUMBERS: usize = 2 * RECORD_SIZE * Sheet::STEP_LIMIT;
 
 // The header of a sheet and the record that holds its term; or the first of refusals 1 to 15.
 pub enum SheetTerm {

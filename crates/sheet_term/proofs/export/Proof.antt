@@ -1,6 +1,7 @@
 -- The parts of an accepted sheet are what the walk asks for, and its answer at the root is the sheet's.
 use native.Mathlib.Omega.{arith}
 use borrow.Author.Needs.{needs}
+use Rattle.definitions.specs.Sheet.{stepLimit}
 use Rattle.proof_tree.proofs.Walking.{term-of}
 use Rattle.sheet.proofs.Admitted.{its-header}
 use Rattle.sheet_term.proofs.Accepted.{ready}
@@ -18,6 +19,7 @@ step-records-requires : tie.Need-step-records-requires
 step-records-requires c κs = its-header (c .before .before .before .pre .0)
 
 export-as-proof-term-requires : tie.Need-export-as-proof-term-requires
+unfolding stepLimit
 export-as-proof-term-requires c κs =
     let cut = c .before .before .before .before in
     let start = cut .before .before in
@@ -34,12 +36,14 @@ enum-known-exported-2 : tie.Need-enum-known-exported-2
 enum-known-exported-2 c = search needs
 
 returns : tie.Need-returns
+unfolding stepLimit
 returns c =
     gives-term (c .before .before .before .before .before .before .before .before .before .before .pre .0) (λ i. omega (arith, c .before .before .before .before .before .before .before .before .before .shared-slice-known .given i)) (search needs)
     (let walk = c .before .before .before in rw (walk .before .before .before .before .before .proposition-pairs .ensures, walk .before .before .before .before .code-bytes .ensures, walk .before .before .before .step-records .ensures) at (walk .export-as-proof-term .ensures))
     (c .before .exported .given .1)
 
 returns-2 : tie.Need-returns-2
+unfolding stepLimit
 returns-2 c =
     gives-refusal (c .before .before .before .before .before .before .before .before .before .before .pre .0) (λ i. omega (arith, c .before .before .before .before .before .before .before .before .before .shared-slice-known .given i)) (search needs)
     (let walk = c .before .before .before in rw (walk .before .before .before .before .before .proposition-pairs .ensures, walk .before .before .before .before .code-bytes .ensures, walk .before .before .before .step-records .ensures) at (walk .export-as-proof-term .ensures))

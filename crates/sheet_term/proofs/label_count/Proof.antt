@@ -2,6 +2,7 @@
 use mathlib.Core.Path.{sym, ap}
 use borrow.Author.Needs.{needs}
 use Rattle.definitions.specs.Outcome.{mapOutcome}
+use Rattle.definitions.specs.Sheet.{stepLimit}
 use Rattle.definitions.specs.Answers.{labelCount}
 use Rattle.sheet_term.specs.declared.Counted.the-variants.{Labels}
 use Rattle.sheet_term.specs.Counted.{countedOf}
@@ -19,6 +20,7 @@ enum-known-found-2 : tie.Need-enum-known-found-2
 enum-known-found-2 c = search needs
 
 slice-aggregate-annotation-count : tie.Need-slice-aggregate-annotation-count
+unfolding stepLimit
 slice-aggregate-annotation-count c = sym (term-of (c .before .before .before .before .sheet-term .ensures) (c .before .before .found2 .given .1) .room)
 
 annotation-count-requires : tie.Need-annotation-count-requires

@@ -1,5 +1,6 @@
 -- A term that is held is listed; the refusal of one is the answer.
 use mathlib.Core.Path.{sym}
+use Rattle.definitions.specs.Sheet.{stepLimit}
 use Rattle.sheet_term.proofs.Answers.{accepted-of, term-of, refusal-of}
 use Rattle.skriduhol.proofs.Lists.{no-list}
 use borrow.Author.Needs.{needs}
@@ -16,6 +17,7 @@ enum-known-found-2 : tie.Need-enum-known-found-2
 enum-known-found-2 c = search needs
 
 slice-aggregate-list : tie.Need-slice-aggregate-list
+unfolding stepLimit
 slice-aggregate-list c = sym (term-of (c .before .before .before .before .sheet-term .ensures) (c .before .before .found2 .given .1) .room)
 
 list-requires : tie.Need-list-requires
