@@ -14,7 +14,7 @@ use Rattle.definitions.specs.Answers.{inRoom}
 use Rattle.output.specs.Wrote.{puts, Wrote}
 
 -- what is stored past the end is dropped
-sets-past : (l : List ℕ) (i : ℕ) (s : List ℕ) → length l ≤ i → sets l i s ≡ l
+pub sets-past : (l : List ℕ) (i : ℕ) (s : List ℕ) → length l ≤ i → sets l i s ≡ l
 sets-past l i [] h = refl
 sets-past l i (a ∷ s) h = rw (set-out l i a) (sets-past l (suc i) s (omega arith))
 
@@ -36,6 +36,15 @@ module _ (write : Bool) (l : List ℕ) (i : ℕ) (s : List ℕ) where
   puts-length : length (puts write l i s) ≡ length l
   unfolding puts
   puts-length = elim write [ true ↦ length-sets l i s | false ↦ refl ]
+
+-- whether the bytes are written or not
+pub dry : {write : Bool} (before : List ℕ) (to : ℕ) (text : List ℕ) → write ≡ false → before ≡ puts write before to text
+unfolding puts
+dry before to text e = rw e refl
+
+pub written : {write : Bool} (before : List ℕ) (to : ℕ) (text : List ℕ) {after : List ℕ} → write ≡ true → after ≡ sets before to text → after ≡ puts write before to text
+unfolding puts
+written before to text e h = rw e h
 
 -- a dry run leaves the memory as it was
 pub kept : {text before after : List ℕ} {to next : ℕ} → Wrote text false before to after next → after ≡ before
@@ -78,26 +87,34 @@ pub dry-run :
 unfolding puts
 dry-run e within beyond = rw e (record { stored = refl; within = within; beyond = beyond })
 
--- Of a text the part is stored that fits:
-module _ (write : Bool) (before : List ℕ) (to : ℕ) (text : List ℕ) (count : ℕ) (fitting : count ≡ min (length before - to) (length text)) where
-  fitting-part : puts write before to (take count text) ≡ puts write before to text
-  fitting-part = by-cases (decLe (length text) count)
-      (λ h. let all : count ≡ length text = omega arith in rw (all, take-length))
-      (λ h.
-      let here : length (take count text) ≡ count = omega (arith, length-take count text) in
-      let past = puts-past write (puts write before to (take count text)) (to + count) (drop count text) (omega (arith, puts-length write before to (take count text))) in
-      sym past ∙ rw here at (puts-append write before to (take count text) (drop count text)) ∙ ap (puts write before to) (take-append-drop count text))
+-- to store what fits of a text is to store the text
+pub fitting-part : (write : Bool) (before : List ℕ) (to : ℕ) (text : List ℕ) {after : List ℕ} {fit : ℕ} → fit ≡ min (length before - to) (length text)
+    → after ≡ puts write before to (take fit text) → after ≡ puts write before to text
+fitting-part write before to text {after} {fit} fits e = e ∙ by-cases (decLe (length text) fit)
+    (λ h. let all : fit ≡ length text = omega arith in rw (all, take-length))
+    (λ h.
+    let here : length (take fit text) ≡ fit = omega (arith, length-take fit text) in
+    let past = puts-past write (puts write before to (take fit text)) (to + fit) (drop fit text) (omega (arith, puts-length write before to (take fit text))) in
+    sym past ∙ rw here at (puts-append write before to (take fit text) (drop fit text)) ∙ ap (puts write before to) (take-append-drop fit text))
 
-  -- all of it
-  pub fits-whole : {after : List ℕ} → after ≡ puts write before to (take count text) → length text ≤ count → Wrote text write before to after (to + count)
-  fits-whole e h = record { stored = e ∙ fitting-part; within = λ k. omega arith; beyond = λ k. omega arith }
+-- A text of known size is stored, of which so much fits:
+module _
+    {write : Bool}
+    {before text after : List ℕ}
+    {to size fit : ℕ}
+    (sized : size ≡ length text)
+    (fits : fit ≡ min (length before - to) size)
+    (stored : after ≡ puts write before to text)
+  where
+    -- all of it
+    pub fits-whole : size ≤ fit → Wrote text write before to after (to + fit)
+    fits-whole h = record { stored = stored; within = λ k. omega arith; beyond = λ k. omega arith }
 
-  -- not all of it
-  pub fits-partly : {after : List ℕ} → after ≡ puts write before to (take count text) → count < length text → Wrote text write before to after (length after + 1)
-  fits-partly {after} e h =
-      let same : length (puts write before to (take count text)) ≡ length before = puts-length write before to (take count text) in
-      let sized : length after ≡ length before = rw e same in
-      record { stored = e ∙ fitting-part; within = λ k. omega arith; beyond = λ k. omega arith }
+    -- not all of it
+    pub fits-partly : fit < size → Wrote text write before to after (length after + 1)
+    fits-partly h =
+        let same : length after ≡ length before = rw stored (puts-length write before to text) in
+        record { stored = stored; within = λ k. omega arith; beyond = λ k. omega arith }
 
 -- A text is written and then another where the first one ended: that is to write both at once.
 module _

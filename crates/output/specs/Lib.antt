@@ -1,2 +1,3 @@
 pub mod Wrote
 pub mod Written
+pub mod LeastDigits

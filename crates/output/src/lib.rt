@@ -8,6 +8,7 @@ ghost use Prim.Native.Nat.{_+_, _*_, _-_, _≤_, min};
 ghost use lib.ListN.{length, take};
 ghost use Rattle.definitions.specs.Text.{decimal};
 ghost use Rattle.definitions.specs.Sheet.{pairSize, pairEnd, marked};
+ghost use Rattle.output.specs.LeastDigits.{LeastDigits};
 ghost use Rattle.output.specs.Wrote.{puts, Wrote};
 
 // The bytes of a pair of offset and length.
@@ -72,15 +73,50 @@ pub fn put_all(out: &mut [u8], to: usize, s: &[u8], write: bool) -> usize
     to + count
 }
 
-// A number in decimal.
+// How many digits a number has: the least count that holds it, and 1 for 0.
+fn digit_count(n: u64) -> usize
+    ensures { λ r. ⌜ LeastDigits n r ⌝ }
+{
+    let mut count = 1;
+    let mut rest = n;
+    while 10 <= rest {
+        rest /= 10;
+        count += 1;
+    }
+    count
+}
+
+// Stores the digits of a number, of which so many fit, from the last one back, each in its final position; none in a dry run.
+fn store_digits(out: &mut [u8], to: usize, n: u64, count: usize, fit: usize, write: bool)
+    requires { ⌜ LeastDigits n count ⌝ }
+    requires { ⌜ fit ≡ min (length (now out) - to) count ⌝ }
+    ensures { λ r. ⌜ now (out .exit) ≡ puts write (now (out .entry)) to (decimal n) ⌝ }
+{
+    if !write {
+        return;
+    }
+    let mut i = count;
+    let mut rest = n;
+    while 0 < i {
+        i -= 1;
+        if i < fit {
+            out[to + i] = b'0' + (rest % 10) as u8;
+        }
+        rest /= 10;
+    }
+}
+
+// A number in decimal. A dry run only counts the digits.
 pub fn put_decimal(out: &mut [u8], to: usize, n: u64, write: bool) -> usize
     ensures { λ r. ⌜ Wrote (decimal n) write (now (out .entry)) to (now (out .exit)) r ⌝ }
 {
-    let mut at = to;
-    if 10 <= n {
-        at = put_decimal(out, to, n / 10, write);
+    let count = digit_count(n);
+    let fit = fitting(out.len(), to, count);
+    store_digits(out, to, n, count, fit, write);
+    if fit < count {
+        return out.len() + 1;
     }
-    put(out, at, b'0' + (n % 10) as u8, write)
+    to + fit
 }
 
 // The bytes of the text that a pair marks.

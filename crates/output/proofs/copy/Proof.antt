@@ -1,15 +1,13 @@
 -- Each turn of the loop stores one byte more.
 use Prim.Native.Nat.{ℕ, _+_, _≤_, _<_, _-_}
 use mathlib.Core.Path.{_≡_, refl, _∙_}
-use mathlib.Core.Bool.{Bool, true, false}
 use mathlib.Core.List.{List, [], _∷_}
 use native.Mathlib.Omega.{arith}
 use native.Mathlib.Numerals.{add-one}
 use borrow.Author.Tests.{not-true, not-false}
 use lib.ListN.{length, set, take, getD, length-take, length-set}
 use lib.Seq.{sets, take-suc}
-use Rattle.output.specs.Wrote.{puts}
-use Rattle.output.proofs.Writing.{sets-append}
+use Rattle.output.proofs.Writing.{sets-append, dry, written}
 use Rattle.output.proofs.copy.Statement.{statement}
 use Rattle.output.proofs.copy.Tie as tie
 
@@ -28,15 +26,6 @@ one-more {before} {to} {s} {count} {i} {after} h k st =
       sized = length-set after (to + i) (getD s i 0) ∙ st .sized;
       stored = rw (add-one, take-suc s i 0 (omega arith), st .stored) (rw here at (sets-append before to (take i s) (getD s i 0 ∷ [])));
     }
-
--- whether the bytes are written or not
-dry : {write : Bool} (before : List ℕ) (to : ℕ) (text : List ℕ) → write ≡ false → before ≡ puts write before to text
-unfolding puts
-dry before to text e = rw e refl
-
-written : {write : Bool} (before : List ℕ) (to : ℕ) (text : List ℕ) {after : List ℕ} → write ≡ true → after ≡ sets before to text → after ≡ puts write before to text
-unfolding puts
-written before to text e h = rw e h
 
 abbrev Inv-loop : tie.InvT-loop
 Inv-loop out₀ to s count write i₀ out i = Stored out₀ to s count i out

@@ -1,8 +1,17 @@
 -- What fits is stored, and the position is past the end where not all of it fits.
+use mathlib.Core.Path.{refl}
 use borrow.Author.Needs.{needs}
 use Rattle.output.proofs.Writing as writing
 use Rattle.output.proofs.put_all.Statement.{statement}
 use Rattle.output.proofs.put_all.Tie as tie
+
+-- back over the length that is read again after the copying
+abbrev copied : tie.After-slice-known2 → tie.After-copy
+copied c = c .before .before
+
+-- back over the copying
+abbrev counted : tie.After-copy → tie.After-fitting
+counted c = c .before .before
 
 fitting-requires : tie.Need-fitting-requires
 fitting-requires c κs = search needs
@@ -17,7 +26,9 @@ same-length : tie.Need-same-length
 same-length c = search needs
 
 returns : tie.Need-returns
-returns c = writing.fits-partly _ _ _ _ _ (c .before .before .before .before .before .fitting .ensures) (c .before .before .before .copy .ensures) (c .if1 .taken)
+returns c =
+    let fits = counted (copied (c .before)) .fitting .ensures in
+    writing.fits-partly refl fits (writing.fitting-part _ _ _ _ fits (copied (c .before) .copy .ensures)) (c .if1 .taken)
 
 add-result-2 : tie.Need-add-result-2
 add-result-2 c = search needs
@@ -26,7 +37,9 @@ same-length-2 : tie.Need-same-length-2
 same-length-2 c = search needs
 
 returns-2 : tie.Need-returns-2
-returns-2 c = writing.fits-whole _ _ _ _ _ (c .before .before .before .before .before .fitting .ensures) (c .before .before .before .copy .ensures) (c .if1 .left)
+returns-2 c =
+    let fits = counted (copied (c .before)) .fitting .ensures in
+    writing.fits-whole refl fits (writing.fitting-part _ _ _ _ fits (copied (c .before) .copy .ensures)) (c .if1 .left)
 
 pub put-all-spec : {M : Type 1} → statement M
 put-all-spec =
