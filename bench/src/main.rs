@@ -1,5 +1,6 @@
 //! Times the Rust and Skriduhol on the same sheets, and measures Skriduhol's stack. docs/PERFORMANCE.md says how.
 mod library;
+mod lines;
 mod operations;
 mod required;
 mod sheets;
@@ -8,6 +9,7 @@ mod texts;
 mod timing;
 
 use library::{ask, question, Lent};
+use lines::lines;
 use operations::operations;
 use oracle::{
     answer::{Operation, Question},
@@ -49,7 +51,7 @@ const MANY_LABELS: usize = 500;
 /// Prints a table, and gives the figure that is required of it, if there is one.
 type Section = fn(&Plan, &mut Lent) -> Option<Required>;
 
-const SECTIONS: [(&str, Section); 5] = [
+const SECTIONS: [(&str, Section); 6] = [
     ("sound", |plan, lent| Some(sound_sheets(plan, lent))),
     ("worst", |plan, lent| Some(worst_sheets(plan, lent))),
     ("growth", |plan, lent| Some(growth(plan, lent))),
@@ -58,10 +60,15 @@ const SECTIONS: [(&str, Section); 5] = [
         other_operations(plan, lent);
         None
     }),
+    ("lines", |plan, lent| {
+        println!("## Lines with a number\n");
+        lines(&plan.effort, &sheets::with_numbers(), lent);
+        None
+    }),
 ];
 
 fn usage() -> ! {
-    eprintln!("usage: bench/run short|full [sound|worst|growth|stack|operations]...");
+    eprintln!("usage: bench/run short|full [sound|worst|growth|stack|operations|lines]...");
     exit(2)
 }
 

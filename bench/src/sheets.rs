@@ -50,6 +50,25 @@ pub fn growth(limit: usize) -> Vec<Named> {
     sizes.take_while(|size| *size <= limit).map(|size| (format!("{} KB", size / 1000), grown(size))).collect()
 }
 
+/// A sheet that declares one name with each of so many parameter counts, from one on; its term is `unit`.
+fn declaring(counts: usize) -> Vec<u8> {
+    let wide = |count| Formula::Atom(0, vec![Parameter::Instantiated(1, 0); count]);
+    let goal = (1..=counts).map(wide).reduce(and).unwrap_or(Formula::True);
+    let names = [b"P", b"a"].map(|name| name.to_vec()).to_vec();
+    let props = [&goal, &Formula::True].map(code).to_vec();
+    Plain { names, props, steps: vec![step(rule::TRUE_INTRO, 0, &[], 1)], goal: 0 }.bytes()
+}
+
+/// No byte at all, which is refused with a line, and sheets with and without declarations that have a count.
+pub fn with_numbers() -> Vec<Named> {
+    let named = |what: &str, bytes| (what.to_string(), bytes);
+    vec![
+        named("no byte: `refused 1 at 0`", vec![]),
+        named("no declaration", declaring(0)),
+        named("`atom P(1);` to `atom P(8);`", declaring(8)),
+    ]
+}
+
 /// A rule, the number of its premisses, and the one of them in which the tree goes on.
 type Level = (u8, usize, usize);
 
