@@ -1,13 +1,13 @@
 -- Two atoms are compared by their names, by their parameter counts, and by their parameters.
 use Prim.Native.Nat.{ℕ, _+_}
 use mathlib.Core.Path.{_≡_, refl}
-use mathlib.Core.Bool.{Bool, true, false, not}
+use mathlib.Core.Bool.{Bool, true, false}
 use mathlib.Core.List.{List}
 use native.Mathlib.Omega.{arith}
 use lib.ListN.{getD, length-map}
 use lib.Dec.{eqb}
 use borrow.Author.Tests.{eq-eqb, ne-eqb}
-use Rattle.definitions.specs.Outcome.{accepted, refuse, refuseIf, _>>=_}
+use Rattle.definitions.specs.Outcome.{accepted}
 use Rattle.definitions.specs.Name.{eqName}
 use Rattle.definitions.specs.Sheet.{numberAt, marked}
 use Rattle.definitions.specs.Code.{u16, encode, Codable}
@@ -16,7 +16,7 @@ use Rattle.prefix_code.specs.Scan.{Stands}
 use Rattle.prefix_code.specs.Head.{encodeHead, CodableHead}
 use Rattle.prefix_code.proofs.Heads.{AtomBytes, atom-bytes}
 use Rattle.alpha_eq.specs.declared.Compared.{Compared}
-use Rattle.alpha_eq.specs.declared.Compared.the-variants.{Different, Refused}
+use Rattle.alpha_eq.specs.declared.Compared.the-variants.{Different}
 use Rattle.alpha_eq.specs.Comparing.{compared, alphaEqParametersIn, alphaEqAtomIn, ofApplied, formCoding, severalCoding, Standing, endOf, Two, Answers}
 
 module _ {names : ℕ} {code : List ℕ} {at : ℕ} (s : Standing (formCoding ofApplied) names code at) where
@@ -42,8 +42,8 @@ module _ (pairs text memory : List ℕ) (depth : ℕ) (code : List ℕ) (i j : �
   atom-outcome : {names : ℕ} (two : Two (formCoding ofApplied) code i j names)
       → alphaEqAtomIn pairs text memory depth (two .left .value) (two .right .value)
       ≡ andAlso (accepted same)
-      (_>>=_ (refuseIf (not (eqb (getD code (i + 3) 0) (getD code (j + 3) 0))) 18 0)
-      (λ _. alphaEqParametersIn pairs text memory depth (two .left .value .parameters) (two .right .value .parameters)))
+      (andAlso (accepted (eqb (getD code (i + 3) 0) (getD code (j + 3) 0)))
+      (alphaEqParametersIn pairs text memory depth (two .left .value .parameters) (two .right .value .parameters)))
   unfolding alphaEqAtomIn alphaEqAtom alphaEqParametersIn
   atom-outcome two =
       let l = atom-at (two .left) in
@@ -55,10 +55,10 @@ module _ (pairs text memory : List ℕ) (depth : ℕ) (code : List ℕ) (i j : �
   unfolding compared andAlso no
   other-name e = record { answer = λ names two. rw (atom-outcome two, e) }
 
-  -- one name with different counts: 18
+  -- one name with different counts: no
   pub other-count : same ≡ true → (getD code (i + 3) 0 ≡ getD code (j + 3) 0 → ⊥)
-      → Answers (formCoding ofApplied) code i j (alphaEqAtomIn pairs text memory depth) (Refused (record { number = 18; place = 0 }))
-  unfolding compared andAlso _>>=_ refuseIf refuse
+      → Answers (formCoding ofApplied) code i j (alphaEqAtomIn pairs text memory depth) Different
+  unfolding compared andAlso no
   other-count e differ = record {
     answer = λ names two. rw (atom-outcome two, e, ne-eqb (getD code (i + 3) 0) (getD code (j + 3) 0) differ);
   }
@@ -67,7 +67,7 @@ module _ (pairs text memory : List ℕ) (depth : ℕ) (code : List ℕ) (i j : �
   pub by-parameters : same ≡ true → getD code (i + 3) 0 ≡ getD code (j + 3) 0 → {r : Compared}
       → Answers (severalCoding (getD code (i + 3) 0)) code (i + 4) (j + 4) (alphaEqParametersIn pairs text memory depth) r
       → Answers (formCoding ofApplied) code i j (alphaEqAtomIn pairs text memory depth) r
-  unfolding andAlso _>>=_ refuseIf
+  unfolding andAlso
   by-parameters e counted decided = record {
     answer = λ names two.
         rw (atom-outcome two, e, eq-eqb (getD code (i + 3) 0) (getD code (j + 3) 0) counted, ← atom-end (two .left) refl, ← atom-end (two .right) counted)

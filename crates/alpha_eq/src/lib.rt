@@ -1,6 +1,6 @@
 // Two propositions of a sheet compared up to the names of their bound objects, after `Prop::alpha_eq` of the Rust's prop.rs.
-// Names are equal where their bytes are, the latest binding decides, and the first no ends the walk. Where the Rust panics, the
-// answer is refusal 18 or 19.
+// Names are equal where their bytes are, the latest binding decides, and the first no ends the walk. Where the Rust panics, two
+// atoms of one name with different parameter counts are a no, and two unbound parameters refusal 19.
 use definitions::Refusal;
 use identifier::same_bytes;
 use number::number_at;
@@ -25,12 +25,6 @@ pub enum Answer {
     No,
     Refused(Refusal),
 }
-
-// 18: two atoms of one name have different parameter counts.
-const DIFFERENT_COUNTS: Refusal = Refusal {
-    number: 18,
-    place: 0,
-};
 
 // 19: two uninstantiated parameters meet with neither bound on its side.
 const UNBOUND: Refusal = Refusal {
@@ -147,7 +141,7 @@ fn alpha_eq_parameters(
     Compared::Same(left, right)
 }
 
-// The atoms at i and j: names, then parameter counts (18), then parameters.
+// The atoms at i and j: names, then parameter counts, then parameters.
 fn alpha_eq_atom(
     code: &[u8],
     i: usize,
@@ -170,7 +164,7 @@ fn alpha_eq_atom(
         return Compared::Different;
     }
     if count != other_count {
-        return Compared::Refused(DIFFERENT_COUNTS);
+        return Compared::Different;
     }
     alpha_eq_parameters(
         code,

@@ -4,25 +4,26 @@ use Prim.Native.Nat.{ℕ, _+_, _≤_}
 use Prim.Native.String.{String}
 use mathlib.Core.Path.{_≡_, refl, sym, _∙_, ap, subst}
 use mathlib.Core.Logic.{_⊎_, inl, inr, Iff·trans, Iff·and}
-use mathlib.Core.Bool.{Bool, true, false, _&&_, _||_, not, cond, and-eq-true-iff}
+use mathlib.Core.Bool.{Bool, true, false, _&&_, _||_, cond, and-eq-true-iff}
 use mathlib.Core.Option.{Option, none, some, IsSome}
 use mathlib.Core.List.{List, [], _∷_, map}
 use lib.ListN.{length, length-map}
 use lib.Dec.{eqb}
 use native.Mathlib.Omega.{arith}
-use borrow.Author.Tests.{eqb-true, eqb-false, eq-eqb}
+use borrow.Author.Tests.{eqb-true, eqb-false, eq-eqb, ne-eqb}
 use Rattle.definitions.specs.Utf8.{utf8}
-use Rattle.definitions.specs.Outcome.{Outcome, accepted, refuse, _>>=_, refuseIf}
+use Rattle.definitions.specs.declared.Refusal.{Refusal}
+use Rattle.definitions.specs.Outcome.{Outcome, refused, accepted, refuse}
 use Rattle.definitions.specs.Name.{Name, eqName}
 use Rattle.definitions.specs.Prop as prop
 use Rattle.definitions.specs.Prop.{Prop, PropParameter, Uninstantiated, Instantiated, Connective, eqConnective, Quantifier, eqQuantifier, Sides, Applied, Scope, isTrue, isFalse, asBinary, asAtom, asQuantified}
-use Rattle.definitions.specs.Comparison.{no, Binding, boundAlike, alphaEqParameter, alphaEqParameters, alphaEqAtom, alphaEqSides, alphaEqApplied, alphaEqScope, alphaEqUnder, alphaEq}
+use Rattle.definitions.specs.Comparison.{no, andAlso, Binding, boundAlike, alphaEqParameter, alphaEqParameters, alphaEqAtom, alphaEqSides, alphaEqApplied, alphaEqScope, alphaEqUnder, alphaEq}
 use Rattle.definitions.specs.AlphaEquality.{Object, bound, free, constant, Nameless, True, False, Binary, Atom, Quantified, distance, object, nameless, AlphaEqual, Verdict}
 use Rattle.definitions.proofs.Everything.{everything}
 use Rattle.definitions.proofs.Names.{eqName-true, eqName-of-eq, eqName-false}
 use Rattle.definitions.proofs.Connectives.{eqConnective-true, eqConnective-of-eq, eqQuantifier-true, eqQuantifier-of-eq}
 use Rattle.definitions.proofs.Views.{isTrue-true, isFalse-true, asBinary-some, asAtom-some, asQuantified-some}
-use Rattle.definitions.proofs.Verdicts.{Judged, holds, fails, clashes, unknown, verdict, Says, says, complete, decided, restated, both, ofParts}
+use Rattle.definitions.proofs.Verdicts.{Judged, holds, fails, unknown, verdict, unbound, Says, says, complete, decided, restated, both, ofParts}
 
 -- an object that no quantifier binds
 abbrev pub IsFree : Object → Type 0
@@ -113,13 +114,19 @@ parameters bs (p ∷ ps) [] h = absurd (omega arith)
 parameters bs (p ∷ ps) (q ∷ qs) h =
     restated ((λ h. cc), (λ e. (cc, cc))) (ofParts (parameter bs p q) (parameters bs ps qs (omega arith)))
 
+-- one letter with two arities is a no, whatever its parameters are
+pub two-arities : (bs : List Binding) (a b : Name) (ps qs : List (PropParameter Name)) → eqName a b ≡ true → (length ps ≡ length qs → ⊥)
+    → alphaEqAtom bs a ps b qs ≡ no
+unfolding alphaEqAtom andAlso no
+two-arities bs a b ps qs same differ = cc (same, ne-eqb (length ps) (length qs) differ)
+
 -- parameters after the test of their counts
 counted : (bs : List Binding) (ps qs : List (PropParameter Name)) (b : Bool) → eqb (length ps) (length qs) ≡ b
     → Compared SomeFree (map (object (lefts bs)) ps) (map (object (rights bs)) qs)
-    (_>>=_ (refuseIf (not b) 18 0) (λ x. alphaEqParameters bs ps qs))
-unfolding refuseIf refuse _>>=_
+    (andAlso (accepted b) (alphaEqParameters bs ps qs))
+unfolding andAlso no
 counted bs ps qs true e = parameters bs ps qs (eqb-true (length ps) (length qs) e)
-counted bs ps qs false e = clashes (λ same. eqb-false (length ps) (length qs) e (lengths same))
+counted bs ps qs false e = fails (λ same. eqb-false (length ps) (length qs) e (lengths same))
   where
     lengths : map (object (lefts bs)) ps ≡ map (object (rights bs)) qs → length ps ≡ length qs
     lengths same = sym (length-map ps (object (lefts bs))) ∙ (ap length same ∙ length-map qs (object (rights bs)))
@@ -192,7 +199,7 @@ compared (prop.Atom a ps) bs r = applied bs a ps r (asAtom r) refl
 compared (prop.Quantified q x t p) bs r =
     scope bs q x t p (λ y. compared p (record { left = x; right = y } ∷ bs)) r (asQuantified r) refl
 
--- a yes is alpha equality, a no its failure, and so is 18
+-- a yes is alpha equality, and a no its failure
 pub textbook : (p q : Prop Name) → Verdict (AlphaEqual p q) (alphaEq p q)
 unfolding AlphaEqual alphaEq
 textbook p q = verdict (compared p [] q)
@@ -207,14 +214,14 @@ textbook-yes p q e = answered p q (accepted true) e
 pub textbook-no : (p q : Prop Name) → alphaEq p q ≡ accepted false → AlphaEqual p q → ⊥
 textbook-no p q e = answered p q (accepted false) e
 
-pub textbook-18 : (p q : Prop Name) → alphaEq p q ≡ refuse 18 0 → AlphaEqual p q → ⊥
-unfolding refuse
-textbook-18 p q e = answered p q (refuse 18 0) e .0 refl
+-- 19 at 0 is the only refusal
+pub only-19 : (p q : Prop Name) {r : Refusal} → alphaEq p q ≡ refused r → r ≡ unbound
+only-19 p q {r} e = answered p q (refused r) e .0
 
 -- 19 tells only that neither proposition is closed
 pub textbook-19 : (p q : Prop Name) → alphaEq p q ≡ refuse 19 0 → IsOpen p × IsOpen q
 unfolding refuse
-textbook-19 p q e = answered p q (refuse 19 0) e .1 refl
+textbook-19 p q e = answered p q (refuse 19 0) e .1
 
 -- where one of the two is closed, 19 does not happen
 pub closed-19 : (p q : Prop Name) → Closed p ⊎ Closed q → alphaEq p q ≡ refuse 19 0 → ⊥

@@ -11,6 +11,7 @@ pub mod PrefixCode
 pub mod Verdicts
 pub mod AlphaEquality
 pub mod Refusals
+pub mod ComparisonKept
 pub mod Renaming
 pub mod Labelling
 pub mod Exporting

@@ -1,7 +1,7 @@
--- Document 01: comparison uses 1 to 11, 17, 18, 19 only; export uses 1 to 16.
+-- Comparison uses 1 to 11, 17 and 19 only, and export 1 to 16. So 18 never occurs.
 use Prim.Native.Nat.{ℕ, _≤_}
 use native.Mathlib.Omega.{arith}
-use mathlib.Core.Path.{_≡_}
+use mathlib.Core.Path.{_≡_, refl}
 use mathlib.Core.Logic.{_⊎_, inl, inr}
 use mathlib.Core.Bool.{Bool, true, false, not, cond}
 use mathlib.Core.Option as option
@@ -163,8 +163,7 @@ count-uses s = changed _ (term-uses s)
 verdict-uses : {P : Type 0} {o : Outcome Bool} → Verdict P o → Uses OfComparison o
 verdict-uses (Verdict.holds p) = is-accepted
 verdict-uses (Verdict.fails n) = is-accepted
-verdict-uses (Verdict.clashes n) = refusal 18 0 (inr (search needs))
-verdict-uses Verdict.unknown = refusal 19 0 (inr (search needs))
+verdict-uses Verdict.unknown = refusal 19 0 (inr (inr refl))
 
 conclusions-use : (x y : ProofTreeConclusion Name) → Uses OfComparison (conclusionAlphaEq x y)
 unfolding conclusionAlphaEq no
@@ -177,5 +176,15 @@ pub comparison-uses : (s : List ℕ) (i j : ℕ) → Uses OfComparison (comparis
 unfolding comparison
 comparison-uses s i j =
     after (widened (λ n h. inl h) (admission-uses s)) λ _.
-    after (tested _ 17 0 (inr (search needs))) λ _.
+    after (tested _ 17 0 (inr (inl refl))) λ _.
     conclusions-use _ _
+
+-- 18 never occurs, whatever the bytes and whichever two numbers are named
+other-than-18 : (place : ℕ) → Uses OfComparison {A = Bool} (refuse 18 place) → ⊥
+unfolding refuse
+other-than-18 place (is-refused (inl h)) = omega (arith, h .high)
+other-than-18 place (is-refused (inr (inl h))) = omega arith
+other-than-18 place (is-refused (inr (inr h))) = omega arith
+
+pub never-18 : (s : List ℕ) (i j place : ℕ) → comparison s i j ≡ refuse 18 place → ⊥
+never-18 s i j place e = other-than-18 place (rw e at (comparison-uses s i j))

@@ -2,7 +2,7 @@
 use mathlib.Core.Path.{_≡_, refl}
 use mathlib.Core.Logic.{_↔_, Iff·rfl, _⊎_, inl, inr}
 use mathlib.Core.Bool.{Bool, true, false, false≢true}
-use native.Mathlib.Omega.{arith}
+use Rattle.definitions.specs.declared.Refusal.{Refusal}
 use Rattle.definitions.specs.Outcome.{Outcome, refused, accepted, refuse}
 use Rattle.definitions.specs.Comparison.{no, andAlso}
 use Rattle.definitions.specs.AlphaEquality.{Verdict}
@@ -11,33 +11,33 @@ use Rattle.definitions.specs.AlphaEquality.{Verdict}
 pub data Judged (P O : Type 0) : Outcome Bool → Type 0 where
   holds : P → Judged P O (accepted true)
   fails : (P → ⊥) → Judged P O (accepted false)
-  clashes : (P → ⊥) → Judged P O (refuse 18 0)
   unknown : O → Judged P O (refuse 19 0)
 
 pub verdict : {P O : Type 0} {o : Outcome Bool} → Judged P O o → Verdict P o
 verdict (holds p) = Verdict.holds p
 verdict (fails n) = Verdict.fails n
-verdict (clashes n) = Verdict.clashes n
 verdict (unknown x) = Verdict.unknown
+
+-- 19 at 0, the one refusal of a comparison
+abbrev pub unbound : Refusal
+unbound = record { number = 19; place = 0 }
 
 -- what an answer says of P and O
 abbrev pub Says : Type 0 → Type 0 → Outcome Bool → Type 0
 Says P O (accepted true) = P
 Says P O (accepted false) = P → ⊥
-Says P O (refused r) = (r .number ≡ 18 → P → ⊥) × (r .number ≡ 19 → O)
+Says P O (refused r) = (r ≡ unbound) × O
 
 pub says : {P O : Type 0} {o : Outcome Bool} → Judged P O o → Says P O o
 unfolding refuse
 says (holds p) = p
 says (fails n) = n
-says (clashes n) = ((λ e. n), (λ e. absurd (omega arith)))
-says (unknown x) = ((λ e. absurd (omega arith)), (λ e. x))
+says (unknown x) = (refl, x)
 
 -- where O is ruled out, what holds is answered by yes
 pub complete : {P O : Type 0} {o : Outcome Bool} → Judged P O o → (O → ⊥) → P → o ≡ accepted true
 complete (holds p) impossible q = refl
 complete (fails n) impossible q = absurd (n q)
-complete (clashes n) impossible q = absurd (n q)
 complete (unknown x) impossible q = absurd (impossible x)
 
 -- a test that decides the claim
@@ -49,7 +49,6 @@ decided false e = fails (λ p. false≢true (e .1 p))
 pub equivalent : {P Q O R : Type 0} {o : Outcome Bool} → P ↔ Q → (O → R) → Judged P O o → Judged Q R o
 equivalent e f (holds p) = holds (e .0 p)
 equivalent e f (fails n) = fails (λ q. n (e .1 q))
-equivalent e f (clashes n) = clashes (λ q. n (e .1 q))
 equivalent e f (unknown x) = unknown (f x)
 
 pub restated : {P Q O : Type 0} {o : Outcome Bool} → P ↔ Q → Judged P O o → Judged Q O o
@@ -60,7 +59,6 @@ pub both : {P Q O : Type 0} {o r : Outcome Bool} → Judged P O o → Judged Q O
 unfolding andAlso no refuse
 both (holds p) v = restated ((λ q. (p, q)), (λ h. h .1)) v
 both (fails n) v = fails (λ h. n (h .0))
-both (clashes n) v = clashes (λ h. n (h .0))
 both (unknown x) v = unknown x
 
 -- one claim after the other, each with its own ground of a 19 on the left and on the right

@@ -43,9 +43,8 @@ nameless env (Prop.Quantified q x t p) = Quantified q t (nameless (x ∷ env) p)
 unfoldable pub AlphaEqual : Prop Name → Prop Name → Type 0
 AlphaEqual p q = nameless [] p ≡ nameless [] q
 
--- what an answer of the comparison says of a claim: yes, it holds; no, it fails; 18, it fails; 19 leaves it open
+-- what an answer of the comparison says of a claim: yes, it holds; no, it fails; 19 leaves it open
 pub data Verdict (P : Type 0) : Outcome Bool → Type 0 where
   holds : P → Verdict P (accepted true)
   fails : (P → ⊥) → Verdict P (accepted false)
-  clashes : (P → ⊥) → Verdict P (refuse 18 0)
   unknown : Verdict P (refuse 19 0)

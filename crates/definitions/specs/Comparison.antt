@@ -1,12 +1,13 @@
--- Comparison as the Rust decides it (source documents 002 and 005), with refusals 18 and 19 where it panics, stopping at a no.
--- Document 01, "Refusals in checking order".
+-- Comparison as the Rust decides it (source documents 002 and 005), stopping at a no. Where the Rust panics, two atoms of one
+-- name with different parameter counts are a no (document 02, ticket 7), and two unbound parameters are refused with 19
+-- (document 01, "Refusals in checking order").
 use Prim.Native.Nat.{ℕ}
-use mathlib.Core.Bool.{Bool, true, false, _&&_, _||_, not, cond}
+use mathlib.Core.Bool.{Bool, true, false, _&&_, _||_, cond}
 use mathlib.Core.Option.{Option, none, some}
 use mathlib.Core.List.{List, [], _∷_}
 use lib.ListN.{length}
 use lib.Dec.{eqb}
-use Rattle.definitions.specs.Outcome.{Outcome, refused, accepted, refuse, _>>=_, refuseIf}
+use Rattle.definitions.specs.Outcome.{Outcome, refused, accepted, refuse}
 use Rattle.definitions.specs.Name.{Name, eqName}
 use Rattle.definitions.specs.Prop.{Prop, True, False, Binary, Atom, Quantified, PropParameter, Uninstantiated, Instantiated, Connective, eqConnective, Quantifier, eqQuantifier, Sides, Applied, Scope, isTrue, isFalse, asBinary, asAtom, asQuantified}
 use Rattle.definitions.specs.Tree.{Identifier, ProofTreeConclusion, PropIsTrue, TypeJudgement}
@@ -43,11 +44,10 @@ alphaEqParameters bs [] qs = accepted true
 alphaEqParameters bs (p ∷ ps) [] = accepted true
 alphaEqParameters bs (p ∷ ps) (q ∷ qs) = andAlso (alphaEqParameter bs p q) (alphaEqParameters bs ps qs)
 
--- two atoms: names, then parameter counts (18), then parameters
+-- two atoms: names, then parameter counts, then parameters
 unfoldable pub alphaEqAtom : List Binding → Name → List (PropParameter Name) → Name → List (PropParameter Name) → Outcome Bool
-alphaEqAtom bs a ps b qs = andAlso (accepted (eqName a b)) (do
-  _ ← refuseIf (not (eqb (length ps) (length qs))) 18 0
-  alphaEqParameters bs ps qs)
+alphaEqAtom bs a ps b qs =
+    andAlso (accepted (eqName a b)) (andAlso (accepted (eqb (length ps) (length qs))) (alphaEqParameters bs ps qs))
 
 -- A proposition of another form than the left one is a no.
 unfoldable pub alphaEqSides : Connective → (Prop Name → Outcome Bool) → (Prop Name → Outcome Bool) → Option (Sides Name) → Outcome Bool

@@ -8,7 +8,7 @@ use Rattle.definitions.specs.declared.Style.{Style}
 use Rattle.definitions.specs.declared.Style.the-variants.{Plain, Strict}
 use Rattle.definitions.specs.Utf8.{utf8}
 use Rattle.definitions.specs.Outcome.{Outcome, accepted, refuse, mapOutcome}
-use Rattle.definitions.specs.Prop.{Prop, True, False, And, Or, Impl, Atom, ForAll, Uninstantiated}
+use Rattle.definitions.specs.Prop.{Prop, True, False, And, Or, Impl, Atom, ForAll, Uninstantiated, Instantiated}
 use Rattle.definitions.specs.Tree.{Identifier, ProofTreeRule, AndIntro, AndElimFst, AndElimSnd, TrueIntro, ImplIntro, ImplElim, Ident, OrIntroFst, OrIntroSnd, OrElim, Sorry, AlphaEquivalent}
 use Rattle.definitions.specs.Encode.{noIdentifier, encodeRule, encodePropIsTrue, encodeSheet}
 use Rattle.definitions.specs.Answers.{textAnswer, atomsAnswer, datatypesAnswer, labelCount, comparison, boardRoom}
@@ -174,7 +174,9 @@ drawings =
     ∷ []
 
 -- sheets that tell right from tempting and wrong, beside those above: names are compared by bytes; the right sides of a
--- comparison are not visited after a no on the left, where they would be refused; and a label does not end the labelling
+-- comparison are not visited after a no on the left, where they would be refused; a label does not end the labelling; P(x) and
+-- P(x, y) differ (ticket 7), whether their objects are instantiated or not: after a no by their counts the parameters are not
+-- visited
 unfoldable pub temptations : List Drawing
 temptations =
     drawing (sheet ("A" ∷ "A" ∷ []) (letter 0 ∷ letter 1 ∷ []) 0 (step Sorry 0 0 ∷ step Sorry 0 1 ∷ step AndIntro 2 0 ∷ []))
@@ -182,6 +184,8 @@ temptations =
     ∷ drawing (sorries (And True (ofObject 2)) (And False (ofObject 2))) (compare 0 1) (says false)
     ∷ drawing twoLabels (text Plain) (prints "atom A;\n\n\nfn u => fst (inl u: A ∨ A, inr u: A ∨ A)")
     ∷ drawing twoLabels labels (counts 2)
+    ∷ drawing (sorries (Atom 0 (Instantiated 2 0 ∷ [])) (Atom 0 (Instantiated 2 0 ∷ Instantiated 3 0 ∷ []))) (compare 0 1) (says false)
+    ∷ drawing (sorries (ofObject 2) (Atom 0 (Uninstantiated 2 ∷ Uninstantiated 3 ∷ []))) (compare 0 1) (says false)
     ∷ []
 
 unfoldable pub asked : Drawing → Outcome Answer

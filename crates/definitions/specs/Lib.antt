@@ -16,6 +16,7 @@ pub mod AlphaEquality
 pub mod IdentifierContext
 pub mod Answers
 pub mod Refusals
+pub mod ComparisonWith18
 pub mod CheckingRules
 pub mod Sound
 pub mod Labels

@@ -1,5 +1,6 @@
--- Which refusals a question can meet. Document 01, "Refusals in checking order".
+-- Which refusals a question can meet. Document 01, "Refusals in checking order"; document 02, ticket 7, for 18.
 use Prim.Native.Nat.{ℕ, _≤_}
+use mathlib.Core.Path.{_≡_}
 use mathlib.Core.Logic.{_⊎_}
 use Rattle.definitions.specs.declared.Refusal.{Refusal}
 use Rattle.definitions.specs.Outcome.{Outcome, accepted, refused}
@@ -13,6 +14,6 @@ pub record Between (least most number : ℕ) : Type 0 where
   pub low : least ≤ number
   pub high : number ≤ most
 
--- comparison uses 1 to 11, 17, 18, 19 only
+-- comparison uses 1 to 11, 17 and 19 only
 abbrev pub OfComparison : ℕ → Type 0
-OfComparison number = Between 1 11 number ⊎ Between 17 19 number
+OfComparison number = Between 1 11 number ⊎ (number ≡ 17 ⊎ number ≡ 19)

@@ -1,5 +1,5 @@
-//! Fixed sheets: at and one past every limit of document 01, the order of its refusals, and every rule with every
-//! count and conclusion.
+//! Fixed sheets: at and one past every limit of document 01, the order of its refusals, every rule with every count and
+//! conclusion, and one letter with two arities.
 use crate::{
     answer::examine,
     draw::*,
@@ -49,6 +49,7 @@ pub fn limits() -> Vec<Named> {
     trees(&mut list);
     tree_nesting(&mut list);
     rules(&mut list);
+    arities(&mut list);
     for n in [BOARD_ROOM, BOARD_ROOM + 1] {
         list.add(format!("text of {n} bytes"), sized(n).bytes());
     }
@@ -252,6 +253,28 @@ fn nesting(list: &mut List) {
     list.add("propositions 1 and 2 nested 65", sheet.bytes());
     sheet.steps[0].rule = 17;
     list.add("proposition 1 nested 65, step 0 with rule 17", sheet.bytes());
+}
+
+/// Ticket 7 of document 02: steps 0 and 1 conclude propositions that differ in the number of P's parameters. That is a
+/// no, whatever the parameters are, unless two unbound ones come before.
+fn arities(list: &mut List) {
+    let (a, x) = (Parameter::Instantiated(1, 0), Parameter::Uninstantiated(1));
+    let of = |parameter, count| Formula::Atom(0, vec![parameter; count]);
+    let unbound = || Formula::Atom(3, vec![x]);
+    let ways: [(&str, &dyn Fn(usize) -> Formula); 5] = [
+        ("instantiated", &|count| of(a, count)),
+        ("not instantiated", &|count| of(x, count)),
+        ("bound", &|count| forall(1, 2, of(x, count))),
+        ("before two unbound", &|count| and(of(a, count), unbound())),
+        ("after two unbound", &|count| and(unbound(), of(a, count))),
+    ];
+    let steps = [step(rule::SORRY, 0, &[], 0), step(rule::SORRY, 0, &[], 1), step(rule::AND_INTRO, 2, &[], 0)];
+    for (what, with) in ways {
+        for (m, n) in [(0, 1), (1, 0), (1, 2), (2, 1), (PARAMETERS - 1, PARAMETERS), (PARAMETERS, PARAMETERS - 1)] {
+            let sheet = plain(&["P", "x", "T", "Q"], &[with(m), with(n)], &steps);
+            list.add(format!("{m} and {n} parameters, {what}"), sheet.bytes());
+        }
+    }
 }
 
 /// Refusal 9: every field of a step of every rule.

@@ -1,5 +1,5 @@
 //! Document 01's own reading of export and comparison, beside the Rust: refusals 12 to 15 with
-//! their step, the term, the lists by name number, and refusals 18 and 19.
+//! their step, the term, the lists by name number, and refusal 19.
 use crate::{
     formula::{Binary, Formula, Parameter, Quantifier},
     sheet::{refuse, rule, Refusal, Sheet, Step},
@@ -221,7 +221,7 @@ fn alpha(sheet: &Sheet, l: &Formula, r: &Formula, bound: &mut Vec<(u16, u16)>) -
                 return Ok(false);
             }
             if ls.len() != rs.len() {
-                return refuse(18, 0);
+                return Ok(false);
             }
             for (l, r) in ls.iter().zip(rs) {
                 let agree = match (*l, *r) {

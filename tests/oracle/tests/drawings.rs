@@ -189,9 +189,24 @@ fn alpha_equality() {
     let p = |object| Atom(3, vec![Parameter::Uninstantiated(object)]);
     assert_eq!(equal(&names, forall(0, 2, p(0)), forall(1, 2, p(1))), Ok(true));
     assert_eq!(equal(&names, forall(0, 2, forall(1, 2, p(0))), forall(0, 2, forall(0, 2, p(0)))), Ok(false));
-    assert_eq!(equal(&names, Atom(3, vec![]), p(0)), Err(18));
     assert_eq!(equal(&names, p(0), p(0)), Err(19));
     assert_eq!(equal(&names, forall(0, 2, p(0)), forall(1, 2, p(0))), Ok(false));
+}
+
+#[test]
+fn one_letter_with_two_arities_is_a_no() {
+    let names = ["a", "b", "T", "P", "Q"];
+    let of = |letter, objects: &[Parameter]| Atom(letter, objects.to_vec());
+    let (a, b) = (Parameter::Instantiated(0, 0), Parameter::Instantiated(1, 0));
+    let (x, y) = (Parameter::Uninstantiated(0), Parameter::Uninstantiated(1));
+    assert_eq!(equal(&names, of(3, &[a]), of(3, &[a, b])), Ok(false));
+    // the parameters are not looked at, bound or not
+    assert_eq!(equal(&names, of(3, &[x]), of(3, &[x, y])), Ok(false));
+    assert_eq!(equal(&names, of(3, &[]), of(3, &[x])), Ok(false));
+    assert_eq!(equal(&names, forall(0, 2, of(3, &[x])), forall(0, 2, of(3, &[x, x]))), Ok(false));
+    // but what stands before the two letters is
+    assert_eq!(equal(&names, and(of(4, &[x]), of(3, &[a])), and(of(4, &[x]), of(3, &[a, b]))), Err(19));
+    assert_eq!(equal(&names, and(of(3, &[a]), of(4, &[x])), and(of(3, &[a, b]), of(4, &[x]))), Ok(false));
 }
 
 #[test]
