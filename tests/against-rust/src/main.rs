@@ -84,7 +84,7 @@ fn main() {
     print!("{table}");
     let missing = table.sum().missing();
     match missing.is_empty() {
-        true => println!("Every refusal from 1 to 19 occurred."),
+        true => println!("Every refusal from 1 to 19 but 18 occurred."),
         false => println!("Refusals that did not occur: {missing:?}"),
     }
     println!("No difference.");

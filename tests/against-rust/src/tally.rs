@@ -7,6 +7,8 @@ use oracle::{
 use std::{fmt, ops::AddAssign};
 
 const REFUSALS: usize = 19;
+/// The refusal that does not occur.
+const NEVER: usize = 18;
 
 #[derive(Clone, Default)]
 pub struct Tally {
@@ -29,9 +31,9 @@ impl Tally {
         }
     }
 
-    /// The refusals that did not occur.
+    /// The refusals that did not occur and should.
     pub fn missing(&self) -> Vec<usize> {
-        (1..=REFUSALS).filter(|number| self.refused[number - 1] == 0).collect()
+        (1..=REFUSALS).filter(|number| *number != NEVER && self.refused[number - 1] == 0).collect()
     }
 
     fn rows(&self) -> Vec<(String, usize)> {

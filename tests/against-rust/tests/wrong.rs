@@ -6,8 +6,10 @@ use against_rust::{
 use oracle::{
     answer::{examine, Answer, Examined, Operation, Question},
     draw::smallest,
+    formula::{Formula, Parameter},
     generate::Kind,
-    sheet::{Refusal, BOARD_ROOM},
+    reference::meets_two_counts,
+    sheet::{Refusal, Sheet, BOARD_ROOM},
 };
 use std::{
     cell::RefCell,
@@ -37,6 +39,27 @@ impl Asked {
 
     fn is(&self, operation: Operation) -> bool {
         self.question.operation() == operation
+    }
+
+    /// The sheet and the two steps, where these are compared.
+    fn compared(&self) -> Option<(&Sheet, [usize; 2])> {
+        match (self.question, &self.examined.sheet) {
+            (Question::Comparison(i, j), Ok(sheet)) if i.max(j) <= sheet.root() => Some((sheet, [i, j])),
+            _ => None,
+        }
+    }
+
+    fn meets_two_counts(&self) -> bool {
+        self.compared().is_some_and(|(sheet, [i, j])| meets_two_counts(sheet, i, j))
+    }
+
+    /// Whether two atoms are compared whose first parameters are not instantiated.
+    fn begins_with_unbound_parameters(&self) -> bool {
+        let unbound = |sheet: &Sheet, step| match sheet.concluded(step) {
+            Some(Formula::Atom(_, parameters)) => matches!(parameters.first(), Some(Parameter::Uninstantiated(_))),
+            _ => false,
+        };
+        self.compared().is_some_and(|(sheet, steps)| steps.iter().all(|step| unbound(sheet, *step)))
     }
 
     fn fills(&self) -> bool {
@@ -226,9 +249,19 @@ const FAULTS: &[(&str, Operation, Fault)] = &[
             *reply = Reply::new(&asked.examined.answer(wrapped, None).unwrap());
         }
     }),
-    ("18 is no", Operation::Comparison, |_, reply| {
-        if reply.number == 18 {
-            (reply.number, reply.value) = (0, 0);
+    ("two parameter counts are 18", Operation::Comparison, |asked, reply| {
+        if asked.meets_two_counts() {
+            reply.refuse(18, 0);
+        }
+    }),
+    ("two parameter counts are yes", Operation::Comparison, |asked, reply| {
+        if asked.meets_two_counts() {
+            reply.value = 1;
+        }
+    }),
+    ("parameters are looked at before their counts", Operation::Comparison, |asked, reply| {
+        if asked.meets_two_counts() && asked.begins_with_unbound_parameters() {
+            reply.refuse(19, 0);
         }
     }),
     ("19 is yes", Operation::Comparison, |_, reply| {
