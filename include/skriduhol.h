@@ -36,7 +36,7 @@ extern "C" {
 /* Refusals, in the order in which they are tried: before each its place, which is 0 or the number of a name, a proposition or a
    step, and its reason.
 
-   Texts and lists use 1 to 16, the label count 1 to 15, a comparison 1 to 11 and 17 to 19. 16 is tried last. It does not say how
+   Texts and lists use 1 to 16, the label count 1 to 15, a comparison 1 to 11, 17 and 19. 16 is tried last. It does not say how
    much room is missing: most answers fit 65,536 elements, but a text can pass 88 million bytes and a list 3 million numbers. */
 enum skriduhol_refusal {
     /* 0: fewer than 12 bytes came */
@@ -73,7 +73,7 @@ enum skriduhol_refusal {
     SKRIDUHOL_REFUSED_ROOM = 16,
     /* 0: a comparison names a step that the sheet has not */
     SKRIDUHOL_REFUSED_COMPARED_STEP = 17,
-    /* 0: two atoms of one name with different parameter counts are compared */
+    /* 0: does not occur: two atoms of one name with different parameter counts are a no */
     SKRIDUHOL_REFUSED_PARAMETER_COUNT = 18,
     /* 0: two uninstantiated parameters meet with neither bound on its side */
     SKRIDUHOL_REFUSED_UNBOUND_PARAMETER = 19
