@@ -1,9 +1,9 @@
--- By computation: every drawing of document 01 marked ● is answered as document 01 says, and is written with the reader's rule bytes.
+-- By computation: every drawing is answered as its document says, and is written with the reader's rule bytes.
 use mathlib.Core.Path.{_≡_, refl}
 use mathlib.Core.List.{[], _∷_, map}
 use Rattle.definitions.specs.Tree.{rules}
 use Rattle.definitions.specs.Encode.{ruleNumber}
-use Rattle.definitions.specs.Drawings.{drawings, temptations, asked, expected}
+use Rattle.definitions.specs.Drawings.{drawings, temptations, strictDrawings, asked, expected}
 use Rattle.definitions.proofs.Everything.{everything}
 
 pub drawings-hold : map asked drawings ≡ map expected drawings
@@ -13,6 +13,10 @@ drawings-hold = refl
 pub temptations-hold : map asked temptations ≡ map expected temptations
 unfolding everything
 temptations-hold = refl
+
+pub strict-drawings-hold : map asked strictDrawings ≡ map expected strictDrawings
+unfolding everything
+strict-drawings-hold = refl
 
 -- the writer's byte of each rule is the one that the reader knows it by
 pub rules-numbered : map ruleNumber rules ≡ 0 ∷ 1 ∷ 2 ∷ 3 ∷ 4 ∷ 5 ∷ 6 ∷ 7 ∷ 8 ∷ 9 ∷ 10 ∷ 11 ∷ 12 ∷ 13 ∷ 14 ∷ 15 ∷ 16 ∷ []

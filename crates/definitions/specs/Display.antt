@@ -1,5 +1,5 @@
 -- The two `Display` bodies as bytes: propositions (source document 002) and terms (001), plain and strict.
--- Document 01, "Text".
+-- Document 01, "Text"; strict text by document 02, ticket 1.
 use Prim.Native.Nat.{ℕ}
 use mathlib.Core.Bool.{Bool, true, false, cond}
 use mathlib.Core.Option.{Option, none, some}
@@ -99,9 +99,10 @@ form (TypeAscription a l) = ascription
 form Unit = closed
 form Sorry = closed
 
--- where a part stands: the function or the argument of an application, the body of a named function, or of an ascription
+-- where a part stands: the function or the argument of an application, the body of a named function, the body of an ascription, a part
+-- of a pair, or within a function, a case or a let, whose body, head and branches are one position
 pub data Position : Type 0 where
-  functionOf argumentOf bodyOf ascribedBy : Position
+  functionOf argumentOf bodyOf ascribedBy partOf within : Position
 
 -- whether a part is bracketed, by its form
 pub record Brackets : Type 0 where
@@ -114,17 +115,21 @@ pub record Brackets : Type 0 where
 unfoldable pub bracketsOf : Bool → Bool → Bool → Bool → Bool → Brackets
 bracketsOf a b c d e = record { onClosed = a; onCall = b; onFunction = c; onBlock = d; onAscription = e }
 
--- strict text differs from plain in one thing: a case or let standing as the function of an application is bracketed
-unfoldable pub bracketsBlockedFunction : Style → Bool
-bracketsBlockedFunction Plain = false
-bracketsBlockedFunction Strict = true
+-- whether the brackets that strict text alone has are printed
+unfoldable pub isStrict : Style → Bool
+isStrict Plain = false
+isStrict Strict = true
 
--- the table of brackets, by position and style; its columns are the forms: closed, call, function, block, ascription
+-- the table of brackets, by position and style; its columns are the forms: closed, call, function, block, ascription. Strict text
+-- brackets a case or let on either side of an application or under fst, snd, inl, inr or abort, and an ascription save as the whole
+-- term or a pair's part; plain text has those of these brackets that `Display` has
 unfoldable pub brackets : Position → Style → Brackets
-brackets functionOf s = bracketsOf false false true (bracketsBlockedFunction s) true
-brackets argumentOf s = bracketsOf false true true false true
+brackets functionOf s = bracketsOf false false true (isStrict s) true
+brackets argumentOf s = bracketsOf false true true (isStrict s) true
 brackets bodyOf s = bracketsOf false true true true true
 brackets ascribedBy s = bracketsOf false false true true true
+brackets partOf s = bracketsOf false false false false false
+brackets within s = bracketsOf false false false false (isStrict s)
 
 unfoldable pub bracketed : Brackets → Form → Bool
 bracketed b closed = b .onClosed
@@ -147,16 +152,19 @@ module _ (s : Style) where
 
   unfoldable pub displayTerm : ProofTerm Name → List ℕ
   displayTerm (Ident x) = x
-  displayTerm (Pair a b) = utf8 "(" ++ (displayTerm a ++ (utf8 ", " ++ (displayTerm b ++ utf8 ")")))
+  displayTerm (Pair a b) =
+      utf8 "(" ++ (wrap (wraps partOf a) (displayTerm a) ++ (utf8 ", " ++ (wrap (wraps partOf b) (displayTerm b) ++ utf8 ")")))
   displayTerm (Named f a) = functionText f ++ wrap (wraps bodyOf a) (displayTerm a)
-  displayTerm (Function x l a) = utf8 "fn " ++ (x ++ (displayParameterLabel l ++ (utf8 " => " ++ displayTerm a)))
+  displayTerm (Function x l a) =
+      utf8 "fn " ++ (x ++ (displayParameterLabel l ++ (utf8 " => " ++ wrap (wraps within a) (displayTerm a))))
   displayTerm (Application a b) =
       wrap (wraps functionOf a) (displayTerm a) ++ (utf8 " " ++ wrap (wraps argumentOf b) (displayTerm b))
   displayTerm (LetIn x y a b) =
-      utf8 "let (" ++ (x ++ (utf8 ", " ++ (y ++ (utf8 ") = " ++ (displayTerm a ++ (utf8 " in " ++ displayTerm b))))))
+      utf8 "let (" ++ (x ++ (utf8 ", " ++ (y ++ (utf8 ") = " ++ (wrap (wraps within a) (displayTerm a)
+      ++ (utf8 " in " ++ wrap (wraps within b) (displayTerm b)))))))
   displayTerm (Case a x b y c) =
-      utf8 "case " ++ (displayTerm a ++ (utf8 " of inl " ++ (x ++ (utf8 " => " ++ (displayTerm b
-      ++ (utf8 ", inr " ++ (y ++ (utf8 " => " ++ displayTerm c))))))))
+      utf8 "case " ++ (wrap (wraps within a) (displayTerm a) ++ (utf8 " of inl " ++ (x ++ (utf8 " => "
+      ++ (wrap (wraps within b) (displayTerm b) ++ (utf8 ", inr " ++ (y ++ (utf8 " => " ++ wrap (wraps within c) (displayTerm c)))))))))
   displayTerm (TypeAscription a l) = wrap (wraps ascribedBy a) (displayTerm a) ++ (utf8 ": " ++ displayLabel l)
   displayTerm Unit = utf8 "()"
   displayTerm Sorry = utf8 "sorry"

@@ -1,4 +1,5 @@
--- Document 01's drawings marked ●: each with its sheet, a question and the answer that document 01 gives.
+-- Document 01's drawings marked ● and the strict drawings of document 02, ticket 1: each with its sheet, a question and the answer
+-- that the document gives.
 use Prim.Native.Nat.{ℕ}
 use Prim.Native.String.{String}
 use mathlib.Core.Bool.{Bool, true, false}
@@ -9,7 +10,7 @@ use Rattle.definitions.specs.declared.Style.the-variants.{Plain, Strict}
 use Rattle.definitions.specs.Utf8.{utf8}
 use Rattle.definitions.specs.Outcome.{Outcome, accepted, refuse, mapOutcome}
 use Rattle.definitions.specs.Prop.{Prop, True, False, And, Or, Impl, Atom, ForAll, Uninstantiated, Instantiated}
-use Rattle.definitions.specs.Tree.{Identifier, ProofTreeRule, AndIntro, AndElimFst, AndElimSnd, TrueIntro, ImplIntro, ImplElim, Ident, OrIntroFst, OrIntroSnd, OrElim, Sorry, AlphaEquivalent}
+use Rattle.definitions.specs.Tree.{Identifier, ProofTreeRule, AndIntro, AndElimFst, AndElimSnd, TrueIntro, ImplIntro, ImplElim, Ident, OrIntroFst, OrIntroSnd, OrElim, ExistsElim, Sorry, AlphaEquivalent}
 use Rattle.definitions.specs.Encode.{noIdentifier, encodeRule, encodePropIsTrue, encodeSheet}
 use Rattle.definitions.specs.Answers.{textAnswer, atomsAnswer, datatypesAnswer, labelCount, comparison, boardRoom}
 
@@ -186,6 +187,58 @@ temptations =
     ∷ drawing twoLabels labels (counts 2)
     ∷ drawing (sorries (Atom 0 (Instantiated 2 0 ∷ [])) (Atom 0 (Instantiated 2 0 ∷ Instantiated 3 0 ∷ []))) (compare 0 1) (says false)
     ∷ drawing (sorries (ofObject 2) (Atom 0 (Uninstantiated 2 ∷ Uninstantiated 3 ∷ []))) (compare 0 1) (says false)
+    ∷ []
+
+-- Document 02, ticket 1: what strict text brackets.
+
+-- f applied to a case, and that applied to c
+unfoldable pub toCaseThenTo : List ℕ
+toCaseThenTo =
+    sheet ("f" ∷ "h" ∷ "x" ∷ "a" ∷ "y" ∷ "b" ∷ "c" ∷ []) (True ∷ []) 0
+    (stepNaming Ident 0 0 0 ∷ stepNaming Ident 1 0 0 ∷ stepNaming Ident 3 0 0 ∷ stepNaming Ident 5 0 0
+    ∷ stepNamingTwo OrElim 2 4 3 0 ∷ step ImplElim 2 0 ∷ stepNaming Ident 6 0 0 ∷ step ImplElim 2 0 ∷ [])
+
+-- f applied to a case whose second branch is b applied to c
+unfoldable pub toCaseOfApplied : List ℕ
+toCaseOfApplied =
+    sheet ("f" ∷ "h" ∷ "x" ∷ "a" ∷ "y" ∷ "b" ∷ "c" ∷ []) (True ∷ []) 0
+    (stepNaming Ident 0 0 0 ∷ stepNaming Ident 1 0 0 ∷ stepNaming Ident 3 0 0 ∷ stepNaming Ident 5 0 0
+    ∷ stepNaming Ident 6 0 0 ∷ step ImplElim 2 0 ∷ stepNamingTwo OrElim 2 4 3 0 ∷ step ImplElim 2 0 ∷ [])
+
+-- AndElimFst over OrElim of Sorry three times: the head and the branches are ascribed
+unfoldable pub ascribedCase : List ℕ
+ascribedCase =
+    sheet ("A" ∷ "x" ∷ "y" ∷ []) (letter 0 ∷ []) 0
+    (step Sorry 0 0 ∷ step Sorry 0 0 ∷ step Sorry 0 0 ∷ stepNamingTwo OrElim 1 2 3 0 ∷ step AndElimFst 1 0 ∷ [])
+
+-- ImplElim of ExistsElim of Sorry twice, and ExistsElim of Sorry and Ident b: heads and the first body are ascribed
+unfoldable pub ascribedLets : List ℕ
+ascribedLets =
+    sheet ("A" ∷ "x" ∷ "y" ∷ "b" ∷ []) (letter 0 ∷ []) 0
+    (step Sorry 0 0 ∷ step Sorry 0 0 ∷ stepNamingTwo ExistsElim 1 2 2 0
+    ∷ step Sorry 0 0 ∷ stepNaming Ident 3 0 0 ∷ stepNamingTwo ExistsElim 1 2 2 0 ∷ step ImplElim 2 0 ∷ [])
+
+-- AndElimFst over AndIntro of Sorry and ImplIntro u over Sorry: a pair's part and a function's body are ascribed
+unfoldable pub ascribedParts : List ℕ
+ascribedParts =
+    sheet ("A" ∷ "u" ∷ []) (letter 0 ∷ Impl (letter 0) (letter 0) ∷ []) 0
+    (step Sorry 0 0 ∷ step Sorry 0 0 ∷ stepNaming ImplIntro 1 1 1 ∷ step AndIntro 2 0 ∷ step AndElimFst 1 0 ∷ [])
+
+-- the ticket's pair, which plain text does not tell apart; then an ascription in every part of a case, a let, a pair and a function,
+-- and a let on either side of an application
+unfoldable pub strictDrawings : List Drawing
+strictDrawings =
+    drawing toCaseThenTo (text Plain) (prints "\n\n\nf case h of inl x => a, inr y => b c")
+    ∷ drawing toCaseThenTo (text Strict) (prints "\n\n\nf (case h of inl x => a, inr y => b) c")
+    ∷ drawing toCaseOfApplied (text Plain) (prints "\n\n\nf case h of inl x => a, inr y => b c")
+    ∷ drawing toCaseOfApplied (text Strict) (prints "\n\n\nf (case h of inl x => a, inr y => b c)")
+    ∷ drawing ascribedCase (text Plain) (prints "atom A;\n\n\nfst (case sorry: A of inl x => sorry: A, inr y => sorry: A)")
+    ∷ drawing ascribedCase (text Strict) (prints "atom A;\n\n\nfst (case (sorry: A) of inl x => (sorry: A), inr y => (sorry: A))")
+    ∷ drawing ascribedLets (text Plain) (prints "atom A;\n\n\nlet (x, y) = sorry: A in sorry: A let (x, y) = sorry: A in b")
+    ∷ drawing ascribedLets (text Strict)
+    (prints "atom A;\n\n\n(let (x, y) = (sorry: A) in (sorry: A)) (let (x, y) = (sorry: A) in b)")
+    ∷ drawing ascribedParts (text Plain) (prints "atom A;\n\n\nfst (sorry: A, fn u: A => sorry: A)")
+    ∷ drawing ascribedParts (text Strict) (prints "atom A;\n\n\nfst (sorry: A, fn u: A => (sorry: A))")
     ∷ []
 
 unfoldable pub asked : Drawing → Outcome Answer

@@ -6,7 +6,7 @@ pub struct Refusal {
     pub place: u16,
 }
 
-// How a text is asked for: as the Rust prints it, or with document 01's one more bracket.
+// How a text is asked for: as the Rust prints it, or with the brackets of strict text too.
 pub enum Style {
     Plain,
     Strict,

@@ -2,7 +2,6 @@
 use Prim.Native.Nat.{ℕ, _≤_, _<_}
 use mathlib.Core.Path.{_≡_, refl, sym, ap, _∙_}
 use mathlib.Core.Bool.{Bool, true, false}
-use mathlib.Core.Option.{none}
 use mathlib.Core.List.{List, _++_, append-assoc, append-nil}
 use native.Mathlib.Omega.{arith}
 use lib.ListN.{getD}
@@ -12,7 +11,7 @@ use Rattle.definitions.specs.Name.{Name}
 use Rattle.definitions.specs.Prop.{Prop}
 use Rattle.definitions.specs.Sheet.{marked}
 use Rattle.definitions.specs.Term.{renameTerm}
-use Rattle.definitions.specs.Display.{wrap, wraps, form, displayTerm}
+use Rattle.definitions.specs.Display.{wrap, wraps, form, displayTerm, partOf}
 use Rattle.output.specs.Wrote.{Wrote}
 use Rattle.output.proofs.Writing.{then}
 use Rattle.proof_term.specs.Records.{fieldAt, termAt}
@@ -69,7 +68,7 @@ module _ (s : Style) (names : ℕ) (code pairs text records : List ℕ) (n k num
   textOf m = displayTerm s (renameTerm (marked pairs text) (termAt (propAt names code) records m))
 
   abbrev outer : Bool
-  outer = isBracketed (getD positions (partPosition k) none) s (form (renameTerm (marked pairs text) (termAt (propAt names code) records number)))
+  outer = isBracketed (getD positions (partPosition k) partOf) s (form (renameTerm (marked pairs text) (termAt (propAt names code) records number)))
 
   module _ {body : ℕ} (u : Unascribed records number body) where
     abbrev inner : Bool

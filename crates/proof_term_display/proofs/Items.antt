@@ -61,16 +61,16 @@ module _ (b : ℕ) where
   item-of-ascription e = rw e
 
   module _ (no-name : leb 49 b && leb b 53 ≡ false) where
-    pub item-part : leb 65 b && leb b 71 ≡ true → itemOf b ≡ part (b - 65)
+    pub item-part : leb 65 b && leb b 73 ≡ true → itemOf b ≡ part (b - 65)
     unfolding itemOf
     item-part e = rw (no-name, e)
 
-    pub item-fixed : leb 65 b && leb b 71 ≡ false → (b ≡ 76 → ⊥) → (b ≡ 77 → ⊥) → itemOf b ≡ fixed b
+    pub item-fixed : leb 65 b && leb b 73 ≡ false → (b ≡ 76 → ⊥) → (b ≡ 77 → ⊥) → itemOf b ≡ fixed b
     unfolding itemOf
     item-fixed no-part h k = rw (no-name, no-part, ne-eqb b 76 h, ne-eqb b 77 k)
 
   pub item-outside : leb 49 b && leb b 77 ≡ false → itemOf b ≡ fixed b
   item-outside e =
       let past = outside 49 b 77 e in
-      item-fixed (not-between 49 b 53 (λ h k. past h (omega arith))) (not-between 65 b 71 (λ h k. past (omega arith) (omega arith)))
+      item-fixed (not-between 49 b 53 (λ h k. past h (omega arith))) (not-between 65 b 73 (λ h k. past (omega arith) (omega arith)))
       (λ h. past (omega arith) (omega arith)) (λ h. past (omega arith) (omega arith))

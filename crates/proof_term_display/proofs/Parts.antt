@@ -2,7 +2,6 @@
 use Prim.Native.Nat.{ℕ, _≤_, _<_}
 use mathlib.Core.Path.{_≡_, refl, sym, ap, _∙_}
 use mathlib.Core.Bool.{true, false}
-use mathlib.Core.Option.{Option, none, some}
 use mathlib.Core.List.{List, _++_}
 use native.Mathlib.Omega.{arith}
 use lib.ListN.{getD}
@@ -11,7 +10,7 @@ use Rattle.definitions.specs.Utf8.{utf8}
 use Rattle.definitions.specs.Name.{Name}
 use Rattle.definitions.specs.Sheet.{marked}
 use Rattle.definitions.specs.Term.{ProofTerm, renameTerm}
-use Rattle.definitions.specs.Display.{wrap, form, closed, Position, functionOf, argumentOf, bodyOf, ascribedBy, bracketsOf, brackets, bracketed, displayTerm}
+use Rattle.definitions.specs.Display.{wrap, form, closed, Position, functionOf, argumentOf, bodyOf, ascribedBy, partOf, within, bracketsOf, brackets, bracketed, displayTerm}
 use Rattle.proof_term.specs.Records.{fieldAt, termAt}
 use Rattle.proof_term.proofs.Records.{part-below, part-else}
 use Rattle.prefix_code.specs.PropAt.{propAt}
@@ -20,26 +19,28 @@ use Rattle.proof_term_display.specs.Format.{part, partField, partPositio
 use Rattle.proof_term_display.specs.Printable.{PrintableTerm}
 use Rattle.proof_term_display.specs.Item.{ItemReady, recordItem}
 
-closed-bare : (p : Option Position) (s : Style) → isBracketed p s closed ≡ false
+closed-bare : (p : Position) (s : Style) → isBracketed p s closed ≡ false
 unfolding isBracketed bracketsOf brackets bracketed
-closed-bare none s = refl
-closed-bare (some functionOf) s = refl
-closed-bare (some argumentOf) s = refl
-closed-bare (some bodyOf) s = refl
-closed-bare (some ascribedBy) s = refl
+closed-bare functionOf s = refl
+closed-bare argumentOf s = refl
+closed-bare bodyOf s = refl
+closed-bare ascribedBy s = refl
+closed-bare partOf s = refl
+closed-bare within s = refl
 
 module _ (s : Style) (names : ℕ) (code pairs text records : List ℕ) (n k number : ℕ) (is : number ≡ fieldAt records n (partField k)) where
   -- a number that is no earlier record's
   pub unit-text : n ≤ number → utf8 "()" ≡ recordItem s names code pairs text records n (part k)
   unfolding wrap form renameTerm displayTerm partText itemText
-  unit-text h = rw (← is, part-else (propAt names code) records n number h, closed-bare (getD positions (partPosition k) none) s)
+  unit-text h = rw (← is, part-else (propAt names code) records n number h, closed-bare (getD positions (partPosition k) partOf) s)
 
   -- an earlier record
   module _ (h : number < n) where
     abbrev term : ProofTerm Name
     term = renameTerm (marked pairs text) (termAt (propAt names code) records number)
 
-    pub part-text : wrap (isBracketed (getD positions (partPosition k) none) s (form term)) (displayTerm s term) ≡ recordItem s names code pairs text records n (part k)
+    pub part-text : wrap (isBracketed (getD positions (partPosition k) partOf) s (form term)) (displayTerm s term)
+        ≡ recordItem s names code pairs text records n (part k)
     unfolding partText itemText
     part-text = rw (← is, part-below (propAt names code) records n number h)
 

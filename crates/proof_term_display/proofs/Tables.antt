@@ -2,7 +2,6 @@
 use Prim.Native.Nat.{ℕ, zero, suc, max, _≤_, _<_}
 use mathlib.Core.Path.{_≡_, refl, ap, _∙_}
 use mathlib.Core.Bool.{Bool, false}
-use mathlib.Core.Option.{none}
 use mathlib.Core.List.{List, [], _∷_, map}
 use native.Mathlib.Omega.{arith}
 use lib.ListN.{length, getD, List·getD-map, List·getD-eq-default}
@@ -11,7 +10,7 @@ use Rattle.definitions.specs.declared.Style.the-variants.{Plain}
 use Rattle.definitions.specs.Name.{Name}
 use Rattle.definitions.specs.Prop.{Prop}
 use Rattle.definitions.specs.Term.{ProofTerm, Unit, renameTerm}
-use Rattle.definitions.specs.Display.{Form, closed, call, function, block, ascription, form}
+use Rattle.definitions.specs.Display.{Form, closed, call, function, block, ascription, form, partOf}
 use Rattle.proof_term.specs.Records.{recordSize, fieldAt, leaf, formTerm, forms, recordTerm}
 use Rattle.proof_term.specs.Counting.{ownCounts, ownAnnotations}
 use Rattle.proof_term.proofs.Records.{termAt-kind}
@@ -38,10 +37,10 @@ entry-below (x ∷ xs) zero = omega arith
 entry-below (x ∷ xs) (suc k) = omega (arith, entry-below xs k)
 
 pub part-field-below : (k : ℕ) → partField k < recordSize
-part-field-below k = omega (arith, entry-below (1 ∷ 2 ∷ 3 ∷ 1 ∷ 1 ∷ 1 ∷ 2 ∷ []) k)
+part-field-below k = omega (arith, entry-below (1 ∷ 2 ∷ 3 ∷ 1 ∷ 1 ∷ 1 ∷ 2 ∷ 1 ∷ 2 ∷ []) k)
 
-pub part-position-below : (k : ℕ) → partPosition k < 5
-part-position-below k = omega (arith, entry-below (4 ∷ 4 ∷ 4 ∷ 2 ∷ 3 ∷ 0 ∷ 1 ∷ []) k)
+pub part-position-below : (k : ℕ) → partPosition k < 6
+part-position-below k = omega (arith, entry-below (5 ∷ 5 ∷ 5 ∷ 2 ∷ 3 ∷ 0 ∷ 1 ∷ 4 ∷ 4 ∷ []) k)
 
 -- The forms, by their numbers:
 pub column-below : (f : Form) → column f < 5
@@ -62,15 +61,15 @@ column-form ascription = refl
 
 -- the table of brackets
 pub bracket-rule :
-    (p row k : ℕ) (s : Style) (f : Form) → p < 5 → row < 2 → getD styles row Plain ≡ s → k ≡ column f →
-    getD (getD (getD bracketTable p []) row []) k false ≡ isBracketed (getD positions p none) s f
+    (p row k : ℕ) (s : Style) (f : Form) → p < 6 → row < 2 → getD styles row Plain ≡ s → k ≡ column f →
+    getD (getD (getD bracketTable p []) row []) k false ≡ isBracketed (getD positions p partOf) s f
 bracket-rule p row k s f hp hr styled formed =
     let found : getD columns k closed ≡ f = ap (λ i. getD columns i closed) formed ∙ column-form f in
     let below : k < 5 = rw formed (column-below f) in
     rw (
-      mapped (λ q. map (λ t. map (λ g. isBracketed q t g) columns) styles) positions none [] p hp,
-      mapped (λ t. map (λ g. isBracketed (getD positions p none) t g) columns) styles Plain [] row hr,
-      mapped (λ g. isBracketed (getD positions p none) (getD styles row Plain) g) columns closed false k below,
+      mapped (λ q. map (λ t. map (λ g. isBracketed q t g) columns) styles) positions partOf [] p hp,
+      mapped (λ t. map (λ g. isBracketed (getD positions p partOf) t g) columns) styles Plain [] row hr,
+      mapped (λ g. isBracketed (getD positions p partOf) (getD styles row Plain) g) columns closed false k below,
       styled,
       found,
     )

@@ -2,7 +2,6 @@
 use Prim.Native.Nat.{ℕ, _<_}
 use mathlib.Core.Path.{_≡_}
 use mathlib.Core.Bool.{Bool, true, false, cond}
-use mathlib.Core.Option.{some}
 use mathlib.Core.List.{List, [], _∷_, _++_}
 use lib.Dec.{eqb}
 use Rattle.definitions.specs.declared.Style.{Style}
@@ -31,4 +30,4 @@ module _ (f : ℕ → Name) (props : ℕ → Prop ℕ) (records : List ℕ) (n b
 
   -- whether that record's text is bracketed as a body
   unfoldable pub bodyBracketed : Style → Bool
-  bodyBracketed s = cond (eqb body n) false (isBracketed (some ascribedBy) s (form (renameTerm f (termAt props records body))))
+  bodyBracketed s = cond (eqb body n) false (isBracketed ascribedBy s (form (renameTerm f (termAt props records body))))

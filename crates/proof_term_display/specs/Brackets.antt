@@ -1,15 +1,14 @@
 -- The rows and columns of the table of brackets: positions, styles and forms.
 use Prim.Native.Nat.{ℕ}
-use mathlib.Core.Bool.{Bool, false}
-use mathlib.Core.Option.{Option, none, some}
+use mathlib.Core.Bool.{Bool}
 use mathlib.Core.List.{List, [], _∷_, map}
 use Rattle.definitions.specs.declared.Style.{Style}
 use Rattle.definitions.specs.declared.Style.the-variants.{Plain, Strict}
-use Rattle.definitions.specs.Display.{Form, closed, call, function, block, ascription, Position, functionOf, argumentOf, bodyOf, ascribedBy, brackets, bracketed}
+use Rattle.definitions.specs.Display.{Form, closed, call, function, block, ascription, Position, functionOf, argumentOf, bodyOf, ascribedBy, partOf, within, brackets, bracketed}
 
--- the positions by their numbers; the last one is any other than those that have a name
-abbrev pub positions : List (Option Position)
-positions = some functionOf ∷ some argumentOf ∷ some bodyOf ∷ some ascribedBy ∷ none ∷ []
+-- the positions by their numbers
+abbrev pub positions : List Position
+positions = functionOf ∷ argumentOf ∷ bodyOf ∷ ascribedBy ∷ partOf ∷ within ∷ []
 
 abbrev pub styles : List Style
 styles = Plain ∷ Strict ∷ []
@@ -26,9 +25,8 @@ column block = 3
 column ascription = 4
 
 -- whether a part of a form is bracketed in its position
-unfoldable pub isBracketed : Option Position → Style → Form → Bool
-isBracketed none s f = false
-isBracketed (some p) s f = bracketed (brackets p s) f
+unfoldable pub isBracketed : Position → Style → Form → Bool
+isBracketed p s f = bracketed (brackets p s) f
 
 -- the table, by positions, styles and forms
 abbrev pub bracketTable : List (List (List Bool))

@@ -2,7 +2,6 @@
 use Prim.Native.Nat.{ℕ, _-_}
 use mathlib.Core.Path.{_≡_}
 use mathlib.Core.Bool.{_&&_, cond}
-use mathlib.Core.Option.{none}
 use mathlib.Core.List.{List, [], _∷_, map}
 use lib.ListN.{length, getD}
 use lib.Dec.{leb, eqb}
@@ -11,7 +10,7 @@ use Rattle.definitions.specs.Utf8.{utf8}
 use Rattle.definitions.specs.Name.{Name}
 use Rattle.definitions.specs.Prop.{Prop}
 use Rattle.definitions.specs.Term.{ProofTerm, renameLabel, renameParameterLabel, renameTerm}
-use Rattle.definitions.specs.Display.{wrap, form, displayLabel, displayParameterLabel, displayTerm}
+use Rattle.definitions.specs.Display.{wrap, form, partOf, displayLabel, displayParameterLabel, displayTerm}
 use Rattle.proof_term.specs.Records.{labelOf, parameterLabel}
 use Rattle.proof_term_display.specs.Brackets.{positions, isBracketed}
 
@@ -25,19 +24,19 @@ pub data Item : Type 0 where
   -- the label of a parameter, if it has one, and the label of an ascription
   ofParameter ofAscription : Item
 
--- the record's number and the position of each part, A to G: the first, second and third part, a named function's body, an ascription's
--- body, an application's function and its argument
+-- the record's number and the position of each part, A to I: the first, second and third part of a function, a case or a let, a named
+-- function's body, an ascription's body, an application's function and its argument, and the two parts of a pair
 abbrev pub partField : ℕ → ℕ
-partField k = getD (1 ∷ 2 ∷ 3 ∷ 1 ∷ 1 ∷ 1 ∷ 2 ∷ []) k 0
+partField k = getD (1 ∷ 2 ∷ 3 ∷ 1 ∷ 1 ∷ 1 ∷ 2 ∷ 1 ∷ 2 ∷ []) k 0
 
 abbrev pub partPosition : ℕ → ℕ
-partPosition k = getD (4 ∷ 4 ∷ 4 ∷ 2 ∷ 3 ∷ 0 ∷ 1 ∷ []) k 0
+partPosition k = getD (5 ∷ 5 ∷ 5 ∷ 2 ∷ 3 ∷ 0 ∷ 1 ∷ 4 ∷ 4 ∷ []) k 0
 
--- 49 to 53 are 1 to 5, 65 to 71 are A to G, 76 is L and 77 is M
+-- 49 to 53 are 1 to 5, 65 to 73 are A to I, 76 is L and 77 is M
 unfoldable pub itemOf : ℕ → Item
 itemOf b =
     cond (leb 49 b && leb b 53) (name (b - 48))
-    (cond (leb 65 b && leb b 71) (part (b - 65))
+    (cond (leb 65 b && leb b 73) (part (b - 65))
     (cond (eqb b 76) ofParameter
     (cond (eqb b 77) ofAscription (fixed b))))
 
@@ -50,7 +49,7 @@ items (b ∷ bs) = cond (eqb b 46) [] (itemOf b ∷ items bs)
 unfoldable pub formats : List (List Item)
 formats =
     items (utf8 "1")
-    ∷ items (utf8 "(A, B)")
+    ∷ items (utf8 "(H, I)")
     ∷ items (utf8 "fst D")
     ∷ items (utf8 "snd D")
     ∷ items (utf8 "fn 2L => A")
@@ -75,7 +74,7 @@ module _ (s : Style) (f : ℕ → Name) (props : ℕ → Prop ℕ) (term : ℕ �
   unfoldable pub partText : ℕ → List ℕ
   partText k =
       let t : ProofTerm Name = renameTerm f (term (field (partField k))) in
-      wrap (isBracketed (getD positions (partPosition k) none) s (form t)) (displayTerm s t)
+      wrap (isBracketed (getD positions (partPosition k) partOf) s (form t)) (displayTerm s t)
 
   unfoldable pub itemText : Item → List ℕ
   itemText (fixed b) = b ∷ []

@@ -10,7 +10,6 @@ use proof_term::field;
 use prop::print;
 ghost use mathlib.Core.Path.{_≡_};
 ghost use mathlib.Core.Bool.{_&&_};
-ghost use mathlib.Core.Option.{none};
 ghost use Prim.Native.Nat.{ℕ, _+_, _*_, _≤_, _<_};
 ghost use lib.ListN.{length, getD};
 ghost use lib.Dec.{leb};
@@ -19,7 +18,7 @@ ghost use Rattle.definitions.specs.Name.{Name};
 ghost use Rattle.definitions.specs.Prop.{Prop};
 ghost use Rattle.definitions.specs.Term.{ProofTerm, renameLabel, renameParameterLabel, renameTerm};
 ghost use Rattle.definitions.specs.Sheet.{marked};
-ghost use Rattle.definitions.specs.Display.{form, displayLabel, displayParameterLabel, displayTerm};
+ghost use Rattle.definitions.specs.Display.{form, partOf, displayLabel, displayParameterLabel, displayTerm};
 ghost use Rattle.output.specs.Wrote.{Wrote};
 ghost use Rattle.proof_term.specs.Records.{recordSize, fieldAt, labelOf, parameterLabel, recordTerm, termAt};
 ghost use Rattle.prefix_code.specs.PropAt.{propAt};
@@ -49,21 +48,25 @@ const BODY_OF: u8 = 2;
 
 const ASCRIBED_BY: u8 = 3;
 
-const ELSEWHERE: u8 = 4;
+const PART_OF: u8 = 4;
+
+const WITHIN: u8 = 5;
 
 const FORMAT_SIZE: usize = 32;
 
-// The record's number and the position of each of the parts A to G.
-const PART_FIELDS: [u8; 7] = [1, 2, 3, 1, 1, 1, 2];
+// The record's number and the position of each of the parts A to I.
+const PART_FIELDS: [u8; 9] = [1, 2, 3, 1, 1, 1, 2, 1, 2];
 
-const PART_POSITIONS: [u8; 7] = [
-    ELSEWHERE,
-    ELSEWHERE,
-    ELSEWHERE,
+const PART_POSITIONS: [u8; 9] = [
+    WITHIN,
+    WITHIN,
+    WITHIN,
     BODY_OF,
     ASCRIBED_BY,
     FUNCTION_OF,
     ARGUMENT_OF,
+    PART_OF,
+    PART_OF,
 ];
 
 // The kind of record `n`; an unknown one counts as Unit.
@@ -116,7 +119,7 @@ fn row_of(style: Style) -> usize
 }
 
 // Whether a part is bracketed, by its position, the style and its form: closed, call, function, block, ascription.
-type Brackets = [[[bool; 5]; 2]; 5];
+type Brackets = [[[bool; 5]; 2]; 6];
 
 const BRACKETS: Brackets = [
     [
@@ -125,7 +128,7 @@ const BRACKETS: Brackets = [
     ],
     [
         [false, true, true, false, true], // its argument, plain
-        [false, true, true, false, true], // its argument, strict
+        [false, true, true, true, true], // its argument, strict
     ],
     [
         [false, true, true, true, true], // the body of a named function, plain
@@ -136,17 +139,21 @@ const BRACKETS: Brackets = [
         [false, false, true, true, true], // the body of an ascription, strict
     ],
     [
-        [false, false, false, false, false], // elsewhere, plain
-        [false, false, false, false, false], // elsewhere, strict
+        [false, false, false, false, false], // a part of a pair, plain
+        [false, false, false, false, false], // a part of a pair, strict
+    ],
+    [
+        [false, false, false, false, false], // within a function, a case or a let, plain
+        [false, false, false, false, true], // within a function, a case or a let, strict
     ],
 ];
 
 // Whether the term of record `n` is bracketed in a position, by the table that is lent.
 fn is_bracketed(brackets: &Brackets, records: &[u16], n: usize, position: u8, style: Style) -> bool
     requires { ⌜ now brackets ≡ bracketTable ⌝ }
-    requires { ⌜ (recordSize * (n + 1) ≤ length (now records)) × (position < 5) ⌝ }
+    requires { ⌜ (recordSize * (n + 1) ≤ length (now records)) × (position < 6) ⌝ }
     ensures { λ r. ⌜ ((f : ℕ → Name) (props : ℕ → Prop ℕ) →
-        r ≡ isBracketed (getD positions position none) style (form (renameTerm f (termAt props (now (records .entry)) n)))) ⌝ }
+        r ≡ isBracketed (getD positions position partOf) style (form (renameTerm f (termAt props (now (records .entry)) n)))) ⌝ }
 {
     let row = row_of(style);
     let column = form_of(kind_at(records, n));
@@ -154,13 +161,14 @@ fn is_bracketed(brackets: &Brackets, records: &[u16], n: usize, position: u8, st
 }
 
 // The format of each kind, in the order of the kinds, up to the full stop. A digit stands for the name in that number of the
-// record. A, B and C stand for its parts, D for the body of a named function, E for that of an ascription, F and G for the function
-// and the argument of an application, L for the label of a parameter, if it has one, and M for that of an ascription.
+// record. A, B and C stand for the parts of a function, a case or a let, D for the body of a named function, E for that of an
+// ascription, F and G for the function and the argument of an application, H and I for the parts of a pair, L for the label of a
+// parameter, if it has one, and M for that of an ascription.
 type Formats = [[u8; FORMAT_SIZE]; KINDS];
 
 const FORMATS: Formats = [
     *b"1...............................", // a name
-    *b"(A, B)..........................",
+    *b"(H, I)..........................",
     *b"fst D...........................",
     *b"snd D...........................",
     *b"fn 2L => A......................",
@@ -318,7 +326,7 @@ fn put_ascription(
     )
 }
 
-// Part `k` of record `n`, one of A to G, in brackets where its position asks for them.
+// Part `k` of record `n`, one of A to I, in brackets where its position asks for them.
 fn part(
     out: &mut [u8],
     to: usize,
@@ -335,7 +343,7 @@ fn part(
     text: &[u8],
     write: bool,
 ) -> usize
-    requires { ⌜ k < 7 ⌝ }
+    requires { ⌜ k < 9 ⌝ }
     requires { ⌜ FormatTable (now formats) × (now brackets ≡ bracketTable) ⌝ }
     requires { ⌜ PrintableTerm (now records) n names (now code) (now ends) (now pairs) (now text) ⌝ }
     requires { ⌜ ItemReady names (now code) (now ends) (now records) n (part k) ⌝ }
@@ -423,7 +431,7 @@ fn put_item(
         let name = field(records, n, (b - b'0') as usize);
         return put_name(out, to, pairs, text, name, write);
     }
-    if is_between(b, b'A', b'G') {
+    if is_between(b, b'A', b'I') {
         let k = (b - b'A') as usize;
         return part(
             out,

@@ -260,13 +260,13 @@ module _ (t : ℕ) where
   put-item-sub-k c =
       let start = c .before .before .before .before .before .before .before .before .before .before .before .before in
       let is-part = sym (c .before .is-between3 .ensures) ∙ c .if3 .taken in
-      omega (arith, between 65 (start .args .b) 71 is-part)
+      omega (arith, between 65 (start .args .b) 73 is-part)
 
   put-item-cast-k : put-item-lts.Need-cast-k put-item-claims put-item-at put-item.Post
   put-item-cast-k c =
       let start = c .before .before .before .before .before .before .before .before .before .before .before .before in
       let is-part = sym (c .before .is-between3 .ensures) ∙ c .if3 .taken in
-      omega (arith, between 65 (start .args .b) 71 is-part)
+      omega (arith, between 65 (start .args .b) 73 is-part)
 
   put-item-part-requires : put-item-lts.Need-part-requires put-item-claims put-item-at put-item.Post
   put-item-part-requires c κs =
@@ -275,7 +275,7 @@ module _ (t : ℕ) where
       let is-part = sym (c .before .before .is-between3 .ensures) ∙ c .before .if3 .taken in (
         omega arith,
         (
-          omega (arith, between 65 (start .args .b) 71 is-part),
+          omega (arith, between 65 (start .args .b) 73 is-part),
           (start .pre .1 .0, (start .pre .1 .1 .0, rw (item-part (start .args .b) no-name is-part) at (start .pre .1 .1 .1))),
         ),
       )
