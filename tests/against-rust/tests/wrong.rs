@@ -10,6 +10,7 @@ use oracle::{
     generate::Kind,
     reference::meets_two_counts,
     sheet::{Refusal, Sheet, BOARD_ROOM},
+    text::{strict, text, Brackets, Under},
 };
 use std::{
     cell::RefCell,
@@ -60,6 +61,16 @@ impl Asked {
             _ => false,
         };
         self.compared().is_some_and(|(sheet, steps)| steps.iter().all(|step| unbound(sheet, *step)))
+    }
+
+    /// Answers an operation with the text that has these brackets more than `Display`, if it fits.
+    fn print(&self, operation: Operation, reply: &mut Reply, brackets: Brackets) {
+        if let (true, Ok(sheet), Ok(exported)) = (self.is(operation), &self.examined.sheet, &self.examined.exported) {
+            *reply = match text(sheet, &exported.export, brackets) {
+                text if text.len() <= self.room => Reply::new(&Ok(Answer::Text(text))),
+                _ => Reply::new(&Err(Refusal { number: 16, place: 0 })),
+            };
+        }
     }
 
     fn fills(&self) -> bool {
@@ -178,6 +189,23 @@ const FAULTS: &[(&str, Operation, Fault)] = &[
         if let (true, 0, Ok(exported)) = (asked.is(Operation::StrictText), reply.number, &asked.examined.exported) {
             reply.text(&exported.plain);
         }
+    }),
+    ("a strict bracket in plain text", Operation::PlainText, |asked, reply| {
+        asked.print(Operation::PlainText, reply, |part, under| under == Under::Argument && strict(part, under));
+    }),
+    ("a case or let as an argument is bare in strict text", Operation::StrictText, |asked, reply| {
+        asked.print(Operation::StrictText, reply, |part, under| under != Under::Argument && strict(part, under));
+    }),
+    ("a case or let as a function is bare in strict text", Operation::StrictText, |asked, reply| {
+        asked.print(Operation::StrictText, reply, |part, under| under != Under::Function && strict(part, under));
+    }),
+    ("an ascription within a term is bare in strict text", Operation::StrictText, |asked, reply| {
+        asked.print(Operation::StrictText, reply, |part, under| under != Under::Another && strict(part, under));
+    }),
+    ("an ascription in a pair is bracketed in strict text", Operation::StrictText, |asked, reply| {
+        asked.print(Operation::StrictText, reply, |part, under| {
+            strict(part, if under == Under::Pair { Under::Another } else { under })
+        });
     }),
     ("an atom list has no repeats", Operation::AtomList, |asked, reply| {
         if asked.is(Operation::AtomList) && reply.number == 0 {

@@ -146,9 +146,9 @@ fn exported(sheet: &Sheet) -> Result<Result<Exported, Refusal>, Finding> {
     let count = proof.proof_term.annotation_count();
     ensure(count == export.labels, || format!("annotation_count {count}, labels {}", export.labels))?;
     let plain = reference::text(&tree, &goal).map_err(|n| format!("the wrapper panics {n}"))?;
-    ensure(plain == text::text(sheet, &export, false), || "the plain texts differ".into())?;
-    let strict = text::text(sheet, &export, true);
-    ensure(strict.len() == plain.len() + 2 * export.open, || "the strict text has other brackets".into())?;
+    ensure(plain == text::text(sheet, &export, text::plain), || "the plain texts differ".into())?;
+    let strict = text::text(sheet, &export, text::strict);
+    ensure(strict.len() == plain.len() + 2 * export.strict_brackets, || "the strict text has other brackets".into())?;
     Ok(Ok(Exported { export, plain, strict }))
 }
 

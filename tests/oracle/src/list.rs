@@ -5,7 +5,7 @@ use crate::{
     generate::{Kind, Sheets},
     rng::Rng,
     sheet::{decode, Refusal, BOARD_ROOM, CODE, HEADER_BYTES, NAMES, PAIR_BYTES, PROPS, STEPS, STEP_BYTES, TEXT},
-    text::text,
+    text::{plain, text},
     walk::export,
 };
 use std::ops::RangeInclusive;
@@ -51,7 +51,7 @@ pub fn list(seed: u64) -> Result<List, Finding> {
 /// Has the sheet a label, and does the board print its text?
 fn labelled_on_the_board(sheet: &[u8]) -> bool {
     let exported = decode(sheet).and_then(|sheet| export(&sheet).map(|export| (sheet, export)));
-    exported.is_ok_and(|(sheet, export)| export.labels > 0 && text(&sheet, &export, false).len() <= BOARD_ROOM)
+    exported.is_ok_and(|(sheet, export)| export.labels > 0 && text(&sheet, &export, plain).len() <= BOARD_ROOM)
 }
 
 impl List {

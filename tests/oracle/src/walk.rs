@@ -71,8 +71,9 @@ pub struct Export {
     pub datatypes: Vec<u16>,
     /// How many labels the term has.
     pub labels: usize,
-    /// How many applications have a case or let as their function.
-    pub open: usize,
+    /// How many pairs of brackets strict text has more than plain text: around a case or let on either side of an
+    /// application, and around an ascription within a function, a case or a let.
+    pub strict_brackets: usize,
 }
 
 struct Walk<'a> {
@@ -80,14 +81,25 @@ struct Walk<'a> {
     atoms: Vec<(u16, u16)>,
     datatypes: Vec<u16>,
     labels: usize,
-    open: usize,
+    strict_brackets: usize,
 }
 
 pub fn export(sheet: &Sheet) -> Result<Export, Refusal> {
-    let mut walk = Walk { sheet, atoms: vec![], datatypes: vec![], labels: 0, open: 0 };
+    let mut walk = Walk { sheet, atoms: vec![], datatypes: vec![], labels: 0, strict_brackets: 0 };
     let term = walk.step(sheet.root(), Place::Checking)?;
-    let Walk { atoms, datatypes, labels, open, .. } = walk;
-    Ok(Export { term, atoms, datatypes, labels, open })
+    let Walk { atoms, datatypes, labels, strict_brackets, .. } = walk;
+    Ok(Export { term, atoms, datatypes, labels, strict_brackets })
+}
+
+/// Whether strict text alone brackets a part in the term of a step's rule.
+fn strictly_bracketed(rule: u8, part: &ProofTerm) -> bool {
+    match rule {
+        rule::IMPL_ELIM | rule::FORALL_ELIM => matches!(part, ProofTerm::Case(_) | ProofTerm::LetIn(_)),
+        rule::IMPL_INTRO | rule::FORALL_INTRO | rule::OR_ELIM | rule::EXISTS_ELIM => {
+            matches!(part, ProofTerm::TypeAscription(_))
+        }
+        _ => false,
+    }
 }
 
 impl Walk<'_> {
@@ -107,6 +119,7 @@ impl Walk<'_> {
         for (premiss, at) in premisses.iter().zip(places) {
             parts.push(self.step(*premiss, place(*at, own))?);
         }
+        self.strict_brackets += parts.iter().filter(|part| strictly_bracketed(step.rule, part)).count();
         let inferring = own == Place::Inferring;
         let parameter = if inferring && label == Label::Parameter { Some(self.parameter(i)?) } else { None };
         let term = self.term(step, parts, parameter);
@@ -118,7 +131,7 @@ impl Walk<'_> {
     }
 
     /// The term of a step's rule over the terms of the premisses that it reads.
-    fn term(&mut self, step: &Step, parts: Vec<ProofTerm>, param_type: Option<Type>) -> ProofTerm {
+    fn term(&self, step: &Step, parts: Vec<ProofTerm>, param_type: Option<Type>) -> ProofTerm {
         let mut parts = parts.into_iter().map(Box::new);
         let mut next = || parts.next().unwrap();
         let name = |k: usize| self.sheet.name(step.idents[k].0);
@@ -133,7 +146,6 @@ impl Walk<'_> {
             }
             rule::IMPL_ELIM | rule::FORALL_ELIM => {
                 let (function, applicant) = (next(), next());
-                self.open += matches!(*function, ProofTerm::Case(_) | ProofTerm::LetIn(_)) as usize;
                 ProofTerm::Application(Application { function, applicant, span })
             }
             rule::IDENT => ProofTerm::Ident(Ident(name(0), span)),

@@ -167,6 +167,54 @@ fn let_as_a_function() {
     assert_eq!(strict(&sheet), "(let (x, y) = h in b) c");
 }
 
+/// Document 02, ticket 1: f applied to a case, and that applied to c; f applied to a case whose second branch is `b c`.
+#[test]
+fn case_as_an_argument() {
+    let name = |n| step(IDENT, 0, &[n], 0);
+    let (applied, case) = (step(IMPL_ELIM, 2, &[], 0), step(OR_ELIM, 3, &[4, 5], 0));
+    let names = ["f", "h", "a", "b", "x", "y", "c"];
+    let then_to_c = [name(0), name(1), name(2), name(3), case, applied, name(6), applied];
+    let of_b_to_c = [name(0), name(1), name(2), name(3), name(6), applied, case, applied];
+    let [one, other] = [then_to_c, of_b_to_c].map(|steps| plain(&names, &[True], &steps));
+    assert_eq!(term(&one), "f case h of inl x => a, inr y => b c");
+    assert_eq!(term(&other), "f case h of inl x => a, inr y => b c");
+    assert_eq!(strict(&one), "f (case h of inl x => a, inr y => b) c");
+    assert_eq!(strict(&other), "f (case h of inl x => a, inr y => b c)");
+}
+
+/// The same ticket: an ascription in every part of a case, a let, a pair and a function.
+#[test]
+fn ascribed_parts() {
+    let (sorry, first) = (step(SORRY, 0, &[], 0), step(AND_ELIM_FST, 1, &[], 0));
+    let drawn = |steps: &[Step]| {
+        let sheet = plain(&["A", "x", "y", "b"], &[atom(A), implies(atom(A), atom(A))], steps);
+        (term(&sheet), strict(&sheet))
+    };
+    let expected = |plain: &str, strict: &str| (plain.to_string(), strict.to_string());
+
+    let case = step(OR_ELIM, 3, &[1, 2], 0);
+    assert_eq!(
+        drawn(&[sorry, sorry, sorry, case, first]),
+        expected(
+            "fst (case sorry: A of inl x => sorry: A, inr y => sorry: A)",
+            "fst (case (sorry: A) of inl x => (sorry: A), inr y => (sorry: A))"
+        )
+    );
+    let (exists, b, applied) = (step(EXISTS_ELIM, 2, &[1, 2], 0), step(IDENT, 0, &[3], 0), step(IMPL_ELIM, 2, &[], 0));
+    assert_eq!(
+        drawn(&[sorry, sorry, exists, sorry, b, exists, applied]),
+        expected(
+            "let (x, y) = sorry: A in sorry: A let (x, y) = sorry: A in b",
+            "(let (x, y) = (sorry: A) in (sorry: A)) (let (x, y) = (sorry: A) in b)"
+        )
+    );
+    let (function, pair) = (step(IMPL_INTRO, 1, &[1], 1), step(AND_INTRO, 2, &[], 0));
+    assert_eq!(
+        drawn(&[sorry, sorry, function, pair, first]),
+        expected("fst (sorry: A, fn x: A => sorry: A)", "fst (sorry: A, fn x: A => (sorry: A))")
+    );
+}
+
 #[test]
 fn alpha_equivalent_alone() {
     let sheet = plain(&[], &[True], &[step(ALPHA, 0, &[], 0)]);

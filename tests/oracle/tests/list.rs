@@ -56,6 +56,7 @@ fn the_list_reads_back() {
     assert!(list.sheets >= 1500 && list.bytes.len() <= 2_000_000);
     let mut reader = Reader(&list.bytes);
     let (mut asked, mut refused, mut exact, mut short, mut more) = ([0; Operation::ALL.len()], [0; 20], 0, 0, 0);
+    let mut strict = 0;
     assert_eq!(reader.number(4), list.sheets);
     for _ in 0..list.sheets {
         let length = reader.number(4);
@@ -66,6 +67,8 @@ fn the_list_reads_back() {
             let answer = reader.answer(question);
             assert_eq!(answer, examined.answer(question, room).unwrap());
             let enough = examined.answer(question, None).unwrap();
+            let differs = examined.exported.as_ref().is_ok_and(|exported| exported.strict != exported.plain);
+            strict += (question == Question::StrictText && answer.is_ok() && differs) as usize;
             exact += (room.is_some() && answer.as_ref().is_ok_and(|answer| Some(answer.length()) == room)) as usize;
             more += (room.is_some() && answer.as_ref().is_ok_and(|answer| Some(answer.length()) < room)) as usize;
             short +=
@@ -78,7 +81,7 @@ fn the_list_reads_back() {
     // every refusal but 18
     assert!((0..20).all(|number| (refused[number] > 0) == (number != 18)), "{refused:?}");
     assert!(exact > 1000 && short > 1000, "{exact} {short}");
-    assert!(more > 100, "{more}");
+    assert!(more > 100 && strict > 100, "{more} {strict}");
 }
 
 #[test]
