@@ -88,8 +88,8 @@ enum skriduhol_refusal {
 /* The plain text: declarations and then the term, in UTF-8, with no 0 at its end. *value: its length in bytes. */
 uint8_t skriduhol_plain_text(const uint8_t *sheet, size_t sheet_length, uint8_t *out, size_t room, size_t *value);
 
-/* The strict text: the plain text with a case or let in brackets where it stands as the function of an application. *value: its
-   length in bytes. */
+/* The strict text: the plain text with brackets also around a case or let on either side of an application, and around an
+   ascription within a function, a case or a let. *value: its length in bytes. */
 uint8_t skriduhol_strict_text(const uint8_t *sheet, size_t sheet_length, uint8_t *out, size_t room, size_t *value);
 
 /* The atoms of the term's labels, left to right with repeats: for each the number of its name, and then its parameter count.

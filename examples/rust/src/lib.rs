@@ -33,7 +33,8 @@ pub fn plain_text(sheet: &[u8], out: &mut [u8]) -> Result<usize, Refusal> {
     asked(|value| c::plain_text(sheet, out, value))
 }
 
-/// The strict text, at the start of `out`; its length in bytes.
+/// The strict text, at the start of `out`; its length in bytes. It has the plain text's brackets, and others around a case or
+/// let on either side of an application, and around an ascription within a function, a case or a let.
 pub fn strict_text(sheet: &[u8], out: &mut [u8]) -> Result<usize, Refusal> {
     asked(|value| c::strict_text(sheet, out, value))
 }

@@ -7,6 +7,9 @@ use skriduhol::{
 const SMALLEST: &[u8] = include_bytes!("../../sheets/smallest.sheet");
 const SECOND: &[u8] = include_bytes!("../../sheets/second_drawing.sheet");
 const LABELLED: &[u8] = include_bytes!("../../sheets/labelled_function.sheet");
+const CASE_AS_AN_ARGUMENT: &[u8] = include_bytes!("../../sheets/case_as_an_argument.sheet");
+const CASE_WITH_AN_APPLIED_BRANCH: &[u8] =
+    include_bytes!("../../sheets/case_with_an_applied_branch.sheet");
 const REFUSED: &[u8] = include_bytes!("../../sheets/refused.sheet");
 
 const SECOND_TEXT: &str = "atom A;\natom B;\n\n\nfn u => inl u";
@@ -27,6 +30,13 @@ fn text_of(sheet: &[u8]) -> Result<String, Refusal> {
     Ok(String::from_utf8(out).expect("a text is UTF-8"))
 }
 
+fn strict_text_of(sheet: &[u8]) -> Result<String, Refusal> {
+    let mut out = vec![UNTOUCHED; BOARD_ROOM];
+    let length = strict_text(sheet, &mut out)?;
+    out.truncate(length);
+    Ok(String::from_utf8(out).expect("a text is UTF-8"))
+}
+
 fn refusal<T>(number: u8, place: usize) -> Result<T, Refusal> {
     Err(Refusal { number, place })
 }
@@ -40,6 +50,21 @@ fn texts() {
         Ok("atom A;\n\n\n(fn u: A => u) v".into())
     );
     assert_eq!(text_of(REFUSED), refusal(14, 1));
+}
+
+#[test]
+fn strict_text_tells_apart_what_plain_text_does_not() {
+    let plain = "\n\n\nf case h of inl x => a, inr y => b c";
+    assert_eq!(text_of(CASE_AS_AN_ARGUMENT), Ok(plain.into()));
+    assert_eq!(text_of(CASE_WITH_AN_APPLIED_BRANCH), Ok(plain.into()));
+    assert_eq!(
+        strict_text_of(CASE_AS_AN_ARGUMENT),
+        Ok("\n\n\nf (case h of inl x => a, inr y => b) c".into())
+    );
+    assert_eq!(
+        strict_text_of(CASE_WITH_AN_APPLIED_BRANCH),
+        Ok("\n\n\nf (case h of inl x => a, inr y => b c)".into())
+    );
 }
 
 #[test]
