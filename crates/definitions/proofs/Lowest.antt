@@ -52,3 +52,10 @@ all-fail test (suc count) e i h = go (lowest test count) (test count) refl refl 
         choose : Dec (i < count) → test i ≡ false
         choose (yes k) = below same i k
         choose (no k) = let is : i ≡ count = omega arith in rw is at
+
+-- tests that agree below a count have the same lowest place
+pub same-lowest : (test test′ : ℕ → Bool) (count : ℕ) → ((k : ℕ) → k < count → test k ≡ test′ k) → lowest test count ≡ lowest test′ count
+unfolding lowest
+same-lowest test test′ zero h = refl
+same-lowest test test′ (suc count) h =
+    rw (same-lowest test test′ count (λ k l. h k (omega arith)), h count (omega arith))

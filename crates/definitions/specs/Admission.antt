@@ -9,7 +9,7 @@ use Rattle.definitions.specs.Outcome.{Outcome, accepted, _>>=_, refuseIf
 use Rattle.definitions.specs.Name.{isName}
 use Rattle.definitions.specs.Prop.{nesting}
 use Rattle.definitions.specs.Code.{decode}
-use Rattle.definitions.specs.Sheet.{headerSize, nameLengthLimit, propositionNestingLimit, treeNestingLimit, pairOffset, pairLength, pairEnd, lastEnd, marked, ruleByte, premissCount, stepNumber, textLength, names, codeLength, propositions, steps, headerOutOfRange, sheetLength, namePairs, propositionPairs, stepRecords, textBytes, codeBytes}
+use Rattle.definitions.specs.Sheet.{headerSize, nameLengthLimit, propositionNestingLimit, treeNestingLimit, columnLimit, pairOffset, pairLength, pairEnd, lastEnd, marked, ruleByte, premissCount, stepNumber, column, textLength, names, codeLength, propositions, steps, headerOutOfRange, sheetLength, namePairs, propositionPairs, stepRecords, textBytes, codeBytes}
 use Rattle.definitions.specs.Tree.{ProofTree, height, rules, ruleIn, identifierCount, propIn, treesBefore, treeIn, rootOf}
 
 -- a pair starts before the last one's end, or ends past that many bytes
@@ -41,7 +41,7 @@ badCode names pairs code i = isNone (decode names (marked pairs code i))
 unfoldable pub deepProposition : ℕ → List ℕ → List ℕ → ℕ → Bool
 deepProposition names pairs code i = ltb propositionNestingLimit (nesting (propIn names pairs code i))
 
--- 9: a step's rule, kind, name or proposition number is out of range, or an unused field is not 0
+-- 9: a step's rule, kind, name, proposition number or column is out of range, or an unused field is not 0
 module _ (names propositions : ℕ) (records : List ℕ) where
   unfoldable pub noName : ℕ → ℕ → Bool
   noName k at = leb names (stepNumber records k at)
@@ -64,13 +64,16 @@ module _ (names propositions : ℕ) (records : List ℕ) where
       cond (eqb (stepNumber records k 10) 0) (badPropIsTrue k)
       (cond (eqb (stepNumber records k 10) 1) (badTypeJudgement k) true)
 
+  unfoldable pub badColumn : ℕ → Bool
+  badColumn k = ltb columnLimit (column records k)
+
   unfoldable pub identifiers : ℕ → ℕ
   identifiers k = identifierCount (ruleIn records k)
 
   unfoldable pub badStep : ℕ → Bool
   badStep k =
       leb (length rules) (ruleByte records k)
-      || (badIdentifier k 2 (leb 1 (identifiers k)) || (badIdentifier k 6 (leb 2 (identifiers k)) || badConclusion k))
+      || (badIdentifier k 2 (leb 1 (identifiers k)) || (badIdentifier k 6 (leb 2 (identifiers k)) || (badConclusion k || badColumn k)))
 
 module _ (names : ℕ) (pairs code records : List ℕ) where
   -- 10: a step finds too few trees before it, or the last step leaves more than one tree

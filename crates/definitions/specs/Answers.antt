@@ -1,18 +1,19 @@
 -- The answer to each question about a sheet, for every sequence of bytes and every room; the board's output.
 -- Document 01, "Refusals in checking order" and "Text".
 use Prim.Native.Nat.{ℕ}
-use mathlib.Core.Bool.{Bool, _||_}
+use mathlib.Core.Bool.{Bool, _||_, _&&_, cond}
 use mathlib.Core.List.{List, [], _∷_, _++_}
 use lib.ListN.{length}
 use lib.Dec.{ltb, leb}
 use Rattle.definitions.specs.declared.Refusal.{Refusal}
+use Rattle.definitions.specs.declared.Located.{Located}
 use Rattle.definitions.specs.declared.Style.{Style}
 use Rattle.definitions.specs.declared.Style.the-variants.{Plain}
 use Rattle.definitions.specs.Outcome.{Outcome, refused, accepted, _>>=_, mapOutcome, refuseIf}
 use Rattle.definitions.specs.Utf8.{utf8}
 use Rattle.definitions.specs.Name.{Name}
 use Rattle.definitions.specs.Prop.{Prop, AtomUse, renameProp}
-use Rattle.definitions.specs.Sheet.{nameOf, goal, steps}
+use Rattle.definitions.specs.Sheet.{column, nameOf, goal, steps, stepRecords}
 use Rattle.definitions.specs.Tree.{propOf, conclusionOf, ProofTreeConclusion, renameConclusion}
 use Rattle.definitions.specs.Admission.{admitted}
 use Rattle.definitions.specs.Term.{ProofTerm, renameTerm, annotationCount, atomList, datatypeList}
@@ -36,13 +37,30 @@ inRoom room outcome = do
 unfoldable pub boardRoom : ℕ
 boardRoom = 65536
 
--- `refused R at P` and a newline
-unfoldable pub refusalLine : Refusal → List ℕ
-refusalLine r = utf8 "refused " ++ (decimal (r .number) ++ (utf8 " at " ++ (decimal (r .place) ++ utf8 "\n")))
+-- the place of refusals 9 to 15 is a step
+unfoldable pub namesStep : Refusal → Bool
+namesStep r = leb 9 (r .number) && leb (r .number) 15
 
-unfoldable pub printed : Outcome (List ℕ) → List ℕ
-printed (refused r) = refusalLine r
-printed (accepted a) = a
+-- the column that a refusal hands back: that of the step it names, as its bytes stand, else 0
+unfoldable pub columnOf : List ℕ → Refusal → ℕ
+columnOf s r = cond (namesStep r) (column (stepRecords s) (r .place)) 0
+
+unfoldable pub located : List ℕ → Refusal → Located
+located s r = record { refusal = r; column = columnOf s r }
+
+-- ` column K` for a refusal that names a step
+unfoldable pub columnWords : Located → List ℕ
+columnWords l = cond (namesStep (l .refusal)) (utf8 " column " ++ decimal (l .column)) []
+
+-- `refused R at P`, ` column K` for a refusal that names a step, and a newline
+unfoldable pub refusalLine : Located → List ℕ
+refusalLine l =
+    utf8 "refused " ++ (decimal (l .refusal .number) ++ (utf8 " at " ++ (decimal (l .refusal .place) ++ (columnWords l ++ utf8 "\n"))))
+
+-- what is printed of a sheet's answer
+unfoldable pub printed : List ℕ → Outcome (List ℕ) → List ℕ
+printed s (refused r) = refusalLine (located s r)
+printed s (accepted a) = a
 
 -- Of a sheet's bytes:
 module _ (s : List ℕ) where
@@ -90,4 +108,4 @@ module _ (s : List ℕ) where
 
   -- what the board program prints
   unfoldable pub boardOutput : List ℕ
-  boardOutput = printed (textAnswer Plain boardRoom)
+  boardOutput = printed s (textAnswer Plain boardRoom)

@@ -4,21 +4,22 @@ use Prim.Native.Nat.{ℕ}
 use Prim.Native.String.{String}
 use mathlib.Core.Bool.{Bool, true, false}
 use mathlib.Core.List.{List, [], _∷_, _++_, map}
-use lib.ListN.{length}
+use lib.ListN.{length, take}
 use Rattle.definitions.specs.declared.Style.{Style}
 use Rattle.definitions.specs.declared.Style.the-variants.{Plain, Strict}
 use Rattle.definitions.specs.Utf8.{utf8}
 use Rattle.definitions.specs.Outcome.{Outcome, accepted, refuse, mapOutcome}
 use Rattle.definitions.specs.Prop.{Prop, True, False, And, Or, Impl, Atom, ForAll, Uninstantiated, Instantiated}
 use Rattle.definitions.specs.Tree.{Identifier, ProofTreeRule, AndIntro, AndElimFst, AndElimSnd, TrueIntro, ImplIntro, ImplElim, Ident, OrIntroFst, OrIntroSnd, OrElim, ExistsElim, Sorry, AlphaEquivalent}
+use Rattle.definitions.specs.Code.{u16}
 use Rattle.definitions.specs.Encode.{noIdentifier, encodeRule, encodePropIsTrue, encodeSheet}
-use Rattle.definitions.specs.Answers.{textAnswer, atomsAnswer, datatypesAnswer, labelCount, comparison, boardRoom}
+use Rattle.definitions.specs.Answers.{textAnswer, atomsAnswer, datatypesAnswer, labelCount, comparison, boardRoom, boardOutput}
 
--- a question about a sheet: a text, how many bytes it has, a list, the label count, or a comparison of two steps; texts and
--- lists are lent the board's room
+-- a question about a sheet: a text, how many bytes it has, a list, the label count, a comparison of two steps, or what the
+-- board prints; texts and lists are lent the board's room
 pub data Question : Type 0 where
   text size : Style → Question
-  atoms datatypes labels : Question
+  atoms datatypes labels board : Question
   compare : ℕ → ℕ → Question
 
 pub data Answer : Type 0 where
@@ -32,6 +33,7 @@ ask (size style) s = mapOutcome (λ a. count (length a)) (textAnswer s style boa
 ask atoms s = mapOutcome numbers (atomsAnswer s boardRoom)
 ask datatypes s = mapOutcome numbers (datatypesAnswer s boardRoom)
 ask labels s = mapOutcome count (labelCount s)
+ask board s = accepted (bytes (boardOutput s))
 ask (compare i j) s = mapOutcome yesNo (comparison s i j)
 
 pub record Drawing : Type 0 where
@@ -63,15 +65,20 @@ letter a = Atom a []
 unfoldable pub the : ℕ → Identifier ℕ
 the x = record { name = x; uniqueId = 0 }
 
--- the step of a rule over so many premisses that concludes the proposition of a number; by how many identifiers it names
+-- the step of a rule over so many premisses that concludes the proposition of a number, in column 0; by how many identifiers
+-- it names
 unfoldable pub step : ProofTreeRule → ℕ → ℕ → List ℕ
-step r n prop = encodeRule r n noIdentifier noIdentifier ++ encodePropIsTrue prop
+step r n prop = encodeRule r n noIdentifier noIdentifier ++ encodePropIsTrue prop 0
 
 unfoldable pub stepNaming : ProofTreeRule → ℕ → ℕ → ℕ → List ℕ
-stepNaming r x n prop = encodeRule r n (the x) noIdentifier ++ encodePropIsTrue prop
+stepNaming r x n prop = encodeRule r n (the x) noIdentifier ++ encodePropIsTrue prop 0
 
 unfoldable pub stepNamingTwo : ProofTreeRule → ℕ → ℕ → ℕ → ℕ → List ℕ
-stepNamingTwo r x y n prop = encodeRule r n (the x) (the y) ++ encodePropIsTrue prop
+stepNamingTwo r x y n prop = encodeRule r n (the x) (the y) ++ encodePropIsTrue prop 0
+
+-- the same step in a column
+unfoldable pub drawnIn : ℕ → List ℕ → List ℕ
+drawnIn column drawn = take 18 drawn ++ u16 column
 
 -- names, propositions, the goal's number and steps as one sheet
 unfoldable pub sheet : List String → List (Prop ℕ) → ℕ → List (List ℕ) → List ℕ
@@ -83,6 +90,7 @@ smallest =
     ∷ 0x00 ∷ 0x00 ∷ 0x01 ∷ 0x00
     ∷ 0x03
     ∷ 0x00 ∷ 0x00 ∷ 0x00 ∷ 0x00 ∷ 0x00 ∷ 0x00 ∷ 0x00 ∷ 0x00 ∷ 0x00 ∷ 0x00 ∷ 0x00 ∷ 0x00 ∷ 0x00 ∷ 0x00 ∷ 0x00 ∷ 0x00 ∷ 0x00
+    ∷ 0x00 ∷ 0x00
     ∷ 0x00 ∷ []
 
 -- ImplIntro u, OrIntroFst, Ident u; goal A ⊃ A ∨ B
@@ -239,6 +247,20 @@ strictDrawings =
     (prints "atom A;\n\n\n(let (x, y) = (sorry: A) in (sorry: A)) (let (x, y) = (sorry: A) in b)")
     ∷ drawing ascribedParts (text Plain) (prints "atom A;\n\n\nfst (sorry: A, fn u: A => sorry: A)")
     ∷ drawing ascribedParts (text Strict) (prints "atom A;\n\n\nfst (sorry: A, fn u: A => (sorry: A))")
+    ∷ []
+
+-- Ticket 6, where on the glass: a refusal of 9 to 15 prints the column of its step, 0 too, and no other one prints a column; for
+-- 9 the column's bytes stand as they are
+unfoldable pub columns : List Drawing
+columns =
+    drawing (sheet [] (True ∷ []) 0 (drawnIn 4095 (step Sorry 0 0) ∷ [])) board (prints "\n\n\nsorry")
+    ∷ drawing (sheet [] (True ∷ []) 0 (drawnIn 4096 (step Sorry 0 0) ∷ [])) board (prints "refused 9 at 0 column 4096\n")
+    ∷ drawing (sheet [] (True ∷ []) 0 (drawnIn 6 (step Sorry 0 0) ∷ drawnIn 7 (step Sorry 0 0) ∷ [])) board
+    (prints "refused 10 at 1 column 7\n")
+    ∷ drawing (sheet [] (True ∷ []) 0 (drawnIn 40 (step AlphaEquivalent 0 0) ∷ drawnIn 41 (step AndElimFst 1 0) ∷ [])) board
+    (prints "refused 12 at 0 column 40\n")
+    ∷ drawing alphaEquivalentAlone board (prints "refused 12 at 0 column 0\n")
+    ∷ drawing (smallest ++ (0 ∷ [])) board (prints "refused 3 at 0\n")
     ∷ []
 
 unfoldable pub asked : Drawing → Outcome Answer

@@ -40,9 +40,9 @@ noIdentifier = record { name = 0; uniqueId = 0 }
 unfoldable pub encodeRule : ProofTreeRule → ℕ → Identifier ℕ → Identifier ℕ → List ℕ
 encodeRule r n x y = ruleNumber r ∷ n ∷ (encodeIdentifier x ++ encodeIdentifier y)
 
--- a conclusion that is the proposition of a number
-unfoldable pub encodePropIsTrue : ℕ → List ℕ
-encodePropIsTrue i = u16 0 ++ (u16 i ++ (u16 0 ++ u16 0))
+-- a conclusion that is the proposition of a number, and the column
+unfoldable pub encodePropIsTrue : ℕ → ℕ → List ℕ
+encodePropIsTrue i column = u16 0 ++ (u16 i ++ (u16 0 ++ (u16 0 ++ u16 column)))
 
 unfoldable pub concat : List (List ℕ) → List ℕ
 concat [] = []

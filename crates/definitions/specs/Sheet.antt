@@ -31,6 +31,9 @@ propositionNestingLimit = 64
 unfoldable pub treeNestingLimit : ℕ
 treeNestingLimit = 256
 
+unfoldable pub columnLimit : ℕ
+columnLimit = 4095
+
 -- the bytes of the header, of a pair of offset and length, and of a step
 unfoldable pub headerSize : ℕ
 headerSize = 12
@@ -39,7 +42,7 @@ unfoldable pub pairSize : ℕ
 pairSize = 4
 
 unfoldable pub stepSize : ℕ
-stepSize = 18
+stepSize = 20
 
 -- document 01's number: a u16, low byte first, at an offset
 unfoldable pub numberAt : List ℕ → ℕ → ℕ
@@ -70,7 +73,8 @@ pub record NameWithin (pairs text : List ℕ) (name : ℕ) : Type 0 where
   pub present : pairSize * (name + 1) ≤ length pairs
   pub ends : pairEnd pairs name ≤ length text
 
--- Of step records: a step's rule byte, its premiss count, and the numbers that follow, at offsets 2 to 16.
+-- Of step records: a step's rule byte, its premiss count, and the numbers that follow, at offsets 2 to 18.
+-- The last one is the grid column that the step was drawn in.
 module _ (records : List ℕ) where
   unfoldable pub ruleByte : ℕ → ℕ
   ruleByte k = getD records (stepSize * k) 0
@@ -80,6 +84,9 @@ module _ (records : List ℕ) where
 
   unfoldable pub stepNumber : ℕ → ℕ → ℕ
   stepNumber k at = numberAt records (stepSize * k + at)
+
+  unfoldable pub column : ℕ → ℕ
+  column k = stepNumber k 18
 
 -- Of a sheet's bytes:
 module _ (s : List ℕ) where

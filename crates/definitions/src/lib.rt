@@ -6,6 +6,12 @@ pub struct Refusal {
     pub place: u16,
 }
 
+// A refusal as it is handed back: with the column of the step that it names, or 0 where it names none.
+pub struct Located {
+    pub refusal: Refusal,
+    pub column: u16,
+}
+
 // How a text is asked for: as the Rust prints it, or with the brackets of strict text too.
 pub enum Style {
     Plain,
