@@ -74,7 +74,8 @@ unfolding badStep
 good-conclusion names propositions records k e =
     let (_, identifiers) = neither (leb (length rules) (ruleByte records k)) _ e in
     let (_, after-first) = neither (badIdentifier names propositions records k 2 _) _ identifiers in
-    neither (badIdentifier names propositions records k 6 _) _ after-first .1
+    let (_, after-second) = neither (badIdentifier names propositions records k 6 _) _ after-first in
+    neither (badConclusion names propositions records k) _ after-second .0
 
 pub conclusion-in : {s : List ℕ} → Admitted s → (k : ℕ) → k < steps s → ConclusionIn s (conclusionAt (stepRecords s) k)
 unfolding badConclusion badPropIsTrue badTypeJudgement noName conclusionAt

@@ -32,7 +32,8 @@ module _ (names propositions : ℕ) (records : List ℕ) (k : ℕ) (good : badSt
   passes =
       let (rule, after-rule) = neither (leb (length rules) (ruleByte records k)) _ good in
       let (first, after-first) = neither (badIdentifier names propositions records k 2 _) _ after-rule in
-      let (second, conclusion) = neither (badIdentifier names propositions records k 6 _) _ after-first in
+      let (second, after-second) = neither (badIdentifier names propositions records k 6 _) _ after-first in
+      let (conclusion, _) = neither (badConclusion names propositions records k) _ after-second in
       record { rule = rule; first = first; second = second; conclusion = conclusion }
 
   pub known-rule : ruleByte records k < length rules

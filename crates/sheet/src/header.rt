@@ -37,7 +37,7 @@ const TOO_SHORT: Checked = Checked::Refused(Refusal {
 
 impl Sheet {
     // Document 01's limits: text bytes, names, code bytes, propositions, steps; bytes of a name, parameters of an atom,
-    // nesting of a proposition and of a tree.
+    // nesting of a proposition and of a tree; and the last column of a step.
     pub const TEXT_LIMIT: usize = 8192;
 
     pub const NAME_LIMIT: usize = 512;
@@ -55,6 +55,8 @@ impl Sheet {
     pub const PROPOSITION_NESTING_LIMIT: usize = 64;
 
     pub const TREE_NESTING_LIMIT: u16 = 256;
+
+    pub const COLUMN_LIMIT: usize = steps::COLUMN_LIMIT as usize;
 
     // The bytes of the header, of a pair of offset and length, and of a step.
     pub const HEADER_SIZE: usize = 12;

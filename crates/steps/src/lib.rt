@@ -6,15 +6,18 @@ ghost use mathlib.Core.Path.{_≡_};
 ghost use mathlib.Core.List.{List};
 ghost use lib.ListN.{length, getD};
 ghost use Rattle.definitions.specs.Outcome.{lowest, foundAt};
-ghost use Rattle.definitions.specs.Sheet.{stepSize, stepLimit, premissCount, stepNumber};
+ghost use Rattle.definitions.specs.Sheet.{stepSize, stepLimit, premissCount, stepNumber, column};
 ghost use Rattle.definitions.specs.Tree.{rules, Sorry, identifierCount, height, treeIn};
-ghost use Rattle.definitions.specs.Admission.{noName, notZero, badIdentifier, badPropIsTrue, badTypeJudgement, badConclusion};
+ghost use Rattle.definitions.specs.Admission.{noName, notZero, badIdentifier, badPropIsTrue, badTypeJudgement, badConclusion, badColumn};
 ghost use Rattle.definitions.specs.Admission.{badStep, treesLeft};
 ghost use Rattle.steps.specs.Records.{HasStep, HasSteps};
 ghost use Rattle.steps.specs.Tables.{TreeStart, SizeTable, FilledSizes, HeightTable, FilledHeights};
 
 // The bytes of a step.
-pub const STEP_SIZE: usize = 18;
+pub const STEP_SIZE: usize = 20;
+
+// The last column of the grid.
+pub const COLUMN_LIMIT: u16 = 4095;
 
 // How many identifiers a rule has, by its byte.
 const IDENTIFIER_COUNTS: [u8; 17] = [0, 0, 0, 0, 1, 0, 1, 0, 0, 2, 0, 1, 0, 0, 2, 0, 0];
@@ -82,6 +85,22 @@ fn bad_conclusion(records: &[u8], k: usize, names: usize, propositions: usize) -
     }
 }
 
+// The column that a step was drawn in: its last number.
+pub fn column(records: &[u8], k: usize) -> u16
+    requires { ⌜ HasStep (now records) k ⌝ }
+    ensures { λ r. ⌜ r ≡ column (now (records .entry)) k ⌝ }
+{
+    step_number(records, k, 18) as u16
+}
+
+// A step's column is out of range.
+fn bad_column(records: &[u8], k: usize) -> bool
+    requires { ⌜ HasStep (now records) k ⌝ }
+    ensures { λ r. ⌜ ((names propositions : ℕ) → r ≡ badColumn names propositions (now (records .entry)) k) ⌝ }
+{
+    COLUMN_LIMIT < column(records, k)
+}
+
 // How many identifiers the rule of a byte has.
 fn identifier_count(rule: usize) -> u8
     requires { ⌜ rule < length rules ⌝ }
@@ -90,7 +109,7 @@ fn identifier_count(rule: usize) -> u8
     IDENTIFIER_COUNTS[rule]
 }
 
-// A step's rule, kind, name or proposition number is out of range, or an unused field is not 0.
+// A step's rule, kind, name, proposition number or column is out of range, or an unused field is not 0.
 fn bad_step(records: &[u8], k: usize, names: usize, propositions: usize) -> bool
     requires { ⌜ HasStep (now records) k ⌝ }
     ensures { λ r. ⌜ r ≡ badStep names propositions (now (records .entry)) k ⌝ }
@@ -102,7 +121,7 @@ fn bad_step(records: &[u8], k: usize, names: usize, propositions: usize) -> bool
     let identifiers = identifier_count(rule);
     bad_identifier(records, k, 2, 1 <= identifiers, names)
         || (bad_identifier(records, k, 6, 2 <= identifiers, names)
-            || bad_conclusion(records, k, names, propositions))
+            || (bad_conclusion(records, k, names, propositions) || bad_column(records, k)))
 }
 
 // Refusal 9: the lowest of the steps that is bad.

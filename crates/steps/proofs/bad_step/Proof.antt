@@ -1,12 +1,15 @@
 -- The rule byte is tested first, since the rule says which identifiers the step has.
-use Prim.Native.Nat.{_*_}
-use mathlib.Core.Path.{refl, sym}
+use Prim.Native.Nat.{ℕ, _*_}
+use mathlib.Core.Path.{_≡_, refl, sym}
+use mathlib.Core.Bool.{Bool, _||_}
+use mathlib.Core.List.{List}
 use native.Mathlib.Omega.{arith}
+use lib.Dec.{leb}
 use borrow.Author.Tests.{le-leb, lt-leb}
 use borrow.Author.Needs.{needs}
 use Rattle.definitions.specs.Sheet.{stepSize, ruleByte}
 use Rattle.definitions.specs.Tree.{rules, ruleIn}
-use Rattle.definitions.specs.Admission.{identifiers, badStep}
+use Rattle.definitions.specs.Admission.{badIdentifier, badConclusion, badColumn, identifiers, badStep}
 use Rattle.steps.proofs.Either.{first-holds, second-decides}
 use Rattle.steps.proofs.bad_step.Statement.{statement}
 use Rattle.steps.proofs.bad_step.Tie as tie
@@ -42,28 +45,63 @@ bad-identifier-requires-2 c κs = search needs
 bad-conclusion-requires : tie.Need-bad-conclusion-requires
 bad-conclusion-requires c κs = search needs
 
+bad-column-requires : tie.Need-bad-column-requires
+bad-column-requires c κs = search needs
+
+-- What the tests from one on answer is what all of them do.
+module _ (names propositions : ℕ) (records : List ℕ) (k count : ℕ) where
+  unfoldable fromConclusion : Bool
+  fromConclusion = badConclusion names propositions records k || badColumn names propositions records k
+
+  unfoldable fromSecond : Bool
+  fromSecond = badIdentifier names propositions records k 6 (leb 2 count) || fromConclusion
+
+  unfoldable fromFirst : Bool
+  fromFirst = badIdentifier names propositions records k 2 (leb 1 count) || fromSecond
+
+-- the rule is known
+first-on : (c : tie.After-identifier-count) {r : Bool} →
+    let args = c .before .before .before .before .args in
+    r ≡ fromFirst (args .names) (args .propositions) (args .records .now) (args .k) (c .identifier-count .result)
+    → r ≡ badStep (args .names) (args .propositions) (args .records .now) (args .k)
+unfolding fromFirst fromSecond fromConclusion badStep identifiers ruleIn ruleByte stepSize rules
+first-on c e = rw (← c .identifier-count .ensures) (second-decides refl (lt-leb _ _ (c .before .if1 .left)) e)
+
+-- the first identifier is good
+second-on : (c : tie.Else2) {r : Bool} →
+    let counted = c .before .before in
+    let args = counted .before .before .before .before .args in
+    r ≡ fromSecond (args .names) (args .propositions) (args .records .now) (args .k) (counted .identifier-count .result)
+    → r ≡ badStep (args .names) (args .propositions) (args .records .now) (args .k)
+unfolding fromFirst
+second-on c e = first-on (c .before .before) (second-decides (c .before .bad-identifier .ensures _) (c .if2 .left) e)
+
+-- both are
+conclusion-on : (c : tie.Else3) {r : Bool} →
+    let counted = c .before .before .before .before in
+    let args = counted .before .before .before .before .args in
+    r ≡ fromConclusion (args .names) (args .propositions) (args .records .now) (args .k) (counted .identifier-count .result)
+    → r ≡ badStep (args .names) (args .propositions) (args .records .now) (args .k)
+unfolding fromSecond
+conclusion-on c e = second-on (c .before .before) (second-decides (c .before .bad-identifier2 .ensures _) (c .if3 .left) e)
+
 returns-2 : tie.Need-returns-2
-unfolding badStep identifiers ruleIn ruleByte stepSize rules
-returns-2 c =
-    rw (← c .before .before .identifier-count .ensures)
-    (second-decides refl (lt-leb _ _ (c .before .before .before .if1 .left))
-    (first-holds _ (c .before .bad-identifier .ensures _) (c .if2 .taken)))
+unfolding fromFirst
+returns-2 c = first-on (c .before .before) (first-holds _ (c .before .bad-identifier .ensures _) (c .if2 .taken))
 
 returns-3 : tie.Need-returns-3
-unfolding badStep identifiers ruleIn ruleByte stepSize rules
-returns-3 c =
-    rw (← c .before .before .before .before .identifier-count .ensures)
-    (second-decides refl (lt-leb _ _ (c .before .before .before .before .before .if1 .left))
-    (second-decides (c .before .before .before .bad-identifier .ensures _) (c .before .before .if2 .left)
-    (first-holds _ (c .before .bad-identifier2 .ensures _) (c .if3 .taken))))
+unfolding fromSecond
+returns-3 c = second-on (c .before .before) (first-holds _ (c .before .bad-identifier2 .ensures _) (c .if3 .taken))
 
 returns-4 : tie.Need-returns-4
-unfolding badStep identifiers ruleIn ruleByte stepSize rules
-returns-4 c =
-    rw (← c .before .before .before .before .before .identifier-count .ensures)
-    (second-decides refl (lt-leb _ _ (c .before .before .before .before .before .before .if1 .left))
-    (second-decides (c .before .before .before .before .bad-identifier .ensures _) (c .before .before .before .if2 .left)
-    (second-decides (c .before .before .bad-identifier2 .ensures _) (c .before .if3 .left) (c .bad-conclusion .ensures))))
+unfolding fromConclusion
+returns-4 c = conclusion-on (c .before .before) (first-holds _ (c .before .bad-conclusion .ensures) (c .if4 .taken))
+
+returns-5 : tie.Need-returns-5
+unfolding fromConclusion
+returns-5 c =
+    conclusion-on (c .before .before .before)
+    (second-decides (c .before .before .bad-conclusion .ensures) (c .before .if4 .left) (c .bad-column .ensures _ _))
 
 pub bad-step-spec : {M : Type 1} → statement M
 bad-step-spec =
@@ -77,6 +115,8 @@ bad-step-spec =
     bad-identifier-requires
     bad-identifier-requires-2
     bad-conclusion-requires
+    bad-column-requires
     returns-2
     returns-3
-    returns-4)
+    returns-4
+    returns-5)

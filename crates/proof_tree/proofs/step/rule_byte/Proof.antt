@@ -15,7 +15,8 @@ unfolding stepSize
 shared-slice-read-result c = omega arith
 
 cast-result : tie.Need-cast-result
-cast-result c = omega (arith, c .shared-slice-known .given (18 * c .before .args .k))
+unfolding stepSize
+cast-result c = omega (arith, c .shared-slice-known .given (stepSize * c .before .args .k))
 
 returns : tie.Need-returns
 unfolding ruleByte stepSize

@@ -1,0 +1,16 @@
+-- A column is out of range where it passes the last one.
+use borrow.Author.Needs.{needs}
+use Rattle.definitions.specs.Sheet.{columnLimit}
+use Rattle.definitions.specs.Admission.{badColumn}
+use Rattle.steps.proofs.bad_column.Statement.{statement}
+use Rattle.steps.proofs.bad_column.Tie as tie
+
+column-requires : tie.Need-column-requires
+column-requires c κs = search needs
+
+returns : tie.Need-returns
+unfolding badColumn columnLimit
+returns c names propositions = rw (c .column .ensures)
+
+pub bad-column-spec : {M : Type 1} → statement M
+bad-column-spec = tie.close (tie.spec column-requires returns)
