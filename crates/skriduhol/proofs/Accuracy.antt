@@ -16,49 +16,48 @@ use Rattle.definitions.proofs.Renaming.{inferringTally-same}
 use Rattle.definitions.proofs.Labelling.{labels-counted}
 use Rattle.definitions.proofs.Conventions.{deduced-shadowing}
 use Rattle.definitions.proofs.Accuracy.{accuracy}
-use Rattle.output.specs.declared.Written.{Written}
-use Rattle.output.specs.Written.{Fills}
-use Rattle.sheet_term.specs.declared.Counted.{Counted}
-use Rattle.sheet_term.specs.declared.Counted.the-variants.{Labels}
-use Rattle.sheet_term.specs.Counted.{countedOf}
+use Rattle.skriduhol.specs.declared.Filled.{Filled}
+use Rattle.skriduhol.specs.declared.Count.{Count}
+use Rattle.skriduhol.specs.declared.Count.the-variants.{Labels}
+use Rattle.skriduhol.specs.Located.{FillsOf, countOf}
 use Rattle.skriduhol.specs.Accurate.{HandsOver, Counts, AccurateText, AccurateCount, AllThree}
 
 -- Of one accuracy statement:
 module _ {s : List ℕ} {d : Deduced shadowing s} (a : Accurate s d) where
-  hands-over : (style : Style) {before after : List ℕ} {r : Written}
-      → Fills (textAnswer s style (length before)) before after r → HandsOver a style before after r
+  hands-over : (style : Style) {before after : List ℕ} {r : Filled}
+      → FillsOf s (textAnswer s style (length before)) before after r → HandsOver a style before after r
   hands-over style {before} fills = record { handed-over = λ fits. rw (a .texts style (length before) fits) at fills }
 
-  counts : {r : Counted} → r ≡ countedOf (labelCount s) → Counts a r
-  unfolding countedOf
+  counts : {r : Count} → r ≡ countOf s (labelCount s) → Counts a r
+  unfolding countOf
   counts {r} e =
-      let of-places : r ≡ Labels (total (inferringTally (d .root) checking)) = e ∙ ap countedOf (a .count) in
+      let of-places : r ≡ Labels (total (inferringTally (d .root) checking)) = e ∙ ap (countOf s) (a .count) in
       record {
         of-term = of-places ∙ ap Labels (sym (labels-counted (a .labels) ∙ ap total (inferringTally-same (nameOf s) (d .root) checking)));
         of-places = of-places;
       }
 
 -- the clause of a text, from what it fills
-pub accurate-text : (style : Style) (s : List ℕ) {before after : List ℕ} {r : Written}
-    → Fills (textAnswer s style (length before)) before after r → AccurateText style s before after r
+pub accurate-text : (style : Style) (s : List ℕ) {before after : List ℕ} {r : Filled}
+    → FillsOf s (textAnswer s style (length before)) before after r → AccurateText style s before after r
 accurate-text style s fills =
     record { accurate = λ d. record { statement = accuracy s d; text = hands-over (accuracy s d) style fills } }
 
 -- the clause of the label count, from what it is
-pub accurate-count : (s : List ℕ) {r : Counted} → r ≡ countedOf (labelCount s) → AccurateCount s r
+pub accurate-count : (s : List ℕ) {r : Count} → r ≡ countOf s (labelCount s) → AccurateCount s r
 accurate-count s e = record { accurate = λ d. record { statement = accuracy s d; count = counts (accuracy s d) e } }
 
 -- Of one sheet, whatever memories were lent, by the contracts of the three operations:
 module _
     (s : List ℕ)
     {plain-before plain-after : List ℕ}
-    {plain-result : Written}
-    (plain : Fills (textAnswer s Plain (length plain-before)) plain-before plain-after plain-result)
+    {plain-result : Filled}
+    (plain : FillsOf s (textAnswer s Plain (length plain-before)) plain-before plain-after plain-result)
     {strict-before strict-after : List ℕ}
-    {strict-result : Written}
-    (strict : Fills (textAnswer s Strict (length strict-before)) strict-before strict-after strict-result)
-    {count-result : Counted}
-    (count : count-result ≡ countedOf (labelCount s))
+    {strict-result : Filled}
+    (strict : FillsOf s (textAnswer s Strict (length strict-before)) strict-before strict-after strict-result)
+    {count-result : Count}
+    (count : count-result ≡ countOf s (labelCount s))
   where
     pub all-three : (d : Deduced shadowing s)
         → AllThree s d plain-before plain-after plain-result strict-before strict-after strict-result count-result

@@ -9,9 +9,9 @@ use Rattle.definitions.specs.Outcome.{accepted}
 use Rattle.definitions.specs.Answers.{boardOutput, labelCount}
 use Rattle.definitions.specs.Drawings.{second, twoLabels}
 use Rattle.definitions.proofs.Everything.{everything}
-use Rattle.sheet_term.specs.declared.Counted.{Counted}
-use Rattle.sheet_term.specs.declared.Counted.the-variants.{Labels}
-use Rattle.sheet_term.specs.Counted.{countedOf}
+use Rattle.skriduhol.specs.declared.Count.{Count}
+use Rattle.skriduhol.specs.declared.Count.the-variants.{Labels}
+use Rattle.skriduhol.specs.Located.{countOf}
 use Rattle.skriduhol.specs.Board.{Prints}
 
 -- what is handed over, once the output is known as a text
@@ -39,6 +39,6 @@ two-labels : labelCount twoLabels ≡ accepted 2
 unfolding everything
 two-labels = refl
 
-pub two-labels-counted : {r : Counted} → r ≡ countedOf (labelCount twoLabels) → r ≡ Labels 2
-unfolding countedOf
-two-labels-counted e = e ∙ ap countedOf two-labels
+pub two-labels-counted : {r : Count} → r ≡ countOf twoLabels (labelCount twoLabels) → r ≡ Labels 2
+unfolding countOf
+two-labels-counted e = e ∙ ap (countOf twoLabels) two-labels

@@ -1,3 +1,4 @@
+pub mod Located
 pub mod Texts
 pub mod Lists
 pub mod Accuracy

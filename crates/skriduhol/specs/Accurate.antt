@@ -13,40 +13,40 @@ use Rattle.definitions.specs.Display.{displayTerm}
 use Rattle.definitions.specs.Labels.{inferringTally, total}
 use Rattle.definitions.specs.Sound.{Deduced, shadowing}
 use Rattle.definitions.specs.Accuracy.{Accurate}
-use Rattle.output.specs.declared.Written.{Written}
-use Rattle.output.specs.Written.{Fills}
-use Rattle.sheet_term.specs.declared.Counted.{Counted}
-use Rattle.sheet_term.specs.declared.Counted.the-variants.{Labels}
+use Rattle.skriduhol.specs.declared.Filled.{Filled}
+use Rattle.skriduhol.specs.declared.Count.{Count}
+use Rattle.skriduhol.specs.declared.Count.the-variants.{Labels}
+use Rattle.skriduhol.specs.Located.{FillsOf}
 
 -- An accuracy statement has the sheet's term, which the checking rules accept for the root's proposition and which has one label
 -- for each injection, abort, sorry and function in an inferring place and none elsewhere. Of that term:
 module _ {s : List ℕ} {d : Deduced shadowing s} (a : Accurate s d) where
   -- in enough room the memory begins with the heading and the term as printed, and after them it is as it was
-  pub record HandsOver (style : Style) (before after : List ℕ) (r : Written) : Type 0 where
+  pub record HandsOver (style : Style) (before after : List ℕ) (r : Filled) : Type 0 where
     pub handed-over : length (a .heading ++ displayTerm style (a .term)) ≤ length before
-        → Fills (accepted (a .heading ++ displayTerm style (a .term))) before after r
+        → FillsOf s (accepted (a .heading ++ displayTerm style (a .term))) before after r
 
   -- its labels are counted: injections + aborts + sorries + functions over the steps in inferring places
-  pub record Counts (r : Counted) : Type 0 where
+  pub record Counts (r : Count) : Type 0 where
     pub of-term : r ≡ Labels (annotationCount (a .term))
     pub of-places : r ≡ Labels (total (inferringTally (d .root) checking))
 
 -- a text of a sound sheet, plain or strict, is that of an accuracy statement
-pub record TextOf (style : Style) (s : List ℕ) (d : Deduced shadowing s) (before after : List ℕ) (r : Written) : Type 0 where
+pub record TextOf (style : Style) (s : List ℕ) (d : Deduced shadowing s) (before after : List ℕ) (r : Filled) : Type 0 where
   pub statement : Accurate s d
   pub text : HandsOver statement style before after r
 
 -- a label count of a sound sheet is that of an accuracy statement
-pub record CountOf (s : List ℕ) (d : Deduced shadowing s) (r : Counted) : Type 0 where
+pub record CountOf (s : List ℕ) (d : Deduced shadowing s) (r : Count) : Type 0 where
   pub statement : Accurate s d
   pub count : Counts statement r
 
 -- so it is of every sound sheet: the clause of `plain_text` and `strict_text`
-pub record AccurateText (style : Style) (s before after : List ℕ) (r : Written) : Type 0 where
+pub record AccurateText (style : Style) (s before after : List ℕ) (r : Filled) : Type 0 where
   pub accurate : (d : Deduced shadowing s) → TextOf style s d before after r
 
 -- so it is of every sound sheet: the clause of `label_count`
-pub record AccurateCount (s : List ℕ) (r : Counted) : Type 0 where
+pub record AccurateCount (s : List ℕ) (r : Count) : Type 0 where
   pub accurate : (d : Deduced shadowing s) → CountOf s d r
 
 -- the plain text, the strict text and the label count of a sound sheet, all of one statement
@@ -54,10 +54,10 @@ pub record AllThree
     (s : List ℕ)
     (d : Deduced shadowing s)
     (plain-before plain-after : List ℕ)
-    (plain-result : Written)
+    (plain-result : Filled)
     (strict-before strict-after : List ℕ)
-    (strict-result : Written)
-    (count-result : Counted)
+    (strict-result : Filled)
+    (count-result : Count)
     : Type 0 where
   pub statement : Accurate s d
   pub plain : HandsOver statement Plain plain-before plain-after plain-result

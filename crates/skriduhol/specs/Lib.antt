@@ -1,3 +1,4 @@
+pub mod Located
 pub mod Accurate
 pub mod Lists
 pub mod Board

@@ -1,12 +1,12 @@
 // The public operations, for every sequence of bytes and every room: each equals a definition, and a refusal leaves the lent memory
 // as it was, save that the board's output is then the refusal's line.
 use alpha_eq::Answer;
+use definitions::Located;
 use definitions::Refusal;
 use definitions::Style;
+use located::locate;
+use located::put_refusal;
 use output::Written;
-use output::put;
-use output::put_all;
-use output::put_decimal;
 use proof_term_lists::put_list;
 use sheet::Sheet;
 use sheet::code_bytes;
@@ -16,17 +16,50 @@ use sheet_term::TERM_NUMBERS;
 use sheet_term::sheet_term;
 use text::text;
 ghost use mathlib.Core.Path.{_≡_};
+ghost use mathlib.Core.List.{List};
+ghost use Prim.Native.Nat.{ℕ};
 ghost use lib.ListN.{length};
+ghost use Rattle.definitions.specs.Outcome.{Outcome};
 ghost use Rattle.definitions.specs.declared.Style.the-variants.{Plain, Strict};
-ghost use Rattle.definitions.specs.Answers.{textAnswer, atomsAnswer, datatypesAnswer, labelCount, comparison, refusalLine, boardOutput};
-ghost use Rattle.output.specs.Written.{Fills};
-ghost use Rattle.alpha_eq.specs.Comparing.{outcomeOf};
+ghost use Rattle.definitions.specs.Answers.{textAnswer, atomsAnswer, datatypesAnswer, labelCount, comparison, boardOutput};
+ghost use Rattle.output.specs.Written.{writtenOf, Fills};
 ghost use Rattle.sheet.proofs.Admitted.{AcceptedSheet};
 ghost use Rattle.sheet_term.specs.Held.{HeldTerm};
-ghost use Rattle.sheet_term.specs.Counted.{countedOf};
+ghost use Rattle.located.specs.AfterHeader.{AfterHeader};
 ghost use Rattle.skriduhol.specs.Accurate.{AccurateText, AccurateCount};
 ghost use Rattle.skriduhol.specs.Lists.{listAnswer};
+ghost use Rattle.skriduhol.specs.Located.{filledOf, FillsOf, countOf, verdictOf};
 ghost use Rattle.skriduhol.specs.Board.{Prints};
+
+// The length of an answer in lent memory, or a refusal with its column.
+pub enum Filled {
+    Length(usize),
+    Refused(Located),
+}
+
+// A label count, or a refusal with its column.
+pub enum Count {
+    Labels(usize),
+    Refused(Located),
+}
+
+// A comparison, or a refusal with its column.
+pub enum Verdict {
+    Yes,
+    No,
+    Refused(Located),
+}
+
+// An answer in lent memory as it is handed back.
+fn locate_written(s: &[u8], written: Written) -> Filled
+    requires { ⌜ ((r : Refusal) → written ≡ Written.Refused r → AfterHeader (now s) r) ⌝ }
+    ensures { λ r. ⌜ ((o : Outcome (List ℕ)) → written ≡ writtenOf o → r ≡ filledOf (now (s .entry)) o) ⌝ }
+{
+    match written {
+        Written::Length(length) => Filled::Length(length),
+        Written::Refused(refusal) => Filled::Refused(locate(s, refusal)),
+    }
+}
 
 // The text in a style: the sheet's term, and then its declarations and the term as printed.
 fn styled_text(s: &[u8], style: Style, out: &mut [u8]) -> Written
@@ -41,19 +74,21 @@ fn styled_text(s: &[u8], style: Style, out: &mut [u8]) -> Written
 }
 
 // The plain text.
-pub fn plain_text(s: &[u8], out: &mut [u8]) -> Written
-    ensures { λ r. ⌜ Fills (textAnswer (now (s .entry)) Plain (length (now (out .entry)))) (now (out .entry)) (now (out .exit)) r ⌝ }
+pub fn plain_text(s: &[u8], out: &mut [u8]) -> Filled
+    ensures { λ r. ⌜ FillsOf (now (s .entry)) (textAnswer (now (s .entry)) Plain (length (now (out .entry)))) (now (out .entry)) (now (out .exit)) r ⌝ }
     ensures { λ r. ⌜ AccurateText Plain (now (s .entry)) (now (out .entry)) (now (out .exit)) r ⌝ }
 {
-    styled_text(s, Style::Plain, out)
+    let written = styled_text(s, Style::Plain, out);
+    locate_written(s, written)
 }
 
 // The strict text.
-pub fn strict_text(s: &[u8], out: &mut [u8]) -> Written
-    ensures { λ r. ⌜ Fills (textAnswer (now (s .entry)) Strict (length (now (out .entry)))) (now (out .entry)) (now (out .exit)) r ⌝ }
+pub fn strict_text(s: &[u8], out: &mut [u8]) -> Filled
+    ensures { λ r. ⌜ FillsOf (now (s .entry)) (textAnswer (now (s .entry)) Strict (length (now (out .entry)))) (now (out .entry)) (now (out .exit)) r ⌝ }
     ensures { λ r. ⌜ AccurateText Strict (now (s .entry)) (now (out .entry)) (now (out .exit)) r ⌝ }
 {
-    styled_text(s, Style::Strict, out)
+    let written = styled_text(s, Style::Strict, out);
+    locate_written(s, written)
 }
 
 // A list of the sheet's term in lent memory: measured by a dry run, and then written where it fits.
@@ -86,55 +121,55 @@ fn label_list(s: &[u8], datatypes: bool, out: &mut [u16]) -> Written
 }
 
 // The atom list: the number of a name and a parameter count for each atom.
-pub fn atom_list(s: &[u8], out: &mut [u16]) -> Written
-    ensures { λ r. ⌜ Fills (atomsAnswer (now (s .entry)) (length (now (out .entry)))) (now (out .entry)) (now (out .exit)) r ⌝ }
+pub fn atom_list(s: &[u8], out: &mut [u16]) -> Filled
+    ensures { λ r. ⌜ FillsOf (now (s .entry)) (atomsAnswer (now (s .entry)) (length (now (out .entry)))) (now (out .entry)) (now (out .exit)) r ⌝ }
 {
-    label_list(s, false, out)
+    let written = label_list(s, false, out);
+    locate_written(s, written)
 }
 
 // The datatype list: the number of a name for each datatype.
-pub fn datatype_list(s: &[u8], out: &mut [u16]) -> Written
-    ensures { λ r. ⌜ Fills (datatypesAnswer (now (s .entry)) (length (now (out .entry)))) (now (out .entry)) (now (out .exit)) r ⌝ }
+pub fn datatype_list(s: &[u8], out: &mut [u16]) -> Filled
+    ensures { λ r. ⌜ FillsOf (now (s .entry)) (datatypesAnswer (now (s .entry)) (length (now (out .entry)))) (now (out .entry)) (now (out .exit)) r ⌝ }
 {
-    label_list(s, true, out)
+    let written = label_list(s, true, out);
+    locate_written(s, written)
 }
 
 // The label count.
-pub fn label_count(s: &[u8]) -> Counted
-    ensures { λ r. ⌜ r ≡ countedOf (labelCount (now (s .entry))) ⌝ }
+pub fn label_count(s: &[u8]) -> Count
+    ensures { λ r. ⌜ r ≡ countOf (now (s .entry)) (labelCount (now (s .entry))) ⌝ }
     ensures { λ r. ⌜ AccurateCount (now (s .entry)) r ⌝ }
 {
-    sheet_term::label_count(s)
+    let counted = sheet_term::label_count(s);
+    match counted {
+        Counted::Labels(labels) => Count::Labels(labels),
+        Counted::Refused(refusal) => Count::Refused(locate(s, refusal)),
+    }
 }
 
 // The comparison of two steps' conclusions.
-pub fn compare(s: &[u8], i: usize, j: usize) -> Answer
-    ensures { λ r. ⌜ outcomeOf r ≡ comparison (now (s .entry)) i j ⌝ }
+pub fn compare(s: &[u8], i: usize, j: usize) -> Verdict
+    ensures { λ r. ⌜ r ≡ verdictOf (now (s .entry)) (comparison (now (s .entry)) i j) ⌝ }
 {
-    comparison::compare(s, i, j)
+    let answer = comparison::compare(s, i, j);
+    match answer {
+        Answer::Yes => Verdict::Yes,
+        Answer::No => Verdict::No,
+        Answer::Refused(refusal) => Verdict::Refused(locate(s, refusal)),
+    }
 }
 
 // The bytes that the board program lends.
 pub const BOARD_ROOM: usize = 65536;
 
-// `refused R at P` and a newline.
-fn put_refusal(out: &mut [u8; BOARD_ROOM], refusal: Refusal) -> usize
-    ensures { λ r. ⌜ Prints (refusalLine refusal) (now (out .entry)) (now (out .exit)) r ⌝ }
-{
-    let number = put_all(out, 0, b"refused ", true);
-    let word = put_decimal(out, number, refusal.number as u64, true);
-    let place = put_all(out, word, b" at ", true);
-    let line = put_decimal(out, place, refusal.place as u64, true);
-    put(out, line, b'\n', true)
-}
-
 // What the board program prints: the plain text, or the refusal's line.
 pub fn board_output(s: &[u8], out: &mut [u8; BOARD_ROOM]) -> usize
     ensures { λ r. ⌜ Prints (boardOutput (now (s .entry))) (now (out .entry)) (now (out .exit)) r ⌝ }
 {
-    let written = plain_text(s, out);
-    match written {
-        Written::Length(length) => length,
-        Written::Refused(refusal) => put_refusal(out, refusal),
+    let filled = plain_text(s, out);
+    match filled {
+        Filled::Length(length) => length,
+        Filled::Refused(located) => put_refusal(out, located),
     }
 }

@@ -1,0 +1,1 @@
+// Ticket 6's laws of the definitions on columns; no function.

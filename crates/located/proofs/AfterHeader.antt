@@ -1,0 +1,71 @@
+-- Refusals 1 to 3 name no step, so that the header is right wherever a refusal does.
+use Prim.Native.Nat.{ℕ, _≤_}
+use mathlib.Core.Path.{_≡_, refl, sym, _∙_}
+use mathlib.Core.Bool.{Bool, true, false}
+use mathlib.Core.List.{List}
+use native.Mathlib.Omega.{arith}
+use borrow.Author.Tests.{lt-leb}
+use Rattle.definitions.specs.declared.Refusal.{Refusal}
+use Rattle.definitions.specs.declared.Style.{Style}
+use Rattle.definitions.specs.Outcome.{Outcome, refused, accepted, refuse, _>>=_, mapOutcome, refuseIf}
+use Rattle.definitions.specs.Admission.{admitted}
+use Rattle.definitions.specs.Answers.{namesStep, inRoom, sheetTerm, namedTerm, sheetText, textAnswer, atomsAnswer, datatypesAnswer, labelCount, comparison}
+use Rattle.sheet.specs.Header.{headerOf, HasHeader}
+use Rattle.sheet.specs.Checks.{shortCheck, headerChecks}
+use Rattle.sheet.proofs.Order.{in-stages, header-given}
+use Rattle.located.specs.AfterHeader.{AfterHeader}
+
+same-refusal : {A : Type 0} {x r : Refusal} → _≡_ {A = Outcome A} (refused x) (refused r) → x ≡ r
+same-refusal e = cc
+
+nameless : (number place : ℕ) → number ≤ 3 → namesStep (record { number = number; place = place }) ≡ false
+unfolding namesStep
+nameless number place h = rw (lt-leb 9 number (omega arith))
+
+-- the three tests, by what they come to
+header-names-none : (short out wrong : Bool) {r : Refusal} →
+    (do
+      _ ← refuseIf short 1 0
+      _ ← refuseIf out 2 0
+      refuseIf wrong 3 0) ≡ refused r
+    → namesStep r ≡ false
+unfolding refuseIf refuse _>>=_
+header-names-none true out wrong e = rw (← same-refusal e) (nameless 1 0 (omega arith))
+header-names-none false true wrong e = rw (← same-refusal e) (nameless 2 0 (omega arith))
+header-names-none false false true e = rw (← same-refusal e) (nameless 3 0 (omega arith))
+header-names-none false false false e = absurd (let z : _≡_ {A = ℕ} 0 1 = cc in omega arith)
+
+-- Of a sheet's bytes:
+module _ (s : List ℕ) where
+  checked-header : {r : Refusal} (o : Outcome (Unit {0})) → headerChecks s ≡ o → ((x : Refusal) → admitted s ≡ refused x → x ≡ r) → namesStep r ≡ true
+      → HasHeader s (headerOf s)
+  unfolding headerChecks shortCheck _>>=_
+  checked-header (accepted a) e only names = header-given s refl e
+  checked-header (refused x) e only names =
+      let is : x ≡ _ = only x (sym (in-stages s) ∙ rw e) in
+      let none = header-names-none _ _ _ e in
+      absurd (let z : _≡_ {A = ℕ} 0 1 = cc in omega arith)
+
+  -- the refusal of an answer that is the admission's wherever that refuses
+  after-header : {r : Refusal} → ((x : Refusal) → admitted s ≡ refused x → x ≡ r) → AfterHeader s r
+  after-header only = record { header = λ names. checked-header (headerChecks s) refl only names }
+
+  pub text-after-header : (style : Style) (room : ℕ) {r : Refusal} → textAnswer s style room ≡ refused r → AfterHeader s r
+  unfolding textAnswer inRoom sheetText namedTerm sheetTerm mapOutcome _>>=_
+  text-after-header style room e = after-header (λ x a. same-refusal (rw a at e))
+
+  pub atoms-after-header : (room : ℕ) {r : Refusal} → atomsAnswer s room ≡ refused r → AfterHeader s r
+  unfolding atomsAnswer inRoom sheetTerm mapOutcome _>>=_
+  atoms-after-header room e = after-header (λ x a. same-refusal (rw a at e))
+
+  pub datatypes-after-header : (room : ℕ) {r : Refusal} → datatypesAnswer s room ≡ refused r → AfterHeader s r
+  unfolding datatypesAnswer inRoom sheetTerm mapOutcome _>>=_
+  datatypes-after-header room e = after-header (λ x a. same-refusal (rw a at e))
+
+  pub count-after-header : {r : Refusal} → labelCount s ≡ refused r → AfterHeader s r
+  unfolding labelCount sheetTerm mapOutcome _>>=_
+  count-after-header e = after-header (λ x a. same-refusal (rw a at e))
+
+  pub comparison-after-header : (i j : ℕ) {r : Refusal} → comparison s i j ≡ refused r → AfterHeader s r
+  unfolding comparison _>>=_
+  comparison-after-header i j e = after-header (λ x a. same-refusal (rw a at e))

@@ -1,0 +1,3 @@
+pub mod AfterHeader
+pub mod Columns
+pub mod Lines
