@@ -1,10 +1,11 @@
 // The public operations for callers in C and in Rust. A slice is a pointer and a length there. Each result is 0 for an accepted
-// answer or the refusal's number, and the value is what was accepted, as one number, or the refusal's place.
-use alpha_eq::Answer;
-use definitions::Refusal;
-use output::Written;
-use sheet_term::Counted;
+// answer or the refusal's number, and the value is what was accepted, as one number, or the refusal's place. The column is
+// that of the step that refusals 9 to 15 name, else 0.
+use definitions::Located;
 use skriduhol::BOARD_ROOM;
+use skriduhol::Count;
+use skriduhol::Filled;
+use skriduhol::Verdict;
 ghost use mathlib.Core.Path.{_≡_};
 ghost use mathlib.Core.List.{List};
 ghost use Prim.Native.Nat.{ℕ};
@@ -12,102 +13,133 @@ ghost use lib.ListN.{length};
 ghost use Rattle.definitions.specs.Outcome.{Outcome};
 ghost use Rattle.definitions.specs.Answers.{textAnswer, atomsAnswer, datatypesAnswer, labelCount, comparison, boardOutput};
 ghost use Rattle.definitions.specs.declared.Style.the-variants.{Plain, Strict};
-ghost use Rattle.output.specs.Written.{writtenOf};
-ghost use Rattle.sheet_term.specs.Counted.{countedOf};
-ghost use Rattle.alpha_eq.specs.Comparing.{outcomeOf};
+ghost use Rattle.skriduhol.specs.Located.{filledOf};
 ghost use Rattle.skriduhol.specs.Board.{Prints};
-ghost use Rattle.skriduhol_c.specs.Handed.{Hands, HandsFilled, yesOrNo};
+ghost use Rattle.skriduhol_c.specs.Handed.{Hands, HandsFilled, HandsRefusal, yesOrNo};
 
-// A refusal's place is the value.
-fn hand_refusal(refusal: Refusal, value: &mut usize) -> u8
-    ensures { λ r. ⌜ r ≡ refusal .number ⌝ }
-    ensures { λ _. ⌜ now (value .exit) ≡ refusal .place ⌝ }
+// A refusal's place is the value, and its column the column.
+fn hand_refusal(located: Located, value: &mut usize, column: &mut usize) -> u8
+    ensures { λ r. ⌜ HandsRefusal located (now (value .exit)) (now (column .exit)) r ⌝ }
 {
+    let refusal = located.refusal;
     *value = refusal.place as usize;
+    *column = located.column as usize;
     refusal.number
 }
 
 // The length of an answer in lent memory is the value.
-fn hand_written(written: Written, value: &mut usize) -> u8
-    ensures { λ r. ⌜ ((o : Outcome (List ℕ)) → written ≡ writtenOf o → Hands length o (now (value .exit)) r) ⌝ }
+fn hand_filled(filled: Filled, value: &mut usize, column: &mut usize) -> u8
+    ensures { λ r. ⌜ ((s : List ℕ) (o : Outcome (List ℕ)) → filled ≡ filledOf s o → Hands length s o (now (value .exit)) (now (column .exit)) r) ⌝ }
 {
-    match written {
-        Written::Length(length) => {
+    match filled {
+        Filled::Length(length) => {
             *value = length;
+            *column = 0;
             return 0;
         }
-        Written::Refused(refusal) => {
-            return hand_refusal(refusal, value);
+        Filled::Refused(located) => {
+            return hand_refusal(located, value, column);
         }
     }
 }
 
 // The plain text.
 #[no_mangle]
-pub extern "C" fn skriduhol_plain_text(sheet: &[u8], out: &mut [u8], value: &mut usize) -> u8
-    ensures { λ r. ⌜ HandsFilled (textAnswer (now (sheet .entry)) Plain (length (now (out .entry)))) (now (out .entry)) (now (out .exit)) (now (value .exit)) r ⌝ }
+pub extern "C" fn skriduhol_plain_text(
+    sheet: &[u8],
+    out: &mut [u8],
+    value: &mut usize,
+    column: &mut usize,
+) -> u8
+    ensures { λ r. ⌜ HandsFilled (λ s. textAnswer s Plain) (now (sheet .entry)) (now (out .entry)) (now (out .exit))
+        (now (value .exit)) (now (column .exit)) r ⌝ }
 {
-    hand_written(skriduhol::plain_text(sheet, out), value)
+    hand_filled(skriduhol::plain_text(sheet, out), value, column)
 }
 
 // The strict text.
 #[no_mangle]
-pub extern "C" fn skriduhol_strict_text(sheet: &[u8], out: &mut [u8], value: &mut usize) -> u8
-    ensures { λ r. ⌜ HandsFilled (textAnswer (now (sheet .entry)) Strict (length (now (out .entry)))) (now (out .entry)) (now (out .exit)) (now (value .exit)) r ⌝ }
+pub extern "C" fn skriduhol_strict_text(
+    sheet: &[u8],
+    out: &mut [u8],
+    value: &mut usize,
+    column: &mut usize,
+) -> u8
+    ensures { λ r. ⌜ HandsFilled (λ s. textAnswer s Strict) (now (sheet .entry)) (now (out .entry)) (now (out .exit))
+        (now (value .exit)) (now (column .exit)) r ⌝ }
 {
-    hand_written(skriduhol::strict_text(sheet, out), value)
+    hand_filled(skriduhol::strict_text(sheet, out), value, column)
 }
 
 // The atom list.
 #[no_mangle]
-pub extern "C" fn skriduhol_atom_list(sheet: &[u8], out: &mut [u16], value: &mut usize) -> u8
-    ensures { λ r. ⌜ HandsFilled (atomsAnswer (now (sheet .entry)) (length (now (out .entry)))) (now (out .entry)) (now (out .exit)) (now (value .exit)) r ⌝ }
+pub extern "C" fn skriduhol_atom_list(
+    sheet: &[u8],
+    out: &mut [u16],
+    value: &mut usize,
+    column: &mut usize,
+) -> u8
+    ensures { λ r. ⌜ HandsFilled atomsAnswer (now (sheet .entry)) (now (out .entry)) (now (out .exit)) (now (value .exit)) (now (column .exit)) r ⌝ }
 {
-    hand_written(skriduhol::atom_list(sheet, out), value)
+    hand_filled(skriduhol::atom_list(sheet, out), value, column)
 }
 
 // The datatype list.
 #[no_mangle]
-pub extern "C" fn skriduhol_datatype_list(sheet: &[u8], out: &mut [u16], value: &mut usize) -> u8
-    ensures { λ r. ⌜ HandsFilled (datatypesAnswer (now (sheet .entry)) (length (now (out .entry)))) (now (out .entry)) (now (out .exit)) (now (value .exit)) r ⌝ }
+pub extern "C" fn skriduhol_datatype_list(
+    sheet: &[u8],
+    out: &mut [u16],
+    value: &mut usize,
+    column: &mut usize,
+) -> u8
+    ensures { λ r. ⌜ HandsFilled datatypesAnswer (now (sheet .entry)) (now (out .entry)) (now (out .exit)) (now (value .exit)) (now (column .exit)) r ⌝ }
 {
-    hand_written(skriduhol::datatype_list(sheet, out), value)
+    hand_filled(skriduhol::datatype_list(sheet, out), value, column)
 }
 
 // The label count.
 #[no_mangle]
-pub extern "C" fn skriduhol_label_count(sheet: &[u8], value: &mut usize) -> u8
-    ensures { λ r. ⌜ Hands (λ (n : ℕ). n) (labelCount (now (sheet .entry))) (now (value .exit)) r ⌝ }
+pub extern "C" fn skriduhol_label_count(sheet: &[u8], value: &mut usize, column: &mut usize) -> u8
+    ensures { λ r. ⌜ Hands (λ (n : ℕ). n) (now (sheet .entry)) (labelCount (now (sheet .entry))) (now (value .exit)) (now (column .exit)) r ⌝ }
 {
-    let counted = skriduhol::label_count(sheet);
-    match counted {
-        Counted::Labels(labels) => {
+    let count = skriduhol::label_count(sheet);
+    match count {
+        Count::Labels(labels) => {
             *value = labels;
+            *column = 0;
             return 0;
         }
-        Counted::Refused(refusal) => {
-            return hand_refusal(refusal, value);
+        Count::Refused(located) => {
+            return hand_refusal(located, value, column);
         }
     }
 }
 
 // The comparison of two steps' conclusions: 1 for yes and 0 for no.
 #[no_mangle]
-pub extern "C" fn skriduhol_compare(sheet: &[u8], i: usize, j: usize, value: &mut usize) -> u8
-    ensures { λ r. ⌜ Hands yesOrNo (comparison (now (sheet .entry)) i j) (now (value .exit)) r ⌝ }
+pub extern "C" fn skriduhol_compare(
+    sheet: &[u8],
+    i: usize,
+    j: usize,
+    value: &mut usize,
+    column: &mut usize,
+) -> u8
+    ensures { λ r. ⌜ Hands yesOrNo (now (sheet .entry)) (comparison (now (sheet .entry)) i j) (now (value .exit)) (now (column .exit)) r ⌝ }
 {
-    let answer = skriduhol::compare(sheet, i, j);
-    match answer {
-        Answer::Yes => {
+    let verdict = skriduhol::compare(sheet, i, j);
+    match verdict {
+        Verdict::Yes => {
             *value = 1;
+            *column = 0;
             return 0;
         }
-        Answer::No => {
+        Verdict::No => {
             *value = 0;
+            *column = 0;
             return 0;
         }
-        Answer::Refused(refusal) => {
-            return hand_refusal(refusal, value);
+        Verdict::Refused(located) => {
+            return hand_refusal(located, value, column);
         }
     }
 }
