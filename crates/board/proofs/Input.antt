@@ -12,14 +12,14 @@ use Rattle.definitions.specs.declared.Refusal.{Refusal}
 use Rattle.definitions.specs.Outcome.{Outcome, refused, refuse, _>>=_, mapOutcome, refuseIf}
 use Rattle.definitions.specs.Sheet.{headerSize, pairSize, nameLimit, propositionLimit, stepSize, stepLimit, textLimit, codeLimit, numberAt, textLength, names, codeLength, propositions, steps, goal, headerOutOfRange, namePairsStart, propositionPairsStart, stepsStart, textStart, codeStart, sheetLength}
 use Rattle.definitions.specs.Admission.{admitted}
-use Rattle.definitions.specs.Answers.{sheetTerm, namedTerm, sheetText, inRoom, textAnswer, printed, refusalLine, boardOutput}
+use Rattle.definitions.specs.Answers.{sheetTerm, namedTerm, sheetText, inRoom, textAnswer, namesStep, columnOf, located, printed, refusalLine, boardOutput}
 use Rattle.sheet.specs.Header.{headerOf}
 use Rattle.sheet.specs.Checks.{shortCheck, headerChecks}
 use Rattle.sheet.proofs.Ranges.{in-range}
 use Rattle.sheet.proofs.Order.{in-stages}
 use Rattle.board.specs.Input.{longestSheet, inputRoom, readPart}
 
-pub input-room : inputRoom ≡ 38925
+pub input-room : inputRoom ≡ 40973
 unfolding inputRoom longestSheet headerSize pairSize nameLimit propositionLimit stepSize stepLimit textLimit codeLimit
 input-room = refl
 
@@ -60,9 +60,15 @@ headerOutOfRange-read s =
     number i h = numberAt-take inputRoom s i (omega (arith, input-room))
 
 -- a refusal of 1 to 11 is the board's line
-refused-line : (s : List ℕ) {r : Refusal} → admitted s ≡ refused r → boardOutput s ≡ refusalLine r
+refused-line : (s : List ℕ) {r : Refusal} → admitted s ≡ refused r → boardOutput s ≡ refusalLine (located s r)
 unfolding boardOutput printed textAnswer inRoom sheetText namedTerm sheetTerm mapOutcome _>>=_
 refused-line s e = rw e
+
+-- that of a longer input hands back no column
+no-column : (s t : List ℕ) (b : Bool) → located s (tooLong b) ≡ located t (tooLong b)
+unfolding tooLong located columnOf namesStep
+no-column s t true = refl
+no-column s t false = refl
 
 -- what the board reads is enough: the answer is the one for the whole input
 pub read-suffices : (s : List ℕ) → boardOutput (readPart s) ≡ boardOutput s
@@ -75,5 +81,6 @@ read-suffices s = go (leb (length s) inputRoom) refl
         let longer : inputRoom < length s = leb-false _ _ e in
         let read : length (readPart s) ≡ inputRoom = length-take-le _ _ (omega arith) in
         refused-line (readPart s) (longer-refused (readPart s) (omega arith))
-        ∙ ap (λ b. refusalLine (tooLong b)) (headerOutOfRange-read s)
+        ∙ ap (λ b. refusalLine (located (readPart s) (tooLong b))) (headerOutOfRange-read s)
+        ∙ ap refusalLine (no-column (readPart s) s _)
         ∙ sym (refused-line s (longer-refused s (omega arith)))

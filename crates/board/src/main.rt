@@ -1,4 +1,4 @@
-// Reads a sheet from standard input and prints its plain text, or `refused R at P`. An input that cannot be read to its end counts
+// Reads a sheet from standard input and prints its plain text, or the refusal's line. An input that cannot be read to its end counts
 // as the bytes that came.
 use libc::STDIN_FILENO;
 use libc::STDOUT_FILENO;

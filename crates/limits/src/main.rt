@@ -1,9 +1,9 @@
 // Prints the plain text of drawings in rooms of memory. Its arguments are a room in bytes and the file of a drawing, by turns. The
 // memory is lent full of dots, and printed as it stands after.
-use definitions::Refusal;
+use definitions::Located;
 use libc::STDOUT_FILENO;
-use output::Written;
 use skriduhol::BOARD_ROOM;
+use skriduhol::Filled;
 ghost use mathlib.Core.Path.{_≡_};
 ghost use Prim.Native.Nat.{_≤_};
 ghost use lib.ListN.{length};
@@ -37,22 +37,25 @@ fn room_of(digits: &[u8]) -> usize
     room
 }
 
-// `refused R at P`.
-fn write_refusal(r: Refusal) {
+// `refused R at P column K`, whatever the refusal.
+fn write_refusal(located: Located) {
+    let refusal = located.refusal;
     io::write_all(STDOUT_FILENO, b"refused ");
-    io::print_decimal(STDOUT_FILENO, r.number as u64);
+    io::print_decimal(STDOUT_FILENO, refusal.number as u64);
     io::write_all(STDOUT_FILENO, b" at ");
-    io::print_decimal(STDOUT_FILENO, r.place as u64);
+    io::print_decimal(STDOUT_FILENO, refusal.place as u64);
+    io::write_all(STDOUT_FILENO, b" column ");
+    io::print_decimal(STDOUT_FILENO, located.column as u64);
 }
 
 // The answer in a line, and then the memory.
 fn write_answer(s: &[u8], memory: &mut [u8]) {
     match skriduhol::plain_text(s, memory) {
-        Written::Length(length) => {
+        Filled::Length(length) => {
             io::print_decimal(STDOUT_FILENO, length as u64);
             io::write_all(STDOUT_FILENO, b" bytes");
         }
-        Written::Refused(r) => write_refusal(r),
+        Filled::Refused(located) => write_refusal(located),
     }
     io::write_all(STDOUT_FILENO, b"\n");
     io::write_all(STDOUT_FILENO, memory);

@@ -1,11 +1,11 @@
 // Asks each question of a fixed list of sheets, and says how many of the answers agree with those that the list holds: the Rust's,
 // and document 01's where the Rust has none. tests/oracle/README.md has the form of the list, and README.md says how it is made.
-use alpha_eq::Answer;
-use definitions::Refusal;
+use definitions::Located;
 use libc::STDOUT_FILENO;
 use number::number_at;
-use output::Written;
-use sheet_term::Counted;
+use skriduhol::Count;
+use skriduhol::Filled;
+use skriduhol::Verdict;
 ghost use Prim.Native.Nat.{_<_, _≤_};
 ghost use Rattle.io.specs.Counts.{Counts};
 
@@ -28,10 +28,11 @@ const ROOM: usize = 65536;
 // The most numbers of an accepted list: its bytes fill the room.
 const NUMBERS: usize = 32768;
 
-// 0 for an accepted answer and its length, its count, or 1 for yes and 0 for no; or a refusal's number and place.
+// 0 for an accepted answer, its length, its count, or 1 for yes and 0 for no, and 0; or a refusal's number, place and column.
 struct Result {
     number: usize,
     value: usize,
+    column: usize,
 }
 
 fn least(a: usize, b: usize) -> usize
@@ -81,12 +82,21 @@ fn read_u32(fd: i32) -> usize
     low + 65536 * read_u16(fd)
 }
 
+// Only a refusal has a column.
+fn read_column(fd: i32, number: usize) -> usize {
+    if number == 0 {
+        return 0;
+    }
+    read_u16(fd)
+}
+
 fn read_result(fd: i32) -> Result {
     let number = wide(read_byte(fd));
     let value = read_u32(fd);
     Result {
         number: number,
         value: value,
+        column: read_column(fd, number),
     }
 }
 
@@ -94,13 +104,18 @@ fn same_result(a: Result, b: Result) -> bool {
     if a.number != b.number {
         return false;
     }
-    a.value == b.value
+    if a.value != b.value {
+        return false;
+    }
+    a.column == b.column
 }
 
-fn refused(refusal: Refusal) -> Result {
+fn refused(located: Located) -> Result {
+    let refusal = located.refusal;
     Result {
         number: refusal.number as usize,
         value: refusal.place as usize,
+        column: located.column as usize,
     }
 }
 
@@ -108,28 +123,29 @@ fn accepted(value: usize) -> Result {
     Result {
         number: 0,
         value: value,
+        column: 0,
     }
 }
 
-fn written_result(written: Written) -> Result {
-    match written {
-        Written::Length(length) => accepted(length),
-        Written::Refused(refusal) => refused(refusal),
+fn filled_result(filled: Filled) -> Result {
+    match filled {
+        Filled::Length(length) => accepted(length),
+        Filled::Refused(located) => refused(located),
     }
 }
 
-fn counted_result(counted: Counted) -> Result {
-    match counted {
-        Counted::Labels(labels) => accepted(labels),
-        Counted::Refused(refusal) => refused(refusal),
+fn count_result(count: Count) -> Result {
+    match count {
+        Count::Labels(labels) => accepted(labels),
+        Count::Refused(located) => refused(located),
     }
 }
 
-fn compared_result(answer: Answer) -> Result {
-    match answer {
-        Answer::Yes => accepted(1),
-        Answer::No => accepted(0),
-        Answer::Refused(refusal) => refused(refusal),
+fn verdict_result(verdict: Verdict) -> Result {
+    match verdict {
+        Verdict::Yes => accepted(1),
+        Verdict::No => accepted(0),
+        Verdict::Refused(located) => refused(located),
     }
 }
 
@@ -156,7 +172,7 @@ fn same_bytes(a: &[u8; ROOM], b: &[u8; ROOM]) -> bool {
     check::same(a, b)
 }
 
-fn text(s: &[u8], strict: bool, room: usize, out: &mut [u8]) -> Written {
+fn text(s: &[u8], strict: bool, room: usize, out: &mut [u8]) -> Filled {
     let lent = bytes_within(room, out);
     if strict {
         return skriduhol::strict_text(s, &mut out[..lent]);
@@ -169,14 +185,14 @@ fn text_agrees(fd: i32, s: &[u8], strict: bool) -> bool {
     let expected = read_result(fd);
     let bytes = read_bytes(fd, elements(expected));
     let mut out = io::large_buffer();
-    let answer = written_result(text(s, strict, room, &mut out));
+    let answer = filled_result(text(s, strict, room, &mut out));
     if !same_result(expected, answer) {
         return false;
     }
     same_bytes(&out, &bytes)
 }
 
-fn list(s: &[u8], datatypes: bool, room: usize, out: &mut [u16]) -> Written {
+fn list(s: &[u8], datatypes: bool, room: usize, out: &mut [u16]) -> Filled {
     let lent = numbers_within(room, out);
     if datatypes {
         return skriduhol::datatype_list(s, &mut out[..lent]);
@@ -210,7 +226,7 @@ fn list_agrees(fd: i32, s: &[u8], datatypes: bool) -> bool {
     let expected = read_result(fd);
     let bytes = read_bytes(fd, 2 * elements(expected));
     let mut out = [0u16; ROOM];
-    let answer = written_result(list(s, datatypes, room, &mut out));
+    let answer = filled_result(list(s, datatypes, room, &mut out));
     if !same_result(expected, answer) {
         return false;
     }
@@ -219,14 +235,14 @@ fn list_agrees(fd: i32, s: &[u8], datatypes: bool) -> bool {
 
 fn count_agrees(fd: i32, s: &[u8]) -> bool {
     let expected = read_result(fd);
-    same_result(expected, counted_result(skriduhol::label_count(s)))
+    same_result(expected, count_result(skriduhol::label_count(s)))
 }
 
 fn comparison_agrees(fd: i32, s: &[u8]) -> bool {
     let i = read_u16(fd);
     let j = read_u16(fd);
     let expected = read_result(fd);
-    same_result(expected, compared_result(skriduhol::compare(s, i, j)))
+    same_result(expected, verdict_result(skriduhol::compare(s, i, j)))
 }
 
 fn board_agrees(fd: i32, s: &[u8]) -> bool {
