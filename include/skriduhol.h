@@ -8,14 +8,17 @@
  *   - Each pointer is aligned for its type and not null, also where its length is 0: a function takes it for a reference,
  *     and nothing is promised of a null one. An empty std::vector may have a null pointer: lend the address of any element then.
  *   - `sheet` can be read for `sheet_length` bytes; `out` can be written for `room` elements, and all of them have a value
- *     (clear the memory once); `value` can be written.
- *   - `out` and `value` overlap neither each other nor the sheet, and no other thread touches the three during the call.
+ *     (clear the memory once); `value` and `column` can be written.
+ *   - `out`, `value` and `column` overlap neither each other nor the sheet, and no other thread touches the four during the
+ *     call.
  *
  * What a caller gets
  *   - Each call returns. Nothing is allocated, no file is touched, no pointer is kept, and there is no state between calls, so
  *     threads may call at the same time, each on its own memory.
  *   - The first six functions return 0 for an accepted answer, and then *value is what the function's comment says; or they
- *     return the number of a refusal, 1 to 19 (enum skriduhol_refusal), and then *value is its place. *value is set either way.
+ *     return the number of a refusal, 1 to 19 (enum skriduhol_refusal), and then *value is its place. *column is for refusals 9
+ *     to 15 the grid column of the step that they name, its two bytes as they stand, and 0 in every other case. *value and
+ *     *column are always set.
  *   - An accepted answer fills the first elements of `out` and nothing after them. A refusal leaves all of `out` as it was;
  *     skriduhol_board_output alone writes a line for it, and nothing after that line.
  *   - A call takes at most 256 KiB of stack: measured on the deepest sheets, not proved (docs/PERFORMANCE.md).
@@ -30,11 +33,12 @@
 extern "C" {
 #endif
 
-/* The version of this header: it grows with each change that a caller has to follow. */
-#define SKRIDUHOL_VERSION 1
+/* The version of this header: it grows with each change that a caller has to follow. In version 2 a step has 20 bytes, the last
+   two its column, and the first six functions take `column` after `value`. */
+#define SKRIDUHOL_VERSION 2
 
 /* Refusals, in the order in which they are tried: before each its place, which is 0 or the number of a name, a proposition or a
-   step, and its reason.
+   step, and its reason. Those whose place is a step, 9 to 15, hand back its column too.
 
    Texts and lists use 1 to 16, the label count 1 to 15, a comparison 1 to 11, 17 and 19. 16 is tried last. It does not say how
    much room is missing: most answers fit 65,536 elements, but a text can pass 88 million bytes and a list 3 million numbers. */
@@ -55,7 +59,7 @@ enum skriduhol_refusal {
     SKRIDUHOL_REFUSED_PROPOSITION_CODE = 7,
     /* proposition: it nests deeper than 64 */
     SKRIDUHOL_REFUSED_PROPOSITION_NESTING = 8,
-    /* step: a rule, kind, name or proposition number is out of range, or an unused field is not 0 */
+    /* step: a rule, kind, name, proposition number or column is out of range, or an unused field is not 0 */
     SKRIDUHOL_REFUSED_STEP_FIELD = 9,
     /* step: a step finds too few trees before it, or the last step leaves more than one */
     SKRIDUHOL_REFUSED_TREE_COUNT = 10,
@@ -83,31 +87,35 @@ enum skriduhol_refusal {
 #define SKRIDUHOL_BOARD_ROOM 65536
 
 /* The longest sheet, in bytes. A reader lends one byte more, to see that an input is longer. */
-#define SKRIDUHOL_LONGEST_SHEET 38924
+#define SKRIDUHOL_LONGEST_SHEET 40972
 
 /* The plain text: declarations and then the term, in UTF-8, with no 0 at its end. *value: its length in bytes. */
-uint8_t skriduhol_plain_text(const uint8_t *sheet, size_t sheet_length, uint8_t *out, size_t room, size_t *value);
+uint8_t skriduhol_plain_text(const uint8_t *sheet, size_t sheet_length, uint8_t *out, size_t room, size_t *value,
+                             size_t *column);
 
 /* The strict text: the plain text with brackets also around a case or let on either side of an application, and around an
    ascription within a function, a case or a let. *value: its length in bytes. */
-uint8_t skriduhol_strict_text(const uint8_t *sheet, size_t sheet_length, uint8_t *out, size_t room, size_t *value);
+uint8_t skriduhol_strict_text(const uint8_t *sheet, size_t sheet_length, uint8_t *out, size_t room, size_t *value,
+                              size_t *column);
 
 /* The atoms of the term's labels, left to right with repeats: for each the number of its name, and then its parameter count.
    *value: how many numbers these are, two for each atom. */
-uint8_t skriduhol_atom_list(const uint8_t *sheet, size_t sheet_length, uint16_t *out, size_t room, size_t *value);
+uint8_t skriduhol_atom_list(const uint8_t *sheet, size_t sheet_length, uint16_t *out, size_t room, size_t *value,
+                            size_t *column);
 
 /* The datatypes of the term's labels, left to right with repeats: the number of the name of each. *value: how many. */
-uint8_t skriduhol_datatype_list(const uint8_t *sheet, size_t sheet_length, uint16_t *out, size_t room, size_t *value);
+uint8_t skriduhol_datatype_list(const uint8_t *sheet, size_t sheet_length, uint16_t *out, size_t room, size_t *value,
+                                size_t *column);
 
 /* The label count. *value: how many ascriptions and labelled functions the term has. */
-uint8_t skriduhol_label_count(const uint8_t *sheet, size_t sheet_length, size_t *value);
+uint8_t skriduhol_label_count(const uint8_t *sheet, size_t sheet_length, size_t *value, size_t *column);
 
 /* Whether the conclusions of steps i and j are equal up to the names of their bound objects. *value: 1 for yes, 0 for no. */
-uint8_t skriduhol_compare(const uint8_t *sheet, size_t sheet_length, size_t i, size_t j, size_t *value);
+uint8_t skriduhol_compare(const uint8_t *sheet, size_t sheet_length, size_t i, size_t j, size_t *value, size_t *column);
 
 /* What the board prints: the plain text if 65,536 bytes have room for it, or `refused R at P` and a newline, R the number and P
-   the place. `out` has SKRIDUHOL_BOARD_ROOM bytes. The result is how many of them were written, from the first on; the rest
-   is left as it was. */
+   the place; for 9 to 15 ` column K` stands before the newline, K the column. `out` has SKRIDUHOL_BOARD_ROOM bytes. The result
+   is how many of them were written, from the first on; the rest is left as it was. */
 size_t skriduhol_board_output(const uint8_t *sheet, size_t sheet_length, uint8_t *out);
 
 #ifdef __cplusplus

@@ -14,6 +14,7 @@ extern "C" {
         out: *mut u8,
         room: usize,
         value: *mut usize,
+        column: *mut usize,
     ) -> u8;
     fn skriduhol_strict_text(
         sheet: *const u8,
@@ -21,6 +22,7 @@ extern "C" {
         out: *mut u8,
         room: usize,
         value: *mut usize,
+        column: *mut usize,
     ) -> u8;
     fn skriduhol_atom_list(
         sheet: *const u8,
@@ -28,6 +30,7 @@ extern "C" {
         out: *mut u16,
         room: usize,
         value: *mut usize,
+        column: *mut usize,
     ) -> u8;
     fn skriduhol_datatype_list(
         sheet: *const u8,
@@ -35,19 +38,26 @@ extern "C" {
         out: *mut u16,
         room: usize,
         value: *mut usize,
+        column: *mut usize,
     ) -> u8;
-    fn skriduhol_label_count(sheet: *const u8, sheet_length: usize, value: *mut usize) -> u8;
+    fn skriduhol_label_count(
+        sheet: *const u8,
+        sheet_length: usize,
+        value: *mut usize,
+        column: *mut usize,
+    ) -> u8;
     fn skriduhol_compare(
         sheet: *const u8,
         sheet_length: usize,
         i: usize,
         j: usize,
         value: *mut usize,
+        column: *mut usize,
     ) -> u8;
     fn skriduhol_board_output(sheet: *const u8, sheet_length: usize, out: *mut u8) -> usize;
 }
 
-pub fn plain_text(sheet: &[u8], out: &mut [u8], value: &mut usize) -> u8 {
+pub fn plain_text(sheet: &[u8], out: &mut [u8], value: &mut usize, column: &mut usize) -> u8 {
     unsafe {
         skriduhol_plain_text(
             sheet.as_ptr(),
@@ -55,11 +65,12 @@ pub fn plain_text(sheet: &[u8], out: &mut [u8], value: &mut usize) -> u8 {
             out.as_mut_ptr(),
             out.len(),
             value,
+            column,
         )
     }
 }
 
-pub fn strict_text(sheet: &[u8], out: &mut [u8], value: &mut usize) -> u8 {
+pub fn strict_text(sheet: &[u8], out: &mut [u8], value: &mut usize, column: &mut usize) -> u8 {
     unsafe {
         skriduhol_strict_text(
             sheet.as_ptr(),
@@ -67,11 +78,12 @@ pub fn strict_text(sheet: &[u8], out: &mut [u8], value: &mut usize) -> u8 {
             out.as_mut_ptr(),
             out.len(),
             value,
+            column,
         )
     }
 }
 
-pub fn atom_list(sheet: &[u8], out: &mut [u16], value: &mut usize) -> u8 {
+pub fn atom_list(sheet: &[u8], out: &mut [u16], value: &mut usize, column: &mut usize) -> u8 {
     unsafe {
         skriduhol_atom_list(
             sheet.as_ptr(),
@@ -79,11 +91,12 @@ pub fn atom_list(sheet: &[u8], out: &mut [u16], value: &mut usize) -> u8 {
             out.as_mut_ptr(),
             out.len(),
             value,
+            column,
         )
     }
 }
 
-pub fn datatype_list(sheet: &[u8], out: &mut [u16], value: &mut usize) -> u8 {
+pub fn datatype_list(sheet: &[u8], out: &mut [u16], value: &mut usize, column: &mut usize) -> u8 {
     unsafe {
         skriduhol_datatype_list(
             sheet.as_ptr(),
@@ -91,16 +104,17 @@ pub fn datatype_list(sheet: &[u8], out: &mut [u16], value: &mut usize) -> u8 {
             out.as_mut_ptr(),
             out.len(),
             value,
+            column,
         )
     }
 }
 
-pub fn label_count(sheet: &[u8], value: &mut usize) -> u8 {
-    unsafe { skriduhol_label_count(sheet.as_ptr(), sheet.len(), value) }
+pub fn label_count(sheet: &[u8], value: &mut usize, column: &mut usize) -> u8 {
+    unsafe { skriduhol_label_count(sheet.as_ptr(), sheet.len(), value, column) }
 }
 
-pub fn compare(sheet: &[u8], i: usize, j: usize, value: &mut usize) -> u8 {
-    unsafe { skriduhol_compare(sheet.as_ptr(), sheet.len(), i, j, value) }
+pub fn compare(sheet: &[u8], i: usize, j: usize, value: &mut usize, column: &mut usize) -> u8 {
+    unsafe { skriduhol_compare(sheet.as_ptr(), sheet.len(), i, j, value, column) }
 }
 
 pub fn board_output(sheet: &[u8], out: &mut [u8; BOARD_ROOM]) -> usize {

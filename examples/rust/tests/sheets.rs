@@ -38,7 +38,15 @@ fn strict_text_of(sheet: &[u8]) -> Result<String, Refusal> {
 }
 
 fn refusal<T>(number: u8, place: usize) -> Result<T, Refusal> {
-    Err(Refusal { number, place })
+    refusal_of_step(number, place, 0)
+}
+
+fn refusal_of_step<T>(number: u8, place: usize, column: usize) -> Result<T, Refusal> {
+    Err(Refusal {
+        number,
+        place,
+        column,
+    })
 }
 
 #[test]
@@ -49,7 +57,7 @@ fn texts() {
         text_of(LABELLED),
         Ok("atom A;\n\n\n(fn u: A => u) v".into())
     );
-    assert_eq!(text_of(REFUSED), refusal(14, 1));
+    assert_eq!(text_of(REFUSED), refusal_of_step(14, 1, 3));
 }
 
 #[test]
@@ -71,7 +79,7 @@ fn strict_text_tells_apart_what_plain_text_does_not() {
 fn any_bytes_get_an_answer() {
     assert_eq!(text_of(&[]), refusal(1, 0));
     assert_eq!(text_of(&[0; 12]), refusal(2, 0));
-    assert_eq!(text_of(&SMALLEST[..34]), refusal(3, 0));
+    assert_eq!(text_of(&SMALLEST[..36]), refusal(3, 0));
     assert_eq!(text_of(&[0xff; LONGEST_SHEET + 1]), refusal(2, 0));
 }
 
@@ -111,7 +119,7 @@ fn the_other_operations() {
     assert_eq!(atom_list(LABELLED, &mut [0; 1]), refusal(16, 0));
     assert_eq!(datatype_list(LABELLED, &mut numbers), Ok(0));
     assert_eq!(label_count(LABELLED), Ok(1));
-    assert_eq!(label_count(REFUSED), refusal(14, 1));
+    assert_eq!(label_count(REFUSED), refusal_of_step(14, 1, 3));
     assert_eq!(compare(LABELLED, 0, 2), Ok(true));
     assert_eq!(compare(LABELLED, 0, 1), Ok(false));
     assert_eq!(compare(LABELLED, 0, 4), refusal(17, 0));
@@ -120,8 +128,24 @@ fn the_other_operations() {
 #[test]
 fn the_board_prints_a_text_or_the_refusals_line() {
     let mut out = Box::new([UNTOUCHED; BOARD_ROOM]);
-    assert_eq!(board_output(REFUSED, &mut out), 16);
-    assert_eq!(&out[..16], b"refused 14 at 1\n");
-    assert_eq!(out[16], UNTOUCHED);
+    assert_eq!(board_output(REFUSED, &mut out), 25);
+    assert_eq!(&out[..25], b"refused 14 at 1 column 3\n");
+    assert_eq!(out[25], UNTOUCHED);
     assert_eq!(board_output(SECOND, &mut out), 31);
+}
+
+#[test]
+fn a_refusal_is_displayed_in_the_boards_words() {
+    let said = |number, place, column| {
+        let refusal = Refusal {
+            number,
+            place,
+            column,
+        };
+        refusal.to_string()
+    };
+    assert_eq!(said(8, 2, 0), "refused 8 at 2");
+    assert_eq!(said(9, 2, 4096), "refused 9 at 2 column 4096");
+    assert_eq!(said(15, 2, 0), "refused 15 at 2 column 0");
+    assert_eq!(said(16, 0, 0), "refused 16 at 0");
 }
