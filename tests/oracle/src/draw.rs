@@ -34,18 +34,23 @@ pub fn code(f: &Formula) -> Vec<u8> {
     out
 }
 
-/// A step that concludes a proposition; its identifiers are names with id 0.
+/// A step in column 0 that concludes a proposition; its identifiers are names with id 0.
 pub fn step(rule: u8, count: usize, names: &[u16], prop: u16) -> Step {
     let mut idents = [(0, 0); 2];
     for (to, name) in idents.iter_mut().zip(names) {
         to.0 = *name;
     }
-    Step { rule, count: count as u8, idents, kind: 0, conclusion: [prop, 0, 0] }
+    Step { rule, count: count as u8, idents, kind: 0, conclusion: [prop, 0, 0], column: 0 }
 }
 
 /// The same step concluding that the named object is of a datatype.
 pub fn judging(step: Step, object: u16, datatype: u16) -> Step {
     Step { kind: 1, conclusion: [object, 0, datatype], ..step }
+}
+
+/// The same step drawn in another column.
+pub fn in_column(column: u16, step: Step) -> Step {
+    Step { column, ..step }
 }
 
 pub fn plain(names: &[&str], props: &[Formula], steps: &[Step]) -> Plain {

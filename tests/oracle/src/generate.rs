@@ -5,7 +5,7 @@ mod draft;
 mod sound;
 mod variant;
 
-use crate::{limits, rng::Rng, worst};
+use crate::{limits, rng::Rng, sheet::Layout, worst};
 use std::fmt;
 
 #[derive(Clone, Copy, PartialEq, Eq, Debug)]
@@ -47,11 +47,24 @@ impl Sheets {
     /// The first `count` sheets of a random kind, or a fixed list.
     pub fn new(kind: Kind, seed: u64, count: usize) -> Self {
         match kind {
-            Kind::Limits => Sheets::Fixed(limits::limits()),
-            Kind::Worst => Sheets::Fixed(worst::worst()),
-            Kind::Slowest => Sheets::Fixed(worst::slowest()),
+            Kind::Limits => Sheets::fixed(limits::limits()),
+            Kind::Worst => Sheets::fixed(worst::worst()),
+            Kind::Slowest => Sheets::fixed(worst::slowest()),
             Kind::Sound | Kind::Random | Kind::Quantified | Kind::Damaged => Sheets::Random { kind, seed, count },
         }
+    }
+
+    /// These sheets, with a column drawn for each step that stands in column 0.
+    fn fixed(mut list: Vec<Named>) -> Self {
+        for (index, (_, bytes)) in list.iter_mut().enumerate() {
+            let mut rng = Rng::new(0, index as u64);
+            if let Some(mut layout) = Layout::read(bytes) {
+                let undrawn = layout.steps.iter_mut().filter(|step| step.column == 0);
+                undrawn.for_each(|step| step.column = draft::column(&mut rng));
+                *bytes = layout.bytes();
+            }
+        }
+        Sheets::Fixed(list)
     }
 
     pub fn count(&self) -> usize {

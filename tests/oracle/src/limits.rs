@@ -6,8 +6,8 @@ use crate::{
     formula::{Formula, Parameter},
     generate::Named,
     sheet::{
-        rule, Layout, Plain, Step, BOARD_ROOM, CODE, NAMES, NAME_BYTES, PARAMETERS, PROPS, PROP_NESTING, STEPS,
-        STEP_NESTING, TEXT,
+        rule, Layout, Plain, Step, BOARD_ROOM, CODE, LAST_COLUMN, NAMES, NAME_BYTES, PARAMETERS, PROPS, PROP_NESTING,
+        STEPS, STEP_NESTING, TEXT,
     },
 };
 
@@ -46,6 +46,7 @@ pub fn limits() -> Vec<Named> {
     codes(&mut list);
     nesting(&mut list);
     records(&mut list);
+    columns(&mut list);
     trees(&mut list);
     tree_nesting(&mut list);
     rules(&mut list);
@@ -59,7 +60,7 @@ pub fn limits() -> Vec<Named> {
 /// Refusals 1 to 3.
 fn header(list: &mut List) {
     let least = smallest().bytes();
-    for n in [0, 1, 11, 12, 13, 34] {
+    for n in [0, 1, 11, 12, 13, 34, 35, 36] {
         list.add(format!("first {n} bytes of the smallest sheet"), least[..n].to_vec());
     }
     list.add("smallest sheet", least.clone());
@@ -287,12 +288,15 @@ fn records(list: &mut List) {
         for (how, record) in [("concluding", concluding), ("judging", judging)] {
             let alone = |record: Step| Plain { steps: vec![record], ..second() }.bytes();
             list.add(format!("rule {rule} {how}"), alone(record));
-            for (field, value) in (0..8).flat_map(|field| [1, 2, 3, 256, 65535].map(|value| (field, value))) {
+            let columns = [LAST_COLUMN, LAST_COLUMN + 1, u16::MAX].map(|column| (8, column));
+            let fields = (0..8).flat_map(|field| [1, 2, 3, 256, 65535].map(|value| (field, value)));
+            for (field, value) in fields.chain(columns) {
                 let mut record = record;
                 match field {
                     0 | 2 => record.idents[field / 2].0 = value,
                     1 | 3 => record.idents[field / 2].1 = value,
                     4 => record.kind = value,
+                    8 => record.column = value,
                     _ => record.conclusion[field - 5] = value,
                 }
                 list.add(format!("rule {rule} {how}, field {field} is {value}"), alone(record));
@@ -303,6 +307,36 @@ fn records(list: &mut List) {
         l.steps[2].rule = 17;
         l.steps[0].count = 1;
     });
+}
+
+/// Refusal 9 by a column, which step it names, and that it comes after 8 and before 10.
+fn columns(list: &mut List) {
+    for column in [1, 255, 256, 2048, LAST_COLUMN, LAST_COLUMN + 1, 8191, 8192, 32768, 61440, u16::MAX] {
+        list.edited(format!("all steps in column {column}"), |l| {
+            l.steps.iter_mut().for_each(|step| step.column = column)
+        });
+        for at in 0..3 {
+            list.edited(format!("step {at} in column {column}"), |l| l.steps[at].column = column);
+        }
+    }
+    for column in [LAST_COLUMN, LAST_COLUMN + 1] {
+        list.edited(format!("step 2 in column {column}, step 0 with a premiss"), |l| {
+            l.steps[2].column = column;
+            l.steps[0].count = 1;
+        });
+        list.edited(format!("step 1 in column {column}, step 2 with rule 17"), |l| {
+            l.steps[1].column = column;
+            l.steps[2].rule = 17;
+        });
+        list.edited(format!("step 1 with rule 17, step 2 in column {column}"), |l| {
+            l.steps[1].rule = 17;
+            l.steps[2].column = column;
+        });
+        let mut sheet = second();
+        sheet.props[0] = code(&nested(PROP_NESTING + 1, Formula::True, WRAPS[0].1));
+        sheet.steps[0].column = column;
+        list.add(format!("proposition 0 nested 65, step 0 in column {column}"), sheet.bytes());
+    }
 }
 
 /// Refusal 10.
@@ -382,6 +416,7 @@ fn full() -> Plain {
     }
     steps.extend([step(rule::TRUE_INTRO, 0, &[], 0); 3]);
     steps.push(step(rule::SORRY, 7, &[], 0));
+    let steps = steps.into_iter().map(|step| in_column(LAST_COLUMN, step)).collect();
     Plain { names, props, steps, goal: 511 }
 }
 

@@ -11,7 +11,7 @@ use crate::{
 use std::ops::RangeInclusive;
 
 /// Sheets of each random kind: so many small ones, and a few larger ones.
-const SMALL: usize = 200;
+const SMALL: usize = 160;
 const LARGE: usize = 3;
 /// The longest sheet, and the longest answer, of a small and of a large one.
 const SMALL_BYTES: usize = 800;
@@ -114,7 +114,8 @@ impl List {
         match answer {
             Ok(Answer::Text(text)) => self.bytes.extend(text.bytes()),
             Ok(Answer::List(list)) => self.bytes.extend(list.iter().flat_map(|number| number.to_le_bytes())),
-            Ok(Answer::Count(_) | Answer::Equal(_)) | Err(_) => {}
+            Ok(Answer::Count(_) | Answer::Equal(_)) => {}
+            Err(refusal) => self.bytes.extend(refusal.column.to_le_bytes()),
         }
     }
 }

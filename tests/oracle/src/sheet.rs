@@ -1,4 +1,4 @@
-//! The sheet of document 01: its records and refusals 1 to 11.
+//! The sheet of document 01, its steps with the columns of ticket 6: its records and refusals 1 to 11.
 use crate::formula::{parse, Formula};
 use std::{fmt, ops::RangeInclusive};
 
@@ -11,31 +11,49 @@ pub const NAME_BYTES: usize = 32;
 pub const PARAMETERS: usize = 8;
 pub const PROP_NESTING: usize = 64;
 pub const STEP_NESTING: usize = 256;
+pub const LAST_COLUMN: u16 = 4095;
 pub const BOARD_ROOM: usize = 65536;
 
 pub const HEADER_BYTES: usize = 12;
 pub const PAIR_BYTES: usize = 4;
-pub const STEP_BYTES: usize = 18;
+pub const STEP_BYTES: usize = 20;
 
 #[derive(Clone, Copy, PartialEq, Eq, Debug)]
 pub struct Refusal {
     pub number: u8,
     pub place: usize,
+    /// The column of the step that 9 to 15 name, as its bytes stand; 0 for all others.
+    pub column: u16,
 }
 
 impl fmt::Display for Refusal {
     fn fmt(&self, f: &mut fmt::Formatter) -> fmt::Result {
-        write!(f, "refused {} at {}", self.number, self.place)
+        write!(f, "refused {} at {}", self.number, self.place)?;
+        match self.number {
+            9..=15 => write!(f, " column {}", self.column),
+            _ => Ok(()),
+        }
     }
 }
 
+/// Refuses with a number that names no step.
 pub fn refuse<T>(number: u8, place: usize) -> Result<T, Refusal> {
-    Err(Refusal { number, place })
+    Err(Refusal { number, place, column: 0 })
+}
+
+/// Refuses with a number from 9 to 15, which names one of the steps.
+pub fn refuse_step<T>(number: u8, place: usize, steps: &[Step]) -> Result<T, Refusal> {
+    Err(Refusal { number, place, column: steps[place].column })
 }
 
 /// Refuses with the lowest place below `n` that is bad, if there is one.
 fn lowest(number: u8, n: usize, bad: impl FnMut(&usize) -> bool) -> Result<(), Refusal> {
     (0..n).find(bad).map_or(Ok(()), |place| refuse(number, place))
+}
+
+/// Refuses with the lowest step that is bad, if there is one.
+fn lowest_step(number: u8, steps: &[Step], bad: impl FnMut(&usize) -> bool) -> Result<(), Refusal> {
+    (0..steps.len()).find(bad).map_or(Ok(()), |place| refuse_step(number, place, steps))
 }
 
 pub mod rule {
@@ -99,6 +117,8 @@ pub struct Step {
     pub idents: [(u16, u16); 2],
     pub kind: u16,
     pub conclusion: [u16; 3],
+    /// The grid column in which it was drawn.
+    pub column: u16,
 }
 
 impl Step {
@@ -107,7 +127,7 @@ impl Step {
         let [e, f, g] = self.conclusion;
         let mut out = [0; STEP_BYTES];
         out[..2].copy_from_slice(&[self.rule, self.count]);
-        for (i, n) in [a, b, c, d, self.kind, e, f, g].into_iter().enumerate() {
+        for (i, n) in [a, b, c, d, self.kind, e, f, g, self.column].into_iter().enumerate() {
             out[2 + 2 * i..4 + 2 * i].copy_from_slice(&n.to_le_bytes());
         }
         out
@@ -121,6 +141,7 @@ impl Step {
             idents: [(n(0), n(1)), (n(2), n(3))],
             kind: n(4),
             conclusion: [n(5), n(6), n(7)],
+            column: n(8),
         }
     }
 
@@ -130,6 +151,7 @@ impl Step {
         let name = |n: u16| (n as usize) < names;
         let used = rule::idents(self.rule);
         self.rule > rule::ALPHA
+            || self.column > LAST_COLUMN
             || !self.idents[..used].iter().all(|(n, _)| name(*n))
             || !self.idents[used..].iter().all(|i| *i == (0, 0))
             || !match self.kind {
@@ -274,19 +296,19 @@ fn premisses(steps: &[Step]) -> Result<Vec<Vec<usize>>, Refusal> {
     let (mut trees, mut premisses) = (Vec::new(), Vec::new());
     for (i, step) in steps.iter().enumerate() {
         let Some(rest) = usize::checked_sub(trees.len(), step.count as usize) else {
-            return refuse(10, i);
+            return refuse_step(10, i, steps);
         };
         premisses.push(trees.split_off(rest));
         trees.push(i);
     }
     if trees.len() > 1 {
-        return refuse(10, steps.len() - 1);
+        return refuse_step(10, steps.len() - 1, steps);
     }
     let mut nesting = vec![0; steps.len()];
     for i in 0..steps.len() {
         nesting[i] = 1 + premisses[i].iter().map(|j| nesting[*j]).max().unwrap_or(0);
     }
-    lowest(11, steps.len(), |i| nesting[*i] > STEP_NESTING)?;
+    lowest_step(11, steps, |i| nesting[*i] > STEP_NESTING)?;
     Ok(premisses)
 }
 
@@ -302,7 +324,7 @@ pub fn decode(bytes: &[u8]) -> Result<Sheet, Refusal> {
     lowest(8, props.len(), |i| props[*i].nesting() > PROP_NESTING)?;
 
     let steps = layout.steps;
-    lowest(9, steps.len(), |i| steps[*i].bad(names.len(), props.len()))?;
+    lowest_step(9, &steps, |i| steps[*i].bad(names.len(), props.len()))?;
     let premisses = premisses(&steps)?;
 
     let names = names.iter().map(|n| String::from_utf8(n.to_vec()).unwrap()).collect();

@@ -2,7 +2,7 @@
 //! their step, the term, the lists by name number, and refusal 19.
 use crate::{
     formula::{Binary, Formula, Parameter, Quantifier},
-    sheet::{refuse, rule, Refusal, Sheet, Step},
+    sheet::{refuse, refuse_step, rule, Refusal, Sheet, Step},
 };
 use alice::kernel::proof_term::{
     Abort, Application, Case, Function, Ident, LetIn, OrLeft, OrRight, Pair, ProjectFst, ProjectSnd, ProofTerm, Type,
@@ -113,7 +113,7 @@ impl Walk<'_> {
             Count::OneOrMore => !premisses.is_empty(),
         };
         if !right {
-            return refuse(12, i);
+            return refuse_step(12, i, &self.sheet.steps);
         }
         let mut parts = Vec::new();
         for (premiss, at) in premisses.iter().zip(places) {
@@ -167,7 +167,7 @@ impl Walk<'_> {
 
     fn ascribed(&mut self, i: usize, term: ProofTerm) -> Result<ProofTerm, Refusal> {
         let Some(prop) = self.sheet.concluded(i) else {
-            return refuse(13, i);
+            return refuse_step(13, i, &self.sheet.steps);
         };
         self.labels += 1;
         prop.atoms(&mut self.atoms);
@@ -185,8 +185,8 @@ impl Walk<'_> {
                 self.datatypes.push(*datatype);
                 Type::Datatype(self.sheet.name(*datatype))
             }
-            (rule::IMPL_INTRO, _) => return refuse(14, i),
-            _ => return refuse(15, i),
+            (rule::IMPL_INTRO, _) => return refuse_step(14, i, &self.sheet.steps),
+            _ => return refuse_step(15, i, &self.sheet.steps),
         };
         self.labels += 1;
         Ok(label)

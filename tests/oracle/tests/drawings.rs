@@ -1,11 +1,12 @@
-//! The drawings of document 01, its "tempting and wrong" list, and the checks on the oracle itself.
+//! The drawings of document 01, its "tempting and wrong" list, columns, and the checks on the oracle itself.
 use oracle::{
     answer::{examine, Answer, Question},
     draw::*,
     formula::{Formula, Formula::*, Parameter},
     generate::{Kind, Sheets},
     limits::limits,
-    sheet::{decode, rule::*, Plain, Refusal, Step, BOARD_ROOM},
+    rng::Rng,
+    sheet::{decode, rule::*, Layout, Plain, Refusal, Step, BOARD_ROOM, LAST_COLUMN},
     sound,
 };
 
@@ -21,7 +22,7 @@ fn ask(question: Question, sheet: &Plain) -> Result<Answer, Refusal> {
 }
 
 fn refused<T>(number: u8, place: usize) -> Result<T, Refusal> {
-    Err(Refusal { number, place })
+    Err(Refusal { number, place, column: 0 })
 }
 
 fn text(sheet: &Plain) -> String {
@@ -79,8 +80,8 @@ fn smallest_sheet() {
     let bytes = smallest().bytes();
     assert_eq!(bytes[..12], [0, 0, 0, 0, 1, 0, 1, 0, 1, 0, 0, 0]);
     assert_eq!(bytes[12..16], [0, 0, 1, 0]);
-    assert_eq!(bytes[16..], [&[3][..], &[0; 17], &[0]].concat());
-    assert_eq!(bytes.len(), 35);
+    assert_eq!(bytes[16..], [&[3][..], &[0; 19], &[0]].concat());
+    assert_eq!(bytes.len(), 37);
     assert_eq!(text(&smallest()), "\n\n\n()");
 }
 
@@ -324,7 +325,92 @@ fn the_board_prints_a_line_for_a_refusal() {
     let line = |text: &str| Ok(Answer::Text(text.into()));
     assert_eq!(answer(Question::BoardOutput, &[], None), line("refused 1 at 0\n"));
     let sheet = plain(&["A"], &[atom(A)], &[step(SORRY, 0, &[], 0), step(IMPL_INTRO, 0, &[0], 0)]);
-    assert_eq!(ask(Question::BoardOutput, &sheet), line("refused 10 at 1\n"));
+    assert_eq!(ask(Question::BoardOutput, &sheet), line("refused 10 at 1 column 0\n"));
+}
+
+/// A sheet of three names and propositions whose steps stand in columns 100, 101 and so on.
+fn drawn(steps: &[Step]) -> Plain {
+    let steps: Vec<Step> = (100..).zip(steps).map(|(column, step)| in_column(column, *step)).collect();
+    plain(&["A", "B", "u"], &[atom(A), atom(B), and(atom(A), atom(B))], &steps)
+}
+
+#[test]
+fn refusals_9_to_15_give_the_column_of_their_step() {
+    let (sorry, over, project) = (step(SORRY, 0, &[], 0), step(ALPHA, 1, &[], 0), step(AND_ELIM_FST, 1, &[], 0));
+    let bad = step(17, 0, &[], 0);
+    let cases = [
+        (9, 1, vec![sorry, bad, bad]),
+        (10, 1, vec![sorry, step(AND_INTRO, 2, &[], 0), over]),
+        (10, 2, vec![sorry, sorry, over]),
+        (11, 256, [vec![sorry], vec![over; 300]].concat()),
+        (12, 0, vec![step(ALPHA, 0, &[], 0), over]),
+        (13, 0, vec![judging(sorry, 0, 1), project]),
+        (14, 1, vec![sorry, step(IMPL_INTRO, 1, &[2], 0), project]),
+        (15, 1, vec![sorry, step(FORALL_INTRO, 1, &[2], 0), project]),
+    ];
+    for (number, place, steps) in cases {
+        let (sheet, column) = (drawn(&steps), 100 + place as u16);
+        let refusal = Refusal { number, place, column };
+        for question in [Question::PlainText, Question::StrictText, Question::AtomList, Question::LabelCount] {
+            assert_eq!(ask(question, &sheet), Err(refusal));
+        }
+        let line = format!("refused {number} at {place} column {column}\n");
+        assert_eq!(ask(Question::BoardOutput, &sheet), Ok(Answer::Text(line)));
+        let compared = ask(Question::Comparison(0, 0), &sheet);
+        assert_eq!(compared, if number > 11 { Ok(Answer::Equal(true)) } else { Err(refusal) });
+    }
+}
+
+#[test]
+fn a_column_past_4095_is_refused_as_it_stands() {
+    for at in 0..3 {
+        let in_column = |column| {
+            let mut sheet = second();
+            sheet.steps[at].column = column;
+            ask(Question::PlainText, &sheet)
+        };
+        assert_eq!(in_column(LAST_COLUMN), in_column(0));
+        for column in [4096, 4096 + 7, 32768, 65535] {
+            assert_eq!(in_column(column), Err(Refusal { number: 9, place: at, column }));
+        }
+    }
+    let mut sheet = drawn(&[step(SORRY, 1, &[], 0), step(SORRY, 0, &[], 0)]);
+    sheet.steps[1].column = 5000;
+    assert_eq!(ask(Question::PlainText, &sheet), Err(Refusal { number: 9, place: 1, column: 5000 }));
+    sheet.steps[0].rule = 17;
+    assert_eq!(ask(Question::PlainText, &sheet), Err(Refusal { number: 9, place: 0, column: 100 }));
+    let line = "refused 9 at 0 column 100\n";
+    assert_eq!(ask(Question::BoardOutput, &sheet), Ok(Answer::Text(line.into())));
+}
+
+#[test]
+fn other_refusals_have_column_0() {
+    let good = drawn(&[step(SORRY, 0, &[], 0), step(AND_ELIM_FST, 1, &[], 0)]);
+    let bytes = good.bytes();
+    let named = |name: &str| Plain { names: vec![name.into()], ..good.clone() }.bytes();
+    let coded = |code: Vec<u8>| Plain { props: vec![code], ..good.clone() }.bytes();
+    let long_text = [&[0, 64][..], &bytes[2..]].concat();
+    let deep = [vec![2; 64], vec![0; 65]].concat();
+    let refused_sheets = [
+        bytes[..11].to_vec(),
+        long_text,
+        bytes[..bytes.len() - 1].to_vec(),
+        named(""),
+        named("_"),
+        coded(vec![]),
+        coded(vec![9]),
+        coded(deep),
+    ];
+    for (number, bytes) in (1..).zip(refused_sheets) {
+        assert_eq!(answer(Question::LabelCount, &bytes, None), refused(number, 0));
+        let line = format!("refused {number} at 0\n");
+        assert_eq!(answer(Question::BoardOutput, &bytes, None), Ok(Answer::Text(line)));
+    }
+    assert_eq!(answer(Question::PlainText, &bytes, Some(3)), refused(16, 0));
+    assert_eq!(ask(Question::Comparison(0, 2), &good), refused(17, 0));
+    let unbound = code(&Atom(0, vec![Parameter::Uninstantiated(1)]));
+    let sheet = Plain { props: vec![unbound], ..good };
+    assert_eq!(ask(Question::Comparison(0, 1), &sheet), refused(19, 0));
 }
 
 /// Runs on a stack that holds the deepest trees.
@@ -342,6 +428,42 @@ fn random_sheets_agree_with_the_rust() {
     for kind in [Kind::Sound, Kind::Random, Kind::Quantified, Kind::Damaged] {
         deep(move || Sheets::new(kind, 7, 300).iter().for_each(|(what, bytes)| drop(examine(&bytes).expect(&what))));
     }
+}
+
+/// Sheets that differ only in columns within range: the same texts, lists and labels, the same comparisons, and the
+/// same refusals with the same places.
+#[test]
+fn columns_within_range_change_nothing_else() {
+    fn redrawn(bytes: &[u8], column: impl FnMut() -> u16) -> Vec<u8> {
+        let mut layout = Layout::read(bytes).unwrap();
+        layout.steps.iter_mut().zip(std::iter::repeat_with(column)).for_each(|(step, column)| step.column = column);
+        layout.bytes()
+    }
+    fn without_column<T>(answer: Result<T, Refusal>) -> Result<T, Refusal> {
+        answer.map_err(|refusal| Refusal { column: 0, ..refusal })
+    }
+    deep(|| {
+        for kind in [Kind::Sound, Kind::Random, Kind::Quantified, Kind::Damaged] {
+            for (what, bytes) in Sheets::new(kind, 9, 300).iter().filter(|(_, bytes)| Layout::read(bytes).is_some()) {
+                let mut rng = Rng::new(9, 9);
+                let one = examine(&redrawn(&bytes, || 0)).expect(&what);
+                let other = examine(&redrawn(&bytes, || rng.below(4096) as u16)).expect(&what);
+                for question in [
+                    Question::PlainText,
+                    Question::StrictText,
+                    Question::AtomList,
+                    Question::DatatypeList,
+                    Question::LabelCount,
+                    Question::Comparison(0, 0),
+                    Question::Comparison(0, 1),
+                    Question::Comparison(2, 1),
+                ] {
+                    let answers = [&one, &other].map(|sheet| without_column(sheet.answer(question, None).unwrap()));
+                    assert_eq!(answers[0], answers[1], "{what}");
+                }
+            }
+        }
+    });
 }
 
 /// The checker must be able to say no: a sound sheet's term is accepted for the root's proposition, and is turned

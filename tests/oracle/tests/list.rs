@@ -35,7 +35,7 @@ impl Reader<'_> {
     fn answer(&mut self, question: Question) -> Result<Answer, Refusal> {
         let (number, value) = (self.number(1) as u8, self.number(4));
         if number > 0 {
-            return Err(Refusal { number, place: value });
+            return Err(Refusal { number, place: value, column: self.number(2) as u16 });
         }
         Ok(match question {
             Question::PlainText | Question::StrictText | Question::BoardOutput => {

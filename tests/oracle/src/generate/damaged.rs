@@ -1,8 +1,8 @@
 //! Good sheets with one to three faults, by bytes or by parts.
-use super::{arbitrary::arbitrary, sound::sound};
+use super::{arbitrary::arbitrary, draft::column, sound::sound};
 use crate::{
     rng::Rng,
-    sheet::{rule, Layout, Plain, Step, HEADER_BYTES, PAIR_BYTES, STEPS, STEP_BYTES},
+    sheet::{rule, Layout, Plain, Step, HEADER_BYTES, LAST_COLUMN, PAIR_BYTES, STEPS, STEP_BYTES},
 };
 
 pub fn damaged(mut rng: Rng) -> Vec<u8> {
@@ -81,8 +81,8 @@ fn damage_part(rng: &mut Rng, parts: &mut Plain) {
         8 => drop(parts.steps.remove(at)),
         _ => {
             let more = rng.range(1, 256).min(STEPS.saturating_sub(s));
-            let top = Step { rule: rule::ALPHA, count: 1, ..Step::default() };
-            parts.steps.extend(vec![top; more]);
+            let top = |_| Step { rule: rule::ALPHA, count: 1, column: column(rng), ..Step::default() };
+            parts.steps.extend((0..more).map(top));
         }
     }
 }
@@ -101,11 +101,12 @@ fn damage_code(rng: &mut Rng, code: &mut Vec<u8>) {
 }
 
 fn damage_step(rng: &mut Rng, step: &mut Step, value: u16) {
-    match rng.below(9) {
+    match rng.below(10) {
         0 => step.rule = rng.below(18) as u8,
         field @ (1 | 3) => step.idents[field / 2].0 = value,
         field @ (2 | 4) => step.idents[field / 2 - 1].1 = value,
         5 => step.kind = rng.below(3) as u16,
+        9 => step.column = *rng.pick(&[LAST_COLUMN, LAST_COLUMN + 1, u16::MAX]),
         field => step.conclusion[field - 6] = value,
     }
 }

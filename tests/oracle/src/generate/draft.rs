@@ -2,7 +2,7 @@
 use crate::{
     formula::{Binary, Formula, Parameter, Quantifier},
     rng::Rng,
-    sheet::{Layout, Step, CODE, NAMES, NAME_BYTES, PARAMETERS, PROPS, PROP_NESTING, STEPS, TEXT},
+    sheet::{Layout, Step, CODE, LAST_COLUMN, NAMES, NAME_BYTES, PARAMETERS, PROPS, PROP_NESTING, STEPS, TEXT},
 };
 use std::collections::HashMap;
 
@@ -30,6 +30,14 @@ fn name(rng: &mut Rng) -> Vec<u8> {
 pub fn scale(rng: &mut Rng) -> usize {
     let (low, high) = [(1, 6), (5, 40), (30, 250), (200, 900), (1000, STEPS)][rng.weighted(&[30, 45, 17, 6, 2])];
     rng.range(low, high)
+}
+
+/// A column within range.
+pub fn column(rng: &mut Rng) -> u16 {
+    match rng.below(8) {
+        0 => *rng.pick(&[0, 1, 255, 256, LAST_COLUMN]),
+        _ => rng.below(LAST_COLUMN as usize + 1) as u16,
+    }
 }
 
 /// Formulas here are over words, not name numbers: a word is written under any of the numbers that its bytes have.
@@ -138,7 +146,7 @@ impl Draft {
             Conclusion::Prop(n) => (0, [n, 0, 0]),
             Conclusion::Judgement(word, id, datatype) => (1, [self.number(word), id, self.number(datatype)]),
         };
-        self.steps.push(Step { rule, count: count as u8, idents: two, kind, conclusion });
+        self.steps.push(Step { rule, count: count as u8, idents: two, kind, conclusion, column: 0 });
     }
 
     /// Lays parts out with gaps of unread bytes.
@@ -164,11 +172,13 @@ impl Draft {
         (pairs, all)
     }
 
+    /// Columns are drawn last, so that nothing else of the sheet depends on them.
     pub fn finish(mut self, goal: u16) -> Vec<u8> {
         let names: Vec<Vec<u8>> = self.names.iter().map(|w| self.words[*w].clone()).collect();
         let codes = std::mem::take(&mut self.codes);
         let (names, text) = self.spread(&names, TEXT);
         let (props, code) = self.spread(&codes, CODE);
+        self.steps.iter_mut().for_each(|step| step.column = column(&mut self.rng));
         let n = |l: usize| l as u16;
         let header = [n(text.len()), n(names.len()), n(code.len()), n(props.len()), n(self.steps.len()), goal];
         Layout { header, names, props, steps: self.steps, text, code }.bytes()
