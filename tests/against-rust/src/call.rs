@@ -5,11 +5,24 @@ use oracle::{
 };
 use std::fmt;
 
-pub type Fill<T> =
-    unsafe extern "C" fn(sheet: *const u8, sheet_length: usize, out: *mut T, room: usize, value: *mut usize) -> u8;
-pub type Count = unsafe extern "C" fn(sheet: *const u8, sheet_length: usize, value: *mut usize) -> u8;
-pub type Compare =
-    unsafe extern "C" fn(sheet: *const u8, sheet_length: usize, i: usize, j: usize, value: *mut usize) -> u8;
+pub type Fill<T> = unsafe extern "C" fn(
+    sheet: *const u8,
+    sheet_length: usize,
+    out: *mut T,
+    room: usize,
+    value: *mut usize,
+    column: *mut usize,
+) -> u8;
+pub type Count =
+    unsafe extern "C" fn(sheet: *const u8, sheet_length: usize, value: *mut usize, column: *mut usize) -> u8;
+pub type Compare = unsafe extern "C" fn(
+    sheet: *const u8,
+    sheet_length: usize,
+    i: usize,
+    j: usize,
+    value: *mut usize,
+    column: *mut usize,
+) -> u8;
 pub type Board = unsafe extern "C" fn(sheet: *const u8, sheet_length: usize, out: *mut u8) -> usize;
 
 /// The functions of `skriduhol.h`.
@@ -24,10 +37,11 @@ pub struct Library {
     pub board_output: Board,
 }
 
-/// What a call gave: the refusal's number or 0, the value, and the memory it was lent.
+/// What a call gave: the refusal's number or 0, the value, the column, and the memory it was lent.
 pub struct Said {
     number: u8,
     value: usize,
+    column: usize,
     memory: Memory,
     sheet_changed: bool,
 }
@@ -38,19 +52,19 @@ enum Memory {
     Numbers(Lent<u16>),
 }
 
-/// A value that no call can mean, to see that it is overwritten.
+/// A value or column that no call can mean, to see that it is overwritten.
 const UNSAID: usize = usize::MAX / 3;
 
 impl Library {
     pub fn call(&self, sheet: &[u8], question: Question, room: usize, salt: u8) -> Said {
         let mut lent = sheet.to_vec();
         let (pointer, length) = (lent.as_mut_ptr().cast_const(), lent.len());
-        let mut value = UNSAID;
-        // SAFETY: the sheet, the value and the lent rooms outlive the calls.
+        let (mut value, mut column) = (UNSAID, UNSAID);
+        // SAFETY: the sheet, the value, the column and the lent rooms outlive the calls.
         let (number, memory) = unsafe {
             let mut text = |fill: Fill<u8>| {
                 let mut out = Lent::new(room, salt);
-                (fill(pointer, length, out.start(), room, &mut value), Memory::Bytes(out))
+                (fill(pointer, length, out.start(), room, &mut value, &mut column), Memory::Bytes(out))
             };
             match question {
                 Question::PlainText => text(self.plain_text),
@@ -58,32 +72,38 @@ impl Library {
                 Question::AtomList | Question::DatatypeList => {
                     let fill = if question == Question::AtomList { self.atom_list } else { self.datatype_list };
                     let mut out = Lent::new(room, salt);
-                    (fill(pointer, length, out.start(), room, &mut value), Memory::Numbers(out))
+                    (fill(pointer, length, out.start(), room, &mut value, &mut column), Memory::Numbers(out))
                 }
-                Question::LabelCount => ((self.label_count)(pointer, length, &mut value), Memory::None),
-                Question::Comparison(i, j) => ((self.compare)(pointer, length, i, j, &mut value), Memory::None),
+                Question::LabelCount => ((self.label_count)(pointer, length, &mut value, &mut column), Memory::None),
+                Question::Comparison(i, j) => {
+                    ((self.compare)(pointer, length, i, j, &mut value, &mut column), Memory::None)
+                }
                 Question::BoardOutput => {
                     let mut out = Lent::new(BOARD_ROOM, salt);
-                    value = (self.board_output)(pointer, length, out.start());
+                    // It has no column to hand back: a refusal's stands in its line.
+                    (value, column) = ((self.board_output)(pointer, length, out.start()), 0);
                     (0, Memory::Bytes(out))
                 }
             }
         };
-        Said { number, value, memory, sheet_changed: lent != sheet }
+        Said { number, value, column, memory, sheet_changed: lent != sheet }
     }
 }
 
 impl Said {
     /// Says what is not as expected, if anything is.
     pub fn differs(&self, expected: &Result<Answer, Refusal>) -> Option<String> {
-        let (number, value) = match expected {
-            Ok(Answer::Count(count)) => (0, *count),
-            Ok(Answer::Equal(equal)) => (0, *equal as usize),
-            Ok(answer) => (0, answer.length()),
-            Err(refusal) => (refusal.number, refusal.place),
+        let (number, value, column) = match expected {
+            Ok(Answer::Count(count)) => (0, *count, 0),
+            Ok(Answer::Equal(equal)) => (0, *equal as usize, 0),
+            Ok(answer) => (0, answer.length(), 0),
+            Err(refusal) => (refusal.number, refusal.place, refusal.column as usize),
         };
         if (self.number, self.value) != (number, value) {
             return Some("another answer".into());
+        }
+        if self.column != column {
+            return Some(format!("column {}, expected {column}", self.column));
         }
         if self.sheet_changed {
             return Some("the sheet itself is changed".into());
@@ -101,7 +121,7 @@ impl Said {
 impl fmt::Display for Said {
     fn fmt(&self, f: &mut fmt::Formatter) -> fmt::Result {
         if self.number > 0 {
-            return write!(f, "refused {} at {}", self.number, self.value);
+            return write!(f, "refused {} at {}, column {}", self.number, self.value, self.column);
         }
         write!(f, "accepted, {}", self.value)?;
         match &self.memory {

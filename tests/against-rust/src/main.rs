@@ -5,12 +5,47 @@ use std::{process::exit, str::FromStr, thread, time::Instant};
 
 #[link(name = "skriduhol_c", kind = "static")]
 extern "C" {
-    fn skriduhol_plain_text(sheet: *const u8, length: usize, out: *mut u8, room: usize, value: *mut usize) -> u8;
-    fn skriduhol_strict_text(sheet: *const u8, length: usize, out: *mut u8, room: usize, value: *mut usize) -> u8;
-    fn skriduhol_atom_list(sheet: *const u8, length: usize, out: *mut u16, room: usize, value: *mut usize) -> u8;
-    fn skriduhol_datatype_list(sheet: *const u8, length: usize, out: *mut u16, room: usize, value: *mut usize) -> u8;
-    fn skriduhol_label_count(sheet: *const u8, length: usize, value: *mut usize) -> u8;
-    fn skriduhol_compare(sheet: *const u8, length: usize, i: usize, j: usize, value: *mut usize) -> u8;
+    fn skriduhol_plain_text(
+        sheet: *const u8,
+        length: usize,
+        out: *mut u8,
+        room: usize,
+        value: *mut usize,
+        column: *mut usize,
+    ) -> u8;
+    fn skriduhol_strict_text(
+        sheet: *const u8,
+        length: usize,
+        out: *mut u8,
+        room: usize,
+        value: *mut usize,
+        column: *mut usize,
+    ) -> u8;
+    fn skriduhol_atom_list(
+        sheet: *const u8,
+        length: usize,
+        out: *mut u16,
+        room: usize,
+        value: *mut usize,
+        column: *mut usize,
+    ) -> u8;
+    fn skriduhol_datatype_list(
+        sheet: *const u8,
+        length: usize,
+        out: *mut u16,
+        room: usize,
+        value: *mut usize,
+        column: *mut usize,
+    ) -> u8;
+    fn skriduhol_label_count(sheet: *const u8, length: usize, value: *mut usize, column: *mut usize) -> u8;
+    fn skriduhol_compare(
+        sheet: *const u8,
+        length: usize,
+        i: usize,
+        j: usize,
+        value: *mut usize,
+        column: *mut usize,
+    ) -> u8;
     fn skriduhol_board_output(sheet: *const u8, length: usize, out: *mut u8) -> usize;
 }
 

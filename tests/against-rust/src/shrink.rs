@@ -121,8 +121,8 @@ fn with_premiss_for_step(sheet: &Sheet, k: usize) -> Option<Sheet> {
 }
 
 fn with_leaf_for_step(sheet: &Sheet, k: usize) -> Option<Sheet> {
-    let Step { kind, conclusion, .. } = *sheet.steps.get(k)?;
-    let leaf = Step { rule: rule::TRUE_INTRO, kind, conclusion, ..Step::default() };
+    let Step { kind, conclusion, column, .. } = *sheet.steps.get(k)?;
+    let leaf = Step { rule: rule::TRUE_INTRO, kind, conclusion, column, ..Step::default() };
     Some(with_steps(sheet, tree(sheet, k), &[leaf]))
 }
 

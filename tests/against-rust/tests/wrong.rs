@@ -9,7 +9,7 @@ use oracle::{
     formula::{Formula, Parameter},
     generate::Kind,
     reference::meets_two_counts,
-    sheet::{Refusal, Sheet, BOARD_ROOM},
+    sheet::{Layout, Refusal, Sheet, BOARD_ROOM},
     text::{strict, text, Brackets, Under},
 };
 use std::{
@@ -23,13 +23,16 @@ struct Asked {
     question: Question,
     room: usize,
     sheet: *mut u8,
+    bytes: Vec<u8>,
     examined: Rc<Examined>,
 }
 
-/// What the library is about to say: the refusal's number or 0, the value, and the cells of its output by position.
+/// What the library is about to say: the refusal's number or 0, the value, the column, and the cells of its output by
+/// position.
 struct Reply {
     number: u8,
     value: usize,
+    column: usize,
     cells: Vec<(isize, u16)>,
 }
 
@@ -68,13 +71,24 @@ impl Asked {
         if let (true, Ok(sheet), Ok(exported)) = (self.is(operation), &self.examined.sheet, &self.examined.exported) {
             *reply = match text(sheet, &exported.export, brackets) {
                 text if text.len() <= self.room => Reply::new(&Ok(Answer::Text(text))),
-                _ => Reply::new(&Err(Refusal { number: 16, place: 0 })),
+                _ => Reply::new(&Err(Refusal { number: 16, place: 0, column: 0 })),
             };
         }
     }
 
     fn fills(&self) -> bool {
         !self.is(Operation::LabelCount) && !self.is(Operation::Comparison)
+    }
+
+    /// The columns of the sheet's steps, if it is as long as its header says.
+    fn columns(&self) -> Vec<usize> {
+        Layout::read(&self.bytes).map_or(vec![], |sheet| sheet.steps.iter().map(|step| step.column as usize).collect())
+    }
+
+    /// The refusal whose line the board prints.
+    fn printed_refusal(&self) -> Option<Refusal> {
+        let text = self.examined.answer(Question::PlainText, Some(BOARD_ROOM)).unwrap();
+        text.err().filter(|_| self.is(Operation::BoardOutput))
     }
 }
 
@@ -85,13 +99,13 @@ impl Reply {
             Ok(Answer::List(list)) => list.clone(),
             _ => vec![],
         };
-        let (number, value) = match answer {
-            Ok(Answer::Count(count)) => (0, *count),
-            Ok(Answer::Equal(equal)) => (0, *equal as usize),
-            Ok(answer) => (0, answer.length()),
-            Err(refusal) => (refusal.number, refusal.place),
+        let (number, value, column) = match answer {
+            Ok(Answer::Count(count)) => (0, *count, 0),
+            Ok(Answer::Equal(equal)) => (0, *equal as usize, 0),
+            Ok(answer) => (0, answer.length(), 0),
+            Err(refusal) => (refusal.number, refusal.place, refusal.column as usize),
         };
-        Reply { number, value, cells: (0..).zip(numbers).collect() }
+        Reply { number, value, column, cells: (0..).zip(numbers).collect() }
     }
 
     fn text(&mut self, text: &str) {
@@ -103,7 +117,7 @@ impl Reply {
     }
 
     fn refuse(&mut self, number: u8, place: usize) {
-        *self = Reply::new(&Err(Refusal { number, place }));
+        *self = Reply::new(&Err(Refusal { number, place, column: 0 }));
     }
 
     fn held(&self) -> Vec<u16> {
@@ -184,6 +198,43 @@ const FAULTS: &[(&str, Operation, Fault)] = &[
     ("11 is not tried", Operation::PlainText, |_, reply| reply.number += (reply.number == 11) as u8),
     ("a refusal's place is not given", Operation::PlainText, |_, reply| {
         reply.value = if reply.number > 0 { usize::MAX / 3 } else { reply.value };
+    }),
+    ("every column is 0", Operation::PlainText, |_, reply| reply.column = 0),
+    ("the column is that of the next step", Operation::PlainText, |asked, reply| {
+        if let 9..=15 = reply.number {
+            reply.column = asked.columns().get(reply.value + 1).copied().unwrap_or(0);
+        }
+    }),
+    ("the column of 9 is cut to 12 bits", Operation::PlainText, |_, reply| {
+        if reply.number == 9 {
+            reply.column %= 4096;
+        }
+    }),
+    ("a tree left over has the column of the first step", Operation::PlainText, |asked, reply| {
+        let columns = asked.columns();
+        if reply.number == 10 && reply.value + 1 == columns.len() {
+            reply.column = columns[0];
+        }
+    }),
+    ("a refusal's place is taken for a step in every case", Operation::PlainText, |asked, reply| {
+        if let 4..=8 = reply.number {
+            reply.column = asked.columns().get(reply.value).copied().unwrap_or(0);
+        }
+    }),
+    ("the root's column is handed back with an answer", Operation::AtomList, |asked, reply| {
+        if asked.is(Operation::AtomList) && reply.number == 0 {
+            reply.column = asked.columns().pop().unwrap_or(0);
+        }
+    }),
+    ("the column is left unset where there is none", Operation::DatatypeList, |asked, reply| {
+        if asked.is(Operation::DatatypeList) && !(9..=15).contains(&reply.number) {
+            reply.column = usize::MAX / 3;
+        }
+    }),
+    ("a comparison hands back no column", Operation::Comparison, |asked, reply| {
+        if asked.is(Operation::Comparison) {
+            reply.column = 0;
+        }
     }),
     ("a strict text is a plain one", Operation::StrictText, |asked, reply| {
         if let (true, 0, Ok(exported)) = (asked.is(Operation::StrictText), reply.number, &asked.examined.exported) {
@@ -299,7 +350,7 @@ const FAULTS: &[(&str, Operation, Fault)] = &[
     }),
     ("a comparison refuses what the walk refuses", Operation::Comparison, |asked, reply| {
         if let (true, Err(refusal)) = (asked.is(Operation::Comparison), &asked.examined.exported) {
-            reply.refuse(refusal.number, refusal.place);
+            *reply = Reply::new(&Err(*refusal));
         }
     }),
     ("all sheets are refused", Operation::PlainText, |_, reply| reply.refuse(1, 0)),
@@ -318,6 +369,21 @@ const FAULTS: &[(&str, Operation, Fault)] = &[
     ("the board's line has another refusal", Operation::BoardOutput, |asked, reply| {
         if let (true, Err(refusal)) = (asked.is(Operation::BoardOutput), &asked.examined.exported) {
             reply.text(&format!("refused {} at {}\n", refusal.place, refusal.number));
+        }
+    }),
+    ("the board's line has no column", Operation::BoardOutput, |asked, reply| {
+        if let Some(Refusal { number, place, .. }) = asked.printed_refusal() {
+            reply.text(&format!("refused {number} at {place}\n"));
+        }
+    }),
+    ("the board's line leaves out column 0", Operation::BoardOutput, |asked, reply| {
+        if let Some(Refusal { number, place, column: 0 }) = asked.printed_refusal() {
+            reply.text(&format!("refused {number} at {place}\n"));
+        }
+    }),
+    ("the board's line has a column for every refusal", Operation::BoardOutput, |asked, reply| {
+        if let Some(Refusal { number, place, column }) = asked.printed_refusal() {
+            reply.text(&format!("refused {number} at {place} column {column}\n"));
         }
     }),
     ("the board's room is one short", Operation::BoardOutput, |asked, reply| {
@@ -369,10 +435,11 @@ unsafe fn reply<T: TryFrom<u16>>(
     length: usize,
     out: *mut T,
     room: usize,
-    value: *mut usize,
+    (value, column): (*mut usize, *mut usize),
 ) -> u8 {
     let bytes = if length == 0 { &[] } else { std::slice::from_raw_parts(sheet, length) };
-    let asked = Asked { question, room, sheet: sheet.cast_mut(), examined: examined(bytes) };
+    let examined = examined(bytes);
+    let asked = Asked { question, room, sheet: sheet.cast_mut(), bytes: bytes.to_vec(), examined };
     let mut reply = Reply::new(&asked.right(Some(room)));
     if let Some((_, _, fault)) = FAULTS.get(FAULT.load(SeqCst)) {
         fault(&asked, &mut reply);
@@ -380,14 +447,21 @@ unsafe fn reply<T: TryFrom<u16>>(
     for (at, number) in reply.cells {
         *out.offset(at) = T::try_from(number).ok().unwrap();
     }
-    *value = reply.value;
+    (*value, *column) = (reply.value, reply.column);
     reply.number
 }
 
 macro_rules! fill {
     ($name:ident, $cell:ty, $question:expr) => {
-        unsafe extern "C" fn $name(s: *const u8, n: usize, out: *mut $cell, room: usize, value: *mut usize) -> u8 {
-            reply($question, s, n, out, room, value)
+        unsafe extern "C" fn $name(
+            s: *const u8,
+            n: usize,
+            out: *mut $cell,
+            room: usize,
+            value: *mut usize,
+            column: *mut usize,
+        ) -> u8 {
+            reply($question, s, n, out, room, (value, column))
         }
     };
 }
@@ -397,17 +471,24 @@ fill!(strict_text, u8, Question::StrictText);
 fill!(atom_list, u16, Question::AtomList);
 fill!(datatype_list, u16, Question::DatatypeList);
 
-unsafe extern "C" fn label_count(s: *const u8, n: usize, value: *mut usize) -> u8 {
-    reply(Question::LabelCount, s, n, std::ptr::null_mut::<u8>(), 0, value)
+unsafe extern "C" fn label_count(s: *const u8, n: usize, value: *mut usize, column: *mut usize) -> u8 {
+    reply(Question::LabelCount, s, n, std::ptr::null_mut::<u8>(), 0, (value, column))
 }
 
-unsafe extern "C" fn compare_steps(s: *const u8, n: usize, i: usize, j: usize, value: *mut usize) -> u8 {
-    reply(Question::Comparison(i, j), s, n, std::ptr::null_mut::<u8>(), 0, value)
+unsafe extern "C" fn compare_steps(
+    s: *const u8,
+    n: usize,
+    i: usize,
+    j: usize,
+    value: *mut usize,
+    column: *mut usize,
+) -> u8 {
+    reply(Question::Comparison(i, j), s, n, std::ptr::null_mut::<u8>(), 0, (value, column))
 }
 
 unsafe extern "C" fn board_output(s: *const u8, n: usize, out: *mut u8) -> usize {
-    let mut value = 0;
-    reply(Question::BoardOutput, s, n, out, BOARD_ROOM, &mut value);
+    let (mut value, mut column) = (0, 0);
+    reply(Question::BoardOutput, s, n, out, BOARD_ROOM, (&mut value, &mut column));
     value
 }
 
