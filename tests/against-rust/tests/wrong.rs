@@ -11,6 +11,7 @@ use oracle::{
     reference::meets_two_counts,
     sheet::{Layout, Refusal, Sheet, BOARD_ROOM},
     text::{strict, text, Brackets, Under},
+    walk::alpha,
 };
 use std::{
     cell::RefCell,
@@ -64,6 +65,16 @@ impl Asked {
             _ => false,
         };
         self.compared().is_some_and(|(sheet, steps)| steps.iter().all(|step| unbound(sheet, *step)))
+    }
+
+    /// Whether two propositions of one connective are compared whose right sides alone are refused.
+    fn right_sides_are_refused(&self) -> bool {
+        self.compared().is_some_and(|(sheet, [i, j])| match (sheet.concluded(i), sheet.concluded(j)) {
+            (Some(Formula::Binary(one, _, l)), Some(Formula::Binary(other, _, r))) => {
+                one == other && alpha(sheet, l, r, &mut vec![]).is_err()
+            }
+            _ => false,
+        })
     }
 
     /// Answers an operation with the text that has these brackets more than `Display`, if it fits.
@@ -326,6 +337,11 @@ const FAULTS: &[(&str, Operation, Fault)] = &[
         if let (Question::Comparison(i, j), 17) = (asked.question, reply.number) {
             let wrapped = Question::Comparison(i % (1 << 32), j % (1 << 32));
             *reply = Reply::new(&asked.examined.answer(wrapped, None).unwrap());
+        }
+    }),
+    ("the right sides are compared after a no on the left", Operation::Comparison, |asked, reply| {
+        if (reply.number, reply.value) == (0, 0) && asked.right_sides_are_refused() {
+            reply.refuse(19, 0);
         }
     }),
     ("two parameter counts are 18", Operation::Comparison, |asked, reply| {

@@ -213,7 +213,8 @@ fn same(sheet: &Sheet, n: u16, m: u16) -> bool {
     sheet.names[n as usize] == sheet.names[m as usize]
 }
 
-fn alpha(sheet: &Sheet, l: &Formula, r: &Formula, bound: &mut Vec<(u16, u16)>) -> Result<bool, Refusal> {
+/// Are two propositions alpha equal where these objects are bound, the latest last?
+pub fn alpha(sheet: &Sheet, l: &Formula, r: &Formula, bound: &mut Vec<(u16, u16)>) -> Result<bool, Refusal> {
     match (l, r) {
         (Formula::True, Formula::True) | (Formula::False, Formula::False) => Ok(true),
         (Formula::Binary(one, l1, l2), Formula::Binary(other, r1, r2)) if one == other => {
