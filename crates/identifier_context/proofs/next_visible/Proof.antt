@@ -78,8 +78,12 @@ sub-next c = search needs
 sub-left : tie.Need-sub-left Inv-loop μ-loop
 sub-left c = search needs
 
+-- back from the loop to the start
+abbrev start : tie.At-loop Inv-loop μ-loop → tie.Start Inv-loop μ-loop
+start c = c .before .before .before .before .before
+
 is-visible-requires : tie.Need-is-visible-requires Inv-loop μ-loop
-is-visible-requires c κs = (c .before .before .before .before .before .before .before .pre, omega arith)
+is-visible-requires c κs = (start (c .before .before) .pre, omega arith)
 
 returns : tie.Need-returns Inv-loop μ-loop
 returns c =

@@ -24,10 +24,14 @@ abbrev μ-loop : tie.MeasureT-loop
 sized : (c : tie.Start Inv-loop μ-loop) → SizeTable (now (c .args .records)) (c .args .k) (now (c .args .sizes))
 sized c = size-table-shorter _ _ _ _ (omega arith) (c .pre .1 .0)
 
+-- back from the loop to the start
+abbrev begun : tie.At-loop Inv-loop μ-loop → tie.Start Inv-loop μ-loop
+begun c = c .before .before .before .before .before
+
 -- a premiss that is still to be passed ends before the walk's step
 before : (c : tie.In-loop Inv-loop μ-loop) → 0 < c .before .loop .start
 before c =
-    let s = c .before .before .before .before .before .before in
+    let s = begun (c .before) in
     walk-in (c .before .loop .inv .0) (s .pre .1 .0 .enough 0 [] [] _ (omega arith)) (omega arith)
 
 premiss-count-requires : tie.Need-premiss-count-requires Inv-loop μ-loop
@@ -60,7 +64,7 @@ cast-start c = omega (arith, c .shared-slice-known5 .given (c .before .before .b
 
 sub-start : tie.Need-sub-start Inv-loop μ-loop
 sub-start c =
-    let s = c .before .before .before .before .before .before .before .before .before in
+    let s = begun (c .before .before .before .before) in
     size-fits (c .before .before .before .before .loop .inv .0) _ (sized s) (before (c .before .before .before))
 
 add-counter : tie.Need-add-counter Inv-loop μ-loop
@@ -72,7 +76,7 @@ loop-less c = omega arith
 loop-again : tie.Need-loop-again Inv-loop μ-loop
 loop-again c =
     let l = c .before .before .before .before .loop .inv in
-    let s = c .before .before .before .before .before .before .before .before .before in
+    let s = begun (c .before .before .before .before) in
     let n = before (c .before .before .before) in (
       walk-on (l .0) _ (sized s) n,
       rw (c .before .max .ensures) (deepest-more _ _ _ _ _ _ (s .pre .1 .1) (l .0) n (l .1)),
