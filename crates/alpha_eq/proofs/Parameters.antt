@@ -9,10 +9,11 @@ use lib.ListN.{length, drop, getD, length-append}
 use lib.Dec.{eqb}
 use Rattle.definitions.specs.Outcome.{Outcome, accepted}
 use Rattle.definitions.specs.Name.{eqName}
-use Rattle.definitions.specs.Sheet.{numberAt, marked, NameWithin}
+use Rattle.definitions.specs.Sheet.{numberAt, marked}
 use Rattle.definitions.specs.Prop.{PropParameter, renameParameter}
 use Rattle.definitions.specs.Code.{u16, encodeParameter, encodeParameters, CodableParameters}
 use Rattle.definitions.specs.Comparison.{no as a-no, andAlso, alphaEqParameter, alphaEqParameters}
+use Rattle.number.specs.Pairs.{NameWithin}
 use Rattle.identifier.proofs.Within.{last-within}
 use Rattle.prefix_code.specs.Scan.{Stands, Several, parameterCoding, parametersCoding}
 use Rattle.prefix_code.proofs.Positions.{after}

@@ -12,8 +12,9 @@ use lib.Seq.{getD-set-same, getD-set-other}
 use Rattle.definitions.specs.Name.{Name}
 use Rattle.definitions.specs.Prop.{AtomUse}
 use Rattle.definitions.specs.Code.{parameterLimit}
-use Rattle.definitions.specs.Sheet.{marked, NameWithin}
+use Rattle.definitions.specs.Sheet.{marked}
 use Rattle.definitions.specs.Text.{occurs, firsts, eqAtomUse}
+use Rattle.number.specs.Pairs.{NameWithin}
 use Rattle.proof_term_lists.specs.Labels.{useOf}
 use Rattle.declarations.specs.Declared.{useOver, usesOver, entriesOf, flagOf, flagged, Held, Notable, Noted, Notes, Searchable}
 use Rattle.declarations.proofs.Firsts.{occurs-append, occurs-firsts, firsts-known, firsts-new, eqAtomUse-true, eqAtomUse-refl}

@@ -12,8 +12,9 @@ use borrow.Author.Count.{below-more}
 use borrow.Author.Tests.{eq-eqb, ne-eqb}
 use Rattle.definitions.specs.Name.{Name}
 use Rattle.definitions.specs.Prop.{AtomUse}
-use Rattle.definitions.specs.Sheet.{pairOffset, pairLength, pairEnd, marked, NameWithin}
+use Rattle.definitions.specs.Sheet.{pairOffset, pairLength, pairEnd, marked}
 use Rattle.definitions.specs.Text.{occurs, eqAtomUse}
+use Rattle.number.specs.Pairs.{NameWithin}
 use Rattle.identifier.proofs.Equality.{eqName-lengths, eqName-differ, eqName-alike}
 use Rattle.proof_term_lists.specs.Labels.{useOf}
 use Rattle.declarations.specs.Declared.{useOver, usesOver, entryAt, entriesOf, Searchable}

@@ -8,9 +8,10 @@ use lib.Dec.{eqb}
 use Rattle.definitions.specs.Name.{Name}
 use Rattle.definitions.specs.Prop.{Prop, AtomUse, getAtoms, getDatatypes}
 use Rattle.definitions.specs.Code.{parameterLimit}
-use Rattle.definitions.specs.Sheet.{marked, NameWithin}
+use Rattle.definitions.specs.Sheet.{marked}
 use Rattle.prefix_code.specs.Scan.{At}
 use Rattle.definitions.specs.Text.{occurs, firsts, eqAtomUse}
+use Rattle.number.specs.Pairs.{NameWithin}
 use Rattle.proof_term_lists.specs.Labels.{useOf, datatypeUses}
 
 -- a use and a list of them, over the bytes of the names

@@ -68,11 +68,6 @@ module _ (pairs : List ℕ) where
   unfoldable pub marked : List ℕ → ℕ → List ℕ
   marked bytes i = take (pairLength i) (drop (pairOffset i) bytes)
 
--- the name of a number lies within the text: its pair is there, and ends within it
-pub record NameWithin (pairs text : List ℕ) (name : ℕ) : Type 0 where
-  pub present : pairSize * (name + 1) ≤ length pairs
-  pub ends : pairEnd pairs name ≤ length text
-
 -- Of step records: a step's rule byte, its premiss count, and the numbers that follow, at offsets 2 to 18.
 -- The last one is the grid column that the step was drawn in.
 module _ (records : List ℕ) where

@@ -2,7 +2,7 @@
 use Prim.Native.Nat.{ℕ}
 use mathlib.Core.List.{List}
 use native.Mathlib.Nat.{le-refl}
-use Rattle.definitions.specs.Sheet.{NameWithin}
+use Rattle.number.specs.Pairs.{NameWithin}
 use Rattle.identifier.specs.Pairs.{PairsWithin}
 
 pub last-within : {pairs text : List ℕ} {i : ℕ} → PairsWithin pairs text i → NameWithin pairs text i

@@ -12,7 +12,8 @@ ghost use Prim.Native.Nat.{_+_, _*_, _≤_};
 ghost use lib.ListN.{length};
 ghost use Rattle.definitions.specs.Name.{isName, eqName};
 ghost use Rattle.definitions.specs.Outcome.{lowest, foundAt};
-ghost use Rattle.definitions.specs.Sheet.{pairSize, pairOffset, pairLength, pairEnd, marked, NameWithin};
+ghost use Rattle.definitions.specs.Sheet.{pairSize, pairOffset, pairLength, pairEnd, marked};
+ghost use Rattle.number.specs.Pairs.{NameWithin};
 ghost use Rattle.identifier.specs.Pairs.{PairsWithin, sameBytes};
 
 // Whether each byte is one that its position allows.

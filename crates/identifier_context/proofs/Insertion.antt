@@ -15,7 +15,7 @@ use Rattle.definitions.specs.IdentifierContext.{IdentifierContext, len}
 use Rattle.definitions.specs.IdentifierContext as definition
 use Rattle.identifier_context.specs.declared.Entry.{Entry}
 use Rattle.identifier_context.specs.declared.Inserted.the-variants.{Refused, Len}
-use Rattle.definitions.specs.Sheet.{NameWithin}
+use Rattle.number.specs.Pairs.{NameWithin}
 use Rattle.identifier_context.specs.Memory.{entrySize, nameAt, entryAt, contextOf, Holds}
 use Rattle.identifier_context.specs.Promises.{numbersOf, memoryAfter, contextAfter, Inserts}
 use Rattle.identifier_context.proofs.Stores.{sets-before, sets-in}

@@ -14,7 +14,7 @@ use Rattle.identifier_context.specs.declared.Entry.{Entry}
 use Rattle.identifier_context.specs.declared.Lookup.{Lookup}
 use Rattle.identifier_context.specs.declared.Removed.{Removed}
 use Rattle.identifier_context.specs.declared.Removed.the-variants.{Nothing, Latest}
-use Rattle.definitions.specs.Sheet.{NameWithin}
+use Rattle.number.specs.Pairs.{NameWithin}
 use Rattle.identifier_context.specs.Memory.{entrySize, nameAt, entryAt, contextOf, Holds}
 use Rattle.identifier_context.specs.Promises.{latestAt, entryFound, closed, closedAt, removedAt, entryRemoved, lengthAfter, admitted, Removes}
 use Rattle.identifier_context.proofs.Stores.{shifted-before, shifted-in, shifted-length}

@@ -4,9 +4,9 @@ use mathlib.Core.Bool.{cond}
 use mathlib.Core.List.{List, [], _∷_}
 use lib.ListN.{length, getD}
 use lib.Dec.{eqb}
-use Rattle.definitions.specs.Sheet.{NameWithin}
 use Rattle.definitions.specs.IdentifierContext.{EntryType, proposition, datatype, IdentifierContext}
 use Rattle.definitions.specs.IdentifierContext as definition
+use Rattle.number.specs.Pairs.{NameWithin}
 use Rattle.identifier_context.specs.declared.Entry.{Entry}
 
 -- the numbers of an entry

@@ -6,7 +6,8 @@ use identifier::same_bytes;
 ghost use mathlib.Core.Path.{_≡_};
 ghost use Prim.Native.Nat.{_+_, _-_, _*_, _≤_, _<_};
 ghost use lib.ListN.{length};
-ghost use Rattle.definitions.specs.Sheet.{marked, NameWithin};
+ghost use Rattle.definitions.specs.Sheet.{marked};
+ghost use Rattle.number.specs.Pairs.{NameWithin};
 ghost use Rattle.identifier_context.specs.Memory.{Holds, entrySize, nameAt, entryOf, entryAt};
 ghost use Rattle.identifier_context.specs.Promises.{Inserts, Finds, Removes, nameAsked, admitted, shifted, closed, isVisible, Shows};
 

@@ -2,7 +2,7 @@
 use Prim.Native.Nat.{ℕ, _+_, _*_, _≤_, _<_}
 use mathlib.Core.List.{List}
 use lib.ListN.{length}
-use Rattle.definitions.specs.Sheet.{NameWithin}
+use Rattle.number.specs.Pairs.{NameWithin}
 use Rattle.proof_term.specs.Records.{recordSize, fieldAt, termAt}
 use Rattle.proof_term.specs.Readable.{NamesBelow, PropositionLabel}
 use Rattle.prefix_code.specs.PropAt.{propAt}

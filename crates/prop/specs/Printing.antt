@@ -6,7 +6,8 @@ use lib.ListN.{getD, take, drop}
 use Rattle.definitions.specs.Utf8.{utf8}
 use Rattle.definitions.specs.Name.{Name}
 use Rattle.definitions.specs.Prop.{Prop, renameProp}
-use Rattle.definitions.specs.Sheet.{marked, NameWithin}
+use Rattle.definitions.specs.Sheet.{marked}
+use Rattle.number.specs.Pairs.{NameWithin}
 use Rattle.prefix_code.specs.PropAt.{propAt, Present}
 use Rattle.prop.specs.Ends.{Known}
 

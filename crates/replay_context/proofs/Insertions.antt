@@ -1,7 +1,7 @@
 -- Lent memory holds a context after an insertion, whether or not there was room.
 use Prim.Native.Nat.{ℕ}
 use mathlib.Core.List.{List}
-use Rattle.definitions.specs.Sheet.{NameWithin}
+use Rattle.number.specs.Pairs.{NameWithin}
 use Rattle.identifier_context.specs.declared.Entry.{Entry}
 use Rattle.identifier_context.specs.declared.Inserted.{Inserted}
 use Rattle.identifier_context.specs.declared.Inserted.the-variants.{Refused, Len}

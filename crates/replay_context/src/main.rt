@@ -10,7 +10,7 @@ use number::number_at;
 ghost use mathlib.Core.Path.{_≡_};
 ghost use mathlib.Core.Bool.{Bool};
 ghost use Prim.Native.Nat.{_<_, _≤_};
-ghost use Rattle.definitions.specs.Sheet.{NameWithin};
+ghost use Rattle.number.specs.Pairs.{NameWithin};
 ghost use Rattle.identifier_context.specs.Memory.{Holds};
 ghost use Rattle.identifier_context.specs.Promises.{lengthAfter};
 ghost use Rattle.replay_context.specs.Lengths.{lengthInserted};

@@ -12,7 +12,7 @@ use Rattle.definitions.specs.Name.{isName}
 use Rattle.definitions.specs.Prop.{nesting}
 use Rattle.definitions.specs.Code.{decode}
 use Rattle.definitions.specs.Outcome.{refused, accepted, foundAt}
-use Rattle.definitions.specs.Sheet.{pairSize, codeLength, codeStart, names, propositions, steps, namePairs, textBytes, propositionPairs, stepRecords, codeBytes, nameOf, marked, premissCount, propositionNestingLimit, treeNestingLimit, NameWithin}
+use Rattle.definitions.specs.Sheet.{pairSize, codeLength, codeStart, names, propositions, steps, namePairs, textBytes, propositionPairs, stepRecords, codeBytes, nameOf, marked, premissCount, propositionNestingLimit, treeNestingLimit}
 use Rattle.definitions.specs.Tree.{ProofTree, height, treesBefore, treeIn, propIn, propOf, treeOf, rootOf}
 use Rattle.definitions.specs.Admission.{isNone, badName, badCode, deepProposition, tooFewTrees, treesLeft, deepTree, admitted}
 use Rattle.definitions.proofs.PrefixCode.{Bytes}
@@ -30,6 +30,7 @@ use Rattle.sheet.specs.Sizes.{stepsFindingTrees, unlessRefused, sizedSte
 use Rattle.sheet.specs.Admitted.{Admitted}
 use Rattle.sheet.proofs.Outcomes.{each-accepted, test-failed, none-lowest}
 use Rattle.definitions.proofs.Lowest.{all-fail}
+use Rattle.number.specs.Pairs.{NameWithin}
 use Rattle.sheet.proofs.Ranges.{in-range}
 use Rattle.sheet.proofs.Given.{good-pairs, good-name-pair, good-proposition-pair}
 use Rattle.sheet.proofs.Stages.{stage-accepted, stage-refuses}

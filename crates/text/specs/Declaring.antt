@@ -7,10 +7,11 @@ use lib.ListN.{length, getD}
 use Rattle.definitions.specs.Outcome.{accepted}
 use Rattle.definitions.specs.Name.{Name}
 use Rattle.definitions.specs.Prop.{Prop, getAtoms, getDatatypes}
-use Rattle.definitions.specs.Sheet.{names, propositions, namePairs, textBytes, propositionPairs, codeBytes, nameOf, pairOffset, NameWithin}
+use Rattle.definitions.specs.Sheet.{names, propositions, namePairs, textBytes, propositionPairs, codeBytes, nameOf, pairOffset}
 use Rattle.definitions.specs.Term.{ProofTerm, atomList, datatypeList, renameTerm}
 use Rattle.definitions.specs.Text.{atomDeclarations, datatypeDeclarations}
 use Rattle.definitions.specs.Answers.{namedTerm, goalProp}
+use Rattle.number.specs.Pairs.{NameWithin}
 use Rattle.prefix_code.specs.PropAt.{propAt}
 use Rattle.prop.specs.Ends.{Known}
 use Rattle.proof_term.specs.Records.{termAt}

@@ -6,7 +6,8 @@ use mathlib.Core.Bool.{true≢false}
 use mathlib.Core.List.{List}
 use native.Mathlib.Omega.{arith}
 use lib.ListN.{length}
-use Rattle.definitions.specs.Sheet.{pairSize, numberAt, pairOffset, pairLength, pairEnd, NameWithin}
+use Rattle.definitions.specs.Sheet.{pairSize, numberAt, pairOffset, pairLength, pairEnd}
+use Rattle.number.specs.Pairs.{NameWithin}
 use Rattle.replay_context.proofs.is_name.Statement.{statement}
 use Rattle.replay_context.proofs.is_name.Tie as tie
 
