@@ -43,8 +43,8 @@ accuracy s d =
     record {
       term = x .term;
       isTerm = rw (d .isAdmitted) isTerm;
-      heading = heading (x .term) (goalProp s);
-      texts = λ style room h. in-room room (sheetText s style) _ (rw (d .isAdmitted, isTerm)) h;
+      heading = λ v. heading v (x .term) (goalProp s);
+      texts = λ version v e style room h. rw e (in-room room (sheetText s v style) _ (rw (d .isAdmitted, isTerm)) h);
       isAccepted = check (x .accepts);
       labels = x .result .labelled;
       count =

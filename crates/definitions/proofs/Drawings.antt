@@ -4,7 +4,7 @@ use mathlib.Core.List.{[], _∷_, map}
 use lib.ListN.{length}
 use Rattle.definitions.specs.Tree.{rules}
 use Rattle.definitions.specs.Encode.{ruleNumber}
-use Rattle.definitions.specs.Drawings.{smallest, drawings, temptations, strictDrawings, columns, asked, expected}
+use Rattle.definitions.specs.Drawings.{smallest, drawings, temptations, strictDrawings, handouts, columns, asked, expected}
 use Rattle.definitions.proofs.Everything.{everything}
 
 pub drawings-hold : map asked drawings ≡ map expected drawings
@@ -18,6 +18,10 @@ temptations-hold = refl
 pub strict-drawings-hold : map asked strictDrawings ≡ map expected strictDrawings
 unfolding everything
 strict-drawings-hold = refl
+
+pub handouts-hold : map asked handouts ≡ map expected handouts
+unfolding everything
+handouts-hold = refl
 
 pub columns-hold : map asked columns ≡ map expected columns
 unfolding everything

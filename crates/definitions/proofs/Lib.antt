@@ -17,5 +17,6 @@ pub mod Labelling
 pub mod Exporting
 pub mod Conventions
 pub mod Accuracy
+pub mod Versions
 pub mod Drawings
 pub mod SoundDrawing

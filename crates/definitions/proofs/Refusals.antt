@@ -1,4 +1,4 @@
--- Comparison uses 1 to 11, 17 and 19 only, and export 1 to 16. So 18 never occurs.
+-- Comparison uses 1 to 11, 17 and 19 only, export 1 to 16, and the handout of any number 21 too. So 18 never occurs.
 use Prim.Native.Nat.{ℕ, _≤_}
 use native.Mathlib.Omega.{arith}
 use mathlib.Core.Path.{_≡_, refl}
@@ -7,20 +7,23 @@ use mathlib.Core.Bool.{Bool, true, false, not, cond}
 use mathlib.Core.Option as option
 use mathlib.Core.Option.{Option, some}
 use mathlib.Core.List.{List, [], _∷_}
+use lib.Dec.{eqb}
 use borrow.Author.Needs.{needs}
 use Rattle.definitions.specs.Outcome.{Outcome, accepted, refused, refuse, _>>=_, mapOutcome, refuseIf, refuseAt, refuseLowest, lowest}
 use Rattle.definitions.specs.Prop.{Sides, Scope, asBinary, asQuantified, impl, forAll, eqConnective, eqQuantifier}
 use Rattle.definitions.specs.Tree.{ProofTreeConclusion, PropIsTrue, TypeJudgement, Step, ProofTree, over, Premisses, none, _and_, count}
-use Rattle.definitions.specs.Term.{proposition, datatype, ProofTerm}
+use Rattle.definitions.specs.Term.{proposition, datatype, ProofTerm, datatypeList}
 use Rattle.definitions.specs.Name.{Name}
 use Rattle.definitions.specs.Admission.{admitted}
 use Rattle.definitions.specs.Export.{Place, checking, inferring, Ending, bare, ascribed, leftLabelled, datatypeLabelled, premissOwn, ending, places, admitsCount, ascriptionLabel, implicationLabel, leftLabel, universalLabel, datatypeLabel, inferringTerm, placedTerm, export, exportAll}
 use Rattle.definitions.specs.Comparison.{no, alphaEq, conclusionAlphaEq}
 use Rattle.definitions.specs.AlphaEquality.{Verdict}
 use Rattle.definitions.specs.declared.Style.{Style}
-use Rattle.definitions.specs.Answers.{inRoom, sheetTerm, namedTerm, sheetText, textAnswer, atomsAnswer, datatypesAnswer, labelCount, comparison}
+use Rattle.definitions.specs.declared.Version.{Version}
+use Rattle.definitions.specs.declared.Version.the-variants.{First, Second}
+use Rattle.definitions.specs.Answers.{inRoom, sheetTerm, namedTerm, sheetText, versionOf, textAnswer, atomsAnswer, datatypesAnswer, labelCount, comparison}
 use Rattle.definitions.proofs.AlphaEquality.{textbook}
-use Rattle.definitions.specs.Refusals.{Uses, is-accepted, is-refused, Between, OfComparison}
+use Rattle.definitions.specs.Refusals.{Uses, is-accepted, is-refused, Between, OfHandout, OfComparison}
 
 -- How outcomes of one kind of refusal are put together.
 module _ {Kind : ℕ → Type 0} {A B : Type 0} where
@@ -143,17 +146,42 @@ unfolding inRoom
 room-uses room h = after (widened (λ n h. search needs) h) λ a. after (tested _ 16 0 (search needs)) λ _. is-accepted
 
 -- the texts and the lists
-pub text-uses : (s : List ℕ) (style : Style) (room : ℕ) → Uses (Between 1 16) (textAnswer s style room)
-unfolding textAnswer sheetText namedTerm
-text-uses s style room = room-uses room (changed _ (changed _ (term-uses s)))
+version-text-uses : (s : List ℕ) (v : Version) (style : Style) (room : ℕ) → Uses (Between 1 16) (inRoom room (sheetText s v style))
+unfolding sheetText namedTerm
+version-text-uses s v style room = room-uses room (changed _ (changed _ (term-uses s)))
+
+version-datatypes-uses : (s : List ℕ) (v : Version) (room : ℕ) → Uses (Between 1 16) (inRoom room (mapOutcome (datatypeList v) (sheetTerm s)))
+version-datatypes-uses s v room = room-uses room (changed _ (term-uses s))
+
+pub text-uses : (s : List ℕ) (style : Style) (room : ℕ) → Uses (Between 1 16) (textAnswer s 1 style room)
+unfolding textAnswer versionOf _>>=_
+text-uses s style room = version-text-uses s First style room
 
 pub atoms-uses : (s : List ℕ) (room : ℕ) → Uses (Between 1 16) (atomsAnswer s room)
 unfolding atomsAnswer
 atoms-uses s room = room-uses room (changed _ (term-uses s))
 
-pub datatypes-uses : (s : List ℕ) (room : ℕ) → Uses (Between 1 16) (datatypesAnswer s room)
+pub datatypes-uses : (s : List ℕ) (room : ℕ) → Uses (Between 1 16) (datatypesAnswer s 1 room)
+unfolding datatypesAnswer versionOf _>>=_
+datatypes-uses s room = version-datatypes-uses s First room
+
+-- the same of any number: 21 is the only refusal of a version
+version-uses : (version : ℕ) → Uses OfHandout (versionOf version)
+unfolding versionOf
+version-uses version = of-tests (eqb version 1) (eqb version 2)
+  where
+    of-tests : (first second : Bool) → Uses OfHandout (cond first (accepted First) (cond second (accepted Second) (refuse 21 0)))
+    of-tests true second = is-accepted
+    of-tests false true = is-accepted
+    of-tests false false = refusal 21 0 (inr refl)
+
+pub handout-uses : (s : List ℕ) (version : ℕ) (style : Style) (room : ℕ) → Uses OfHandout (textAnswer s version style room)
+unfolding textAnswer
+handout-uses s version style room = after (version-uses version) λ v. widened (λ n h. inl h) (version-text-uses s v style room)
+
+pub handout-datatypes-uses : (s : List ℕ) (version room : ℕ) → Uses OfHandout (datatypesAnswer s version room)
 unfolding datatypesAnswer
-datatypes-uses s room = room-uses room (changed _ (term-uses s))
+handout-datatypes-uses s version room = after (version-uses version) λ v. widened (λ n h. inl h) (version-datatypes-uses s v room)
 
 -- the label count
 pub count-uses : (s : List ℕ) → Uses (Between 1 15) (labelCount s)

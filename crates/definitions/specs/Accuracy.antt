@@ -4,6 +4,7 @@ use mathlib.Core.Path.{_≡_}
 use mathlib.Core.List.{List, [], _++_}
 use lib.ListN.{length}
 use Rattle.definitions.specs.declared.Style.{Style}
+use Rattle.definitions.specs.declared.Version.{Version}
 use Rattle.definitions.specs.Outcome.{accepted}
 use Rattle.definitions.specs.Name.{Name}
 use Rattle.definitions.specs.Sheet.{nameOf}
@@ -11,7 +12,7 @@ use Rattle.definitions.specs.Tree.{renameTree}
 use Rattle.definitions.specs.Term.{ProofTerm}
 use Rattle.definitions.specs.Export.{checking}
 use Rattle.definitions.specs.Display.{displayTerm}
-use Rattle.definitions.specs.Answers.{namedTerm, textAnswer, labelCount}
+use Rattle.definitions.specs.Answers.{namedTerm, versionOf, textAnswer, labelCount}
 use Rattle.definitions.specs.CheckingRules.{Checks}
 use Rattle.definitions.specs.Labels.{Labelled, inferringTally, total}
 use Rattle.definitions.specs.Sound.{Deduced, shadowing}
@@ -20,10 +21,11 @@ pub record Accurate (s : List ℕ) (d : Deduced shadowing s) : Type 0 where
   -- the sheet's term, with names as bytes
   pub term : ProofTerm Name
   pub isTerm : namedTerm s ≡ accepted term
-  -- in enough room the text asked for, plain or strict, is the answer, and it ends in the term as printed
-  pub heading : List ℕ
-  pub texts : (style : Style) (room : ℕ) → length (heading ++ displayTerm style term) ≤ room
-      → textAnswer s style room ≡ accepted (heading ++ displayTerm style term)
+  -- in enough room the text of each version, plain or strict, is the answer, and it ends in the term as printed
+  pub heading : Version → List ℕ
+  pub texts : (version : ℕ) (v : Version) → versionOf version ≡ accepted v
+      → (style : Style) (room : ℕ) → length (heading v ++ displayTerm style term) ≤ room
+      → textAnswer s version style room ≡ accepted (heading v ++ displayTerm style term)
   -- the checking rules accept the term for the root's proposition, from no hypotheses
   pub isAccepted : Checks [] term (d .prop)
   -- it has exactly one label for each injection, abort, sorry and function in an inferring place, none elsewhere

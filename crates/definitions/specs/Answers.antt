@@ -1,15 +1,17 @@
 -- The answer to each question about a sheet, for every sequence of bytes and every room; the board's output.
--- Document 01, "Refusals in checking order" and "Text".
+-- Document 01, "Refusals in checking order" and "Text"; document 02, ticket 3, for the versions of the handout.
 use Prim.Native.Nat.{ℕ}
 use mathlib.Core.Bool.{Bool, _||_, _&&_, cond}
 use mathlib.Core.List.{List, [], _∷_, _++_}
 use lib.ListN.{length}
-use lib.Dec.{ltb, leb}
+use lib.Dec.{ltb, leb, eqb}
 use Rattle.definitions.specs.declared.Refusal.{Refusal}
 use Rattle.definitions.specs.declared.Located.{Located}
 use Rattle.definitions.specs.declared.Style.{Style}
 use Rattle.definitions.specs.declared.Style.the-variants.{Plain}
-use Rattle.definitions.specs.Outcome.{Outcome, refused, accepted, _>>=_, mapOutcome, refuseIf}
+use Rattle.definitions.specs.declared.Version.{Version}
+use Rattle.definitions.specs.declared.Version.the-variants.{First, Second}
+use Rattle.definitions.specs.Outcome.{Outcome, refused, accepted, refuse, _>>=_, mapOutcome, refuseIf}
 use Rattle.definitions.specs.Utf8.{utf8}
 use Rattle.definitions.specs.Name.{Name}
 use Rattle.definitions.specs.Prop.{Prop, AtomUse, renameProp}
@@ -62,6 +64,10 @@ unfoldable pub printed : List ℕ → Outcome (List ℕ) → List ℕ
 printed s (refused r) = refusalLine (located s r)
 printed s (accepted a) = a
 
+-- the version of the handout that a number asks for; 21: it is neither 1 nor 2
+unfoldable pub versionOf : ℕ → Outcome Version
+versionOf number = cond (eqb number 1) (accepted First) (cond (eqb number 2) (accepted Second) (refuse 21 0))
+
 -- Of a sheet's bytes:
 module _ (s : List ℕ) where
   -- the sheet's term over its names' numbers, or the first of refusals 1 to 15: the root's place is checking
@@ -78,19 +84,23 @@ module _ (s : List ℕ) where
   goalProp = renameProp (nameOf s) (propOf s (goal s))
 
   -- the text, given room
-  unfoldable pub sheetText : Style → Outcome (List ℕ)
-  sheetText style = mapOutcome (λ t. text style t goalProp) namedTerm
+  unfoldable pub sheetText : Version → Style → Outcome (List ℕ)
+  sheetText v style = mapOutcome (λ t. text v style t goalProp) namedTerm
 
-  -- the plain text and the strict text in a room of bytes
-  unfoldable pub textAnswer : Style → ℕ → Outcome (List ℕ)
-  textAnswer style room = inRoom room (sheetText style)
+  -- the plain text and the strict text of a version in a room of bytes; 21 is tried before 1
+  unfoldable pub textAnswer : ℕ → Style → ℕ → Outcome (List ℕ)
+  textAnswer version style room = do
+    v ← versionOf version
+    inRoom room (sheetText v style)
 
-  -- the lists, without the goal's entries, in a room of numbers
+  -- the lists, without the goal's entries, in a room of numbers; that of the atoms has no version
   unfoldable pub atomsAnswer : ℕ → Outcome (List ℕ)
   atomsAnswer room = inRoom room (mapOutcome (λ t. atomNumbers (atomList t)) sheetTerm)
 
-  unfoldable pub datatypesAnswer : ℕ → Outcome (List ℕ)
-  datatypesAnswer room = inRoom room (mapOutcome datatypeList sheetTerm)
+  unfoldable pub datatypesAnswer : ℕ → ℕ → Outcome (List ℕ)
+  datatypesAnswer version room = do
+    v ← versionOf version
+    inRoom room (mapOutcome (datatypeList v) sheetTerm)
 
   -- the label count
   unfoldable pub labelCount : Outcome ℕ
@@ -106,6 +116,6 @@ module _ (s : List ℕ) where
     _ ← refuseIf (leb (steps s) i || leb (steps s) j) 17 0
     conclusionAlphaEq (namedConclusion i) (namedConclusion j)
 
-  -- what the board program prints
+  -- what the board program prints: the plain text of version 1
   unfoldable pub boardOutput : List ℕ
-  boardOutput = printed s (textAnswer Plain boardRoom)
+  boardOutput = printed s (textAnswer 1 Plain boardRoom)

@@ -1,5 +1,4 @@
--- Document 01's drawings marked ● and the strict drawings of document 02, ticket 1: each with its sheet, a question and the answer
--- that the document gives.
+-- Document 01's drawings marked ● and those of document 02: each with its sheet, a question and the answer that the document gives.
 use Prim.Native.Nat.{ℕ}
 use Prim.Native.String.{String}
 use mathlib.Core.Bool.{Bool, true, false}
@@ -9,18 +8,20 @@ use Rattle.definitions.specs.declared.Style.{Style}
 use Rattle.definitions.specs.declared.Style.the-variants.{Plain, Strict}
 use Rattle.definitions.specs.Utf8.{utf8}
 use Rattle.definitions.specs.Outcome.{Outcome, accepted, refuse, mapOutcome}
-use Rattle.definitions.specs.Prop.{Prop, True, False, And, Or, Impl, Atom, ForAll, Uninstantiated, Instantiated}
-use Rattle.definitions.specs.Tree.{Identifier, ProofTreeRule, AndIntro, AndElimFst, AndElimSnd, TrueIntro, ImplIntro, ImplElim, Ident, OrIntroFst, OrIntroSnd, OrElim, ExistsElim, Sorry, AlphaEquivalent}
+use Rattle.definitions.specs.Prop.{Prop, True, False, And, Or, Impl, Atom, ForAll, Exists, Uninstantiated, Instantiated}
+use Rattle.definitions.specs.Tree.{Identifier, ProofTreeRule, AndIntro, AndElimFst, AndElimSnd, TrueIntro, ImplIntro, ImplElim, Ident, OrIntroFst, OrIntroSnd, OrElim, ForAllIntro, ForAllElim, ExistsElim, Sorry, AlphaEquivalent}
 use Rattle.definitions.specs.Code.{u16}
 use Rattle.definitions.specs.Encode.{noIdentifier, encodeRule, encodePropIsTrue, encodeSheet}
 use Rattle.definitions.specs.Answers.{textAnswer, atomsAnswer, datatypesAnswer, labelCount, comparison, boardRoom, boardOutput}
 
--- a question about a sheet: a text, how many bytes it has, a list, the label count, a comparison of two steps, or what the
--- board prints; texts and lists are lent the board's room
+-- a question about a sheet: a text, how many bytes it has, a list, the label count, a comparison of two steps, what the board
+-- prints, or a text or a datatype list of a version; texts and lists are lent the board's room
 pub data Question : Type 0 where
   text size : Style → Question
   atoms datatypes labels board : Question
   compare : ℕ → ℕ → Question
+  handout : ℕ → Style → Question
+  handoutDatatypes : ℕ → Question
 
 pub data Answer : Type 0 where
   bytes numbers : List ℕ → Answer
@@ -28,13 +29,15 @@ pub data Answer : Type 0 where
   yesNo : Bool → Answer
 
 unfoldable pub ask : Question → List ℕ → Outcome Answer
-ask (text style) s = mapOutcome bytes (textAnswer s style boardRoom)
-ask (size style) s = mapOutcome (λ a. count (length a)) (textAnswer s style boardRoom)
+ask (text style) s = mapOutcome bytes (textAnswer s 1 style boardRoom)
+ask (size style) s = mapOutcome (λ a. count (length a)) (textAnswer s 1 style boardRoom)
 ask atoms s = mapOutcome numbers (atomsAnswer s boardRoom)
-ask datatypes s = mapOutcome numbers (datatypesAnswer s boardRoom)
+ask datatypes s = mapOutcome numbers (datatypesAnswer s 1 boardRoom)
 ask labels s = mapOutcome count (labelCount s)
 ask board s = accepted (bytes (boardOutput s))
 ask (compare i j) s = mapOutcome yesNo (comparison s i j)
+ask (handout version style) s = mapOutcome bytes (textAnswer s version style boardRoom)
+ask (handoutDatatypes version) s = mapOutcome numbers (datatypesAnswer s version boardRoom)
 
 pub record Drawing : Type 0 where
   pub sheet : List ℕ
@@ -247,6 +250,35 @@ strictDrawings =
     (prints "atom A;\n\n\n(let (x, y) = (sorry: A) in (sorry: A)) (let (x, y) = (sorry: A) in b)")
     ∷ drawing ascribedParts (text Plain) (prints "atom A;\n\n\nfst (sorry: A, fn u: A => sorry: A)")
     ∷ drawing ascribedParts (text Strict) (prints "atom A;\n\n\nfst (sorry: A, fn u: A => (sorry: A))")
+    ∷ []
+
+-- Document 02, ticket 3: the versions of the handout.
+
+-- ForAllIntro v over ForAllElim of ForAllIntro x over Sorry of ∀y:U. ∃z:T. P(y, z), and Ident a; goal ∀v:V. ∀y:U. ∃z:T. P(y, z)
+unfoldable pub secondHandout : List ℕ
+secondHandout =
+    let body : Prop ℕ = ForAll 5 2 (Exists 6 1 (Atom 0 (Uninstantiated 5 ∷ Uninstantiated 6 ∷ []))) in
+    sheet ("P" ∷ "T" ∷ "U" ∷ "V" ∷ "x" ∷ "y" ∷ "z" ∷ "v" ∷ "a" ∷ []) (body ∷ ForAll 4 1 body ∷ ForAll 7 3 body ∷ []) 2
+    (step Sorry 0 0 ∷ stepNaming ForAllIntro 4 1 1 ∷ stepNaming Ident 8 0 0 ∷ step ForAllElim 2 0 ∷ stepNaming ForAllIntro 7 1 2 ∷ [])
+
+-- the datatypes of the sorry's label are met before that of the function around it, T twice; V is the goal's alone; the board prints
+-- version 1; a number that is no version is refused before the bytes are looked at
+unfoldable pub handouts : List Drawing
+handouts =
+    drawing secondHandout (handout 1 Plain)
+    (prints "atom P(2);\ndatatype T;\ndatatype V;\ndatatype U;\n\nfn v => (fn x: T => sorry: ∀y:U. ∃z:T. P(y, z)) a")
+    ∷ drawing secondHandout (handout 2 Plain)
+    (prints "datatype U;\ndatatype T;\ndatatype V;\natom P(2);\n\nfn v => (fn x: T => sorry: ∀y:U. ∃z:T. P(y, z)) a")
+    ∷ drawing secondHandout (handout 2 Strict)
+    (prints "datatype U;\ndatatype T;\ndatatype V;\natom P(2);\n\nfn v => (fn x: T => (sorry: ∀y:U. ∃z:T. P(y, z))) a")
+    ∷ drawing secondHandout board
+    (prints "atom P(2);\ndatatype T;\ndatatype V;\ndatatype U;\n\nfn v => (fn x: T => sorry: ∀y:U. ∃z:T. P(y, z)) a")
+    ∷ drawing secondHandout (handoutDatatypes 1) (lists (1 ∷ []))
+    ∷ drawing secondHandout (handoutDatatypes 2) (lists (2 ∷ 1 ∷ 1 ∷ []))
+    ∷ drawing smallest (handout 2 Plain) (prints "\n\n\n()")
+    ∷ drawing [] (handout 2 Plain) (refuse 1 0)
+    ∷ drawing [] (handout 3 Plain) (refuse 21 0)
+    ∷ drawing [] (handoutDatatypes 0) (refuse 21 0)
     ∷ []
 
 -- Ticket 6, where on the glass: a refusal of 9 to 15 prints the column of its step, 0 too, and no other one prints a column; for

@@ -1,4 +1,4 @@
--- Which refusals a question can meet. Document 01, "Refusals in checking order"; document 02, ticket 7, for 18.
+-- Which refusals a question can meet. Document 01, "Refusals in checking order"; document 02, ticket 7, for 18, and ticket 3, for 21.
 use Prim.Native.Nat.{ℕ, _≤_}
 use mathlib.Core.Path.{_≡_}
 use mathlib.Core.Logic.{_⊎_}
@@ -13,6 +13,10 @@ pub data Uses (Kind : ℕ → Type 0) {A : Type 0} : Outcome A → Type 0 where
 pub record Between (least most number : ℕ) : Type 0 where
   pub low : least ≤ number
   pub high : number ≤ most
+
+-- the texts and datatype lists of a version use 1 to 16 and 21 only
+abbrev pub OfHandout : ℕ → Type 0
+OfHandout number = Between 1 16 number ⊎ number ≡ 21
 
 -- comparison uses 1 to 11, 17 and 19 only
 abbrev pub OfComparison : ℕ → Type 0

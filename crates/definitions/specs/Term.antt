@@ -1,9 +1,11 @@
 -- Proof terms (source document 001), their labels, and what the labels add to the lists.
--- Document 01, "Places and labels".
+-- Document 01, "Places and labels"; document 02, ticket 3, for the versions of the datatype list.
 use Prim.Native.Nat.{ℕ, _+_}
 use mathlib.Core.Option.{Option, none, some}
 use mathlib.Core.List.{List, [], _∷_, _++_}
-use Rattle.definitions.specs.Prop.{Prop, AtomUse, getAtoms, renameProp}
+use Rattle.definitions.specs.declared.Version.{Version}
+use Rattle.definitions.specs.declared.Version.the-variants.{First, Second}
+use Rattle.definitions.specs.Prop.{Prop, AtomUse, getAtoms, getDatatypes, renameProp}
 
 -- document 01's label: a proposition or a datatype
 pub data Label (N : Type 0) : Type 0 where
@@ -83,22 +85,27 @@ module _ {N : Type 0} where
   annotationCount Unit = 0
   annotationCount Sorry = 0
 
-  -- a proposition label adds that proposition's atoms; its datatypes are not added
+  -- a proposition label adds that proposition's atoms
   unfoldable pub labelAtoms : Label N → List (AtomUse N)
   labelAtoms (proposition p) = getAtoms p
   labelAtoms (datatype t) = []
 
-  -- a ∀ label adds its datatype
-  unfoldable pub labelDatatypes : Label N → List N
-  labelDatatypes (proposition p) = []
-  labelDatatypes (datatype t) = t ∷ []
+  -- in version 1 a proposition label's datatypes are not added, in version 2 they are
+  unfoldable pub propositionDatatypes : Version → Prop N → List N
+  propositionDatatypes First p = []
+  propositionDatatypes Second p = getDatatypes p
+
+  -- a ∀ label adds its datatype in each
+  unfoldable pub labelDatatypes : Version → Label N → List N
+  labelDatatypes v (proposition p) = propositionDatatypes v p
+  labelDatatypes v (datatype t) = t ∷ []
 
   -- document 01's atom list and datatype list of a term
   unfoldable pub atomList : ProofTerm N → List (AtomUse N)
   atomList t = ofLabels labelAtoms t
 
-  unfoldable pub datatypeList : ProofTerm N → List N
-  datatypeList t = ofLabels labelDatatypes t
+  unfoldable pub datatypeList : Version → ProofTerm N → List N
+  datatypeList v t = ofLabels (labelDatatypes v) t
 
 -- The same term over other names.
 module _ {N M : Type 0} (f : N → M) where

@@ -1,9 +1,14 @@
--- The text: declarations, then the term (source document 005). Document 01, "Text".
+-- The text: declarations, then the term (source document 005). Document 01, "Text"; document 02, ticket 3, for the
+-- versions.
 use Prim.Native.Nat.{ℕ, zero, suc, _+_, _/_, _%_}
 use mathlib.Core.Bool.{Bool, true, false, _&&_, _||_, cond}
 use mathlib.Core.List.{List, [], _∷_, _++_, map}
 use lib.Dec.{eqb, ltb}
 use Rattle.definitions.specs.declared.Style.{Style}
+use Rattle.definitions.specs.declared.Version.{Version}
+use Rattle.definitions.specs.declared.Version.the-variants.{First, Second}
+use Rattle.definitions.specs.declared.TermList.{TermList}
+use Rattle.definitions.specs.declared.TermList.the-variants.{Atoms, Datatypes}
 use Rattle.definitions.specs.Utf8.{utf8}
 use Rattle.definitions.specs.Name.{Name, eqName}
 use Rattle.definitions.specs.Prop.{Prop, AtomUse, getAtoms, getDatatypes}
@@ -67,12 +72,25 @@ atomDeclarations uses = joinLines (map atomDeclaration (firsts eqAtomUse uses))
 unfoldable pub datatypeDeclarations : List Name → List ℕ
 datatypeDeclarations ts = joinLines (map datatypeDeclaration (firsts eqName ts))
 
--- what stands before the term: the declarations of the lists and then the goal
-unfoldable pub heading : ProofTerm Name → Prop Name → List ℕ
-heading t goal =
-    atomDeclarations (atomList t ++ getAtoms goal)
-    ++ (utf8 "\n" ++ (datatypeDeclarations (datatypeList t ++ getDatatypes goal) ++ utf8 "\n\n"))
+-- the declarations of a list of the term and then of the goal
+unfoldable pub declarations : TermList → ProofTerm Name → Prop Name → List ℕ
+declarations Atoms t goal = atomDeclarations (atomList t ++ getAtoms goal)
+declarations (Datatypes v) t goal = datatypeDeclarations (datatypeList v t ++ getDatatypes goal)
+
+-- whose declarations come first: in version 1 the atoms', in version 2 the datatypes'
+unfoldable pub firstList : Version → TermList
+firstList First = Atoms
+firstList Second = Datatypes Second
+
+-- and whose come second
+unfoldable pub secondList : Version → TermList
+secondList First = Datatypes First
+secondList Second = Atoms
+
+-- what stands before the term
+unfoldable pub heading : Version → ProofTerm Name → Prop Name → List ℕ
+heading v t goal = declarations (firstList v) t goal ++ (utf8 "\n" ++ (declarations (secondList v) t goal ++ utf8 "\n\n"))
 
 -- the text of a term under a goal
-unfoldable pub text : Style → ProofTerm Name → Prop Name → List ℕ
-text s t goal = heading t goal ++ displayTerm s t
+unfoldable pub text : Version → Style → ProofTerm Name → Prop Name → List ℕ
+text v s t goal = heading v t goal ++ displayTerm s t

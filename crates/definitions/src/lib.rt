@@ -1,6 +1,6 @@
 // The types that every layer shares with the definitions.
 
-// A refusal of document 01: its number, 1 to 19, and its place.
+// A refusal of document 01 or 02: its number and its place.
 pub struct Refusal {
     pub number: u8,
     pub place: u16,
@@ -16,6 +16,19 @@ pub struct Located {
 pub enum Style {
     Plain,
     Strict,
+}
+
+// The version of the handout. The first is document 01's. The second has the datatype declarations before the atoms', and its
+// datatype list holds the datatypes of every label.
+pub enum Version {
+    First,
+    Second,
+}
+
+// A list of a term: its atoms, or its datatypes in a version.
+pub enum TermList {
+    Atoms,
+    Datatypes(Version),
 }
 
 // The place that a search found, if there is one.
