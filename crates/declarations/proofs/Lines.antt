@@ -7,6 +7,9 @@ use native.Mathlib.Omega.{arith}
 use native.Mathlib.Numerals.{add-one}
 use lib.ListN.{length, getD, length-append}
 use borrow.Author.Tests.{ne-eqb}
+use Rattle.definitions.specs.declared.Version.{Version}
+use Rattle.definitions.specs.declared.TermList.{TermList}
+use Rattle.definitions.specs.declared.TermList.the-variants.{Atoms, Datatypes}
 use Rattle.definitions.specs.Name.{Name, eqName}
 use Rattle.definitions.specs.Prop.{AtomUse}
 use Rattle.definitions.specs.Utf8.{utf8}
@@ -35,36 +38,36 @@ unfolding entriesOf
 entries-length declared zero = refl
 entries-length declared (suc len) = rw (length-append, entries-length declared len) (omega arith)
 
-module _ (datatypes : Bool) (f : ℕ → Name) (declared : List ℕ) where
-  pub lines-none : declarationLines datatypes (usesOver f (entriesOf declared 0)) ≡ []
+module _ (list : TermList) (f : ℕ → Name) (declared : List ℕ) where
+  pub lines-none : declarationLines list (usesOver f (entriesOf declared 0)) ≡ []
   unfolding declarationLines joinLines entriesOf
   lines-none = refl
 
-  lines-one : declarationLines datatypes (usesOver f (entriesOf declared 1)) ≡ declaration datatypes (useOver f (useOf (getD declared 0 0) (getD declared 1 0)))
+  lines-one : declarationLines list (usesOver f (entriesOf declared 1)) ≡ declaration list (useOver f (useOf (getD declared 0 0) (getD declared 1 0)))
   unfolding declarationLines joinLines followingLines entriesOf
   lines-one = append-nil _
 
-  lines-after : (j : ℕ) → 0 < j → declarationLines datatypes (usesOver f (entriesOf declared (j + 1)))
-      ≡ declarationLines datatypes (usesOver f (entriesOf declared j)) ++ (utf8 "\n" ++ declaration datatypes (useOver f (entryAt declared j)))
+  lines-after : (j : ℕ) → 0 < j → declarationLines list (usesOver f (entriesOf declared (j + 1)))
+      ≡ declarationLines list (usesOver f (entriesOf declared j)) ++ (utf8 "\n" ++ declaration list (useOver f (entryAt declared j)))
   unfolding declarationLines entriesOf
   lines-after j h =
       rw (
         add-one j,
         map-append (useOver f) (entriesOf declared j) (entryAt declared j ∷ []),
-        map-append (declaration datatypes) (usesOver f (entriesOf declared j)) (useOver f (entryAt declared j) ∷ []),
+        map-append (declaration list) (usesOver f (entriesOf declared j)) (useOver f (entryAt declared j) ∷ []),
       )
-      (join-more (map (declaration datatypes) (usesOver f (entriesOf declared j))) (declaration datatypes (useOver f (entryAt declared j)))
-      (rw (length-mapped (declaration datatypes) (usesOver f (entriesOf declared j)), length-mapped (useOver f) (entriesOf declared j), entries-length declared j) h))
+      (join-more (map (declaration list) (usesOver f (entriesOf declared j))) (declaration list (useOver f (entryAt declared j)))
+      (rw (length-mapped (declaration list) (usesOver f (entriesOf declared j)), length-mapped (useOver f) (entriesOf declared j), entries-length declared j) h))
 
-  pub lines-more : (j : ℕ) → declarationLines datatypes (usesOver f (entriesOf declared (j + 1)))
-      ≡ declarationLines datatypes (usesOver f (entriesOf declared j)) ++ (breakBefore j ++ declaration datatypes (useOver f (entryAt declared j)))
+  pub lines-more : (j : ℕ) → declarationLines list (usesOver f (entriesOf declared (j + 1)))
+      ≡ declarationLines list (usesOver f (entriesOf declared j)) ++ (breakBefore j ++ declaration list (useOver f (entryAt declared j)))
   unfolding breakBefore
   lines-more zero = rw lines-none lines-one
   lines-more (suc j) = rw (ne-eqb (suc j) 0 (λ e. omega arith)) (lines-after (suc j) (omega arith))
 
 -- the lines of the atoms that were noted are document 01's
 pub atoms-declared : {f : ℕ → Name} {l : List (AtomUse ℕ)} {declared : List ℕ} {len : ℕ} {seen : List ℕ} → Noted f l declared len seen
-    → declarationLines false (usesOver f (entriesOf declared len)) ≡ atomDeclarations (usesOver f l)
+    → declarationLines Atoms (usesOver f (entriesOf declared len)) ≡ atomDeclarations (usesOver f l)
 unfolding declarationLines declaration atomDeclarations
 atoms-declared noted = ap (λ us. joinLines (map atomDeclaration us)) (noted .entries)
 
@@ -89,10 +92,10 @@ same-firsts seen (n ∷ ns) = rw (same-occurs n seen) (go (occurs eqName n seen)
     go true known new = known
     go false known new = ap (λ us. asUse n ∷ us) new
 
-pub datatypes-declared : {f : ℕ → Name} (ts : List ℕ) {declared : List ℕ} {len : ℕ} {seen : List ℕ} → Noted f (datatypeUses ts) declared len seen
-    → declarationLines true (usesOver f (entriesOf declared len)) ≡ datatypeDeclarations (map f ts)
+pub datatypes-declared : {f : ℕ → Name} (v : Version) (ts : List ℕ) {declared : List ℕ} {len : ℕ} {seen : List ℕ} → Noted f (datatypeUses ts) declared len seen
+    → declarationLines (Datatypes v) (usesOver f (entriesOf declared len)) ≡ datatypeDeclarations (map f ts)
 unfolding declarationLines declaration datatypeDeclarations firsts asUse
-datatypes-declared {f} ts noted =
+datatypes-declared {f} v ts noted =
     let over : usesOver f (datatypeUses ts) ≡ map asUse (map f ts) = map-map (useOver f) (λ t. useOf t 0) ts ∙ sym (map-map asUse f ts) in
-    ap (λ us. joinLines (map (declaration true) us)) (noted .entries ∙ (ap (firsts eqAtomUse) over ∙ same-firsts [] (map f ts)))
-    ∙ ap joinLines (map-map (declaration true) asUse (firsts eqName (map f ts)))
+    ap (λ us. joinLines (map (declaration (Datatypes v)) us)) (noted .entries ∙ (ap (firsts eqAtomUse) over ∙ same-firsts [] (map f ts)))
+    ∙ ap joinLines (map-map (declaration (Datatypes v)) asUse (firsts eqName (map f ts)))

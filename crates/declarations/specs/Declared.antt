@@ -5,6 +5,8 @@ use mathlib.Core.Bool.{Bool, true, false, cond}
 use mathlib.Core.List.{List, [], _∷_, _++_, map}
 use lib.ListN.{length, getD}
 use lib.Dec.{eqb}
+use Rattle.definitions.specs.declared.TermList.{TermList}
+use Rattle.definitions.specs.declared.TermList.the-variants.{Atoms, Datatypes}
 use Rattle.definitions.specs.Name.{Name}
 use Rattle.definitions.specs.Prop.{Prop, AtomUse, getAtoms, getDatatypes}
 use Rattle.definitions.specs.Code.{parameterLimit}
@@ -75,10 +77,10 @@ pub record Named (pairs text seen : List ℕ) (names : ℕ) : Type 0 where
   pub marks : (name : ℕ) → name < names → NameWithin pairs text name
   pub flags : flagOf names 0 ≤ length seen
 
--- what a proposition adds: its datatypes, or its atoms
-abbrev pub listed : Bool → Prop ℕ → List (AtomUse ℕ)
-listed true p = datatypeUses (getDatatypes p)
-listed false p = getAtoms p
+-- what a proposition adds to a list: its atoms, or its datatypes
+abbrev pub listed : TermList → Prop ℕ → List (AtomUse ℕ)
+listed Atoms p = getAtoms p
+listed (Datatypes v) p = datatypeUses (getDatatypes p)
 
 -- some proposition stands in the code at a position
 pub record SomeProp (names : ℕ) (code : List ℕ) (at : ℕ) : Type 0 where

@@ -1,5 +1,7 @@
 // Declarations, after the Rust's generate_proof_term_from_proof_tree: the first occurrence of each atom by name bytes and count,
 // and of each datatype by name bytes. They stand in lent memory, a name's number and a count each; a datatype has the count 0.
+use definitions::TermList;
+use definitions::Version;
 use identifier::pair_length;
 use identifier::pair_offset;
 use output::put;
@@ -159,33 +161,40 @@ pub fn note_datatypes(
     }
 }
 
-// Notes each datatype, or else each atom, of the proposition at `at`.
+// Notes what the proposition at `at` adds to a list: its atoms, or its datatypes.
 pub fn note_prop(
     code: &[u8],
     at: usize,
     names: usize,
-    datatypes: bool,
+    list: TermList,
     declared: &mut [u16],
     len: usize,
     seen: &mut [u16],
     pairs: &[u8],
     text: &[u8],
 ) -> usize
-    requires { ⌜ SomeProp names (now code) at × Named (now pairs) (now text) (now seen) names × Held (now pairs) (now text) (now declared) len (now seen) ⌝ }
-    ensures { λ r. ⌜ ((p : Prop ℕ) (rest : List ℕ) → At names (now (code .entry)) at p rest → Notes (now (pairs .entry)) (now (text .entry)) (listed datatypes p) (now (declared .entry)) len (now (seen .entry)) (now (declared .exit)) r (now (seen .exit))) ⌝ }
+    requires { ⌜ SomeProp names (now code) at × Named (now pairs) (now text) (now seen) names
+        × Held (now pairs) (now text) (now declared) len (now seen) ⌝ }
+    ensures { λ r. ⌜ ((p : Prop ℕ) (rest : List ℕ) → At names (now (code .entry)) at p rest →
+        Notes (now (pairs .entry)) (now (text .entry)) (listed list p)
+        (now (declared .entry)) len (now (seen .entry)) (now (declared .exit)) r (now (seen .exit))) ⌝ }
 {
     let end = scan(code, at, names);
-    if datatypes {
-        return note_datatypes(code, at, end, names, declared, len, seen, pairs, text);
+    match list {
+        TermList::Atoms => {
+            return note_atoms(code, at, end, names, declared, len, seen, pairs, text);
+        }
+        TermList::Datatypes(_) => {
+            return note_datatypes(code, at, end, names, declared, len, seen, pairs, text);
+        }
     }
-    note_atoms(code, at, end, names, declared, len, seen, pairs, text)
 }
 
-// Notes the datatype of a label, or else the atoms of its proposition.
+// Notes what a label adds to a list.
 fn note_label(
     kind: usize,
     number: usize,
-    datatypes: bool,
+    list: TermList,
     code: &[u8],
     names: usize,
     declared: &mut [u16],
@@ -194,26 +203,40 @@ fn note_label(
     pairs: &[u8],
     text: &[u8],
 ) -> usize
-    requires { ⌜ SomeLabel names (now code) kind number × Named (now pairs) (now text) (now seen) names × Held (now pairs) (now text) (now declared) len (now seen) × (number < 65536) ⌝ }
-    ensures { λ r. ⌜ ((props : ℕ → Prop ℕ) → LabelFits names (now (code .entry)) props kind number → Notes (now (pairs .entry)) (now (text .entry)) (labelUses datatypes (labelOf props kind number)) (now (declared .entry)) len (now (seen .entry)) (now (declared .exit)) r (now (seen .exit))) ⌝ }
+    requires { ⌜ SomeLabel names (now code) kind number × Named (now pairs) (now text) (now seen) names
+        × Held (now pairs) (now text) (now declared) len (now seen) × (number < 65536) ⌝ }
+    ensures { λ r. ⌜ ((props : ℕ → Prop ℕ) → LabelFits names (now (code .entry)) props kind number →
+        Notes (now (pairs .entry)) (now (text .entry)) (labelUses list (labelOf props kind number))
+        (now (declared .entry)) len (now (seen .entry)) (now (declared .exit)) r (now (seen .exit))) ⌝ }
 {
-    if kind == DATATYPE {
-        if datatypes {
-            return note(declared, len, seen, number, 0, pairs, text);
+    match list {
+        TermList::Atoms => {
+            if kind == DATATYPE {
+                return len;
+            }
+            return note_prop(code, number, names, list, declared, len, seen, pairs, text);
         }
-        return len;
+        TermList::Datatypes(version) => {
+            if kind == DATATYPE {
+                return note(declared, len, seen, number, 0, pairs, text);
+            }
+            match version {
+                Version::First => {
+                    return len;
+                }
+                Version::Second => {
+                    return note_prop(code, number, names, list, declared, len, seen, pairs, text);
+                }
+            }
+        }
     }
-    if datatypes {
-        return len;
-    }
-    note_prop(code, number, names, false, declared, len, seen, pairs, text)
 }
 
-// Notes what the labels of the term add that record `n` holds: those of its parts, and then its own.
+// Notes a list of the term that record `n` holds: what the labels of its parts add, and then its own.
 pub fn note_term(
     records: &[u16],
     n: usize,
-    datatypes: bool,
+    list: TermList,
     code: &[u8],
     names: usize,
     declared: &mut [u16],
@@ -222,8 +245,11 @@ pub fn note_term(
     pairs: &[u8],
     text: &[u8],
 ) -> usize
-    requires { ⌜ (recordSize * (n + 1) ≤ length (now records)) × SomeLabels names (now code) (now records) n × Named (now pairs) (now text) (now seen) names × Held (now pairs) (now text) (now declared) len (now seen) ⌝ }
-    ensures { λ r. ⌜ ((props : ℕ → Prop ℕ) → LabelsFit names (now (code .entry)) (now (records .entry)) n props → Notes (now (pairs .entry)) (now (text .entry)) (termUses datatypes (termAt props (now (records .entry)) n)) (now (declared .entry)) len (now (seen .entry)) (now (declared .exit)) r (now (seen .exit))) ⌝ }
+    requires { ⌜ (recordSize * (n + 1) ≤ length (now records)) × SomeLabels names (now code) (now records) n
+        × Named (now pairs) (now text) (now seen) names × Held (now pairs) (now text) (now declared) len (now seen) ⌝ }
+    ensures { λ r. ⌜ ((props : ℕ → Prop ℕ) → LabelsFit names (now (code .entry)) (now (records .entry)) n props →
+        Notes (now (pairs .entry)) (now (text .entry)) (termUses list (termAt props (now (records .entry)) n))
+        (now (declared .entry)) len (now (seen .entry)) (now (declared .exit)) r (now (seen .exit))) ⌝ }
 {
     let kind = field(records, n, 0);
     let parts = part_count(kind);
@@ -238,7 +264,7 @@ pub fn note_term(
         noted = note_term(
             records,
             part,
-            datatypes,
+            list,
             code,
             names,
             declared,
@@ -254,7 +280,7 @@ pub fn note_term(
         return note_label(
             label,
             number,
-            datatypes,
+            list,
             code,
             names,
             declared,
@@ -279,29 +305,34 @@ fn put_count(out: &mut [u8], to: usize, count: usize, write: bool) -> usize
     put(out, digits, b')', write)
 }
 
-// The line of a datatype, or else of an atom.
+// The line of an entry of a list.
 fn put_declaration(
     out: &mut [u8],
     to: usize,
     name: usize,
     count: usize,
-    datatypes: bool,
+    list: TermList,
     pairs: &[u8],
     text: &[u8],
     write: bool,
 ) -> usize
     requires { ⌜ NameWithin (now pairs) (now text) name ⌝ }
-    ensures { λ r. ⌜ Wrote (declaration datatypes (useOver (marked (now (pairs .entry)) (now (text .entry))) (useOf name count))) write (now (out .entry)) to (now (out .exit)) r ⌝ }
+    ensures { λ r. ⌜ Wrote (declaration list (useOver (marked (now (pairs .entry)) (now (text .entry))) (useOf name count)))
+        write (now (out .entry)) to (now (out .exit)) r ⌝ }
 {
-    if datatypes {
-        let word = put_all(out, to, b"datatype ", write);
-        let named = put_name(out, word, pairs, text, name, write);
-        return put(out, named, b';', write);
+    match list {
+        TermList::Atoms => {
+            let word = put_all(out, to, b"atom ", write);
+            let named = put_name(out, word, pairs, text, name, write);
+            let counted = put_count(out, named, count, write);
+            return put(out, counted, b';', write);
+        }
+        TermList::Datatypes(_) => {
+            let word = put_all(out, to, b"datatype ", write);
+            let named = put_name(out, word, pairs, text, name, write);
+            return put(out, named, b';', write);
+        }
     }
-    let word = put_all(out, to, b"atom ", write);
-    let named = put_name(out, word, pairs, text, name, write);
-    let counted = put_count(out, named, count, write);
-    put(out, counted, b';', write)
 }
 
 // The newline before each line but the first.
@@ -314,19 +345,20 @@ fn put_line_break(out: &mut [u8], to: usize, line: usize, write: bool) -> usize
     put(out, to, b'\n', write)
 }
 
-// The lines of the declarations, joined by newlines: of datatypes, or else of atoms.
+// The lines of the declarations of a list, joined by newlines.
 pub fn put_declarations(
     out: &mut [u8],
     to: usize,
     declared: &[u16],
     len: usize,
-    datatypes: bool,
+    list: TermList,
     pairs: &[u8],
     text: &[u8],
     write: bool,
 ) -> usize
     requires { ⌜ (2 * len ≤ length (now declared)) × ((j : ℕ) → j < len → NameWithin (now pairs) (now text) (getD (now declared) (2 * j) 0)) ⌝ }
-    ensures { λ r. ⌜ Wrote (declarationLines datatypes (usesOver (marked (now (pairs .entry)) (now (text .entry))) (entriesOf (now (declared .entry)) len))) write (now (out .entry)) to (now (out .exit)) r ⌝ }
+    ensures { λ r. ⌜ Wrote (declarationLines list (usesOver (marked (now (pairs .entry)) (now (text .entry))) (entriesOf (now (declared .entry)) len)))
+        write (now (out .entry)) to (now (out .exit)) r ⌝ }
 {
     let mut at = to;
     let mut j = 0;
@@ -334,7 +366,7 @@ pub fn put_declarations(
         let name = declared[2 * j] as usize;
         let count = declared[2 * j + 1] as usize;
         at = put_line_break(out, at, j, write);
-        at = put_declaration(out, at, name, count, datatypes, pairs, text, write);
+        at = put_declaration(out, at, name, count, list, pairs, text, write);
         j += 1;
     }
     at

@@ -6,8 +6,9 @@ use mathlib.Core.Logic.{⊎-elim}
 use mathlib.Core.Option.{Option, none, some}
 use mathlib.Core.List.{List, [], _++_, List·Memᴰ, List·Memᴰ·head, List·Memᴰ·not-nil, List·Memᴰ·append-cases, List·Memᴰ·eq-of-singleton}
 use native.Mathlib.Omega.{arith}
+use Rattle.definitions.specs.declared.Version.the-variants.{First}
 use Rattle.definitions.specs.Prop.{Prop}
-use Rattle.definitions.specs.Term.{Label, proposition, datatype, ProofTerm, Ident, Pair, Named, Function, Application, LetIn, Case, TypeAscription, Unit, Sorry, ofLabel, ofLabels, labelDatatypes, datatypeList}
+use Rattle.definitions.specs.Term.{Label, proposition, datatype, ProofTerm, Ident, Pair, Named, Function, Application, LetIn, Case, TypeAscription, Unit, Sorry, ofLabel, ofLabels, propositionDatatypes, labelDatatypes, datatypeList}
 use Rattle.prefix_code.specs.PropAt.{propAt, Present}
 use Rattle.proof_term.specs.Records.{fieldAt, labelOf, partCount, termAt}
 use Rattle.proof_term.specs.Counting.{ownAnnotations}
@@ -25,7 +26,7 @@ module _ {names : ℕ} {code records : List ℕ} {n : ℕ} {props : ℕ → Prop
   pub fit-part : (i : ℕ) {part : ℕ} → i < partCount (fieldAt records n 0) → part ≡ fieldAt records n (1 + i) → part < n → LabelsFit names code records part props
   unfolding datatypeList
   fit-part i h is l = record {
-    datatypes = λ t m. fit .datatypes t (part-among labelDatatypes props records n i is h l m);
+    datatypes = λ t m. fit .datatypes t (part-among (labelDatatypes First) props records n i is h l m);
     propositions = λ m h. fit .propositions m (omega arith);
   }
 
@@ -34,7 +35,7 @@ module _ {names : ℕ} {code records : List ℕ} {n : ℕ} {props : ℕ → Prop
       → LabelFits names code props label number
   unfolding datatypeList labelDatatypes labelOf
   label-fits {kind} {label} {number} k l m h = record {
-    datatype = λ e. fit .datatypes number (own-among labelDatatypes props records n refl k l m h (rw e (List·Memᴰ·head refl)));
+    datatype = λ e. fit .datatypes number (own-among (labelDatatypes First) props records n refl k l m h (rw e (List·Memᴰ·head refl)));
     proposition = λ other. rw m (fit .propositions n (omega arith) (record { labelled = rw (k, l) at (labelled kind label h); no-datatype = rw l at other }));
   }
 
@@ -49,17 +50,17 @@ module _ (names : ℕ) where
   both-below : {a b : List ℕ} → AllBelow a → AllBelow b → AllBelow (a ++ b)
   both-below {a} h k t m = ⊎-elim (h t) (k t) (List·Memᴰ·append-cases a m)
 
-  label-below : (l : Label ℕ) → LabelBelow names l → AllBelow (labelDatatypes l)
-  unfolding LabelBelow labelDatatypes
+  label-below : (l : Label ℕ) → LabelBelow names l → AllBelow (labelDatatypes First l)
+  unfolding LabelBelow labelDatatypes propositionDatatypes
   label-below (proposition p) h = none-below
   label-below (datatype t) h = λ u m. rw (List·Memᴰ·eq-of-singleton m) h
 
-  parameter-below : (l : Option (Label ℕ)) → ParameterLabelBelow names l → AllBelow (ofLabel labelDatatypes l)
+  parameter-below : (l : Option (Label ℕ)) → ParameterLabelBelow names l → AllBelow (ofLabel (labelDatatypes First) l)
   unfolding ParameterLabelBelow ofLabel
   parameter-below none h = none-below
   parameter-below (some l) h = label-below l h
 
-  datatypes-below : (t : ProofTerm ℕ) → NamesBelow names t → AllBelow (ofLabels labelDatatypes t)
+  datatypes-below : (t : ProofTerm ℕ) → NamesBelow names t → AllBelow (ofLabels (labelDatatypes First) t)
   unfolding NamesBelow ofLabels
   datatypes-below (Ident x) h = none-below
   datatypes-below (Pair a b) h = both-below (datatypes-below a (h .0)) (datatypes-below b (h .1))

@@ -12,6 +12,8 @@ use lib.ListN.{getD, set, replicate, List·getD-map}
 use lib.Seq.{getD-set-other}
 use lib.Dec.{eqb}
 use borrow.Author.Tests.{ne-eqb, not-true, not-false}
+use Rattle.definitions.specs.declared.Version.{Version}
+use Rattle.definitions.specs.declared.TermList.the-variants.{Atoms, Datatypes}
 use Rattle.definitions.specs.Prop.{Prop}
 use Rattle.definitions.specs.Term.{Label, ProofTerm, Ident, Pair, Named, Function, Application, LetIn, Case, TypeAscription, Unit, Sorry, ofLabel, ofLabels, labelDatatypes, atomList, datatypeList}
 use Rattle.proof_term.specs.Records.{fieldAt, Form, leaf, formTerm, labelOf, parameterLabel, forms, recordTermAt, partCount, termAt, partAt}
@@ -166,11 +168,11 @@ module _ {A B : Type 0} (f : List A → List B) (empty : f [] ≡ []) (joins : (
   of-labels Unit = sym empty
   of-labels Sorry = sym empty
 
--- what the labels add are document 01's lists
-pub atoms-are : (t : ProofTerm ℕ) → termUses false t ≡ atomList t
+-- what the labels add are the definitions' lists
+pub atoms-are : (t : ProofTerm ℕ) → termUses Atoms t ≡ atomList t
 unfolding atomList labelUses
 atoms-are t = refl
 
-pub datatypes-are : (t : ProofTerm ℕ) → termUses true t ≡ datatypeUses (datatypeList t)
+pub datatypes-are : (v : Version) (t : ProofTerm ℕ) → termUses (Datatypes v) t ≡ datatypeUses (datatypeList v t)
 unfolding datatypeList labelUses
-datatypes-are t = of-labels datatypeUses refl (map-append (λ t. useOf t 0)) labelDatatypes t
+datatypes-are v t = of-labels datatypeUses refl (map-append (λ t. useOf t 0)) (labelDatatypes v) t

@@ -4,6 +4,9 @@ use mathlib.Core.Path.{_≡_}
 use mathlib.Core.Bool.{Bool, true, false, not, cond}
 use mathlib.Core.List.{List, map, List·Memᴰ}
 use lib.Dec.{eqb}
+use Rattle.definitions.specs.declared.Version.the-variants.{First}
+use Rattle.definitions.specs.declared.TermList.{TermList}
+use Rattle.definitions.specs.declared.TermList.the-variants.{Atoms, Datatypes}
 use Rattle.definitions.specs.Prop.{Prop, AtomUse}
 use Rattle.definitions.specs.Term.{Label, ProofTerm, ofLabels, labelAtoms, labelDatatypes, datatypeList}
 use Rattle.prefix_code.specs.Scan.{At}
@@ -17,14 +20,14 @@ useOf name count = record { name = name; count = count }
 abbrev pub datatypeUses : List ℕ → List (AtomUse ℕ)
 datatypeUses ts = map (λ t. useOf t 0) ts
 
--- a label adds its datatype, or its proposition's atoms
-unfoldable pub labelUses : Bool → Label ℕ → List (AtomUse ℕ)
-labelUses true l = datatypeUses (labelDatatypes l)
-labelUses false l = labelAtoms l
+-- what a label adds to a list
+unfoldable pub labelUses : TermList → Label ℕ → List (AtomUse ℕ)
+labelUses Atoms l = labelAtoms l
+labelUses (Datatypes v) l = datatypeUses (labelDatatypes v l)
 
 -- what the labels of a term add, its parts' before its own
-abbrev pub termUses : Bool → ProofTerm ℕ → List (AtomUse ℕ)
-termUses datatypes t = ofLabels (labelUses datatypes) t
+abbrev pub termUses : TermList → ProofTerm ℕ → List (AtomUse ℕ)
+termUses list t = ofLabels (labelUses list) t
 
 -- whether a record has a label: an ascription, or a function whose parameter has one
 unfoldable pub hasLabel : ℕ → ℕ → Bool
@@ -40,9 +43,10 @@ pub record LabelFits (names : ℕ) (code : List ℕ) (props : ℕ → Prop ℕ) 
   pub datatype : kind ≡ 2 → number < names
   pub proposition : (kind ≡ 2 → ⊥) → PropStands names code props number
 
--- each datatype label of the term that record n holds does so, and each proposition label of the records up to n
+-- each datatype label of the term that record n holds does so (version 1 lists them and nothing else), and each proposition label
+-- of the records up to n
 pub record LabelsFit (names : ℕ) (code records : List ℕ) (n : ℕ) (props : ℕ → Prop ℕ) : Type 0 where
-  pub datatypes : (t : ℕ) → List·Memᴰ t (datatypeList (termAt props records n)) → t < names
+  pub datatypes : (t : ℕ) → List·Memᴰ t (datatypeList First (termAt props records n)) → t < names
   pub propositions : (m : ℕ) → m ≤ n → PropositionLabel records m → PropStands names code props (fieldAt records m 4)
 
 -- for some propositions

@@ -1,15 +1,15 @@
--- The lists of a term in numbers, and what a label adds to them.
+-- The two lists as numbers, and what one label adds to them.
 use Prim.Native.Nat.{ℕ}
-use mathlib.Core.Bool.{Bool, true, false}
 use mathlib.Core.List.{List}
+use Rattle.definitions.specs.declared.TermList.{TermList}
+use Rattle.definitions.specs.declared.TermList.the-variants.{Atoms, Datatypes}
 use Rattle.definitions.specs.Term.{Label, ProofTerm, labelAtoms, labelDatatypes, atomList, datatypeList}
 use Rattle.definitions.specs.Answers.{atomNumbers}
 
--- the datatype list, or the atom list
-unfoldable pub listNumbers : Bool → ProofTerm ℕ → List ℕ
-listNumbers true t = datatypeList t
-listNumbers false t = atomNumbers (atomList t)
+unfoldable pub listNumbers : TermList → ProofTerm ℕ → List ℕ
+listNumbers Atoms t = atomNumbers (atomList t)
+listNumbers (Datatypes v) t = datatypeList v t
 
-unfoldable pub labelNumbers : Bool → Label ℕ → List ℕ
-labelNumbers true l = labelDatatypes l
-labelNumbers false l = atomNumbers (labelAtoms l)
+unfoldable pub labelNumbers : TermList → Label ℕ → List ℕ
+labelNumbers Atoms l = atomNumbers (labelAtoms l)
+labelNumbers (Datatypes v) l = labelDatatypes v l

@@ -1,4 +1,6 @@
 // The atom list and the datatype list of a term in records, as numbers in lent memory: what the labels add, a term's parts before its own.
+use definitions::TermList;
+use definitions::Version;
 use prefix_code::scan;
 use proof_term::DATATYPE;
 use proof_term::FUNCTION;
@@ -7,6 +9,7 @@ use proof_term::TYPE_ASCRIPTION;
 use proof_term::field;
 use proof_term::part_count;
 use prop_lists::put_atoms;
+use prop_lists::put_datatypes;
 use prop_lists::put_number;
 ghost use mathlib.Core.Path.{_≡_};
 ghost use Prim.Native.Nat.{ℕ, _+_, _*_, _≤_, _<_};
@@ -30,11 +33,11 @@ pub fn has_label(kind: usize, label: usize) -> bool
     false
 }
 
-// Writes the datatype of a label, or else its proposition's atoms.
+// Writes what a label adds to a list.
 fn put_label(
     kind: usize,
     number: usize,
-    datatypes: bool,
+    list: TermList,
     code: &[u8],
     names: usize,
     out: &mut [u16],
@@ -42,26 +45,39 @@ fn put_label(
     write: bool,
 ) -> usize
     requires { ⌜ SomeLabel names (now code) kind number × (number < 65536) ⌝ }
-    ensures { λ r. ⌜ ((props : ℕ → Prop ℕ) → LabelFits names (now (code .entry)) props kind number → Wrote (labelNumbers datatypes (labelOf props kind number)) write (now (out .entry)) to (now (out .exit)) r) ⌝ }
+    ensures { λ r. ⌜ ((props : ℕ → Prop ℕ) → LabelFits names (now (code .entry)) props kind number →
+        Wrote (labelNumbers list (labelOf props kind number)) write (now (out .entry)) to (now (out .exit)) r) ⌝ }
 {
-    if kind == DATATYPE {
-        if datatypes {
-            return put_number(out, to, number as u16, write);
+    match list {
+        TermList::Atoms => {
+            if kind == DATATYPE {
+                return to;
+            }
+            let end = scan(code, number, names);
+            return put_atoms(code, number, end, names, out, to, write);
         }
-        return to;
+        TermList::Datatypes(version) => {
+            if kind == DATATYPE {
+                return put_number(out, to, number as u16, write);
+            }
+            match version {
+                Version::First => {
+                    return to;
+                }
+                Version::Second => {
+                    let end = scan(code, number, names);
+                    return put_datatypes(code, number, end, names, out, to, write);
+                }
+            }
+        }
     }
-    if datatypes {
-        return to;
-    }
-    let end = scan(code, number, names);
-    put_atoms(code, number, end, names, out, to, write)
 }
 
-// Writes what the labels of the term list that record `n` holds: those of its parts, and then its own.
+// Writes a list of the term that record `n` holds: what the labels of its parts add, and then its own.
 pub fn put_list(
     records: &[u16],
     n: usize,
-    datatypes: bool,
+    list: TermList,
     code: &[u8],
     names: usize,
     out: &mut [u16],
@@ -69,7 +85,8 @@ pub fn put_list(
     write: bool,
 ) -> usize
     requires { ⌜ (recordSize * (n + 1) ≤ length (now records)) × SomeLabels names (now code) (now records) n ⌝ }
-    ensures { λ r. ⌜ ((props : ℕ → Prop ℕ) → LabelsFit names (now (code .entry)) (now (records .entry)) n props → Wrote (listNumbers datatypes (termAt props (now (records .entry)) n)) write (now (out .entry)) to (now (out .exit)) r) ⌝ }
+    ensures { λ r. ⌜ ((props : ℕ → Prop ℕ) → LabelsFit names (now (code .entry)) (now (records .entry)) n props →
+        Wrote (listNumbers list (termAt props (now (records .entry)) n)) write (now (out .entry)) to (now (out .exit)) r) ⌝ }
 {
     let kind = field(records, n, 0);
     let parts = part_count(kind);
@@ -81,12 +98,12 @@ pub fn put_list(
         if n <= part {
             continue 'parts;
         }
-        position = put_list(records, part, datatypes, code, names, out, position, write);
+        position = put_list(records, part, list, code, names, out, position, write);
     }
     let label = field(records, n, 3);
     let number = field(records, n, 4);
     if has_label(kind, label) {
-        return put_label(label, number, datatypes, code, names, out, position, write);
+        return put_label(label, number, list, code, names, out, position, write);
     }
     position
 }

@@ -1,17 +1,18 @@
 -- What is noted of the labels of a sheet's term and then of its goal are the declarations of its text.
 use Prim.Native.Nat.{ℕ, _+_, _*_, _≤_}
 use mathlib.Core.Path.{_≡_, refl, ap, _∙_}
-use mathlib.Core.Bool.{Bool, true, false}
 use mathlib.Core.Logic.{by-cases}
 use mathlib.Core.List.{List, [], _++_, map-append}
 use native.Mathlib.Omega.{arith}
 use native.Mathlib.Decide.{decLt}
 use lib.ListN.{length, getD, replicate, getD-replicate, length-replicate, List·getD-eq-default}
+use Rattle.definitions.specs.declared.TermList.{TermList}
+use Rattle.definitions.specs.declared.TermList.the-variants.{Atoms, Datatypes}
 use Rattle.definitions.specs.Name.{Name}
 use Rattle.definitions.specs.Prop.{Prop, getAtoms, getDatatypes, renameProp}
 use Rattle.definitions.specs.Sheet.{nameLimit, names, goal, namePairs, textBytes, propositionPairs, codeBytes, nameOf, pairOffset}
 use Rattle.definitions.specs.Term.{ProofTerm, atomList, datatypeList, renameTerm}
-use Rattle.definitions.specs.Text.{firsts, firstsAfter}
+use Rattle.definitions.specs.Text.{firsts, firstsAfter, declarations}
 use Rattle.definitions.specs.Answers.{goalProp}
 use Rattle.definitions.proofs.PrefixCode.{Bytes}
 use Rattle.prefix_code.specs.Scan.{At}
@@ -29,22 +30,23 @@ use Rattle.sheet.specs.Header.{headerOf}
 use Rattle.sheet.proofs.Admitted.{AcceptedSheet, name-within}
 use Rattle.sheet_term.specs.Held.{HeldTerm}
 use Rattle.sheet_term.proofs.Held.{label-present}
-use Rattle.text.specs.Declaring.{headingLines, termOf, Declares}
+use Rattle.text.specs.Declaring.{termOf, Declares}
 use Rattle.text.proofs.Labels.{proposition-present, proposition-is}
 use Rattle.text.proofs.Heading.{named-term}
 use Rattle.text.proofs.Renaming.{prop-atoms-renamed, prop-datatypes-renamed, atoms-renamed, datatypes-renamed}
 
 -- the lines of what a term's labels and a proposition list are those of the heading
-lines-are : (datatypes : Bool) (f : ℕ → Name) (t : ProofTerm ℕ) (p : Prop ℕ) {declared : List ℕ} {len : ℕ} {seen : List ℕ}
-    → Noted f (termUses datatypes t ++ listed datatypes p) declared len seen
-    → declarationLines datatypes (usesOver f (entriesOf declared len)) ≡ headingLines datatypes (renameTerm f t) (renameProp f p)
-unfolding headingLines
-lines-are true f t p noted =
-    datatypes-declared (datatypeList t ++ getDatatypes p) (rw (datatypes-are t, ← map-append (λ t. useOf t 0) (datatypeList t) (getDatatypes p)) at noted)
-    ∙ rw (datatypes-renamed f t, prop-datatypes-renamed f p, map-append f (datatypeList t) (getDatatypes p))
-lines-are false f t p noted =
+lines-are : (list : TermList) (f : ℕ → Name) (t : ProofTerm ℕ) (p : Prop ℕ) {declared : List ℕ} {len : ℕ} {seen : List ℕ}
+    → Noted f (termUses list t ++ listed list p) declared len seen
+    → declarationLines list (usesOver f (entriesOf declared len)) ≡ declarations list (renameTerm f t) (renameProp f p)
+unfolding declarations
+lines-are Atoms f t p noted =
     atoms-declared noted
     ∙ rw (atoms-are t, atoms-renamed f t, prop-atoms-renamed f p, map-append (useOver f) (atomList t) (getAtoms p))
+lines-are (Datatypes v) f t p noted =
+    datatypes-declared v (datatypeList v t ++ getDatatypes p)
+    (rw (datatypes-are v t, ← map-append (λ t. useOf t 0) (datatypeList v t) (getDatatypes p)) at noted)
+    ∙ rw (datatypes-renamed f v t, prop-datatypes-renamed f p, map-append f (datatypeList v t) (getDatatypes p))
 
 -- the flags before anything is noted
 abbrev flagCount : ℕ
@@ -96,9 +98,9 @@ module _ {s : List ℕ} {h : Sheet} (a : AcceptedSheet s h) (bytes : Bytes s) wh
   )
 
   -- Once they are noted:
-  module _ {terms : List ℕ} {n : ℕ} (term : HeldTerm s terms n) (datatypes : Bool) {declared declared₁ : List ℕ} {len₁ : ℕ} {seen₁ : List ℕ}
+  module _ {terms : List ℕ} {n : ℕ} (term : HeldTerm s terms n) (list : TermList) {declared declared₁ : List ℕ} {len₁ : ℕ} {seen₁ : List ℕ}
       (labels-noted : (props : ℕ → Prop ℕ) → LabelsFit (h .names) (codeBytes s) terms n props
-      → Notes (namePairs s) (textBytes s) (termUses datatypes (termAt props terms n)) declared 0 noFlags declared₁ len₁ seen₁) where
+      → Notes (namePairs s) (textBytes s) (termUses list (termAt props terms n)) declared 0 noFlags declared₁ len₁ seen₁) where
     -- the goal can be noted too
     pub goal-notable : SomeProp (h .names) (codeBytes s) (pairOffset (propositionPairs s) (h .goal))
         × Named (namePairs s) (textBytes s) seen₁ (h .names) × Held (namePairs s) (textBytes s) declared₁ len₁ seen₁
@@ -109,8 +111,8 @@ module _ {s : List ℕ} {h : Sheet} (a : AcceptedSheet s h) (bytes : Bytes s) wh
     -- and after that the declarations are those of the sheet's text
     pub declares : {declared₂ : List ℕ} {len₂ : ℕ} {seen₂ : List ℕ}
         → ((p : Prop ℕ) (rest : List ℕ) → At (h .names) (codeBytes s) (pairOffset (propositionPairs s) (h .goal)) p rest
-        → Notes (namePairs s) (textBytes s) (listed datatypes p) declared₁ len₁ seen₁ declared₂ len₂ seen₂)
-        → Declares s datatypes declared₂ len₂
+        → Notes (namePairs s) (textBytes s) (listed list p) declared₁ len₁ seen₁ declared₂ len₂ seen₂)
+        → Declares s list declared₂ len₂
     unfolding headerOf nameOf
     declares {seen₂ = seen₂} goal-noted =
         let first = labels-noted _ (labels-stand term) in
@@ -121,5 +123,5 @@ module _ {s : List ℕ} {h : Sheet} (a : AcceptedSheet s h) (bytes : Bytes s) wh
           marks = second .held .marks;
           lines = λ t is.
               let same : t ≡ termOf s terms n = cc (named-term term) in
-              rw (same, goal-is) (lines-are datatypes (nameOf s) _ _ (rw (a .header) at noted));
+              rw (same, goal-is) (lines-are list (nameOf s) _ _ (rw (a .header) at noted));
         }

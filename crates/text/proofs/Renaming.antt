@@ -4,9 +4,11 @@ use mathlib.Core.Path.{_≡_, refl, sym}
 use mathlib.Core.Option.{Option, none, some}
 use mathlib.Core.List.{List, map, map-append}
 use lib.ListN.{length-map}
+use Rattle.definitions.specs.declared.Version.{Version}
+use Rattle.definitions.specs.declared.Version.the-variants.{First, Second}
 use Rattle.definitions.specs.Name.{Name}
 use Rattle.definitions.specs.Prop.{Prop, True, False, Binary, Atom, Quantified, getAtoms, getDatatypes, renameParameter, renameProp}
-use Rattle.definitions.specs.Term.{Label, proposition, datatype, ProofTerm, Ident, Pair, Named, Function, Application, LetIn, Case, TypeAscription, Unit, Sorry, ofLabel, ofLabels, labelAtoms, labelDatatypes, atomList, datatypeList, renameLabel, renameParameterLabel, renameTerm}
+use Rattle.definitions.specs.Term.{Label, proposition, datatype, ProofTerm, Ident, Pair, Named, Function, Application, LetIn, Case, TypeAscription, Unit, Sorry, ofLabel, ofLabels, labelAtoms, propositionDatatypes, labelDatatypes, atomList, datatypeList, renameLabel, renameParameterLabel, renameTerm}
 use Rattle.declarations.specs.Declared.{useOver, usesOver}
 
 module _ (f : ℕ → Name) where
@@ -51,15 +53,20 @@ module _ (f : ℕ → Name) where
   label-atoms-renamed (proposition p) = prop-atoms-renamed p
   label-atoms-renamed (datatype t) = refl
 
-  label-datatypes-renamed : (l : Label ℕ) → labelDatatypes (renameLabel f l) ≡ map f (labelDatatypes l)
+  added-datatypes-renamed : (v : Version) (p : Prop ℕ) → propositionDatatypes v (renameProp f p) ≡ map f (propositionDatatypes v p)
+  unfolding propositionDatatypes
+  added-datatypes-renamed First p = refl
+  added-datatypes-renamed Second p = prop-datatypes-renamed p
+
+  label-datatypes-renamed : (v : Version) (l : Label ℕ) → labelDatatypes v (renameLabel f l) ≡ map f (labelDatatypes v l)
   unfolding labelDatatypes renameLabel
-  label-datatypes-renamed (proposition p) = refl
-  label-datatypes-renamed (datatype t) = refl
+  label-datatypes-renamed v (proposition p) = added-datatypes-renamed v p
+  label-datatypes-renamed v (datatype t) = refl
 
   pub atoms-renamed : (t : ProofTerm ℕ) → atomList (renameTerm f t) ≡ usesOver f (atomList t)
   unfolding atomList
   atoms-renamed t = labels-renamed (useOver f) labelAtoms labelAtoms label-atoms-renamed t
 
-  pub datatypes-renamed : (t : ProofTerm ℕ) → datatypeList (renameTerm f t) ≡ map f (datatypeList t)
+  pub datatypes-renamed : (v : Version) (t : ProofTerm ℕ) → datatypeList v (renameTerm f t) ≡ map f (datatypeList v t)
   unfolding datatypeList
-  datatypes-renamed t = labels-renamed f labelDatatypes labelDatatypes label-datatypes-renamed t
+  datatypes-renamed v t = labels-renamed f (labelDatatypes v) (labelDatatypes v) (label-datatypes-renamed v) t

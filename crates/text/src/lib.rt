@@ -4,6 +4,8 @@ use declarations::note_term;
 use declarations::put_declarations;
 use definitions::Refusal;
 use definitions::Style;
+use definitions::TermList;
+use definitions::Version;
 use identifier::pair_offset;
 use output::Written;
 use output::put;
@@ -16,14 +18,13 @@ use sheet::name_pairs;
 use sheet::proposition_pairs;
 use sheet::text_bytes;
 ghost use mathlib.Core.Path.{_≡_};
-ghost use mathlib.Core.Bool.{true, false};
 ghost use lib.ListN.{length};
 ghost use Rattle.definitions.specs.Outcome.{accepted};
 ghost use Rattle.definitions.specs.Name.{Name};
 ghost use Rattle.definitions.specs.Term.{ProofTerm};
 ghost use Rattle.definitions.specs.Display.{displayTerm};
-ghost use Rattle.definitions.specs.Text.{heading};
-ghost use Rattle.definitions.specs.Answers.{namedTerm, goalProp, textAnswer};
+ghost use Rattle.definitions.specs.Text.{firstList, secondList, heading};
+ghost use Rattle.definitions.specs.Answers.{inRoom, namedTerm, goalProp, sheetText};
 ghost use Rattle.output.specs.Wrote.{Wrote};
 ghost use Rattle.output.specs.Written.{Fills};
 ghost use Rattle.sheet.proofs.Admitted.{AcceptedSheet};
@@ -36,18 +37,38 @@ const FLAGS: usize = Sheet::NAME_LIMIT * (Sheet::PARAMETER_LIMIT + 1);
 // A name and a count for each of them.
 const DECLARED_NUMBERS: usize = 2 * FLAGS;
 
-// Notes the datatypes, or else the atoms, of the term's labels and then of the goal.
+// Whose declarations come first in a version of the heading.
+fn first_list(version: Version) -> TermList
+    ensures { λ r. ⌜ r ≡ firstList version ⌝ }
+{
+    match version {
+        Version::First => TermList::Atoms,
+        Version::Second => TermList::Datatypes(Version::Second),
+    }
+}
+
+// Whose declarations come second.
+fn second_list(version: Version) -> TermList
+    ensures { λ r. ⌜ r ≡ secondList version ⌝ }
+{
+    match version {
+        Version::First => TermList::Datatypes(Version::First),
+        Version::Second => TermList::Atoms,
+    }
+}
+
+// Notes a list of the term and then what the goal adds to it.
 fn declare(
     s: &[u8],
     h: Sheet,
     terms: &[u16],
     n: usize,
-    datatypes: bool,
+    list: TermList,
     declared: &mut [u16; DECLARED_NUMBERS],
 ) -> usize
     requires { ⌜ AcceptedSheet (now s) h ⌝ }
     requires { ⌜ HeldTerm (now s) (now terms) n ⌝ }
-    ensures { λ r. ⌜ Declares (now (s .entry)) datatypes (now (declared .exit)) r ⌝ }
+    ensures { λ r. ⌜ Declares (now (s .entry)) list (now (declared .exit)) r ⌝ }
 {
     let mut seen = [0u16; FLAGS];
     let code = code_bytes(s, h);
@@ -56,7 +77,7 @@ fn declare(
     let len = note_term(
         terms,
         n,
-        datatypes,
+        list,
         code,
         h.names,
         declared,
@@ -70,7 +91,7 @@ fn declare(
         code,
         goal,
         h.names,
-        datatypes,
+        list,
         declared,
         len,
         &mut seen,
@@ -93,28 +114,31 @@ fn fill_sheet_ends(s: &[u8], h: Sheet, ends: &mut [u16; Sheet::CODE_LIMIT])
     );
 }
 
-// What stands before the term: the lines of the atoms, those of the datatypes, and an empty line.
+// What stands before the term: the lines of the first list, those of the second, and an empty line.
 fn put_heading(
     out: &mut [u8],
     s: &[u8],
     h: Sheet,
-    atoms: &[u16; DECLARED_NUMBERS],
-    atom_count: usize,
-    types: &[u16; DECLARED_NUMBERS],
-    type_count: usize,
+    version: Version,
+    first: &[u16; DECLARED_NUMBERS],
+    first_count: usize,
+    second: &[u16; DECLARED_NUMBERS],
+    second_count: usize,
     write: bool,
 ) -> usize
     requires { ⌜ AcceptedSheet (now s) h ⌝ }
-    requires { ⌜ Declares (now s) false (now atoms) «atom_count» ⌝ }
-    requires { ⌜ Declares (now s) true (now types) «type_count» ⌝ }
+    requires { ⌜ Declares (now s) (firstList version) (now first) «first_count» ⌝ }
+    requires { ⌜ Declares (now s) (secondList version) (now second) «second_count» ⌝ }
     ensures { λ r. ⌜ ((t : ProofTerm Name) → namedTerm (now (s .entry)) ≡ accepted t →
-        Wrote (heading t (goalProp (now (s .entry)))) write (now (out .entry)) 0 (now (out .exit)) r) ⌝ }
+        Wrote (heading version t (goalProp (now (s .entry)))) write (now (out .entry)) 0 (now (out .exit)) r) ⌝ }
 {
     let pairs = name_pairs(s, h);
     let text = text_bytes(s, h);
-    let atoms_end = put_declarations(out, 0, atoms, atom_count, false, pairs, text, write);
-    let line = put(out, atoms_end, b'\n', write);
-    let end = put_declarations(out, line, types, type_count, true, pairs, text, write);
+    let upper = first_list(version);
+    let upper_end = put_declarations(out, 0, first, first_count, upper, pairs, text, write);
+    let line = put(out, upper_end, b'\n', write);
+    let lower = second_list(version);
+    let end = put_declarations(out, line, second, second_count, lower, pairs, text, write);
     put_all(out, end, b"\n\n", write)
 }
 
@@ -153,19 +177,37 @@ fn put_term(
     )
 }
 
-// The text of a sheet's term in lent memory: measured by a dry run, and then written where it fits.
-pub fn text(s: &[u8], h: Sheet, terms: &[u16], n: usize, style: Style, out: &mut [u8]) -> Written
+// The text of a sheet's term in a version, in lent memory: measured by a dry run, and then written where it fits.
+pub fn text(
+    s: &[u8],
+    h: Sheet,
+    terms: &[u16],
+    n: usize,
+    version: Version,
+    style: Style,
+    out: &mut [u8],
+) -> Written
     requires { ⌜ AcceptedSheet (now s) h ⌝ }
     requires { ⌜ HeldTerm (now s) (now terms) n ⌝ }
-    ensures { λ r. ⌜ Fills (textAnswer (now (s .entry)) style (length (now (out .entry)))) (now (out .entry)) (now (out .exit)) r ⌝ }
+    ensures { λ r. ⌜ Fills (inRoom (length (now (out .entry))) (sheetText (now (s .entry)) version style)) (now (out .entry)) (now (out .exit)) r ⌝ }
 {
     let mut ends = [0u16; Sheet::CODE_LIMIT];
-    let mut atoms = [0u16; DECLARED_NUMBERS];
-    let mut types = [0u16; DECLARED_NUMBERS];
+    let mut first = [0u16; DECLARED_NUMBERS];
+    let mut second = [0u16; DECLARED_NUMBERS];
     fill_sheet_ends(s, h, &mut ends);
-    let atom_count = declare(s, h, terms, n, false, &mut atoms);
-    let type_count = declare(s, h, terms, n, true, &mut types);
-    let start = put_heading(out, s, h, &atoms, atom_count, &types, type_count, false);
+    let first_count = declare(s, h, terms, n, first_list(version), &mut first);
+    let second_count = declare(s, h, terms, n, second_list(version), &mut second);
+    let start = put_heading(
+        out,
+        s,
+        h,
+        version,
+        &first,
+        first_count,
+        &second,
+        second_count,
+        false,
+    );
     let end = put_term(out, start, s, h, terms, n, style, &ends, false);
     if out.len() < end {
         return Written::Refused(Refusal {
@@ -173,7 +215,17 @@ pub fn text(s: &[u8], h: Sheet, terms: &[u16], n: usize, style: Style, out: &mut
             place: 0,
         });
     }
-    let start = put_heading(out, s, h, &atoms, atom_count, &types, type_count, true);
+    let start = put_heading(
+        out,
+        s,
+        h,
+        version,
+        &first,
+        first_count,
+        &second,
+        second_count,
+        true,
+    );
     put_term(out, start, s, h, terms, n, style, &ends, true);
     Written::Length(end)
 }

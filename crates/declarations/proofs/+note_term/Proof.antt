@@ -2,6 +2,7 @@
 use Prim.Native.Nat.{ℕ, _+_, _-_, _≤_, _<_}
 use mathlib.Core.Path.{_≡_, sym, _∙_}
 use native.Mathlib.Omega.{arith}
+use denote.Ref.{now}
 use Rattle.definitions.specs.Prop.{Prop}
 use Rattle.proof_term.specs.Records.{fieldAt, partCount}
 use Rattle.proof_term.proofs.Counting.{few-parts}
@@ -33,12 +34,13 @@ note-term-below t =
     and 6 note-term-kinds.ps (falls 6 note-term-kinds.ps _<_ μ-note-term t) note-term.Pre
 
 abbrev note-term-Inv-parts : note-term-lts.InvT-parts
-note-term-Inv-parts records n datatypes code names declared₀ len seen₀ pairs text kind parts noted₀ i₀ declared seen noted i =
+note-term-Inv-parts records n list code names declared₀ len seen₀ pairs text kind parts noted₀ i₀ declared seen noted i =
     (parts ≡ partCount (fieldAt records n 0)) × (i ≤ parts)
-    × ((props : ℕ → Prop ℕ) → LabelsFit names code records n props → Notes pairs text (ofParts (labelUses datatypes) props records n i) declared₀ len seen₀ declared noted seen)
+    × ((props : ℕ → Prop ℕ) → LabelsFit names code records n props
+    → Notes pairs text (ofParts (labelUses list) props records n i) declared₀ len seen₀ declared noted seen)
 
 abbrev note-term-μ-parts : note-term-lts.MeasureT-parts
-note-term-μ-parts records n datatypes code names declared₀ len seen₀ pairs text kind parts noted₀ i₀ declared seen noted i = parts - i
+note-term-μ-parts records n list code names declared₀ len seen₀ pairs text kind parts noted₀ i₀ declared seen noted i = parts - i
 
 abbrev claims : ℕ → note-term-lts.Claims
 claims t = (
@@ -54,80 +56,179 @@ claims t = (
   note-label-reads.Learnt,
 )
 
-note-term-field-requires : (t : ℕ) → note-term-lts.Need-field-requires (claims t) (note-term-at t) note-term.Post note-term-Inv-parts note-term-μ-parts
-note-term-field-requires t c κs = omega arith
+-- The places of the function. Each name leads from a place back to an earlier one, as the code is read upwards.
+module _ (t : ℕ) where
+  abbrev Start : Type 0
+  Start = note-term-lts.Start (claims t) (note-term-at t) note-term.Post note-term-Inv-parts note-term-μ-parts
 
-note-term-part-count-requires : (t : ℕ) → note-term-lts.Need-part-count-requires (claims t) (note-term-at t) note-term.Post note-term-Inv-parts note-term-μ-parts
-note-term-part-count-requires t c κs = tt
+  abbrev Entered : Type 0
+  Entered = note-term-lts.After-shared-slice-known4 (claims t) (note-term-at t) note-term.Post note-term-Inv-parts note-term-μ-parts
 
-note-term-parts-holds : (t : ℕ) → note-term-lts.Need-parts-holds (claims t) (note-term-at t) note-term.Post note-term-Inv-parts note-term-μ-parts
-note-term-parts-holds t c = (cc, omega arith, λ props fit. rw parts-none (notes-none (c .before .before .before .before .before .before .before .before .pre .1 .3)))
+  abbrev Loop : Type 0
+  Loop = note-term-lts.At-parts (claims t) (note-term-at t) note-term.Post note-term-Inv-parts note-term-μ-parts
 
-note-term-add-field : (t : ℕ) → note-term-lts.Need-add-field (claims t) (note-term-at t) note-term.Post note-term-Inv-parts note-term-μ-parts
-note-term-add-field t c = omega (arith, few-parts (c .before .before .before .field .result))
+  abbrev Earlier : Type 0
+  Earlier = note-term-lts.Else1 (claims t) (note-term-at t) note-term.Post note-term-Inv-parts note-term-μ-parts
 
-note-term-field-requires-2 : (t : ℕ) → note-term-lts.Need-field-requires-2 (claims t) (note-term-at t) note-term.Post note-term-Inv-parts note-term-μ-parts
-note-term-field-requires-2 t c κs = omega (arith, few-parts (c .before .before .before .field .result))
+  abbrev PartNoted : Type 0
+  PartNoted = note-term-lts.After-slice-known4 (claims t) (note-term-at t) note-term.Post note-term-Inv-parts note-term-μ-parts
 
-note-term-add-i : (t : ℕ) → note-term-lts.Need-add-i (claims t) (note-term-at t) note-term.Post note-term-Inv-parts note-term-μ-parts
-note-term-add-i t c = omega arith
+  abbrev AfterPart : Type 0
+  AfterPart = note-term-lts.After-note-term (claims t) (note-term-at t) note-term.Post note-term-Inv-parts note-term-μ-parts
 
-note-term-parts-less : (t : ℕ) → note-term-lts.Need-parts-less (claims t) (note-term-at t) note-term.Post note-term-Inv-parts note-term-μ-parts
-note-term-parts-less t c = omega arith
+  abbrev Asked : Type 0
+  Asked = note-term-lts.After-has-label (claims t) (note-term-at t) note-term.Post note-term-Inv-parts note-term-μ-parts
 
-note-term-parts-again : (t : ℕ) → note-term-lts.Need-parts-again (claims t) (note-term-at t) note-term.Post note-term-Inv-parts note-term-μ-parts
-note-term-parts-again t c = (c .before .before .before .parts .inv .0, omega arith, λ props fit. rw (parts-unit (labelUses (c .before .before .before .before .before .before .before .before .before .before .before .before .args .datatypes)) props (c .before .before .before .before .before .before .before .before .before .before .before .before .args .records .now) (c .before .before .before .before .before .before .before .before .before .before .before .before .args .n) (c .before .before .before .parts .i) (c .before .field2 .ensures .0) (c .if1 .taken)) (c .before .before .before .parts .inv .2 props fit))
+  abbrev LabelNoted : Type 0
+  LabelNoted = note-term-lts.After-slice-known6 (claims t) (note-term-at t) note-term.Post note-term-Inv-parts note-term-μ-parts
 
-note-term-note-term-requires : (t : ℕ) → note-term-lts.Need-note-term-requires (claims t) (note-term-at t) note-term.Post note-term-Inv-parts note-term-μ-parts
-note-term-note-term-requires t c κs =
-    let some = c .before .before .before .before .before .before .before .before .before .before .before .before .before .before .pre .1 .1 in
-    let notes = c .before .before .before .before .before .parts .inv .2 (some .props) (some .fit) in
-    (omega arith, (omega arith, record { props = some .props; fit = fit-part (some .fit) (c .before .before .before .before .before .parts .i) (omega arith) (c .before .before .before .field2 .ensures .0) (c .before .before .if1 .left) }, named-still (c .before .before .before .before .before .before .before .before .before .before .before .before .before .before .pre .1 .2) (notes .flags), notes .held))
+  abbrev AfterLabel : Type 0
+  AfterLabel = note-term-lts.After-note-label (claims t) (note-term-at t) note-term.Post note-term-Inv-parts note-term-μ-parts
 
-note-term-parts-less-2 : (t : ℕ) → note-term-lts.Need-parts-less-2 (claims t) (note-term-at t) note-term.Post note-term-Inv-parts note-term-μ-parts
-note-term-parts-less-2 t c = omega arith
+  abbrev entry : Entered → Start
+  entry c = c .before .before .before .before .before .before
 
-note-term-parts-again-2 : (t : ℕ) → note-term-lts.Need-parts-again-2 (claims t) (note-term-at t) note-term.Post note-term-Inv-parts note-term-μ-parts
-note-term-parts-again-2 t c = (c .before .before .before .before .before .before .before .before .before .before .parts .inv .0, omega arith, λ props fit. rw (parts-part (labelUses (c .before .before .before .before .before .before .before .before .before .before .before .before .before .before .before .before .before .before .before .args .datatypes)) props (c .before .before .before .before .before .before .before .before .before .before .before .before .before .before .before .before .before .before .before .args .records .now) (c .before .before .before .before .before .before .before .before .before .before .before .before .before .before .before .before .before .before .before .args .n) (c .before .before .before .before .before .before .before .before .before .before .parts .i) (c .before .before .before .before .before .before .before .before .field2 .ensures .0) (c .before .before .before .before .before .before .before .if1 .left)) (notes-then (c .before .before .before .before .before .before .before .before .before .before .parts .inv .2 props fit) (c .before .before .before .before .note-term .ensures props (fit-part fit (c .before .before .before .before .before .before .before .before .before .before .parts .i) (omega arith) (c .before .before .before .before .before .before .before .before .field2 .ensures .0) (c .before .before .before .before .before .before .before .if1 .left)))))
+  abbrev start : Loop → Start
+  start c = entry (c .before .before .before)
 
-note-term-field-requires-3 : (t : ℕ) → note-term-lts.Need-field-requires-3 (claims t) (note-term-at t) note-term.Post note-term-Inv-parts note-term-μ-parts
-note-term-field-requires-3 t c κs = omega arith
+  -- back over the memories that a part leaves, and from a part that is an earlier record to the loop
+  abbrev part-noted : PartNoted → AfterPart
+  part-noted c = c .before .before .before .before
 
-note-term-field-requires-4 : (t : ℕ) → note-term-lts.Need-field-requires-4 (claims t) (note-term-at t) note-term.Post note-term-Inv-parts note-term-μ-parts
-note-term-field-requires-4 t c κs = omega arith
+  abbrev loop-of : Earlier → Loop
+  loop-of c = c .before .before .before
 
-note-term-has-label-requires : (t : ℕ) → note-term-lts.Need-has-label-requires (claims t) (note-term-at t) note-term.Post note-term-Inv-parts note-term-μ-parts
-note-term-has-label-requires t c κs = tt
+  -- after the loop: back over the memories that the label leaves, and from the question whether there is one to the loop
+  abbrev label-noted : LabelNoted → AfterLabel
+  label-noted c = c .before .before .before .before
 
-note-term-note-label-requires : (t : ℕ) → note-term-lts.Need-note-label-requires (claims t) (note-term-at t) note-term.Post note-term-Inv-parts note-term-μ-parts
-note-term-note-label-requires t c κs =
-    let some = c .before .before .before .before .before .before .before .before .before .before .before .before .before .before .before .before .pre .1 .1 in
-    let notes = c .before .before .before .before .before .before .before .parts .inv .2 (some .props) (some .fit) in
-    let fits = label-fits (some .fit) (c .before .before .before .before .before .before .before .before .before .field .ensures .0) (c .before .before .before .before .before .field3 .ensures .0) (c .before .before .before .before .field4 .ensures .0) (sym (c .before .before .before .has-label .ensures) ∙ c .before .before .if2 .taken) in
-    (record { props = some .props; fits = fits }, named-still (c .before .before .before .before .before .before .before .before .before .before .before .before .before .before .before .before .pre .1 .2) (notes .flags), notes .held, c .before .before .before .before .field4 .ensures .1)
+  abbrev past-loop : Asked → Loop
+  past-loop c = c .before .before .before .before
 
-note-term-returns : (t : ℕ) → note-term-lts.Need-returns (claims t) (note-term-at t) note-term.Post note-term-Inv-parts note-term-μ-parts
-note-term-returns t c =
-    let all : c .before .before .before .before .before .before .before .before .before .before .before .before .parts .i ≡ partCount (fieldAt (c .before .before .before .before .before .before .before .before .before .before .before .before .before .before .before .before .before .before .before .before .before .args .records .now) (c .before .before .before .before .before .before .before .before .before .before .before .before .before .before .before .before .before .before .before .before .before .args .n) 0) = omega arith in
-    λ props fit. rw (with-label (labelUses (c .before .before .before .before .before .before .before .before .before .before .before .before .before .before .before .before .before .before .before .before .before .args .datatypes)) props (c .before .before .before .before .before .before .before .before .before .before .before .before .before .before .before .before .before .before .before .before .before .args .records .now) (c .before .before .before .before .before .before .before .before .before .before .before .before .before .before .before .before .before .before .before .before .before .args .n) all (c .before .before .before .before .before .before .before .before .before .before .before .before .before .before .field .ensures .0) (c .before .before .before .before .before .before .before .before .before .before .field3 .ensures .0) (c .before .before .before .before .before .before .before .before .before .field4 .ensures .0) (sym (c .before .before .before .before .before .before .before .before .has-label .ensures) ∙ c .before .before .before .before .before .before .before .if2 .taken))
-    (notes-then (c .before .before .before .before .before .before .before .before .before .before .before .before .parts .inv .2 props fit) (c .before .before .before .before .note-label .ensures props (label-fits fit (c .before .before .before .before .before .before .before .before .before .before .before .before .before .before .field .ensures .0) (c .before .before .before .before .before .before .before .before .before .before .field3 .ensures .0) (c .before .before .before .before .before .before .before .before .before .field4 .ensures .0) (sym (c .before .before .before .before .before .before .before .before .has-label .ensures) ∙ c .before .before .before .before .before .before .before .if2 .taken))))
+  -- all parts are done
+  all-parts : (c : Asked) → let s = start (past-loop c) .args in past-loop c .parts .i ≡ partCount (fieldAt (now (s .records)) (s .n) 0)
+  all-parts c = omega arith
 
-note-term-same-length : (t : ℕ) → note-term-lts.Need-same-length (claims t) (note-term-at t) note-term.Post note-term-Inv-parts note-term-μ-parts
-note-term-same-length t c = note-term-returns t c (c .before .before .before .before .before .before .before .before .before .before .before .before .before .before .before .before .before .before .before .before .before .pre .1 .1 .props) (c .before .before .before .before .before .before .before .before .before .before .before .before .before .before .before .before .before .before .before .before .before .pre .1 .1 .fit) .sized
+  note-term-field-requires : note-term-lts.Need-field-requires (claims t) (note-term-at t) note-term.Post note-term-Inv-parts note-term-μ-parts
+  note-term-field-requires c κs = omega arith
 
-note-term-same-length-2 : (t : ℕ) → note-term-lts.Need-same-length-2 (claims t) (note-term-at t) note-term.Post note-term-Inv-parts note-term-μ-parts
-note-term-same-length-2 t c = note-term-returns t c (c .before .before .before .before .before .before .before .before .before .before .before .before .before .before .before .before .before .before .before .before .before .pre .1 .1 .props) (c .before .before .before .before .before .before .before .before .before .before .before .before .before .before .before .before .before .before .before .before .before .pre .1 .1 .fit) .flags
+  note-term-part-count-requires : note-term-lts.Need-part-count-requires (claims t) (note-term-at t) note-term.Post note-term-Inv-parts note-term-μ-parts
+  note-term-part-count-requires c κs = tt
 
-note-term-returns-2 : (t : ℕ) → note-term-lts.Need-returns-2 (claims t) (note-term-at t) note-term.Post note-term-Inv-parts note-term-μ-parts
-note-term-returns-2 t c =
-    let all : c .before .before .before .before .before .parts .i ≡ partCount (fieldAt (c .before .before .before .before .before .before .before .before .before .before .before .before .before .before .args .records .now) (c .before .before .before .before .before .before .before .before .before .before .before .before .before .before .args .n) 0) = omega arith in
-    λ props fit. rw (without-label (labelUses (c .before .before .before .before .before .before .before .before .before .before .before .before .before .before .args .datatypes)) props (c .before .before .before .before .before .before .before .before .before .before .before .before .before .before .args .records .now) (c .before .before .before .before .before .before .before .before .before .before .before .before .before .before .args .n) all (c .before .before .before .before .before .before .before .field .ensures .0) (c .before .before .before .field3 .ensures .0) (c .before .before .field4 .ensures .0) (sym (c .before .has-label .ensures) ∙ c .if2 .left)) (c .before .before .before .before .before .parts .inv .2 props fit)
+  note-term-parts-holds : note-term-lts.Need-parts-holds (claims t) (note-term-at t) note-term.Post note-term-Inv-parts note-term-μ-parts
+  note-term-parts-holds c = (cc, omega arith, λ props fit. rw parts-none (notes-none (entry (c .before .before) .pre .1 .3)))
 
-note-term-same-length-3 : (t : ℕ) → note-term-lts.Need-same-length-3 (claims t) (note-term-at t) note-term.Post note-term-Inv-parts note-term-μ-parts
-note-term-same-length-3 t c = note-term-returns-2 t c (c .before .before .before .before .before .before .before .before .before .before .before .before .before .before .pre .1 .1 .props) (c .before .before .before .before .before .before .before .before .before .before .before .before .before .before .pre .1 .1 .fit) .sized
+  note-term-add-field : note-term-lts.Need-add-field (claims t) (note-term-at t) note-term.Post note-term-Inv-parts note-term-μ-parts
+  note-term-add-field c = omega (arith, few-parts (c .before .before .before .field .result))
 
-note-term-same-length-4 : (t : ℕ) → note-term-lts.Need-same-length-4 (claims t) (note-term-at t) note-term.Post note-term-Inv-parts note-term-μ-parts
-note-term-same-length-4 t c = note-term-returns-2 t c (c .before .before .before .before .before .before .before .before .before .before .before .before .before .before .pre .1 .1 .props) (c .before .before .before .before .before .before .before .before .before .before .before .before .before .before .pre .1 .1 .fit) .flags
+  note-term-field-requires-2 : note-term-lts.Need-field-requires-2 (claims t) (note-term-at t) note-term.Post note-term-Inv-parts note-term-μ-parts
+  note-term-field-requires-2 c κs = omega (arith, few-parts (c .before .before .before .field .result))
+
+  note-term-add-i : note-term-lts.Need-add-i (claims t) (note-term-at t) note-term.Post note-term-Inv-parts note-term-μ-parts
+  note-term-add-i c = omega arith
+
+  note-term-parts-less : note-term-lts.Need-parts-less (claims t) (note-term-at t) note-term.Post note-term-Inv-parts note-term-μ-parts
+  note-term-parts-less c = omega arith
+
+  note-term-parts-again : note-term-lts.Need-parts-again (claims t) (note-term-at t) note-term.Post note-term-Inv-parts note-term-μ-parts
+  note-term-parts-again c =
+      let loop = c .before .before .before in
+      let s = start loop .args in (
+        loop .parts .inv .0,
+        omega arith,
+        λ props fit.
+            rw (parts-unit (labelUses (s .list)) props (now (s .records)) (s .n) (loop .parts .i) (c .before .field2 .ensures .0) (c .if1 .taken))
+            (loop .parts .inv .2 props fit),
+      )
+
+  note-term-note-term-requires : note-term-lts.Need-note-term-requires (claims t) (note-term-at t) note-term.Post note-term-Inv-parts note-term-μ-parts
+  note-term-note-term-requires c κs =
+      let earlier = c .before .before in
+      let loop = loop-of earlier in
+      let pre = start loop .pre .1 in
+      let notes = loop .parts .inv .2 (pre .1 .props) (pre .1 .fit) in
+      let part = fit-part (pre .1 .fit) (loop .parts .i) (omega arith) (earlier .before .field2 .ensures .0) (earlier .if1 .left) in
+      (omega arith, (omega arith, record { props = pre .1 .props; fit = part }, named-still (pre .2) (notes .flags), notes .held))
+
+  note-term-parts-less-2 : note-term-lts.Need-parts-less-2 (claims t) (note-term-at t) note-term.Post note-term-Inv-parts note-term-μ-parts
+  note-term-parts-less-2 c = omega arith
+
+  note-term-parts-again-2 : note-term-lts.Need-parts-again-2 (claims t) (note-term-at t) note-term.Post note-term-Inv-parts note-term-μ-parts
+  note-term-parts-again-2 c =
+      let earlier = part-noted c .before .before .before in
+      let loop = loop-of earlier in
+      let s = start loop .args in
+      let is = earlier .before .field2 .ensures .0 in (
+        loop .parts .inv .0,
+        omega arith,
+        λ props fit.
+            let part = fit-part fit (loop .parts .i) (omega arith) is (earlier .if1 .left) in
+            rw (parts-part (labelUses (s .list)) props (now (s .records)) (s .n) (loop .parts .i) is (earlier .if1 .left))
+            (notes-then (loop .parts .inv .2 props fit) (part-noted c .note-term .ensures props part)),
+      )
+
+  note-term-field-requires-3 : note-term-lts.Need-field-requires-3 (claims t) (note-term-at t) note-term.Post note-term-Inv-parts note-term-μ-parts
+  note-term-field-requires-3 c κs = omega arith
+
+  note-term-field-requires-4 : note-term-lts.Need-field-requires-4 (claims t) (note-term-at t) note-term.Post note-term-Inv-parts note-term-μ-parts
+  note-term-field-requires-4 c κs = omega arith
+
+  note-term-has-label-requires : note-term-lts.Need-has-label-requires (claims t) (note-term-at t) note-term.Post note-term-Inv-parts note-term-μ-parts
+  note-term-has-label-requires c κs = tt
+
+  note-term-note-label-requires : note-term-lts.Need-note-label-requires (claims t) (note-term-at t) note-term.Post note-term-Inv-parts note-term-μ-parts
+  note-term-note-label-requires c κs =
+      let asked = c .before .before .before in
+      let loop = past-loop asked in
+      let pre = start loop .pre .1 in
+      let notes = loop .parts .inv .2 (pre .1 .props) (pre .1 .fit) in
+      let number = asked .before .field4 .ensures in
+      let has = sym (asked .has-label .ensures) ∙ c .before .before .if2 .taken in
+      let fits = label-fits (pre .1 .fit) (loop .before .before .field .ensures .0) (asked .before .before .field3 .ensures .0) (number .0) has in
+      (record { props = pre .1 .props; fits = fits }, named-still (pre .2) (notes .flags), notes .held, number .1)
+
+  note-term-returns : note-term-lts.Need-returns (claims t) (note-term-at t) note-term.Post note-term-Inv-parts note-term-μ-parts
+  note-term-returns c =
+      let labelled = label-noted c .before .before .before in
+      let asked = labelled .before in
+      let s = start (past-loop asked) .args in
+      let kind = past-loop asked .before .before .field .ensures .0 in
+      let label = asked .before .before .field3 .ensures .0 in
+      let number = asked .before .field4 .ensures .0 in
+      let has = sym (asked .has-label .ensures) ∙ labelled .if2 .taken in
+      λ props fit. rw (with-label (labelUses (s .list)) props (now (s .records)) (s .n) (all-parts asked) kind label number has)
+      (notes-then (past-loop asked .parts .inv .2 props fit) (label-noted c .note-label .ensures props (label-fits fit kind label number has)))
+
+  note-term-same-length : note-term-lts.Need-same-length (claims t) (note-term-at t) note-term.Post note-term-Inv-parts note-term-μ-parts
+  note-term-same-length c =
+      let some = start (past-loop (label-noted c .before .before .before .before)) .pre .1 .1 in
+      note-term-returns c (some .props) (some .fit) .sized
+
+  note-term-same-length-2 : note-term-lts.Need-same-length-2 (claims t) (note-term-at t) note-term.Post note-term-Inv-parts note-term-μ-parts
+  note-term-same-length-2 c =
+      let some = start (past-loop (label-noted c .before .before .before .before)) .pre .1 .1 in
+      note-term-returns c (some .props) (some .fit) .flags
+
+  note-term-returns-2 : note-term-lts.Need-returns-2 (claims t) (note-term-at t) note-term.Post note-term-Inv-parts note-term-μ-parts
+  note-term-returns-2 c =
+      let asked = c .before in
+      let s = start (past-loop asked) .args in
+      let kind = past-loop asked .before .before .field .ensures .0 in
+      let label = asked .before .before .field3 .ensures .0 in
+      let number = asked .before .field4 .ensures .0 in
+      let has-none = sym (asked .has-label .ensures) ∙ c .if2 .left in
+      λ props fit. rw (without-label (labelUses (s .list)) props (now (s .records)) (s .n) (all-parts asked) kind label number has-none)
+      (past-loop asked .parts .inv .2 props fit)
+
+  note-term-same-length-3 : note-term-lts.Need-same-length-3 (claims t) (note-term-at t) note-term.Post note-term-Inv-parts note-term-μ-parts
+  note-term-same-length-3 c =
+      let some = start (past-loop (c .before)) .pre .1 .1 in
+      note-term-returns-2 c (some .props) (some .fit) .sized
+
+  note-term-same-length-4 : note-term-lts.Need-same-length-4 (claims t) (note-term-at t) note-term.Post note-term-Inv-parts note-term-μ-parts
+  note-term-same-length-4 c =
+      let some = start (past-loop (c .before)) .pre .1 .1 in
+      note-term-returns-2 c (some .props) (some .fit) .flags
 
 pub +note-term-spec : {M : Type 1} → statement M
 +note-term-spec = close μ-note-term λ t. note-term-lts.spec (claims t)

@@ -12,11 +12,11 @@ use Rattle.declarations.proofs.put_declarations.Statement.{statement}
 use Rattle.declarations.proofs.put_declarations.Tie as tie
 
 abbrev Inv-loop : tie.InvT-loop
-Inv-loop out₀ to declared len datatypes pairs text write at₀ j₀ out at j =
-    (j ≤ len) × Wrote (declarationLines datatypes (usesOver (marked pairs text) (entriesOf declared j))) write out₀ to out at
+Inv-loop out₀ to declared len list pairs text write at₀ j₀ out at j =
+    (j ≤ len) × Wrote (declarationLines list (usesOver (marked pairs text) (entriesOf declared j))) write out₀ to out at
 
 abbrev μ-loop : tie.MeasureT-loop
-μ-loop out₀ to declared len datatypes pairs text write at₀ j₀ out at j = len - j
+μ-loop out₀ to declared len list pairs text write at₀ j₀ out at j = len - j
 
 loop-holds : tie.Need-loop-holds Inv-loop μ-loop
 loop-holds c = (omega arith, rw lines-none (writing.none _ _ _))

@@ -2,6 +2,7 @@
 use Prim.Native.Nat.{ℕ, _+_, _-_, _≤_, _<_}
 use mathlib.Core.Path.{_≡_, sym, _∙_}
 use native.Mathlib.Omega.{arith}
+use denote.Ref.{now}
 use Rattle.definitions.specs.Prop.{Prop}
 use Rattle.output.specs.Wrote.{Wrote}
 use Rattle.output.proofs.Writing as writing
@@ -35,12 +36,13 @@ put-list-below t =
     and 3 put-list-kinds.ps (falls 3 put-list-kinds.ps _<_ μ-put-list t) put-list.Pre
 
 abbrev put-list-Inv-parts : put-list-lts.InvT-parts
-put-list-Inv-parts records n datatypes code names out₀ to write kind parts position₀ i₀ out position i =
+put-list-Inv-parts records n list code names out₀ to write kind parts position₀ i₀ out position i =
     (parts ≡ partCount (fieldAt records n 0)) × (i ≤ parts)
-    × ((props : ℕ → Prop ℕ) → LabelsFit names code records n props → Wrote (ofParts (labelNumbers datatypes) props records n i) write out₀ to out position)
+    × ((props : ℕ → Prop ℕ) → LabelsFit names code records n props
+    → Wrote (ofParts (labelNumbers list) props records n i) write out₀ to out position)
 
 abbrev put-list-μ-parts : put-list-lts.MeasureT-parts
-put-list-μ-parts records n datatypes code names out₀ to write kind parts position₀ i₀ out position i = parts - i
+put-list-μ-parts records n list code names out₀ to write kind parts position₀ i₀ out position i = parts - i
 
 abbrev claims : ℕ → put-list-lts.Claims
 claims t = (
@@ -56,78 +58,139 @@ claims t = (
   put-label-reads.Learnt,
 )
 
-put-list-field-requires : (t : ℕ) → put-list-lts.Need-field-requires (claims t) (put-list-at t) put-list.Post put-list-Inv-parts put-list-μ-parts
-put-list-field-requires t c κs = omega arith
+-- The places of the function. Each name leads from a place back to an earlier one, as the code is read upwards.
+module _ (t : ℕ) where
+  abbrev Start : Type 0
+  Start = put-list-lts.Start (claims t) (put-list-at t) put-list.Post put-list-Inv-parts put-list-μ-parts
 
-put-list-part-count-requires : (t : ℕ) → put-list-lts.Need-part-count-requires (claims t) (put-list-at t) put-list.Post put-list-Inv-parts put-list-μ-parts
-put-list-part-count-requires t c κs = tt
+  abbrev Loop : Type 0
+  Loop = put-list-lts.At-parts (claims t) (put-list-at t) put-list.Post put-list-Inv-parts put-list-μ-parts
 
-put-list-parts-holds : (t : ℕ) → put-list-lts.Need-parts-holds (claims t) (put-list-at t) put-list.Post put-list-Inv-parts put-list-μ-parts
-put-list-parts-holds t c = (cc, omega arith, λ props fit. rw parts-none (writing.none _ _ _))
+  abbrev Listed : Type 0
+  Listed = put-list-lts.After-slice-known2 (claims t) (put-list-at t) put-list.Post put-list-Inv-parts put-list-μ-parts
 
-put-list-add-field : (t : ℕ) → put-list-lts.Need-add-field (claims t) (put-list-at t) put-list.Post put-list-Inv-parts put-list-μ-parts
-put-list-add-field t c = omega (arith, few-parts (c .before .before .before .field .result))
+  abbrev Earlier : Type 0
+  Earlier = put-list-lts.Else1 (claims t) (put-list-at t) put-list.Post put-list-Inv-parts put-list-μ-parts
 
-put-list-field-requires-2 : (t : ℕ) → put-list-lts.Need-field-requires-2 (claims t) (put-list-at t) put-list.Post put-list-Inv-parts put-list-μ-parts
-put-list-field-requires-2 t c κs = omega (arith, few-parts (c .before .before .before .field .result))
+  abbrev Asked : Type 0
+  Asked = put-list-lts.After-has-label (claims t) (put-list-at t) put-list.Post put-list-Inv-parts put-list-μ-parts
 
-put-list-add-i : (t : ℕ) → put-list-lts.Need-add-i (claims t) (put-list-at t) put-list.Post put-list-Inv-parts put-list-μ-parts
-put-list-add-i t c = omega arith
+  abbrev Written : Type 0
+  Written = put-list-lts.After-slice-known3 (claims t) (put-list-at t) put-list.Post put-list-Inv-parts put-list-μ-parts
 
-put-list-parts-less : (t : ℕ) → put-list-lts.Need-parts-less (claims t) (put-list-at t) put-list.Post put-list-Inv-parts put-list-μ-parts
-put-list-parts-less t c = omega arith
+  abbrev entry : Loop → Start
+  entry c = c .before .before .before .before .before .before
 
-put-list-parts-again : (t : ℕ) → put-list-lts.Need-parts-again (claims t) (put-list-at t) put-list.Post put-list-Inv-parts put-list-μ-parts
-put-list-parts-again t c = (c .before .before .before .parts .inv .0, omega arith, λ props fit. rw (parts-unit (labelNumbers (c .before .before .before .before .before .before .before .before .before .args .datatypes)) props (c .before .before .before .before .before .before .before .before .before .args .records .now) (c .before .before .before .before .before .before .before .before .before .args .n) (c .before .before .before .parts .i) (c .before .field2 .ensures .0) (c .if1 .taken)) (c .before .before .before .parts .inv .2 props fit))
+  -- back over the list of a part, and from a part that is an earlier record to the loop
+  abbrev part-put : Listed → Earlier
+  part-put c = c .before .before .before .before
 
-put-list-put-list-requires : (t : ℕ) → put-list-lts.Need-put-list-requires (claims t) (put-list-at t) put-list.Post put-list-Inv-parts put-list-μ-parts
-put-list-put-list-requires t c κs =
-    let some = c .before .before .before .before .before .before .before .before .before .before .pre .1 .1 in
-    (omega arith, (omega arith, record { props = some .props; fit = fit-part (some .fit) (c .before .before .before .before .parts .i) (omega arith) (c .before .before .field2 .ensures .0) (c .before .if1 .left) }))
+  abbrev loop-of : Earlier → Loop
+  loop-of c = c .before .before .before
 
-put-list-parts-less-2 : (t : ℕ) → put-list-lts.Need-parts-less-2 (claims t) (put-list-at t) put-list.Post put-list-Inv-parts put-list-μ-parts
-put-list-parts-less-2 t c = omega arith
+  -- after the loop: back over the label's list to the question whether there is a label, and from there to the loop
+  abbrev label-put : Written → Asked
+  label-put c = c .before .before .before .before .before
 
-put-list-parts-again-2 : (t : ℕ) → put-list-lts.Need-parts-again-2 (claims t) (put-list-at t) put-list.Post put-list-Inv-parts put-list-μ-parts
-put-list-parts-again-2 t c = (
-  c .before .before .before .before .before .before .before .parts .inv .0,
-  omega arith,
-  λ props fit.
-      let here = fit-part fit (c .before .before .before .before .before .before .before .parts .i) (omega arith) (c .before .before .before .before .before .field2 .ensures .0) (c .before .before .before .before .if1 .left) in
-      rw (parts-part (labelNumbers (c .before .before .before .before .before .before .before .before .before .before .before .before .before .args .datatypes)) props (c .before .before .before .before .before .before .before .before .before .before .before .before .before .args .records .now) (c .before .before .before .before .before .before .before .before .before .before .before .before .before .args .n) (c .before .before .before .before .before .before .before .parts .i) (c .before .before .before .before .before .field2 .ensures .0) (c .before .before .before .before .if1 .left))
-      (writing.then (c .before .before .before .before .before .before .before .parts .inv .2 props fit) (rw numbers-are at (c .before .before .put-list .ensures props here))),
-)
+  abbrev past-loop : Asked → Loop
+  past-loop c = c .before .before .before .before
 
-put-list-field-requires-3 : (t : ℕ) → put-list-lts.Need-field-requires-3 (claims t) (put-list-at t) put-list.Post put-list-Inv-parts put-list-μ-parts
-put-list-field-requires-3 t c κs = omega arith
+  -- what the parts have listed, once all are done
+  all-parts : (c : Asked) → let s = entry (past-loop c) .args in past-loop c .parts .i ≡ partCount (fieldAt (now (s .records)) (s .n) 0)
+  all-parts c = omega arith
 
-put-list-field-requires-4 : (t : ℕ) → put-list-lts.Need-field-requires-4 (claims t) (put-list-at t) put-list.Post put-list-Inv-parts put-list-μ-parts
-put-list-field-requires-4 t c κs = omega arith
+  put-list-field-requires : put-list-lts.Need-field-requires (claims t) (put-list-at t) put-list.Post put-list-Inv-parts put-list-μ-parts
+  put-list-field-requires c κs = omega arith
 
-put-list-has-label-requires : (t : ℕ) → put-list-lts.Need-has-label-requires (claims t) (put-list-at t) put-list.Post put-list-Inv-parts put-list-μ-parts
-put-list-has-label-requires t c κs = tt
+  put-list-part-count-requires : put-list-lts.Need-part-count-requires (claims t) (put-list-at t) put-list.Post put-list-Inv-parts put-list-μ-parts
+  put-list-part-count-requires c κs = tt
 
-put-list-put-label-requires : (t : ℕ) → put-list-lts.Need-put-label-requires (claims t) (put-list-at t) put-list.Post put-list-Inv-parts put-list-μ-parts
-put-list-put-label-requires t c κs =
-    let some = c .before .before .before .before .before .before .before .before .before .before .before .before .pre .1 .1 in
-    (record { props = some .props; fits = label-fits (some .fit) (c .before .before .before .before .before .before .before .before .field .ensures .0) (c .before .before .before .before .field3 .ensures .0) (c .before .before .before .field4 .ensures .0) (sym (c .before .before .has-label .ensures) ∙ c .before .if2 .taken) }, c .before .before .before .field4 .ensures .1)
+  put-list-parts-holds : put-list-lts.Need-parts-holds (claims t) (put-list-at t) put-list.Post put-list-Inv-parts put-list-μ-parts
+  put-list-parts-holds c = (cc, omega arith, λ props fit. rw parts-none (writing.none _ _ _))
 
-put-list-returns : (t : ℕ) → put-list-lts.Need-returns (claims t) (put-list-at t) put-list.Post put-list-Inv-parts put-list-μ-parts
-put-list-returns t c =
-    let all : c .before .before .before .before .before .before .before .before .before .parts .i ≡ partCount (fieldAt (c .before .before .before .before .before .before .before .before .before .before .before .before .before .before .before .args .records .now) (c .before .before .before .before .before .before .before .before .before .before .before .before .before .before .before .args .n) 0) = omega arith in
-    λ props fit. rw (numbers-are, with-label (labelNumbers (c .before .before .before .before .before .before .before .before .before .before .before .before .before .before .before .args .datatypes)) props (c .before .before .before .before .before .before .before .before .before .before .before .before .before .before .before .args .records .now) (c .before .before .before .before .before .before .before .before .before .before .before .before .before .before .before .args .n) all (c .before .before .before .before .before .before .before .before .before .before .before .field .ensures .0) (c .before .before .before .before .before .before .before .field3 .ensures .0) (c .before .before .before .before .before .before .field4 .ensures .0) (sym (c .before .before .before .before .before .has-label .ensures) ∙ c .before .before .before .before .if2 .taken))
-    (writing.then (c .before .before .before .before .before .before .before .before .before .parts .inv .2 props fit) (c .before .before .put-label .ensures props (label-fits fit (c .before .before .before .before .before .before .before .before .before .before .before .field .ensures .0) (c .before .before .before .before .before .before .before .field3 .ensures .0) (c .before .before .before .before .before .before .field4 .ensures .0) (sym (c .before .before .before .before .before .has-label .ensures) ∙ c .before .before .before .before .if2 .taken))))
+  put-list-add-field : put-list-lts.Need-add-field (claims t) (put-list-at t) put-list.Post put-list-Inv-parts put-list-μ-parts
+  put-list-add-field c = omega (arith, few-parts (c .before .before .before .field .result))
 
-put-list-same-length : (t : ℕ) → put-list-lts.Need-same-length (claims t) (put-list-at t) put-list.Post put-list-Inv-parts put-list-μ-parts
-put-list-same-length t c = let some = c .before .before .before .before .before .before .before .before .before .before .before .before .before .before .before .pre .1 .1 in writing.same-length (put-list-returns t c (some .props) (some .fit))
+  put-list-field-requires-2 : put-list-lts.Need-field-requires-2 (claims t) (put-list-at t) put-list.Post put-list-Inv-parts put-list-μ-parts
+  put-list-field-requires-2 c κs = omega (arith, few-parts (c .before .before .before .field .result))
 
-put-list-returns-2 : (t : ℕ) → put-list-lts.Need-returns-2 (claims t) (put-list-at t) put-list.Post put-list-Inv-parts put-list-μ-parts
-put-list-returns-2 t c =
-    let all : c .before .before .before .before .before .parts .i ≡ partCount (fieldAt (c .before .before .before .before .before .before .before .before .before .before .before .args .records .now) (c .before .before .before .before .before .before .before .before .before .before .before .args .n) 0) = omega arith in
-    λ props fit. rw (numbers-are, without-label (labelNumbers (c .before .before .before .before .before .before .before .before .before .before .before .args .datatypes)) props (c .before .before .before .before .before .before .before .before .before .before .before .args .records .now) (c .before .before .before .before .before .before .before .before .before .before .before .args .n) all (c .before .before .before .before .before .before .before .field .ensures .0) (c .before .before .before .field3 .ensures .0) (c .before .before .field4 .ensures .0) (sym (c .before .has-label .ensures) ∙ c .if2 .left)) (c .before .before .before .before .before .parts .inv .2 props fit)
+  put-list-add-i : put-list-lts.Need-add-i (claims t) (put-list-at t) put-list.Post put-list-Inv-parts put-list-μ-parts
+  put-list-add-i c = omega arith
 
-put-list-same-length-2 : (t : ℕ) → put-list-lts.Need-same-length-2 (claims t) (put-list-at t) put-list.Post put-list-Inv-parts put-list-μ-parts
-put-list-same-length-2 t c = let some = c .before .before .before .before .before .before .before .before .before .before .before .pre .1 .1 in writing.same-length (put-list-returns-2 t c (some .props) (some .fit))
+  put-list-parts-less : put-list-lts.Need-parts-less (claims t) (put-list-at t) put-list.Post put-list-Inv-parts put-list-μ-parts
+  put-list-parts-less c = omega arith
+
+  put-list-parts-again : put-list-lts.Need-parts-again (claims t) (put-list-at t) put-list.Post put-list-Inv-parts put-list-μ-parts
+  put-list-parts-again c =
+      let loop = c .before .before .before in
+      let s = entry loop .args in
+      (loop .parts .inv .0, omega arith, λ props fit. rw (parts-unit (labelNumbers (s .list)) props (now (s .records)) (s .n) (loop .parts .i) (c .before .field2 .ensures .0) (c .if1 .taken)) (loop .parts .inv .2 props fit))
+
+  put-list-put-list-requires : put-list-lts.Need-put-list-requires (claims t) (put-list-at t) put-list.Post put-list-Inv-parts put-list-μ-parts
+  put-list-put-list-requires c κs =
+      let earlier = c .before in
+      let some = entry (loop-of earlier) .pre .1 .1 in
+      (omega arith, (omega arith, record { props = some .props; fit = fit-part (some .fit) (loop-of earlier .parts .i) (omega arith) (earlier .before .field2 .ensures .0) (earlier .if1 .left) }))
+
+  put-list-parts-less-2 : put-list-lts.Need-parts-less-2 (claims t) (put-list-at t) put-list.Post put-list-Inv-parts put-list-μ-parts
+  put-list-parts-less-2 c = omega arith
+
+  put-list-parts-again-2 : put-list-lts.Need-parts-again-2 (claims t) (put-list-at t) put-list.Post put-list-Inv-parts put-list-μ-parts
+  put-list-parts-again-2 c =
+      let earlier = part-put c in
+      let loop = loop-of earlier in
+      let s = entry loop .args in
+      let is = earlier .before .field2 .ensures .0 in (
+        loop .parts .inv .0,
+        omega arith,
+        λ props fit.
+            let part = fit-part fit (loop .parts .i) (omega arith) is (earlier .if1 .left) in
+            rw (parts-part (labelNumbers (s .list)) props (now (s .records)) (s .n) (loop .parts .i) is (earlier .if1 .left))
+            (writing.then (loop .parts .inv .2 props fit) (rw numbers-are at (c .before .before .put-list .ensures props part))),
+      )
+
+  put-list-field-requires-3 : put-list-lts.Need-field-requires-3 (claims t) (put-list-at t) put-list.Post put-list-Inv-parts put-list-μ-parts
+  put-list-field-requires-3 c κs = omega arith
+
+  put-list-field-requires-4 : put-list-lts.Need-field-requires-4 (claims t) (put-list-at t) put-list.Post put-list-Inv-parts put-list-μ-parts
+  put-list-field-requires-4 c κs = omega arith
+
+  put-list-has-label-requires : put-list-lts.Need-has-label-requires (claims t) (put-list-at t) put-list.Post put-list-Inv-parts put-list-μ-parts
+  put-list-has-label-requires c κs = tt
+
+  put-list-put-label-requires : put-list-lts.Need-put-label-requires (claims t) (put-list-at t) put-list.Post put-list-Inv-parts put-list-μ-parts
+  put-list-put-label-requires c κs =
+      let asked = c .before .before in
+      let some = entry (past-loop asked) .pre .1 .1 in
+      let number = asked .before .field4 .ensures in
+      (record { props = some .props; fits = label-fits (some .fit) (past-loop asked .before .before .field .ensures .0) (asked .before .before .field3 .ensures .0) (number .0) (sym (asked .has-label .ensures) ∙ c .before .if2 .taken) }, number .1)
+
+  put-list-returns : put-list-lts.Need-returns (claims t) (put-list-at t) put-list.Post put-list-Inv-parts put-list-μ-parts
+  put-list-returns c =
+      let asked = label-put c in
+      let s = entry (past-loop asked) .args in
+      let kind = past-loop asked .before .before .field .ensures .0 in
+      let label = asked .before .before .field3 .ensures .0 in
+      let number = asked .before .field4 .ensures .0 in
+      let has = sym (asked .has-label .ensures) ∙ c .before .before .before .before .if2 .taken in
+      λ props fit. rw (numbers-are, with-label (labelNumbers (s .list)) props (now (s .records)) (s .n) (all-parts asked) kind label number has)
+      (writing.then (past-loop asked .parts .inv .2 props fit) (c .before .before .put-label .ensures props (label-fits fit kind label number has)))
+
+  put-list-same-length : put-list-lts.Need-same-length (claims t) (put-list-at t) put-list.Post put-list-Inv-parts put-list-μ-parts
+  put-list-same-length c = let some = entry (past-loop (label-put c)) .pre .1 .1 in writing.same-length (put-list-returns c (some .props) (some .fit))
+
+  put-list-returns-2 : put-list-lts.Need-returns-2 (claims t) (put-list-at t) put-list.Post put-list-Inv-parts put-list-μ-parts
+  put-list-returns-2 c =
+      let asked = c .before in
+      let s = entry (past-loop asked) .args in
+      let kind = past-loop asked .before .before .field .ensures .0 in
+      let label = asked .before .before .field3 .ensures .0 in
+      let number = asked .before .field4 .ensures .0 in
+      λ props fit. rw (numbers-are, without-label (labelNumbers (s .list)) props (now (s .records)) (s .n) (all-parts asked) kind label number (sym (asked .has-label .ensures) ∙ c .if2 .left))
+      (past-loop asked .parts .inv .2 props fit)
+
+  put-list-same-length-2 : put-list-lts.Need-same-length-2 (claims t) (put-list-at t) put-list.Post put-list-Inv-parts put-list-μ-parts
+  put-list-same-length-2 c = let some = entry (past-loop (c .before)) .pre .1 .1 in writing.same-length (put-list-returns-2 c (some .props) (some .fit))
 
 pub +put-list-spec : {M : Type 1} → statement M
 +put-list-spec = close μ-put-list λ t. put-list-lts.spec (claims t)

@@ -1,20 +1,61 @@
 -- A dry run measures the text; it is refused for want of room, or written.
-use Rattle.text.proofs.Heading.{text-too-long, text-fills}
 use borrow.Author.Needs.{needs}
+use Rattle.text.proofs.Heading.{noted-of, text-too-long, text-fills}
 use Rattle.text.proofs.text.Statement.{statement}
 use Rattle.text.proofs.text.Tie as tie
+
+abbrev entry : tie.After-fill-sheet-ends → tie.Start
+entry c = c .before .before .before .before .before
+
+-- back over the noting of the first list, and of the second
+abbrev first-noted : tie.After-declare → tie.After-fill-sheet-ends
+first-noted c = c .before .before .before
+
+abbrev second-noted : tie.After-declare2 → tie.After-declare
+second-noted c = c .before .before .before
+
+-- back from the heading of the dry run, and from its term
+abbrev heading-measured : tie.After-put-heading → tie.After-declare2
+heading-measured c = c .before .before .before .before
+
+abbrev term-measured : tie.After-put-term → tie.After-put-heading
+term-measured c = c .before .before .before .before .before
+
+-- where there is room: back from it to the term of the dry run, and from the heading and the term that are written
+abbrev room-found : tie.Else1 → tie.After-put-term
+room-found c = c .before .before .before
+
+abbrev heading-put : tie.After-put-heading2 → tie.Else1
+heading-put c = c .before .before .before .before
+
+abbrev term-put : tie.After-put-term2 → tie.After-put-heading2
+term-put c = c .before .before .before .before .before
 
 fill-sheet-ends-requires : tie.Need-fill-sheet-ends-requires
 fill-sheet-ends-requires c κs = search needs
 
+first-list-requires : tie.Need-first-list-requires
+first-list-requires c κs = search needs
+
 declare-requires : tie.Need-declare-requires
 declare-requires c κs = search needs
+
+second-list-requires : tie.Need-second-list-requires
+second-list-requires c κs = search needs
 
 declare-requires-2 : tie.Need-declare-requires-2
 declare-requires-2 c κs = search needs
 
 put-heading-requires : tie.Need-put-heading-requires
-put-heading-requires c κs = search needs
+put-heading-requires c κs =
+    let second = c .before .before .before in
+    let first = second-noted second in (
+      entry (first-noted first) .pre .0,
+      (
+        noted-of (first .before .before .first-list .ensures) (first .declare .ensures),
+        noted-of (second .before .before .second-list .ensures) (second .declare2 .ensures),
+      ),
+    )
 
 put-term-requires : tie.Need-put-term-requires
 put-term-requires c κs = search needs
@@ -23,26 +64,50 @@ same-length : tie.Need-same-length
 same-length c = search needs
 
 returns : tie.Need-returns
-returns c = text-too-long (c .before .before .before .before .before .before .before .before .before .before .before .before .before .before .before .before .before .before .before .before .before .pre .1) _ (c .before .before .before .before .before .before .before .before .put-heading .ensures) (c .before .before .before .put-term .ensures) (c .if1 .taken)
+returns c =
+    let term = c .before .before .before in
+    let heading = term-measured term in
+    let s = entry (first-noted (second-noted (heading-measured heading))) in
+    text-too-long (s .pre .1) _ _ (heading .put-heading .ensures) (term .put-term .ensures) (c .if1 .taken)
 
 put-heading-requires-2 : tie.Need-put-heading-requires-2
-put-heading-requires-2 c κs = (c .before .before .before .before .before .before .before .before .before .before .before .before .before .before .before .before .before .before .before .before .before .before .before .before .pre .0, (c .before .before .before .before .before .before .before .before .before .before .before .before .before .before .before .before .before .declare .ensures, c .before .before .before .before .before .before .before .before .before .before .before .before .before .before .before .declare2 .ensures))
+put-heading-requires-2 c κs =
+    let second = heading-measured (term-measured (room-found (c .before .before .before))) in
+    let first = second-noted second in (
+      entry (first-noted first) .pre .0,
+      (
+        noted-of (first .before .before .first-list .ensures) (first .declare .ensures),
+        noted-of (second .before .before .second-list .ensures) (second .declare2 .ensures),
+      ),
+    )
 
 put-term-requires-2 : tie.Need-put-term-requires-2
-put-term-requires-2 c κs = (c .before .before .before .before .before .before .before .before .before .before .before .before .before .before .before .before .before .before .before .before .before .before .before .before .before .before .before .before .before .pre .0, (c .before .before .before .before .before .before .before .before .before .before .before .before .before .before .before .before .before .before .before .before .before .before .before .before .before .before .before .before .before .pre .1, c .before .before .before .before .before .before .before .before .before .before .before .before .before .before .before .before .before .before .before .before .before .before .before .before .fill-sheet-ends .ensures))
+put-term-requires-2 c κs =
+    let here = first-noted (second-noted (heading-measured (term-measured (room-found (heading-put (c .before .before .before .before)))))) in
+    (entry here .pre .0, (entry here .pre .1, here .fill-sheet-ends .ensures))
 
 same-length-2 : tie.Need-same-length-2
 same-length-2 c = search needs
 
 returns-2 : tie.Need-returns-2
-returns-2 c = text-fills (c .before .before .before .before .before .before .before .before .before .before .before .before .before .before .before .before .before .before .before .before .before .before .before .before .before .before .before .before .before .before .before .before .pre .1) _ (c .before .before .before .before .before .before .before .before .before .before .before .before .before .before .before .before .before .before .before .put-heading .ensures) (c .before .before .before .before .before .before .before .before .before .before .before .before .before .before .put-term .ensures) (c .before .before .before .before .before .before .before .before .before .before .before .if1 .left) (c .before .before .before .before .before .before .before .put-heading2 .ensures) (c .before .before .put-term2 .ensures)
+returns-2 c =
+    let term = c .before .before in
+    let heading = term-put term in
+    let room = heading-put heading in
+    let measured-term = room-found room in
+    let measured-heading = term-measured measured-term in
+    let s = entry (first-noted (second-noted (heading-measured measured-heading))) in
+    text-fills (s .pre .1) _ _ (measured-heading .put-heading .ensures) (measured-term .put-term .ensures) (room .if1 .left)
+    (heading .put-heading2 .ensures) (term .put-term2 .ensures)
 
 pub text-spec : {M : Type 1} → statement M
 text-spec =
     tie.close
     (tie.spec
     fill-sheet-ends-requires
+    first-list-requires
     declare-requires
+    second-list-requires
     declare-requires-2
     put-heading-requires
     put-term-requires

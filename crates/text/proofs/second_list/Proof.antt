@@ -1,0 +1,22 @@
+-- By the two versions.
+use borrow.Author.Needs.{needs}
+use Rattle.definitions.specs.Text.{secondList}
+use Rattle.text.proofs.second_list.Statement.{statement}
+use Rattle.text.proofs.second_list.Tie as tie
+
+enum-told : tie.Need-enum-told
+enum-told c = search needs
+
+enum-told-2 : tie.Need-enum-told-2
+enum-told-2 c = search needs
+
+returns : tie.Need-returns
+unfolding secondList
+returns c = rw (c .enum-told .given .1)
+
+returns-2 : tie.Need-returns-2
+unfolding secondList
+returns-2 c = rw (c .enum-told2 .given .1)
+
+pub second-list-spec : {M : Type 1} → statement M
+second-list-spec = tie.close (tie.spec enum-told enum-told-2 returns returns-2)
