@@ -12,7 +12,7 @@ use Rattle.definitions.specs.declared.Refusal.{Refusal}
 use Rattle.definitions.specs.Outcome.{Outcome, refused, refuse, _>>=_, mapOutcome, refuseIf}
 use Rattle.definitions.specs.Sheet.{headerSize, pairSize, nameLimit, propositionLimit, stepSize, stepLimit, textLimit, codeLimit, numberAt, textLength, names, codeLength, propositions, steps, goal, headerOutOfRange, namePairsStart, propositionPairsStart, stepsStart, textStart, codeStart, sheetLength}
 use Rattle.definitions.specs.Admission.{admitted}
-use Rattle.definitions.specs.Answers.{sheetTerm, namedTerm, sheetText, inRoom, textAnswer, namesStep, columnOf, located, printed, refusalLine, boardOutput}
+use Rattle.definitions.specs.Answers.{sheetTerm, namedTerm, sheetText, inRoom, versionOf, textAnswer, namesStep, columnOf, located, printed, refusalLine, boardOutput}
 use Rattle.sheet.specs.Header.{headerOf}
 use Rattle.sheet.specs.Checks.{shortCheck, headerChecks}
 use Rattle.sheet.proofs.Ranges.{in-range}
@@ -61,7 +61,7 @@ headerOutOfRange-read s =
 
 -- a refusal of 1 to 11 is the board's line
 refused-line : (s : List ℕ) {r : Refusal} → admitted s ≡ refused r → boardOutput s ≡ refusalLine (located s r)
-unfolding boardOutput printed textAnswer inRoom sheetText namedTerm sheetTerm mapOutcome _>>=_
+unfolding boardOutput printed textAnswer versionOf inRoom sheetText namedTerm sheetTerm mapOutcome _>>=_
 refused-line s e = rw e
 
 -- that of a longer input hands back no column

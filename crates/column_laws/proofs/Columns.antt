@@ -282,17 +282,17 @@ module _ (s s′ : List ℕ) (w : SameButColumns s s′) where
   same-goal = rw (names-as-bytes, names-same, propositionPairs-same, codeBytes-same, goal-same)
 
   -- the same text, lists and labels
-  pub same-text : (style : Style) (room : ℕ) → textAnswer s style room ≡ textAnswer s′ style room
+  pub same-text : (version : ℕ) (style : Style) (room : ℕ) → textAnswer s version style room ≡ textAnswer s′ version style room
   unfolding textAnswer sheetText
-  same-text style room = rw (same-named-term, same-goal)
+  same-text version style room = rw (same-named-term, same-goal)
 
   pub same-atoms : (room : ℕ) → atomsAnswer s room ≡ atomsAnswer s′ room
   unfolding atomsAnswer
   same-atoms room = rw same-term
 
-  pub same-datatypes : (room : ℕ) → datatypesAnswer s room ≡ datatypesAnswer s′ room
+  pub same-datatypes : (version room : ℕ) → datatypesAnswer s version room ≡ datatypesAnswer s′ version room
   unfolding datatypesAnswer
-  same-datatypes room = rw same-term
+  same-datatypes version room = rw same-term
 
   pub same-count : labelCount s ≡ labelCount s′
   unfolding labelCount

@@ -1,15 +1,19 @@
--- Refusals 1 to 3 name no step, so that the header is right wherever a refusal does.
+-- Refusals 1 to 3 and 21 name no step, so that the header is right wherever a refusal does.
 use Prim.Native.Nat.{ℕ, _≤_}
 use mathlib.Core.Path.{_≡_, refl, sym, _∙_}
-use mathlib.Core.Bool.{Bool, true, false}
+use mathlib.Core.Bool.{Bool, true, false, cond}
 use mathlib.Core.List.{List}
 use native.Mathlib.Omega.{arith}
+use lib.Dec.{eqb}
 use borrow.Author.Tests.{lt-leb}
 use Rattle.definitions.specs.declared.Refusal.{Refusal}
 use Rattle.definitions.specs.declared.Style.{Style}
+use Rattle.definitions.specs.declared.Version.{Version}
+use Rattle.definitions.specs.declared.Version.the-variants.{First, Second}
 use Rattle.definitions.specs.Outcome.{Outcome, refused, accepted, refuse, _>>=_, mapOutcome, refuseIf}
 use Rattle.definitions.specs.Admission.{admitted}
-use Rattle.definitions.specs.Answers.{namesStep, inRoom, sheetTerm, namedTerm, sheetText, textAnswer, atomsAnswer, datatypesAnswer, labelCount, comparison}
+use Rattle.definitions.specs.Term.{ProofTerm}
+use Rattle.definitions.specs.Answers.{namesStep, inRoom, versionOf, sheetTerm, namedTerm, sheetText, labelCount, comparison}
 use Rattle.sheet.specs.Header.{headerOf, HasHeader}
 use Rattle.sheet.specs.Checks.{shortCheck, headerChecks}
 use Rattle.sheet.proofs.Order.{in-stages, header-given}
@@ -21,6 +25,10 @@ same-refusal e = cc
 nameless : (number place : ℕ) → number ≤ 3 → namesStep (record { number = number; place = place }) ≡ false
 unfolding namesStep
 nameless number place h = rw (lt-leb 9 number (omega arith))
+
+named-by-21 : namesStep (record { number = 21; place = 0 }) ≡ false
+unfolding namesStep
+named-by-21 = refl
 
 -- the three tests, by what they come to
 header-names-none : (short out wrong : Bool) {r : Refusal} →
@@ -34,6 +42,17 @@ header-names-none true out wrong e = rw (← same-refusal e) (nameless 1 0 (omeg
 header-names-none false true wrong e = rw (← same-refusal e) (nameless 2 0 (omega arith))
 header-names-none false false true e = rw (← same-refusal e) (nameless 3 0 (omega arith))
 header-names-none false false false e = absurd (let z : _≡_ {A = ℕ} 0 1 = cc in omega arith)
+
+-- that of a version too
+version-names-none : (version : ℕ) {r : Refusal} → versionOf version ≡ refused r → namesStep r ≡ false
+unfolding versionOf refuse
+version-names-none version e = of-tests (eqb version 1) (eqb version 2) e
+  where
+    of-tests : (first second : Bool) {r : Refusal} → cond first (accepted First) (cond second (accepted Second) (refused (record { number = 21; place = 0 }))) ≡ refused r
+        → namesStep r ≡ false
+    of-tests true second e = absurd (let z : _≡_ {A = ℕ} 0 1 = cc in omega arith)
+    of-tests false true e = absurd (let z : _≡_ {A = ℕ} 0 1 = cc in omega arith)
+    of-tests false false e = rw (← same-refusal e) named-by-21
 
 -- Of a sheet's bytes:
 module _ (s : List ℕ) where
@@ -50,17 +69,19 @@ module _ (s : List ℕ) where
   after-header : {r : Refusal} → ((x : Refusal) → admitted s ≡ refused x → x ≡ r) → AfterHeader s r
   after-header only = record { header = λ names. checked-header (headerChecks s) refl only names }
 
-  pub text-after-header : (style : Style) (room : ℕ) {r : Refusal} → textAnswer s style room ≡ refused r → AfterHeader s r
-  unfolding textAnswer inRoom sheetText namedTerm sheetTerm mapOutcome _>>=_
-  text-after-header style room e = after-header (λ x a. same-refusal (rw a at e))
+  -- 21 names no step, whatever the bytes
+  pub version-after-header : (version : ℕ) {r : Refusal} → versionOf version ≡ refused r → AfterHeader s r
+  version-after-header version e =
+      record { header = λ names. absurd (let none = version-names-none version e in let z : _≡_ {A = ℕ} 0 1 = cc in omega arith) }
 
-  pub atoms-after-header : (room : ℕ) {r : Refusal} → atomsAnswer s room ≡ refused r → AfterHeader s r
-  unfolding atomsAnswer inRoom sheetTerm mapOutcome _>>=_
-  atoms-after-header room e = after-header (λ x a. same-refusal (rw a at e))
+  pub text-after-header : (v : Version) (style : Style) (room : ℕ) {r : Refusal} → inRoom room (sheetText s v style) ≡ refused r → AfterHeader s r
+  unfolding inRoom sheetText namedTerm sheetTerm mapOutcome _>>=_
+  text-after-header v style room e = after-header (λ x a. same-refusal (rw a at e))
 
-  pub datatypes-after-header : (room : ℕ) {r : Refusal} → datatypesAnswer s room ≡ refused r → AfterHeader s r
-  unfolding datatypesAnswer inRoom sheetTerm mapOutcome _>>=_
-  datatypes-after-header room e = after-header (λ x a. same-refusal (rw a at e))
+  pub list-after-header : (numbers : ProofTerm ℕ → List ℕ) (room : ℕ) {r : Refusal} → inRoom room (mapOutcome numbers (sheetTerm s)) ≡ refused r
+      → AfterHeader s r
+  unfolding inRoom sheetTerm mapOutcome _>>=_
+  list-after-header numbers room e = after-header (λ x a. same-refusal (rw a at e))
 
   pub count-after-header : {r : Refusal} → labelCount s ≡ refused r → AfterHeader s r
   unfolding labelCount sheetTerm mapOutcome _>>=_

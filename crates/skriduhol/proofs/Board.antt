@@ -54,7 +54,7 @@ module _
     {before mid : List ℕ}
     {r : Filled}
     (room : length before ≡ boardRoom)
-    (fills : FillsOf s (textAnswer s Plain (length before)) before mid r)
+    (fills : FillsOf s (textAnswer s 1 Plain (length before)) before mid r)
   where
     pub prints-text : {n : ℕ} → r ≡ Length n → Prints (boardOutput s) before mid n
     unfolding boardOutput

@@ -1,5 +1,6 @@
 pub mod Located
 pub mod Texts
+pub mod Handouts
 pub mod Lists
 pub mod Accuracy
 pub mod Board

@@ -1,15 +1,16 @@
 -- The lists of a sheet's term: its labels fit the sheet, and what is measured and then written is the answer.
 use Prim.Native.Nat.{ℕ, _+_, _*_, _≤_, _<_}
-use mathlib.Core.Path.{_≡_, refl, _∙_}
+use mathlib.Core.Path.{_≡_}
 use mathlib.Core.Bool.{Bool, true, false}
 use mathlib.Core.List.{List}
 use lib.ListN.{length}
 use Rattle.definitions.specs.declared.Refusal.{Refusal}
+use Rattle.definitions.specs.declared.TermList.{TermList}
 use Rattle.definitions.specs.Outcome.{refused, accepted, mapOutcome}
 use Rattle.definitions.specs.Prop.{Prop}
 use Rattle.definitions.specs.Sheet.{names, codeBytes}
 use Rattle.definitions.specs.Term.{ProofTerm}
-use Rattle.definitions.specs.Answers.{inRoom, sheetTerm, atomsAnswer, datatypesAnswer}
+use Rattle.definitions.specs.Answers.{inRoom, sheetTerm}
 use Rattle.definitions.proofs.PrefixCode.{Bytes}
 use Rattle.output.specs.declared.Written.the-variants.{Length, Refused}
 use Rattle.output.specs.Wrote.{Wrote}
@@ -28,21 +29,16 @@ use Rattle.sheet_term.proofs.Held.{label-present}
 use Rattle.skriduhol.specs.Lists.{listAnswer}
 
 -- Whichever list is asked for:
-module _ (datatypes : Bool) (s : List ℕ) where
-  -- it is made of the sheet's term
-  list-of-term : (room : ℕ) → listAnswer datatypes s room ≡ inRoom room (mapOutcome (listNumbers datatypes) (sheetTerm s))
-  unfolding listAnswer atomsAnswer datatypesAnswer listNumbers
-  list-of-term room = elim datatypes [ true ↦ refl | false ↦ refl ]
-
+module _ (list : TermList) (s : List ℕ) where
   -- the refusal of a term is the answer
-  pub no-list : {x : Refusal} → sheetTerm s ≡ refused x → (before : List ℕ) → Fills (listAnswer datatypes s (length before)) before before (Refused x)
-  unfolding mapOutcome
-  no-list e before = rw (list-of-term (length before)) (filling.refuses (rw e) (length before) before)
+  pub no-list : {x : Refusal} → sheetTerm s ≡ refused x → (before : List ℕ) → Fills (listAnswer list s (length before)) before before (Refused x)
+  unfolding listAnswer mapOutcome
+  no-list e before = filling.refuses (rw e) (length before) before
 
   -- a term's list is, in enough room
-  list-of : {t : ProofTerm ℕ} → sheetTerm s ≡ accepted t → (room : ℕ) → listAnswer datatypes s room ≡ inRoom room (accepted (listNumbers datatypes t))
-  unfolding mapOutcome
-  list-of e room = list-of-term room ∙ rw e
+  list-of : {t : ProofTerm ℕ} → sheetTerm s ≡ accepted t → (room : ℕ) → listAnswer list s room ≡ inRoom room (accepted (listNumbers list t))
+  unfolding listAnswer mapOutcome
+  list-of e room = rw e
 
 -- Of a term that is held, with the code of its sheet:
 module _
@@ -65,15 +61,15 @@ module _
     listable = (t .held, record { props = _; fit = fit })
 
     -- what is said of them when they are listed
-    abbrev Lists : Bool → Bool → List ℕ → List ℕ → ℕ → Type 0
-    Lists datatypes write before after r =
-        (props : ℕ → Prop ℕ) → LabelsFit (h .names) code terms n props → Wrote (listNumbers datatypes (termAt props terms n)) write before 0 after r
+    abbrev Lists : TermList → Bool → List ℕ → List ℕ → ℕ → Type 0
+    Lists list write before after r =
+        (props : ℕ → Prop ℕ) → LabelsFit (h .names) code terms n props → Wrote (listNumbers list (termAt props terms n)) write before 0 after r
 
     -- the list is measured by a dry run, and then written where it fits
-    module _ (datatypes : Bool) {before dry : List ℕ} {end : ℕ} (d : Lists datatypes false before dry end) where
-      pub too-long : length before < end → Fills (listAnswer datatypes s (length before)) before dry (Refused (record { number = 16; place = 0 }))
-      too-long l = rw (list-of datatypes s (t .is-term) (length before)) (filling.too-long (d _ fit) l)
+    module _ (list : TermList) {before dry : List ℕ} {end : ℕ} (d : Lists list false before dry end) where
+      pub too-long : length before < end → Fills (listAnswer list s (length before)) before dry (Refused (record { number = 16; place = 0 }))
+      too-long l = rw (list-of list s (t .is-term) (length before)) (filling.too-long (d _ fit) l)
 
-      pub fills : end ≤ length before → {after : List ℕ} {next : ℕ} → Lists datatypes true dry after next
-          → Fills (listAnswer datatypes s (length before)) before after (Length end)
-      fills l w = rw (list-of datatypes s (t .is-term) (length before)) (filling.fills (d _ fit) l (w _ fit))
+      pub fills : end ≤ length before → {after : List ℕ} {next : ℕ} → Lists list true dry after next
+          → Fills (listAnswer list s (length before)) before after (Length end)
+      fills l w = rw (list-of list s (t .is-term) (length before)) (filling.fills (d _ fit) l (w _ fit))

@@ -1,4 +1,5 @@
 pub mod Located
 pub mod Accurate
 pub mod Lists
+pub mod Asked
 pub mod Board

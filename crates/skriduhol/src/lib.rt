@@ -4,6 +4,8 @@ use alpha_eq::Answer;
 use definitions::Located;
 use definitions::Refusal;
 use definitions::Style;
+use definitions::TermList;
+use definitions::Version;
 use located::locate;
 use located::put_refusal;
 use output::Written;
@@ -21,13 +23,14 @@ ghost use Prim.Native.Nat.{ℕ};
 ghost use lib.ListN.{length};
 ghost use Rattle.definitions.specs.Outcome.{Outcome};
 ghost use Rattle.definitions.specs.declared.Style.the-variants.{Plain, Strict};
-ghost use Rattle.definitions.specs.Answers.{textAnswer, atomsAnswer, datatypesAnswer, labelCount, comparison, boardOutput};
+ghost use Rattle.definitions.specs.Answers.{inRoom, sheetText, versionOf, textAnswer, atomsAnswer, datatypesAnswer, labelCount, comparison, boardOutput};
 ghost use Rattle.output.specs.Written.{writtenOf, Fills};
 ghost use Rattle.sheet.proofs.Admitted.{AcceptedSheet};
 ghost use Rattle.sheet_term.specs.Held.{HeldTerm};
 ghost use Rattle.located.specs.AfterHeader.{AfterHeader};
 ghost use Rattle.skriduhol.specs.Accurate.{AccurateText, AccurateCount};
 ghost use Rattle.skriduhol.specs.Lists.{listAnswer};
+ghost use Rattle.skriduhol.specs.Asked.{askedOf};
 ghost use Rattle.skriduhol.specs.Located.{filledOf, FillsOf, countOf, verdictOf};
 ghost use Rattle.skriduhol.specs.Board.{Prints};
 
@@ -61,79 +64,126 @@ fn locate_written(s: &[u8], written: Written) -> Filled
     }
 }
 
-// The text in a style: the sheet's term, and then its declarations and the term as printed.
-fn styled_text(s: &[u8], style: Style, out: &mut [u8]) -> Written
-    ensures { λ r. ⌜ Fills (textAnswer (now (s .entry)) style (length (now (out .entry)))) (now (out .entry)) (now (out .exit)) r ⌝ }
+// The version of the handout that a number asks for, or refusal 21.
+enum Asked {
+    Of(Version),
+    Refused(Refusal),
+}
+
+fn asked_version(number: usize) -> Asked
+    ensures { λ r. ⌜ r ≡ askedOf (versionOf number) ⌝ }
+{
+    if number == 1 {
+        return Asked::Of(Version::First);
+    }
+    if number == 2 {
+        return Asked::Of(Version::Second);
+    }
+    Asked::Refused(Refusal {
+        number: 21,
+        place: 0,
+    })
+}
+
+// The text of a version in a style: the sheet's term, and then its declarations and the term as printed.
+fn styled_text(s: &[u8], version: Version, style: Style, out: &mut [u8]) -> Written
+    ensures { λ r. ⌜ Fills (inRoom (length (now (out .entry))) (sheetText (now (s .entry)) version style)) (now (out .entry)) (now (out .exit)) r ⌝ }
 {
     let mut terms = [0u16; TERM_NUMBERS];
     let found = sheet_term(s, &mut terms);
     match found {
         SheetTerm::Refused(refusal) => Written::Refused(refusal),
-        SheetTerm::Held(h, n) => text(s, h, &terms, n, style, out),
+        SheetTerm::Held(h, n) => text(s, h, &terms, n, version, style, out),
     }
 }
 
-// The plain text.
-pub fn plain_text(s: &[u8], out: &mut [u8]) -> Filled
-    ensures { λ r. ⌜ FillsOf (now (s .entry)) (textAnswer (now (s .entry)) Plain (length (now (out .entry)))) (now (out .entry)) (now (out .exit)) r ⌝ }
-    ensures { λ r. ⌜ AccurateText Plain (now (s .entry)) (now (out .entry)) (now (out .exit)) r ⌝ }
+// The text of a version of the handout, 1 or 2, in a style.
+pub fn handout(s: &[u8], version: usize, style: Style, out: &mut [u8]) -> Filled
+    ensures { λ r. ⌜ FillsOf (now (s .entry)) (textAnswer (now (s .entry)) version style (length (now (out .entry)))) (now (out .entry)) (now (out .exit)) r ⌝ }
+    ensures { λ r. ⌜ AccurateText version style (now (s .entry)) (now (out .entry)) (now (out .exit)) r ⌝ }
 {
-    let written = styled_text(s, Style::Plain, out);
-    locate_written(s, written)
+    let asked = asked_version(version);
+    match asked {
+        Asked::Refused(refusal) => Filled::Refused(locate(s, refusal)),
+        Asked::Of(v) => {
+            let written = styled_text(s, v, style, out);
+            locate_written(s, written)
+        }
+    }
 }
 
-// The strict text.
-pub fn strict_text(s: &[u8], out: &mut [u8]) -> Filled
-    ensures { λ r. ⌜ FillsOf (now (s .entry)) (textAnswer (now (s .entry)) Strict (length (now (out .entry)))) (now (out .entry)) (now (out .exit)) r ⌝ }
-    ensures { λ r. ⌜ AccurateText Strict (now (s .entry)) (now (out .entry)) (now (out .exit)) r ⌝ }
+// The plain text: that of version 1.
+pub fn plain_text(s: &[u8], out: &mut [u8]) -> Filled
+    ensures { λ r. ⌜ FillsOf (now (s .entry)) (textAnswer (now (s .entry)) 1 Plain (length (now (out .entry)))) (now (out .entry)) (now (out .exit)) r ⌝ }
+    ensures { λ r. ⌜ AccurateText 1 Plain (now (s .entry)) (now (out .entry)) (now (out .exit)) r ⌝ }
 {
-    let written = styled_text(s, Style::Strict, out);
-    locate_written(s, written)
+    handout(s, 1, Style::Plain, out)
+}
+
+// The strict text: that of version 1.
+pub fn strict_text(s: &[u8], out: &mut [u8]) -> Filled
+    ensures { λ r. ⌜ FillsOf (now (s .entry)) (textAnswer (now (s .entry)) 1 Strict (length (now (out .entry)))) (now (out .entry)) (now (out .exit)) r ⌝ }
+    ensures { λ r. ⌜ AccurateText 1 Strict (now (s .entry)) (now (out .entry)) (now (out .exit)) r ⌝ }
+{
+    handout(s, 1, Style::Strict, out)
 }
 
 // A list of the sheet's term in lent memory: measured by a dry run, and then written where it fits.
-fn list(s: &[u8], h: Sheet, terms: &[u16], n: usize, datatypes: bool, out: &mut [u16]) -> Written
+fn list(s: &[u8], h: Sheet, terms: &[u16], n: usize, which: TermList, out: &mut [u16]) -> Written
     requires { ⌜ AcceptedSheet (now s) h × HeldTerm (now s) (now terms) n ⌝ }
-    ensures { λ r. ⌜ Fills (listAnswer datatypes (now (s .entry)) (length (now (out .entry)))) (now (out .entry)) (now (out .exit)) r ⌝ }
+    ensures { λ r. ⌜ Fills (listAnswer which (now (s .entry)) (length (now (out .entry)))) (now (out .entry)) (now (out .exit)) r ⌝ }
 {
     let code = code_bytes(s, h);
-    let end = put_list(terms, n, datatypes, code, h.names, out, 0, false);
+    let end = put_list(terms, n, which, code, h.names, out, 0, false);
     if out.len() < end {
         return Written::Refused(Refusal {
             number: 16,
             place: 0,
         });
     }
-    put_list(terms, n, datatypes, code, h.names, out, 0, true);
+    put_list(terms, n, which, code, h.names, out, 0, true);
     Written::Length(end)
 }
 
-// The datatype list, or else the atom list: the sheet's term, and then what its labels add.
-fn label_list(s: &[u8], datatypes: bool, out: &mut [u16]) -> Written
-    ensures { λ r. ⌜ Fills (listAnswer datatypes (now (s .entry)) (length (now (out .entry)))) (now (out .entry)) (now (out .exit)) r ⌝ }
+// A list of the sheet: the sheet's term, and then what its labels add.
+fn label_list(s: &[u8], which: TermList, out: &mut [u16]) -> Written
+    ensures { λ r. ⌜ Fills (listAnswer which (now (s .entry)) (length (now (out .entry)))) (now (out .entry)) (now (out .exit)) r ⌝ }
 {
     let mut terms = [0u16; TERM_NUMBERS];
     let found = sheet_term(s, &mut terms);
     match found {
         SheetTerm::Refused(refusal) => Written::Refused(refusal),
-        SheetTerm::Held(h, n) => list(s, h, &terms, n, datatypes, out),
+        SheetTerm::Held(h, n) => list(s, h, &terms, n, which, out),
     }
 }
 
-// The atom list: the number of a name and a parameter count for each atom.
+// The atom list, in every version the same: the number of a name and a parameter count for each atom.
 pub fn atom_list(s: &[u8], out: &mut [u16]) -> Filled
     ensures { λ r. ⌜ FillsOf (now (s .entry)) (atomsAnswer (now (s .entry)) (length (now (out .entry)))) (now (out .entry)) (now (out .exit)) r ⌝ }
 {
-    let written = label_list(s, false, out);
+    let written = label_list(s, TermList::Atoms, out);
     locate_written(s, written)
 }
 
-// The datatype list: the number of a name for each datatype.
-pub fn datatype_list(s: &[u8], out: &mut [u16]) -> Filled
-    ensures { λ r. ⌜ FillsOf (now (s .entry)) (datatypesAnswer (now (s .entry)) (length (now (out .entry)))) (now (out .entry)) (now (out .exit)) r ⌝ }
+// The datatype list of a version of the handout, 1 or 2: the number of a name for each datatype.
+pub fn handout_datatypes(s: &[u8], version: usize, out: &mut [u16]) -> Filled
+    ensures { λ r. ⌜ FillsOf (now (s .entry)) (datatypesAnswer (now (s .entry)) version (length (now (out .entry)))) (now (out .entry)) (now (out .exit)) r ⌝ }
 {
-    let written = label_list(s, true, out);
-    locate_written(s, written)
+    let asked = asked_version(version);
+    match asked {
+        Asked::Refused(refusal) => Filled::Refused(locate(s, refusal)),
+        Asked::Of(v) => {
+            let written = label_list(s, TermList::Datatypes(v), out);
+            locate_written(s, written)
+        }
+    }
+}
+
+// The datatype list: that of version 1.
+pub fn datatype_list(s: &[u8], out: &mut [u16]) -> Filled
+    ensures { λ r. ⌜ FillsOf (now (s .entry)) (datatypesAnswer (now (s .entry)) 1 (length (now (out .entry)))) (now (out .entry)) (now (out .exit)) r ⌝ }
+{
+    handout_datatypes(s, 1, out)
 }
 
 // The label count.
@@ -163,7 +213,7 @@ pub fn compare(s: &[u8], i: usize, j: usize) -> Verdict
 // The bytes that the board program lends.
 pub const BOARD_ROOM: usize = 65536;
 
-// What the board program prints: the plain text, or the refusal's line.
+// What the board program prints: the plain text of version 1, or the refusal's line.
 pub fn board_output(s: &[u8], out: &mut [u8; BOARD_ROOM]) -> usize
     ensures { λ r. ⌜ Prints (boardOutput (now (s .entry))) (now (out .entry)) (now (out .exit)) r ⌝ }
 {

@@ -1,25 +1,16 @@
--- The list with its refusal located.
-use Rattle.skriduhol.specs.Lists.{listAnswer}
-use Rattle.located.proofs.AfterHeader.{datatypes-after-header}
-use Rattle.skriduhol.proofs.Located.{written-refused, fills-back}
+-- The datatype list of version 1.
 use borrow.Author.Needs.{needs}
 use Rattle.skriduhol.proofs.datatype_list.Statement.{statement}
 use Rattle.skriduhol.proofs.datatype_list.Tie as tie
 
-label-list-requires : tie.Need-label-list-requires
-label-list-requires c κs = search needs
-
-locate-written-requires : tie.Need-locate-written-requires
-unfolding listAnswer
-locate-written-requires c κs = λ r e. datatypes-after-header _ _ (written-refused (c .before .before .label-list .ensures) e)
+handout-datatypes-requires : tie.Need-handout-datatypes-requires
+handout-datatypes-requires c κs = search needs
 
 same-length : tie.Need-same-length
 same-length c = search needs
 
 returns : tie.Need-returns
-unfolding listAnswer
-returns c = fills-back _ (c .before .before .before .label-list .ensures) (c .locate-written .ensures)
+returns c = c .before .before .handout-datatypes .ensures
 
 pub datatype-list-spec : {M : Type 1} → statement M
-datatype-list-spec =
-    tie.close (tie.spec label-list-requires locate-written-requires same-length returns)
+datatype-list-spec = tie.close (tie.spec handout-datatypes-requires same-length returns)

@@ -1,23 +1,16 @@
--- The text with its refusal located, and demand 3 of it.
-use Rattle.skriduhol.proofs.Accuracy.{accurate-text}
-use Rattle.located.proofs.AfterHeader.{text-after-header}
-use Rattle.skriduhol.proofs.Located.{written-refused, fills-back}
+-- The handout of version 1 in that style.
 use borrow.Author.Needs.{needs}
 use Rattle.skriduhol.proofs.strict_text.Statement.{statement}
 use Rattle.skriduhol.proofs.strict_text.Tie as tie
 
-styled-text-requires : tie.Need-styled-text-requires
-styled-text-requires c κs = search needs
-
-locate-written-requires : tie.Need-locate-written-requires
-locate-written-requires c κs = λ r e. text-after-header _ _ _ (written-refused (c .before .before .styled-text .ensures) e)
+handout-requires : tie.Need-handout-requires
+handout-requires c κs = search needs
 
 same-length : tie.Need-same-length
 same-length c = search needs
 
 returns : tie.Need-returns
-returns c = let fills = fills-back _ (c .before .before .before .styled-text .ensures) (c .locate-written .ensures) in (fills, accurate-text _ _ fills)
+returns c = c .before .before .handout .ensures
 
 pub strict-text-spec : {M : Type 1} → statement M
-strict-text-spec =
-    tie.close (tie.spec styled-text-requires locate-written-requires same-length returns)
+strict-text-spec = tie.close (tie.spec handout-requires same-length returns)

@@ -25,7 +25,7 @@ text-requires c κs =
     (accepted-of (c .before .before .before .before .before .sheet-term .ensures) (c .before .before .before .found2 .given .1), term-of (c .before .before .before .before .before .sheet-term .ensures) (c .before .before .before .found2 .given .1))
 
 returns : tie.Need-returns
-returns c = no-text _ _ (refusal-of (c .before .before .before .sheet-term .ensures) (c .before .found .given .1)) _
+returns c = no-text _ _ _ (refusal-of (c .before .before .before .sheet-term .ensures) (c .before .found .given .1)) _
 
 same-length : tie.Need-same-length
 same-length c = search needs
