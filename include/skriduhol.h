@@ -15,10 +15,10 @@
  * What a caller gets
  *   - Each call returns. Nothing is allocated, no file is touched, no pointer is kept, and there is no state between calls, so
  *     threads may call at the same time, each on its own memory.
- *   - The first six functions return 0 for an accepted answer, and then *value is what the function's comment says; or they
- *     return the number of a refusal, 1 to 19 (enum skriduhol_refusal), and then *value is its place. *column is for refusals 9
- *     to 15 the grid column of the step that they name, its two bytes as they stand, and 0 in every other case. *value and
- *     *column are always set.
+ *   - Each function but skriduhol_board_output returns 0 for an accepted answer, and then *value is what the function's comment
+ *     says; or it returns the number of a refusal (enum skriduhol_refusal), and then *value is its place. *column is for
+ *     refusals 9 to 15 the grid column of the step that they name, its two bytes as they stand, and 0 in every other case.
+ *     *value and *column are always set.
  *   - An accepted answer fills the first elements of `out` and nothing after them. A refusal leaves all of `out` as it was;
  *     skriduhol_board_output alone writes a line for it, and nothing after that line.
  *   - A call takes at most 256 KiB of stack: measured on the deepest sheets, not proved (docs/PERFORMANCE.md).
@@ -34,14 +34,15 @@ extern "C" {
 #endif
 
 /* The version of this header: it grows with each change that a caller has to follow. In version 2 a step has 20 bytes, the last
-   two its column, and the first six functions take `column` after `value`. */
+   two its column, and each function that takes `value` takes `column` after it. */
 #define SKRIDUHOL_VERSION 2
 
-/* Refusals, in the order in which they are tried: before each its place, which is 0 or the number of a name, a proposition or a
-   step, and its reason. Those whose place is a step, 9 to 15, hand back its column too.
+/* Refusals, in the order in which they are tried, save that 21 is tried first: before each its place, which is 0 or the number of
+   a name, a proposition or a step, and its reason. Those whose place is a step, 9 to 15, hand back its column too.
 
-   Texts and lists use 1 to 16, the label count 1 to 15, a comparison 1 to 11, 17 and 19. 16 is tried last. It does not say how
-   much room is missing: most answers fit 65,536 elements, but a text can pass 88 million bytes and a list 3 million numbers. */
+   Texts and lists use 1 to 16, those of the handout 21 too, the label count 1 to 15, a comparison 1 to 11, 17 and 19. 16 is
+   tried last. It does not say how much room is missing: most answers fit 65,536 elements, but a text can pass 88 million bytes
+   and a list 3 million numbers. */
 enum skriduhol_refusal {
     /* 0: fewer than 12 bytes came */
     SKRIDUHOL_REFUSED_NO_HEADER = 1,
@@ -80,7 +81,9 @@ enum skriduhol_refusal {
     /* 0: does not occur: two atoms of one name with different parameter counts are a no */
     SKRIDUHOL_REFUSED_PARAMETER_COUNT = 18,
     /* 0: two uninstantiated parameters meet with neither bound on its side */
-    SKRIDUHOL_REFUSED_UNBOUND_PARAMETER = 19
+    SKRIDUHOL_REFUSED_UNBOUND_PARAMETER = 19,
+    /* 0: the version of the handout is neither 1 nor 2 */
+    SKRIDUHOL_REFUSED_VERSION = 21
 };
 
 /* The bytes that skriduhol_board_output writes into. */
@@ -103,9 +106,19 @@ uint8_t skriduhol_strict_text(const uint8_t *sheet, size_t sheet_length, uint8_t
 uint8_t skriduhol_atom_list(const uint8_t *sheet, size_t sheet_length, uint16_t *out, size_t room, size_t *value,
                             size_t *column);
 
-/* The datatypes of the term's labels, left to right with repeats: the number of the name of each. *value: how many. */
+/* The datatypes that are labels of the term, left to right with repeats: the number of the name of each. *value: how many. */
 uint8_t skriduhol_datatype_list(const uint8_t *sheet, size_t sheet_length, uint16_t *out, size_t room, size_t *value,
                                 size_t *column);
+
+/* The plain text, the strict text and the datatype list of a version of the handout. Version 1 is what the functions above give.
+   Version 2 has the datatype declarations before the atoms, and its datatype list holds every datatype of every label, those
+   within a proposition too. The atom list has no version. *value: as above. */
+uint8_t skriduhol_handout_plain(const uint8_t *sheet, size_t sheet_length, size_t version, uint8_t *out, size_t room,
+                                size_t *value, size_t *column);
+uint8_t skriduhol_handout_strict(const uint8_t *sheet, size_t sheet_length, size_t version, uint8_t *out, size_t room,
+                                 size_t *value, size_t *column);
+uint8_t skriduhol_handout_datatypes(const uint8_t *sheet, size_t sheet_length, size_t version, uint16_t *out, size_t room,
+                                    size_t *value, size_t *column);
 
 /* The label count. *value: how many ascriptions and labelled functions the term has. */
 uint8_t skriduhol_label_count(const uint8_t *sheet, size_t sheet_length, size_t *value, size_t *column);
@@ -113,9 +126,9 @@ uint8_t skriduhol_label_count(const uint8_t *sheet, size_t sheet_length, size_t 
 /* Whether the conclusions of steps i and j are equal up to the names of their bound objects. *value: 1 for yes, 0 for no. */
 uint8_t skriduhol_compare(const uint8_t *sheet, size_t sheet_length, size_t i, size_t j, size_t *value, size_t *column);
 
-/* What the board prints: the plain text if 65,536 bytes have room for it, or `refused R at P` and a newline, R the number and P
-   the place; for 9 to 15 ` column K` stands before the newline, K the column. `out` has SKRIDUHOL_BOARD_ROOM bytes. The result
-   is how many of them were written, from the first on; the rest is left as it was. */
+/* What the board prints: the plain text of version 1 if 65,536 bytes have room for it, or `refused R at P` and a newline, R the
+   number and P the place; for 9 to 15 ` column K` stands before the newline, K the column. `out` has SKRIDUHOL_BOARD_ROOM
+   bytes. The result is how many of them were written, from the first on; the rest is left as it was. */
 size_t skriduhol_board_output(const uint8_t *sheet, size_t sheet_length, uint8_t *out);
 
 #ifdef __cplusplus

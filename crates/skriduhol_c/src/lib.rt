@@ -2,6 +2,7 @@
 // answer or the refusal's number, and the value is what was accepted, as one number, or the refusal's place. The column is
 // that of the step that refusals 9 to 15 name, else 0.
 use definitions::Located;
+use definitions::Style;
 use skriduhol::BOARD_ROOM;
 use skriduhol::Count;
 use skriduhol::Filled;
@@ -43,7 +44,7 @@ fn hand_filled(filled: Filled, value: &mut usize, column: &mut usize) -> u8
     }
 }
 
-// The plain text.
+// The plain text: that of version 1.
 #[no_mangle]
 pub extern "C" fn skriduhol_plain_text(
     sheet: &[u8],
@@ -51,13 +52,13 @@ pub extern "C" fn skriduhol_plain_text(
     value: &mut usize,
     column: &mut usize,
 ) -> u8
-    ensures { λ r. ⌜ HandsFilled (λ s. textAnswer s Plain) (now (sheet .entry)) (now (out .entry)) (now (out .exit))
+    ensures { λ r. ⌜ HandsFilled (λ s. textAnswer s 1 Plain) (now (sheet .entry)) (now (out .entry)) (now (out .exit))
         (now (value .exit)) (now (column .exit)) r ⌝ }
 {
     hand_filled(skriduhol::plain_text(sheet, out), value, column)
 }
 
-// The strict text.
+// The strict text: that of version 1.
 #[no_mangle]
 pub extern "C" fn skriduhol_strict_text(
     sheet: &[u8],
@@ -65,7 +66,7 @@ pub extern "C" fn skriduhol_strict_text(
     value: &mut usize,
     column: &mut usize,
 ) -> u8
-    ensures { λ r. ⌜ HandsFilled (λ s. textAnswer s Strict) (now (sheet .entry)) (now (out .entry)) (now (out .exit))
+    ensures { λ r. ⌜ HandsFilled (λ s. textAnswer s 1 Strict) (now (sheet .entry)) (now (out .entry)) (now (out .exit))
         (now (value .exit)) (now (column .exit)) r ⌝ }
 {
     hand_filled(skriduhol::strict_text(sheet, out), value, column)
@@ -84,7 +85,7 @@ pub extern "C" fn skriduhol_atom_list(
     hand_filled(skriduhol::atom_list(sheet, out), value, column)
 }
 
-// The datatype list.
+// The datatype list: that of version 1.
 #[no_mangle]
 pub extern "C" fn skriduhol_datatype_list(
     sheet: &[u8],
@@ -92,9 +93,67 @@ pub extern "C" fn skriduhol_datatype_list(
     value: &mut usize,
     column: &mut usize,
 ) -> u8
-    ensures { λ r. ⌜ HandsFilled datatypesAnswer (now (sheet .entry)) (now (out .entry)) (now (out .exit)) (now (value .exit)) (now (column .exit)) r ⌝ }
+    ensures { λ r. ⌜ HandsFilled (λ s. datatypesAnswer s 1) (now (sheet .entry)) (now (out .entry)) (now (out .exit))
+        (now (value .exit)) (now (column .exit)) r ⌝ }
 {
     hand_filled(skriduhol::datatype_list(sheet, out), value, column)
+}
+
+// The plain text of a version of the handout, 1 or 2.
+#[no_mangle]
+pub extern "C" fn skriduhol_handout_plain(
+    sheet: &[u8],
+    version: usize,
+    out: &mut [u8],
+    value: &mut usize,
+    column: &mut usize,
+) -> u8
+    ensures { λ r. ⌜ HandsFilled (λ s. textAnswer s version Plain) (now (sheet .entry)) (now (out .entry)) (now (out .exit))
+        (now (value .exit)) (now (column .exit)) r ⌝ }
+{
+    hand_filled(
+        skriduhol::handout(sheet, version, Style::Plain, out),
+        value,
+        column,
+    )
+}
+
+// The strict text of a version of the handout, 1 or 2.
+#[no_mangle]
+pub extern "C" fn skriduhol_handout_strict(
+    sheet: &[u8],
+    version: usize,
+    out: &mut [u8],
+    value: &mut usize,
+    column: &mut usize,
+) -> u8
+    ensures { λ r. ⌜ HandsFilled (λ s. textAnswer s version Strict) (now (sheet .entry)) (now (out .entry)) (now (out .exit))
+        (now (value .exit)) (now (column .exit)) r ⌝ }
+{
+    hand_filled(
+        skriduhol::handout(sheet, version, Style::Strict, out),
+        value,
+        column,
+    )
+}
+
+// The datatype list of a version of the handout, 1 or 2.
+#[no_mangle]
+pub extern "C" fn skriduhol_handout_datatypes(
+    sheet: &[u8],
+    version: usize,
+    out: &mut [u16],
+    value: &mut usize,
+    column: &mut usize,
+) -> u8
+    ensures { λ r. ⌜ HandsFilled (λ s. datatypesAnswer s version) (now (sheet .entry)) (now (out .entry)) (now (out .exit))
+        (now (value .exit)) (now (column .exit)) r ⌝ }
+{
+    hand_filled(
+        skriduhol::handout_datatypes(sheet, version, out),
+        value,
+        column,
+    )
 }
 
 // The label count.
