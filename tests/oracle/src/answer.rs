@@ -1,9 +1,9 @@
 //! The answers to a sheet's questions, each taken from the Rust where the Rust has it and checked against document
-//! 01's own walk. Where the two disagree, that is a `Finding`.
+//! 01's own walk. The texts and lists of version 2 are document 02's alone. Where the two disagree, that is a `Finding`.
 use crate::{
     reference,
     sheet::{decode, refuse, Refusal, Sheet, BOARD_ROOM},
-    text,
+    text::{self, Version},
     walk::{self, Export, Place},
 };
 use std::fmt;
@@ -19,7 +19,14 @@ pub enum Question {
     LabelCount,
     Comparison(usize, usize),
     BoardOutput,
+    /// Of a version, by its number.
+    HandoutPlain(usize),
+    HandoutStrict(usize),
+    HandoutDatatypes(usize),
 }
+
+/// The two versions, and numbers that are none, among them such as have the low bytes of one.
+pub const VERSIONS: [usize; 8] = [1, 2, 0, 3, 257, 65537, (1 << 32) + 1, usize::MAX];
 
 /// The operation that a question asks for, in the order in which the list numbers them.
 #[derive(Clone, Copy, PartialEq, Eq, Debug)]
@@ -31,10 +38,13 @@ pub enum Operation {
     LabelCount,
     Comparison,
     BoardOutput,
+    HandoutPlain,
+    HandoutStrict,
+    HandoutDatatypes,
 }
 
 impl Operation {
-    pub const ALL: [Operation; 7] = [
+    pub const ALL: [Operation; 10] = [
         Operation::PlainText,
         Operation::StrictText,
         Operation::AtomList,
@@ -42,6 +52,9 @@ impl Operation {
         Operation::LabelCount,
         Operation::Comparison,
         Operation::BoardOutput,
+        Operation::HandoutPlain,
+        Operation::HandoutStrict,
+        Operation::HandoutDatatypes,
     ];
 }
 
@@ -55,6 +68,9 @@ impl fmt::Display for Operation {
             Operation::LabelCount => "label count",
             Operation::Comparison => "comparison",
             Operation::BoardOutput => "board output",
+            Operation::HandoutPlain => "plain handout",
+            Operation::HandoutStrict => "strict handout",
+            Operation::HandoutDatatypes => "its datatypes",
         })
     }
 }
@@ -69,6 +85,18 @@ impl Question {
             Question::LabelCount => Operation::LabelCount,
             Question::Comparison(..) => Operation::Comparison,
             Question::BoardOutput => Operation::BoardOutput,
+            Question::HandoutPlain(_) => Operation::HandoutPlain,
+            Question::HandoutStrict(_) => Operation::HandoutStrict,
+            Question::HandoutDatatypes(_) => Operation::HandoutDatatypes,
+        }
+    }
+
+    /// The version that a question asks for: 1 where it names none.
+    fn version(self) -> usize {
+        match self {
+            Question::HandoutPlain(version) | Question::HandoutStrict(version) => version,
+            Question::HandoutDatatypes(version) => version,
+            _ => 1,
         }
     }
 }
@@ -106,6 +134,25 @@ pub struct Exported {
     pub export: Export,
     pub plain: String,
     pub strict: String,
+    /// The texts of version 2, which the Rust has not.
+    pub second_plain: String,
+    pub second_strict: String,
+}
+
+impl Exported {
+    fn plain(&self, version: Version) -> &str {
+        match version {
+            Version::First => &self.plain,
+            Version::Second => &self.second_plain,
+        }
+    }
+
+    fn strict(&self, version: Version) -> &str {
+        match version {
+            Version::First => &self.strict,
+            Version::Second => &self.second_strict,
+        }
+    }
 }
 
 fn ensure(holds: bool, what: impl Fn() -> String) -> Result<(), Finding> {
@@ -146,10 +193,12 @@ fn exported(sheet: &Sheet) -> Result<Result<Exported, Refusal>, Finding> {
     let count = proof.proof_term.annotation_count();
     ensure(count == export.labels, || format!("annotation_count {count}, labels {}", export.labels))?;
     let plain = reference::text(&tree, &goal).map_err(|n| format!("the wrapper panics {n}"))?;
-    ensure(plain == text::text(sheet, &export, text::plain), || "the plain texts differ".into())?;
-    let strict = text::text(sheet, &export, text::strict);
+    ensure(plain == text::text(sheet, &export, Version::First, text::plain), || "the plain texts differ".into())?;
+    let strict = text::text(sheet, &export, Version::First, text::strict);
     ensure(strict.len() == plain.len() + 2 * export.strict_brackets, || "the strict text has other brackets".into())?;
-    Ok(Ok(Exported { export, plain, strict }))
+    let second_plain = text::text(sheet, &export, Version::Second, text::plain);
+    let second_strict = text::text(sheet, &export, Version::Second, text::strict);
+    Ok(Ok(Exported { export, plain, strict, second_plain, second_strict }))
 }
 
 /// Comparison by the document and by the Rust.
@@ -166,15 +215,21 @@ fn compared(sheet: &Sheet, i: usize, j: usize) -> Result<Result<bool, Refusal>, 
 impl Examined {
     /// The answer to a question, given `room` for it; without a room there is enough.
     pub fn answer(&self, question: Question, room: Option<usize>) -> Result<Result<Answer, Refusal>, Finding> {
-        let exported = |give: fn(&Exported) -> Answer| self.exported.as_ref().map(give).map_err(|refusal| *refusal);
+        let Some(version) = Version::numbered(question.version()) else {
+            return Ok(refuse(21, 0));
+        };
+        let exported = self.exported.as_ref().map_err(|refusal| *refusal);
+        let text = |text: &str| Answer::Text(text.into());
         let answer = match question {
-            Question::PlainText => exported(|e| Answer::Text(e.plain.clone())),
-            Question::StrictText => exported(|e| Answer::Text(e.strict.clone())),
+            Question::PlainText | Question::HandoutPlain(_) => exported.map(|e| text(e.plain(version))),
+            Question::StrictText | Question::HandoutStrict(_) => exported.map(|e| text(e.strict(version))),
             Question::AtomList => {
-                exported(|e| Answer::List(e.export.atoms.iter().flat_map(|(n, count)| [*n, *count]).collect()))
+                exported.map(|e| Answer::List(e.export.atoms.iter().flat_map(|(n, count)| [*n, *count]).collect()))
             }
-            Question::DatatypeList => exported(|e| Answer::List(e.export.datatypes.clone())),
-            Question::LabelCount => exported(|e| Answer::Count(e.export.labels)),
+            Question::DatatypeList | Question::HandoutDatatypes(_) => {
+                exported.map(|e| Answer::List(version.datatypes(&e.export).to_vec()))
+            }
+            Question::LabelCount => exported.map(|e| Answer::Count(e.export.labels)),
             Question::Comparison(i, j) => match &self.sheet {
                 Ok(sheet) => compared(sheet, i, j)?.map(Answer::Equal),
                 Err(refusal) => Err(*refusal),

@@ -1,17 +1,17 @@
 //! A sample of the answers as one file, for a program that asks the library the same questions.
 //! `README.md` has its form, and says which sheets are in it.
 use crate::{
-    answer::{examine, Answer, Examined, Finding, Question},
+    answer::{examine, Answer, Examined, Finding, Question, VERSIONS},
     generate::{Kind, Sheets},
     rng::Rng,
     sheet::{decode, Refusal, BOARD_ROOM, CODE, HEADER_BYTES, NAMES, PAIR_BYTES, PROPS, STEPS, STEP_BYTES, TEXT},
-    text::{plain, text},
+    text::{plain, text, Version},
     walk::export,
 };
 use std::ops::RangeInclusive;
 
 /// Sheets of each random kind: so many small ones, and a few larger ones.
-const SMALL: usize = 160;
+const SMALL: usize = 130;
 const LARGE: usize = 3;
 /// The longest sheet, and the longest answer, of a small and of a large one.
 const SMALL_BYTES: usize = 800;
@@ -51,7 +51,9 @@ pub fn list(seed: u64) -> Result<List, Finding> {
 /// Has the sheet a label, and does the board print its text?
 fn labelled_on_the_board(sheet: &[u8]) -> bool {
     let exported = decode(sheet).and_then(|sheet| export(&sheet).map(|export| (sheet, export)));
-    exported.is_ok_and(|(sheet, export)| export.labels > 0 && text(&sheet, &export, plain).len() <= BOARD_ROOM)
+    exported.is_ok_and(|(sheet, export)| {
+        export.labels > 0 && text(&sheet, &export, Version::First, plain).len() <= BOARD_ROOM
+    })
 }
 
 impl List {
@@ -95,8 +97,12 @@ impl List {
 
     fn add_question(&mut self, question: Question, room: Option<usize>) {
         self.bytes.push(question.operation() as u8);
-        if let Question::Comparison(i, j) = question {
-            self.bytes.extend([i, j].map(|step| (step as u16).to_le_bytes()).concat());
+        match question {
+            Question::Comparison(i, j) => self.bytes.extend([i, j].map(|step| (step as u16).to_le_bytes()).concat()),
+            Question::HandoutPlain(version)
+            | Question::HandoutStrict(version)
+            | Question::HandoutDatatypes(version) => self.bytes.extend((version as u64).to_le_bytes()),
+            _ => {}
         }
         self.bytes.extend(room.into_iter().flat_map(|room| (room as u32).to_le_bytes()));
     }
@@ -125,13 +131,21 @@ const REFUSED: usize = 4;
 const COMPARISONS: usize = 6;
 /// So many of a hundred answers are asked for with more room than they fill.
 const MORE: usize = 10;
+/// So many of a hundred sheets are asked for the handout of version 2.
+const HANDOUTS: usize = 25;
 
 /// Questions with their rooms, for those that are lent one: one short, but never more than the board lends; exactly
 /// enough, and at times up to 100 more, for an answer that is not too long; and anything below 100 for a refusal.
 fn questions(examined: &Examined, longest: usize, rng: &mut Rng) -> Vec<(Question, Option<usize>)> {
     let mut all = vec![(Question::LabelCount, None)];
     let mut long = false;
-    for question in [Question::PlainText, Question::StrictText, Question::AtomList, Question::DatatypeList] {
+    let mut filling = vec![Question::PlainText, Question::StrictText, Question::AtomList, Question::DatatypeList];
+    if rng.chance(HANDOUTS) {
+        filling.extend([Question::HandoutPlain(2), Question::HandoutStrict(2), Question::HandoutDatatypes(2)]);
+        let handout = [Question::HandoutPlain, Question::HandoutStrict, Question::HandoutDatatypes];
+        filling.push(rng.pick(&handout)(*rng.pick(&VERSIONS)));
+    }
+    for question in filling {
         match examined.answer(question, None).expect("export was examined").map(|answer| answer.length()) {
             Ok(length) => {
                 all.extend((length > 0).then(|| (question, Some((length - 1).min(BOARD_ROOM)))));

@@ -13,6 +13,7 @@ use std::{collections::BTreeMap, fs, io::Write, process::exit, str::FromStr, thr
 const USAGE: &str = "usage:
   oracle answer [--room N] plain|strict|atoms|datatypes|count|board FILE
   oracle answer compare I J FILE
+  oracle answer [--room N] handout VERSION plain|strict|datatypes FILE
   oracle generate --kind KIND [--seed N --count M] --out DIR
   oracle compare --kind KIND [--seed N --count M]
   oracle accuracy --seed N --count M
@@ -68,6 +69,10 @@ fn run() -> i32 {
         ["answer", "--room", room, question, file] => answer(named(question), file, Some(number(room))),
         ["answer", "compare", i, j, file] => answer(Question::Comparison(number(i), number(j)), file, None),
         ["answer", question, file] => answer(named(question), file, None),
+        ["answer", "--room", room, "handout", version, part, file] => {
+            answer(handout(number(version), part), file, Some(number(room)))
+        }
+        ["answer", "handout", version, part, file] => answer(handout(number(version), part), file, None),
         ["generate", ref rest @ ..] => generate(&sheets(rest), option(rest, "--out")),
         ["compare", ref rest @ ..] => compare(&sheets(rest)),
         ["accuracy", ref rest @ ..] => accuracy(&random_sheets(Kind::Sound, rest)),
@@ -85,6 +90,15 @@ fn named(question: &str) -> Question {
         "datatypes" => Question::DatatypeList,
         "count" => Question::LabelCount,
         "board" => Question::BoardOutput,
+        _ => usage(),
+    }
+}
+
+fn handout(version: usize, part: &str) -> Question {
+    match part {
+        "plain" => Question::HandoutPlain(version),
+        "strict" => Question::HandoutStrict(version),
+        "datatypes" => Question::HandoutDatatypes(version),
         _ => usage(),
     }
 }

@@ -68,7 +68,10 @@ pub fn place(at: At, own: Place) -> Place {
 pub struct Export {
     pub term: ProofTerm,
     pub atoms: Vec<(u16, u16)>,
+    /// Document 01's datatype list: a ∀ label's datatype, and none of a proposition label.
     pub datatypes: Vec<u16>,
+    /// Document 02, ticket 3: every datatype of every label.
+    pub every_datatype: Vec<u16>,
     /// How many labels the term has.
     pub labels: usize,
     /// How many pairs of brackets strict text has more than plain text: around a case or let on either side of an
@@ -80,15 +83,17 @@ struct Walk<'a> {
     sheet: &'a Sheet,
     atoms: Vec<(u16, u16)>,
     datatypes: Vec<u16>,
+    every_datatype: Vec<u16>,
     labels: usize,
     strict_brackets: usize,
 }
 
 pub fn export(sheet: &Sheet) -> Result<Export, Refusal> {
-    let mut walk = Walk { sheet, atoms: vec![], datatypes: vec![], labels: 0, strict_brackets: 0 };
+    let mut walk =
+        Walk { sheet, atoms: vec![], datatypes: vec![], every_datatype: vec![], labels: 0, strict_brackets: 0 };
     let term = walk.step(sheet.root(), Place::Checking)?;
-    let Walk { atoms, datatypes, labels, strict_brackets, .. } = walk;
-    Ok(Export { term, atoms, datatypes, labels, strict_brackets })
+    let Walk { atoms, datatypes, every_datatype, labels, strict_brackets, .. } = walk;
+    Ok(Export { term, atoms, datatypes, every_datatype, labels, strict_brackets })
 }
 
 /// Whether strict text alone brackets a part in the term of a step's rule.
@@ -171,6 +176,7 @@ impl Walk<'_> {
         };
         self.labels += 1;
         prop.atoms(&mut self.atoms);
+        prop.datatypes(&mut self.every_datatype);
         let ascription = Type::Prop(self.sheet.prop(prop));
         Ok(ProofTerm::TypeAscription(TypeAscription { proof_term: Box::new(term), ascription, span: None }))
     }
@@ -179,10 +185,12 @@ impl Walk<'_> {
         let label = match (self.sheet.steps[i].rule, self.sheet.concluded(i)) {
             (rule::IMPL_INTRO, Some(Formula::Binary(Binary::Impl, left, _))) => {
                 left.atoms(&mut self.atoms);
+                left.datatypes(&mut self.every_datatype);
                 Type::Prop(self.sheet.prop(left))
             }
             (rule::FORALL_INTRO, Some(Formula::Quantified(Quantifier::ForAll, _, datatype, _))) => {
                 self.datatypes.push(*datatype);
+                self.every_datatype.push(*datatype);
                 Type::Datatype(self.sheet.name(*datatype))
             }
             (rule::IMPL_INTRO, _) => return refuse_step(14, i, &self.sheet.steps),

@@ -1,6 +1,6 @@
 //! The drawings of document 01, its "tempting and wrong" list, columns, and the checks on the oracle itself.
 use oracle::{
-    answer::{examine, Answer, Question},
+    answer::{examine, Answer, Question, VERSIONS},
     draw::*,
     formula::{Formula, Formula::*, Parameter},
     generate::{Kind, Sheets},
@@ -214,6 +214,72 @@ fn ascribed_parts() {
         drawn(&[sorry, sorry, function, pair, first]),
         expected("fst (sorry: A, fn x: A => sorry: A)", "fst (sorry: A, fn x: A => (sorry: A))")
     );
+}
+
+/// The drawing of ticket 3: `fn v => (fn x: T => sorry: ∀y:U. ∃z:T. P(y, z)) a` for ∀v:V. ∀y:U. ∃z:T. P(y, z).
+fn second_handout() -> Plain {
+    let names = ["P", "T", "U", "V", "x", "y", "z", "v", "a"];
+    let of = Atom(0, vec![Parameter::Uninstantiated(5), Parameter::Uninstantiated(6)]);
+    let body = forall(5, 2, exists(6, 1, of));
+    let steps = [
+        step(SORRY, 0, &[], 0),
+        step(FORALL_INTRO, 1, &[4], 1),
+        judging(step(IDENT, 0, &[8], 0), 8, 1),
+        step(FORALL_ELIM, 2, &[], 0),
+        step(FORALL_INTRO, 1, &[7], 2),
+    ];
+    let mut sheet = plain(&names, &[body.clone(), forall(4, 1, body.clone()), forall(7, 3, body)], &steps);
+    sheet.goal = 2;
+    sheet
+}
+
+#[test]
+fn the_second_handout() {
+    let sheet = second_handout();
+    let handout = |version, term: &str| {
+        let heading = match version {
+            1 => "atom P(2);\ndatatype T;\ndatatype V;\ndatatype U;",
+            _ => "datatype U;\ndatatype T;\ndatatype V;\natom P(2);",
+        };
+        Ok(Answer::Text(format!("{heading}\n\n{term}")))
+    };
+    let term = "fn v => (fn x: T => sorry: ∀y:U. ∃z:T. P(y, z)) a";
+    let bracketed = "fn v => (fn x: T => (sorry: ∀y:U. ∃z:T. P(y, z))) a";
+    for version in [1, 2] {
+        assert_eq!(ask(Question::HandoutPlain(version), &sheet), handout(version, term));
+        assert_eq!(ask(Question::HandoutStrict(version), &sheet), handout(version, bracketed));
+    }
+    assert_eq!(ask(Question::PlainText, &sheet), handout(1, term));
+    assert_eq!(ask(Question::BoardOutput, &sheet), handout(1, term));
+    assert_eq!(list(Question::HandoutDatatypes(1), &sheet), list(Question::DatatypeList, &sheet));
+    assert_eq!(list(Question::DatatypeList, &sheet), [1]);
+    assert_eq!(list(Question::HandoutDatatypes(2), &sheet), [2, 1, 1]);
+    // the left side of a labelled function's conclusion is a label too
+    let [x, y] = [forall(1, 2, atom(A)), exists(1, 3, atom(A))];
+    let steps =
+        [step(IDENT, 0, &[4], 1), step(IMPL_INTRO, 1, &[4], 0), step(IDENT, 0, &[4], 1), step(IMPL_ELIM, 2, &[], 1)];
+    let sheet = plain(&["A", "x", "T", "U", "u"], &[implies(and(x.clone(), y.clone()), y), x], &steps);
+    assert_eq!(list(Question::HandoutDatatypes(1), &sheet), []);
+    assert_eq!(list(Question::HandoutDatatypes(2), &sheet), [2, 3]);
+}
+
+#[test]
+fn a_number_that_is_no_version_is_refused_first() {
+    for version in VERSIONS {
+        for sheet in [second_handout().bytes(), smallest().bytes(), vec![]] {
+            for question in
+                [Question::HandoutPlain(version), Question::HandoutStrict(version), Question::HandoutDatatypes(version)]
+            {
+                for room in [None, Some(0)] {
+                    let is_21 = answer(question, &sheet, room) == refused(21, 0);
+                    assert_eq!(is_21, version != 1 && version != 2, "{question:?}");
+                }
+            }
+        }
+    }
+    assert_eq!(answer(Question::HandoutPlain(2), &[], None), refused(1, 0));
+    assert_eq!(answer(Question::HandoutPlain(2), &smallest().bytes(), Some(4)), refused(16, 0));
+    assert_eq!(ask(Question::HandoutPlain(2), &smallest()), Ok(Answer::Text("\n\n\n()".into())));
 }
 
 #[test]
@@ -453,6 +519,8 @@ fn columns_within_range_change_nothing_else() {
                     Question::StrictText,
                     Question::AtomList,
                     Question::DatatypeList,
+                    Question::HandoutPlain(2),
+                    Question::HandoutDatatypes(2),
                     Question::LabelCount,
                     Question::Comparison(0, 0),
                     Question::Comparison(0, 1),

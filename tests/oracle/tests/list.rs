@@ -28,6 +28,9 @@ impl Reader<'_> {
             4 => (Question::LabelCount, None),
             5 => (Question::Comparison(self.number(2), self.number(2)), None),
             6 => (Question::BoardOutput, None),
+            7 => (Question::HandoutPlain(self.number(8)), Some(self.number(4))),
+            8 => (Question::HandoutStrict(self.number(8)), Some(self.number(4))),
+            9 => (Question::HandoutDatatypes(self.number(8)), Some(self.number(4))),
             kind => panic!("kind {kind}"),
         }
     }
@@ -38,14 +41,12 @@ impl Reader<'_> {
             return Err(Refusal { number, place: value, column: self.number(2) as u16 });
         }
         Ok(match question {
-            Question::PlainText | Question::StrictText | Question::BoardOutput => {
-                Answer::Text(String::from_utf8(self.bytes(value)).unwrap())
-            }
-            Question::AtomList | Question::DatatypeList => {
+            Question::AtomList | Question::DatatypeList | Question::HandoutDatatypes(_) => {
                 Answer::List((0..value).map(|_| self.number(2) as u16).collect())
             }
             Question::LabelCount => Answer::Count(value),
             Question::Comparison(..) => Answer::Equal(value == 1),
+            _ => Answer::Text(String::from_utf8(self.bytes(value)).unwrap()),
         })
     }
 }
@@ -55,8 +56,8 @@ fn the_list_reads_back() {
     let list = list(1).unwrap();
     assert!(list.sheets >= 1500 && list.bytes.len() <= 2_000_000);
     let mut reader = Reader(&list.bytes);
-    let (mut asked, mut refused, mut exact, mut short, mut more) = ([0; Operation::ALL.len()], [0; 20], 0, 0, 0);
-    let mut strict = 0;
+    let (mut asked, mut refused, mut exact, mut short, mut more) = ([0; Operation::ALL.len()], [0; 22], 0, 0, 0);
+    let (mut strict, mut second) = (0, 0);
     assert_eq!(reader.number(4), list.sheets);
     for _ in 0..list.sheets {
         let length = reader.number(4);
@@ -69,6 +70,8 @@ fn the_list_reads_back() {
             let enough = examined.answer(question, None).unwrap();
             let differs = examined.exported.as_ref().is_ok_and(|exported| exported.strict != exported.plain);
             strict += (question == Question::StrictText && answer.is_ok() && differs) as usize;
+            let changed = examined.exported.as_ref().is_ok_and(|exported| exported.second_plain != exported.plain);
+            second += (question == Question::HandoutPlain(2) && answer.is_ok() && changed) as usize;
             exact += (room.is_some() && answer.as_ref().is_ok_and(|answer| Some(answer.length()) == room)) as usize;
             more += (room.is_some() && answer.as_ref().is_ok_and(|answer| Some(answer.length()) < room)) as usize;
             short +=
@@ -78,10 +81,10 @@ fn the_list_reads_back() {
     }
     assert!(reader.0.is_empty());
     assert!(asked.iter().all(|count| *count > 0), "{asked:?}");
-    // every refusal but 18
-    assert!((0..20).all(|number| (refused[number] > 0) == (number != 18)), "{refused:?}");
+    // every refusal but 18; there is none with the number 20
+    assert!((0..22).all(|number| (refused[number] > 0) == ![18, 20].contains(&number)), "{refused:?}");
     assert!(exact > 1000 && short > 1000, "{exact} {short}");
-    assert!(more > 100 && strict > 100, "{more} {strict}");
+    assert!(more > 100 && strict > 100 && second > 50, "{more} {strict} {second}");
 }
 
 #[test]
