@@ -1,6 +1,7 @@
 // Asks each question of a fixed list of sheets, and says how many of the answers agree with those that the list holds: the Rust's,
-// and document 01's where the Rust has none. tests/oracle/README.md has the form of the list, and README.md says how it is made.
+// and those of documents 01 and 02 where the Rust has none. tests/oracle/README.md has the form of the list, and README.md says how it is made.
 use definitions::Located;
+use definitions::Style;
 use libc::STDOUT_FILENO;
 use number::number_at;
 use skriduhol::Count;
@@ -21,6 +22,12 @@ const DATATYPE_LIST: u8 = 3;
 const LABEL_COUNT: u8 = 4;
 
 const COMPARISON: u8 = 5;
+
+const HANDOUT_PLAIN: u8 = 7;
+
+const HANDOUT_STRICT: u8 = 8;
+
+const HANDOUT_DATATYPES: u8 = 9;
 
 // The most bytes or numbers that are lent. Memory is zero before it is lent.
 const ROOM: usize = 65536;
@@ -80,6 +87,11 @@ fn read_u32(fd: i32) -> usize
 {
     let low = read_u16(fd);
     low + 65536 * read_u16(fd)
+}
+
+fn read_u64(fd: i32) -> usize {
+    let low = read_u32(fd);
+    low + 4294967296 * read_u32(fd)
 }
 
 // Only a refusal has a column.
@@ -172,32 +184,64 @@ fn same_bytes(a: &[u8; ROOM], b: &[u8; ROOM]) -> bool {
     check::same(a, b)
 }
 
-fn text(s: &[u8], strict: bool, room: usize, out: &mut [u8]) -> Filled {
-    let lent = bytes_within(room, out);
-    if strict {
-        return skriduhol::strict_text(s, &mut out[..lent]);
-    }
-    skriduhol::plain_text(s, &mut out[..lent])
+// The text that a question asks for, and of the handout its version.
+enum AskedText {
+    Plain,
+    Strict,
+    HandoutPlain(usize),
+    HandoutStrict(usize),
 }
 
-fn text_agrees(fd: i32, s: &[u8], strict: bool) -> bool {
+fn text(s: &[u8], asked: AskedText, room: usize, out: &mut [u8]) -> Filled {
+    let lent = bytes_within(room, out);
+    match asked {
+        AskedText::Plain => {
+            return skriduhol::plain_text(s, &mut out[..lent]);
+        }
+        AskedText::Strict => {
+            return skriduhol::strict_text(s, &mut out[..lent]);
+        }
+        AskedText::HandoutPlain(version) => {
+            return skriduhol::handout(s, version, Style::Plain, &mut out[..lent]);
+        }
+        AskedText::HandoutStrict(version) => {
+            return skriduhol::handout(s, version, Style::Strict, &mut out[..lent]);
+        }
+    }
+}
+
+fn text_agrees(fd: i32, s: &[u8], asked: AskedText) -> bool {
     let room = read_u32(fd);
     let expected = read_result(fd);
     let bytes = read_bytes(fd, elements(expected));
     let mut out = io::large_buffer();
-    let answer = filled_result(text(s, strict, room, &mut out));
+    let answer = filled_result(text(s, asked, room, &mut out));
     if !same_result(expected, answer) {
         return false;
     }
     same_bytes(&out, &bytes)
 }
 
-fn list(s: &[u8], datatypes: bool, room: usize, out: &mut [u16]) -> Filled {
+// The list that a question asks for, and of the handout its version.
+enum AskedList {
+    Atoms,
+    Datatypes,
+    HandoutDatatypes(usize),
+}
+
+fn list(s: &[u8], asked: AskedList, room: usize, out: &mut [u16]) -> Filled {
     let lent = numbers_within(room, out);
-    if datatypes {
-        return skriduhol::datatype_list(s, &mut out[..lent]);
+    match asked {
+        AskedList::Atoms => {
+            return skriduhol::atom_list(s, &mut out[..lent]);
+        }
+        AskedList::Datatypes => {
+            return skriduhol::datatype_list(s, &mut out[..lent]);
+        }
+        AskedList::HandoutDatatypes(version) => {
+            return skriduhol::handout_datatypes(s, version, &mut out[..lent]);
+        }
     }
-    skriduhol::atom_list(s, &mut out[..lent])
 }
 
 // The number at a place of a list's bytes, and 0 past them.
@@ -221,12 +265,12 @@ fn same_numbers(numbers: &[u16; ROOM], bytes: &[u8; ROOM]) -> bool {
     true
 }
 
-fn list_agrees(fd: i32, s: &[u8], datatypes: bool) -> bool {
+fn list_agrees(fd: i32, s: &[u8], asked: AskedList) -> bool {
     let room = read_u32(fd);
     let expected = read_result(fd);
     let bytes = read_bytes(fd, 2 * elements(expected));
     let mut out = [0u16; ROOM];
-    let answer = filled_result(list(s, datatypes, room, &mut out));
+    let answer = filled_result(list(s, asked, room, &mut out));
     if !same_result(expected, answer) {
         return false;
     }
@@ -259,12 +303,15 @@ fn board_agrees(fd: i32, s: &[u8]) -> bool {
 // Whether the answer to the next question agrees.
 fn agrees(fd: i32, s: &[u8]) -> bool {
     match read_byte(fd) {
-        PLAIN_TEXT => text_agrees(fd, s, false),
-        STRICT_TEXT => text_agrees(fd, s, true),
-        ATOM_LIST => list_agrees(fd, s, false),
-        DATATYPE_LIST => list_agrees(fd, s, true),
+        PLAIN_TEXT => text_agrees(fd, s, AskedText::Plain),
+        STRICT_TEXT => text_agrees(fd, s, AskedText::Strict),
+        ATOM_LIST => list_agrees(fd, s, AskedList::Atoms),
+        DATATYPE_LIST => list_agrees(fd, s, AskedList::Datatypes),
         LABEL_COUNT => count_agrees(fd, s),
         COMPARISON => comparison_agrees(fd, s),
+        HANDOUT_PLAIN => text_agrees(fd, s, AskedText::HandoutPlain(read_u64(fd))),
+        HANDOUT_STRICT => text_agrees(fd, s, AskedText::HandoutStrict(read_u64(fd))),
+        HANDOUT_DATATYPES => list_agrees(fd, s, AskedList::HandoutDatatypes(read_u64(fd))),
         _ => board_agrees(fd, s),
     }
 }
