@@ -13,6 +13,15 @@ pub type Fill<T> = unsafe extern "C" fn(
     value: *mut usize,
     column: *mut usize,
 ) -> u8;
+pub type Handout<T> = unsafe extern "C" fn(
+    sheet: *const u8,
+    sheet_length: usize,
+    version: usize,
+    out: *mut T,
+    room: usize,
+    value: *mut usize,
+    column: *mut usize,
+) -> u8;
 pub type Count =
     unsafe extern "C" fn(sheet: *const u8, sheet_length: usize, value: *mut usize, column: *mut usize) -> u8;
 pub type Compare = unsafe extern "C" fn(
@@ -35,6 +44,9 @@ pub struct Library {
     pub label_count: Count,
     pub compare: Compare,
     pub board_output: Board,
+    pub handout_plain: Handout<u8>,
+    pub handout_strict: Handout<u8>,
+    pub handout_datatypes: Handout<u16>,
 }
 
 /// What a call gave: the refusal's number or 0, the value, the column, and the memory it was lent.
@@ -60,29 +72,38 @@ impl Library {
         let mut lent = sheet.to_vec();
         let (pointer, length) = (lent.as_mut_ptr().cast_const(), lent.len());
         let (mut value, mut column) = (UNSAID, UNSAID);
+        let (said, drawn): (*mut usize, *mut usize) = (&mut value, &mut column);
         // SAFETY: the sheet, the value, the column and the lent rooms outlive the calls.
         let (number, memory) = unsafe {
-            let mut text = |fill: Fill<u8>| {
+            let text = |fill: &dyn Fn(*mut u8) -> u8| {
                 let mut out = Lent::new(room, salt);
-                (fill(pointer, length, out.start(), room, &mut value, &mut column), Memory::Bytes(out))
+                (fill(out.start()), Memory::Bytes(out))
+            };
+            let list = |fill: &dyn Fn(*mut u16) -> u8| {
+                let mut out = Lent::new(room, salt);
+                (fill(out.start()), Memory::Numbers(out))
             };
             match question {
-                Question::PlainText => text(self.plain_text),
-                Question::StrictText => text(self.strict_text),
-                Question::AtomList | Question::DatatypeList => {
-                    let fill = if question == Question::AtomList { self.atom_list } else { self.datatype_list };
-                    let mut out = Lent::new(room, salt);
-                    (fill(pointer, length, out.start(), room, &mut value, &mut column), Memory::Numbers(out))
-                }
-                Question::LabelCount => ((self.label_count)(pointer, length, &mut value, &mut column), Memory::None),
-                Question::Comparison(i, j) => {
-                    ((self.compare)(pointer, length, i, j, &mut value, &mut column), Memory::None)
-                }
+                Question::PlainText => text(&|out| (self.plain_text)(pointer, length, out, room, said, drawn)),
+                Question::StrictText => text(&|out| (self.strict_text)(pointer, length, out, room, said, drawn)),
+                Question::AtomList => list(&|out| (self.atom_list)(pointer, length, out, room, said, drawn)),
+                Question::DatatypeList => list(&|out| (self.datatype_list)(pointer, length, out, room, said, drawn)),
+                Question::LabelCount => ((self.label_count)(pointer, length, said, drawn), Memory::None),
+                Question::Comparison(i, j) => ((self.compare)(pointer, length, i, j, said, drawn), Memory::None),
                 Question::BoardOutput => {
                     let mut out = Lent::new(BOARD_ROOM, salt);
                     // It has no column to hand back: a refusal's stands in its line.
                     (value, column) = ((self.board_output)(pointer, length, out.start()), 0);
                     (0, Memory::Bytes(out))
+                }
+                Question::HandoutPlain(version) => {
+                    text(&|out| (self.handout_plain)(pointer, length, version, out, room, said, drawn))
+                }
+                Question::HandoutStrict(version) => {
+                    text(&|out| (self.handout_strict)(pointer, length, version, out, room, said, drawn))
+                }
+                Question::HandoutDatatypes(version) => {
+                    list(&|out| (self.handout_datatypes)(pointer, length, version, out, room, said, drawn))
                 }
             }
         };

@@ -47,6 +47,33 @@ extern "C" {
         column: *mut usize,
     ) -> u8;
     fn skriduhol_board_output(sheet: *const u8, length: usize, out: *mut u8) -> usize;
+    fn skriduhol_handout_plain(
+        sheet: *const u8,
+        length: usize,
+        version: usize,
+        out: *mut u8,
+        room: usize,
+        value: *mut usize,
+        column: *mut usize,
+    ) -> u8;
+    fn skriduhol_handout_strict(
+        sheet: *const u8,
+        length: usize,
+        version: usize,
+        out: *mut u8,
+        room: usize,
+        value: *mut usize,
+        column: *mut usize,
+    ) -> u8;
+    fn skriduhol_handout_datatypes(
+        sheet: *const u8,
+        length: usize,
+        version: usize,
+        out: *mut u16,
+        room: usize,
+        value: *mut usize,
+        column: *mut usize,
+    ) -> u8;
 }
 
 const LIBRARY: Library = Library {
@@ -57,6 +84,9 @@ const LIBRARY: Library = Library {
     label_count: skriduhol_label_count,
     compare: skriduhol_compare,
     board_output: skriduhol_board_output,
+    handout_plain: skriduhol_handout_plain,
+    handout_strict: skriduhol_handout_strict,
+    handout_datatypes: skriduhol_handout_datatypes,
 };
 
 const USAGE: &str = "usage: run [--seed N] [--count M] [--kind KIND] [--threads T]
@@ -119,7 +149,7 @@ fn main() {
     print!("{table}");
     let missing = table.sum().missing();
     match missing.is_empty() {
-        true => println!("Every refusal from 1 to 19 but 18 occurred."),
+        true => println!("Every refusal from 1 to 21 but 18 and 20 occurred."),
         false => println!("Refusals that did not occur: {missing:?}"),
     }
     println!("No difference.");

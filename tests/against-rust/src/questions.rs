@@ -1,6 +1,6 @@
 //! What is asked of a sheet.
 use oracle::{
-    answer::{Answer, Examined, Operation, Question},
+    answer::{Answer, Examined, Operation, Question, VERSIONS},
     rng::Rng,
     sheet::BOARD_ROOM,
 };
@@ -10,7 +10,7 @@ pub type Asked = (Question, usize);
 
 /// The questions of one operation. `comparisons` says how many pairs of steps are compared.
 pub fn questions(examined: &Examined, operation: Operation, comparisons: usize, rng: &mut Rng) -> Vec<Asked> {
-    let in_rooms = |question: Question, rng: &mut Rng| {
+    let in_rooms = |question: Question, rng: &mut Rng| -> Vec<Asked> {
         let answer = examined.answer(question, None).expect("export was examined");
         rooms(answer.ok(), rng).into_iter().map(|room| (question, room)).collect()
     };
@@ -25,7 +25,24 @@ pub fn questions(examined: &Examined, operation: Operation, comparisons: usize, 
             pairs(steps, comparisons, rng).into_iter().map(|(i, j)| (Question::Comparison(i, j), 0)).collect()
         }
         Operation::BoardOutput => vec![(Question::BoardOutput, BOARD_ROOM)],
+        Operation::HandoutPlain => versions(Question::HandoutPlain, in_rooms, rng),
+        Operation::HandoutStrict => versions(Question::HandoutStrict, in_rooms, rng),
+        Operation::HandoutDatatypes => versions(Question::HandoutDatatypes, in_rooms, rng),
     }
+}
+
+/// Version 2 in rooms of every kind, and each other number in one of them.
+fn versions(
+    question: fn(usize) -> Question,
+    in_rooms: impl Fn(Question, &mut Rng) -> Vec<Asked>,
+    rng: &mut Rng,
+) -> Vec<Asked> {
+    let mut all = in_rooms(question(2), rng);
+    for version in VERSIONS.into_iter().filter(|version| *version != 2) {
+        let asked = in_rooms(question(version), rng);
+        all.push(*rng.pick(&asked));
+    }
+    all
 }
 
 const LONG: usize = 1 << 20;

@@ -6,9 +6,10 @@ use oracle::{
 };
 use std::{fmt, ops::AddAssign};
 
-const REFUSALS: usize = 19;
-/// The refusal that does not occur.
-const NEVER: usize = 18;
+/// The refusals by their numbers: 18 does not occur, and there is no 20.
+const REFUSALS: [usize; 19] = [1, 2, 3, 4, 5, 6, 7, 8, 9, 10, 11, 12, 13, 14, 15, 16, 17, 19, 21];
+/// One more than the greatest number.
+const NUMBERS: usize = 22;
 
 #[derive(Clone, Default)]
 pub struct Tally {
@@ -17,7 +18,7 @@ pub struct Tally {
     accepted: usize,
     equal: usize,
     unequal: usize,
-    refused: [usize; REFUSALS],
+    refused: [usize; NUMBERS],
 }
 
 impl Tally {
@@ -27,13 +28,13 @@ impl Tally {
             Ok(Answer::Equal(true)) => self.equal += 1,
             Ok(Answer::Equal(false)) => self.unequal += 1,
             Ok(_) => self.accepted += 1,
-            Err(refusal) => self.refused[refusal.number as usize - 1] += 1,
+            Err(refusal) => self.refused[refusal.number as usize] += 1,
         }
     }
 
-    /// The refusals that did not occur and should.
+    /// The refusals that did not occur.
     pub fn missing(&self) -> Vec<usize> {
-        (1..=REFUSALS).filter(|number| *number != NEVER && self.refused[number - 1] == 0).collect()
+        REFUSALS.into_iter().filter(|number| self.refused[*number] == 0).collect()
     }
 
     fn rows(&self) -> Vec<(String, usize)> {
@@ -46,7 +47,7 @@ impl Tally {
             ("compared: yes".to_string(), self.equal),
             ("compared: no".to_string(), self.unequal),
         ]);
-        rows.extend(self.refused.iter().enumerate().map(|(i, count)| (format!("refused {}", i + 1), *count)));
+        rows.extend(REFUSALS.into_iter().map(|number| (format!("refused {number}"), self.refused[number])));
         rows
     }
 }

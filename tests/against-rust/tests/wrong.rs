@@ -10,7 +10,7 @@ use oracle::{
     generate::Kind,
     reference::meets_two_counts,
     sheet::{Layout, Refusal, Sheet, BOARD_ROOM},
-    text::{strict, text, Brackets, Under},
+    text::{strict, text, Brackets, Under, Version},
     walk::alpha,
 };
 use std::{
@@ -80,10 +80,27 @@ impl Asked {
     /// Answers an operation with the text that has these brackets more than `Display`, if it fits.
     fn print(&self, operation: Operation, reply: &mut Reply, brackets: Brackets) {
         if let (true, Ok(sheet), Ok(exported)) = (self.is(operation), &self.examined.sheet, &self.examined.exported) {
-            *reply = match text(sheet, &exported.export, brackets) {
+            *reply = match text(sheet, &exported.export, Version::First, brackets) {
                 text if text.len() <= self.room => Reply::new(&Ok(Answer::Text(text))),
                 _ => Reply::new(&Err(Refusal { number: 16, place: 0, column: 0 })),
             };
+        }
+    }
+
+    /// The version that the question names, and the question of any.
+    fn version(&self) -> Option<(usize, fn(usize) -> Question)> {
+        match self.question {
+            Question::HandoutPlain(version) => Some((version, Question::HandoutPlain)),
+            Question::HandoutStrict(version) => Some((version, Question::HandoutStrict)),
+            Question::HandoutDatatypes(version) => Some((version, Question::HandoutDatatypes)),
+            _ => None,
+        }
+    }
+
+    /// Answers a number that is no version as another number.
+    fn take(&self, reply: &mut Reply, other: fn(usize) -> usize) {
+        if let (Some((version, question)), 21) = (self.version(), reply.number) {
+            *reply = Reply::new(&self.examined.answer(question(other(version)), Some(self.room)).unwrap());
         }
     }
 
@@ -305,6 +322,72 @@ const FAULTS: &[(&str, Operation, Fault)] = &[
             }
         }
     }),
+    ("the plain text is that of version 2", Operation::PlainText, |asked, reply| {
+        if asked.is(Operation::PlainText) {
+            *reply = Reply::new(&asked.examined.answer(Question::HandoutPlain(2), Some(asked.room)).unwrap());
+        }
+    }),
+    ("the board prints version 2", Operation::BoardOutput, |asked, reply| {
+        if let (true, Ok(exported)) = (asked.is(Operation::BoardOutput), &asked.examined.exported) {
+            if exported.plain.len().max(exported.second_plain.len()) <= BOARD_ROOM {
+                reply.text(&exported.second_plain);
+            }
+        }
+    }),
+    ("version 2 is version 1", Operation::HandoutPlain, |asked, reply| {
+        if let (Some((2, question)), 0) = (asked.version(), reply.number) {
+            *reply = Reply::new(&asked.examined.answer(question(1), Some(asked.room)).unwrap());
+        }
+    }),
+    ("a strict text of version 2 is a plain one", Operation::HandoutStrict, |asked, reply| {
+        if asked.question == Question::HandoutStrict(2) {
+            *reply = Reply::new(&asked.examined.answer(Question::HandoutPlain(2), Some(asked.room)).unwrap());
+        }
+    }),
+    ("version 2 lists the datatypes of ∀ labels only", Operation::HandoutDatatypes, |asked, reply| {
+        if asked.question == Question::HandoutDatatypes(2) {
+            *reply = Reply::new(&asked.examined.answer(Question::DatatypeList, Some(asked.room)).unwrap());
+        }
+    }),
+    ("version 2 lists each datatype once", Operation::HandoutDatatypes, |asked, reply| {
+        if asked.question == Question::HandoutDatatypes(2) && reply.number == 0 {
+            let mut once: Vec<u16> = vec![];
+            reply.held().into_iter().for_each(|n| once.extend((!once.contains(&n)).then_some(n)));
+            reply.list(once);
+        }
+    }),
+    ("version 2 lists the goal's datatypes", Operation::HandoutDatatypes, |asked, reply| {
+        if let (Question::HandoutDatatypes(2), 0, Ok(sheet)) = (asked.question, reply.number, &asked.examined.sheet) {
+            let mut list = reply.held();
+            sheet.props[sheet.goal].datatypes(&mut list);
+            if list.len() <= asked.room {
+                reply.list(list);
+            }
+        }
+    }),
+    ("version 0 is version 1", Operation::HandoutPlain, |asked, reply| asked.take(reply, |version| version.max(1))),
+    ("version 3 is version 2", Operation::HandoutPlain, |asked, reply| {
+        asked.take(reply, |version| if version == 3 { 2 } else { version });
+    }),
+    ("a version wraps at 8 bits", Operation::HandoutPlain, |asked, reply| asked.take(reply, |version| version % 256)),
+    ("a version wraps at 16 bits", Operation::HandoutPlain, |asked, reply| {
+        asked.take(reply, |version| version % 65536);
+    }),
+    ("a version wraps at 32 bits", Operation::HandoutPlain, |asked, reply| {
+        asked.take(reply, |version| version % (1 << 32));
+    }),
+    ("21 comes after the refusals of a sheet", Operation::HandoutPlain, |asked, reply| {
+        if let (21, Err(refusal)) = (reply.number, &asked.examined.exported) {
+            *reply = Reply::new(&Err(*refusal));
+        }
+    }),
+    ("21 comes after 16", Operation::HandoutPlain, |asked, reply| {
+        if let (21, Ok(exported)) = (reply.number, &asked.examined.exported) {
+            if asked.room < exported.plain.len() {
+                reply.refuse(16, 0);
+            }
+        }
+    }),
     ("labels are counted only up to the first", Operation::LabelCount, |asked, reply| {
         if asked.is(Operation::LabelCount) && reply.number == 0 {
             reply.value = reply.value.min(1);
@@ -482,10 +565,29 @@ macro_rules! fill {
     };
 }
 
+macro_rules! handout {
+    ($name:ident, $cell:ty, $question:expr) => {
+        unsafe extern "C" fn $name(
+            s: *const u8,
+            n: usize,
+            version: usize,
+            out: *mut $cell,
+            room: usize,
+            value: *mut usize,
+            column: *mut usize,
+        ) -> u8 {
+            reply($question(version), s, n, out, room, (value, column))
+        }
+    };
+}
+
 fill!(plain_text, u8, Question::PlainText);
 fill!(strict_text, u8, Question::StrictText);
 fill!(atom_list, u16, Question::AtomList);
 fill!(datatype_list, u16, Question::DatatypeList);
+handout!(handout_plain, u8, Question::HandoutPlain);
+handout!(handout_strict, u8, Question::HandoutStrict);
+handout!(handout_datatypes, u16, Question::HandoutDatatypes);
 
 unsafe extern "C" fn label_count(s: *const u8, n: usize, value: *mut usize, column: *mut usize) -> u8 {
     reply(Question::LabelCount, s, n, std::ptr::null_mut::<u8>(), 0, (value, column))
@@ -508,8 +610,18 @@ unsafe extern "C" fn board_output(s: *const u8, n: usize, out: *mut u8) -> usize
     value
 }
 
-const LIBRARY: Library =
-    Library { plain_text, strict_text, atom_list, datatype_list, label_count, compare: compare_steps, board_output };
+const LIBRARY: Library = Library {
+    plain_text,
+    strict_text,
+    atom_list,
+    datatype_list,
+    label_count,
+    compare: compare_steps,
+    board_output,
+    handout_plain,
+    handout_strict,
+    handout_datatypes,
+};
 
 /// The first difference over some sheets of each kind.
 fn found() -> Option<Found> {
