@@ -1,11 +1,11 @@
-/* Reads a sheet from a file and prints its text, its label count and its lists, or the refusal. */
+/* Reads a sheet from a file and prints the handout of a version, 1 if none is given, with the label count and the lists, or the
+   refusal. */
 #include <stdio.h>
+#include <stdlib.h>
 
 #include "skriduhol.h"
 
 #define ROOM 65536
-
-typedef uint8_t list_function(const uint8_t *, size_t, uint16_t *, size_t, size_t *, size_t *);
 
 /* One byte more than the longest sheet: what is longer is no sheet. */
 static uint8_t sheet[SKRIDUHOL_LONGEST_SHEET + 1];
@@ -22,9 +22,9 @@ static int refused(uint8_t number, size_t place, size_t column) {
     return 1;
 }
 
-static int print_text(size_t length) {
+static int print_text(size_t length, size_t version) {
     size_t value, column;
-    uint8_t number = skriduhol_plain_text(sheet, length, text, ROOM, &value, &column);
+    uint8_t number = skriduhol_handout_plain(sheet, length, version, text, ROOM, &value, &column);
     if (number != 0) {
         return refused(number, value, column);
     }
@@ -44,23 +44,32 @@ static int print_label_count(size_t length) {
 }
 
 /* The numbers of a list on one line. */
-static int print_list(const char *word, list_function *list_of, size_t length) {
-    size_t value, column;
-    uint8_t number = list_of(sheet, length, list, ROOM, &value, &column);
-    if (number != 0) {
-        return refused(number, value, column);
-    }
+static int print_list(const char *word, size_t count) {
     printf("%s:", word);
-    for (size_t i = 0; i < value; i++) {
+    for (size_t i = 0; i < count; i++) {
         printf(" %u", (unsigned)list[i]);
     }
     putchar('\n');
     return 0;
 }
 
+static int print_atoms(size_t length) {
+    size_t value, column;
+    uint8_t number = skriduhol_atom_list(sheet, length, list, ROOM, &value, &column);
+    return number != 0 ? refused(number, value, column) : print_list("atoms", value);
+}
+
+static int print_datatypes(size_t length, size_t version) {
+    size_t value, column;
+    uint8_t number = skriduhol_handout_datatypes(sheet, length, version, list, ROOM, &value, &column);
+    return number != 0 ? refused(number, value, column) : print_list("datatypes", value);
+}
+
 int main(int argc, char **argv) {
-    if (argc != 2) {
-        fprintf(stderr, "usage: read_sheet FILE\n");
+    char *end = "";
+    size_t version = argc == 3 ? strtoul(argv[2], &end, 10) : 1;
+    if (argc < 2 || argc > 3 || *end != '\0') {
+        fprintf(stderr, "usage: read_sheet FILE [VERSION]\n");
         return 2;
     }
     FILE *file = fopen(argv[1], "rb");
@@ -75,6 +84,5 @@ int main(int argc, char **argv) {
         return 2;
     }
     fclose(file);
-    return print_text(length) || print_label_count(length) || print_list("atoms", skriduhol_atom_list, length)
-        || print_list("datatypes", skriduhol_datatype_list, length);
+    return print_text(length, version) || print_label_count(length) || print_atoms(length) || print_datatypes(length, version);
 }

@@ -40,6 +40,33 @@ extern "C" {
         value: *mut usize,
         column: *mut usize,
     ) -> u8;
+    fn skriduhol_handout_plain(
+        sheet: *const u8,
+        sheet_length: usize,
+        version: usize,
+        out: *mut u8,
+        room: usize,
+        value: *mut usize,
+        column: *mut usize,
+    ) -> u8;
+    fn skriduhol_handout_strict(
+        sheet: *const u8,
+        sheet_length: usize,
+        version: usize,
+        out: *mut u8,
+        room: usize,
+        value: *mut usize,
+        column: *mut usize,
+    ) -> u8;
+    fn skriduhol_handout_datatypes(
+        sheet: *const u8,
+        sheet_length: usize,
+        version: usize,
+        out: *mut u16,
+        room: usize,
+        value: *mut usize,
+        column: *mut usize,
+    ) -> u8;
     fn skriduhol_label_count(
         sheet: *const u8,
         sheet_length: usize,
@@ -101,6 +128,66 @@ pub fn datatype_list(sheet: &[u8], out: &mut [u16], value: &mut usize, column: &
         skriduhol_datatype_list(
             sheet.as_ptr(),
             sheet.len(),
+            out.as_mut_ptr(),
+            out.len(),
+            value,
+            column,
+        )
+    }
+}
+
+pub fn handout_plain(
+    sheet: &[u8],
+    version: usize,
+    out: &mut [u8],
+    value: &mut usize,
+    column: &mut usize,
+) -> u8 {
+    unsafe {
+        skriduhol_handout_plain(
+            sheet.as_ptr(),
+            sheet.len(),
+            version,
+            out.as_mut_ptr(),
+            out.len(),
+            value,
+            column,
+        )
+    }
+}
+
+pub fn handout_strict(
+    sheet: &[u8],
+    version: usize,
+    out: &mut [u8],
+    value: &mut usize,
+    column: &mut usize,
+) -> u8 {
+    unsafe {
+        skriduhol_handout_strict(
+            sheet.as_ptr(),
+            sheet.len(),
+            version,
+            out.as_mut_ptr(),
+            out.len(),
+            value,
+            column,
+        )
+    }
+}
+
+pub fn handout_datatypes(
+    sheet: &[u8],
+    version: usize,
+    out: &mut [u16],
+    value: &mut usize,
+    column: &mut usize,
+) -> u8 {
+    unsafe {
+        skriduhol_handout_datatypes(
+            sheet.as_ptr(),
+            sheet.len(),
+            version,
             out.as_mut_ptr(),
             out.len(),
             value,

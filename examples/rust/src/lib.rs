@@ -13,7 +13,7 @@ pub const BOARD_ROOM: usize = 65_536;
 /// The longest sheet, in bytes. A reader needs one byte more, to see that an input is longer.
 pub const LONGEST_SHEET: usize = 40_972;
 
-/// A refusal: its number, 1 to 19, its place, and the grid column of the step that 9 to 15 name, for any other 0.
+/// A refusal: its number, its place, and the grid column of the step that 9 to 15 name, for any other 0.
 /// `include/skriduhol.h` lists them.
 #[derive(Clone, Copy, Debug, PartialEq, Eq)]
 pub struct Refusal {
@@ -34,6 +34,13 @@ impl fmt::Display for Refusal {
 
 impl std::error::Error for Refusal {}
 
+/// How a text is asked for.
+#[derive(Clone, Copy, Debug, PartialEq, Eq)]
+pub enum Style {
+    Plain,
+    Strict,
+}
+
 /// The plain text, at the start of `out`; its length in bytes.
 pub fn plain_text(sheet: &[u8], out: &mut [u8]) -> Result<usize, Refusal> {
     asked(|value, column| c::plain_text(sheet, out, value, column))
@@ -50,9 +57,30 @@ pub fn atom_list(sheet: &[u8], out: &mut [u16]) -> Result<usize, Refusal> {
     asked(|value, column| c::atom_list(sheet, out, value, column))
 }
 
-/// The datatype list, at the start of `out`: the number of a name for each; its length in numbers.
+/// The datatype list, at the start of `out`: the number of a name for each datatype that is a label; its length in numbers.
 pub fn datatype_list(sheet: &[u8], out: &mut [u16]) -> Result<usize, Refusal> {
     asked(|value, column| c::datatype_list(sheet, out, value, column))
+}
+
+/// The text of a version of the handout, at the start of `out`; its length in bytes. Version 1 is `plain_text` and
+/// `strict_text`. Version 2 has the datatype declarations before the atoms, and declares the datatypes of its own list.
+pub fn handout(
+    sheet: &[u8],
+    version: usize,
+    style: Style,
+    out: &mut [u8],
+) -> Result<usize, Refusal> {
+    let of_style = match style {
+        Style::Plain => c::handout_plain,
+        Style::Strict => c::handout_strict,
+    };
+    asked(|value, column| of_style(sheet, version, out, value, column))
+}
+
+/// The datatype list of a version of the handout, at the start of `out`; its length in numbers. Version 1 is `datatype_list`.
+/// Version 2 has every datatype of every label, those within a proposition too.
+pub fn handout_datatypes(sheet: &[u8], version: usize, out: &mut [u16]) -> Result<usize, Refusal> {
+    asked(|value, column| c::handout_datatypes(sheet, version, out, value, column))
 }
 
 /// How many ascriptions and labelled functions the sheet's term has.
@@ -65,7 +93,7 @@ pub fn compare(sheet: &[u8], i: usize, j: usize) -> Result<bool, Refusal> {
     asked(|value, column| c::compare(sheet, i, j, value, column)).map(|value| value == 1)
 }
 
-/// What the board prints, at the start of `out`: the plain text, or the refusal's line; its length in bytes.
+/// What the board prints, at the start of `out`: the plain text of version 1, or the refusal's line; its length in bytes.
 pub fn board_output(sheet: &[u8], out: &mut [u8; BOARD_ROOM]) -> usize {
     c::board_output(sheet, out)
 }

@@ -1,7 +1,7 @@
 //! The example sheets through the wrapper: answers, refusals, and what becomes of the lent memory.
 use skriduhol::{
-    atom_list, board_output, compare, datatype_list, label_count, plain_text, strict_text, Refusal,
-    BOARD_ROOM, LONGEST_SHEET,
+    atom_list, board_output, compare, datatype_list, handout, handout_datatypes, label_count,
+    plain_text, strict_text, Refusal, Style, BOARD_ROOM, LONGEST_SHEET,
 };
 
 const SMALLEST: &[u8] = include_bytes!("../../sheets/smallest.sheet");
@@ -10,6 +10,7 @@ const LABELLED: &[u8] = include_bytes!("../../sheets/labelled_function.sheet");
 const CASE_AS_AN_ARGUMENT: &[u8] = include_bytes!("../../sheets/case_as_an_argument.sheet");
 const CASE_WITH_AN_APPLIED_BRANCH: &[u8] =
     include_bytes!("../../sheets/case_with_an_applied_branch.sheet");
+const SECOND_HANDOUT: &[u8] = include_bytes!("../../sheets/second_handout.sheet");
 const REFUSED: &[u8] = include_bytes!("../../sheets/refused.sheet");
 
 const SECOND_TEXT: &str = "atom A;\natom B;\n\n\nfn u => inl u";
@@ -73,6 +74,62 @@ fn strict_text_tells_apart_what_plain_text_does_not() {
         strict_text_of(CASE_WITH_AN_APPLIED_BRANCH),
         Ok("\n\n\nf (case h of inl x => a, inr y => b c)".into())
     );
+}
+
+fn handout_of(sheet: &[u8], version: usize, style: Style) -> Result<String, Refusal> {
+    let mut out = vec![UNTOUCHED; BOARD_ROOM];
+    let length = handout(sheet, version, style, &mut out)?;
+    out.truncate(length);
+    Ok(String::from_utf8(out).expect("a text is UTF-8"))
+}
+
+fn datatypes_of(sheet: &[u8], version: usize) -> Result<Vec<u16>, Refusal> {
+    let mut out = vec![7; 64];
+    let length = handout_datatypes(sheet, version, &mut out)?;
+    out.truncate(length);
+    Ok(out)
+}
+
+#[test]
+fn the_versions_of_the_handout() {
+    let term = "fn v => (fn x: T => sorry: ∀y:U. ∃z:T. P(y, z)) a";
+    let bracketed = "fn v => (fn x: T => (sorry: ∀y:U. ∃z:T. P(y, z))) a";
+    let first = "atom P(2);\ndatatype T;\ndatatype V;\ndatatype U;\n\n";
+    let second = "datatype U;\ndatatype T;\ndatatype V;\natom P(2);\n\n";
+    for (version, heading) in [(1, first), (2, second)] {
+        let text = |style| handout_of(SECOND_HANDOUT, version, style);
+        assert_eq!(text(Style::Plain), Ok(format!("{heading}{term}")));
+        assert_eq!(text(Style::Strict), Ok(format!("{heading}{bracketed}")));
+    }
+    assert_eq!(text_of(SECOND_HANDOUT), Ok(format!("{first}{term}")));
+    assert_eq!(
+        strict_text_of(SECOND_HANDOUT),
+        Ok(format!("{first}{bracketed}"))
+    );
+    assert_eq!(datatypes_of(SECOND_HANDOUT, 1), Ok(vec![5]));
+    assert_eq!(datatypes_of(SECOND_HANDOUT, 2), Ok(vec![3, 5, 5]));
+    assert_eq!(
+        handout_of(REFUSED, 2, Style::Plain),
+        refusal_of_step(14, 1, 3)
+    );
+    assert_eq!(
+        handout(SECOND, 2, Style::Plain, &mut [0; 30]),
+        refusal(16, 0)
+    );
+}
+
+#[test]
+fn a_number_that_is_no_version_is_refused_first() {
+    for version in [0, 3, 257, 65_537, (1 << 32) + 1, usize::MAX] {
+        for sheet in [SECOND_HANDOUT, SMALLEST, REFUSED, &[]] {
+            for style in [Style::Plain, Style::Strict] {
+                let mut out = [UNTOUCHED; 8];
+                assert_eq!(handout(sheet, version, style, &mut out), refusal(21, 0));
+                assert_eq!(out, [UNTOUCHED; 8]);
+            }
+            assert_eq!(handout_datatypes(sheet, version, &mut []), refusal(21, 0));
+        }
+    }
 }
 
 #[test]
