@@ -1,6 +1,6 @@
 //! Skriduhol through the wrapper in examples/rust.
 use oracle::answer::{Operation, Question};
-use skriduhol::Refusal;
+use skriduhol::{Refusal, Style};
 
 /// The memory that is lent for answers.
 pub struct Lent {
@@ -28,10 +28,14 @@ pub fn ask(question: Question, sheet: &[u8], lent: &mut Lent) -> Result<usize, R
             let board = lent.bytes.first_chunk_mut().expect("the board's room is lent");
             Ok(skriduhol::board_output(sheet, board))
         }
+        Question::HandoutPlain(version) => skriduhol::handout(sheet, version, Style::Plain, &mut lent.bytes),
+        Question::HandoutStrict(version) => skriduhol::handout(sheet, version, Style::Strict, &mut lent.bytes),
+        Question::HandoutDatatypes(version) => skriduhol::handout_datatypes(sheet, version, &mut lent.numbers),
     }
 }
 
-/// The question of each operation on a sheet of so many steps. The comparison is of the first step with the last.
+/// The question of each operation on a sheet of so many steps. The comparison is of the first step with the last, and the
+/// handout is version 2.
 pub fn question(operation: Operation, steps: usize) -> Question {
     match operation {
         Operation::PlainText => Question::PlainText,
@@ -41,5 +45,8 @@ pub fn question(operation: Operation, steps: usize) -> Question {
         Operation::LabelCount => Question::LabelCount,
         Operation::Comparison => Question::Comparison(0, steps.max(1) - 1),
         Operation::BoardOutput => Question::BoardOutput,
+        Operation::HandoutPlain => Question::HandoutPlain(2),
+        Operation::HandoutStrict => Question::HandoutStrict(2),
+        Operation::HandoutDatatypes => Question::HandoutDatatypes(2),
     }
 }

@@ -1,4 +1,5 @@
 //! Times the Rust and Skriduhol on the same sheets, and measures Skriduhol's stack. docs/PERFORMANCE.md says how.
+mod handouts;
 mod library;
 mod lines;
 mod operations;
@@ -8,6 +9,7 @@ mod stack;
 mod texts;
 mod timing;
 
+use handouts::handouts;
 use library::{ask, question, Lent};
 use lines::lines;
 use operations::operations;
@@ -51,7 +53,7 @@ const MANY_LABELS: usize = 500;
 /// Prints a table, and gives the figure that is required of it, if there is one.
 type Section = fn(&Plan, &mut Lent) -> Option<Required>;
 
-const SECTIONS: [(&str, Section); 6] = [
+const SECTIONS: [(&str, Section); 7] = [
     ("sound", |plan, lent| Some(sound_sheets(plan, lent))),
     ("worst", |plan, lent| Some(worst_sheets(plan, lent))),
     ("growth", |plan, lent| Some(growth(plan, lent))),
@@ -65,10 +67,15 @@ const SECTIONS: [(&str, Section); 6] = [
         lines(&plan.effort, &sheets::with_numbers(), lent);
         None
     }),
+    ("handouts", |plan, lent| {
+        println!("## The versions of the handout\n");
+        handouts(&plan.effort, &sheets::quantified(), lent);
+        None
+    }),
 ];
 
 fn usage() -> ! {
-    eprintln!("usage: bench/run short|full [sound|worst|growth|stack|operations|lines]...");
+    eprintln!("usage: bench/run short|full [sound|worst|growth|stack|operations|lines|handouts]...");
     exit(2)
 }
 

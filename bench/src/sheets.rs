@@ -59,6 +59,16 @@ fn declaring(counts: usize) -> Vec<u8> {
     Plain { names, props, steps: vec![step(rule::TRUE_INTRO, 0, &[], 1)], goal: 0 }.bytes()
 }
 
+/// One proposition of some 800 quantifiers as the label of more and more functions.
+pub fn quantified() -> Vec<Named> {
+    let label = conjunction(&vec![forall(1, 2, atom(0)); CODE], CODE - 2);
+    let names = [b"A", b"x", b"T"].map(|name| name.to_vec()).to_vec();
+    let sheet = |labels| labelled(label.clone(), names.clone(), labels).bytes();
+    [1, 4, 16, 64, 256, 1008]
+        .map(|labels| (format!("819 quantifiers in a label, {labels} times"), sheet(labels)))
+        .to_vec()
+}
+
 /// No byte at all, which is refused with a line, and sheets with and without declarations that have a count.
 pub fn with_numbers() -> Vec<Named> {
     let named = |what: &str, bytes| (what.to_string(), bytes);
