@@ -8,3 +8,4 @@ pub mod Forms
 pub mod Depth
 pub mod Whole
 pub mod Reading
+pub mod Shapes

@@ -2,3 +2,4 @@
 pub mod Scan
 pub mod Head
 pub mod PropAt
+pub mod Shape

@@ -1,6 +1,6 @@
 // A proposition's prefix code: where it ends, whether it is one, and whether it nests too deep.
 ghost use mathlib.Core.Path.{_≡_};
-ghost use Prim.Native.Nat.{_≤_, _<_};
+ghost use Prim.Native.Nat.{ℕ, _≤_, _<_};
 ghost use mathlib.Core.Bool.{false, not};
 ghost use mathlib.Core.Option.{Option·getD};
 ghost use lib.ListN.{length};
@@ -10,6 +10,8 @@ ghost use Rattle.definitions.specs.Code.{decode};
 ghost use Rattle.definitions.specs.Admission.{isNone};
 ghost use Rattle.prefix_code.specs.Scan.{Ends, Scanned, parameterCoding, parametersCoding, shallowCoding};
 ghost use Rattle.prefix_code.specs.Head.{headCoding, partsAfter};
+ghost use Rattle.prefix_code.specs.PropAt.{Present};
+ghost use Rattle.prefix_code.specs.Shape.{SomeProposition, ShapeOf};
 
 // An atom has at most so many parameters.
 pub const PARAMETER_LIMIT: u8 = 8;
@@ -165,4 +167,60 @@ pub fn is_deep(code: &[u8], names: usize, limit: usize) -> bool
         return false;
     }
     code.len() < shallow_end(code, 0, names, limit)
+}
+
+// What the proposition at a position is: its byte in front, the numbers that stand behind it, and where its first part or its
+// parameters begin.
+pub enum Shape {
+    True,
+    False,
+    Binary {
+        connective: u8,
+        left: usize,
+    },
+    Atom {
+        name: usize,
+        count: u8,
+        parameters: usize,
+    },
+    Quantified {
+        quantifier: u8,
+        object: usize,
+        datatype: usize,
+        body: usize,
+    },
+}
+
+// The shape of the proposition at `at`.
+pub fn shape_at(code: &[u8], at: usize) -> Shape
+    requires { ⌜ SomeProposition (now code) at ⌝ }
+    ensures { λ r. ⌜ ((names : ℕ) → Present names (now (code .entry)) at → ShapeOf names (now (code .entry)) at r) ⌝ }
+{
+    let head = code[at];
+    if head == 0 {
+        return Shape::True;
+    }
+    if head == 1 {
+        return Shape::False;
+    }
+    if head < 5 {
+        return Shape::Binary {
+            connective: head,
+            left: at + 1,
+        };
+    }
+    let name = number::number_at(code, at + 1);
+    if head == 5 {
+        return Shape::Atom {
+            name,
+            count: code[at + 3],
+            parameters: at + 4,
+        };
+    }
+    Shape::Quantified {
+        quantifier: head,
+        object: name,
+        datatype: number::number_at(code, at + 3),
+        body: at + 5,
+    }
 }
