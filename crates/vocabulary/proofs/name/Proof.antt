@@ -1,0 +1,23 @@
+-- The pair of the number marks the name.
+use Rattle.vocabulary.specs.Vocabulary.{nameIn}
+use borrow.Author.Needs.{needs}
+use Rattle.vocabulary.proofs.name.Statement.{statement}
+use Rattle.vocabulary.proofs.name.Tie as tie
+
+pairs-of-requires : tie.Need-pairs-of-requires
+pairs-of-requires c κs = search needs
+
+text-of-requires : tie.Need-text-of-requires
+text-of-requires c κs = search needs
+
+marked-bytes-requires : tie.Need-marked-bytes-requires
+marked-bytes-requires c κs =
+    let marks = c .before .before .before .pre .marks in
+    rw (c .before .pairs-of .ensures, c .text-of .ensures) (marks .present, marks .ends)
+
+returns : tie.Need-returns
+unfolding nameIn
+returns c = rw (c .marked-bytes .ensures, c .before .before .pairs-of .ensures, c .before .text-of .ensures)
+
+pub name-spec : {M : Type 1} → statement M
+name-spec = tie.close (tie.spec pairs-of-requires text-of-requires marked-bytes-requires returns)

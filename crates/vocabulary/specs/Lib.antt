@@ -1,0 +1,2 @@
+-- What a vocabulary says of a memory.
+pub mod Vocabulary
