@@ -9,3 +9,4 @@ pub mod Stages
 pub mod Order
 pub mod Given
 pub mod Admitted
+pub mod NamesAndCode

@@ -18,26 +18,14 @@ pub record Part (s : List ℕ) (start end : ℕ) (bytes : List ℕ) : Type 0 whe
 part : (s : List ℕ) (start size : ℕ) → start + size ≤ length s → Part s start (start + size) (take size (drop start s))
 part s start size h = record { within = omega arith; are = rw add-sub-cancel-left }
 
-module _ {s : List ℕ} {h : Sheet} (has : HasHeader s h) {l : Layout} (laid : (t : List ℕ) → h ≡ headerOf t → l ≡ layoutOf t) where
-  pub name-pairs-part : Part s 12 (l .«proposition_pairs») (namePairs s)
-  unfolding layoutOf namePairs headerSize namePairsStart propositionPairsStart stepsStart textStart codeStart sheetLength
-  name-pairs-part = rw (laid s (has .header)) (part s _ _ (omega (arith, has .whole)))
-
+module _ {s : List ℕ} {h : Sheet} (has : HasHeader s h) {l : Layout} (laid : l ≡ layoutOf h) where
   pub proposition-pairs-part : Part s (l .«proposition_pairs») (l .steps) (propositionPairs s)
-  unfolding layoutOf propositionPairs stepsStart textStart codeStart sheetLength
-  proposition-pairs-part = rw (laid s (has .header)) (part s _ _ (omega (arith, has .whole)))
+  unfolding layoutOf headerOf propositionPairs namePairsStart propositionPairsStart stepsStart textStart codeStart sheetLength
+  proposition-pairs-part = rw (laid, has .header) (part s _ _ (omega (arith, has .whole)))
 
   pub step-records-part : Part s (l .steps) (l .text) (stepRecords s)
-  unfolding layoutOf stepRecords textStart codeStart sheetLength
-  step-records-part = rw (laid s (has .header)) (part s _ _ (omega (arith, has .whole)))
-
-  pub text-bytes-part : Part s (l .text) (l .code) (textBytes s)
-  unfolding layoutOf textBytes codeStart sheetLength
-  text-bytes-part = rw (laid s (has .header)) (part s _ _ (omega (arith, has .whole)))
-
-  pub code-bytes-part : Part s (l .code) (l .end) (codeBytes s)
-  unfolding layoutOf codeBytes sheetLength
-  code-bytes-part = rw (laid s (has .header)) (part s _ _ (omega (arith, has .whole)))
+  unfolding layoutOf headerOf stepRecords namePairsStart propositionPairsStart stepsStart textStart codeStart sheetLength
+  step-records-part = rw (laid, has .header) (part s _ _ (omega (arith, has .whole)))
 
 -- how many bytes each part has
 pub record Lengths (s : List ℕ) : Type 0 where

@@ -1,10 +1,11 @@
 -- The header of a sheet's bytes, and where the parts lie, as the program holds them.
-use Prim.Native.Nat.{ℕ, _≤_, _<_}
+use Prim.Native.Nat.{ℕ, _+_, _*_, _≤_, _<_}
 use mathlib.Core.Path.{_≡_}
 use mathlib.Core.List.{List}
 use lib.ListN.{length}
 use Rattle.definitions.specs.Sheet as sheet
-use Rattle.definitions.specs.Sheet.{textLimit, nameLimit, codeLimit, propositionLimit, stepLimit}
+use Rattle.definitions.specs.Sheet.{headerSize, pairSize, stepSize, textLimit, nameLimit, codeLimit, propositionLimit, stepLimit}
+use Rattle.vocabulary.specs.declared.Vocabulary.{Vocabulary}
 use Rattle.sheet.specs.declared.header.Sheet.{Sheet}
 use Rattle.sheet.specs.declared.header.Layout.{Layout}
 
@@ -19,14 +20,31 @@ headerOf s =
       goal = sheet.goal s;
     }
 
-unfoldable pub layoutOf : List ℕ → Layout
-layoutOf s =
+-- where the parts lie of a sheet with this header
+unfoldable pub layoutOf : Sheet → Layout
+layoutOf h =
+    let proposition-pairs = headerSize + pairSize * h .names in
+    let steps = proposition-pairs + pairSize * h .propositions in
+    let text = steps + stepSize * h .steps in
+    let code = text + h .«text_length» in
     record {
-      «proposition_pairs» = sheet.propositionPairsStart s;
-      steps = sheet.stepsStart s;
-      text = sheet.textStart s;
-      code = sheet.codeStart s;
-      end = sheet.sheetLength s;
+      «proposition_pairs» = proposition-pairs;
+      steps = steps;
+      text = text;
+      code = code;
+      end = code + h .«code_length»;
+    }
+
+-- where its names and its code lie
+unfoldable pub vocabularyOf : Sheet → Vocabulary
+vocabularyOf h =
+    record {
+      «name_count» = h .names;
+      pairs = headerSize;
+      text = layoutOf h .text;
+      «text_length» = h .«text_length»;
+      code = layoutOf h .code;
+      «code_length» = h .«code_length»;
     }
 
 -- each header number lies in its range

@@ -135,7 +135,7 @@ impl Sheet {
     // Where the parts of a sheet with this header lie.
     pub fn layout(self) -> Layout
         requires { ⌜ InRange self ⌝ }
-        ensures { λ r. ⌜ ((s : List ℕ) → self ≡ headerOf s → r ≡ layoutOf s) ⌝ }
+        ensures { λ r. ⌜ r ≡ layoutOf self ⌝ }
     {
         let proposition_pairs = Self::HEADER_SIZE + Self::PAIR_SIZE * self.names;
         let steps = proposition_pairs + Self::PAIR_SIZE * self.propositions;

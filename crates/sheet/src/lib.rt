@@ -16,6 +16,7 @@ pub use parts::name_pairs;
 pub use parts::proposition_pairs;
 pub use parts::step_records;
 pub use parts::text_bytes;
+pub use parts::vocabulary;
 use steps::fill_sizes;
 use steps::first_bad_step;
 use steps::first_deep_tree;

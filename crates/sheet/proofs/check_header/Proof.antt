@@ -4,7 +4,7 @@ use mathlib.Core.Bool.{not}
 use borrow.Author.Needs.{needs}
 use borrow.Author.Tests.{eq-eqb, ne-eqb}
 use Rattle.definitions.specs.Outcome.{accepted}
-use Rattle.definitions.specs.Sheet.{headerOutOfRange, sheetLength}
+use Rattle.definitions.specs.Sheet.{headerOutOfRange, namePairsStart, propositionPairsStart, stepsStart, textStart, codeStart, sheetLength}
 use Rattle.sheet.specs.declared.header.Layout.{Layout}
 use Rattle.sheet.specs.declared.Checked.the-variants.{Accepted}
 use Rattle.sheet.specs.Header.{headerOf, layoutOf}
@@ -36,8 +36,8 @@ range-test : (c : tie.After-out-of-range) → headerOutOfRange (start (read-befo
 range-test c = sym (c .out-of-range .ensures _ (is-header (read-before c)))
 
 laid-out : (c : tie.After-layout) → c .layout .result .end ≡ sheetLength (start (read-before (tested-before c)) .args .s .now)
-unfolding layoutOf
-laid-out c = ap (λ (l : Layout). l .end) (c .layout .ensures _ (is-header (read-before (tested-before c))))
+unfolding layoutOf headerOf namePairsStart propositionPairsStart stepsStart textStart codeStart sheetLength
+laid-out c = ap (λ (l : Layout). l .end) (c .layout .ensures ∙ ap layoutOf (is-header (read-before (tested-before c))))
 
 header-requires : tie.Need-header-requires
 header-requires c κs = search needs

@@ -1,18 +1,17 @@
--- The part lies where the layout says.
-use mathlib.Core.Path.{_∙_}
-use Rattle.sheet.proofs.Slices.{code-bytes-part}
+-- The part lies where the vocabulary says.
+use Rattle.sheet.proofs.NamesAndCode.{code-is, within}
 use borrow.Author.Needs.{needs}
 use Rattle.sheet.proofs.parts.code_bytes.Statement.{statement}
 use Rattle.sheet.proofs.parts.code_bytes.Tie as tie
 
-layout-requires : tie.Need-layout-requires
-layout-requires c κs = search needs
+vocabulary-requires : tie.Need-vocabulary-requires
+vocabulary-requires c κs = search needs
 
-between-requires : tie.Need-between-requires
-between-requires c κs = code-bytes-part (c .before .before .pre) (c .layout .ensures) .within
+code-of-requires : tie.Need-code-of-requires
+code-of-requires c κs = rw (c .vocabulary .ensures) (within (c .before .before .pre))
 
 returns : tie.Need-returns
-returns c = c .between .ensures ∙ code-bytes-part (c .before .before .before .pre) (c .before .layout .ensures) .are
+returns c = rw (c .code-of .ensures, c .before .vocabulary .ensures) (code-is (c .before .before .before .pre))
 
 pub code-bytes-spec : {M : Type 1} → statement M
-code-bytes-spec = tie.close (tie.spec layout-requires between-requires returns)
+code-bytes-spec = tie.close (tie.spec vocabulary-requires code-of-requires returns)

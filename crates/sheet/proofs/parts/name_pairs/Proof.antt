@@ -1,18 +1,17 @@
--- The part lies where the layout says.
-use mathlib.Core.Path.{_∙_}
-use Rattle.sheet.proofs.Slices.{name-pairs-part}
+-- The part lies where the vocabulary says.
+use Rattle.sheet.proofs.NamesAndCode.{pairs-are, within}
 use borrow.Author.Needs.{needs}
 use Rattle.sheet.proofs.parts.name_pairs.Statement.{statement}
 use Rattle.sheet.proofs.parts.name_pairs.Tie as tie
 
-layout-requires : tie.Need-layout-requires
-layout-requires c κs = search needs
+vocabulary-requires : tie.Need-vocabulary-requires
+vocabulary-requires c κs = search needs
 
-between-requires : tie.Need-between-requires
-between-requires c κs = name-pairs-part (c .before .before .pre) (c .layout .ensures) .within
+pairs-of-requires : tie.Need-pairs-of-requires
+pairs-of-requires c κs = rw (c .vocabulary .ensures) (within (c .before .before .pre))
 
 returns : tie.Need-returns
-returns c = c .between .ensures ∙ name-pairs-part (c .before .before .before .pre) (c .before .layout .ensures) .are
+returns c = rw (c .pairs-of .ensures, c .before .vocabulary .ensures) (pairs-are (c .before .before .before .pre))
 
 pub name-pairs-spec : {M : Type 1} → statement M
-name-pairs-spec = tie.close (tie.spec layout-requires between-requires returns)
+name-pairs-spec = tie.close (tie.spec vocabulary-requires pairs-of-requires returns)

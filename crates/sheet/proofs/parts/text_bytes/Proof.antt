@@ -1,18 +1,17 @@
--- The part lies where the layout says.
-use mathlib.Core.Path.{_∙_}
-use Rattle.sheet.proofs.Slices.{text-bytes-part}
+-- The part lies where the vocabulary says.
+use Rattle.sheet.proofs.NamesAndCode.{text-is, within}
 use borrow.Author.Needs.{needs}
 use Rattle.sheet.proofs.parts.text_bytes.Statement.{statement}
 use Rattle.sheet.proofs.parts.text_bytes.Tie as tie
 
-layout-requires : tie.Need-layout-requires
-layout-requires c κs = search needs
+vocabulary-requires : tie.Need-vocabulary-requires
+vocabulary-requires c κs = search needs
 
-between-requires : tie.Need-between-requires
-between-requires c κs = text-bytes-part (c .before .before .pre) (c .layout .ensures) .within
+text-of-requires : tie.Need-text-of-requires
+text-of-requires c κs = rw (c .vocabulary .ensures) (within (c .before .before .pre))
 
 returns : tie.Need-returns
-returns c = c .between .ensures ∙ text-bytes-part (c .before .before .before .pre) (c .before .layout .ensures) .are
+returns c = rw (c .text-of .ensures, c .before .vocabulary .ensures) (text-is (c .before .before .before .pre))
 
 pub text-bytes-spec : {M : Type 1} → statement M
-text-bytes-spec = tie.close (tie.spec layout-requires between-requires returns)
+text-bytes-spec = tie.close (tie.spec vocabulary-requires text-of-requires returns)

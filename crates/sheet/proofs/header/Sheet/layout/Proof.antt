@@ -1,7 +1,8 @@
 -- The limits keep each sum small, and each is the definition's own.
+use mathlib.Core.Path.{refl}
 use native.Mathlib.Omega.{arith}
-use Rattle.definitions.specs.Sheet.{textLimit, nameLimit, codeLimit, propositionLimit, stepLimit, propositionPairsStart, namePairsStart, stepsStart, textStart, codeStart, sheetLength, headerSize, pairSize, stepSize}
-use Rattle.sheet.specs.Header.{headerOf, layoutOf}
+use Rattle.definitions.specs.Sheet.{textLimit, nameLimit, codeLimit, propositionLimit, stepLimit, headerSize, pairSize, stepSize}
+use Rattle.sheet.specs.Header.{layoutOf}
 use Rattle.sheet.proofs.header.Sheet.layout.Statement.{statement}
 use Rattle.sheet.proofs.header.Sheet.layout.Tie as tie
 
@@ -38,8 +39,8 @@ unfolding textLimit nameLimit codeLimit propositionLimit stepLimit
 add-t6 c = omega arith
 
 returns : tie.Need-returns
-unfolding layoutOf headerOf propositionPairsStart namePairsStart stepsStart textStart codeStart sheetLength headerSize pairSize stepSize
-returns c s e = rw e
+unfolding layoutOf headerSize pairSize stepSize
+returns c = refl
 
 pub layout-spec : {M : Type 1} → statement M
 layout-spec =
