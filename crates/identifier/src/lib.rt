@@ -6,13 +6,13 @@ use classes::LETTER;
 use classes::OTHER;
 use classes::class;
 use definitions::Found;
-use number::number_at;
+use number::marked_bytes;
+pub use number::pair_length;
+pub use number::pair_offset;
 ghost use mathlib.Core.Path.{_≡_};
-ghost use Prim.Native.Nat.{_+_, _*_, _≤_};
-ghost use lib.ListN.{length};
 ghost use Rattle.definitions.specs.Name.{isName, eqName};
 ghost use Rattle.definitions.specs.Outcome.{lowest, foundAt};
-ghost use Rattle.definitions.specs.Sheet.{pairSize, pairOffset, pairLength, pairEnd, marked};
+ghost use Rattle.definitions.specs.Sheet.{marked};
 ghost use Rattle.number.specs.Pairs.{NameWithin};
 ghost use Rattle.identifier.specs.Pairs.{PairsWithin, sameBytes};
 
@@ -52,35 +52,6 @@ pub fn same_name(a: &[u8], b: &[u8]) -> bool
         i += 1;
     }
     true
-}
-
-// The bytes of a pair: its offset and its length, a number each.
-const PAIR_SIZE: usize = 4;
-
-// Where the bytes that pair i marks begin.
-pub fn pair_offset(pairs: &[u8], i: usize) -> usize
-    requires { ⌜ pairSize * (i + 1) ≤ length (now pairs) ⌝ }
-    ensures { λ r. ⌜ r ≡ pairOffset (now (pairs .entry)) i ⌝ }
-{
-    number_at(pairs, PAIR_SIZE * i)
-}
-
-// How many bytes pair i marks.
-pub fn pair_length(pairs: &[u8], i: usize) -> usize
-    requires { ⌜ pairSize * (i + 1) ≤ length (now pairs) ⌝ }
-    ensures { λ r. ⌜ r ≡ pairLength (now (pairs .entry)) i ⌝ }
-{
-    number_at(pairs, PAIR_SIZE * i + 2)
-}
-
-// The bytes that the pair of a number marks.
-pub fn marked_bytes<'a>(pairs: &[u8], bytes: &'a [u8], i: usize) -> &'a [u8]
-    requires { ⌜ (pairSize * (i + 1) ≤ length (now pairs)) × (pairEnd (now pairs) i ≤ length (now bytes)) ⌝ }
-    ensures { λ r. ⌜ now r ≡ marked (now (pairs .entry)) (now (bytes .entry)) i ⌝ }
-{
-    let offset = pair_offset(pairs, i);
-    let end = offset + pair_length(pairs, i);
-    &bytes[offset..end]
 }
 
 // Whether the names of two numbers have the same bytes.

@@ -1,7 +1,7 @@
 // Writing into lent memory. Each function returns the position after what it writes, or a position past the end where that does
 // not fit. A dry run, with `write` false, returns a position by the same rule and leaves the memory as it is.
 use definitions::Refusal;
-use number::number_at;
+use number::marked_bytes;
 ghost use mathlib.Core.List.{[], _∷_};
 ghost use mathlib.Core.Path.{_≡_};
 ghost use Prim.Native.Nat.{_+_, _*_, _-_, _≤_, min};
@@ -10,9 +10,6 @@ ghost use Rattle.definitions.specs.Text.{decimal};
 ghost use Rattle.definitions.specs.Sheet.{pairSize, pairEnd, marked};
 ghost use Rattle.output.specs.LeastDigits.{LeastDigits};
 ghost use Rattle.output.specs.Wrote.{puts, Wrote};
-
-// The bytes of a pair of offset and length.
-const PAIR_SIZE: usize = 4;
 
 // What an operation answers that fills lent memory: the length of its answer, which stands at the start, or a refusal.
 pub enum Written {
@@ -131,7 +128,5 @@ pub fn put_name(
     requires { ⌜ (pairSize * (i + 1) ≤ length (now pairs)) × (pairEnd (now pairs) i ≤ length (now text)) ⌝ }
     ensures { λ r. ⌜ Wrote (marked (now (pairs .entry)) (now (text .entry)) i) write (now (out .entry)) to (now (out .exit)) r ⌝ }
 {
-    let start = number_at(pairs, PAIR_SIZE * i);
-    let end = start + number_at(pairs, PAIR_SIZE * i + 2);
-    put_all(out, to, &text[start..end], write)
+    put_all(out, to, marked_bytes(pairs, text, i), write)
 }

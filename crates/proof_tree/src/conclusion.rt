@@ -3,6 +3,7 @@ use crate::step::refusal;
 use crate::table::Ending;
 use definitions::Refusal;
 use number::number_at;
+use number::pair_offset;
 use proof_term::DATATYPE;
 use proof_term::NO_LABEL;
 use proof_term::PROPOSITION;
@@ -16,9 +17,6 @@ ghost use Rattle.steps.specs.Records.{HasStep};
 ghost use Rattle.proof_tree.specs.Table.{endingOf};
 ghost use Rattle.proof_tree.specs.Opening.{conclusionAt, headAt, Readable};
 ghost use Rattle.proof_tree.specs.Labelling.{Means, parameterLabelOf, Annotated};
-
-// The bytes of a pair of offset and length.
-const PAIR_SIZE: usize = 4;
 
 // The bytes in front of an implication's code and of a ∀'s.
 const IMPL: u8 = 4;
@@ -53,7 +51,7 @@ pub fn conclusion_of(pairs: &[u8], records: &[u8], k: usize) -> Conclusion
         return Conclusion::TypeJudgement;
     }
     let proposition = step_number(records, k, 12);
-    Conclusion::PropIsTrue(number_at(pairs, PAIR_SIZE * proposition))
+    Conclusion::PropIsTrue(pair_offset(pairs, proposition))
 }
 
 pub fn head_at(code: &[u8], at: usize) -> Head

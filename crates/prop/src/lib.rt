@@ -1,5 +1,6 @@
 // Propositions, after the Rust's prop.rs: where the code of each part ends, how strongly a proposition binds, and its text.
 use number::number_at;
+use number::pair_offset;
 use output::put;
 use output::put_all;
 use output::put_name;
@@ -20,9 +21,6 @@ ghost use Rattle.output.specs.Wrote.{Wrote};
 ghost use Rattle.prefix_code.specs.PropAt.{propAt};
 ghost use Rattle.prop.specs.Ends.{Known, Fillable, Filled, AllFillable};
 ghost use Rattle.prop.specs.Printing.{namedProp, AtomPrintable, Printable, Legible, sign};
-
-// The bytes of a pair of offset and length.
-const PAIR_SIZE: usize = 4;
 
 // Head bytes.
 const TRUE: u8 = 0;
@@ -66,7 +64,7 @@ pub fn fill_all_ends(pairs: &[u8], code: &[u8], count: usize, names: usize, ends
 {
     let mut i = 0;
     while i < count {
-        fill_ends(code, number_at(pairs, PAIR_SIZE * i), names, ends);
+        fill_ends(code, pair_offset(pairs, i), names, ends);
         i += 1;
     }
 }

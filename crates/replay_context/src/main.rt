@@ -6,7 +6,10 @@ use identifier_context::Entry;
 use identifier_context::Inserted;
 use identifier_context::Removed;
 use libc::STDOUT_FILENO;
+use number::PAIR_SIZE;
 use number::number_at;
+use number::pair_length;
+use number::pair_offset;
 ghost use mathlib.Core.Path.{_≡_};
 ghost use mathlib.Core.Bool.{Bool};
 ghost use Prim.Native.Nat.{_<_, _≤_};
@@ -28,9 +31,6 @@ const FIRST_VISIBLE: u16 = 3;
 const NEXT_VISIBLE: u16 = 4;
 
 const GET: u16 = 5;
-
-// The bytes of a name's pair.
-const PAIR_SIZE: usize = 4;
 
 // What an answer says beside the length: no entry, or one. Another number is a refusal's.
 const NOTHING: u16 = 0;
@@ -167,8 +167,8 @@ fn is_name(pairs: &[u8], text: &[u8], name: usize) -> bool
     if pairs.len() / PAIR_SIZE <= name {
         return false;
     }
-    let offset = number_at(pairs, PAIR_SIZE * name);
-    let length = number_at(pairs, PAIR_SIZE * name + 2);
+    let offset = pair_offset(pairs, name);
+    let length = pair_length(pairs, name);
     if text.len() < offset + length {
         return false;
     }

@@ -17,7 +17,6 @@ use Rattle.definitions.specs.Tree.{ProofTree, height, treesBefore, treeIn, prop
 use Rattle.definitions.specs.Admission.{isNone, badName, badCode, deepProposition, tooFewTrees, treesLeft, deepTree, admitted}
 use Rattle.definitions.proofs.PrefixCode.{Bytes}
 use Rattle.identifier.specs.Pairs.{PairsWithin}
-use Rattle.identifier.proofs.Within.{last-within}
 use Rattle.prefix_code.proofs.Reading.{part-bytes}
 use Rattle.steps.specs.Records.{HasSteps}
 use Rattle.steps.specs.Tables.{SizeTable, passed}
@@ -32,7 +31,7 @@ use Rattle.sheet.proofs.Outcomes.{each-accepted, test-failed, none-lowe
 use Rattle.definitions.proofs.Lowest.{all-fail}
 use Rattle.number.specs.Pairs.{NameWithin}
 use Rattle.sheet.proofs.Ranges.{in-range}
-use Rattle.sheet.proofs.Given.{good-pairs, good-name-pair, good-proposition-pair}
+use Rattle.sheet.proofs.Given.{good-pairs, pair-within, good-name-pair, good-proposition-pair}
 use Rattle.sheet.proofs.Stages.{stage-accepted, stage-refuses}
 use Rattle.sheet.proofs.Order.{fromNames, fromPropositions, fromSteps, fromTrees, in-stages}
 use Rattle.sheet.proofs.Slices.{lengths}
@@ -199,7 +198,7 @@ module _ {s : List ℕ} (a : Admitted s) where
 
   -- the name of one of them
   pub name-within : (i : ℕ) → i < names s → NameWithin (namePairs s) (textBytes s) i
-  name-within i h = last-within (names-within h)
+  name-within i h = pair-within has-names h
 
 pub its-header : {s : List ℕ} {h : Sheet} → AcceptedSheet s h → HasHeader s h
 its-header a = rw (a .header) (has-header (a .sheet))

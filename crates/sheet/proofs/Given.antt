@@ -9,6 +9,7 @@ use lib.ListN.{length}
 use Rattle.definitions.specs.Sheet as sheet
 use Rattle.definitions.specs.Sheet.{nameLimit, propositionLimit, stepLimit, pairSize, stepSize, nameLengthLimit, textLength, codeLength, namePairs, textBytes, propositionPairs, codeBytes, stepRecords}
 use Rattle.definitions.specs.Admission.{badNamePair, badPropositionPair, badCode}
+use Rattle.number.specs.Pairs.{NameWithin}
 use Rattle.sheet.specs.declared.header.Sheet.{Sheet}
 use Rattle.sheet.specs.Header.{headerOf, InRange, HasHeader}
 use Rattle.sheet.specs.Pairs.{GoodPair, HasPairs, HasCodes}
@@ -19,6 +20,11 @@ use Rattle.sheet.proofs.Placed.{good-pair, name-pairs-alike, propositio
 pub good-pairs : {pairs bytes : List ℕ} {count size longest : ℕ} → length pairs ≡ pairSize * count → length bytes ≡ size
     → ((i : ℕ) → i < count → GoodPair pairs size longest i) → HasPairs pairs bytes count
 good-pairs p b good = record { present = omega arith; ends = λ i h. omega (arith, good i h .within) }
+
+-- so each marks a part of them
+pub pair-within : {pairs bytes : List ℕ} {count i : ℕ} → HasPairs pairs bytes count → i < count → NameWithin pairs bytes i
+unfolding pairSize
+pair-within has l = record { present = omega (arith, has .present); ends = has .ends _ l }
 
 -- 4 did not come
 pub good-name-pair : (s : List ℕ) (i : ℕ) → badNamePair (namePairs s) (textLength s) i ≡ false

@@ -61,7 +61,7 @@ impl Sheet {
     // The bytes of the header, of a pair of offset and length, and of a step.
     pub const HEADER_SIZE: usize = 12;
 
-    pub const PAIR_SIZE: usize = 4;
+    pub const PAIR_SIZE: usize = number::PAIR_SIZE;
 
     pub const STEP_SIZE: usize = steps::STEP_SIZE;
 

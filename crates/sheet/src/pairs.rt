@@ -2,9 +2,9 @@
 use crate::header::Sheet;
 use definitions::Found;
 use identifier::is_name;
-use identifier::marked_bytes;
-use identifier::pair_length;
-use identifier::pair_offset;
+use number::marked_bytes;
+use number::pair_length;
+use number::pair_offset;
 use prefix_code::is_code;
 use prefix_code::is_deep;
 ghost use mathlib.Core.Path.{_≡_};

@@ -6,7 +6,7 @@ use definitions::Refusal;
 use definitions::Style;
 use definitions::TermList;
 use definitions::Version;
-use identifier::pair_offset;
+use number::pair_offset;
 use output::Written;
 use output::put;
 use output::put_all;

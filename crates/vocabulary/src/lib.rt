@@ -1,6 +1,7 @@
 // The names and the code of propositions in one memory: those of a sheet, or of a term that was read. A function that reads names or
 // propositions takes the memory and a vocabulary; one that compares two memories takes two of each.
-use identifier::marked_bytes;
+use number::PAIR_SIZE;
+use number::marked_bytes;
 use prefix_code::Shape;
 use prefix_code::shape_at;
 ghost use mathlib.Core.Path.{_≡_};
@@ -33,7 +34,7 @@ pub fn pairs_of(bytes: &[u8], v: Vocabulary) -> &[u8]
     requires { ⌜ Within (now bytes) v ⌝ }
     ensures { λ r. ⌜ now r ≡ pairsIn (now (bytes .entry)) v ⌝ }
 {
-    part(bytes, v.pairs, 4 * v.name_count)
+    part(bytes, v.pairs, PAIR_SIZE * v.name_count)
 }
 
 // Their text.

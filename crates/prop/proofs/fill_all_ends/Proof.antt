@@ -19,19 +19,14 @@ abbrev μ-loop : tie.MeasureT-loop
 loop-holds : tie.Need-loop-holds Inv-loop μ-loop
 loop-holds c = (omega arith, refl, λ j h. absurd (omega arith))
 
-mul-number-at : tie.Need-mul-number-at Inv-loop μ-loop
+pair-offset-requires : tie.Need-pair-offset-requires Inv-loop μ-loop
 unfolding pairSize
-mul-number-at c = omega (arith, c .before .before .before .before .before .pre .marks .there)
-
-number-at-requires : tie.Need-number-at-requires Inv-loop μ-loop
-unfolding pairSize
-number-at-requires c κs = omega (arith, c .before .before .before .before .before .pre .marks .there)
+pair-offset-requires c κs = omega (arith, c .before .before .before .before .before .pre .marks .there)
 
 fill-ends-requires : tie.Need-fill-ends-requires Inv-loop μ-loop
-unfolding pairSize pairOffset
 fill-ends-requires c κs =
     let known = c .before .before .before .before .before .before .before .pre .marks in
-    rw (c .before .number-at .ensures .0) (record {
+    rw (c .before .pair-offset .ensures) (record {
       present = present-in _ _ _ _ (λ k. omega (arith, c .before .before .before .before .before .shared-slice-known2 .given k)) known (c .before .before .before .loop .i) (c .before .before .loop-test .taken);
       room = room-kept (c .before .before .before .loop .inv .1) (c .before .before .before .before .before .before .before .pre .room);
     })
@@ -43,12 +38,11 @@ loop-less : tie.Need-loop-less Inv-loop μ-loop
 loop-less c = omega arith
 
 loop-again : tie.Need-loop-again Inv-loop μ-loop
-unfolding pairSize pairOffset
 loop-again c =
     let known = c .before .before .before .before .before .before .before .before .before .before .pre .marks in (
       omega (arith, c .before .before .before .before .before .loop-test .taken),
       c .before .before .fill-ends .kept .1 .1 .1 .0 ∙ c .before .before .before .before .before .before .loop .inv .1,
-      one-more _ _ _ _ (λ k. omega (arith, c .before .before .before .before .before .before .before .before .shared-slice-known2 .given k)) known (c .before .before .before .before .before .before .loop .i) _ _ _ (c .before .before .before .before .before .loop-test .taken) (rw (c .before .before .before .before .number-at .ensures .0) at (c .before .before .fill-ends .ensures)) (c .before .before .before .before .before .before .loop .inv .2),
+      one-more _ _ _ _ (λ k. omega (arith, c .before .before .before .before .before .before .before .before .shared-slice-known2 .given k)) known (c .before .before .before .before .before .before .loop .i) _ _ _ (c .before .before .before .before .before .loop-test .taken) (rw (c .before .before .before .before .pair-offset .ensures) at (c .before .before .fill-ends .ensures)) (c .before .before .before .before .before .before .loop .inv .2),
     )
 
 same-length : tie.Need-same-length Inv-loop μ-loop
@@ -64,8 +58,7 @@ fill-all-ends-spec =
     Inv-loop
     μ-loop
     loop-holds
-    mul-number-at
-    number-at-requires
+    pair-offset-requires
     fill-ends-requires
     add-i
     loop-less

@@ -11,9 +11,7 @@ text-of-requires : tie.Need-text-of-requires
 text-of-requires c κs = search needs
 
 marked-bytes-requires : tie.Need-marked-bytes-requires
-marked-bytes-requires c κs =
-    let marks = c .before .before .before .pre .marks in
-    rw (c .before .pairs-of .ensures, c .text-of .ensures) (marks .present, marks .ends)
+marked-bytes-requires c κs = rw (c .before .pairs-of .ensures, c .text-of .ensures) (c .before .before .before .pre .marks)
 
 returns : tie.Need-returns
 unfolding nameIn

@@ -3,7 +3,7 @@ use mathlib.Core.Path.{sym, _∙_}
 use native.Mathlib.Omega.{arith}
 use borrow.Author.Needs.{needs}
 use borrow.Author.Tests.{eq-eqb, ne-eqb}
-use Rattle.definitions.specs.Sheet.{pairSize, stepSize, pairOffset}
+use Rattle.definitions.specs.Sheet.{pairSize, stepSize}
 use Rattle.proof_tree.specs.Opening.{conclusionAt}
 use Rattle.proof_tree.proofs.conclusion.conclusion_of.Statement.{statement}
 use Rattle.proof_tree.proofs.conclusion.conclusion_of.Tie as tie
@@ -20,18 +20,15 @@ step-number-requires-2 : tie.Need-step-number-requires-2
 unfolding stepSize
 step-number-requires-2 c κs = omega arith
 
-mul-number-at : tie.Need-mul-number-at
-mul-number-at c = search needs
-
-number-at-requires : tie.Need-number-at-requires
+pair-offset-requires : tie.Need-pair-offset-requires
 unfolding pairSize
-number-at-requires c κs =
+pair-offset-requires c κs =
     omega (arith, c .before .before .before .before .before .pre .1 (sym (c .before .before .step-number .ensures .0) ∙ c .before .if1 .left), c .step-number2 .ensures .0)
 
 returns-2 : tie.Need-returns-2
-unfolding conclusionAt pairOffset pairSize
+unfolding conclusionAt
 returns-2 c =
-    rw (← (c .before .before .before .step-number .ensures .0), eq-eqb _ _ (c .before .before .if1 .left), ← (c .before .step-number2 .ensures .0), c .number-at .ensures .0)
+    rw (← (c .before .before .before .step-number .ensures .0), eq-eqb _ _ (c .before .before .if1 .left), ← (c .before .step-number2 .ensures .0), c .pair-offset .ensures)
 
 pub conclusion-of-spec : {M : Type 1} → statement M
 conclusion-of-spec =
@@ -40,6 +37,5 @@ conclusion-of-spec =
     step-number-requires
     returns
     step-number-requires-2
-    mul-number-at
-    number-at-requires
+    pair-offset-requires
     returns-2)

@@ -2,10 +2,10 @@
 use Prim.Native.Nat.{_-_}
 use mathlib.Core.Bool.{Bool·not-not}
 use native.Mathlib.Omega.{arith}
-use Rattle.definitions.specs.Sheet.{pairSize}
 use Rattle.definitions.specs.Admission.{badCode}
 use Rattle.definitions.proofs.Lowest.{found-here, found-nowhere}
 use Rattle.definitions.proofs.Upward.{Passed, at-start, onward}
+use Rattle.sheet.proofs.Given.{pair-within}
 use Rattle.sheet.proofs.pairs.first_bad_code.Statement.{statement}
 use Rattle.sheet.proofs.pairs.first_bad_code.Tie as tie
 
@@ -19,10 +19,9 @@ loop-holds : tie.Need-loop-holds Inv-loop μ-loop
 loop-holds c = at-start _ _
 
 marked-bytes-requires : tie.Need-marked-bytes-requires Inv-loop μ-loop
-unfolding pairSize
 marked-bytes-requires c κs =
     let start = c .before .before .before .before in
-    (omega arith, start .pre .ends _ (c .loop-test .taken))
+    pair-within (start .pre) (c .loop-test .taken)
 
 is-code-requires : tie.Need-is-code-requires Inv-loop μ-loop
 is-code-requires c κs = tt

@@ -1,10 +1,10 @@
 -- The names are judged in their order.
 use Prim.Native.Nat.{_-_}
 use native.Mathlib.Omega.{arith}
-use Rattle.definitions.specs.Sheet.{pairSize}
 use Rattle.definitions.specs.Admission.{badName}
 use Rattle.definitions.proofs.Lowest.{found-here, found-nowhere}
 use Rattle.definitions.proofs.Upward.{Passed, at-start, onward}
+use Rattle.sheet.proofs.Given.{pair-within}
 use Rattle.sheet.proofs.pairs.first_bad_name.Statement.{statement}
 use Rattle.sheet.proofs.pairs.first_bad_name.Tie as tie
 
@@ -18,10 +18,9 @@ loop-holds : tie.Need-loop-holds Inv-loop μ-loop
 loop-holds c = at-start _ _
 
 marked-bytes-requires : tie.Need-marked-bytes-requires Inv-loop μ-loop
-unfolding pairSize
 marked-bytes-requires c κs =
     let start = c .before .before .before .before in
-    (omega arith, start .pre .ends _ (c .loop-test .taken))
+    pair-within (start .pre) (c .loop-test .taken)
 
 is-name-requires : tie.Need-is-name-requires Inv-loop μ-loop
 is-name-requires c κs = tt

@@ -1,11 +1,12 @@
 -- The propositions' nestings are judged in their order.
 use Prim.Native.Nat.{_-_}
 use native.Mathlib.Omega.{arith}
-use Rattle.definitions.specs.Sheet.{pairSize, propositionNestingLimit}
+use Rattle.definitions.specs.Sheet.{propositionNestingLimit}
 use Rattle.definitions.specs.Tree.{propIn}
 use Rattle.definitions.specs.Admission.{badCode, deepProposition}
 use Rattle.definitions.proofs.Lowest.{found-here, found-nowhere}
 use Rattle.definitions.proofs.Upward.{Passed, at-start, onward}
+use Rattle.sheet.proofs.Given.{pair-within}
 use Rattle.sheet.proofs.pairs.first_deep_proposition.Statement.{statement}
 use Rattle.sheet.proofs.pairs.first_deep_proposition.Tie as tie
 
@@ -19,10 +20,9 @@ loop-holds : tie.Need-loop-holds Inv-loop μ-loop
 loop-holds c = at-start _ _
 
 marked-bytes-requires : tie.Need-marked-bytes-requires Inv-loop μ-loop
-unfolding pairSize
 marked-bytes-requires c κs =
     let start = c .before .before .before .before in
-    (omega arith, start .pre .pairs-within .ends _ (c .loop-test .taken))
+    pair-within (start .pre .pairs-within) (c .loop-test .taken)
 
 is-deep-requires : tie.Need-is-deep-requires Inv-loop μ-loop
 unfolding badCode

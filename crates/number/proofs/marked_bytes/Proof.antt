@@ -4,8 +4,8 @@ use mathlib.Core.Path.{_≡_}
 use native.Mathlib.Omega.{arith}
 use borrow.Author.Needs.{needs}
 use Rattle.definitions.specs.Sheet.{pairEnd, marked}
-use Rattle.identifier.proofs.marked_bytes.Statement.{statement}
-use Rattle.identifier.proofs.marked_bytes.Tie as tie
+use Rattle.number.proofs.marked_bytes.Statement.{statement}
+use Rattle.number.proofs.marked_bytes.Tie as tie
 
 pair-offset-requires : tie.Need-pair-offset-requires
 pair-offset-requires c κs = search needs
@@ -15,7 +15,7 @@ pair-length-requires c κs = search needs
 
 add-end : tie.Need-add-end
 unfolding pairEnd
-add-end c = omega (arith, c .before .before .before .before .pre .1)
+add-end c = omega (arith, c .before .before .before .before .pre .ends)
 
 sub-result : tie.Need-sub-result
 sub-result c = search needs
@@ -25,7 +25,7 @@ part-result-start c = search needs
 
 part-result-end : tie.Need-part-result-end
 unfolding pairEnd
-part-result-end c = omega (arith, c .before .before .before .before .pre .1)
+part-result-end c = omega (arith, c .before .before .before .before .pre .ends)
 
 returns : tie.Need-returns
 unfolding marked
