@@ -1,3 +1,4 @@
 pub mod Records
+pub mod Labels
 pub mod Making
 pub mod Counting

@@ -9,8 +9,10 @@ use lib.Seq.{sets, sets-eq, length-take-le, take-at, drop-at, getD-append-add}
 use Rattle.definitions.specs.Prop.{Prop}
 use Rattle.definitions.specs.Term.{ProofTerm, Unit}
 use Rattle.proof_term.specs.Records.{recordSize, fieldAt, leaf, forms, recordTerm, recordTermAt, partCount, Each, termAt, partAt}
+use Rattle.proof_term.specs.Labels.{single}
 use Rattle.proof_term.specs.Making.{Pushed, Kept, Made}
 use Rattle.proof_term.proofs.Records.{part-count, form-same, fewer, frame-below, parts-same, part-below, termAt-is}
+use Rattle.proof_term.proofs.Labels.{own-labels}
 
 -- six stores in a row
 pub pushed :
@@ -83,6 +85,8 @@ module _
           ∙ formed props (partAt props after used)
           ∙ ap (λ part. recordTerm props part kind a b c d e) (parts-same props after before used below)
           ∙ form-same used (partAt props before used) (termAt props before) (part-below props before used) form a b c below-used;
+      label = λ props.
+          cc (field 0 (omega arith), field 3 (omega arith), field 4 (omega arith), own-labels single props kind a b c d e);
       kept = kept used before after below;
       beyond = beyond;
       counted = p .counted;

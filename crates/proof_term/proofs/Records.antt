@@ -9,7 +9,7 @@ use native.Mathlib.Decide.{decLt}
 use lib.ListN.{getD, take, List·getD-map}
 use lib.Seq.{getD-take, take-take}
 use borrow.Author.Tests.{lt-ltb, le-ltb}
-use Rattle.definitions.specs.Prop.{Prop}
+use Rattle.definitions.specs.Prop.{Prop, True}
 use Rattle.definitions.specs.Term.{ProofTerm, Ident, Function, OrLeft, Unit}
 use Rattle.proof_term.specs.Records.{recordSize, fieldAt, Form, leaf, unary, binary, ternary, formTerm, parameterLabel, forms, recordTerm, recordTermAt, partCount, Each, earlier, termWithin, termAt, partAt}
 
@@ -22,6 +22,16 @@ arity (ternary t) = 3
 -- the parts that a kind counts are those of its form
 pub part-count : (props : ℕ → Prop ℕ) (kind a b c d e : ℕ) → partCount kind ≡ arity (getD (forms props a b c d e) kind (leaf Unit))
 part-count props kind a b c d e = List·getD-map arity (forms props a b c d e) kind (leaf Unit)
+
+-- few enough parts that the numbers of a record hold them
+pub few-parts : (kind : ℕ) → partCount kind ≤ 3
+few-parts kind = rw (part-count (λ i. True) kind 0 0 0 0 0) (few (getD (forms (λ i. True) 0 0 0 0 0) kind (leaf Unit)))
+  where
+    few : (form : Form) → arity form ≤ 3
+    few (leaf t) = omega arith
+    few (unary t) = omega arith
+    few (binary t) = omega arith
+    few (ternary t) = omega arith
 
 -- a form looks at the terms of its own parts alone
 pub form-same :
@@ -44,7 +54,7 @@ module _ (r s : List ℕ) where
   pub fewer : (count m : ℕ) → take count r ≡ take count s → m ≤ count → take m r ≡ take m s
   fewer count m e h = sym (take-take m count r h) ∙ ap (take m) e ∙ take-take m count s h
 
-  same-field :
+  pub same-field :
       (n : ℕ) → take (recordSize * (n + 1)) r ≡ take (recordSize * (n + 1)) s → (i : ℕ) → i < recordSize → fieldAt r n i ≡ fieldAt s n i
   unfolding fieldAt
   same-field n e i h =

@@ -1,4 +1,4 @@
 pub mod Records
+pub mod Labels
 pub mod Making
-pub mod Counting
 pub mod Readable

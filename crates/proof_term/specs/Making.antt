@@ -5,8 +5,9 @@ use mathlib.Core.List.{List, [], _∷_}
 use lib.ListN.{length, take, drop}
 use lib.Seq.{sets}
 use Rattle.definitions.specs.Prop.{Prop}
-use Rattle.definitions.specs.Term.{ProofTerm}
+use Rattle.definitions.specs.Term.{ProofTerm, Unit}
 use Rattle.proof_term.specs.Records.{recordSize, termAt}
+use Rattle.proof_term.specs.Labels.{termLabels, recordLabel}
 
 -- there is room for record `used`, and the numbers of its parts fit a u16
 pub record Room (records : List ℕ) (used : ℕ) : Type 0 where
@@ -23,10 +24,11 @@ pub record Kept (used : ℕ) (before after : List ℕ) : Type 0 where
   pub numbers : take (recordSize * used) after ≡ take (recordSize * used) before
   pub terms : (props : ℕ → Prop ℕ) (n : ℕ) → n < used → termAt props after n ≡ termAt props before n
 
--- `after` is the memory `before` with record `used` made, which holds the term, over the terms that its parts had; all other
--- records are as they were
+-- `after` is the memory `before` with record `used` made, which holds the term, over the terms that its parts had, and the label that
+-- the term has over parts without labels; all other records are as they were
 pub record Made (term : (ℕ → Prop ℕ) → (ℕ → ProofTerm ℕ) → ProofTerm ℕ) (before : List ℕ) (used : ℕ) (after : List ℕ) (next : ℕ) : Type 0 where
   pub holds : (props : ℕ → Prop ℕ) → termAt props after used ≡ term props (termAt props before)
+  pub label : (props : ℕ → Prop ℕ) → recordLabel props after used ≡ termLabels (term props (λ part. Unit))
   pub kept : Kept used before after
   pub beyond : drop (recordSize * (used + 1)) after ≡ drop (recordSize * (used + 1)) before
   pub counted : next ≡ used + 1

@@ -5,7 +5,7 @@ use mathlib.Core.Option.{Option, none, some}
 use mathlib.Core.List.{List}
 use Rattle.definitions.specs.Term.{Label, proposition, datatype, ProofTerm, Ident, Pair, Named, Function, Application, LetIn, Case, TypeAscription, Unit, Sorry}
 use Rattle.proof_term.specs.Records.{fieldAt}
-use Rattle.proof_term.specs.Counting.{ownAnnotations}
+use Rattle.proof_term.specs.Labels.{Labelled}
 
 -- Each name of a term is below `names`. The names of its propositions are a matter of their code.
 module _ (names : ℕ) where
@@ -31,5 +31,5 @@ module _ (names : ℕ) where
 
 -- record m has a label, and it is a proposition
 pub record PropositionLabel (records : List ℕ) (m : ℕ) : Type 0 where
-  pub labelled : ownAnnotations (fieldAt records m 0) (fieldAt records m 3) ≡ 1
+  pub labelled : Labelled records m
   pub no-datatype : fieldAt records m 3 ≡ 2 → ⊥

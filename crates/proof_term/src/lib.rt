@@ -5,7 +5,7 @@ ghost use lib.ListN.{length};
 ghost use Rattle.definitions.specs.Prop.{Prop};
 ghost use Rattle.definitions.specs.Term.{Ident, Pair, ProjectFst, ProjectSnd, Function, Application, LetIn, OrLeft, OrRight, Case, Abort, TypeAscription, Unit, Sorry, annotationCount};
 ghost use Rattle.proof_term.specs.Records.{recordSize, fieldAt, recordTerm, partCount, Each, labelOf, parameterLabel, termAt};
-ghost use Rattle.proof_term.specs.Counting.{Small, ownAnnotations};
+ghost use Rattle.proof_term.specs.Labels.{hasLabel, InOrder};
 ghost use Rattle.proof_term.specs.Making.{Room, Pushed, Made};
 
 // The numbers of a record.
@@ -276,37 +276,29 @@ pub fn part_count(kind: usize) -> usize
     0
 }
 
-// The labels of a record itself: one of an ascription, and one of a function whose parameter has a label.
-fn own_annotations(kind: usize, label: usize) -> usize
-    ensures { λ r. ⌜ r ≡ ownAnnotations kind label ⌝ }
+// Whether a record has a label, by its kind and the kind of its label: an ascription, or a function whose parameter has one.
+pub fn has_label(kind: usize, label: usize) -> bool
+    ensures { λ r. ⌜ r ≡ hasLabel kind label ⌝ }
 {
-    match kind {
-        FUNCTION => {
-            if label == NO_LABEL {
-                return 0;
-            }
-            1
-        }
-        TYPE_ASCRIPTION => 1,
-        _ => 0,
+    if kind == TYPE_ASCRIPTION {
+        return true;
     }
+    if kind == FUNCTION {
+        return label != NO_LABEL;
+    }
+    false
 }
 
-// The label count of the term that record `n` holds: its own labels and those of its parts.
+// The label count of the term that record `n` holds. The records up to it stand in the term's order, so that each label is met once.
 pub fn annotation_count(records: &[u16], n: usize) -> usize
-    requires { ⌜ (recordSize * (n + 1) ≤ length (now records)) × Small (now records) n ⌝ }
+    requires { ⌜ (recordSize * (n + 1) ≤ length (now records)) × InOrder (now records) n ⌝ }
     ensures { λ r. ⌜ ((props : ℕ → Prop ℕ) → r ≡ annotationCount (termAt props (now (records .entry)) n)) ⌝ }
 {
-    let kind = field(records, n, 0);
-    let parts = part_count(kind);
-    let mut count = own_annotations(kind, field(records, n, 3));
-    let mut i = 0;
-    while i < parts {
-        let part = field(records, n, 1 + i);
-        if part < n {
-            count += annotation_count(records, part);
+    let mut count = 0;
+    for m in 0..n + 1 {
+        if has_label(field(records, m, 0), field(records, m, 3)) {
+            count += 1;
         }
-        i += 1;
     }
     count
 }

@@ -2,18 +2,17 @@
 use Prim.Native.Nat.{ℕ, zero, suc, _<_}
 use mathlib.Core.Path.{_≡_, refl, _∙_}
 use mathlib.Core.Logic.{by-cases}
+use mathlib.Core.Bool.{true}
 use mathlib.Core.List.{List, [], _∷_}
 use native.Mathlib.Omega.{arith}
 use native.Mathlib.Decide.{decLt}
 use lib.ListN.{getD}
 use borrow.Author.Tests.{ne-eqb}
-use Rattle.definitions.specs.Prop.{Prop}
-use Rattle.proof_term.specs.Records.{fieldAt, labelOf, parameterLabel, recordTerm, partAt}
-use Rattle.proof_term.specs.Counting.{ownAnnotations}
+use Rattle.proof_term.specs.Records.{fieldAt, recordTerm, partAt}
+use Rattle.proof_term.specs.Labels.{hasLabel}
 use Rattle.prefix_code.specs.PropAt.{propAt}
-use Rattle.prop.specs.Ends.{Known}
 use Rattle.proof_term_display.specs.Format.{Item, fixed, name, part, ofParameter, ofAscription, itemOf, items, formats}
-use Rattle.proof_term.specs.Readable.{LabelBelow, ParameterLabelBelow, NamesBelow}
+use Rattle.proof_term.specs.Readable.{NamesBelow}
 use Rattle.proof_term_display.specs.Printable.{PrintableTerm}
 use Rattle.proof_term_display.specs.Item.{KindAt, LabelReady, ItemReady}
 
@@ -26,16 +25,6 @@ infixl 10 _also_
 every-at : {P : ℕ → Type 0} {n : ℕ} → Every P n → (k : ℕ) → k < n → P k
 every-at none k h = absurd (omega arith)
 every-at (_also_ {n = n} ps p) k h = by-cases (decLt k n) (λ l. every-at ps k l) (λ l. let last : k ≡ n = omega arith in rw last p)
-
--- the names of a label
-module _ (names : ℕ) (props : ℕ → Prop ℕ) (kind number : ℕ) where
-  datatype-below : LabelBelow names (labelOf props kind number) → kind ≡ 2 → number < names
-  unfolding LabelBelow labelOf
-  datatype-below h e = rw e at h
-
-  label-below : ParameterLabelBelow names (parameterLabel props kind number) → (kind ≡ 0 → ⊥) → LabelBelow names (labelOf props kind number)
-  unfolding ParameterLabelBelow parameterLabel
-  label-below h some = rw (ne-eqb kind 0 some) at h
 
 module _ (names : ℕ) (code ends records : List ℕ) (n : ℕ) where
   -- each item of a list can be printed
@@ -55,48 +44,42 @@ module _ (names : ℕ) (code ends records : List ℕ) (n : ℕ) where
   ready-next ofParameter is r = r
   ready-next ofAscription is r = r
 
-  -- the label is known where it is a proposition
-  abbrev LabelKnown : Type 0
-  LabelKnown = (fieldAt records n 3 ≡ 2 → ⊥) → Known names code ends (fieldAt records n 4)
+  -- the label of a record of this kind is known, if it has one
+  abbrev LabelKnown : ℕ → Type 0
+  LabelKnown kind = hasLabel kind (fieldAt records n 3) ≡ true → LabelReady names code ends records n
 
-  label-ready : LabelBelow names (labelOf (propAt names code) (fieldAt records n 3) (fieldAt records n 4)) → LabelKnown → LabelReady names code ends records n
-  label-ready h known = record { is-datatype = datatype-below names (propAt names code) _ _ h; is-proposition = known }
-
-  parameter-ready :
-      ParameterLabelBelow names (parameterLabel (propAt names code) (fieldAt records n 3) (fieldAt records n 4)) →
-      (ownAnnotations 4 (fieldAt records n 3) ≡ 1 → LabelKnown) → ItemReady names code ends records n ofParameter
-  unfolding ownAnnotations ItemReady
-  parameter-ready h label some =
-      label-ready (label-below names (propAt names code) _ _ h some) (label (rw (ne-eqb (fieldAt records n 3) 0 some)))
+  parameter-ready : LabelKnown 4 → ItemReady names code ends records n ofParameter
+  unfolding hasLabel ItemReady
+  parameter-ready label some = label (rw (ne-eqb (fieldAt records n 3) 0 some))
 
   -- the items of a kind's format can be printed where the names of the kind's term are below `names` and its label, if it has one, is known
   abbrev FormatReady : ℕ → Type 0
   FormatReady kind =
       NamesBelow names (recordTerm (propAt names code) (partAt (propAt names code) records n) kind
       (fieldAt records n 1) (fieldAt records n 2) (fieldAt records n 3) (fieldAt records n 4) (fieldAt records n 5)) →
-      (ownAnnotations kind (fieldAt records n 3) ≡ 1 → LabelKnown) → Ready (getD formats kind [])
+      LabelKnown kind → Ready (getD formats kind [])
 
   -- in the order of the kinds
   formats-ready : Every FormatReady 14
-  unfolding ownAnnotations NamesBelow itemOf items formats Ready ItemReady
+  unfolding hasLabel NamesBelow itemOf items formats Ready ItemReady
   formats-ready =
       none
       also (λ h label. (h, tt))
       also (λ h label. (h .0, (h .1, tt)))
       also (λ h label. (h, tt))
       also (λ h label. (h, tt))
-      also (λ h label. (h .0, (parameter-ready (h .1) label, (h .2, tt))))
+      also (λ h label. (h .0, (parameter-ready label, (h .2, tt))))
       also (λ h label. (h .0, (h .1, tt)))
       also (λ h label. (h .0, (h .1, (h .2, (h .3, tt)))))
       also (λ h label. (h, tt))
       also (λ h label. (h, tt))
       also (λ h label. (h .0, (h .1, (h .2, (h .3, (h .4, tt))))))
       also (λ h label. (h, tt))
-      also (λ h label. (h .0, (label-ready (h .1) (label refl), tt)))
+      also (λ h label. (h .0, (label refl, tt)))
       also (λ h label. tt)
       also (λ h label. tt)
 
   pub ready : {pairs text : List ℕ} {kind : ℕ} → PrintableTerm records n names code ends pairs text → KindAt records n kind → Ready (getD formats kind [])
   ready {kind = kind} p k =
       every-at formats-ready kind (k .known) (rw (k .holds (propAt names code)) at (p .below))
-      (λ own no. p .labels n (omega arith) (record { labelled = k .labels (fieldAt records n 3) ∙ own; no-datatype = no }))
+      (λ own. p .labels n (omega arith) (k .labels (fieldAt records n 3) ∙ own))

@@ -12,8 +12,9 @@ use Rattle.definitions.specs.Prop.{Prop}
 use Rattle.definitions.specs.Term.{ProofTerm, Unit, renameTerm}
 use Rattle.definitions.specs.Display.{Form, closed, call, function, block, ascription, form, partOf}
 use Rattle.proof_term.specs.Records.{recordSize, fieldAt, leaf, formTerm, forms, recordTerm}
-use Rattle.proof_term.specs.Counting.{ownCounts, ownAnnotations}
+use Rattle.proof_term.specs.Labels.{hasLabel}
 use Rattle.proof_term.proofs.Records.{termAt-kind}
+use Rattle.proof_term.proofs.Labels.{no-label}
 use Rattle.proof_term_display.specs.Brackets.{positions, styles, columns, column, isBracketed, bracketTable}
 use Rattle.proof_term_display.specs.Format.{partField, partPosition}
 use Rattle.proof_term_display.specs.Item.{KindAt}
@@ -99,7 +100,7 @@ module _ (records : List ℕ) (n kind : ℕ) (e : kind ≡ fieldAt records n 0) 
   known-kind h = rw e (record { known = rw e at h; holds = λ props. termAt-kind props records n refl; labels = λ label. refl })
 
   pub unknown-kind : 14 ≤ kind → KindAt records n 12
-  unfolding ownAnnotations
+  unfolding hasLabel
   unknown-kind h =
       let past : 14 ≤ fieldAt records n 0 = rw e at h in
       record {
@@ -107,5 +108,5 @@ module _ (records : List ℕ) (n kind : ℕ) (e : kind ≡ fieldAt records n 0) 
         holds = λ props.
             termAt-kind props records n refl
             ∙ rw (List·getD-eq-default (forms props (fieldAt records n 1) (fieldAt records n 2) (fieldAt records n 3) (fieldAt records n 4) (fieldAt records n 5)) (leaf Unit) past);
-        labels = λ label. List·getD-eq-default (ownCounts label) 0 past;
+        labels = λ label. no-label (fieldAt records n 0) label (λ is. omega arith) (λ is. omega arith);
       }

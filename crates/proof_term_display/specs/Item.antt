@@ -6,7 +6,7 @@ use Rattle.definitions.specs.declared.Style.{Style}
 use Rattle.definitions.specs.Sheet.{marked}
 use Rattle.definitions.specs.Prop.{Prop}
 use Rattle.proof_term.specs.Records.{fieldAt, recordTerm, termAt, partAt}
-use Rattle.proof_term.specs.Counting.{ownAnnotations}
+use Rattle.proof_term.specs.Labels.{hasLabel, LabelFits}
 use Rattle.proof_term.specs.Readable.{NamesBelow}
 use Rattle.prefix_code.specs.PropAt.{propAt}
 use Rattle.prop.specs.Ends.{Known}
@@ -17,12 +17,11 @@ pub record KindAt (records : List ℕ) (n kind : ℕ) : Type 0 where
   pub known : kind < 14
   pub holds : (props : ℕ → Prop ℕ) → termAt props records n
       ≡ recordTerm props (partAt props records n) kind (fieldAt records n 1) (fieldAt records n 2) (fieldAt records n 3) (fieldAt records n 4) (fieldAt records n 5)
-  pub labels : (label : ℕ) → ownAnnotations (fieldAt records n 0) label ≡ ownAnnotations kind label
+  pub labels : (label : ℕ) → hasLabel (fieldAt records n 0) label ≡ hasLabel kind label
 
 -- the label of record n can be printed
-pub record LabelReady (names : ℕ) (code ends records : List ℕ) (n : ℕ) : Type 0 where
-  pub is-datatype : fieldAt records n 3 ≡ 2 → fieldAt records n 4 < names
-  pub is-proposition : (fieldAt records n 3 ≡ 2 → ⊥) → Known names code ends (fieldAt records n 4)
+abbrev pub LabelReady : ℕ → List ℕ → List ℕ → List ℕ → ℕ → Type 0
+LabelReady names code ends records n = LabelFits names (Known names code ends) (fieldAt records n 3) (fieldAt records n 4)
 
 module _ (names : ℕ) (code ends records : List ℕ) (n : ℕ) where
   -- an item of record n can be printed

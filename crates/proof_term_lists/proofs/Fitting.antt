@@ -11,15 +11,10 @@ use Rattle.definitions.specs.Prop.{Prop}
 use Rattle.definitions.specs.Term.{Label, proposition, datatype, ProofTerm, Ident, Pair, Named, Function, Application, LetIn, Case, TypeAscription, Unit, Sorry, ofLabel, ofLabels, propositionDatatypes, labelDatatypes, datatypeList}
 use Rattle.prefix_code.specs.PropAt.{propAt, Present}
 use Rattle.proof_term.specs.Records.{fieldAt, labelOf, partCount, termAt}
-use Rattle.proof_term.specs.Counting.{ownAnnotations}
+use Rattle.proof_term.specs.Labels.{hasLabel}
 use Rattle.proof_term.specs.Readable.{LabelBelow, ParameterLabelBelow, NamesBelow, PropositionLabel}
-use Rattle.proof_term_lists.specs.Labels.{hasLabel, LabelFits, LabelsFit}
-use Rattle.proof_term_lists.proofs.Labels.{labelled-kind, part-among, own-among}
-
--- a record with a label counts as one label
-labelled : (kind label : ℕ) → hasLabel kind label ≡ true → ownAnnotations kind label ≡ 1
-unfolding ownAnnotations
-labelled kind label h = ⊎-elim (λ e. rw e) (λ e. rw (e .0, e .1)) (labelled-kind kind label h)
+use Rattle.proof_term_lists.specs.Labels.{LabelFits, LabelsFit}
+use Rattle.proof_term_lists.proofs.Labels.{part-among, own-among}
 
 module _ {names : ℕ} {code records : List ℕ} {n : ℕ} {props : ℕ → Prop ℕ} (fit : LabelsFit names code records n props) where
   -- the labels of a part fit
@@ -36,7 +31,7 @@ module _ {names : ℕ} {code records : List ℕ} {n : ℕ} {props : ℕ → Prop
   unfolding datatypeList labelDatatypes labelOf
   label-fits {kind} {label} {number} k l m h = record {
     datatype = λ e. fit .datatypes number (own-among (labelDatatypes First) props records n refl k l m h (rw e (List·Memᴰ·head refl)));
-    proposition = λ other. rw m (fit .propositions n (omega arith) (record { labelled = rw (k, l) at (labelled kind label h); no-datatype = rw l at other }));
+    proposition = λ other. rw m (fit .propositions n (omega arith) (record { labelled = rw (k, l) at h; no-datatype = rw l at other }));
   }
 
 -- The datatypes of a term's labels are among the term's names.

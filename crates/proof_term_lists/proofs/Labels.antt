@@ -18,7 +18,9 @@ use Rattle.definitions.specs.Prop.{Prop}
 use Rattle.definitions.specs.Term.{Label, ProofTerm, Ident, Pair, Named, Function, Application, LetIn, Case, TypeAscription, Unit, Sorry, ofLabel, ofLabels, labelDatatypes, atomList, datatypeList}
 use Rattle.proof_term.specs.Records.{fieldAt, Form, leaf, formTerm, labelOf, parameterLabel, forms, recordTermAt, partCount, termAt, partAt}
 use Rattle.proof_term.proofs.Records.{arity, part-count, termAt-is, part-below, part-else}
-use Rattle.proof_term_lists.specs.Labels.{useOf, datatypeUses, labelUses, termUses, hasLabel}
+use Rattle.proof_term.specs.Labels.{hasLabel}
+use Rattle.proof_term.proofs.Labels.{labelled-kind}
+use Rattle.proof_term_lists.specs.Labels.{useOf, datatypeUses, labelUses, termUses}
 
 -- the first lists, joined
 joined : {A : Type 0} → ℕ → (ℕ → List A) → List A
@@ -35,15 +37,6 @@ one-joined f i (suc n) h m = by-cases (decLt i n)
 
 same-at : {A B : Type 0} (m w : A → B) (l : List A) (d : A) → m d ≡ w d → map m l ≡ map w l → (i : ℕ) → m (getD l i d) ≡ w (getD l i d)
 same-at m w l d p q i = cc (List·getD-map m l i d, List·getD-map w l i d)
-
--- the records that have a label: an ascription, and a function whose parameter's label is there
-pub labelled-kind : (kind label : ℕ) → hasLabel kind label ≡ true → (kind ≡ 11) ⊎ ((kind ≡ 4) × (eqb label 0 ≡ false))
-unfolding hasLabel
-labelled-kind kind label h = by-cases (ℕ-discrete kind 11)
-    inl
-    (λ other. by-cases (ℕ-discrete kind 4)
-    (λ e. inr (e, not-true (eqb label 0) (rw e at h)))
-    (λ another. absurd (true≢false (sym (rw (ne-eqb kind 11 other, ne-eqb kind 4 another) at h)))))
 
 -- What a label adds, whatever that is.
 module _ {A : Type 0} (add : Label ℕ → List A) (props : ℕ → Prop ℕ) where

@@ -1,9 +1,7 @@
 -- What the labels of a term in records add, and what is asked of the labels.
 use Prim.Native.Nat.{ℕ, _≤_, _<_}
 use mathlib.Core.Path.{_≡_}
-use mathlib.Core.Bool.{Bool, true, false, not, cond}
 use mathlib.Core.List.{List, map, List·Memᴰ}
-use lib.Dec.{eqb}
 use Rattle.definitions.specs.declared.Version.the-variants.{First}
 use Rattle.definitions.specs.declared.TermList.{TermList}
 use Rattle.definitions.specs.declared.TermList.the-variants.{Atoms, Datatypes}
@@ -28,10 +26,6 @@ labelUses (Datatypes v) l = datatypeUses (labelDatatypes v l)
 -- what the labels of a term add, its parts' before its own
 abbrev pub termUses : TermList → ProofTerm ℕ → List (AtomUse ℕ)
 termUses list t = ofLabels (labelUses list) t
-
--- whether a record has a label: an ascription, or a function whose parameter has one
-unfoldable pub hasLabel : ℕ → ℕ → Bool
-hasLabel record-kind kind = cond (eqb record-kind 11) true (cond (eqb record-kind 4) (not (eqb kind 0)) false)
 
 -- the proposition of a position stands there in the code
 pub record PropStands (names : ℕ) (code : List ℕ) (props : ℕ → Prop ℕ) (at : ℕ) : Type 0 where

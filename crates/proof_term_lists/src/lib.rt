@@ -3,10 +3,8 @@ use definitions::TermList;
 use definitions::Version;
 use prefix_code::scan;
 use proof_term::DATATYPE;
-use proof_term::FUNCTION;
-use proof_term::NO_LABEL;
-use proof_term::TYPE_ASCRIPTION;
 use proof_term::field;
+use proof_term::has_label;
 use proof_term::part_count;
 use prop_lists::put_atoms;
 use prop_lists::put_datatypes;
@@ -17,21 +15,8 @@ ghost use lib.ListN.{length};
 ghost use Rattle.definitions.specs.Prop.{Prop};
 ghost use Rattle.output.specs.Wrote.{Wrote};
 ghost use Rattle.proof_term.specs.Records.{recordSize, labelOf, termAt};
-ghost use Rattle.proof_term_lists.specs.Labels.{hasLabel, LabelFits, LabelsFit, SomeLabel, SomeLabels};
+ghost use Rattle.proof_term_lists.specs.Labels.{LabelFits, LabelsFit, SomeLabel, SomeLabels};
 ghost use Rattle.proof_term_lists.specs.Numbers.{listNumbers, labelNumbers};
-
-// Whether a record has a label: an ascription, or a function whose parameter has one.
-pub fn has_label(kind: usize, label: usize) -> bool
-    ensures { λ r. ⌜ r ≡ hasLabel kind label ⌝ }
-{
-    if kind == TYPE_ASCRIPTION {
-        return true;
-    }
-    if kind == FUNCTION {
-        return label != NO_LABEL;
-    }
-    false
-}
 
 // Writes what a label adds to a list.
 fn put_label(

@@ -9,9 +9,9 @@ use Rattle.definitions.specs.Outcome.{accepted, refused}
 use Rattle.definitions.specs.Sheet.{names, propositions, propositionPairs, codeBytes, pairOffset, stepLimit}
 use Rattle.definitions.specs.Answers.{sheetTerm}
 use Rattle.prefix_code.specs.PropAt.{propAt}
-use Rattle.proof_term.specs.Records.{recordSize, fieldAt, termAt}
-use Rattle.proof_term.specs.Counting.{termSize}
-use Rattle.proof_term.specs.Readable.{NamesBelow, PropositionLabel}
+use Rattle.proof_term.specs.Records.{recordSize, termAt}
+use Rattle.proof_term.specs.Labels.{InOrder, LabelsFit}
+use Rattle.proof_term.specs.Readable.{NamesBelow}
 use Rattle.sheet.specs.declared.header.Sheet.{Sheet}
 use Rattle.sheet.proofs.Admitted.{AcceptedSheet}
 use Rattle.sheet_term.specs.declared.SheetTerm as answer
@@ -25,14 +25,15 @@ pub record LabelStands (s : List ℕ) (offset : ℕ) : Type 0 where
       let whole = pairOffset (propositionPairs s) number in
       (offset ≡ whole) ⊎ ((getD (codeBytes s) whole 0 ≡ 4) × (offset ≡ whole + 1))
 
--- record n of the whole memory holds the sheet's term: its names are the sheet's, and its proposition labels stand in the code
+-- record n of the whole memory holds the sheet's term: its names are the sheet's, its records stand in its order, and their labels
+-- fit: a datatype is a name of the sheet, and a proposition stands in the code
 pub record HeldTerm (s terms : List ℕ) (n : ℕ) : Type 0 where
   pub is-term : sheetTerm s ≡ accepted (termAt (propAt (names s) (codeBytes s)) terms n)
   pub room : length terms ≡ 2 * recordSize * stepLimit
   pub held : recordSize * (n + 1) ≤ length terms
-  pub few : termSize (termAt (propAt (names s) (codeBytes s)) terms n) ≤ 65536
   pub below : NamesBelow (names s) (termAt (propAt (names s) (codeBytes s)) terms n)
-  pub labels : (m : ℕ) → m ≤ n → PropositionLabel terms m → LabelStands s (fieldAt terms m 4)
+  pub in-order : InOrder terms n
+  pub labels : LabelsFit (names s) (LabelStands s) terms n
 
 -- what each answer says
 pub data Gives (s terms : List ℕ) : answer.SheetTerm → Type 0 where

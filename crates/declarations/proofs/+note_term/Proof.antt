@@ -5,7 +5,7 @@ use native.Mathlib.Omega.{arith}
 use denote.Ref.{now}
 use Rattle.definitions.specs.Prop.{Prop}
 use Rattle.proof_term.specs.Records.{fieldAt, partCount}
-use Rattle.proof_term.proofs.Counting.{few-parts}
+use Rattle.proof_term.proofs.Records.{few-parts}
 use Rattle.declarations.specs.Declared.{Notes}
 use Rattle.proof_term_lists.specs.Labels.{labelUses, LabelsFit}
 use Rattle.proof_term_lists.proofs.Labels.{ofParts, parts-none, parts-part, parts-unit, with-label, without-label}
@@ -16,7 +16,7 @@ use borrow.Fn.PlainCycle.{Measures, is, falls, and}
 use Rattle.declarations.proofs.note_term.Reads as note-term
 use Rattle.declarations.proofs.note_term.Kinds as note-term-kinds
 use Rattle.declarations.proofs.+note_term.Lts-note_term as note-term-lts
-use Rattle.proof_term_lists.proofs.has_label.Reads as has-label-reads
+use Rattle.proof_term.proofs.has_label.Reads as has-label-reads
 use Rattle.declarations.proofs.note_label.Reads as note-label-reads
 use Rattle.proof_term.proofs.part_count.Reads as part-count-reads
 use Rattle.proof_term.proofs.field.Reads as field-reads

@@ -4,7 +4,7 @@ use native.Mathlib.Omega.{arith}
 use lib.ListN.{List·getD-eq-default}
 use borrow.Author.Needs.{needs}
 use Rattle.proof_term.specs.Records.{partCounts}
-use Rattle.proof_term.proofs.Counting.{few-parts}
+use Rattle.proof_term.proofs.Records.{few-parts}
 use Rattle.proof_term.proofs.part_count.Statement.{statement}
 use Rattle.proof_term.proofs.part_count.Tie as tie
 

@@ -16,7 +16,7 @@ put-name-requires : tie.Need-put-name-requires
 put-name-requires c κs =
     let start = c .before .before .before .before .before .before .before .before .before .before in
     let is-datatype = sym (c .before .before .field2 .ensures .0) ∙ c .before .if1 .taken in
-    let below : c .before .before .before .field .result < start .args .names = rw (c .before .before .before .field .ensures .0) (start .pre .1 .is-datatype is-datatype) in
+    let below : c .before .before .before .field .result < start .args .names = rw (c .before .before .before .field .ensures .0) (start .pre .1 .datatype is-datatype) in
     let named = start .pre .0 .named _ below in
     (named .present, named .ends)
 
@@ -32,7 +32,7 @@ print-requires : tie.Need-print-requires
 print-requires c κs =
     let start = c .before .before .before .before .before .before .before .before .before .before in
     record {
-      known = rw (c .before .before .before .field .ensures .0) (start .pre .1 .is-proposition (λ e. c .before .if1 .left (c .before .before .field2 .ensures .0 ∙ e)));
+      known = rw (c .before .before .before .field .ensures .0) (start .pre .1 .proposition (λ e. c .before .if1 .left (c .before .before .field2 .ensures .0 ∙ e)));
       named = start .pre .0 .named;
     }
 

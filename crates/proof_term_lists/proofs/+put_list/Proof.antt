@@ -7,7 +7,7 @@ use Rattle.definitions.specs.Prop.{Prop}
 use Rattle.output.specs.Wrote.{Wrote}
 use Rattle.output.proofs.Writing as writing
 use Rattle.proof_term.specs.Records.{fieldAt, partCount}
-use Rattle.proof_term.proofs.Counting.{few-parts}
+use Rattle.proof_term.proofs.Records.{few-parts}
 use Rattle.proof_term_lists.specs.Labels.{LabelsFit}
 use Rattle.proof_term_lists.specs.Numbers.{labelNumbers}
 use Rattle.proof_term_lists.proofs.Labels.{ofParts, parts-none, parts-part, parts-unit, with-label, without-label}
@@ -20,7 +20,7 @@ use Rattle.proof_term_lists.proofs.put_list.Kinds as put-list-kinds
 use Rattle.proof_term_lists.proofs.+put_list.Lts-put_list as put-list-lts
 use Rattle.proof_term.proofs.field.Reads as field-reads
 use Rattle.proof_term.proofs.part_count.Reads as part-count-reads
-use Rattle.proof_term_lists.proofs.has_label.Reads as has-label-reads
+use Rattle.proof_term.proofs.has_label.Reads as has-label-reads
 use Rattle.proof_term_lists.proofs.put_label.Reads as put-label-reads
 use Rattle.proof_term_lists.proofs.+put_list.{statement}
 use Rattle.proof_term_lists.proofs.+put_list.Tie.{close}

@@ -1,8 +1,8 @@
 -- Each answer is the definition's case.
 use borrow.Author.Tests.{ne-eqb}
-use Rattle.proof_term_lists.specs.Labels.{hasLabel}
-use Rattle.proof_term_lists.proofs.has_label.Statement.{statement}
-use Rattle.proof_term_lists.proofs.has_label.Tie as tie
+use Rattle.proof_term.specs.Labels.{hasLabel}
+use Rattle.proof_term.proofs.has_label.Statement.{statement}
+use Rattle.proof_term.proofs.has_label.Tie as tie
 
 returns : tie.Need-returns
 unfolding hasLabel
