@@ -1,21 +1,21 @@
 -- A record's own label by its numbers; and where the records stand in the term's order, their labels one after the other are the term's.
-use Prim.Native.Nat.{ℕ, zero, suc, _+_, _*_, _≤_, _<_}
+use Prim.Native.Nat.{ℕ, zero, suc, _+_, _*_, _<_}
 use mathlib.Core.Path.{_≡_, refl, sym, ap, _∙_}
 use mathlib.Core.Bool.{Bool, true, false, true≢false, not, cond}
-use mathlib.Core.Logic.{_⊎_, inl, inr, ⊎-elim, by-cases}
+use mathlib.Core.Logic.{_⊎_, inl, inr, by-cases}
 use mathlib.Core.Option.{Option, none, some}
 use mathlib.Core.List.{List, [], _∷_, _++_, append-nil, append-assoc}
 use native.Mathlib.Omega.{arith}
 use native.Mathlib.Decide.{ℕ-discrete}
 use native.Mathlib.Numerals.{add-one}
-use lib.ListN.{length, getD, set, take, replicate, length-append, List·getD-map}
+use lib.ListN.{getD, set, take, replicate, List·getD-map}
 use lib.Seq.{getD-set-other}
 use lib.Dec.{eqb}
-use borrow.Author.Tests.{ne-eqb, not-true, not-false}
-use Rattle.definitions.specs.Prop.{Prop, True}
-use Rattle.definitions.specs.Term.{Label, ProofTerm, Ident, Pair, Named, Function, Application, LetIn, Case, TypeAscription, Unit, Sorry, ofLabel, ofLabels, isLabelled, annotationCount}
+use borrow.Author.Tests.{ne-eqb, not-true}
+use Rattle.definitions.specs.Prop.{Prop}
+use Rattle.definitions.specs.Term.{Label, ProofTerm, Ident, Pair, Named, Function, Application, LetIn, Case, TypeAscription, Unit, Sorry, ofLabel, ofLabels}
 use Rattle.proof_term.specs.Records.{recordSize, fieldAt, leaf, formTerm, labelOf, parameterLabel, forms, recordTerm, termAt}
-use Rattle.proof_term.specs.Labels.{hasLabel, Labelled, ofOwnLabel, ofRecord, ofRecords, single, termLabels, recordLabel, recordLabels, InOrder}
+use Rattle.proof_term.specs.Labels.{hasLabel, ofOwnLabel, ofRecord, ofRecords, single, termLabels, recordLabel, recordLabels, InOrder}
 use Rattle.proof_term.proofs.Records.{fewer, same-field}
 
 -- the records that have a label: an ascription, and a function whose parameter's label is there

@@ -1,4 +1,5 @@
 pub mod Records
 pub mod Labels
+pub mod Fitting
 pub mod Making
 pub mod Counting

@@ -2,7 +2,7 @@
 use Prim.Native.Nat.{ℕ, zero, suc, _+_, _≤_, _<_}
 use mathlib.Core.Path.{_≡_, refl, sym, ap, _∙_}
 use mathlib.Core.Bool.{true, false, true≢false}
-use mathlib.Core.Logic.{_⊎_, inl, inr, ⊎-elim, by-cases}
+use mathlib.Core.Logic.{_⊎_, ⊎-elim, by-cases}
 use mathlib.Core.Option.{Option, none, some}
 use mathlib.Core.List.{List, [], _∷_, _++_, map, map-append, append-nil, append-assoc, List·Memᴰ, Memᴰ·append-left, Memᴰ·append-right}
 use native.Mathlib.Omega.{arith}
@@ -11,7 +11,7 @@ use native.Mathlib.Numerals.{add-one}
 use lib.ListN.{getD, set, replicate, List·getD-map}
 use lib.Seq.{getD-set-other}
 use lib.Dec.{eqb}
-use borrow.Author.Tests.{ne-eqb, not-true, not-false}
+use borrow.Author.Tests.{not-false}
 use Rattle.definitions.specs.declared.Version.{Version}
 use Rattle.definitions.specs.declared.TermList.the-variants.{Atoms, Datatypes}
 use Rattle.definitions.specs.Prop.{Prop}

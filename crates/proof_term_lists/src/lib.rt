@@ -9,7 +9,6 @@ use proof_term::part_count;
 use prop_lists::put_atoms;
 use prop_lists::put_datatypes;
 use prop_lists::put_number;
-ghost use mathlib.Core.Path.{_≡_};
 ghost use Prim.Native.Nat.{ℕ, _+_, _*_, _≤_, _<_};
 ghost use lib.ListN.{length};
 ghost use Rattle.definitions.specs.Prop.{Prop};

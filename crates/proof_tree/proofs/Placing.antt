@@ -1,6 +1,6 @@
 -- A step's term in its place, in three parts: the label of a parameter, the term of the rule, an ascription.
 use Prim.Native.Nat.{ℕ, _+_, _-_, _<_, _≤_}
-use mathlib.Core.Path.{_≡_, refl, sym, ap, _∙_}
+use mathlib.Core.Path.{_≡_, refl, sym, _∙_}
 use mathlib.Core.Logic.{by-cases}
 use mathlib.Core.Option.{Option, some}
 use mathlib.Core.List.{List, [], _∷_}
@@ -14,12 +14,13 @@ use Rattle.definitions.specs.Prop.{Prop}
 use Rattle.definitions.specs.Sheet.{stepNumber}
 use Rattle.definitions.specs.Tree as tree
 use Rattle.definitions.specs.Tree.{ProofTreeConclusion, Step, ruleIn, identifierIn, conclusionIn, stepIn}
-use Rattle.definitions.specs.Term.{Label, proposition, ProofTerm, TypeAscription}
+use Rattle.definitions.specs.Term.{Label, proposition, ProofTerm, TypeAscription, ofLabels}
 use Rattle.definitions.specs.Export.{Place, checking, inferring, Ending, bare, ascribed, leftLabelled, datatypeLabelled, premissOwn, ending, ascriptionLabel, leftLabel, datatypeLabel, stepTerm, inferringTerm, placedTerm}
 use Rattle.definitions.proofs.PrefixCode.{Bytes}
 use Rattle.proof_term.specs.Records.{parameterLabel, termAt}
 use Rattle.proof_term.specs.Making.{Made}
-use Rattle.proof_term.specs.Counting.{termSize}
+use Rattle.proof_term.specs.Labels.{single}
+use Rattle.proof_term.proofs.Labels.{record-kept}
 use Rattle.proof_term.proofs.Making.{kept-then}
 use Rattle.proof_tree.specs.declared.table.Place as own
 use Rattle.proof_tree.specs.declared.table.Ending as own-ending
@@ -32,7 +33,7 @@ use Rattle.proof_tree.specs.declared.Exported.{Exported}
 use Rattle.proof_tree.specs.declared.Exported.the-variants.{Term, Refused}
 use Rattle.proof_tree.specs.Table.{placeOf, endingOf, TableRow}
 use Rattle.prefix_code.specs.PropAt.{propAt}
-use Rattle.proof_tree.specs.Terms.{ownLabel, HasLabel, termOver, partTerms, termSizes, MadeTerm}
+use Rattle.proof_tree.specs.Terms.{HasProposition, termOver, partTerms, Ordered, MadeTerm}
 use Rattle.proof_tree.specs.Opening.{conclusionAt}
 use Rattle.proof_tree.specs.Exportable.{GoodStep}
 use Rattle.proof_tree.specs.Labelling.{endingAt, parameterLabelOf, Means, stands, judges, LabelOf, Annotated, labelled}
@@ -41,6 +42,7 @@ use Rattle.proof_tree.specs.Wrapping as wrapping
 use Rattle.proof_tree.specs.Wrapping.{Wrapped, ascribes}
 use Rattle.proof_tree.specs.Exporting.{LabelOffset, Answered, gives, refuses}
 use Rattle.proof_tree.proofs.table.Ending as ending-type
+use Rattle.proof_tree.proofs.Ordering.{ascribed-ordered}
 use Rattle.proof_tree.proofs.Makers.{same-number}
 use Rattle.proof_tree.proofs.Concluding.{whole-offset, left-offset}
 
@@ -127,8 +129,8 @@ module _ {names : ℕ} {pairs code records : List ℕ} {k : ℕ} {place : own.Pl
       placed-parts (stepIn names pairs code records k) ts (placeOf place)
       ∙ rw (v .ends, v .is-row .ending-is) (inferring-parts (stepIn names pairs code records k) ts (endingAt (placeOf place) (ending (ruleIn records k))))
 
-  pub label-refused : {r : Refusal} {before : List ℕ} {used size least most : ℕ} {after : List ℕ} (ts : List (ProofTerm ℕ)) → Annotated names code c label (annotation.Refused r)
-      → Answered names pairs code records k (placed ts) before used size least most after (Refused r)
+  pub label-refused : {r : Refusal} {before : List ℕ} {used : ℕ} {parts : (ℕ → Prop ℕ) → List (ProofTerm ℕ)} {least most : ℕ} {after : List ℕ} (ts : List (ProofTerm ℕ)) → Annotated names code c label (annotation.Refused r)
+      → Answered names pairs code records k (placed ts) before used parts least most after (Refused r)
   unfolding _>>=_
   label-refused {r} ts a = refuses {r = r} (placed-is ts ∙ rw (refusal-of a))
 
@@ -138,8 +140,11 @@ module _ {names : ℕ} {pairs code records : List ℕ} {k : ℕ} {place : own.Pl
 
   -- The rule's term, with its label.
   module _ {kind number first second third used next : ℕ} {before after : List ℕ} (l : LabelOf names code c label kind number) (made : MadeTerm (row .4) (stepNumber records k 2) (stepNumber records k 6) kind number first second third before used after next) where
+    abbrev pub parts : (ℕ → Prop ℕ) → List (ProofTerm ℕ)
+    parts props = partTerms (termAt props before) (row .0) (first ∷ second ∷ third ∷ [])
+
     abbrev pub ts : List (ProofTerm ℕ)
-    ts = partTerms (termAt (propAt names code) before) (row .0) (first ∷ second ∷ third ∷ [])
+    ts = parts (propAt names code)
 
     placed-term : placed ts ≡ finishing (endingOf e) (stepIn names pairs code records k) (termAt (propAt names code) after (next - 1))
     unfolding _>>=_
@@ -148,18 +153,18 @@ module _ {names : ℕ} {pairs code records : List ℕ} {k : ℕ} {place : own.Pl
         made .holds (propAt names code) ∙ rw (v .is-row .parts-are) (step-term-is (parameterLabel (propAt names code) kind number) ts) in
         placed-is ts ∙ rw (l .is, is)
 
-    small : used + termSize (termAt (propAt names code) after (next - 1)) ≤ next + termSizes ts
-    small = rw (← (v .is-row .parts-are)) (made .small (propAt names code))
+    ordered : (props : ℕ → Prop ℕ) → Ordered props before used (parts props) after next
+    ordered props = rw (← (v .is-row .parts-are)) (made .ordered props)
 
-    labels : (m offset : ℕ) → used ≤ m → m < next → HasLabel after m offset → LabelOffset pairs code records k offset
+    labels : (m offset : ℕ) → used ≤ m → m < next → HasProposition after m offset → LabelOffset pairs code records k offset
     labels m offset h i has = let (one, same) = made .labels m offset h i has in rw same (left-offset (v .good) (v .bytes) (v .concluded) number (l .left one))
 
     pub term-answer : OneOf (0 ∷ 2 ∷ 3 ∷ 4 ∷ []) (tagOf ending-type.the-type e)
-        → Answered names pairs code records k (placed ts) before used (termSizes ts) (used + 1 - row .0) (used + 2) after (Term next)
+        → Answered names pairs code records k (placed ts) before used parts (used + 1 - row .0) (used + 2) after (Term next)
     term-answer other =
         gives {next = next} (record {
           holds = placed-term ∙ unascribed e (stepIn names pairs code records k) (termAt (propAt names code) after (next - 1)) other;
-          small = small;
+          ordered = ordered;
           low = omega (arith, made .more, v .is-row .parts-are);
           high = omega (arith, made .few);
           grown = record { kept = made .kept; labels = labels };
@@ -167,25 +172,25 @@ module _ {names : ℕ} {pairs code records : List ℕ} {k : ℕ} {place : own.Pl
 
     ascribed-labels : {at last : ℕ} {final : List ℕ} → c ≡ PropIsTrue at
         → Made (λ props part. TypeAscription (part (next - 1)) (proposition (props at))) after next final last
-        → (m offset : ℕ) → used ≤ m → m < last → HasLabel final m offset → LabelOffset pairs code records k offset
-    unfolding ownLabel
+        → (m offset : ℕ) → used ≤ m → m < last → HasProposition final m offset → LabelOffset pairs code records k offset
+    unfolding ofLabels
     ascribed-labels {at} {last} {final} hc more m offset h i has = by-cases (decLt m next)
-        (λ lt. labels m offset h lt (λ props. ap ownLabel (sym (more .kept .terms props m lt)) ∙ has props))
+        (λ lt. labels m offset h lt (λ props. sym (record-kept single props final after next (more .kept .numbers) m lt) ∙ has props))
         (λ ge.
         let same : m ≡ next = omega (arith, more .counted) in
         let number : (props : ℕ → Prop ℕ) → props at ≡ props offset =
-        λ props. let f = sym (ap ownLabel (more .holds props)) ∙ rw same at (has props) in cc in
+        λ props. let f = sym (more .label props) ∙ rw same at (has props) in cc in
         rw (same-number offset at number) (whole-offset (v .good) (v .bytes) (v .concluded) at hc))
 
     pub ascribed-answer : {final : List ℕ} {r : Exported} → e ≡ Ascribed → Ascription names code k c (conclusionIn names pairs code records k) after next final r
-        → Answered names pairs code records k (placed ts) before used (termSizes ts) (used + 1 - row .0) (used + 2) final r
-    unfolding finishing endingOf stepIn ascriptionLabel _>>=_ refuse termSize
+        → Answered names pairs code records k (placed ts) before used parts (used + 1 - row .0) (used + 2) final r
+    unfolding finishing endingOf stepIn ascriptionLabel _>>=_ refuse
     ascribed-answer {final} he (is-refused {r = r} none13 is) = refuses {r = r} (placed-term ∙ rw (he, none13, is))
     ascribed-answer {final} he (is-ascribed {next = last} hc is more) =
         let end : last - 1 ≡ next = omega (arith, more .counted) in
         gives {next = last} (record {
           holds = placed-term ∙ rw (he, is, end, more .holds (propAt names code));
-          small = rw (end, more .holds (propAt names code)) (omega (arith, small, more .counted));
+          ordered = λ props. ascribed-ordered (ordered props) more;
           low = omega (arith, made .more, v .is-row .parts-are, more .counted);
           high = omega (arith, made .few, more .counted);
           grown = record { kept = kept-then (made .grows) (made .kept) (more .kept); labels = ascribed-labels hc more };

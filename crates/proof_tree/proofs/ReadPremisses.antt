@@ -11,13 +11,15 @@ use lib.Seq.{take-suc-set, drop-cons, getD-take, getD-set-same, getD-set-other}
 use borrow.Author.Count.{below-more}
 use Rattle.definitions.specs.Outcome.{Outcome, accepted, refused, _>>=_}
 use Rattle.definitions.specs.declared.Refusal.{Refusal}
+use Rattle.definitions.specs.Prop.{Prop}
 use Rattle.definitions.specs.Term.{ProofTerm}
 use Rattle.definitions.specs.Tree.{ProofTree, Premisses, none, _and_, ruleIn, treeIn}
 use Rattle.definitions.specs.Export.{Place, places, export, exportAll}
 use Rattle.steps.specs.Size.{size, sizes}
 use Rattle.proof_term.specs.Records.{recordSize, Each, termAt}
 use Rattle.proof_term.specs.Making.{Room}
-use Rattle.proof_term.specs.Counting.{termSize}
+use Rattle.proof_term.specs.Labels.{single, recordLabels}
+use Rattle.proof_term.proofs.Labels.{record-kept}
 use Rattle.proof_term.proofs.Making.{kept-same, kept-then}
 use Rattle.proof_tree.specs.declared.table.RuleTerm.{RuleTerm}
 use Rattle.proof_tree.specs.declared.table.RuleTerm.the-variants.{Premiss}
@@ -25,8 +27,9 @@ use Rattle.proof_tree.specs.declared.table.Row.{Row}
 use Rattle.prefix_code.specs.PropAt.{propAt}
 use Rattle.proof_tree.specs.Table.{partCount, premissPlace, TableRow}
 use Rattle.proof_tree.specs.Premisses.{premissesFrom, PremissStep}
-use Rattle.proof_tree.specs.Terms.{ownLabel, firstThree, partTerms, termSizes, Parts}
+use Rattle.proof_tree.specs.Terms.{firstThree, partTerms, termsLabels, Parts}
 use Rattle.proof_tree.specs.Exporting.{Grown, ExportedTerm}
+use Rattle.proof_tree.proofs.Ordering.{premiss-ordered}
 
 -- what one more premiss adds to those that were read
 then-more : {A : Type 0} (o : Outcome (List A)) (a : A) (s : List A)
@@ -49,11 +52,6 @@ same-terms : (f g : ℕ → ProofTerm ℕ) (i : ℕ) (parts : List ℕ) → ((j 
 same-terms f g zero parts h = refl
 same-terms f g (suc i) [] h = refl
 same-terms f g (suc i) (part ∷ parts) h = cc (h 0 (omega arith), same-terms f g i parts (λ j l. h (suc j) (omega arith)))
-
-one-more-size : (ts : List (ProofTerm ℕ)) (t : ProofTerm ℕ) → termSizes (ts ++ (t ∷ [])) ≡ termSizes ts + termSize t
-unfolding termSizes
-one-more-size [] t = omega arith
-one-more-size (s ∷ ts) t = omega (arith, one-more-size ts t)
 
 pub three-parts : (parts : List ℕ) → length parts ≡ 3 → parts ≡ firstThree parts
 three-parts [] e = absurd (omega arith)
@@ -83,7 +81,7 @@ module _ {pairs code records : List ℕ} {k : ℕ} where
       record {
         kept = kept-then h (p .kept) (q .kept);
         labels = λ m offset low high has. by-cases (decLt m next)
-            (λ l. p .labels m offset low l (λ props. ap ownLabel (sym (q .kept .terms props m l)) ∙ has props))
+            (λ l. p .labels m offset low l (λ props. sym (record-kept single props after mid next (q .kept .numbers) m l) ∙ has props))
             (λ l. q .labels m offset (omega arith) high has);
       }
 
@@ -102,7 +100,8 @@ pub record PremissesRead (names : ℕ) (pairs code records : List ℕ) (k : ℕ)
   pub three : length parts ≡ 3
   pub left : exportAll (premissesFrom names pairs code records k 0) (places (ruleIn records k) place)
       ≡ (exportAll (premissesFrom names pairs code records k i) (drop i (places (ruleIn records k) place)) >>= λ ts. accepted (partTerms (termAt (propAt names code) terms) i parts ++ ts))
-  pub small : used + termSizes (partTerms (termAt (propAt names code) terms) i parts) ≤ next
+  pub ordered : (props : ℕ → Prop ℕ)
+      → recordLabels props terms next ≡ recordLabels props before used ++ termsLabels (partTerms (termAt props terms) i parts)
   pub earlier : (j : ℕ) → j < i → getD parts j 0 < next
   pub newest : (j : ℕ) → j + 1 ≡ i → getD parts j 0 + 1 ≡ next
   pub grown : Grown pairs code records k before used terms next
@@ -112,13 +111,13 @@ pub record PremissesRead (names : ℕ) (pairs code records : List ℕ) (k : ℕ)
 
 pub read-none : (names : ℕ) (pairs code records : List ℕ) (k : ℕ) (place : Place) (row : Row) (terms : List ℕ) (used : ℕ)
     → PremissesRead names pairs code records k place row terms used 0 (0 ∷ 0 ∷ 0 ∷ []) terms used
-unfolding partTerms termSizes
+unfolding partTerms termsLabels
 read-none names pairs code records k place row terms used =
     record {
       position = omega arith;
       three = refl;
       left = then-none _;
-      small = omega arith;
+      ordered = λ props. sym (append-nil _);
       earlier = λ j h. absurd (omega arith);
       newest = λ j h. absurd (omega arith);
       grown = grown-none terms used;
@@ -164,14 +163,14 @@ module _ {names : ℕ} {pairs code records : List ℕ} {k : ℕ} {place : Place}
     room-next = omega (arith, sizes-next, read .high)
 
     -- Its term, whose record is the newest.
-    module _ {terms′ : List ℕ} {last : ℕ} (a : ExportedTerm names pairs code records q (export (treeIn names pairs code records q) m) terms next 0 (next + 1) (next + 2 * size (treeIn names pairs code records q)) terms′ last) where
-      held : partTerms (termAt (propAt names code) terms′) (i + 1) (set parts i (last - 1))
-          ≡ partTerms (termAt (propAt names code) terms) i parts ++ (termAt (propAt names code) terms′ (last - 1) ∷ [])
+    module _ {terms′ : List ℕ} {last : ℕ} (a : ExportedTerm names pairs code records q (export (treeIn names pairs code records q) m) terms next (λ props. []) (next + 1) (next + 2 * size (treeIn names pairs code records q)) terms′ last) where
+      held : (props : ℕ → Prop ℕ) → partTerms (termAt props terms′) (i + 1) (set parts i (last - 1))
+          ≡ partTerms (termAt props terms) i parts ++ (termAt props terms′ (last - 1) ∷ [])
       unfolding partTerms
-      held =
-          let f = termAt (propAt names code) terms′ in
-          let g = termAt (propAt names code) terms in
-          let kept = same-terms f g i parts (λ j l. a .grown .kept .terms (propAt names code) (getD parts j 0) (read .earlier j l)) in
+      held props =
+          let f = termAt props terms′ in
+          let g = termAt props terms in
+          let kept = same-terms f g i parts (λ j l. a .grown .kept .terms props (getD parts j 0) (read .earlier j l)) in
           let within : i < length parts = omega (arith, read .three, is-row .few) in
           rw (add-one, take-suc-set parts i (last - 1) within, map-append f (take i parts) ((last - 1) ∷ []), kept)
 
@@ -182,8 +181,8 @@ module _ {names : ℕ} {pairs code records : List ℕ} {k : ℕ} {place : Place}
           record {
             position = omega arith;
             three = rw length-set (read .three);
-            left = read .left ∙ (next-left (partTerms (termAt (propAt names code) terms) i parts) ∙ rw (a .holds, held) (then-more (exportAll (premissesFrom names pairs code records k (i + 1)) (drop (i + 1) (places (ruleIn records k) place))) (termAt (propAt names code) terms′ (last - 1)) (partTerms (termAt (propAt names code) terms) i parts)));
-            small = rw (held, one-more-size) (omega (arith, read .small, a .small));
+            left = read .left ∙ (next-left (partTerms (termAt (propAt names code) terms) i parts) ∙ rw (a .holds, held (propAt names code)) (then-more (exportAll (premissesFrom names pairs code records k (i + 1)) (drop (i + 1) (places (ruleIn records k) place))) (termAt (propAt names code) terms′ (last - 1)) (partTerms (termAt (propAt names code) terms) i parts)));
+            ordered = λ props. rw (held props) (premiss-ordered before used (partTerms (termAt props terms) i parts) (read .ordered props) (a .ordered props));
             earlier = below-more (λ j. getD (set parts i (last - 1)) j 0 < last) i
                 (λ j l. rw (getD-set-other parts i j (last - 1) 0 (omega arith)) (omega (arith, read .earlier j l, a .low)))
                 (rw (getD-set-same parts i (last - 1) 0 within) (omega (arith, a .low)));

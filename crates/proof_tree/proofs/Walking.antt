@@ -8,6 +8,7 @@ use lib.ListN.{length}
 use borrow.Author.Tests.{ltb-false}
 use Rattle.definitions.specs.Outcome.{Outcome, refused, refuse, refuseIf, _>>=_}
 use Rattle.definitions.specs.declared.Refusal.{Refusal}
+use Rattle.definitions.specs.Prop.{Prop}
 use Rattle.definitions.specs.Sheet.{premissCount}
 use Rattle.definitions.specs.Term.{ProofTerm}
 use Rattle.definitions.specs.Tree.{none, count, lastTrees, ruleIn, stepIn, stepOver, treesBefore, treeIn}
@@ -24,6 +25,7 @@ use Rattle.proof_tree.specs.Premisses.{premissesFrom}
 use Rattle.proof_tree.specs.Terms.{firstThree}
 use Rattle.proof_tree.specs.Exportable.{Exportable}
 use Rattle.proof_tree.specs.Exporting.{ExportedTerm, Answered, gives, refuses, StepPlaced, StepExported}
+use Rattle.proof_tree.proofs.Ordering.{whole-ordered}
 use Rattle.proof_tree.proofs.ReadPremisses.{PremissesRead, three-parts, grown-then, read-all}
 
 -- fewer steps can be exported too
@@ -36,14 +38,14 @@ exportable-shorter {records = records} {sizes} {m} {n} h e =
     }
 
 -- what an answer says, by its variant
-pub term-of : {names : ℕ} {pairs code records : List ℕ} {k : ℕ} {outcome : Outcome (ProofTerm ℕ)} {before : List ℕ} {used size least most : ℕ} {after : List ℕ} {r : Exported} {next : ℕ}
-    → Answered names pairs code records k outcome before used size least most after r → r ≡ Term next
-    → ExportedTerm names pairs code records k outcome before used size least most after next
+pub term-of : {names : ℕ} {pairs code records : List ℕ} {k : ℕ} {outcome : Outcome (ProofTerm ℕ)} {before : List ℕ} {used : ℕ} {parts : (ℕ → Prop ℕ) → List (ProofTerm ℕ)} {least most : ℕ} {after : List ℕ} {r : Exported} {next : ℕ}
+    → Answered names pairs code records k outcome before used parts least most after r → r ≡ Term next
+    → ExportedTerm names pairs code records k outcome before used parts least most after next
 term-of {next = next} (gives {next = n} t) e = let same : n ≡ next = cc in rw same at t
 term-of (refuses h) e = let z : _≡_ {A = ℕ} 0 1 = cc in absurd (omega arith)
 
-pub refusal-of : {names : ℕ} {pairs code records : List ℕ} {k : ℕ} {outcome : Outcome (ProofTerm ℕ)} {before : List ℕ} {used size least most : ℕ} {after : List ℕ} {r : Exported} {x : Refusal}
-    → Answered names pairs code records k outcome before used size least most after r → r ≡ Refused x → outcome ≡ refused x
+pub refusal-of : {names : ℕ} {pairs code records : List ℕ} {k : ℕ} {outcome : Outcome (ProofTerm ℕ)} {before : List ℕ} {used : ℕ} {parts : (ℕ → Prop ℕ) → List (ProofTerm ℕ)} {least most : ℕ} {after : List ℕ} {r : Exported} {x : Refusal}
+    → Answered names pairs code records k outcome before used parts least most after r → r ≡ Refused x → outcome ≡ refused x
 refusal-of (gives t) e = let z : _≡_ {A = ℕ} 0 1 = cc in absurd (omega arith)
 refusal-of (refuses h) e = cc
 
@@ -105,7 +107,7 @@ module _ {names : ℕ} {pairs code records : List ℕ} {k : ℕ} {row : Row} (pl
   step-placed {parts = parts} all read (gives {next = last} t) =
       gives {next = last} (record {
         holds = export-read names pairs code records k (entered .found) (entered .right) place ∙ rw (read-all (entered .is-row) read all) (t .holds);
-        small = omega (arith, t .small, rw (all, three-parts parts (read .three)) at (read .small));
+        ordered = λ props. whole-ordered before used _ (rw (all, three-parts parts (read .three)) at (read .ordered props)) (t .ordered props);
         low = omega (arith, t .low, read .low);
         high = omega (arith, t .high, read .high, size-tree names pairs code records k);
         grown = grown-then (omega (arith, read .low)) (read .grown) (t .grown);

@@ -2,10 +2,11 @@
 use Prim.Native.Nat.{ℕ, _+_, _*_, _-_, _≤_, _<_}
 use mathlib.Core.Path.{_≡_}
 use mathlib.Core.Logic.{_⊎_}
-use mathlib.Core.List.{List}
+use mathlib.Core.List.{List, []}
 use lib.ListN.{length, getD}
 use Rattle.definitions.specs.Outcome.{Outcome, accepted, refused}
 use Rattle.definitions.specs.declared.Refusal.{Refusal}
+use Rattle.definitions.specs.Prop.{Prop}
 use Rattle.definitions.specs.Sheet.{pairOffset, stepNumber}
 use Rattle.definitions.specs.Term.{ProofTerm}
 use Rattle.definitions.specs.Tree.{stepIn, treeIn}
@@ -13,11 +14,10 @@ use Rattle.definitions.specs.Export.{Place, placedTerm, export}
 use Rattle.steps.specs.Size.{size}
 use Rattle.proof_term.specs.Records.{recordSize, termAt}
 use Rattle.proof_term.specs.Making.{Kept}
-use Rattle.proof_term.specs.Counting.{termSize}
 use Rattle.proof_tree.specs.declared.Exported.{Exported}
 use Rattle.proof_tree.specs.declared.Exported.the-variants.{Term, Refused}
 use Rattle.prefix_code.specs.PropAt.{propAt}
-use Rattle.proof_tree.specs.Terms.{HasLabel, partTerms, termSizes}
+use Rattle.proof_tree.specs.Terms.{HasProposition, partTerms, Ordered}
 
 -- the offset of the proposition that a step concludes, or of the left side of such an implication
 pub record LabelOffset (pairs code records : List ℕ) (k offset : ℕ) : Type 0 where
@@ -32,19 +32,18 @@ pub record LabelOffset (pairs code records : List ℕ) (k offset : ℕ) : Type 0
 -- proposition is the offset of its code
 pub record Grown (pairs code records : List ℕ) (k : ℕ) (before : List ℕ) (used : ℕ) (after : List ℕ) (next : ℕ) : Type 0 where
   pub kept : Kept used before after
-  pub labels : (m offset : ℕ) → used ≤ m → m < next → HasLabel after m offset → LabelOffset pairs code records k offset
+  pub labels : (m offset : ℕ) → used ≤ m → m < next → HasProposition after m offset → LabelOffset pairs code records k offset
 
--- the outcome is the term of the last record before `next`, which has at most a node for each record that was made, beside those
--- that its parts had
-pub record ExportedTerm (names : ℕ) (pairs code records : List ℕ) (k : ℕ) (outcome : Outcome (ProofTerm ℕ)) (before : List ℕ) (used parts least most : ℕ) (after : List ℕ) (next : ℕ) : Type 0 where
+-- the outcome is the term of the last record before `next`, and the records that were made stand in its order, behind its parts
+pub record ExportedTerm (names : ℕ) (pairs code records : List ℕ) (k : ℕ) (outcome : Outcome (ProofTerm ℕ)) (before : List ℕ) (used : ℕ) (parts : (ℕ → Prop ℕ) → List (ProofTerm ℕ)) (least most : ℕ) (after : List ℕ) (next : ℕ) : Type 0 where
   pub holds : outcome ≡ accepted (termAt (propAt names code) after (next - 1))
-  pub small : used + termSize (termAt (propAt names code) after (next - 1)) ≤ next + parts
+  pub ordered : (props : ℕ → Prop ℕ) → Ordered props before used (parts props) after next
   pub low : least ≤ next
   pub high : next ≤ most
   pub grown : Grown pairs code records k before used after next
 
 -- what each answer says of the outcome for step k: a term, by the count of the records used after it, or the refusal
-pub data Answered (names : ℕ) (pairs code records : List ℕ) (k : ℕ) (outcome : Outcome (ProofTerm ℕ)) (before : List ℕ) (used parts least most : ℕ) (after : List ℕ) : Exported → Type 0 where
+pub data Answered (names : ℕ) (pairs code records : List ℕ) (k : ℕ) (outcome : Outcome (ProofTerm ℕ)) (before : List ℕ) (used : ℕ) (parts : (ℕ → Prop ℕ) → List (ProofTerm ℕ)) (least most : ℕ) (after : List ℕ) : Exported → Type 0 where
   gives : {next : ℕ} → ExportedTerm names pairs code records k outcome before used parts least most after next → Answered names pairs code records k outcome before used parts least most after (Term next)
   refuses : {r : Refusal} → outcome ≡ refused r → Answered names pairs code records k outcome before used parts least most after (Refused r)
 
@@ -56,12 +55,13 @@ pub record RoomFor (terms : List ℕ) (count : ℕ) : Type 0 where
 -- the outcome for the tree of step k in a place, in at most two records for each of its steps
 abbrev pub StepExported : ℕ → List ℕ → List ℕ → List ℕ → ℕ → Place → List ℕ → ℕ → List ℕ → Exported → Type 0
 StepExported names pairs code records k place before used after r =
-    Answered names pairs code records k (export (treeIn names pairs code records k) place) before used 0 (used + 1)
+    Answered names pairs code records k (export (treeIn names pairs code records k) place) before used (λ props. []) (used + 1)
     (used + 2 * size (treeIn names pairs code records k))
     after r
 
 -- the outcome for step k in a place, over the terms of its parts, in at most two records
 abbrev pub StepPlaced : ℕ → List ℕ → List ℕ → List ℕ → ℕ → Place → ℕ → List ℕ → List ℕ → ℕ → List ℕ → Exported → Type 0
 StepPlaced names pairs code records k place reads parts before used after r =
-    let ts = partTerms (termAt (propAt names code) before) reads parts in
-    Answered names pairs code records k (placedTerm place (stepIn names pairs code records k) ts) before used (termSizes ts) (used + 1 - reads) (used + 2) after r
+    let ts : (ℕ → Prop ℕ) → List (ProofTerm ℕ) = λ props. partTerms (termAt props before) reads parts in
+    Answered names pairs code records k (placedTerm place (stepIn names pairs code records k) (ts (propAt names code))) before used ts
+    (used + 1 - reads) (used + 2) after r

@@ -1,12 +1,13 @@
 -- What the walk's outcome over an accepted sheet gives to the readers of its term.
-use Prim.Native.Nat.{ℕ, _-_, _*_}
-use mathlib.Core.Path.{_≡_, _∙_}
+use Prim.Native.Nat.{ℕ, _+_, _-_, _*_, _≤_}
+use mathlib.Core.Path.{_≡_, sym, _∙_}
 use mathlib.Core.Logic.{⊎-elim}
-use mathlib.Core.List.{List}
+use mathlib.Core.List.{List, []}
 use native.Mathlib.Omega.{arith}
 use lib.ListN.{length}
 use Rattle.definitions.specs.declared.Refusal.{Refusal}
 use Rattle.definitions.specs.Outcome.{refused, accepted, _>>=_}
+use Rattle.definitions.specs.Prop.{Prop}
 use Rattle.definitions.specs.Sheet.{names, steps, stepRecords, propositionPairs, codeBytes, stepNumber, stepLimit}
 use Rattle.definitions.specs.Term.{ProofTerm}
 use Rattle.definitions.specs.Tree.{treeIn, treeOf, rootOf}
@@ -17,15 +18,18 @@ use Rattle.definitions.proofs.PrefixCode.{Bytes}
 use Rattle.prefix_code.specs.PropAt.{Present}
 use Rattle.prefix_code.proofs.Reading.{present-in}
 use Rattle.proof_term.specs.Records.{recordSize}
+use Rattle.proof_term.specs.Labels.{ofRecords, InOrder}
 use Rattle.proof_term.specs.Readable.{NamesBelow}
+use Rattle.proof_term.proofs.Fitting.{datatype-below}
 use Rattle.sheet.specs.Header.{headerOf}
 use Rattle.sheet.specs.declared.header.Sheet.{Sheet}
 use Rattle.sheet.proofs.Admitted.{AcceptedSheet, code-of-bytes, has-codes}
 use Rattle.proof_tree.specs.declared.Exported.{Exported}
 use Rattle.proof_tree.specs.declared.Exported.the-variants.{Term, Refused}
+use Rattle.proof_tree.specs.Terms.{termsLabels, Ordered}
 use Rattle.proof_tree.specs.Exporting.{LabelOffset, StepExported}
 use Rattle.proof_tree.proofs.Conclusions.{left-present}
-use Rattle.proof_tree.proofs.Labels.{has-label}
+use Rattle.proof_tree.proofs.Labels.{has-proposition}
 use Rattle.proof_tree.proofs.ExportedNames.{exported-names}
 use Rattle.proof_tree.proofs.GoodSteps.{known-proposition}
 use Rattle.proof_tree.proofs.Walking.{term-of, refusal-of, size-within}
@@ -36,6 +40,13 @@ use Rattle.sheet_term.specs.Held.{LabelStands, HeldTerm, Gives, holds, r
 pub not-a-sheet : (s : List ℕ) {r : Refusal} → admitted s ≡ refused r → sheetTerm s ≡ refused r
 unfolding sheetTerm _>>=_
 not-a-sheet s e = rw e
+
+-- what is made from the first record on stands in the order of its term
+from-first : {before after : List ℕ} {next : ℕ} → 1 ≤ next → ((props : ℕ → Prop ℕ) → Ordered props before 0 [] after next) → InOrder after (next - 1)
+unfolding ofRecords termsLabels
+from-first {next = next} low o =
+    let all : next - 1 + 1 ≡ next = omega arith in
+    record { labels = λ props. rw all (o props .made ∙ sym (o props .whole)) }
 
 module _ {s : List ℕ} {h : Sheet} (a : AcceptedSheet s h) where
   -- the root's outcome is the sheet's
@@ -77,13 +88,17 @@ module _ {s : List ℕ} {h : Sheet} (a : AcceptedSheet s h) where
           let t = term-of (rw (a .header) at walked) e in
           let most = size-within (names s) (propositionPairs s) (codeBytes s) (stepRecords s) (steps s - 1) in
           let range = a .sheet .in-range in
+          let ordered = from-first (t .low) (λ props. t .ordered props) in
           record {
             is-term = root-outcome ∙ t .holds;
             room = room;
             held = omega (arith, t .low, t .high, most, range .steps, range .some-step);
-            few = omega (arith, t .small, t .high, most, range .steps);
             below = names-below _ (t .holds);
-            labels = λ m h l. label-stands (t .grown .labels m _ (omega arith) (omega (arith, t .low)) (has-label after m l));
+            in-order = ordered;
+            labels = λ m h l. record {
+              datatype = datatype-below _ ordered (names-below _ (t .holds)) m h l;
+              proposition = λ no-datatype. label-stands (t .grown .labels m _ (omega arith) (omega (arith, t .low)) (has-proposition after m l no-datatype));
+            };
           }
 
       pub gives-term : {next : ℕ} → r ≡ Term next → Gives s after (answer.Held h (next - 1))

@@ -54,7 +54,7 @@ module _
   where
     fit : LabelsFit (h .names) code terms n (propAt (names s) (codeBytes s))
     unfolding headerOf
-    fit = rw (same, a .header) (labels-fit (t .below) (λ m l own. label-present a bytes (t .labels m l own)))
+    fit = rw (same, a .header) (labels-fit (t .below) (λ m l own. label-present a bytes (t .labels m l (own .labelled) .proposition (own .no-datatype))))
 
     -- its labels can be listed
     pub listable : (recordSize * (n + 1) ≤ length terms) × SomeLabels (h .names) code terms n

@@ -76,7 +76,7 @@ module _ {s : List ℕ} {h : Sheet} (a : AcceptedSheet s h) (bytes : Bytes s) wh
 
   labels-stand : {terms : List ℕ} {n : ℕ} → HeldTerm s terms n → LabelsFit (h .names) (codeBytes s) terms n (propAt (h .names) (codeBytes s))
   unfolding headerOf
-  labels-stand term = rw (a .header) (labels-fit (term .below) (λ m l p. label-present a bytes (term .labels m l p)))
+  labels-stand term = rw (a .header) (labels-fit (term .below) (λ m l p. label-present a bytes (term .labels m l (p .labelled) .proposition (p .no-datatype))))
 
   goal-stands : Present (h .names) (codeBytes s) (pairOffset (propositionPairs s) (h .goal))
   unfolding headerOf

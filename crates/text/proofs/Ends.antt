@@ -45,6 +45,8 @@ module _ {s : List ℕ} {h : Sheet} (a : AcceptedSheet s h) where
   printable term table = rw (a .header) (record {
     held = term .held;
     below = term .below;
-    labels = λ m h p. label-known table (term .labels m h p);
+    labels = λ m h l.
+        let fits = term .labels m h l in
+        record { datatype = fits .datatype; proposition = λ no-datatype. label-known table (fits .proposition no-datatype) };
     named = name-within (a .sheet);
   })

@@ -1,9 +1,10 @@
 -- Each rule's term by its maker.
 use mathlib.Core.Path.{refl}
 use borrow.Author.Needs.{needs}
+use Rattle.definitions.specs.Term.{ofLabels}
 use Rattle.definitions.specs.Export.{premissTerm}
 use Rattle.proof_tree.specs.Table.{termOf, partCount}
-use Rattle.proof_tree.specs.Terms.{ownLabel, termOver, partTerms}
+use Rattle.proof_tree.specs.Terms.{termOver, partTerms}
 use Rattle.proof_tree.proofs.Makers.{proposition-label, labelled, plain, premiss-own}
 use Rattle.proof_tree.proofs.term.rule_term.Statement.{statement}
 use Rattle.proof_tree.proofs.term.rule_term.Tie as tie
@@ -111,94 +112,94 @@ same-length : tie.Need-same-length
 same-length c = search needs
 
 returns : tie.Need-returns
-unfolding termOver termOf partTerms partCount premissTerm ownLabel
-returns c = plain (c .before .before .before .before .enum-told .given .1) (c .before .before .pair .ensures) (λ props. refl) (λ props. refl)
+unfolding termOver termOf partTerms partCount premissTerm ofLabels
+returns c = plain (c .before .before .before .before .enum-told .given .1) (c .before .before .pair .ensures) (λ props. refl) (λ props part. refl)
 
 same-length-2 : tie.Need-same-length-2
 same-length-2 c = search needs
 
 returns-2 : tie.Need-returns-2
-unfolding termOver termOf partTerms partCount premissTerm ownLabel
-returns-2 c = plain (c .before .before .before .before .enum-told2 .given .1) (c .before .before .project-fst .ensures) (λ props. refl) (λ props. refl)
+unfolding termOver termOf partTerms partCount premissTerm ofLabels
+returns-2 c = plain (c .before .before .before .before .enum-told2 .given .1) (c .before .before .project-fst .ensures) (λ props. refl) (λ props part. refl)
 
 same-length-3 : tie.Need-same-length-3
 same-length-3 c = search needs
 
 returns-3 : tie.Need-returns-3
-unfolding termOver termOf partTerms partCount premissTerm ownLabel
-returns-3 c = plain (c .before .before .before .before .enum-told3 .given .1) (c .before .before .project-snd .ensures) (λ props. refl) (λ props. refl)
+unfolding termOver termOf partTerms partCount premissTerm ofLabels
+returns-3 c = plain (c .before .before .before .before .enum-told3 .given .1) (c .before .before .project-snd .ensures) (λ props. refl) (λ props part. refl)
 
 same-length-4 : tie.Need-same-length-4
 same-length-4 c = search needs
 
 returns-4 : tie.Need-returns-4
-unfolding termOver termOf partTerms partCount premissTerm ownLabel
-returns-4 c = plain (c .before .before .before .before .enum-told4 .given .1) (c .before .before .unit .ensures) (λ props. refl) (λ props. refl)
+unfolding termOver termOf partTerms partCount premissTerm ofLabels
+returns-4 c = plain (c .before .before .before .before .enum-told4 .given .1) (c .before .before .unit .ensures) (λ props. refl) (λ props part. refl)
 
 same-length-5 : tie.Need-same-length-5
 same-length-5 c = search needs
 
 returns-5 : tie.Need-returns-5
-unfolding termOver termOf partTerms partCount premissTerm ownLabel
+unfolding termOver termOf partTerms partCount premissTerm ofLabels
 returns-5 c =
     labelled (c .before .before .before .before .enum-told5 .given .1) (c .before .before .function .ensures)
-    (λ number l. proposition-label _ _ _ (c .before .before .before .before .before .before .before .pre .1) l) (λ props. refl)
+    (λ number l. proposition-label _ _ _ (c .before .before .before .before .before .before .before .pre .1) l) (λ props part. refl)
 
 same-length-6 : tie.Need-same-length-6
 same-length-6 c = search needs
 
 returns-6 : tie.Need-returns-6
-unfolding termOver termOf partTerms partCount premissTerm ownLabel
-returns-6 c = plain (c .before .before .before .before .enum-told6 .given .1) (c .before .before .application .ensures) (λ props. refl) (λ props. refl)
+unfolding termOver termOf partTerms partCount premissTerm ofLabels
+returns-6 c = plain (c .before .before .before .before .enum-told6 .given .1) (c .before .before .application .ensures) (λ props. refl) (λ props part. refl)
 
 same-length-7 : tie.Need-same-length-7
 same-length-7 c = search needs
 
 returns-7 : tie.Need-returns-7
-unfolding termOver termOf partTerms partCount premissTerm ownLabel
-returns-7 c = plain (c .before .before .before .before .enum-told7 .given .1) (c .before .before .ident .ensures) (λ props. refl) (λ props. refl)
+unfolding termOver termOf partTerms partCount premissTerm ofLabels
+returns-7 c = plain (c .before .before .before .before .enum-told7 .given .1) (c .before .before .ident .ensures) (λ props. refl) (λ props part. refl)
 
 same-length-8 : tie.Need-same-length-8
 same-length-8 c = search needs
 
 returns-8 : tie.Need-returns-8
-unfolding termOver termOf partTerms partCount premissTerm ownLabel
-returns-8 c = plain (c .before .before .before .before .enum-told8 .given .1) (c .before .before .or-left .ensures) (λ props. refl) (λ props. refl)
+unfolding termOver termOf partTerms partCount premissTerm ofLabels
+returns-8 c = plain (c .before .before .before .before .enum-told8 .given .1) (c .before .before .or-left .ensures) (λ props. refl) (λ props part. refl)
 
 same-length-9 : tie.Need-same-length-9
 same-length-9 c = search needs
 
 returns-9 : tie.Need-returns-9
-unfolding termOver termOf partTerms partCount premissTerm ownLabel
-returns-9 c = plain (c .before .before .before .before .enum-told9 .given .1) (c .before .before .or-right .ensures) (λ props. refl) (λ props. refl)
+unfolding termOver termOf partTerms partCount premissTerm ofLabels
+returns-9 c = plain (c .before .before .before .before .enum-told9 .given .1) (c .before .before .or-right .ensures) (λ props. refl) (λ props part. refl)
 
 same-length-10 : tie.Need-same-length-10
 same-length-10 c = search needs
 
 returns-10 : tie.Need-returns-10
-unfolding termOver termOf partTerms partCount premissTerm ownLabel
-returns-10 c = plain (c .before .before .before .before .enum-told10 .given .1) (c .before .before .case .ensures) (λ props. refl) (λ props. refl)
+unfolding termOver termOf partTerms partCount premissTerm ofLabels
+returns-10 c = plain (c .before .before .before .before .enum-told10 .given .1) (c .before .before .case .ensures) (λ props. refl) (λ props part. refl)
 
 same-length-11 : tie.Need-same-length-11
 same-length-11 c = search needs
 
 returns-11 : tie.Need-returns-11
-unfolding termOver termOf partTerms partCount premissTerm ownLabel
-returns-11 c = plain (c .before .before .before .before .enum-told11 .given .1) (c .before .before .abort .ensures) (λ props. refl) (λ props. refl)
+unfolding termOver termOf partTerms partCount premissTerm ofLabels
+returns-11 c = plain (c .before .before .before .before .enum-told11 .given .1) (c .before .before .abort .ensures) (λ props. refl) (λ props part. refl)
 
 same-length-12 : tie.Need-same-length-12
 same-length-12 c = search needs
 
 returns-12 : tie.Need-returns-12
-unfolding termOver termOf partTerms partCount premissTerm ownLabel
-returns-12 c = plain (c .before .before .before .before .enum-told12 .given .1) (c .before .before .let-in .ensures) (λ props. refl) (λ props. refl)
+unfolding termOver termOf partTerms partCount premissTerm ofLabels
+returns-12 c = plain (c .before .before .before .before .enum-told12 .given .1) (c .before .before .let-in .ensures) (λ props. refl) (λ props part. refl)
 
 same-length-13 : tie.Need-same-length-13
 same-length-13 c = search needs
 
 returns-13 : tie.Need-returns-13
-unfolding termOver termOf partTerms partCount premissTerm ownLabel
-returns-13 c = plain (c .before .before .before .before .enum-told13 .given .1) (c .before .before .sorry .ensures) (λ props. refl) (λ props. refl)
+unfolding termOver termOf partTerms partCount premissTerm ofLabels
+returns-13 c = plain (c .before .before .before .before .enum-told13 .given .1) (c .before .before .sorry .ensures) (λ props. refl) (λ props part. refl)
 
 returns-14 : tie.Need-returns-14
 returns-14 c = premiss-own (c .enum-told14 .given .1) (c .before .before .before .pre .0 .newest (c .enum-told14 .given .1))
