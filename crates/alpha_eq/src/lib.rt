@@ -27,12 +27,6 @@ pub enum Answer {
     Refused(Refusal),
 }
 
-// 19: two uninstantiated parameters meet with neither bound on its side.
-const UNBOUND: Refusal = Refusal {
-    number: 19,
-    place: 0,
-};
-
 // A yes with these ends, a no, or the refusal.
 fn with_ends(answer: Answer, i: usize, j: usize) -> Compared
     ensures { λ r. ⌜ r ≡ compared (outcomeOf answer) i j ⌝ }
@@ -73,7 +67,7 @@ fn bound_alike(
         }
         unseen -= 1;
     }
-    Answer::Refused(UNBOUND)
+    Answer::Refused(Refusal::at(19, 0))
 }
 
 // The parameters at i and j.

@@ -1,9 +1,24 @@
 // The types that every layer shares with the definitions.
+ghost use mathlib.Core.Path.{_≡_};
+ghost use Prim.Native.Nat.{_<_};
 
 // A refusal of document 01 or 02: its number and its place.
 pub struct Refusal {
     pub number: u8,
     pub place: u16,
+}
+
+impl Refusal {
+    // The refusal of a number at a place.
+    pub fn at(number: u8, place: usize) -> Self
+        requires { ⌜ place < 65536 ⌝ }
+        ensures { λ r. ⌜ r ≡ record { number = number; place = place } ⌝ }
+    {
+        Self {
+            number,
+            place: place as u16,
+        }
+    }
 }
 
 // A refusal as it is handed back: with the column of the step that it names, or 0 where it names none.

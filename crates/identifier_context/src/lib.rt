@@ -45,10 +45,7 @@ pub fn insert(entries: &mut [u16], len: usize, entry: Entry) -> Inserted
     ensures { λ r. ⌜ Inserts (now (entries .entry)) (now (entries .exit)) len entry r ⌝ }
 {
     if entries.len() / ENTRY_SIZE <= len {
-        return Inserted::Refused(Refusal {
-            number: 16,
-            place: 0,
-        });
+        return Inserted::Refused(Refusal::at(16, 0));
     }
     let at = ENTRY_SIZE * len;
     entries[at] = entry.name;

@@ -1,6 +1,6 @@
 // The header of a sheet, and where the parts lie that follow it.
 use crate::Checked;
-use definitions::Refusal;
+use crate::refuse;
 use reader::Number;
 use reader::header_number;
 ghost use mathlib.Core.Path.{_≡_};
@@ -30,10 +30,11 @@ pub struct Layout {
 }
 
 // Refusal 1: fewer bytes came than a header has.
-const TOO_SHORT: Checked = Checked::Refused(Refusal {
-    number: 1,
-    place: 0,
-});
+fn too_short() -> Checked
+    ensures { λ r. ⌜ r ≡ Checked.Refused (record { number = 1; place = 0 }) ⌝ }
+{
+    refuse(1, 0)
+}
 
 impl Sheet {
     // Document 01's limits: text bytes, names, code bytes, propositions, steps; bytes of a name, parameters of an atom,
@@ -77,22 +78,22 @@ impl Sheet {
         ensures { λ r. ⌜ r ≡ answered (headerOf (now (s .entry))) (shortCheck (now (s .entry))) ⌝ }
     {
         let Number::At(text_length) = header_number(s, 0) else {
-            return TOO_SHORT;
+            return too_short();
         };
         let Number::At(names) = header_number(s, 1) else {
-            return TOO_SHORT;
+            return too_short();
         };
         let Number::At(code_length) = header_number(s, 2) else {
-            return TOO_SHORT;
+            return too_short();
         };
         let Number::At(propositions) = header_number(s, 3) else {
-            return TOO_SHORT;
+            return too_short();
         };
         let Number::At(steps) = header_number(s, 4) else {
-            return TOO_SHORT;
+            return too_short();
         };
         let Number::At(goal) = header_number(s, 5) else {
-            return TOO_SHORT;
+            return too_short();
         };
         Checked::Accepted(Self {
             text_length,

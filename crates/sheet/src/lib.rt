@@ -40,10 +40,7 @@ fn refuse(number: u8, place: usize) -> Checked
     requires { ⌜ place < 65536 ⌝ }
     ensures { λ r. ⌜ r ≡ Checked.Refused (record { number = number; place = place }) ⌝ }
 {
-    Checked::Refused(Refusal {
-        number,
-        place: place as u16,
-    })
+    Checked::Refused(Refusal::at(number, place))
 }
 
 // Refusals 1 to 3: the header, and the length that it gives.

@@ -79,10 +79,7 @@ fn asked_version(number: usize) -> Asked
     if number == 2 {
         return Asked::Of(Version::Second);
     }
-    Asked::Refused(Refusal {
-        number: 21,
-        place: 0,
-    })
+    Asked::Refused(Refusal::at(21, 0))
 }
 
 // The text of a version in a style: the sheet's term, and then its declarations and the term as printed.
@@ -136,10 +133,7 @@ fn list(s: &[u8], h: Sheet, terms: &[u16], n: usize, which: TermList, out: &mut 
     let code = code_bytes(s, h);
     let end = put_list(terms, n, which, code, h.names, out, 0, false);
     if out.len() < end {
-        return Written::Refused(Refusal {
-            number: 16,
-            place: 0,
-        });
+        return Written::Refused(Refusal::at(16, 0));
     }
     put_list(terms, n, which, code, h.names, out, 0, true);
     Written::Length(end)

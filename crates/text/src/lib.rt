@@ -210,10 +210,7 @@ pub fn text(
     );
     let end = put_term(out, start, s, h, terms, n, style, &ends, false);
     if out.len() < end {
-        return Written::Refused(Refusal {
-            number: 16,
-            place: 0,
-        });
+        return Written::Refused(Refusal::at(16, 0));
     }
     let start = put_heading(
         out,

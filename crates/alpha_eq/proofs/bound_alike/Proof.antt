@@ -2,10 +2,10 @@
 use Prim.Native.Nat.{ℕ, _≤_}
 use mir.Syntax.{w16, w64}
 use mir.Val.{Fits}
-use mathlib.Core.Path.{_≡_, refl, sym, _∙_}
+use mathlib.Core.Path.{_≡_, refl, sym, ap, _∙_}
 use native.Mathlib.Omega.{arith}
 use borrow.Author.Needs.{needs}
-use Rattle.definitions.specs.Outcome.{refuse}
+use Rattle.definitions.specs.Outcome.{refused, refuse}
 use Rattle.identifier.proofs.Within.{last-within}
 use Rattle.alpha_eq.specs.Comparing.{outcomeOf, boundAlikeIn}
 use Rattle.alpha_eq.proofs.Bindings.{latest-binding, none-bound}
@@ -94,11 +94,15 @@ loop-again c = (
       ∙ c .before .before .before .before .before .before .before .loop .inv .1,
 )
 
+at-requires : tie.Need-at-requires Inv-loop μ-loop
+at-requires c κs = search needs
+
 returns-4 : tie.Need-returns-4 Inv-loop μ-loop
 unfolding outcomeOf refuse
 returns-4 c =
-    let none : c .before .loop .unseen ≡ 0 = omega arith in
-    sym (none-bound _ _ _ _ _) ∙ rw none at (c .before .loop .inv .1)
+    let in-loop = c .before .before in
+    let none : in-loop .loop .unseen ≡ 0 = omega arith in
+    ap refused (c .at .ensures) ∙ sym (none-bound _ _ _ _ _) ∙ rw none at (in-loop .loop .inv .1)
 
 pub bound-alike-spec : {M : Type 1} → statement M
 bound-alike-spec =
@@ -124,4 +128,5 @@ bound-alike-spec =
     sub-unseen
     loop-less
     loop-again
+    at-requires
     returns-4)

@@ -7,8 +7,11 @@ use Rattle.identifier_context.proofs.Insertion.{inserts-nothing, insert
 use Rattle.identifier_context.proofs.insert.Statement.{statement}
 use Rattle.identifier_context.proofs.insert.Tie as tie
 
+at-requires : tie.Need-at-requires
+at-requires c κs = search needs
+
 returns : tie.Need-returns
-returns c = inserts-nothing (omega arith)
+returns c = rw (c .at .ensures) (inserts-nothing (omega arith))
 
 mul-at : tie.Need-mul-at
 mul-at c = search needs
@@ -59,6 +62,7 @@ pub insert-spec : {M : Type 1} → statement M
 insert-spec =
     tie.close
     (tie.spec
+    at-requires
     returns
     mul-at
     mul-entries

@@ -1,4 +1,5 @@
 -- 1 and 2 are versions, and any other number is none.
+use borrow.Author.Needs.{needs}
 use borrow.Author.Tests.{ne-eqb}
 use Rattle.definitions.specs.Outcome.{refuse}
 use Rattle.definitions.specs.Answers.{versionOf}
@@ -14,9 +15,15 @@ returns-2 : tie.Need-returns-2
 unfolding askedOf versionOf refuse
 returns-2 c = rw (c .if2 .taken)
 
+at-requires : tie.Need-at-requires
+at-requires c κs = search needs
+
 returns-3 : tie.Need-returns-3
 unfolding askedOf versionOf refuse
-returns-3 c = rw (ne-eqb (c .before .before .args .number) 1 (c .before .if1 .left), ne-eqb (c .before .before .args .number) 2 (c .if2 .left))
+returns-3 c =
+    let neither = c .before in
+    let number = neither .before .before .args .number in
+    rw (c .at .ensures, ne-eqb number 1 (neither .before .if1 .left), ne-eqb number 2 (neither .if2 .left))
 
 pub asked-version-spec : {M : Type 1} → statement M
-asked-version-spec = tie.close (tie.spec returns returns-2 returns-3)
+asked-version-spec = tie.close (tie.spec returns returns-2 at-requires returns-3)

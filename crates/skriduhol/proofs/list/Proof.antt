@@ -6,44 +6,69 @@ use borrow.Author.Needs.{needs}
 use Rattle.skriduhol.proofs.list.Statement.{statement}
 use Rattle.skriduhol.proofs.list.Tie as tie
 
+-- back from the code to the start, and from the list that is measured to the code
+abbrev entry : tie.After-code-bytes → tie.Start
+entry c = c .before .before .before .before
+
+abbrev measured : tie.After-put-list → tie.After-code-bytes
+measured c = c .before .before
+
+-- without room and with it: back to the list that is measured; and from the list that is written to the room
+abbrev no-room : tie.Then1 → tie.After-put-list
+no-room c = c .before .before .before
+
+abbrev room-found : tie.Else1 → tie.After-put-list
+room-found c = c .before .before .before
+
+abbrev written : tie.After-put-list2 → tie.Else1
+written c = c .before .before
+
 code-bytes-requires : tie.Need-code-bytes-requires
 code-bytes-requires c κs = its-header (c .before .before .before .pre .0)
 
 put-list-requires : tie.Need-put-list-requires
 put-list-requires c κs =
-    let start = c .before .before .before .before .before in
-    let known = c .before .before .before .before .shared-slice-known .given in
-    let code = c .before .code-bytes .ensures in
-    listable (start .pre .0) (λ i. omega (arith, known i)) (start .pre .1) code
+    let code = c .before in
+    let start = entry code in
+    let known = code .before .before .before .shared-slice-known .given in
+    listable (start .pre .0) (λ i. omega (arith, known i)) (start .pre .1) (code .code-bytes .ensures)
+
+at-requires : tie.Need-at-requires
+at-requires c κs = search needs
 
 same-length : tie.Need-same-length
 same-length c = search needs
 
 returns : tie.Need-returns
 returns c =
-    let start = c .before .before .before .before .before .before .before .before .before in
-    let known = c .before .before .before .before .before .before .before .before .shared-slice-known .given in
-    let code = c .before .before .before .before .before .code-bytes .ensures in
-    too-long (start .pre .0) (λ i. omega (arith, known i)) (start .pre .1) code
-    _ (c .before .before .before .put-list .ensures) (omega arith)
+    let listed = no-room (c .before) in
+    let code = measured listed in
+    let start = entry code in
+    let known = code .before .before .before .shared-slice-known .given in
+    rw (c .at .ensures)
+    (too-long (start .pre .0) (λ i. omega (arith, known i)) (start .pre .1) (code .code-bytes .ensures)
+    _ (listed .put-list .ensures) (omega arith))
 
 put-list-requires-2 : tie.Need-put-list-requires-2
 put-list-requires-2 c κs =
-    let start = c .before .before .before .before .before .before .before .before .before .before in
-    let known = c .before .before .before .before .before .before .before .before .before .shared-slice-known .given in
-    let code = c .before .before .before .before .before .before .code-bytes .ensures in
-    listable (start .pre .0) (λ i. omega (arith, known i)) (start .pre .1) code
+    let code = measured (room-found (c .before)) in
+    let start = entry code in
+    let known = code .before .before .before .shared-slice-known .given in
+    listable (start .pre .0) (λ i. omega (arith, known i)) (start .pre .1) (code .code-bytes .ensures)
 
 same-length-2 : tie.Need-same-length-2
 same-length-2 c = search needs
 
 returns-2 : tie.Need-returns-2
 returns-2 c =
-    let start = c .before .before .before .before .before .before .before .before .before .before .before .before .before in
-    let known = c .before .before .before .before .before .before .before .before .before .before .before .before .shared-slice-known .given in
-    let code = c .before .before .before .before .before .before .before .before .before .code-bytes .ensures in
-    fills (start .pre .0) (λ i. omega (arith, known i)) (start .pre .1) code
-    _ (c .before .before .before .before .before .before .before .put-list .ensures) (omega arith) (c .before .before .put-list2 .ensures)
+    let again = c .before .before in
+    let room = written again in
+    let listed = room-found room in
+    let code = measured listed in
+    let start = entry code in
+    let known = code .before .before .before .shared-slice-known .given in
+    fills (start .pre .0) (λ i. omega (arith, known i)) (start .pre .1) (code .code-bytes .ensures)
+    _ (listed .put-list .ensures) (omega arith) (again .put-list2 .ensures)
 
 pub list-spec : {M : Type 1} → statement M
 list-spec =
@@ -51,6 +76,7 @@ list-spec =
     (tie.spec
     code-bytes-requires
     put-list-requires
+    at-requires
     same-length
     returns
     put-list-requires-2

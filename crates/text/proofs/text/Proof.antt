@@ -21,6 +21,10 @@ heading-measured c = c .before .before .before .before
 abbrev term-measured : tie.After-put-term → tie.After-put-heading
 term-measured c = c .before .before .before .before .before
 
+-- where there is no room: back from it to the term of the dry run
+abbrev no-room : tie.Then1 → tie.After-put-term
+no-room c = c .before .before .before
+
 -- where there is room: back from it to the term of the dry run, and from the heading and the term that are written
 abbrev room-found : tie.Else1 → tie.After-put-term
 room-found c = c .before .before .before
@@ -63,12 +67,17 @@ put-term-requires c κs = search needs
 same-length : tie.Need-same-length
 same-length c = search needs
 
+at-requires : tie.Need-at-requires
+at-requires c κs = search needs
+
 returns : tie.Need-returns
 returns c =
-    let term = c .before .before .before in
+    let refused = c .before in
+    let term = no-room refused in
     let heading = term-measured term in
     let s = entry (first-noted (second-noted (heading-measured heading))) in
-    text-too-long (s .pre .1) _ _ (heading .put-heading .ensures) (term .put-term .ensures) (c .if1 .taken)
+    rw (c .at .ensures)
+    (text-too-long (s .pre .1) _ _ (heading .put-heading .ensures) (term .put-term .ensures) (refused .if1 .taken))
 
 put-heading-requires-2 : tie.Need-put-heading-requires-2
 put-heading-requires-2 c κs =
@@ -111,6 +120,7 @@ text-spec =
     declare-requires-2
     put-heading-requires
     put-term-requires
+    at-requires
     same-length
     returns
     put-heading-requires-2

@@ -44,8 +44,13 @@ enum-known-text-length c = search needs
 enum-told : tie.Need-enum-told
 enum-told c = search needs
 
+too-short-requires : tie.Need-too-short-requires
+too-short-requires c κs = search needs
+
 returns : tie.Need-returns
-returns c = refused _ 0 (lit< tt) (sym (c .enum-told .given .1) ∙ c .before .before .header-number .ensures)
+returns c =
+    let told = c .before in
+    c .too-short .ensures ∙ refused _ 0 (lit< tt) (sym (told .enum-told .given .1) ∙ told .before .before .header-number .ensures)
 
 header-number-requires-2 : tie.Need-header-number-requires-2
 header-number-requires-2 c κs = search needs
@@ -56,8 +61,13 @@ enum-known-names c = search needs
 enum-told-2 : tie.Need-enum-told-2
 enum-told-2 c = search needs
 
+too-short-requires-2 : tie.Need-too-short-requires-2
+too-short-requires-2 c κs = search needs
+
 returns-2 : tie.Need-returns-2
-returns-2 c = refused _ 1 (lit< tt) (sym (c .enum-told2 .given .1) ∙ c .before .before .header-number2 .ensures)
+returns-2 c =
+    let told = c .before in
+    c .too-short2 .ensures ∙ refused _ 1 (lit< tt) (sym (told .enum-told2 .given .1) ∙ told .before .before .header-number2 .ensures)
 
 header-number-requires-3 : tie.Need-header-number-requires-3
 header-number-requires-3 c κs = search needs
@@ -68,8 +78,13 @@ enum-known-code-length c = search needs
 enum-told-3 : tie.Need-enum-told-3
 enum-told-3 c = search needs
 
+too-short-requires-3 : tie.Need-too-short-requires-3
+too-short-requires-3 c κs = search needs
+
 returns-3 : tie.Need-returns-3
-returns-3 c = refused _ 2 (lit< tt) (sym (c .enum-told3 .given .1) ∙ c .before .before .header-number3 .ensures)
+returns-3 c =
+    let told = c .before in
+    c .too-short3 .ensures ∙ refused _ 2 (lit< tt) (sym (told .enum-told3 .given .1) ∙ told .before .before .header-number3 .ensures)
 
 header-number-requires-4 : tie.Need-header-number-requires-4
 header-number-requires-4 c κs = search needs
@@ -80,8 +95,13 @@ enum-known-propositions c = search needs
 enum-told-4 : tie.Need-enum-told-4
 enum-told-4 c = search needs
 
+too-short-requires-4 : tie.Need-too-short-requires-4
+too-short-requires-4 c κs = search needs
+
 returns-4 : tie.Need-returns-4
-returns-4 c = refused _ 3 (lit< tt) (sym (c .enum-told4 .given .1) ∙ c .before .before .header-number4 .ensures)
+returns-4 c =
+    let told = c .before in
+    c .too-short4 .ensures ∙ refused _ 3 (lit< tt) (sym (told .enum-told4 .given .1) ∙ told .before .before .header-number4 .ensures)
 
 header-number-requires-5 : tie.Need-header-number-requires-5
 header-number-requires-5 c κs = search needs
@@ -92,8 +112,13 @@ enum-known-steps c = search needs
 enum-told-5 : tie.Need-enum-told-5
 enum-told-5 c = search needs
 
+too-short-requires-5 : tie.Need-too-short-requires-5
+too-short-requires-5 c κs = search needs
+
 returns-5 : tie.Need-returns-5
-returns-5 c = refused _ 4 (lit< tt) (sym (c .enum-told5 .given .1) ∙ c .before .before .header-number5 .ensures)
+returns-5 c =
+    let told = c .before in
+    c .too-short5 .ensures ∙ refused _ 4 (lit< tt) (sym (told .enum-told5 .given .1) ∙ told .before .before .header-number5 .ensures)
 
 header-number-requires-6 : tie.Need-header-number-requires-6
 header-number-requires-6 c κs = search needs
@@ -104,8 +129,13 @@ enum-known-goal c = search needs
 enum-told-6 : tie.Need-enum-told-6
 enum-told-6 c = search needs
 
+too-short-requires-6 : tie.Need-too-short-requires-6
+too-short-requires-6 c κs = search needs
+
 returns-6 : tie.Need-returns-6
-returns-6 c = refused _ 5 (lit< tt) (sym (c .enum-told6 .given .1) ∙ c .before .before .header-number6 .ensures)
+returns-6 c =
+    let told = c .before in
+    c .too-short6 .ensures ∙ refused _ 5 (lit< tt) (sym (told .enum-told6 .given .1) ∙ told .before .before .header-number6 .ensures)
 
 returns-7 : tie.Need-returns-7
 returns-7 c =
@@ -129,25 +159,31 @@ header-spec =
     header-number-requires
     enum-known-text-length
     enum-told
+    too-short-requires
     returns
     header-number-requires-2
     enum-known-names
     enum-told-2
+    too-short-requires-2
     returns-2
     header-number-requires-3
     enum-known-code-length
     enum-told-3
+    too-short-requires-3
     returns-3
     header-number-requires-4
     enum-known-propositions
     enum-told-4
+    too-short-requires-4
     returns-4
     header-number-requires-5
     enum-known-steps
     enum-told-5
+    too-short-requires-5
     returns-5
     header-number-requires-6
     enum-known-goal
     enum-told-6
+    too-short-requires-6
     returns-6
     returns-7)
