@@ -1,18 +1,22 @@
 -- What the byte in front says of the proposition at a position: its shape, and how far its numbers reach.
 use Prim.Native.Nat.{ℕ, _+_, _≤_, _<_}
-use mathlib.Core.Path.{_≡_, sym}
+use mathlib.Core.Path.{_≡_, refl, sym, _∙_}
 use mathlib.Core.List.{List, _++_}
 use mathlib.Core.Logic.{by-cases}
 use native.Mathlib.Omega.{arith}
 use native.Mathlib.Decide.{decLt}
 use lib.ListN.{length, getD}
 use Rattle.definitions.specs.Sheet.{numberAt}
+use Rattle.definitions.specs.Prop as proposition
+use Rattle.definitions.specs.Prop.{Prop, Connective, connectiveByte}
 use Rattle.definitions.specs.Code.{encode}
+use Rattle.prefix_code.specs.Scan.{Stands}
 use Rattle.prefix_code.specs.PropAt.{propAt, Present}
-use Rattle.prefix_code.specs.Shape.{ShapeOf, is-true, is-false, is-binary, is-atom, is-quantified}
+use Rattle.prefix_code.specs.Shape.{ImplicationAt, ShapeOf, is-true, is-false, is-binary, is-atom, is-quantified}
 use Rattle.prefix_code.specs.declared.Shape.the-variants.{True, False, Binary, Atom, Quantified}
+use Rattle.prefix_code.proofs.Positions.{byte-at}
 use Rattle.prefix_code.proofs.Forms.{AtomAt, QuantifiedAt, true-at, false-at, binary-at, atom-at, quantified-at}
-use Rattle.prefix_code.proofs.Reading.{prop-at}
+use Rattle.prefix_code.proofs.Reading.{prop-at, present}
 
 module _ {names : ℕ} {l : List ℕ} {at : ℕ} (h : Present names l at) where
   atom-here : getD l at 0 ≡ 5 → AtomAt names l at (h .rest) (propAt names l at)
@@ -52,3 +56,17 @@ module _ {names : ℕ} {l : List ℕ} {at : ℕ} (h : Present names l at) where
       let q = quantified-here low in
       let body = prop-at names l (at + 5) (q .body) (h .rest) (q .body-at) in
       rw (q .bytes .byte) (is-quantified {q = q .quantifier} (rw (q .bytes .object, q .bytes .datatype, body) (q .is)))
+
+  -- the byte in front of a binary proposition is its connective's
+  binary-byte : {c : Connective} {p q : Prop ℕ} → propAt names l at ≡ proposition.Binary c p q → getD l at 0 ≡ connectiveByte c
+  unfolding Stands encode
+  binary-byte {c} is = byte-at l at (at + 1) (connectiveByte c) _ (omega arith) (rw is at (h .stands .1)) .value
+
+  -- an implication's shape says where its left side stands
+  pub implication-at : {connective left : ℕ} → ShapeOf names l at (Binary connective left) → connective ≡ 4 → ImplicationAt l at left
+  implication-at (is-binary is) four = (binary-byte is ∙ four, refl)
+
+  pub left-present : {left : ℕ} → ImplicationAt l at left → Present names l left
+  left-present (byte, after) =
+      let b = binary-at names l at (h .rest) (propAt names l at) (h .stands) (omega arith) (omega arith) in
+      rw after (present names l (at + 1) (b .left) _ (b .left-at))

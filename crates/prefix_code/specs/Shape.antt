@@ -28,3 +28,7 @@ pub data ShapeOf (names : ℕ) (code : List ℕ) (at : ℕ) : Shape → Type 0 w
   is-quantified : {q : Quantifier}
       → propAt names code at ≡ proposition.Quantified q (numberAt code (at + 1)) (numberAt code (at + 3)) (propAt names code (at + 5))
       → ShapeOf names code at (Quantified (quantifierByte q) (numberAt code (at + 1)) (numberAt code (at + 3)) (at + 5))
+
+-- an implication stands at a position, and its left side at another
+abbrev pub ImplicationAt : List ℕ → ℕ → ℕ → Type 0
+ImplicationAt code at left = (getD code at 0 ≡ 4) × (left ≡ at + 1)

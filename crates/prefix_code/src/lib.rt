@@ -16,6 +16,11 @@ ghost use Rattle.prefix_code.specs.Shape.{SomeProposition, ShapeOf};
 // An atom has at most so many parameters.
 pub const PARAMETER_LIMIT: u8 = 8;
 
+// The byte in front of an implication, and that of a ∀.
+pub const IMPL: u8 = 4;
+
+pub const FOR_ALL: u8 = 6;
+
 // How many propositions follow each head byte.
 const PARTS: [u8; 8] = [0, 0, 2, 2, 2, 0, 1, 1];
 
