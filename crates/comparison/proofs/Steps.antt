@@ -10,11 +10,11 @@ use Rattle.definitions.specs.declared.Refusal.{Refusal}
 use Rattle.definitions.specs.Outcome.{Outcome, refused, refuse, _>>=_, refuseIf}
 use Rattle.definitions.specs.Sheet.{steps, stepRecords}
 use Rattle.definitions.specs.Admission.{admitted}
-use Rattle.definitions.specs.Comparison.{conclusionAlphaEq}
 use Rattle.definitions.specs.Answers.{comparison}
 use Rattle.sheet.specs.declared.header.Sheet.{Sheet}
 use Rattle.sheet.proofs.Admitted.{AcceptedSheet}
-use Rattle.comparison.specs.Conclusions.{conclusionAt, concluded}
+use Rattle.steps.specs.StepAt.{stepAt}
+use Rattle.comparison.specs.Conclusions.{conclusionComparison}
 use Rattle.comparison.proofs.Conclusions.{concluded-step}
 
 pub not-a-sheet : (s : List ℕ) (i j : ℕ) {r : Refusal} → admitted s ≡ refused r → refused r ≡ comparison s i j
@@ -32,8 +32,8 @@ module _ {s : List ℕ} {h : Sheet} (a : AcceptedSheet s h) (i j : ℕ) where
   no-such-step past = rw (a .root, either (leb (steps s) i) (leb (steps s) j) (⊎-elim (λ h. inl (le-leb _ _ h)) (λ h. inr (le-leb _ _ h)) past), _>>=_, refuseIf)
 
   pub both-steps : i < steps s → j < steps s → {o : Outcome Bool}
-      → o ≡ conclusionAlphaEq (concluded s (conclusionAt (stepRecords s) i)) (concluded s (conclusionAt (stepRecords s) j))
+      → o ≡ conclusionComparison s (stepAt (stepRecords s) i .conclusion) (stepAt (stepRecords s) j .conclusion)
       → o ≡ comparison s i j
-  unfolding comparison _>>=_ refuseIf
+  unfolding comparison conclusionComparison _>>=_ refuseIf
   both-steps first second e =
       rw (a .root, lt-leb (steps s) i first, lt-leb (steps s) j second, _>>=_) (rw (concluded-step, concluded-step) at e)

@@ -1,23 +1,16 @@
--- A step's conclusion by numbers, as the program holds it, and the conclusion of the definitions that it stands for.
-use Prim.Native.Nat.{ℕ, _<_}
-use mathlib.Core.Path.{_≡_}
-use mathlib.Core.Bool.{cond}
+-- A conclusion by numbers, be it a step's or not: what it stands for in a sheet, when it lies within one, and how two compare.
+use Prim.Native.Nat.{ℕ}
+use mathlib.Core.Bool.{Bool, _&&_}
 use mathlib.Core.List.{List}
-use lib.Dec.{eqb}
-use Rattle.definitions.specs.Name.{Name}
+use Rattle.definitions.specs.Outcome.{Outcome}
+use Rattle.definitions.specs.Name.{Name, eqName}
 use Rattle.definitions.specs.Prop.{Prop, renameProp}
-use Rattle.definitions.specs.Sheet.{stepNumber, names, propositions, nameOf}
-use Rattle.definitions.specs.Tree.{Identifier, ProofTreeConclusion, propOf}
-use Rattle.comparison.specs.declared.Judgement.{Judgement}
-use Rattle.comparison.specs.declared.Conclusion.{Conclusion}
-use Rattle.comparison.specs.declared.Conclusion.the-variants.{PropIsTrue, TypeJudgement}
-
--- kind 0, a proposition number; kind 1, a name, an id and a datatype name
-unfoldable pub conclusionAt : List ℕ → ℕ → Conclusion
-conclusionAt records k =
-    cond (eqb (stepNumber records k 10) 0) (PropIsTrue (stepNumber records k 12))
-    (TypeJudgement
-    (record { name = stepNumber records k 12; «unique_id» = stepNumber records k 14; datatype = stepNumber records k 16 }))
+use Rattle.definitions.specs.Sheet.{names, propositions, propositionPairs, codeBytes, nameOf}
+use Rattle.definitions.specs.Tree.{Identifier, ProofTreeConclusion, propOf, renameIdentifier, renameConclusion}
+use Rattle.definitions.specs.Comparison.{eqIdentifier, conclusionAlphaEq}
+use Rattle.steps.specs.declared.Judgement.{Judgement}
+use Rattle.steps.specs.declared.Conclusion.{Conclusion}
+use Rattle.steps.specs.StepAt.{objectOf, concludedIn, KnownJudgement, KnownConclusion}
 
 -- Of a sheet's bytes:
 module _ (s : List ℕ) where
@@ -25,19 +18,23 @@ module _ (s : List ℕ) where
   unfoldable pub namedProp : ℕ → Prop Name
   namedProp p = renameProp (nameOf s) (propOf s p)
 
-  unfoldable pub objectOf : Judgement → Identifier Name
-  objectOf x = record { name = nameOf s (x .name); uniqueId = x .«unique_id» }
+  unfoldable pub namedObject : Judgement → Identifier Name
+  namedObject x = renameIdentifier (nameOf s) (objectOf x)
 
   unfoldable pub concluded : Conclusion → ProofTreeConclusion Name
-  concluded (PropIsTrue p) = ProofTreeConclusion.PropIsTrue (namedProp p)
-  concluded (TypeJudgement x) = ProofTreeConclusion.TypeJudgement (objectOf x) (nameOf s (x .datatype))
-
-  -- its names are names of the sheet
-  pub record JudgementIn (x : Judgement) : Type 0 where
-    pub object : x .name < names s
-    pub datatype : x .datatype < names s
+  concluded c = renameConclusion (nameOf s) (concludedIn (names s) (propositionPairs s) (codeBytes s) c)
 
   -- its proposition or its names are those of the sheet
-  pub record ConclusionIn (c : Conclusion) : Type 0 where
-    pub proposition : (p : ℕ) → c ≡ PropIsTrue p → p < propositions s
-    pub judgement : (x : Judgement) → c ≡ TypeJudgement x → JudgementIn x
+  abbrev pub JudgementIn : Judgement → Type 0
+  JudgementIn x = KnownJudgement (names s) x
+
+  abbrev pub ConclusionIn : Conclusion → Type 0
+  ConclusionIn c = KnownConclusion (names s) (propositions s) c
+
+  -- two judgements and two conclusions compared
+  unfoldable pub judgementEq : Judgement → Judgement → Bool
+  judgementEq x y =
+      eqIdentifier (namedObject x) (namedObject y) && eqName (nameOf s (x .datatype)) (nameOf s (y .datatype))
+
+  unfoldable pub conclusionComparison : Conclusion → Conclusion → Outcome Bool
+  conclusionComparison left right = conclusionAlphaEq (concluded left) (concluded right)

@@ -11,64 +11,34 @@ use sheet::name_pairs;
 use sheet::proposition_pairs;
 use sheet::step_records;
 use sheet::text_bytes;
-use steps::step_number;
+use steps::Conclusion;
+use steps::Judgement;
+use steps::step_at;
 ghost use mathlib.Core.Path.{_≡_};
-ghost use mathlib.Core.Bool.{_&&_};
 ghost use Prim.Native.Nat.{_<_};
 ghost use Rattle.definitions.specs.Outcome.{accepted};
 ghost use Rattle.definitions.specs.Name.{eqName};
 ghost use Rattle.definitions.specs.Sheet.{names, propositions, nameOf};
-ghost use Rattle.definitions.specs.Comparison.{alphaEq, eqIdentifier, conclusionAlphaEq};
+ghost use Rattle.definitions.specs.Comparison.{alphaEq};
 ghost use Rattle.definitions.specs.Answers.{comparison};
-ghost use Rattle.steps.specs.Records.{HasStep};
 ghost use Rattle.alpha_eq.specs.Comparing.{outcomeOf};
 ghost use Rattle.sheet.proofs.Admitted.{AcceptedSheet};
-ghost use Rattle.comparison.specs.Conclusions.{conclusionAt, namedProp, objectOf, concluded, JudgementIn, ConclusionIn};
-
-// A type judgement by numbers: the name and the id of an object, and the name of its datatype.
-struct Judgement {
-    name: usize,
-    unique_id: usize,
-    datatype: usize,
-}
-
-// A step's conclusion: the number of a proposition, or a type judgement.
-enum Conclusion {
-    PropIsTrue(usize),
-    TypeJudgement(Judgement),
-}
-
-// The conclusion of a step.
-fn conclusion_of(records: &[u8], k: usize) -> Conclusion
-    requires { ⌜ HasStep (now records) k ⌝ }
-    ensures { λ r. ⌜ r ≡ conclusionAt (now (records .entry)) k ⌝ }
-{
-    let first = step_number(records, k, 12);
-    if step_number(records, k, 10) == 0 {
-        return Conclusion::PropIsTrue(first);
-    }
-    Conclusion::TypeJudgement(Judgement {
-        name: first,
-        unique_id: step_number(records, k, 14),
-        datatype: step_number(records, k, 16),
-    })
-}
+ghost use Rattle.comparison.specs.Conclusions.{namedProp, JudgementIn, ConclusionIn, judgementEq, conclusionComparison};
 
 // Whether the names of two numbers have the same bytes.
-fn same_named(s: &[u8], h: Sheet, a: usize, b: usize) -> bool
+fn same_named(s: &[u8], h: Sheet, a: u16, b: u16) -> bool
     requires { ⌜ AcceptedSheet (now s) h ⌝ }
     requires { ⌜ (a < names (now s)) × (b < names (now s)) ⌝ }
     ensures { λ r. ⌜ r ≡ eqName (nameOf (now (s .entry)) a) (nameOf (now (s .entry)) b) ⌝ }
 {
-    same_bytes(name_pairs(s, h), text_bytes(s, h), a, b)
+    same_bytes(name_pairs(s, h), text_bytes(s, h), a as usize, b as usize)
 }
 
 // Two type judgements: the names of the objects, their ids, the names of the datatypes.
 fn compare_judgements(s: &[u8], h: Sheet, x: Judgement, y: Judgement) -> Answer
     requires { ⌜ AcceptedSheet (now s) h ⌝ }
     requires { ⌜ JudgementIn (now s) x × JudgementIn (now s) y ⌝ }
-    ensures { λ r. ⌜ outcomeOf r ≡ accepted (eqIdentifier (objectOf (now (s .entry)) x) (objectOf (now (s .entry)) y)
-        && eqName (nameOf (now (s .entry)) (x .datatype)) (nameOf (now (s .entry)) (y .datatype))) ⌝ }
+    ensures { λ r. ⌜ outcomeOf r ≡ accepted (judgementEq (now (s .entry)) x y) ⌝ }
 {
     if !same_named(s, h, x.name, y.name) {
         return Answer::No;
@@ -83,22 +53,22 @@ fn compare_judgements(s: &[u8], h: Sheet, x: Judgement, y: Judgement) -> Answer
 }
 
 // Two propositions, by their numbers.
-fn compare_propositions(s: &[u8], h: Sheet, p: usize, q: usize) -> Answer
+fn compare_propositions(s: &[u8], h: Sheet, p: u16, q: u16) -> Answer
     requires { ⌜ AcceptedSheet (now s) h ⌝ }
     requires { ⌜ (p < propositions (now s)) × (q < propositions (now s)) ⌝ }
     ensures { λ r. ⌜ outcomeOf r ≡ alphaEq (namedProp (now (s .entry)) p) (namedProp (now (s .entry)) q) ⌝ }
 {
     let pairs = proposition_pairs(s, h);
-    let i = pair_offset(pairs, p);
-    let j = pair_offset(pairs, q);
+    let i = pair_offset(pairs, p as usize);
+    let j = pair_offset(pairs, q as usize);
     alpha_eq::alpha_eq(code_bytes(s, h), i, j, name_pairs(s, h), text_bytes(s, h))
 }
 
-// Two conclusions: a proposition and a type judgement are a no.
-fn compare_conclusions(s: &[u8], h: Sheet, left: Conclusion, right: Conclusion) -> Answer
+// Two conclusions, be they those of steps or not: a proposition and a type judgement are a no.
+pub fn compare_conclusions(s: &[u8], h: Sheet, left: Conclusion, right: Conclusion) -> Answer
     requires { ⌜ AcceptedSheet (now s) h ⌝ }
     requires { ⌜ ConclusionIn (now s) left × ConclusionIn (now s) right ⌝ }
-    ensures { λ r. ⌜ outcomeOf r ≡ conclusionAlphaEq (concluded (now (s .entry)) left) (concluded (now (s .entry)) right) ⌝ }
+    ensures { λ r. ⌜ outcomeOf r ≡ conclusionComparison (now (s .entry)) left right ⌝ }
 {
     match left {
         Conclusion::PropIsTrue(p) => {
@@ -128,8 +98,8 @@ fn compare_steps(s: &[u8], h: Sheet, i: usize, j: usize) -> Answer
         });
     }
     let records = step_records(s, h);
-    let left = conclusion_of(records, i);
-    let right = conclusion_of(records, j);
+    let left = step_at(records, i).conclusion;
+    let right = step_at(records, j).conclusion;
     compare_conclusions(s, h, left, right)
 }
 

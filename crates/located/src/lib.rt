@@ -7,6 +7,7 @@ use output::put_decimal;
 use sheet::Checked;
 use sheet::Sheet;
 use sheet::step_records;
+use steps::step_at;
 ghost use mathlib.Core.Path.{_≡_};
 ghost use mathlib.Core.Bool.{true};
 ghost use Prim.Native.Nat.{_≤_};
@@ -36,7 +37,8 @@ fn column_at(s: &[u8], k: usize) -> u16
     if h.steps <= k {
         return 0;
     }
-    steps::column(step_records(s, h), k)
+    let step = step_at(step_records(s, h), k);
+    step.column
 }
 
 // A refusal with the column of the step that it names, or 0 where it names none.

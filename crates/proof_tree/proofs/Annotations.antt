@@ -1,33 +1,30 @@
--- The label of a function's parameter by the form of the conclusion.
+-- The label of a function's parameter as an annotation: none, that of a kind and a number, or a refusal.
 use Prim.Native.Nat.{ℕ, _≤_}
-use mathlib.Core.Path.{_≡_, refl, sym, _∙_}
+use mathlib.Core.Path.{_≡_, refl, _∙_}
 use mathlib.Core.Option.{none, some}
 use mathlib.Core.List.{List, [], _∷_}
 use native.Mathlib.Omega.{arith}
-use lib.ListN.{getD}
 use types.Run.{OneOf, miss}
 use denote.Enum.Declared.{tagOf}
 use Rattle.definitions.specs.Outcome.{Outcome, accepted, refused, mapOutcome, refuse}
 use Rattle.definitions.specs.declared.Refusal.{Refusal}
+use Rattle.definitions.specs.Sheet.{pairOffset}
 use Rattle.definitions.specs.Term as term
 use Rattle.definitions.specs.Tree as tree
 use Rattle.definitions.specs.Tree.{ProofTreeConclusion}
 use Rattle.definitions.specs.Export.{leftLabel, datatypeLabel}
+use Rattle.prefix_code.specs.PropAt.{propAt, Present}
+use Rattle.prefix_code.specs.Shape.{ImplicationAt}
+use Rattle.steps.specs.declared.Judgement.{Judgement}
+use Rattle.steps.specs.declared.Conclusion.{Conclusion}
+use Rattle.steps.specs.declared.Conclusion.the-variants.{PropIsTrue, TypeJudgement}
 use Rattle.proof_term.specs.Records.{labelOf, parameterLabel}
 use Rattle.proof_tree.specs.declared.table.Ending.{Ending}
 use Rattle.proof_tree.specs.declared.table.Ending.the-variants.{Bare, Ascribed, LeftLabelled, DatatypeLabelled, PremissOwn}
-use Rattle.proof_tree.specs.declared.conclusion.Conclusion.{Conclusion}
-use Rattle.proof_tree.specs.declared.conclusion.Conclusion.the-variants.{PropIsTrue, TypeJudgement}
-use Rattle.proof_tree.specs.declared.conclusion.Head.{Head}
-use Rattle.proof_tree.specs.declared.conclusion.Head.the-variants.{Impl, ForAll}
 use Rattle.proof_tree.specs.declared.conclusion.Annotation.the-variants.{Label, Refused}
 use Rattle.proof_tree.specs.Table.{endingOf}
-use Rattle.prefix_code.specs.PropAt.{propAt, Present}
-use Rattle.proof_tree.specs.Opening.{headAt}
-use Rattle.proof_tree.specs.Labelling.{parameterLabelOf, Means, stands, judges, LeftSide, Annotated, labelled, refuses}
-use Rattle.proof_tree.proofs.conclusion.Head as head
+use Rattle.proof_tree.specs.Labelling.{leftLabelOf, datatypeLabelOf, parameterLabelOf, Means, stands, judges, Annotated, labelled, refuses}
 use Rattle.proof_tree.proofs.table.Ending as ending
-use Rattle.proof_tree.proofs.Conclusions.{impl-head, for-all-head, impl-byte, for-all-byte, left-label, no-left, datatype-label, no-datatype}
 
 no-parameter : (e : Ending) (k : ℕ) (c : ProofTreeConclusion ℕ) → OneOf (0 ∷ 1 ∷ 4 ∷ []) (tagOf ending.the-type e)
     → parameterLabelOf (endingOf e) k c ≡ accepted none
@@ -39,87 +36,79 @@ no-parameter DatatypeLabelled k c h = absurd (miss (0 ∷ 1 ∷ 4 ∷ []) 3 tt h
 no-parameter PremissOwn k c h = refl
 
 -- no function with a label is made
-pub unlabelled : (names : ℕ) (code : List ℕ) (e : Ending) (c : Conclusion) (k : ℕ) (m : ProofTreeConclusion ℕ) → OneOf (0 ∷ 1 ∷ 4 ∷ []) (tagOf ending.the-type e)
-    → Annotated names code c (parameterLabelOf (endingOf e) k m) (Label 0 0)
+pub unlabelled : (names : ℕ) (pairs code : List ℕ) (e : Ending) (c : Conclusion) (k : ℕ) (m : ProofTreeConclusion ℕ) → OneOf (0 ∷ 1 ∷ 4 ∷ []) (tagOf ending.the-type e)
+    → Annotated names pairs code c (parameterLabelOf (endingOf e) k m) (Label 0 0)
 unfolding parameterLabel
-unlabelled names code e c k m h =
+unlabelled names pairs code e c k m h =
     labelled {kind = 0} {number = 0} (record { is = no-parameter e k m h; known = omega arith; left = λ z. absurd (omega arith) })
 
--- an ending that labels a parameter, the byte in front of the form that it wants, its refusal where the form is another, and its label
-pub data Wants : Ending → ℕ → ℕ → (ℕ → ProofTreeConclusion ℕ → Outcome (term.Label ℕ)) → Type 0 where
-  left : Wants LeftLabelled 4 14 leftLabel
-  datatype : Wants DatatypeLabelled 6 15 datatypeLabel
+-- a proposition that stands at its pair's offset
+pub record Stated (names : ℕ) (pairs code : List ℕ) (p : ℕ) (m : ProofTreeConclusion ℕ) : Type 0 where
+  pub here : Present names code (pairOffset pairs p)
+  pub is : m ≡ tree.PropIsTrue (propAt names code (pairOffset pairs p))
 
-parameter-is : {e : Ending} {byte number : ℕ} {f : ℕ → ProofTreeConclusion ℕ → Outcome (term.Label ℕ)} → Wants e byte number f
-    → (k : ℕ) (m : ProofTreeConclusion ℕ) → parameterLabelOf (endingOf e) k m ≡ mapOutcome some (f k m)
-unfolding parameterLabelOf endingOf
-parameter-is left k m = refl
-parameter-is datatype k m = refl
+stated-as : {names : ℕ} {pairs code : List ℕ} {p : ℕ} {m : ProofTreeConclusion ℕ} → Means names pairs code (PropIsTrue p) m → Stated names pairs code p m
+stated-as (stands s) = record { here = s; is = refl }
 
--- a type judgement has not the form
-judged : {names : ℕ} {code : List ℕ} {e : Ending} {byte number : ℕ} {f : ℕ → ProofTreeConclusion ℕ → Outcome (term.Label ℕ)} {m : ProofTreeConclusion ℕ}
-    → Wants e byte number f → Means names code TypeJudgement m → (k : ℕ) → f k m ≡ refuse number k
-unfolding leftLabel datatypeLabel
-judged left judges k = refl
-judged datatype judges k = refl
+-- a type judgement gives no label
+left-judged : {names : ℕ} {pairs code : List ℕ} {x : Judgement} {m : ProofTreeConclusion ℕ} → Means names pairs code (TypeJudgement x) m → (k : ℕ) → leftLabel k m ≡ refuse 14 k
+unfolding leftLabel
+left-judged judges k = refl
 
--- a proposition with another byte in front has not the form
-other-form : {names : ℕ} {code : List ℕ} {at : ℕ} {e : Ending} {byte number : ℕ} {f : ℕ → ProofTreeConclusion ℕ → Outcome (term.Label ℕ)}
-    → Wants e byte number f → Present names code at → (k : ℕ) → (getD code at 0 ≡ byte → ⊥) → f k (tree.PropIsTrue (propAt names code at)) ≡ refuse number k
-other-form left s k h = no-left s k h
-other-form datatype s k h = no-datatype s k h
+datatype-judged : {names : ℕ} {pairs code : List ℕ} {x : Judgement} {m : ProofTreeConclusion ℕ} → Means names pairs code (TypeJudgement x) m → (k : ℕ) → datatypeLabel k m ≡ refuse 15 k
+unfolding datatypeLabel
+datatype-judged judges k = refl
 
--- a proposition that stands at an offset
-record Stated (names : ℕ) (code : List ℕ) (at : ℕ) (m : ProofTreeConclusion ℕ) : Type 0 where
-  here : Present names code at
-  is : m ≡ tree.PropIsTrue (propAt names code at)
+-- Of a conclusion that is taken apart for a label:
+module _ {names : ℕ} {pairs code : List ℕ} {c : Conclusion} {m : ProofTreeConclusion ℕ} (means : Means names pairs code c m) where
+  pub stated : {p : ℕ} → c ≡ PropIsTrue p → Stated names pairs code p m
+  stated is = stated-as (rw is at means)
 
-stated : {names : ℕ} {code : List ℕ} {at : ℕ} {m : ProofTreeConclusion ℕ} → Means names code (PropIsTrue at) m → Stated names code at m
-stated (stands s) = record { here = s; is = refl }
-
-module _ {names : ℕ} {code : List ℕ} {e form : Ending} {c : Conclusion} {m : ProofTreeConclusion ℕ} {byte number : ℕ} {f : ℕ → ProofTreeConclusion ℕ → Outcome (term.Label ℕ)} (wants : Wants form byte number f) (means : Means names code c m) (he : e ≡ form) where
-  -- refused where the conclusion has not the form
-  refused-label : {k : ℕ} {r : Refusal} → f k m ≡ refuse number k → r ≡ record { number = number; place = k } → Annotated names code c (parameterLabelOf (endingOf e) k m) (Refused r)
+  refused-label : {o : Outcome (term.Label ℕ)} {number k : ℕ} {r : Refusal} → o ≡ refuse number k → r ≡ record { number = number; place = k }
+      → Annotated names pairs code c (mapOutcome some o) (Refused r)
   unfolding mapOutcome refuse
-  refused-label {k} {r} no-form hr = refuses {r = r} (rw (he, parameter-is wants k m, no-form, hr))
+  refused-label {r = r} e is = refuses {r = r} (rw (e, is))
 
-  pub no-proposition : {k : ℕ} {r : Refusal} → c ≡ TypeJudgement → r ≡ record { number = number; place = k } → Annotated names code c (parameterLabelOf (endingOf e) k m) (Refused r)
-  no-proposition {k} hc hr = refused-label (judged wants (rw hc at means) k) hr
+  pub no-left-judged : {x : Judgement} {k : ℕ} {r : Refusal} → c ≡ TypeJudgement x → r ≡ record { number = 14; place = k }
+      → Annotated names pairs code c (leftLabelOf k m) (Refused r)
+  unfolding leftLabelOf
+  no-left-judged {k = k} is = refused-label (left-judged (rw is at means) k)
 
-  pub no-form : {at k : ℕ} {r : Refusal} → c ≡ PropIsTrue at → (getD code at 0 ≡ byte → ⊥) → r ≡ record { number = number; place = k }
-      → Annotated names code c (parameterLabelOf (endingOf e) k m) (Refused r)
-  no-form {k = k} hc other hr =
-      let s = stated (rw hc at means) in
-      refused-label (rw (s .is) (other-form wants (s .here) k other)) hr
+  pub no-datatype-judged : {x : Judgement} {k : ℕ} {r : Refusal} → c ≡ TypeJudgement x → r ≡ record { number = 15; place = k }
+      → Annotated names pairs code c (datatypeLabelOf k m) (Refused r)
+  unfolding datatypeLabelOf
+  no-datatype-judged {k = k} is = refused-label (datatype-judged (rw is at means) k)
 
-  -- the label of a kind and a number
-  labelled-as : {at : ℕ} (k kind n : ℕ) (l : term.Label ℕ) → c ≡ PropIsTrue at → kind ≤ 2 → (kind ≡ 1 → LeftSide code c n) → f k (tree.PropIsTrue (propAt names code at)) ≡ accepted l
-      → parameterLabel (propAt names code) kind n ≡ some l → Annotated names code c (parameterLabelOf (endingOf e) k m) (Label kind n)
-  unfolding mapOutcome
-  labelled-as k kind n l hc known side is same =
-      let s = stated (rw hc at means) in
-      labelled {kind = kind} {number = n} (record { is = rw (he, parameter-is wants k m, s .is, is, same); known = known; left = side })
+  -- what is said of the label of its proposition
+  module _ {p : ℕ} (concludes : c ≡ PropIsTrue p) where
+    abbrev whole : ProofTreeConclusion ℕ
+    whole = tree.PropIsTrue (propAt names code (pairOffset pairs p))
 
--- Its form is read from the byte in front.
-module _ {names : ℕ} {code : List ℕ} {e : Ending} {c : Conclusion} {at : ℕ} {h : Head} {m : ProofTreeConclusion ℕ} (means : Means names code c m) (hc : c ≡ PropIsTrue at) (hh : h ≡ headAt code at) where
-  pub no-implication : {k : ℕ} {r : Refusal} → e ≡ LeftLabelled → OneOf (1 ∷ 2 ∷ []) (tagOf head.the-type h) → r ≡ record { number = 14; place = k }
-      → Annotated names code c (parameterLabelOf (endingOf e) k m) (Refused r)
-  no-implication he other hr = no-form left means he hc (λ z. miss (1 ∷ 2 ∷ []) 0 tt (rw (hh ∙ impl-head code at z) at other)) hr
+    pub no-left : {k : ℕ} {r : Refusal} → leftLabel k whole ≡ refuse 14 k → r ≡ record { number = 14; place = k }
+        → Annotated names pairs code c (leftLabelOf k m) (Refused r)
+    unfolding leftLabelOf
+    no-left e is = rw (stated concludes .is) (refused-label e is)
 
-  pub no-universal : {k : ℕ} {r : Refusal} → e ≡ DatatypeLabelled → OneOf (0 ∷ 2 ∷ []) (tagOf head.the-type h) → r ≡ record { number = 15; place = k }
-      → Annotated names code c (parameterLabelOf (endingOf e) k m) (Refused r)
-  no-universal he other hr = no-form datatype means he hc (λ z. miss (0 ∷ 2 ∷ []) 1 tt (rw (hh ∙ for-all-head code at z) at other)) hr
+    pub no-datatype : {k : ℕ} {r : Refusal} → datatypeLabel k whole ≡ refuse 15 k → r ≡ record { number = 15; place = k }
+        → Annotated names pairs code c (datatypeLabelOf k m) (Refused r)
+    unfolding datatypeLabelOf
+    no-datatype e is = rw (stated concludes .is) (refused-label e is)
 
-  pub implication : (k : ℕ) {n : ℕ} → e ≡ LeftLabelled → h ≡ Impl n → Annotated names code c (parameterLabelOf (endingOf e) k m) (Label 1 n)
-  unfolding parameterLabel labelOf
-  implication k {n} he is =
-      let (byte, after) = impl-byte code at n (sym hh ∙ is) in
-      labelled-as left means he k 1 n (term.proposition (propAt names code n)) hc (omega arith)
-      (λ z. record { whole = at; concludes = hc; implies = byte; after = after })
-      (rw after (left-label (stated (rw hc at means) .here) k byte)) refl
+    pub left-side : (k n : ℕ) → leftLabel k whole ≡ accepted (term.proposition (propAt names code n)) → ImplicationAt code (pairOffset pairs p) n
+        → Annotated names pairs code c (leftLabelOf k m) (Label 1 n)
+    unfolding leftLabelOf mapOutcome parameterLabel labelOf
+    left-side k n e implies =
+        labelled {kind = 1} {number = n} (record {
+          is = rw (stated concludes .is, e);
+          known = omega arith;
+          left = λ z. record { proposition = p; concludes = concludes; implies = implies };
+        })
 
-  pub universal : (k : ℕ) {n : ℕ} → e ≡ DatatypeLabelled → h ≡ ForAll n → Annotated names code c (parameterLabelOf (endingOf e) k m) (Label 2 n)
-  unfolding parameterLabel labelOf
-  universal k {n} he is =
-      let (byte, same) = for-all-byte code at n (sym hh ∙ is) in
-      labelled-as datatype means he k 2 n (term.datatype n) hc (omega arith) (λ z. absurd (omega arith)) (rw same (datatype-label (stated (rw hc at means) .here) k byte)) refl
+    pub datatype : (k n : ℕ) → datatypeLabel k whole ≡ accepted (term.datatype n) → Annotated names pairs code c (datatypeLabelOf k m) (Label 2 n)
+    unfolding datatypeLabelOf mapOutcome parameterLabel labelOf
+    datatype k n e =
+        labelled {kind = 2} {number = n} (record {
+          is = rw (stated concludes .is, e);
+          known = omega arith;
+          left = λ z. absurd (omega arith);
+        })

@@ -7,13 +7,11 @@ use mathlib.Core.Option.{Option, some}
 use mathlib.Core.List.{List, [], _∷_}
 use native.Mathlib.Omega.{arith}
 use lib.ListN.{drop}
-use lib.Dec.{eqb}
-use borrow.Author.Tests.{eqb-true}
 use Rattle.definitions.specs.declared.Refusal.{Refusal}
 use Rattle.definitions.specs.Outcome.{Outcome, refused, accepted, refuse, _>>=_, refuseIf}
 use Rattle.definitions.specs.Prop.{Prop, Sides, Scope, asBinary, asQuantified, impl, forAll, eqConnective, eqQuantifier}
 use Rattle.definitions.specs.Code.{decode, Codable}
-use Rattle.definitions.specs.Sheet.{marked, premissCount, stepNumber}
+use Rattle.definitions.specs.Sheet.{marked, premissCount}
 use Rattle.definitions.specs.Tree as tree
 use Rattle.definitions.specs.Tree.{ProofTreeRule, AndIntro, AndElimFst, AndElimSnd, TrueIntro, ImplIntro, ImplElim, OrIntroFst, OrIntroSnd, OrElim, FalsumElim, ForAllIntro, ForAllElim, ExistsIntro, ExistsElim, AlphaEquivalent, identifierCount, ProofTreeConclusion, PropIsTrue, TypeJudgement, Step, ProofTree, over, Premisses, none, _and_, count, lastTrees, propIn, identifierIn, conclusionIn, stepIn, stepOver, treesBefore, treeIn}
 use Rattle.definitions.specs.Term.{Label, ProofTerm}
@@ -24,7 +22,11 @@ use Rattle.definitions.proofs.PrefixCode.{Bytes}
 use Rattle.prefix_code.specs.Scan.{Stands}
 use Rattle.prefix_code.proofs.Reading.{prop-in, present-in}
 use Rattle.proof_term.specs.Readable.{LabelBelow, ParameterLabelBelow, NamesBelow}
-use Rattle.proof_tree.proofs.GoodSteps.{known-first, known-second, known-proposition}
+use Rattle.steps.specs.declared.Conclusion.{Conclusion}
+use Rattle.steps.specs.declared.Conclusion.the-variants as conclusion
+use Rattle.steps.specs.StepAt.{identifierAt, stepAt, concludedIn}
+use Rattle.steps.proofs.StepAt.{conclusion-is}
+use Rattle.steps.proofs.GoodSteps.{known-first, known-second, known-conclusion}
 
 -- what an outcome gives, if it gives anything, has the property
 data Gives {A : Type 0} (P : A → Type 0) : Outcome A → Type 0 where
@@ -188,16 +190,16 @@ module _ (names propositions : ℕ) (pairs code records : List ℕ) (bytes : Byt
   codable i h = rw (prop-in names pairs code i bytes (coded i h)) (present-in names pairs code i bytes (coded i h) .stands .0)
 
   conclusion-below : (k : ℕ) → badStep names propositions records k ≡ false → Gives (LabelBelow names) (datatypeLabel k (conclusionIn names pairs code records k))
-  unfolding conclusionIn datatypeLabel refuse
-  conclusion-below k good = go (eqb (stepNumber records k 10) 0) refl
+  unfolding concludedIn datatypeLabel refuse
+  conclusion-below k good = rw (← conclusion-is records k names pairs code) (go (stepAt records k .conclusion) refl)
     where
-      go : (b : Bool) → eqb (stepNumber records k 10) 0 ≡ b
-          → Gives (LabelBelow names) (datatypeLabel k (cond b (PropIsTrue (propIn names pairs code (stepNumber records k 12))) (TypeJudgement (identifierIn names pairs code records k 12) (stepNumber records k 16))))
-      go true e = datatype-below names k _ (codable (stepNumber records k 12) (known-proposition names propositions records k good (eqb-true _ 0 e)))
-      go false e = nothing
+      go : (c : Conclusion) → stepAt records k .conclusion ≡ c → Gives (LabelBelow names) (datatypeLabel k (concludedIn names pairs code c))
+      go (conclusion.PropIsTrue p) e =
+          datatype-below names k _ (codable p (known-conclusion names propositions records k good .proposition p e))
+      go (conclusion.TypeJudgement x) e = nothing
 
   good-step-below : (k : ℕ) → badStep names propositions records k ≡ false → StepBelow names (stepIn names pairs code records k)
-  unfolding stepIn identifierIn
+  unfolding stepIn identifierIn stepAt identifierAt
   good-step-below k good =
       record {
         first = known-first names propositions records k good;

@@ -1,6 +1,6 @@
 -- A step's term in its place, in three parts: the label of a parameter, the term of the rule, an ascription.
 use Prim.Native.Nat.{ℕ, _+_, _-_, _<_, _≤_}
-use mathlib.Core.Path.{_≡_, refl, sym, _∙_}
+use mathlib.Core.Path.{_≡_, refl, sym, ap, _∙_}
 use mathlib.Core.Logic.{by-cases}
 use mathlib.Core.Option.{Option, some}
 use mathlib.Core.List.{List, [], _∷_}
@@ -11,7 +11,7 @@ use denote.Enum.Declared.{tagOf}
 use Rattle.definitions.specs.Outcome.{Outcome, accepted, refused, refuse, _>>=_, mapOutcome}
 use Rattle.definitions.specs.declared.Refusal.{Refusal}
 use Rattle.definitions.specs.Prop.{Prop}
-use Rattle.definitions.specs.Sheet.{stepNumber}
+use Rattle.definitions.specs.Sheet.{pairOffset}
 use Rattle.definitions.specs.Tree as tree
 use Rattle.definitions.specs.Tree.{ProofTreeConclusion, Step, ruleIn, identifierIn, conclusionIn, stepIn}
 use Rattle.definitions.specs.Term.{Label, proposition, ProofTerm, TypeAscription, ofLabels}
@@ -26,17 +26,19 @@ use Rattle.proof_tree.specs.declared.table.Place as own
 use Rattle.proof_tree.specs.declared.table.Ending as own-ending
 use Rattle.proof_tree.specs.declared.table.Ending.the-variants.{Bare, Ascribed, LeftLabelled, DatatypeLabelled, PremissOwn}
 use Rattle.proof_tree.specs.declared.table.Row.{Row}
-use Rattle.proof_tree.specs.declared.conclusion.Conclusion.{Conclusion}
-use Rattle.proof_tree.specs.declared.conclusion.Conclusion.the-variants.{PropIsTrue}
+use Rattle.steps.specs.declared.Conclusion.{Conclusion}
+use Rattle.steps.specs.declared.Conclusion.the-variants.{PropIsTrue}
+use Rattle.steps.specs.declared.Step as view
+use Rattle.steps.specs.StepAt.{identifierAt, stepAt}
+use Rattle.proof_tree.specs.declared.conclusion.Annotation.{Annotation}
 use Rattle.proof_tree.specs.declared.conclusion.Annotation.the-variants as annotation
 use Rattle.proof_tree.specs.declared.Exported.{Exported}
 use Rattle.proof_tree.specs.declared.Exported.the-variants.{Term, Refused}
 use Rattle.proof_tree.specs.Table.{placeOf, endingOf, TableRow}
 use Rattle.prefix_code.specs.PropAt.{propAt}
 use Rattle.proof_tree.specs.Terms.{HasProposition, termOver, partTerms, Ordered, MadeTerm}
-use Rattle.proof_tree.specs.Opening.{conclusionAt}
 use Rattle.proof_tree.specs.Exportable.{GoodStep}
-use Rattle.proof_tree.specs.Labelling.{endingAt, parameterLabelOf, Means, stands, judges, LabelOf, Annotated, labelled}
+use Rattle.proof_tree.specs.Labelling.{endingAt, leftLabelOf, datatypeLabelOf, parameterLabelOf, Means, stands, judges, LabelOf, Annotated, labelled}
 use Rattle.proof_tree.specs.Labelling as labelling
 use Rattle.proof_tree.specs.Wrapping as wrapping
 use Rattle.proof_tree.specs.Wrapping.{Wrapped, ascribes}
@@ -58,7 +60,7 @@ finishing ascribed z t = do
 
 module _ (z : Step ℕ) (ts : List (ProofTerm ℕ)) where
   inferring-parts : (e : Ending) → inferringTerm e z ts ≡ (parameterLabelOf e (z .number) (z .conclusion) >>= λ l. finishing e z (stepTerm z l ts))
-  unfolding inferringTerm parameterLabelOf finishing _>>=_ mapOutcome
+  unfolding inferringTerm parameterLabelOf leftLabelOf datatypeLabelOf finishing _>>=_ mapOutcome
   inferring-parts bare = refl
   inferring-parts premissOwn = refl
   inferring-parts ascribed = refl
@@ -87,36 +89,52 @@ unascribed LeftLabelled z t h = refl
 unascribed DatatypeLabelled z t h = refl
 unascribed PremissOwn z t h = refl
 
--- what ascribing a term comes to
-pub data Ascription (names : ℕ) (code : List ℕ) (k : ℕ) (c : Conclusion) (m : ProofTreeConclusion ℕ) (before : List ℕ) (used : ℕ) (after : List ℕ) : Exported → Type 0 where
-  is-ascribed : {at next : ℕ} → c ≡ PropIsTrue at → m ≡ tree.PropIsTrue (propAt names code at)
-      → Made (λ props part. TypeAscription (part (used - 1)) (proposition (props at))) before used after next
-      → Ascription names code k c m before used after (Term next)
-  is-refused : {r : Refusal} → ascriptionLabel k m ≡ refuse 13 k → r ≡ record { number = 13; place = k } → Ascription names code k c m before used after (Refused r)
+-- the newest term ascribed with the proposition at its pair's offset
+pub wrapped : {pairs before after : List ℕ} {k used next p at : ℕ} {c : Conclusion} → c ≡ PropIsTrue p → at ≡ pairOffset pairs p
+    → Made (λ props part. TypeAscription (part (used - 1)) (proposition (props at))) before used after next
+    → Wrapped pairs k before used after c (Term next)
+wrapped concludes is made = rw concludes (ascribes (rw is at made))
 
-pub ascription : {names : ℕ} {code : List ℕ} {k : ℕ} {c : Conclusion} {m : ProofTreeConclusion ℕ} {before : List ℕ} {used : ℕ} {after : List ℕ} {r : Exported}
-    → Means names code c m → Wrapped k before used after c r → Ascription names code k c m before used after r
+-- what ascribing a term comes to
+pub data Ascription (names : ℕ) (pairs code : List ℕ) (k : ℕ) (c : Conclusion) (m : ProofTreeConclusion ℕ) (before : List ℕ) (used : ℕ) (after : List ℕ) : Exported → Type 0 where
+  is-ascribed : {p next : ℕ} → c ≡ PropIsTrue p → m ≡ tree.PropIsTrue (propAt names code (pairOffset pairs p))
+      → Made (λ props part. TypeAscription (part (used - 1)) (proposition (props (pairOffset pairs p)))) before used after next
+      → Ascription names pairs code k c m before used after (Term next)
+  is-refused : {r : Refusal} → ascriptionLabel k m ≡ refuse 13 k → r ≡ record { number = 13; place = k } → Ascription names pairs code k c m before used after (Refused r)
+
+pub ascription : {names : ℕ} {pairs code : List ℕ} {k : ℕ} {c : Conclusion} {m : ProofTreeConclusion ℕ} {before : List ℕ} {used : ℕ} {after : List ℕ} {r : Exported}
+    → Means names pairs code c m → Wrapped pairs k before used after c r → Ascription names pairs code k c m before used after r
 unfolding ascriptionLabel
 ascription (stands s) (ascribes made) = is-ascribed refl refl made
 ascription judges (wrapping.refuses e) = is-refused refl e
 
-pub label-of : {names : ℕ} {code : List ℕ} {c : Conclusion} {o : Outcome (Option (Label ℕ))} {kind number : ℕ}
-    → Annotated names code c o (annotation.Label kind number) → LabelOf names code c o kind number
-label-of (labelled l) = l
+label-in : {names : ℕ} {pairs code : List ℕ} {c : Conclusion} {o : Outcome (Option (Label ℕ))} {kind number : ℕ}
+    → Annotated names pairs code c o (annotation.Label kind number) → LabelOf names pairs code c o kind number
+label-in (labelled l) = l
 
-refusal-of : {names : ℕ} {code : List ℕ} {c : Conclusion} {o : Outcome (Option (Label ℕ))} {r : Refusal}
-    → Annotated names code c o (annotation.Refused r) → o ≡ refused r
+pub label-of : {names : ℕ} {pairs code : List ℕ} {c : Conclusion} {o : Outcome (Option (Label ℕ))} {kind number : ℕ} {a : Annotation}
+    → a ≡ annotation.Label kind number → Annotated names pairs code c o a → LabelOf names pairs code c o kind number
+label-of is given = label-in (rw is at given)
+
+refusal-of : {names : ℕ} {pairs code : List ℕ} {c : Conclusion} {o : Outcome (Option (Label ℕ))} {r : Refusal}
+    → Annotated names pairs code c o (annotation.Refused r) → o ≡ refused r
 refusal-of (labelling.refuses e) = e
 
--- step k, its row, its ending in its place, and its conclusion taken apart
-pub record Visited (names : ℕ) (pairs code records : List ℕ) (k : ℕ) (place : own.Place) (row : Row) (e : own-ending.Ending) (c : Conclusion) : Type 0 where
+-- step k as a value, its row, and its ending in its place
+pub record Visited (names : ℕ) (pairs code records : List ℕ) (k : ℕ) (place : own.Place) (row : Row) (e : own-ending.Ending) (z : view.Step) : Type 0 where
   pub good : GoodStep names pairs code records k
   pub is-row : TableRow (ruleIn records k) row
   pub ends : endingOf e ≡ endingAt (placeOf place) (endingOf (row .3))
   pub bytes : Bytes code
-  pub concluded : c ≡ conclusionAt pairs records k
+  pub is-step : z ≡ stepAt records k
 
-module _ {names : ℕ} {pairs code records : List ℕ} {k : ℕ} {place : own.Place} {row : Row} {e : own-ending.Ending} {c : Conclusion} (v : Visited names pairs code records k place row e c) where
+module _ {names : ℕ} {pairs code records : List ℕ} {k : ℕ} {place : own.Place} {row : Row} {e : own-ending.Ending} {z : view.Step} (v : Visited names pairs code records k place row e z) where
+  abbrev pub c : Conclusion
+  c = z .conclusion
+
+  pub concluded : c ≡ stepAt records k .conclusion
+  concluded = ap (λ (z : view.Step). z .conclusion) (v .is-step)
+
   abbrev pub label : Outcome (Option (Label ℕ))
   label = parameterLabelOf (endingOf e) k (conclusionIn names pairs code records k)
 
@@ -129,17 +147,17 @@ module _ {names : ℕ} {pairs code records : List ℕ} {k : ℕ} {place : own.Pl
       placed-parts (stepIn names pairs code records k) ts (placeOf place)
       ∙ rw (v .ends, v .is-row .ending-is) (inferring-parts (stepIn names pairs code records k) ts (endingAt (placeOf place) (ending (ruleIn records k))))
 
-  pub label-refused : {r : Refusal} {before : List ℕ} {used : ℕ} {parts : (ℕ → Prop ℕ) → List (ProofTerm ℕ)} {least most : ℕ} {after : List ℕ} (ts : List (ProofTerm ℕ)) → Annotated names code c label (annotation.Refused r)
+  pub label-refused : {r : Refusal} {before : List ℕ} {used : ℕ} {parts : (ℕ → Prop ℕ) → List (ProofTerm ℕ)} {least most : ℕ} {after : List ℕ} (ts : List (ProofTerm ℕ)) → Annotated names pairs code c label (annotation.Refused r)
       → Answered names pairs code records k (placed ts) before used parts least most after (Refused r)
   unfolding _>>=_
   label-refused {r} ts a = refuses {r = r} (placed-is ts ∙ rw (refusal-of a))
 
-  step-term-is : (l : Option (Label ℕ)) (ts : List (ProofTerm ℕ)) → termOver (row .4) (stepNumber records k 2) (stepNumber records k 6) l ts ≡ stepTerm (stepIn names pairs code records k) l ts
-  unfolding stepIn identifierIn stepTerm termOver
-  step-term-is l ts = rw (v .is-row .term-is)
+  step-term-is : (l : Option (Label ℕ)) (ts : List (ProofTerm ℕ)) → termOver (row .4) (z .first .name) (z .second .name) l ts ≡ stepTerm (stepIn names pairs code records k) l ts
+  unfolding stepIn identifierIn stepTerm termOver stepAt identifierAt
+  step-term-is l ts = rw (v .is-step, v .is-row .term-is)
 
   -- The rule's term, with its label.
-  module _ {kind number first second third used next : ℕ} {before after : List ℕ} (l : LabelOf names code c label kind number) (made : MadeTerm (row .4) (stepNumber records k 2) (stepNumber records k 6) kind number first second third before used after next) where
+  module _ {kind number first second third used next : ℕ} {before after : List ℕ} (l : LabelOf names pairs code c label kind number) (made : MadeTerm (row .4) (z .first .name) (z .second .name) kind number first second third before used after next) where
     abbrev pub parts : (ℕ → Prop ℕ) → List (ProofTerm ℕ)
     parts props = partTerms (termAt props before) (row .0) (first ∷ second ∷ third ∷ [])
 
@@ -157,7 +175,7 @@ module _ {names : ℕ} {pairs code records : List ℕ} {k : ℕ} {place : own.Pl
     ordered props = rw (← (v .is-row .parts-are)) (made .ordered props)
 
     labels : (m offset : ℕ) → used ≤ m → m < next → HasProposition after m offset → LabelOffset pairs code records k offset
-    labels m offset h i has = let (one, same) = made .labels m offset h i has in rw same (left-offset (v .good) (v .bytes) (v .concluded) number (l .left one))
+    labels m offset h i has = let (one, same) = made .labels m offset h i has in rw same (left-offset (v .good) (v .bytes) concluded number (l .left one))
 
     pub term-answer : OneOf (0 ∷ 2 ∷ 3 ∷ 4 ∷ []) (tagOf ending-type.the-type e)
         → Answered names pairs code records k (placed ts) before used parts (used + 1 - row .0) (used + 2) after (Term next)
@@ -170,19 +188,19 @@ module _ {names : ℕ} {pairs code records : List ℕ} {k : ℕ} {place : own.Pl
           grown = record { kept = made .kept; labels = labels };
         })
 
-    ascribed-labels : {at last : ℕ} {final : List ℕ} → c ≡ PropIsTrue at
-        → Made (λ props part. TypeAscription (part (next - 1)) (proposition (props at))) after next final last
+    ascribed-labels : {p last : ℕ} {final : List ℕ} → c ≡ PropIsTrue p
+        → Made (λ props part. TypeAscription (part (next - 1)) (proposition (props (pairOffset pairs p)))) after next final last
         → (m offset : ℕ) → used ≤ m → m < last → HasProposition final m offset → LabelOffset pairs code records k offset
     unfolding ofLabels
-    ascribed-labels {at} {last} {final} hc more m offset h i has = by-cases (decLt m next)
+    ascribed-labels {p} {last} {final} hc more m offset h i has = by-cases (decLt m next)
         (λ lt. labels m offset h lt (λ props. sym (record-kept single props final after next (more .kept .numbers) m lt) ∙ has props))
         (λ ge.
         let same : m ≡ next = omega (arith, more .counted) in
-        let number : (props : ℕ → Prop ℕ) → props at ≡ props offset =
+        let number : (props : ℕ → Prop ℕ) → props (pairOffset pairs p) ≡ props offset =
         λ props. let f = sym (more .label props) ∙ rw same at (has props) in cc in
-        rw (same-number offset at number) (whole-offset (v .good) (v .bytes) (v .concluded) at hc))
+        rw (same-number offset (pairOffset pairs p) number) (whole-offset (v .good) (v .bytes) concluded p hc))
 
-    pub ascribed-answer : {final : List ℕ} {r : Exported} → e ≡ Ascribed → Ascription names code k c (conclusionIn names pairs code records k) after next final r
+    pub ascribed-answer : {final : List ℕ} {r : Exported} → e ≡ Ascribed → Ascription names pairs code k c (conclusionIn names pairs code records k) after next final r
         → Answered names pairs code records k (placed ts) before used parts (used + 1 - row .0) (used + 2) final r
     unfolding finishing endingOf stepIn ascriptionLabel _>>=_ refuse
     ascribed-answer {final} he (is-refused {r = r} none13 is) = refuses {r = r} (placed-term ∙ rw (he, none13, is))

@@ -91,7 +91,7 @@ module _ {pairs code records : List ℕ} {k : ℕ} where
         kept = g .kept;
         labels = λ m offset low high has.
             let l = g .labels m offset low high has in
-            record { step = l .step; visited = omega (arith, l .visited); concludes = l .concludes; stands = l .stands };
+            record { step = l .step; visited = omega (arith, l .visited); number = l .number; concludes = l .concludes; stands = l .stands };
       }
 
 -- the premisses from position i on are still to be read: what those before them gave is held by the parts

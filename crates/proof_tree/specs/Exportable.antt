@@ -5,11 +5,13 @@ use mathlib.Core.Bool.{false}
 use mathlib.Core.List.{List}
 use lib.ListN.{length}
 use Rattle.definitions.specs.Code.{decode}
-use Rattle.definitions.specs.Sheet.{pairSize, marked, ruleByte, stepNumber}
+use Rattle.definitions.specs.Sheet.{pairSize, marked, ruleByte}
 use Rattle.definitions.specs.Tree.{rules}
 use Rattle.definitions.specs.Admission.{isNone}
 use Rattle.steps.specs.Records.{HasStep}
 use Rattle.steps.specs.Tables.{SizeTable}
+use Rattle.steps.specs.declared.Conclusion.the-variants.{PropIsTrue}
+use Rattle.steps.specs.StepAt.{stepAt}
 
 -- the pair of a proposition is there, and marks the code of one proposition
 pub record Coded (names : ℕ) (pairs code : List ℕ) (i : ℕ) : Type 0 where
@@ -21,7 +23,7 @@ pub record Coded (names : ℕ) (pairs code : List ℕ) (i : ℕ) : Type 0 where
 pub record GoodStep (names : ℕ) (pairs code records : List ℕ) (k : ℕ) : Type 0 where
   pub whole : HasStep records k
   pub rule : ruleByte records k < length rules
-  pub coded : stepNumber records k 10 ≡ 0 → Coded names pairs code (stepNumber records k 12)
+  pub coded : (p : ℕ) → stepAt records k .conclusion ≡ PropIsTrue p → Coded names pairs code p
   pub few : k < 65536
   pub short : length code < 65536
 

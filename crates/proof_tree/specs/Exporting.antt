@@ -3,30 +3,32 @@ use Prim.Native.Nat.{ℕ, _+_, _*_, _-_, _≤_, _<_}
 use mathlib.Core.Path.{_≡_}
 use mathlib.Core.Logic.{_⊎_}
 use mathlib.Core.List.{List, []}
-use lib.ListN.{length, getD}
+use lib.ListN.{length}
 use Rattle.definitions.specs.Outcome.{Outcome, accepted, refused}
 use Rattle.definitions.specs.declared.Refusal.{Refusal}
 use Rattle.definitions.specs.Prop.{Prop}
-use Rattle.definitions.specs.Sheet.{pairOffset, stepNumber}
+use Rattle.definitions.specs.Sheet.{pairOffset}
 use Rattle.definitions.specs.Term.{ProofTerm}
 use Rattle.definitions.specs.Tree.{stepIn, treeIn}
 use Rattle.definitions.specs.Export.{Place, placedTerm, export}
 use Rattle.steps.specs.Size.{size}
+use Rattle.steps.specs.declared.Conclusion.the-variants.{PropIsTrue}
+use Rattle.steps.specs.StepAt.{stepAt}
 use Rattle.proof_term.specs.Records.{recordSize, termAt}
 use Rattle.proof_term.specs.Making.{Kept}
 use Rattle.proof_tree.specs.declared.Exported.{Exported}
 use Rattle.proof_tree.specs.declared.Exported.the-variants.{Term, Refused}
 use Rattle.prefix_code.specs.PropAt.{propAt}
+use Rattle.prefix_code.specs.Shape.{ImplicationAt}
 use Rattle.proof_tree.specs.Terms.{HasProposition, partTerms, Ordered}
 
 -- the offset of the proposition that a step concludes, or of the left side of such an implication
 pub record LabelOffset (pairs code records : List ℕ) (k offset : ℕ) : Type 0 where
   pub step : ℕ
   pub visited : step ≤ k
-  pub concludes : stepNumber records step 10 ≡ 0
-  pub stands :
-      let whole = pairOffset pairs (stepNumber records step 12) in
-      (offset ≡ whole) ⊎ ((getD code whole 0 ≡ 4) × (offset ≡ whole + 1))
+  pub number : ℕ
+  pub concludes : stepAt records step .conclusion ≡ PropIsTrue number
+  pub stands : (offset ≡ pairOffset pairs number) ⊎ ImplicationAt code (pairOffset pairs number) offset
 
 -- `after` is the memory `before` with the records from `used` to `next` made: those below are as they were, and a label that is a
 -- proposition is the offset of its code

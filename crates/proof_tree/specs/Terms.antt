@@ -58,3 +58,8 @@ pub record MadeTerm (term : RuleTerm) (first second kind label a b c : ℕ) (bef
   pub grows : used ≤ next
   pub more : used < next + partCount term
   pub few : next ≤ used + 1
+
+-- the same over the records of at most three parts
+abbrev pub MadeOver : RuleTerm → ℕ → ℕ → ℕ → ℕ → List ℕ → List ℕ → ℕ → List ℕ → ℕ → Type 0
+MadeOver term first second kind label parts before used after next =
+    MadeTerm term first second kind label (getD parts 0 0) (getD parts 1 0) (getD parts 2 0) before used after next

@@ -6,23 +6,24 @@ mod table;
 mod term;
 
 use conclusion::Annotation;
-use conclusion::Conclusion;
 use conclusion::annotation_of;
-use conclusion::conclusion_of;
 use definitions::Refusal;
+use number::pair_offset;
 use proof_term::PROPOSITION;
 use proof_term::type_ascription;
 use step::premiss;
 use step::refusal;
-use step::rule_byte;
+use steps::Conclusion;
 use steps::premiss_count;
+use steps::rule_byte;
+use steps::step_at;
 use table::Ending;
 pub use table::Place;
 use table::Row;
 use table::admits_count;
 use table::expected_premisse_mode;
 use table::row_of;
-use term::step_term;
+use term::rule_term;
 ghost use Prim.Native.Nat.{ℕ, _+_, _*_, _-_, _<_};
 ghost use mathlib.Core.Path.{_≡_};
 ghost use lib.ListN.{getD};
@@ -31,6 +32,7 @@ ghost use Rattle.definitions.specs.Export.{checking};
 ghost use Rattle.steps.specs.Size.{size};
 ghost use Rattle.proof_term.specs.Making.{Room};
 ghost use Rattle.proof_tree.specs.Table.{placeOf, endingOf, TableRow};
+ghost use Rattle.proof_tree.specs.Opening.{Paired};
 ghost use Rattle.proof_tree.specs.Labelling.{endingAt};
 ghost use Rattle.proof_tree.specs.Terms.{Parts, firstThree};
 ghost use Rattle.proof_tree.specs.Exportable.{GoodStep, Exportable};
@@ -45,18 +47,19 @@ pub enum Exported {
 
 // Ascribes the newest term with the conclusion of its step k.
 fn wrap_into_type_ascription(
+    pairs: &[u8],
     conclusion: Conclusion,
     k: usize,
     terms: &mut [u16],
     used: usize,
 ) -> Exported
-    requires { ⌜ (k < 65536) × Room (now terms) used × (0 < used) ⌝ }
-    requires { ⌜ ((at : ℕ) → conclusion ≡ Conclusion.PropIsTrue at → at < 65536) ⌝ }
-    ensures { λ r. ⌜ Wrapped k (now (terms .entry)) used (now (terms .exit)) conclusion r ⌝ }
+    requires { ⌜ (k < 65536) × Room (now terms) used × (0 < used) × Paired (now pairs) conclusion ⌝ }
+    ensures { λ r. ⌜ Wrapped (now (pairs .entry)) k (now (terms .entry)) used (now (terms .exit)) conclusion r ⌝ }
 {
-    let Conclusion::PropIsTrue(at) = conclusion else {
+    let Conclusion::PropIsTrue(p) = conclusion else {
         return Exported::Refused(refusal(13, k));
     };
+    let at = pair_offset(pairs, p as usize);
     Exported::Term(type_ascription(terms, used, used - 1, PROPOSITION as u16, at as u16))
 }
 
@@ -90,16 +93,19 @@ fn placed_term(
     let term = row.4;
     let last_column = row.3;
     let ending = ending_in(place, last_column);
-    let conclusion = conclusion_of(pairs, records, k);
-    let annotation = annotation_of(code, ending, conclusion, k);
+    let step = step_at(records, k);
+    let conclusion = step.conclusion;
+    let annotation = annotation_of(pairs, code, ending, conclusion, k);
     match annotation {
         Annotation::Refused(r) => Exported::Refused(r),
         Annotation::Label(kind, label) => {
-            let next = step_term(records, k, term, kind, label, parts, terms, used);
+            let first = step.first.name;
+            let second = step.second.name;
+            let next = rule_term(term, first, second, kind, label, parts, terms, used);
             let Ending::Ascribed = ending else {
                 return Exported::Term(next);
             };
-            wrap_into_type_ascription(conclusion, k, terms, next)
+            wrap_into_type_ascription(pairs, conclusion, k, terms, next)
         }
     }
 }

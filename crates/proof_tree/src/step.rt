@@ -1,21 +1,13 @@
-// What a step's record says, and which steps finish its premisses.
+// Which steps finish a step's premisses, and the refusals at a step.
 use definitions::Refusal;
-use steps::STEP_SIZE;
 use steps::premiss_count;
 ghost use Prim.Native.Nat.{_+_, _<_, _≤_};
 ghost use mathlib.Core.Path.{_≡_};
 ghost use lib.ListN.{length};
-ghost use Rattle.definitions.specs.Sheet.{ruleByte, premissCount};
+ghost use Rattle.definitions.specs.Sheet.{premissCount};
 ghost use Rattle.steps.specs.Records.{HasStep};
 ghost use Rattle.steps.specs.Tables.{SizeTable};
 ghost use Rattle.proof_tree.specs.Premisses.{PremissStep};
-
-pub fn rule_byte(records: &[u8], k: usize) -> usize
-    requires { ⌜ HasStep (now records) k ⌝ }
-    ensures { λ r. ⌜ r ≡ ruleByte (now (records .entry)) k ⌝ }
-{
-    records[STEP_SIZE * k] as usize
-}
 
 // How many of the premisses come after the one of a position.
 fn later_premisses(count: usize, position: usize) -> usize

@@ -95,11 +95,11 @@ const ROWS: [Row; 17] = [
 ];
 
 // The row of the rule of a byte.
-pub fn row_of(rule: usize) -> Row
+pub fn row_of(rule: u8) -> Row
     requires { ⌜ rule < length rules ⌝ }
     ensures { λ r. ⌜ TableRow (getD rules rule Sorry) r ⌝ }
 {
-    ROWS[rule]
+    ROWS[rule as usize]
 }
 
 // The place of a premiss, by its number in the row and its step's own place.

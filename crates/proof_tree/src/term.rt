@@ -13,14 +13,11 @@ use proof_term::project_fst;
 use proof_term::project_snd;
 use proof_term::sorry;
 use proof_term::unit;
-use steps::step_number;
 ghost use Prim.Native.Nat.{_≤_};
 ghost use lib.ListN.{getD};
-ghost use Rattle.definitions.specs.Sheet.{stepNumber};
-ghost use Rattle.steps.specs.Records.{HasStep};
-ghost use Rattle.proof_tree.specs.Terms.{Parts, MadeTerm};
+ghost use Rattle.proof_tree.specs.Terms.{Parts, MadeOver};
 
-// Makes the term over the records a, b and c, as many as it is over, with a step's names and the label of a parameter, and
+// Makes the term over the records of its parts, as many as it is over, with a step's names and the label of a parameter, and
 // gives the number of the next record.
 pub fn rule_term(
     term: RuleTerm,
@@ -28,15 +25,16 @@ pub fn rule_term(
     second: u16,
     kind: u16,
     label: u16,
-    a: usize,
-    b: usize,
-    c: usize,
+    parts: [usize; 3],
     terms: &mut [u16],
     used: usize,
 ) -> usize
-    requires { ⌜ Parts term a b c (now terms) used × (kind ≤ 2) ⌝ }
-    ensures { λ r. ⌜ MadeTerm term first second kind label a b c (now (terms .entry)) used (now (terms .exit)) r ⌝ }
+    requires { ⌜ Parts term (getD parts 0 0) (getD parts 1 0) (getD parts 2 0) (now terms) used × (kind ≤ 2) ⌝ }
+    ensures { λ r. ⌜ MadeOver term first second kind label parts (now (terms .entry)) used (now (terms .exit)) r ⌝ }
 {
+    let a = parts[0];
+    let b = parts[1];
+    let c = parts[2];
     match term {
         RuleTerm::Pair => pair(terms, used, a, b),
         RuleTerm::ProjectFst => project_fst(terms, used, a),
@@ -53,33 +51,4 @@ pub fn rule_term(
         RuleTerm::Sorry => sorry(terms, used),
         RuleTerm::Premiss => used,
     }
-}
-
-// Makes a step's term, with the names of its record.
-pub fn step_term(
-    records: &[u8],
-    k: usize,
-    term: RuleTerm,
-    kind: u16,
-    label: u16,
-    parts: [usize; 3],
-    terms: &mut [u16],
-    used: usize,
-) -> usize
-    requires { ⌜ (HasStep (now records) k) × (kind ≤ 2) ⌝ }
-    requires { ⌜ Parts term (getD parts 0 0) (getD parts 1 0) (getD parts 2 0) (now terms) used ⌝ }
-    ensures { λ r. ⌜ MadeTerm term (stepNumber (now (records .entry)) k 2) (stepNumber (now (records .entry)) k 6) kind label (getD parts 0 0) (getD parts 1 0) (getD parts 2 0) (now (terms .entry)) used (now (terms .exit)) r ⌝ }
-{
-    rule_term(
-        term,
-        step_number(records, k, 2) as u16,
-        step_number(records, k, 6) as u16,
-        kind,
-        label,
-        parts[0],
-        parts[1],
-        parts[2],
-        terms,
-        used,
-    )
 }

@@ -4,7 +4,7 @@ use mathlib.Core.Path.{_≡_}
 use mathlib.Core.List.{List}
 use native.Mathlib.Omega.{arith}
 use lib.ListN.{length}
-use Rattle.definitions.specs.Sheet.{pairSize, names, propositions, steps, stepRecords, propositionPairs, codeBytes, stepNumber, codeLimit, stepLimit, stepSize}
+use Rattle.definitions.specs.Sheet.{pairSize, names, propositions, steps, stepRecords, propositionPairs, codeBytes, codeLimit, stepLimit, stepSize}
 use Rattle.definitions.specs.Admission.{badCode}
 use Rattle.steps.specs.Tables.{SizeTable}
 use Rattle.proof_term.specs.Records.{recordSize}
@@ -15,7 +15,7 @@ use Rattle.sheet.specs.declared.header.Sheet.{Sheet}
 use Rattle.sheet.proofs.Admitted.{AcceptedSheet, has-codes, has-steps}
 use Rattle.proof_tree.specs.Exportable.{Coded, Exportable}
 use Rattle.proof_tree.specs.Exporting.{RoomFor}
-use Rattle.proof_tree.proofs.GoodSteps.{known-rule, known-proposition}
+use Rattle.steps.proofs.GoodSteps.{known-rule, known-conclusion}
 
 module _ {s : List ℕ} (a : Admitted s) where
   coded : (i : ℕ) → i < propositions s → Coded (names s) (propositionPairs s) (codeBytes s) i
@@ -36,7 +36,7 @@ module _ {s : List ℕ} (a : Admitted s) where
             record {
               whole = omega (arith, has-steps a);
               rule = known-rule _ _ _ k good;
-              coded = λ kind. coded (stepNumber (stepRecords s) k 12) (known-proposition _ _ _ k good kind);
+              coded = λ p is. coded p (known-conclusion _ _ _ k good .proposition p is);
               few = omega (arith, a .in-range .steps);
               short = omega (arith, a .in-range .code, lengths s (a .whole) .code-bytes);
             };

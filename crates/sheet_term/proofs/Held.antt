@@ -8,7 +8,7 @@ use lib.ListN.{length}
 use Rattle.definitions.specs.declared.Refusal.{Refusal}
 use Rattle.definitions.specs.Outcome.{refused, accepted, _>>=_}
 use Rattle.definitions.specs.Prop.{Prop}
-use Rattle.definitions.specs.Sheet.{names, steps, stepRecords, propositionPairs, codeBytes, stepNumber, stepLimit}
+use Rattle.definitions.specs.Sheet.{names, steps, stepRecords, propositionPairs, codeBytes, stepLimit}
 use Rattle.definitions.specs.Term.{ProofTerm}
 use Rattle.definitions.specs.Tree.{treeIn, treeOf, rootOf}
 use Rattle.definitions.specs.Export.{export, checking}
@@ -17,6 +17,8 @@ use Rattle.definitions.specs.Answers.{sheetTerm}
 use Rattle.definitions.proofs.PrefixCode.{Bytes}
 use Rattle.prefix_code.specs.PropAt.{Present}
 use Rattle.prefix_code.proofs.Reading.{present-in}
+use Rattle.prefix_code.proofs.Shapes.{left-present}
+use Rattle.steps.proofs.GoodSteps.{known-conclusion}
 use Rattle.proof_term.specs.Records.{recordSize}
 use Rattle.proof_term.specs.Labels.{ofRecords, InOrder}
 use Rattle.proof_term.specs.Readable.{NamesBelow}
@@ -28,10 +30,8 @@ use Rattle.proof_tree.specs.declared.Exported.{Exported}
 use Rattle.proof_tree.specs.declared.Exported.the-variants.{Term, Refused}
 use Rattle.proof_tree.specs.Terms.{termsLabels, Ordered}
 use Rattle.proof_tree.specs.Exporting.{LabelOffset, StepExported}
-use Rattle.proof_tree.proofs.Conclusions.{left-present}
 use Rattle.proof_tree.proofs.Labels.{has-proposition}
 use Rattle.proof_tree.proofs.ExportedNames.{exported-names}
-use Rattle.proof_tree.proofs.GoodSteps.{known-proposition}
 use Rattle.proof_tree.proofs.Walking.{term-of, refusal-of, size-within}
 use Rattle.sheet_term.specs.declared.SheetTerm.the-variants as answer
 use Rattle.sheet_term.specs.Held.{LabelStands, HeldTerm, Gives, holds, refuses}
@@ -59,8 +59,8 @@ module _ {s : List ℕ} {h : Sheet} (a : AcceptedSheet s h) where
   unfolding headerOf
   label-stands l =
       record {
-        number = stepNumber (stepRecords s) (l .step) 12;
-        below = known-proposition _ _ _ (l .step) (a .sheet .good-step (l .step) (omega (arith, l .visited, a .sheet .in-range .some-step))) (l .concludes);
+        number = l .number;
+        below = known-conclusion _ _ _ (l .step) (a .sheet .good-step (l .step) (omega (arith, l .visited, a .sheet .in-range .some-step))) .proposition (l .number) (l .concludes);
         stands = l .stands;
       }
 
@@ -71,7 +71,7 @@ module _ {s : List ℕ} {h : Sheet} (a : AcceptedSheet s h) where
     unfolding badCode
     label-present l =
         let whole = present-in _ (propositionPairs s) _ (l .number) (code-of-bytes s bytes) (has-codes (a .sheet) .decoded (l .number) (l .below)) in
-        ⊎-elim (λ is. rw is whole) (λ is. rw (is .1) (left-present whole (is .0))) (l .stands)
+        ⊎-elim (λ is. rw is whole) (λ is. left-present whole is) (l .stands)
 
     names-below : (t : ProofTerm ℕ) → export (treeIn (names s) (propositionPairs s) (codeBytes s) (stepRecords s) (steps s - 1)) checking ≡ accepted t → NamesBelow (names s) t
     unfolding badCode headerOf

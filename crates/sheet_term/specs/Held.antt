@@ -3,12 +3,13 @@ use Prim.Native.Nat.{ℕ, _+_, _*_, _≤_, _<_}
 use mathlib.Core.Path.{_≡_}
 use mathlib.Core.Logic.{_⊎_}
 use mathlib.Core.List.{List}
-use lib.ListN.{length, getD}
+use lib.ListN.{length}
 use Rattle.definitions.specs.declared.Refusal.{Refusal}
 use Rattle.definitions.specs.Outcome.{accepted, refused}
 use Rattle.definitions.specs.Sheet.{names, propositions, propositionPairs, codeBytes, pairOffset, stepLimit}
 use Rattle.definitions.specs.Answers.{sheetTerm}
 use Rattle.prefix_code.specs.PropAt.{propAt}
+use Rattle.prefix_code.specs.Shape.{ImplicationAt}
 use Rattle.proof_term.specs.Records.{recordSize, termAt}
 use Rattle.proof_term.specs.Labels.{InOrder, LabelsFit}
 use Rattle.proof_term.specs.Readable.{NamesBelow}
@@ -23,7 +24,7 @@ pub record LabelStands (s : List ℕ) (offset : ℕ) : Type 0 where
   pub below : number < propositions s
   pub stands :
       let whole = pairOffset (propositionPairs s) number in
-      (offset ≡ whole) ⊎ ((getD (codeBytes s) whole 0 ≡ 4) × (offset ≡ whole + 1))
+      (offset ≡ whole) ⊎ ImplicationAt (codeBytes s) whole offset
 
 -- record n of the whole memory holds the sheet's term: its names are the sheet's, its records stand in its order, and their labels
 -- fit: a datatype is a name of the sheet, and a proposition stands in the code

@@ -4,3 +4,5 @@ pub mod Premisses
 pub mod Walk
 pub mod Deepest
 pub mod Tables
+pub mod StepAt
+pub mod GoodSteps

@@ -2,3 +2,4 @@
 pub mod Records
 pub mod Size
 pub mod Tables
+pub mod StepAt

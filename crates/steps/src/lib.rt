@@ -1,4 +1,4 @@
-// The step records of a sheet: refusals 9, 10 and 11, and the sizes of the steps' trees.
+// The step records of a sheet: a step as a value, refusals 9, 10 and 11, and the sizes of the steps' trees.
 use definitions::Found;
 use number::number_at;
 ghost use Prim.Native.Nat.{ℕ, _+_, _≤_, _<_, max};
@@ -6,11 +6,12 @@ ghost use mathlib.Core.Path.{_≡_};
 ghost use mathlib.Core.List.{List};
 ghost use lib.ListN.{length, getD};
 ghost use Rattle.definitions.specs.Outcome.{lowest, foundAt};
-ghost use Rattle.definitions.specs.Sheet.{stepSize, stepLimit, premissCount, stepNumber, column};
+ghost use Rattle.definitions.specs.Sheet.{stepSize, stepLimit, ruleByte, premissCount, stepNumber, column};
 ghost use Rattle.definitions.specs.Tree.{rules, Sorry, identifierCount, height, treeIn};
 ghost use Rattle.definitions.specs.Admission.{noName, notZero, badIdentifier, badPropIsTrue, badTypeJudgement, badConclusion, badColumn};
 ghost use Rattle.definitions.specs.Admission.{badStep, treesLeft};
 ghost use Rattle.steps.specs.Records.{HasStep, HasSteps};
+ghost use Rattle.steps.specs.StepAt.{identifierAt, conclusionAt, stepAt};
 ghost use Rattle.steps.specs.Tables.{TreeStart, SizeTable, FilledSizes, HeightTable, FilledHeights};
 
 // The bytes of a step.
@@ -22,12 +23,105 @@ pub const COLUMN_LIMIT: u16 = 4095;
 // How many identifiers a rule has, by its byte.
 const IDENTIFIER_COUNTS: [u8; 17] = [0, 0, 0, 0, 1, 0, 1, 0, 0, 2, 0, 1, 0, 0, 2, 0, 0];
 
+// A name, by its number, and an id.
+pub struct Identifier {
+    pub name: u16,
+    pub unique_id: u16,
+}
+
+// A type judgement: the name and the id of an object, and the name of its datatype.
+pub struct Judgement {
+    pub name: u16,
+    pub unique_id: u16,
+    pub datatype: u16,
+}
+
+// A conclusion: the number of a proposition, or a type judgement.
+pub enum Conclusion {
+    PropIsTrue(u16),
+    TypeJudgement(Judgement),
+}
+
+// A step, with the numbers of its record.
+pub struct Step {
+    pub rule: u8,
+    pub premiss_count: u8,
+    pub first: Identifier,
+    pub second: Identifier,
+    pub conclusion: Conclusion,
+    pub column: u16,
+}
+
 // The number at an offset of a step.
-pub fn step_number(records: &[u8], k: usize, at: usize) -> usize
+fn step_number(records: &[u8], k: usize, at: usize) -> usize
     requires { ⌜ (HasStep (now records) k) × (at + 1 < stepSize) ⌝ }
     ensures { λ r. ⌜ (r ≡ stepNumber (now (records .entry)) k at) × (r < 65536) ⌝ }
 {
     number_at(records, STEP_SIZE * k + at)
+}
+
+pub fn rule_byte(records: &[u8], k: usize) -> u8
+    requires { ⌜ HasStep (now records) k ⌝ }
+    ensures { λ r. ⌜ r ≡ ruleByte (now (records .entry)) k ⌝ }
+{
+    records[STEP_SIZE * k]
+}
+
+pub fn premiss_count(records: &[u8], k: usize) -> u8
+    requires { ⌜ HasStep (now records) k ⌝ }
+    ensures { λ r. ⌜ r ≡ premissCount (now (records .entry)) k ⌝ }
+{
+    records[STEP_SIZE * k + 1]
+}
+
+// The name and the id at an offset of a step.
+fn identifier_at(records: &[u8], k: usize, at: usize) -> Identifier
+    requires { ⌜ (HasStep (now records) k) × (at + 3 < stepSize) ⌝ }
+    ensures { λ r. ⌜ r ≡ identifierAt (now (records .entry)) k at ⌝ }
+{
+    Identifier {
+        name: step_number(records, k, at) as u16,
+        unique_id: step_number(records, k, at + 2) as u16,
+    }
+}
+
+// The conclusion of a step: its kind says what the numbers after it are.
+fn conclusion_at(records: &[u8], k: usize) -> Conclusion
+    requires { ⌜ HasStep (now records) k ⌝ }
+    ensures { λ r. ⌜ r ≡ conclusionAt (now (records .entry)) k ⌝ }
+{
+    let first = step_number(records, k, 12) as u16;
+    if step_number(records, k, 10) == 0 {
+        return Conclusion::PropIsTrue(first);
+    }
+    Conclusion::TypeJudgement(Judgement {
+        name: first,
+        unique_id: step_number(records, k, 14) as u16,
+        datatype: step_number(records, k, 16) as u16,
+    })
+}
+
+// The column that a step was drawn in: its last number.
+fn column(records: &[u8], k: usize) -> u16
+    requires { ⌜ HasStep (now records) k ⌝ }
+    ensures { λ r. ⌜ r ≡ column (now (records .entry)) k ⌝ }
+{
+    step_number(records, k, 18) as u16
+}
+
+// Step k.
+pub fn step_at(records: &[u8], k: usize) -> Step
+    requires { ⌜ HasStep (now records) k ⌝ }
+    ensures { λ r. ⌜ r ≡ stepAt (now (records .entry)) k ⌝ }
+{
+    Step {
+        rule: rule_byte(records, k),
+        premiss_count: premiss_count(records, k),
+        first: identifier_at(records, k, 2),
+        second: identifier_at(records, k, 6),
+        conclusion: conclusion_at(records, k),
+        column: column(records, k),
+    }
 }
 
 // The number at an offset of a step is that of no name.
@@ -85,14 +179,6 @@ fn bad_conclusion(records: &[u8], k: usize, names: usize, propositions: usize) -
     }
 }
 
-// The column that a step was drawn in: its last number.
-pub fn column(records: &[u8], k: usize) -> u16
-    requires { ⌜ HasStep (now records) k ⌝ }
-    ensures { λ r. ⌜ r ≡ column (now (records .entry)) k ⌝ }
-{
-    step_number(records, k, 18) as u16
-}
-
 // A step's column is out of range.
 fn bad_column(records: &[u8], k: usize) -> bool
     requires { ⌜ HasStep (now records) k ⌝ }
@@ -114,7 +200,7 @@ fn bad_step(records: &[u8], k: usize, names: usize, propositions: usize) -> bool
     requires { ⌜ HasStep (now records) k ⌝ }
     ensures { λ r. ⌜ r ≡ badStep names propositions (now (records .entry)) k ⌝ }
 {
-    let rule = records[STEP_SIZE * k] as usize;
+    let rule = rule_byte(records, k) as usize;
     if IDENTIFIER_COUNTS.len() <= rule {
         return true;
     }
@@ -135,13 +221,6 @@ pub fn first_bad_step(records: &[u8], steps: usize, names: usize, propositions: 
         }
     }
     Found::Nowhere
-}
-
-pub fn premiss_count(records: &[u8], k: usize) -> u8
-    requires { ⌜ HasStep (now records) k ⌝ }
-    ensures { λ r. ⌜ r ≡ premissCount (now (records .entry)) k ⌝ }
-{
-    records[STEP_SIZE * k + 1]
 }
 
 // Where the tree of step k starts, if the step finds its premisses: back over each of them by its size.

@@ -7,6 +7,19 @@ use borrow.Author.Needs.{needs}
 use Rattle.comparison.proofs.compare_conclusions.Statement.{statement}
 use Rattle.comparison.proofs.compare_conclusions.Tie as tie
 
+-- back from the second conclusion's kind to the first one's, and from that to the start: of two propositions, and of two judgements
+abbrev first-proposition : tie.After-known-told2 → tie.After-known-told
+first-proposition c = c .before .before .before
+
+abbrev proposition-start : tie.After-known-told → tie.Start
+proposition-start c = c .before .before .before .before
+
+abbrev first-judgement : tie.After-known-told4 → tie.After-known-told3
+first-judgement c = c .before .before .before
+
+abbrev judgement-start : tie.After-known-told3 → tie.Start
+judgement-start c = c .before .before .before .before
+
 enum-known-left : tie.Need-enum-known-left
 enum-known-left c = search needs
 
@@ -22,11 +35,14 @@ returns c = proposition-and-judgement _ (c .before .before .before .left .given 
 
 compare-propositions-requires : tie.Need-compare-propositions-requires
 compare-propositions-requires c κs =
-    let (sheet, (first, second)) = c .before .before .before .before .before .before .before .pre in
-    (sheet, (first .proposition _ (c .before .before .before .before .left .given .1), second .proposition _ (c .before .right .given .1)))
+    let left = first-proposition c in
+    let (sheet, (first, second)) = proposition-start left .pre in
+    (sheet, (first .proposition _ (left .before .left .given .1), second .proposition _ (c .before .right .given .1)))
 
 returns-2 : tie.Need-returns-2
-returns-2 c = two-propositions _ (c .before .before .before .before .before .left .given .1) (c .before .before .right .given .1) (c .compare-propositions .ensures)
+returns-2 c =
+    let right = c .before in
+    two-propositions _ (first-proposition right .before .left .given .1) (right .before .right .given .1) (c .compare-propositions .ensures)
 
 enum-known-left-2 : tie.Need-enum-known-left-2
 enum-known-left-2 c = search needs
@@ -43,11 +59,14 @@ returns-3 c = judgement-and-proposition _ (c .before .before .before .left2 .giv
 
 compare-judgements-requires : tie.Need-compare-judgements-requires
 compare-judgements-requires c κs =
-    let (sheet, (first, second)) = c .before .before .before .before .before .before .before .pre in
-    (sheet, (first .judgement _ (c .before .before .before .before .left2 .given .1), second .judgement _ (c .before .right2 .given .1)))
+    let left = first-judgement c in
+    let (sheet, (first, second)) = judgement-start left .pre in
+    (sheet, (first .judgement _ (left .before .left2 .given .1), second .judgement _ (c .before .right2 .given .1)))
 
 returns-4 : tie.Need-returns-4
-returns-4 c = two-judgements _ (c .before .before .before .before .before .left2 .given .1) (c .before .before .right2 .given .1) (c .compare-judgements .ensures)
+returns-4 c =
+    let right = c .before in
+    two-judgements _ (first-judgement right .before .left2 .given .1) (right .before .right2 .given .1) (c .compare-judgements .ensures)
 
 pub compare-conclusions-spec : {M : Type 1} → statement M
 compare-conclusions-spec =

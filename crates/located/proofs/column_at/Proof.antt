@@ -1,6 +1,7 @@
 -- A step that is there has its column among the records; for one that is not, the definition gives 0.
 use mathlib.Core.Path.{_≡_, sym}
 use borrow.Author.Needs.{needs}
+use Rattle.steps.specs.StepAt.{stepAt}
 use Rattle.sheet.specs.Header.{headerOf}
 use Rattle.sheet.proofs.Stages.{stage-accepted, refused-not-accepted}
 use Rattle.located.proofs.Columns.{header-accepted, read-header, no-step, has-step}
@@ -40,13 +41,14 @@ returns-2 c =
 step-records-requires : tie.Need-step-records-requires
 step-records-requires c κs = read-header (start (read c) .pre) (is-header (read c))
 
-column-requires : tie.Need-column-requires
-column-requires c κs =
+step-at-requires : tie.Need-step-at-requires
+step-at-requires c κs =
     let header = read (c .before) in
     rw (c .step-records .ensures) (has-step (start header .pre) (is-header header) _ (c .before .if1 .left))
 
 returns-3 : tie.Need-returns-3
-returns-3 c = rw (← c .before .step-records .ensures) (c .column .ensures)
+unfolding stepAt
+returns-3 c = rw (← c .before .step-records .ensures, c .step-at .ensures)
 
 pub column-at-spec : {M : Type 1} → statement M
 column-at-spec =
@@ -58,5 +60,5 @@ column-at-spec =
     returns
     returns-2
     step-records-requires
-    column-requires
+    step-at-requires
     returns-3)

@@ -24,7 +24,7 @@ use Rattle.proof_tree.proofs.placed_term.Reads as placed-term-reads
 use Rattle.proof_tree.proofs.step.premiss.Reads as premiss-reads
 use Rattle.steps.proofs.premiss_count.Reads as premiss-count-reads
 use Rattle.proof_tree.proofs.step.refusal.Reads as refusal-reads
-use Rattle.proof_tree.proofs.step.rule_byte.Reads as rule-byte-reads
+use Rattle.steps.proofs.rule_byte.Reads as rule-byte-reads
 use Rattle.proof_tree.proofs.table.admits_count.Reads as admits-count-reads
 use Rattle.proof_tree.proofs.table.expected_premisse_mode.Reads as expected-premisse-mode-reads
 use Rattle.proof_tree.proofs.table.row_of.Reads as row-of-reads

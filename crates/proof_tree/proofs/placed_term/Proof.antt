@@ -2,32 +2,57 @@
 use native.Mathlib.Omega.{arith}
 use borrow.Author.Needs.{needs}
 use denote.Ref.{now}
-use Rattle.proof_tree.proofs.Concluding.{means, conclusion-readable}
-use Rattle.proof_tree.proofs.Placing.{Visited, label-of, label-refused, term-answer, ascription, ascribed-answer}
+use Rattle.proof_tree.specs.Labelling.{LabelOf}
+use Rattle.proof_tree.proofs.Concluding.{means, readable}
+use Rattle.proof_tree.proofs.Placing.{Visited, concluded, label, label-of, label-refused, term-answer, ascription, ascribed-answer}
 use Rattle.proof_tree.proofs.placed_term.Statement.{statement}
 use Rattle.proof_tree.proofs.placed_term.Tie as tie
+
+-- back from the step to the start
+abbrev start : tie.After-step-at → tie.Start
+start c = c .before .before .before .before .before .before
+
+-- back from a label to the step, and from the rule's term to its label
+abbrev step : tie.After-known-told2 → tie.After-step-at
+step c = c .before .before .before .before
+
+abbrev labelled : tie.After-rule-term → tie.After-known-told2
+labelled c = c .before .before
+
+-- back to the rule's term, from an ending that is no ascription, and from one that is
+abbrev bare-term : tie.At-match2-keys2 → tie.After-rule-term
+bare-term c = c .before .before .before
+
+abbrev ascribed-term : tie.After-enum-told → tie.After-rule-term
+ascribed-term c = c .before .before .before .before
+
+visited : (c : tie.After-step-at) → let s = start c .args in
+    Visited (s .names) (now (s .pairs)) (now (s .code)) (now (s .records)) (s .k) (s .place) (s .row) (c .before .ending-in .result) (c .step-at .result)
+visited c =
+    record {
+      good = start c .pre .0 .0;
+      is-row = start c .pre .0 .1;
+      ends = c .before .ending-in .ensures;
+      bytes = λ i. omega (arith, c .before .before .before .before .shared-slice-known2 .given i);
+      is-step = c .step-at .ensures;
+    }
+
+-- the label of a parameter
+its-label : (c : tie.After-known-told2) → let s = start (step c) .args in
+    LabelOf (s .names) (now (s .pairs)) (now (s .code)) (step c .step-at .result .conclusion) (label (visited (step c))) (c .before .annotation2 .given .0 .0) (c .before .annotation2 .given .0 .1 .0)
+its-label c =
+    let v = visited (step c) in
+    label-of (c .before .annotation2 .given .1) (c .before .before .before .annotation-of .ensures _ _ (means (v .good) (v .bytes) (concluded v)))
 
 ending-in-requires : tie.Need-ending-in-requires
 ending-in-requires c κs = search needs
 
-conclusion-of-requires : tie.Need-conclusion-of-requires
-conclusion-of-requires c κs = let g = c .before .before .before .before .before .pre .0 .0 in (g .whole, λ e. g .coded e .there)
-
-visited : (c : tie.After-conclusion-of) → let s = c .before .before .before .before .before .before .args in
-    Visited (s .names) (now (s .pairs)) (now (s .code)) (now (s .records)) (s .k) (s .place) (s .row) (c .before .ending-in .result) (c .conclusion-of .result)
-visited c =
-    record {
-      good = c .before .before .before .before .before .before .pre .0 .0;
-      is-row = c .before .before .before .before .before .before .pre .0 .1;
-      ends = c .before .ending-in .ensures;
-      bytes = λ i. omega (arith, c .before .before .before .before .shared-slice-known2 .given i);
-      concluded = c .conclusion-of .ensures;
-    }
+step-at-requires : tie.Need-step-at-requires
+step-at-requires c κs = let entry = c .before .before .before .before .before in entry .pre .0 .0 .whole
 
 annotation-of-requires : tie.Need-annotation-of-requires
 annotation-of-requires c κs =
-    let v = visited c in
-    ((v .good .few, v .good .short), conclusion-readable (v .good) (v .bytes) (v .concluded))
+    let v = visited c in (v .good .few, readable (v .good) (v .bytes) (concluded v))
 
 enum-known-annotation : tie.Need-enum-known-annotation
 enum-known-annotation c = search needs
@@ -35,11 +60,9 @@ enum-known-annotation c = search needs
 enum-known-annotation-2 : tie.Need-enum-known-annotation-2
 enum-known-annotation-2 c = search needs
 
-step-term-requires : tie.Need-step-term-requires
-step-term-requires c κs =
-    let v = visited (c .before .before .before .before .before) in
-    let l = label-of (rw (c .before .before .annotation2 .given .1) at (c .before .before .before .before .annotation-of .ensures _ _ (means (v .good) (v .bytes) (v .concluded)))) in
-    ((v .good .whole, l .known), c .before .before .before .before .before .before .before .before .before .before .before .pre .1 .0)
+rule-term-requires : tie.Need-rule-term-requires
+rule-term-requires c κs =
+    let there = c .before in (start (step there) .pre .1 .0, its-label there .known)
 
 enum-told : tie.Need-enum-told
 enum-told c = search needs
@@ -49,43 +72,53 @@ same-length c = search needs
 
 returns : tie.Need-returns
 returns c =
-    let v = visited (c .before .before .before .before .before .before .before .before .before) in
-    term-answer v (label-of (rw (c .before .before .before .before .before .before .annotation2 .given .1) at (c .before .before .before .before .before .before .before .before .annotation-of .ensures _ _ (means (v .good) (v .bytes) (v .concluded))))) (c .before .before .before .step-term .ensures) (c .match2 .keys2)
+    let made = bare-term c in
+    let there = labelled made in
+    term-answer (visited (step there)) (its-label there) (made .rule-term .ensures) (c .match2 .keys2)
 
 wrap-into-type-ascription-requires : tie.Need-wrap-into-type-ascription-requires
 wrap-into-type-ascription-requires c κs =
-    let v = visited (c .before .before .before .before .before .before .before .before .before .before .before) in
-    let made = c .before .before .before .before .before .step-term .ensures in
-    let room = c .before .before .before .before .before .before .before .before .before .before .before .before .before .before .before .before .before .pre .1 .1 in
-    let same = c .before .before .before .before .before .step-term .kept in (
-      (v .good .few, record { room = omega (arith, made .few, room .room, same); few = omega (arith, made .few, room .few) }, made .some-record),
-      λ at e. omega (arith, conclusion-readable (v .good) (v .bytes) (v .concluded) at e .inside, v .good .short),
+    let term = ascribed-term (c .before) in
+    let there = step (labelled term) in
+    let v = visited there in
+    let made = term .rule-term .ensures in
+    let room = start there .pre .1 .1 in
+    let same = term .rule-term .kept in (
+      v .good .few,
+      record { room = omega (arith, made .few, room .room, same); few = omega (arith, made .few, room .few) },
+      made .some-record,
+      readable (v .good) (v .bytes) (concluded v) .paired,
     )
 
 returns-2 : tie.Need-returns-2
 returns-2 c =
-    let v = visited (c .before .before .before .before) in
-    label-refused v _ (rw (c .before .annotation .given .1) at (c .before .before .before .annotation-of .ensures _ _ (means (v .good) (v .bytes) (v .concluded))))
+    let there = c .before .before .before .before in
+    let v = visited there in
+    label-refused v _ (rw (c .before .annotation .given .1) at (c .before .before .before .annotation-of .ensures _ _ (means (v .good) (v .bytes) (concluded v))))
 
 same-length-2 : tie.Need-same-length-2
 same-length-2 c = search needs
 
 returns-3 : tie.Need-returns-3
 returns-3 c =
-    let v = visited (c .before .before .before .before .before .before .before .before .before .before .before .before .before .before) in
-    ascribed-answer v (label-of (rw (c .before .before .before .before .before .before .before .before .before .before .before .annotation2 .given .1) at (c .before .before .before .before .before .before .before .before .before .before .before .before .before .annotation-of .ensures _ _ (means (v .good) (v .bytes) (v .concluded))))) (c .before .before .before .before .before .before .before .before .step-term .ensures) (c .before .before .before .before .enum-told .given .1)
-    (ascription (means (v .good) (v .bytes) (v .concluded)) (c .before .before .wrap-into-type-ascription .ensures))
+    let wrap = c .before .before in
+    let ending = wrap .before .before in
+    let made = ascribed-term ending in
+    let there = labelled made in
+    let v = visited (step there) in
+    ascribed-answer v (its-label there) (made .rule-term .ensures) (ending .enum-told .given .1)
+    (ascription (means (v .good) (v .bytes) (concluded v)) (wrap .wrap-into-type-ascription .ensures))
 
 pub placed-term-spec : {M : Type 1} → statement M
 placed-term-spec =
     tie.close
     (tie.spec
     ending-in-requires
-    conclusion-of-requires
+    step-at-requires
     annotation-of-requires
     enum-known-annotation
     enum-known-annotation-2
-    step-term-requires
+    rule-term-requires
     enum-told
     same-length
     returns

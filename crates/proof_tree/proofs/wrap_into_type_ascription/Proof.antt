@@ -1,9 +1,17 @@
 -- The conclusion is taken apart first: a type judgement is 13.
 use borrow.Author.Needs.{needs}
 use Rattle.proof_term.specs.Records.{labelOf}
-use Rattle.proof_tree.specs.Wrapping.{ascribes, refuses}
+use Rattle.proof_tree.specs.Wrapping.{refuses}
+use Rattle.proof_tree.proofs.Placing.{wrapped}
 use Rattle.proof_tree.proofs.wrap_into_type_ascription.Statement.{statement}
 use Rattle.proof_tree.proofs.wrap_into_type_ascription.Tie as tie
+
+-- back from the proposition to the start, and from the ascription to the proposition's offset
+abbrev start : tie.After-known-told → tie.Start
+start c = c .before .before .before .before .before
+
+abbrev offset : tie.After-type-ascription → tie.After-pair-offset
+offset c = c .before .before
 
 enum-known-conclusion : tie.Need-enum-known-conclusion
 enum-known-conclusion c = search needs
@@ -17,6 +25,12 @@ refusal-requires c κs = search needs
 returns : tie.Need-returns
 returns c = rw (c .before .enum-told .given .1) (refuses (c .refusal .ensures))
 
+cast-pair-offset : tie.Need-cast-pair-offset
+cast-pair-offset c = search needs
+
+pair-offset-requires : tie.Need-pair-offset-requires
+pair-offset-requires c κs = start c .pre .3 .there _ (c .before .conclusion .given .1)
+
 sub-type-ascription : tie.Need-sub-type-ascription
 sub-type-ascription c = search needs
 
@@ -24,7 +38,9 @@ cast-type-ascription : tie.Need-cast-type-ascription
 cast-type-ascription c = search needs
 
 cast-type-ascription-2 : tie.Need-cast-type-ascription-2
-cast-type-ascription-2 c = record { fits = c .before .before .before .before .before .pre .1 _ (c .before .before .conclusion .given .1) }
+cast-type-ascription-2 c =
+    let there = c .before .before in
+    record { fits = rw (c .before .pair-offset .ensures) (start there .pre .3 .fits _ (there .before .conclusion .given .1)) }
 
 type-ascription-requires : tie.Need-type-ascription-requires
 type-ascription-requires c κs = search needs
@@ -35,7 +51,8 @@ same-length c = search needs
 returns-2 : tie.Need-returns-2
 unfolding labelOf
 returns-2 c =
-    rw (c .before .before .before .before .before .conclusion .given .1) (ascribes (c .before .before .type-ascription .ensures))
+    let made = c .before .before in
+    wrapped (offset made .before .before .conclusion .given .1) (offset made .pair-offset .ensures) (made .type-ascription .ensures)
 
 pub wrap-into-type-ascription-spec : {M : Type 1} → statement M
 wrap-into-type-ascription-spec =
@@ -45,6 +62,8 @@ wrap-into-type-ascription-spec =
     enum-told
     refusal-requires
     returns
+    cast-pair-offset
+    pair-offset-requires
     sub-type-ascription
     cast-type-ascription
     cast-type-ascription-2

@@ -1,5 +1,5 @@
 -- The rule byte is tested first, since the rule says which identifiers the step has.
-use Prim.Native.Nat.{ℕ, _*_}
+use Prim.Native.Nat.{ℕ}
 use mathlib.Core.Path.{_≡_, refl, sym}
 use mathlib.Core.Bool.{Bool, _||_}
 use mathlib.Core.List.{List}
@@ -7,28 +7,22 @@ use native.Mathlib.Omega.{arith}
 use lib.Dec.{leb}
 use borrow.Author.Tests.{le-leb, lt-leb}
 use borrow.Author.Needs.{needs}
-use Rattle.definitions.specs.Sheet.{stepSize, ruleByte}
+use Rattle.definitions.specs.Sheet.{stepSize}
 use Rattle.definitions.specs.Tree.{rules, ruleIn}
 use Rattle.definitions.specs.Admission.{badIdentifier, badConclusion, badColumn, identifiers, badStep}
 use Rattle.steps.proofs.Either.{first-holds, second-decides}
 use Rattle.steps.proofs.bad_step.Statement.{statement}
 use Rattle.steps.proofs.bad_step.Tie as tie
 
-mul-rule : tie.Need-mul-rule
-unfolding stepSize
-mul-rule c = omega arith
-
-shared-slice-read-rule : tie.Need-shared-slice-read-rule
-unfolding stepSize
-shared-slice-read-rule c = omega arith
+rule-byte-requires : tie.Need-rule-byte-requires
+rule-byte-requires c κs = search needs
 
 cast-rule : tie.Need-cast-rule
-unfolding stepSize
-cast-rule c = omega (arith, c .shared-slice-known2 .given (stepSize * c .before .before .args .k))
+cast-rule c = search needs
 
 returns : tie.Need-returns
-unfolding badStep ruleByte stepSize rules
-returns c = first-holds _ (sym (le-leb _ _ (c .if1 .taken))) refl
+unfolding badStep rules
+returns c = rw (← c .before .rule-byte .ensures) (first-holds _ (sym (le-leb _ _ (c .if1 .taken))) refl)
 
 identifier-count-requires : tie.Need-identifier-count-requires
 unfolding rules
@@ -59,13 +53,19 @@ module _ (names propositions : ℕ) (records : List ℕ) (k count : ℕ) where
   unfoldable fromFirst : Bool
   fromFirst = badIdentifier names propositions records k 2 (leb 1 count) || fromSecond
 
+-- back to the rule
+abbrev rule-known : tie.After-identifier-count → tie.After-rule-byte
+rule-known c = c .before .before
+
 -- the rule is known
 first-on : (c : tie.After-identifier-count) {r : Bool} →
     let args = c .before .before .before .before .args in
     r ≡ fromFirst (args .names) (args .propositions) (args .records .now) (args .k) (c .identifier-count .result)
     → r ≡ badStep (args .names) (args .propositions) (args .records .now) (args .k)
-unfolding fromFirst fromSecond fromConclusion badStep identifiers ruleIn ruleByte stepSize rules
-first-on c e = rw (← c .identifier-count .ensures) (second-decides refl (lt-leb _ _ (c .before .if1 .left)) e)
+unfolding fromFirst fromSecond fromConclusion badStep identifiers ruleIn rules
+first-on c e =
+    rw (← rule-known c .rule-byte .ensures, ← c .identifier-count .ensures)
+    (second-decides refl (lt-leb _ _ (c .before .if1 .left)) e)
 
 -- the first identifier is good
 second-on : (c : tie.Else2) {r : Bool} →
@@ -107,8 +107,7 @@ pub bad-step-spec : {M : Type 1} → statement M
 bad-step-spec =
     tie.close
     (tie.spec
-    mul-rule
-    shared-slice-read-rule
+    rule-byte-requires
     cast-rule
     returns
     identifier-count-requires

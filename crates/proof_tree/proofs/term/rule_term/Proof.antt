@@ -9,6 +9,19 @@ use Rattle.proof_tree.proofs.Makers.{proposition-label, labelled, plain
 use Rattle.proof_tree.proofs.term.rule_term.Statement.{statement}
 use Rattle.proof_tree.proofs.term.rule_term.Tie as tie
 
+-- back from a function to the start
+abbrev function-start : tie.After-enum-told5 → tie.Start
+function-start c = c .before .before .before
+
+array-read-a : tie.Need-array-read-a
+array-read-a c = search needs
+
+array-read-b : tie.Need-array-read-b
+array-read-b c = search needs
+
+array-read-c : tie.Need-array-read-c
+array-read-c c = search needs
+
 enum-told : tie.Need-enum-told
 enum-told c = search needs
 
@@ -142,8 +155,9 @@ same-length-5 c = search needs
 returns-5 : tie.Need-returns-5
 unfolding termOver termOf partTerms partCount premissTerm ofLabels
 returns-5 c =
-    labelled (c .before .before .before .before .enum-told5 .given .1) (c .before .before .function .ensures)
-    (λ number l. proposition-label _ _ _ (c .before .before .before .before .before .before .before .pre .1) l) (λ props part. refl)
+    let rule = c .before .before .before .before in
+    labelled (rule .enum-told5 .given .1) (c .before .before .function .ensures)
+    (λ number l. proposition-label _ _ _ (function-start rule .pre .1) l) (λ props part. refl)
 
 same-length-6 : tie.Need-same-length-6
 same-length-6 c = search needs
@@ -208,6 +222,9 @@ pub rule-term-spec : {M : Type 1} → statement M
 rule-term-spec =
     tie.close
     (tie.spec
+    array-read-a
+    array-read-b
+    array-read-c
     enum-told
     pair-requires
     enum-told-2
