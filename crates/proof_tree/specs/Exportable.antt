@@ -27,6 +27,11 @@ pub record GoodStep (names : ℕ) (pairs code records : List ℕ) (k : ℕ) : Ty
   pub few : k < 65536
   pub short : length code < 65536
 
+-- so it is with some count of names
+pub record SomeGoodStep (pairs code records : List ℕ) (k : ℕ) : Type 0 where
+  pub names : ℕ
+  pub good : GoodStep names pairs code records k
+
 -- so many steps are good, each finds its premisses, and the table has the sizes of their trees
 pub record Exportable (names : ℕ) (pairs code records sizes : List ℕ) (steps : ℕ) : Type 0 where
   pub good : (k : ℕ) → k < steps → GoodStep names pairs code records k

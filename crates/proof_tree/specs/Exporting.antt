@@ -20,6 +20,7 @@ use Rattle.proof_tree.specs.declared.Exported.{Exported}
 use Rattle.proof_tree.specs.declared.Exported.the-variants.{Term, Refused}
 use Rattle.prefix_code.specs.PropAt.{propAt}
 use Rattle.prefix_code.specs.Shape.{ImplicationAt}
+use Rattle.proof_tree.specs.Exportable.{GoodStep}
 use Rattle.proof_tree.specs.Terms.{HasProposition, partTerms, Ordered}
 
 -- the offset of the proposition that a step concludes, or of the left side of such an implication
@@ -67,3 +68,8 @@ StepPlaced names pairs code records k place reads parts before used after r =
     let ts : (ℕ → Prop ℕ) → List (ProofTerm ℕ) = λ props. partTerms (termAt props before) reads parts in
     Answered names pairs code records k (placedTerm place (stepIn names pairs code records k) (ts (propAt names code))) before used ts
     (used + 1 - reads) (used + 2) after r
+
+-- the same with whatever count of names the step is good
+abbrev pub GoodStepPlaced : List ℕ → List ℕ → List ℕ → ℕ → Place → ℕ → List ℕ → List ℕ → ℕ → List ℕ → Exported → Type 0
+GoodStepPlaced pairs code records k place reads parts before used after r =
+    (names : ℕ) → GoodStep names pairs code records k → StepPlaced names pairs code records k place reads parts before used after r

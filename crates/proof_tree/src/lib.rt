@@ -35,8 +35,8 @@ ghost use Rattle.proof_tree.specs.Table.{placeOf, endingOf, TableRow};
 ghost use Rattle.proof_tree.specs.Opening.{Paired};
 ghost use Rattle.proof_tree.specs.Labelling.{endingAt};
 ghost use Rattle.proof_tree.specs.Terms.{Parts, firstThree};
-ghost use Rattle.proof_tree.specs.Exportable.{GoodStep, Exportable};
-ghost use Rattle.proof_tree.specs.Exporting.{RoomFor, StepPlaced, StepExported};
+ghost use Rattle.proof_tree.specs.Exportable.{SomeGoodStep, Exportable};
+ghost use Rattle.proof_tree.specs.Exporting.{RoomFor, GoodStepPlaced, StepExported};
 ghost use Rattle.proof_tree.specs.Wrapping.{Wrapped};
 
 // A term, by the count of the records that are used after it, of which its own is the last; or a refusal.
@@ -75,7 +75,6 @@ fn ending_in(place: Place, ending: Ending) -> Ending
 
 // The term of step k in its place, over the records of its premisses' terms.
 fn placed_term(
-    names: usize,
     pairs: &[u8],
     code: &[u8],
     records: &[u8],
@@ -86,9 +85,9 @@ fn placed_term(
     terms: &mut [u16],
     used: usize,
 ) -> Exported
-    requires { ⌜ GoodStep names (now pairs) (now code) (now records) k × TableRow (ruleIn (now records) k) row ⌝ }
+    requires { ⌜ SomeGoodStep (now pairs) (now code) (now records) k × TableRow (ruleIn (now records) k) row ⌝ }
     requires { ⌜ Parts (row .4) (getD parts 0 0) (getD parts 1 0) (getD parts 2 0) (now terms) used × Room (now terms) (used + 1) ⌝ }
-    ensures { λ r. ⌜ StepPlaced names (now (pairs .entry)) (now (code .entry)) (now (records .entry)) k (placeOf place) (row .0) (firstThree parts) (now (terms .entry)) used (now (terms .exit)) r ⌝ }
+    ensures { λ r. ⌜ GoodStepPlaced (now (pairs .entry)) (now (code .entry)) (now (records .entry)) k (placeOf place) (row .0) (firstThree parts) (now (terms .entry)) used (now (terms .exit)) r ⌝ }
 {
     let term = row.4;
     let last_column = row.3;
@@ -152,18 +151,7 @@ fn do_export_as_proof_term(
         parts[i] = after - 1;
         next = after;
     }
-    placed_term(
-        names,
-        pairs,
-        code,
-        records,
-        k,
-        place,
-        row,
-        parts,
-        terms,
-        next,
-    )
+    placed_term(pairs, code, records, k, place, row, parts, terms, next)
 }
 
 // The sheet's term: what the last step gives in a checking place.

@@ -80,12 +80,19 @@ module _ (t : ℕ) where
   found : (c : lts.Start (claims t) (Pre t) reads.Post Inv-loop μ-loop) → tooFewTrees (c .args .names) (now (c .args .pairs)) (now (c .args .code)) (now (c .args .records)) (c .args .k) ≡ false
   found c = c .pre .1 .0 .table .enough _ _ _ _ (omega arith)
 
-  entered : (c : lts.Else1 (claims t) (Pre t) reads.Post Inv-loop μ-loop) → let s = c .before .before .before .before .before .before .before .before .before .before .args in
+  -- back from a step that has the premisses of its rule to its row, and to the start
+  abbrev row-read : lts.Else1 (claims t) (Pre t) reads.Post Inv-loop μ-loop → lts.After-row-of (claims t) (Pre t) reads.Post Inv-loop μ-loop
+  row-read c = c .before .before .before
+
+  abbrev start : lts.Else1 (claims t) (Pre t) reads.Post Inv-loop μ-loop → lts.Start (claims t) (Pre t) reads.Post Inv-loop μ-loop
+  start c = let rule = row-read c .before in rule .before .before .before .before .before .before
+
+  entered : (c : lts.Else1 (claims t) (Pre t) reads.Post Inv-loop μ-loop) → let s = start c .args in
       Entered (s .names) (now (s .pairs)) (now (s .code)) (now (s .records)) (s .k) (c .before .before .before .row-of .result)
   entered c =
       record {
         is-row = is-row (c .before .before .before);
-        found = found (c .before .before .before .before .before .before .before .before .before .before);
+        found = found (start c);
         right = rw (c .before .before .premiss-count .ensures) at (sym (c .before .admits-count .ensures _ (is-row (c .before .before .before))) ∙ not-false _ (c .if1 .left));
       }
 
@@ -185,16 +192,17 @@ module _ (t : ℕ) where
       let w = entered (c .before .before .before .before .before) .is-row in
       let read = c .before .before .loop .inv in
       let size = size-tree (s .args .names) (now (s .args .pairs)) (now (s .args .code)) (now (s .args .records)) (s .args .k) in (
-        (good s, w),
+        (record { names = s .args .names; good = good s }, w),
         read-parts w read (omega (arith, c .before .loop-test .left, read .position)) (omega (arith, read .high, size, read .same, s .pre .1 .1 .room)) (omega (arith, read .high, size, s .pre .1 .1 .few)),
       )
 
   same-length-2 : lts.Need-same-length-2 (claims t) (Pre t) reads.Post Inv-loop μ-loop
-  same-length-2 c = c .before .before .placed-term .kept .1 .1 .1 .1 .1 .1 .1 .1 .0 ∙ c .before .before .before .before .before .loop .inv .same
+  same-length-2 c = c .before .before .placed-term .kept .1 .1 .1 .1 .1 .1 .1 .0 ∙ c .before .before .before .before .before .loop .inv .same
 
   returns-3 : lts.Need-returns-3 (claims t) (Pre t) reads.Post Inv-loop μ-loop
   returns-3 c =
-      step-placed (placeOf _) (entered (c .before .before .before .before .before .before .before .before)) (omega (arith, c .before .before .before .before .loop-test .left, c .before .before .before .before .before .loop .inv .position)) (c .before .before .before .before .before .loop .inv) (c .before .before .placed-term .ensures)
+      let there = c .before .before .before .before .before .before .before .before in
+      step-placed (placeOf _) (entered there) (omega (arith, c .before .before .before .before .loop-test .left, c .before .before .before .before .before .loop .inv .position)) (c .before .before .before .before .before .loop .inv) (c .before .before .placed-term .ensures _ (good (start there)))
 
 pub +do-export-as-proof-term-spec : {M : Type 1} → statement M
 +do-export-as-proof-term-spec =

@@ -1,7 +1,9 @@
 -- The label of a parameter first, then the rule's term, then an ascription.
+use Prim.Native.Nat.{ℕ}
 use native.Mathlib.Omega.{arith}
 use borrow.Author.Needs.{needs}
 use denote.Ref.{now}
+use Rattle.proof_tree.specs.Exportable.{GoodStep}
 use Rattle.proof_tree.specs.Labelling.{LabelOf}
 use Rattle.proof_tree.proofs.Concluding.{means, readable}
 use Rattle.proof_tree.proofs.Placing.{Visited, concluded, label, label-of, label-refused, term-answer, ascription, ascribed-answer}
@@ -26,11 +28,12 @@ bare-term c = c .before .before .before
 abbrev ascribed-term : tie.After-enum-told → tie.After-rule-term
 ascribed-term c = c .before .before .before .before
 
-visited : (c : tie.After-step-at) → let s = start c .args in
-    Visited (s .names) (now (s .pairs)) (now (s .code)) (now (s .records)) (s .k) (s .place) (s .row) (c .before .ending-in .result) (c .step-at .result)
-visited c =
+visited : (c : tie.After-step-at) {names : ℕ} → let s = start c .args in
+    GoodStep names (now (s .pairs)) (now (s .code)) (now (s .records)) (s .k)
+    → Visited names (now (s .pairs)) (now (s .code)) (now (s .records)) (s .k) (s .place) (s .row) (c .before .ending-in .result) (c .step-at .result)
+visited c good =
     record {
-      good = start c .pre .0 .0;
+      good = good;
       is-row = start c .pre .0 .1;
       ends = c .before .ending-in .ensures;
       bytes = λ i. omega (arith, c .before .before .before .before .shared-slice-known2 .given i);
@@ -38,21 +41,22 @@ visited c =
     }
 
 -- the label of a parameter
-its-label : (c : tie.After-known-told2) → let s = start (step c) .args in
-    LabelOf (s .names) (now (s .pairs)) (now (s .code)) (step c .step-at .result .conclusion) (label (visited (step c))) (c .before .annotation2 .given .0 .0) (c .before .annotation2 .given .0 .1 .0)
-its-label c =
-    let v = visited (step c) in
+its-label : (c : tie.After-known-told2) {names : ℕ} → let s = start (step c) .args in
+    (good : GoodStep names (now (s .pairs)) (now (s .code)) (now (s .records)) (s .k))
+    → LabelOf names (now (s .pairs)) (now (s .code)) (step c .step-at .result .conclusion) (label (visited (step c) good)) (c .before .annotation2 .given .0 .0) (c .before .annotation2 .given .0 .1 .0)
+its-label c good =
+    let v = visited (step c) good in
     label-of (c .before .annotation2 .given .1) (c .before .before .before .annotation-of .ensures _ _ (means (v .good) (v .bytes) (concluded v)))
 
 ending-in-requires : tie.Need-ending-in-requires
 ending-in-requires c κs = search needs
 
 step-at-requires : tie.Need-step-at-requires
-step-at-requires c κs = let entry = c .before .before .before .before .before in entry .pre .0 .0 .whole
+step-at-requires c κs = let entry = c .before .before .before .before .before in entry .pre .0 .0 .good .whole
 
 annotation-of-requires : tie.Need-annotation-of-requires
 annotation-of-requires c κs =
-    let v = visited c in (v .good .few, readable (v .good) (v .bytes) (concluded v))
+    let v = visited c (start c .pre .0 .0 .good) in (v .good .few, readable (v .good) (v .bytes) (concluded v))
 
 enum-known-annotation : tie.Need-enum-known-annotation
 enum-known-annotation c = search needs
@@ -62,7 +66,9 @@ enum-known-annotation-2 c = search needs
 
 rule-term-requires : tie.Need-rule-term-requires
 rule-term-requires c κs =
-    let there = c .before in (start (step there) .pre .1 .0, its-label there .known)
+    let there = c .before in
+    let pre = start (step there) .pre in
+    (pre .1 .0, its-label there (pre .0 .0 .good) .known)
 
 enum-told : tie.Need-enum-told
 enum-told c = search needs
@@ -71,16 +77,16 @@ same-length : tie.Need-same-length
 same-length c = search needs
 
 returns : tie.Need-returns
-returns c =
+returns c names good =
     let made = bare-term c in
     let there = labelled made in
-    term-answer (visited (step there)) (its-label there) (made .rule-term .ensures) (c .match2 .keys2)
+    term-answer (visited (step there) good) (its-label there good) (made .rule-term .ensures) (c .match2 .keys2)
 
 wrap-into-type-ascription-requires : tie.Need-wrap-into-type-ascription-requires
 wrap-into-type-ascription-requires c κs =
     let term = ascribed-term (c .before) in
     let there = step (labelled term) in
-    let v = visited there in
+    let v = visited there (start there .pre .0 .0 .good) in
     let made = term .rule-term .ensures in
     let room = start there .pre .1 .1 in
     let same = term .rule-term .kept in (
@@ -91,22 +97,22 @@ wrap-into-type-ascription-requires c κs =
     )
 
 returns-2 : tie.Need-returns-2
-returns-2 c =
+returns-2 c names good =
     let there = c .before .before .before .before in
-    let v = visited there in
+    let v = visited there good in
     label-refused v _ (rw (c .before .annotation .given .1) at (c .before .before .before .annotation-of .ensures _ _ (means (v .good) (v .bytes) (concluded v))))
 
 same-length-2 : tie.Need-same-length-2
 same-length-2 c = search needs
 
 returns-3 : tie.Need-returns-3
-returns-3 c =
+returns-3 c names good =
     let wrap = c .before .before in
     let ending = wrap .before .before in
     let made = ascribed-term ending in
     let there = labelled made in
-    let v = visited (step there) in
-    ascribed-answer v (its-label there) (made .rule-term .ensures) (ending .enum-told .given .1)
+    let v = visited (step there) good in
+    ascribed-answer v (its-label there good) (made .rule-term .ensures) (ending .enum-told .given .1)
     (ascription (means (v .good) (v .bytes) (concluded v)) (wrap .wrap-into-type-ascription .ensures))
 
 pub placed-term-spec : {M : Type 1} → statement M
