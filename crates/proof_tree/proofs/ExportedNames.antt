@@ -131,7 +131,7 @@ module _ (names : ℕ) where
     placed-below checking = value (step-below option.none tt)
     placed-below inferring = inferring-below (ending (z .rule))
 
-  -- the term of a tree, in either place
+  -- the term of a tree, in either mode
   record TreeBelow (t : ProofTree ℕ) : Type 0 where
     exports : (m : Place) → Gives (NamesBelow names) (export t m)
 
@@ -220,8 +220,8 @@ module _ (names propositions : ℕ) (pairs code records : List ℕ) (bytes : Byt
       newest (over-below k (good k (omega arith)) before) (drop-below names (premissCount records k) before)
 
   pub exported-names : (k : ℕ) → ((j : ℕ) → j ≤ k → badStep names propositions records j ≡ false)
-      → (place : Place) (t : ProofTerm ℕ) → export (treeIn names pairs code records k) place ≡ accepted t → NamesBelow names t
+      → (mode : Place) (t : ProofTerm ℕ) → export (treeIn names pairs code records k) mode ≡ accepted t → NamesBelow names t
   unfolding treeIn
-  exported-names k good place t e =
+  exported-names k good mode t e =
       let whole = over-below k (good k (omega arith)) (trees-below k (λ j h. good j (omega arith))) in
-      given (rw e at (whole .exports place))
+      given (rw e at (whole .exports mode))

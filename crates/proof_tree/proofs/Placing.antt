@@ -1,4 +1,4 @@
--- A step's term in its place, in three parts: the label of a parameter, the term of the rule, an ascription.
+-- A step's term in its mode, in three parts: the label of a parameter, the term of the rule, an ascription.
 use Prim.Native.Nat.{ℕ, _+_, _-_, _<_, _≤_}
 use mathlib.Core.Path.{_≡_, refl, sym, ap, _∙_}
 use mathlib.Core.Logic.{by-cases}
@@ -22,7 +22,7 @@ use Rattle.proof_term.specs.Making.{Made}
 use Rattle.proof_term.specs.Labels.{single}
 use Rattle.proof_term.proofs.Labels.{record-kept}
 use Rattle.proof_term.proofs.Making.{kept-then}
-use Rattle.proof_tree.specs.declared.table.Place as own
+use Rattle.proof_tree.specs.declared.table.ReasoningMode as own
 use Rattle.proof_tree.specs.declared.table.Ending as own-ending
 use Rattle.proof_tree.specs.declared.table.Ending.the-variants.{Bare, Ascribed, LeftLabelled, DatatypeLabelled, PremissOwn}
 use Rattle.proof_tree.specs.declared.table.Row.{Row}
@@ -34,7 +34,7 @@ use Rattle.proof_tree.specs.declared.conclusion.Annotation.{Annotation}
 use Rattle.proof_tree.specs.declared.conclusion.Annotation.the-variants as annotation
 use Rattle.proof_tree.specs.declared.Exported.{Exported}
 use Rattle.proof_tree.specs.declared.Exported.the-variants.{Term, Refused}
-use Rattle.proof_tree.specs.Table.{placeOf, endingOf, TableRow}
+use Rattle.proof_tree.specs.Table.{modeOf, endingOf, TableRow}
 use Rattle.prefix_code.specs.PropAt.{propAt}
 use Rattle.proof_tree.specs.Terms.{HasProposition, termOver, partTerms, Ordered, MadeTerm}
 use Rattle.proof_tree.specs.Exportable.{GoodStep}
@@ -120,15 +120,15 @@ refusal-of : {names : ℕ} {pairs code : List ℕ} {c : Conclusion} {o : Outcome
     → Annotated names pairs code c o (annotation.Refused r) → o ≡ refused r
 refusal-of (labelling.refuses e) = e
 
--- step k as a value, its row, and its ending in its place
-pub record Visited (names : ℕ) (pairs code records : List ℕ) (k : ℕ) (place : own.Place) (row : Row) (e : own-ending.Ending) (z : view.Step) : Type 0 where
+-- step k as a value, its row, and its ending in its mode
+pub record Visited (names : ℕ) (pairs code records : List ℕ) (k : ℕ) (mode : own.ReasoningMode) (row : Row) (e : own-ending.Ending) (z : view.Step) : Type 0 where
   pub good : GoodStep names pairs code records k
   pub is-row : TableRow (ruleIn records k) row
-  pub ends : endingOf e ≡ endingAt (placeOf place) (endingOf (row .3))
+  pub ends : endingOf e ≡ endingAt (modeOf mode) (endingOf (row .3))
   pub bytes : Bytes code
   pub is-step : z ≡ stepAt records k
 
-module _ {names : ℕ} {pairs code records : List ℕ} {k : ℕ} {place : own.Place} {row : Row} {e : own-ending.Ending} {z : view.Step} (v : Visited names pairs code records k place row e z) where
+module _ {names : ℕ} {pairs code records : List ℕ} {k : ℕ} {mode : own.ReasoningMode} {row : Row} {e : own-ending.Ending} {z : view.Step} (v : Visited names pairs code records k mode row e z) where
   abbrev pub c : Conclusion
   c = z .conclusion
 
@@ -139,13 +139,13 @@ module _ {names : ℕ} {pairs code records : List ℕ} {k : ℕ} {place : own.Pl
   label = parameterLabelOf (endingOf e) k (conclusionIn names pairs code records k)
 
   abbrev pub placed : List (ProofTerm ℕ) → Outcome (ProofTerm ℕ)
-  placed ts = placedTerm (placeOf place) (stepIn names pairs code records k) ts
+  placed ts = placedTerm (modeOf mode) (stepIn names pairs code records k) ts
 
   placed-is : (ts : List (ProofTerm ℕ)) → placed ts ≡ (label >>= λ l. finishing (endingOf e) (stepIn names pairs code records k) (stepTerm (stepIn names pairs code records k) l ts))
   unfolding stepIn
   placed-is ts =
-      placed-parts (stepIn names pairs code records k) ts (placeOf place)
-      ∙ rw (v .ends, v .is-row .ending-is) (inferring-parts (stepIn names pairs code records k) ts (endingAt (placeOf place) (ending (ruleIn records k))))
+      placed-parts (stepIn names pairs code records k) ts (modeOf mode)
+      ∙ rw (v .ends, v .is-row .ending-is) (inferring-parts (stepIn names pairs code records k) ts (endingAt (modeOf mode) (ending (ruleIn records k))))
 
   pub label-refused : {r : Refusal} {before : List ℕ} {used : ℕ} {parts : (ℕ → Prop ℕ) → List (ProofTerm ℕ)} {least most : ℕ} {after : List ℕ} (ts : List (ProofTerm ℕ)) → Annotated names pairs code c label (annotation.Refused r)
       → Answered names pairs code records k (placed ts) before used parts least most after (Refused r)

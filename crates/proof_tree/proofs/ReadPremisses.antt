@@ -25,7 +25,7 @@ use Rattle.proof_tree.specs.declared.table.RuleTerm.{RuleTerm}
 use Rattle.proof_tree.specs.declared.table.RuleTerm.the-variants.{Premiss}
 use Rattle.proof_tree.specs.declared.table.Row.{Row}
 use Rattle.prefix_code.specs.PropAt.{propAt}
-use Rattle.proof_tree.specs.Table.{partCount, premissPlace, TableRow}
+use Rattle.proof_tree.specs.Table.{partCount, premissMode, TableRow}
 use Rattle.proof_tree.specs.Premisses.{premissesFrom, PremissStep}
 use Rattle.proof_tree.specs.Terms.{firstThree, partTerms, termsLabels, Parts}
 use Rattle.proof_tree.specs.Exporting.{Grown, ExportedTerm}
@@ -43,10 +43,10 @@ unfolding _>>=_
 then-none (refused r) = refl
 then-none (accepted t) = refl
 
-no-places : {N : Type 0} (ps : Premisses N) → exportAll ps [] ≡ accepted []
+no-modes : {N : Type 0} (ps : Premisses N) → exportAll ps [] ≡ accepted []
 unfolding exportAll
-no-places none = refl
-no-places (t and ps) = refl
+no-modes none = refl
+no-modes (t and ps) = refl
 
 same-terms : (f g : ℕ → ProofTerm ℕ) (i : ℕ) (parts : List ℕ) → ((j : ℕ) → j < i → f (getD parts j 0) ≡ g (getD parts j 0)) → map f (take i parts) ≡ map g (take i parts)
 same-terms f g zero parts h = refl
@@ -95,11 +95,11 @@ module _ {pairs code records : List ℕ} {k : ℕ} where
       }
 
 -- the premisses from position i on are still to be read: what those before them gave is held by the parts
-pub record PremissesRead (names : ℕ) (pairs code records : List ℕ) (k : ℕ) (place : Place) (row : Row) (before : List ℕ) (used i : ℕ) (parts terms : List ℕ) (next : ℕ) : Type 0 where
+pub record PremissesRead (names : ℕ) (pairs code records : List ℕ) (k : ℕ) (mode : Place) (row : Row) (before : List ℕ) (used i : ℕ) (parts terms : List ℕ) (next : ℕ) : Type 0 where
   pub position : i ≤ row .0
   pub three : length parts ≡ 3
-  pub left : exportAll (premissesFrom names pairs code records k 0) (places (ruleIn records k) place)
-      ≡ (exportAll (premissesFrom names pairs code records k i) (drop i (places (ruleIn records k) place)) >>= λ ts. accepted (partTerms (termAt (propAt names code) terms) i parts ++ ts))
+  pub left : exportAll (premissesFrom names pairs code records k 0) (places (ruleIn records k) mode)
+      ≡ (exportAll (premissesFrom names pairs code records k i) (drop i (places (ruleIn records k) mode)) >>= λ ts. accepted (partTerms (termAt (propAt names code) terms) i parts ++ ts))
   pub ordered : (props : ℕ → Prop ℕ)
       → recordLabels props terms next ≡ recordLabels props before used ++ termsLabels (partTerms (termAt props terms) i parts)
   pub earlier : (j : ℕ) → j < i → getD parts j 0 < next
@@ -109,10 +109,10 @@ pub record PremissesRead (names : ℕ) (pairs code records : List ℕ) (k : ℕ)
   pub high : next + 2 * sizes (premissesFrom names pairs code records k i) ≤ used + 2 * sizes (premissesFrom names pairs code records k 0)
   pub same : length terms ≡ length before
 
-pub read-none : (names : ℕ) (pairs code records : List ℕ) (k : ℕ) (place : Place) (row : Row) (terms : List ℕ) (used : ℕ)
-    → PremissesRead names pairs code records k place row terms used 0 (0 ∷ 0 ∷ 0 ∷ []) terms used
+pub read-none : (names : ℕ) (pairs code records : List ℕ) (k : ℕ) (mode : Place) (row : Row) (terms : List ℕ) (used : ℕ)
+    → PremissesRead names pairs code records k mode row terms used 0 (0 ∷ 0 ∷ 0 ∷ []) terms used
 unfolding partTerms termsLabels
-read-none names pairs code records k place row terms used =
+read-none names pairs code records k mode row terms used =
     record {
       position = omega arith;
       three = refl;
@@ -126,30 +126,30 @@ read-none names pairs code records k place row terms used =
       same = refl;
     }
 
-module _ {names : ℕ} {pairs code records : List ℕ} {k : ℕ} {place : Place} {row : Row} {before : List ℕ} {used i : ℕ} {parts terms : List ℕ} {next : ℕ} (is-row : TableRow (ruleIn records k) row) (read : PremissesRead names pairs code records k place row before used i parts terms next) where
-  -- The premiss of position i, which step q finishes, in its place m.
-  module _ {q : ℕ} {m : Place} (h : i < row .0) (p : PremissStep records k i q) (in-place : m ≡ premissPlace place (getD (row .2) i 0)) where
-    next-place : drop i (places (ruleIn records k) place) ≡ m ∷ drop (i + 1) (places (ruleIn records k) place)
-    next-place =
-        let l = map (premissPlace place) (take (row .0) (row .2)) in
-        let long : i < length l = rw (length-map (take (row .0) (row .2)) (premissPlace place), length-take) (omega (arith, is-row .few, is-row .three)) in
-        let here : getD l i (premissPlace place 0) ≡ m =
-        List·getD-map (premissPlace place) (take (row .0) (row .2)) i 0 ∙ (ap (premissPlace place) (getD-take (row .0) (row .2) i 0 h) ∙ sym in-place) in
-        rw (← (is-row .places-are place), add-one) (drop-cons l i (premissPlace place 0) long ∙ ap (λ n. n ∷ drop (suc i) l) here)
+module _ {names : ℕ} {pairs code records : List ℕ} {k : ℕ} {mode : Place} {row : Row} {before : List ℕ} {used i : ℕ} {parts terms : List ℕ} {next : ℕ} (is-row : TableRow (ruleIn records k) row) (read : PremissesRead names pairs code records k mode row before used i parts terms next) where
+  -- The premiss of position i, which step q finishes, in its mode m.
+  module _ {q : ℕ} {m : Place} (h : i < row .0) (p : PremissStep records k i q) (in-mode : m ≡ premissMode mode (getD (row .2) i 0)) where
+    next-mode : drop i (places (ruleIn records k) mode) ≡ m ∷ drop (i + 1) (places (ruleIn records k) mode)
+    next-mode =
+        let l = map (premissMode mode) (take (row .0) (row .2)) in
+        let long : i < length l = rw (length-map (take (row .0) (row .2)) (premissMode mode), length-take) (omega (arith, is-row .few, is-row .three)) in
+        let here : getD l i (premissMode mode 0) ≡ m =
+        List·getD-map (premissMode mode) (take (row .0) (row .2)) i 0 ∙ (ap (premissMode mode) (getD-take (row .0) (row .2) i 0 h) ∙ sym in-mode) in
+        rw (← (is-row .modes-are mode), add-one) (drop-cons l i (premissMode mode 0) long ∙ ap (λ n. n ∷ drop (suc i) l) here)
 
     tree : ProofTree ℕ
     tree = treeIn names pairs code records q
 
     -- what is left, with its outcome taken out
     next-left : (ts : List (ProofTerm ℕ)) →
-        (exportAll (premissesFrom names pairs code records k i) (drop i (places (ruleIn records k) place)) >>= λ us. accepted (ts ++ us))
-        ≡ ((export tree m >>= λ u. exportAll (premissesFrom names pairs code records k (i + 1)) (drop (i + 1) (places (ruleIn records k) place)) >>= λ us. accepted (u ∷ us)) >>= λ us. accepted (ts ++ us))
+        (exportAll (premissesFrom names pairs code records k i) (drop i (places (ruleIn records k) mode)) >>= λ us. accepted (ts ++ us))
+        ≡ ((export tree m >>= λ u. exportAll (premissesFrom names pairs code records k (i + 1)) (drop (i + 1) (places (ruleIn records k) mode)) >>= λ us. accepted (u ∷ us)) >>= λ us. accepted (ts ++ us))
     unfolding exportAll tree
-    next-left ts = rw (p .tree names pairs code, next-place)
+    next-left ts = rw (p .tree names pairs code, next-mode)
 
     -- a refused premiss is the last that is visited
     pub read-refused : {x : Refusal} → export (treeIn names pairs code records q) m ≡ refused x
-        → exportAll (premissesFrom names pairs code records k 0) (places (ruleIn records k) place) ≡ refused x
+        → exportAll (premissesFrom names pairs code records k 0) (places (ruleIn records k) mode) ≡ refused x
     unfolding _>>=_ tree
     read-refused e = read .left ∙ (next-left (partTerms (termAt (propAt names code) terms) i parts) ∙ rw e)
 
@@ -174,14 +174,14 @@ module _ {names : ℕ} {pairs code records : List ℕ} {k : ℕ} {place : Place}
           let within : i < length parts = omega (arith, read .three, is-row .few) in
           rw (add-one, take-suc-set parts i (last - 1) within, map-append f (take i parts) ((last - 1) ∷ []), kept)
 
-      pub read-more : q ≤ k → length terms′ ≡ length terms → PremissesRead names pairs code records k place row before used (i + 1) (set parts i (last - 1)) terms′ last
+      pub read-more : q ≤ k → length terms′ ≡ length terms → PremissesRead names pairs code records k mode row before used (i + 1) (set parts i (last - 1)) terms′ last
       unfolding _>>=_ tree
       read-more earlier same =
           let within : i < length parts = omega (arith, read .three, is-row .few) in
           record {
             position = omega arith;
             three = rw length-set (read .three);
-            left = read .left ∙ (next-left (partTerms (termAt (propAt names code) terms) i parts) ∙ rw (a .holds, held (propAt names code)) (then-more (exportAll (premissesFrom names pairs code records k (i + 1)) (drop (i + 1) (places (ruleIn records k) place))) (termAt (propAt names code) terms′ (last - 1)) (partTerms (termAt (propAt names code) terms) i parts)));
+            left = read .left ∙ (next-left (partTerms (termAt (propAt names code) terms) i parts) ∙ rw (a .holds, held (propAt names code)) (then-more (exportAll (premissesFrom names pairs code records k (i + 1)) (drop (i + 1) (places (ruleIn records k) mode))) (termAt (propAt names code) terms′ (last - 1)) (partTerms (termAt (propAt names code) terms) i parts)));
             ordered = λ props. rw (held props) (premiss-ordered before used (partTerms (termAt props terms) i parts) (read .ordered props) (a .ordered props));
             earlier = below-more (λ j. getD (set parts i (last - 1)) j 0 < last) i
                 (λ j l. rw (getD-set-other parts i j (last - 1) 0 (omega arith)) (omega (arith, read .earlier j l, a .low)))
@@ -196,13 +196,13 @@ module _ {names : ℕ} {pairs code records : List ℕ} {k : ℕ} {place : Place}
           }
 
   -- all that are read have been
-  pub read-all : i ≡ row .0 → exportAll (premissesFrom names pairs code records k 0) (places (ruleIn records k) place) ≡ accepted (partTerms (termAt (propAt names code) terms) (row .0) (firstThree parts))
+  pub read-all : i ≡ row .0 → exportAll (premissesFrom names pairs code records k 0) (places (ruleIn records k) mode) ≡ accepted (partTerms (termAt (propAt names code) terms) (row .0) (firstThree parts))
   unfolding _>>=_
   read-all e =
-      let l = map (premissPlace place) (take (row .0) (row .2)) in
-      let long : length l ≤ i = rw (length-map (take (row .0) (row .2)) (premissPlace place), length-take) (omega arith) in
-      let over : drop i (places (ruleIn records k) place) ≡ [] = rw (← (is-row .places-are place)) (drop-of-length-le l long) in
-      read .left ∙ rw (over, no-places, append-nil, e, ← (three-parts parts (read .three)))
+      let l = map (premissMode mode) (take (row .0) (row .2)) in
+      let long : length l ≤ i = rw (length-map (take (row .0) (row .2)) (premissMode mode), length-take) (omega arith) in
+      let over : drop i (places (ruleIn records k) mode) ≡ [] = rw (← (is-row .modes-are mode)) (drop-of-length-le l long) in
+      read .left ∙ rw (over, no-modes, append-nil, e, ← (three-parts parts (read .three)))
 
   -- the parts of the step's term are earlier records, and there is room for two more
   pub read-parts : i ≡ row .0 → recordSize * (next + 2) ≤ length terms → next + 1 ≤ 65536

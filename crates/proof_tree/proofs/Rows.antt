@@ -10,7 +10,7 @@ use Rattle.definitions.specs.Tree as tree
 use Rattle.definitions.specs.Tree.{ProofTreeRule, rules}
 use Rattle.definitions.specs.Export.{Place, Ending, row, places, ending, ruleTerm}
 use Rattle.proof_tree.specs.declared.table.Row.{Row}
-use Rattle.proof_tree.specs.Table.{endingOf, termOf, partCount, fewest, most, premissPlace, TableRow}
+use Rattle.proof_tree.specs.Table.{endingOf, termOf, partCount, fewest, most, premissMode, TableRow}
 
 -- where two lists have the same values, each entry has
 same-at : {A B C : Type 0} (f : A → C) (g : B → C) (l : List A) (m : List B) (a : A) (b : B) → map f l ≡ map g m
@@ -20,14 +20,14 @@ same-at f g [] (y ∷ m) a b e i h = let z : _≡_ {A = ℕ} 0 1 = cc in absurd 
 same-at f g (x ∷ l) (y ∷ m) a b e zero h = cc
 same-at f g (x ∷ l) (y ∷ m) a b e (suc i) h = same-at f g l m a b (cc) i (omega arith)
 
--- what a row says; its first number is the fewest premisses, is at most three, and is the count of the term's parts; it has three places
+-- what a row says; its first number is the fewest premisses, is at most three, and is the count of the term's parts; it has three modes
 pub record Columns : Type 0 where
   pub fewest : ℕ
   pub three : ℕ
   pub width : ℕ
   pub parts : ℕ
   pub most : ℕ
-  pub places : Place → List Place
+  pub modes : Place → List Place
   pub ending : Ending
   pub term : ℕ → ℕ → Option (Label ℕ) → ProofTerm ℕ → ProofTerm ℕ → ProofTerm ℕ → ProofTerm ℕ
 
@@ -39,7 +39,7 @@ ofRow w =
       width = length (w .2);
       parts = partCount (w .4);
       most = w .1;
-      places = λ own. map (premissPlace own) (take (w .0) (w .2));
+      modes = λ own. map (premissMode own) (take (w .0) (w .2));
       ending = endingOf (w .3);
       term = termOf (w .4);
     }
@@ -52,7 +52,7 @@ ofRule r =
       width = 3;
       parts = fewest (row r .premisses);
       most = most (row r .premisses);
-      places = places r;
+      modes = places r;
       ending = ending r;
       term = ruleTerm r;
     }
@@ -77,7 +77,7 @@ table-row table w e i h =
       most-is = ap (λ (c : Columns). c .most) same;
       few = omega arith;
       three = ap (λ (c : Columns). c .width) same;
-      places-are = λ own. ap (λ (c : Columns). c .places own) same;
+      modes-are = λ own. ap (λ (c : Columns). c .modes own) same;
       ending-is = ap (λ (c : Columns). c .ending) same;
       term-is = ap (λ (c : Columns). c .term) same;
       parts-are = ap (λ (c : Columns). c .parts) same ∙ sym fewest-is;

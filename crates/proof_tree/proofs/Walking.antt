@@ -68,21 +68,21 @@ module _ (names : ℕ) (pairs code records : List ℕ) (k : ℕ) where
   counted e =
       rw (← premisses-are) (premisses-counted names pairs code records k (ltb-false (length (treesBefore names pairs code records k)) (premissCount records k) e))
 
-  export-is : tooFewTrees names pairs code records k ≡ false → (place : Place) → export (treeIn names pairs code records k) place
-      ≡ (refuseIf (not (admitsCount (ruleIn records k) (premissCount records k))) 12 k >>= λ _. exportAll (premissesFrom names pairs code records k 0) (places (ruleIn records k) place) >>= λ ts. placedTerm place (stepIn names pairs code records k) ts)
+  export-is : tooFewTrees names pairs code records k ≡ false → (mode : Place) → export (treeIn names pairs code records k) mode
+      ≡ (refuseIf (not (admitsCount (ruleIn records k) (premissCount records k))) 12 k >>= λ _. exportAll (premissesFrom names pairs code records k 0) (places (ruleIn records k) mode) >>= λ ts. placedTerm mode (stepIn names pairs code records k) ts)
   unfolding export treeIn stepOver stepIn
-  export-is e place = rw (premisses-are, counted e)
+  export-is e mode = rw (premisses-are, counted e)
 
-  export-read : tooFewTrees names pairs code records k ≡ false → admitsCount (ruleIn records k) (premissCount records k) ≡ true → (place : Place) → export (treeIn names pairs code records k) place
-      ≡ (exportAll (premissesFrom names pairs code records k 0) (places (ruleIn records k) place) >>= λ ts. placedTerm place (stepIn names pairs code records k) ts)
+  export-read : tooFewTrees names pairs code records k ≡ false → admitsCount (ruleIn records k) (premissCount records k) ≡ true → (mode : Place) → export (treeIn names pairs code records k) mode
+      ≡ (exportAll (premissesFrom names pairs code records k 0) (places (ruleIn records k) mode) >>= λ ts. placedTerm mode (stepIn names pairs code records k) ts)
   unfolding refuseIf _>>=_
-  export-read found right place = export-is found place ∙ rw right
+  export-read found right mode = export-is found mode ∙ rw right
 
-pub count-refused : {names : ℕ} {pairs code records : List ℕ} {k : ℕ} (place : Place) {before : List ℕ} {used : ℕ} {after : List ℕ} {r : Refusal} → tooFewTrees names pairs code records k ≡ false
+pub count-refused : {names : ℕ} {pairs code records : List ℕ} {k : ℕ} (mode : Place) {before : List ℕ} {used : ℕ} {after : List ℕ} {r : Refusal} → tooFewTrees names pairs code records k ≡ false
     → admitsCount (ruleIn records k) (premissCount records k) ≡ false → r ≡ record { number = 12; place = k }
-    → StepExported names pairs code records k place before used after (Refused r)
+    → StepExported names pairs code records k mode before used after (Refused r)
 unfolding refuseIf _>>=_ refuse
-count-refused {names} {pairs} {code} {records} {k} place {r = r} found wrong e = refuses {r = r} (export-is names pairs code records k found place ∙ rw (wrong, e))
+count-refused {names} {pairs} {code} {records} {k} mode {r = r} found wrong e = refuses {r = r} (export-is names pairs code records k found mode ∙ rw (wrong, e))
 
 -- step k, with its row, finds its premisses, and their count is right
 pub record Entered (names : ℕ) (pairs code records : List ℕ) (k : ℕ) (row : Row) : Type 0 where
@@ -90,23 +90,23 @@ pub record Entered (names : ℕ) (pairs code records : List ℕ) (k : ℕ) (row 
   pub found : tooFewTrees names pairs code records k ≡ false
   pub right : admitsCount (ruleIn records k) (premissCount records k) ≡ true
 
-module _ {names : ℕ} {pairs code records : List ℕ} {k : ℕ} {row : Row} (place : Place) {before : List ℕ} {used : ℕ} {after : List ℕ} (entered : Entered names pairs code records k row) where
-  pub premiss-refused : {r : Refusal} → exportAll (premissesFrom names pairs code records k 0) (places (ruleIn records k) place) ≡ refused r
-      → StepExported names pairs code records k place before used after (Refused r)
+module _ {names : ℕ} {pairs code records : List ℕ} {k : ℕ} {row : Row} (mode : Place) {before : List ℕ} {used : ℕ} {after : List ℕ} (entered : Entered names pairs code records k row) where
+  pub premiss-refused : {r : Refusal} → exportAll (premissesFrom names pairs code records k 0) (places (ruleIn records k) mode) ≡ refused r
+      → StepExported names pairs code records k mode before used after (Refused r)
   unfolding _>>=_
-  premiss-refused {r} e = refuses {r = r} (export-read names pairs code records k (entered .found) (entered .right) place ∙ rw e)
+  premiss-refused {r} e = refuses {r = r} (export-read names pairs code records k (entered .found) (entered .right) mode ∙ rw e)
 
   -- the premisses that are read have been, and the step's term is placed over theirs
   pub step-placed : {i : ℕ} {parts terms : List ℕ} {next : ℕ} {r : Exported} → i ≡ row .0
-      → PremissesRead names pairs code records k place row before used i parts terms next
-      → StepPlaced names pairs code records k place (row .0) (firstThree parts) terms next after r
-      → StepExported names pairs code records k place before used after r
+      → PremissesRead names pairs code records k mode row before used i parts terms next
+      → StepPlaced names pairs code records k mode (row .0) (firstThree parts) terms next after r
+      → StepExported names pairs code records k mode before used after r
   unfolding _>>=_
   step-placed all read (refuses {r = r} e) =
-      refuses {r = r} (export-read names pairs code records k (entered .found) (entered .right) place ∙ rw (read-all (entered .is-row) read all) e)
+      refuses {r = r} (export-read names pairs code records k (entered .found) (entered .right) mode ∙ rw (read-all (entered .is-row) read all) e)
   step-placed {parts = parts} all read (gives {next = last} t) =
       gives {next = last} (record {
-        holds = export-read names pairs code records k (entered .found) (entered .right) place ∙ rw (read-all (entered .is-row) read all) (t .holds);
+        holds = export-read names pairs code records k (entered .found) (entered .right) mode ∙ rw (read-all (entered .is-row) read all) (t .holds);
         ordered = λ props. whole-ordered before used _ (rw (all, three-parts parts (read .three)) at (read .ordered props)) (t .ordered props);
         low = omega (arith, t .low, read .low);
         high = omega (arith, t .high, read .high, size-tree names pairs code records k);

@@ -55,21 +55,21 @@ pub record RoomFor (terms : List ℕ) (count : ℕ) : Type 0 where
   pub room : recordSize * count ≤ length terms
   pub few : count ≤ 65536
 
--- the outcome for the tree of step k in a place, in at most two records for each of its steps
+-- the outcome for the tree of step k in a mode, in at most two records for each of its steps
 abbrev pub StepExported : ℕ → List ℕ → List ℕ → List ℕ → ℕ → Place → List ℕ → ℕ → List ℕ → Exported → Type 0
-StepExported names pairs code records k place before used after r =
-    Answered names pairs code records k (export (treeIn names pairs code records k) place) before used (λ props. []) (used + 1)
+StepExported names pairs code records k mode before used after r =
+    Answered names pairs code records k (export (treeIn names pairs code records k) mode) before used (λ props. []) (used + 1)
     (used + 2 * size (treeIn names pairs code records k))
     after r
 
--- the outcome for step k in a place, over the terms of its parts, in at most two records
+-- the outcome for step k in a mode, over the terms of its parts, in at most two records
 abbrev pub StepPlaced : ℕ → List ℕ → List ℕ → List ℕ → ℕ → Place → ℕ → List ℕ → List ℕ → ℕ → List ℕ → Exported → Type 0
-StepPlaced names pairs code records k place reads parts before used after r =
+StepPlaced names pairs code records k mode reads parts before used after r =
     let ts : (ℕ → Prop ℕ) → List (ProofTerm ℕ) = λ props. partTerms (termAt props before) reads parts in
-    Answered names pairs code records k (placedTerm place (stepIn names pairs code records k) (ts (propAt names code))) before used ts
+    Answered names pairs code records k (placedTerm mode (stepIn names pairs code records k) (ts (propAt names code))) before used ts
     (used + 1 - reads) (used + 2) after r
 
 -- the same with whatever count of names the step is good
 abbrev pub GoodStepPlaced : List ℕ → List ℕ → List ℕ → ℕ → Place → ℕ → List ℕ → List ℕ → ℕ → List ℕ → Exported → Type 0
-GoodStepPlaced pairs code records k place reads parts before used after r =
-    (names : ℕ) → GoodStep names pairs code records k → StepPlaced names pairs code records k place reads parts before used after r
+GoodStepPlaced pairs code records k mode reads parts before used after r =
+    (names : ℕ) → GoodStep names pairs code records k → StepPlaced names pairs code records k mode reads parts before used after r

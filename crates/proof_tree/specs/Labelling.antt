@@ -19,7 +19,7 @@ use Rattle.proof_tree.specs.declared.conclusion.Annotation.the-variants 
 use Rattle.prefix_code.specs.PropAt.{propAt, Present}
 use Rattle.prefix_code.specs.Shape.{ImplicationAt}
 
--- in a checking place no term is labelled
+-- in checking mode no term is labelled
 unfoldable pub endingAt : Place → Ending → Ending
 endingAt checking e = bare
 endingAt inferring e = e

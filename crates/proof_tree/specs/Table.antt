@@ -9,17 +9,17 @@ use Rattle.definitions.specs.Term as term
 use Rattle.definitions.specs.Term.{Label, ProofTerm}
 use Rattle.definitions.specs.Export as export
 use Rattle.definitions.specs.Export.{PremissCount, any, exactly, oneOrMore, bare, ascribed, leftLabelled, datatypeLabelled, premissOwn, checking, inferring, row, places, ending, ruleTerm}
-use Rattle.proof_tree.specs.declared.table.Place.{Place}
-use Rattle.proof_tree.specs.declared.table.Place.the-variants.{Checking, Inferring}
+use Rattle.proof_tree.specs.declared.table.ReasoningMode.{ReasoningMode}
+use Rattle.proof_tree.specs.declared.table.ReasoningMode.the-variants.{Checking, Inferring}
 use Rattle.proof_tree.specs.declared.table.Ending.{Ending}
 use Rattle.proof_tree.specs.declared.table.Ending.the-variants.{Bare, Ascribed, LeftLabelled, DatatypeLabelled, PremissOwn}
 use Rattle.proof_tree.specs.declared.table.RuleTerm.{RuleTerm}
 use Rattle.proof_tree.specs.declared.table.RuleTerm.the-variants.{Pair, ProjectFst, ProjectSnd, Unit, Function, Application, Ident, OrLeft, OrRight, Case, Abort, LetIn, Sorry, Premiss}
 use Rattle.proof_tree.specs.declared.table.Row.{Row}
 
-unfoldable pub placeOf : Place → export.Place
-placeOf Checking = checking
-placeOf Inferring = inferring
+unfoldable pub modeOf : ReasoningMode → export.Place
+modeOf Checking = checking
+modeOf Inferring = inferring
 
 unfoldable pub endingOf : Ending → export.Ending
 endingOf Bare = bare
@@ -73,9 +73,9 @@ most any = 255
 most (exactly n) = n
 most oneOrMore = 255
 
--- the place of a premiss, by its number in the row and its step's own place
-unfoldable pub premissPlace : export.Place → ℕ → export.Place
-premissPlace own n = getD (own ∷ checking ∷ inferring ∷ []) n own
+-- the mode of a premiss, by its number in the row and its step's own mode
+unfoldable pub premissMode : export.Place → ℕ → export.Place
+premissMode own n = getD (own ∷ checking ∷ inferring ∷ []) n own
 
 -- the row of a rule
 pub record TableRow (r : ProofTreeRule) (w : Row) : Type 0 where
@@ -83,7 +83,7 @@ pub record TableRow (r : ProofTreeRule) (w : Row) : Type 0 where
   pub most-is : w .1 ≡ most (row r .premisses)
   pub few : w .0 ≤ 3
   pub three : length (w .2) ≡ 3
-  pub places-are : (own : export.Place) → map (premissPlace own) (take (w .0) (w .2)) ≡ places r own
+  pub modes-are : (own : export.Place) → map (premissMode own) (take (w .0) (w .2)) ≡ places r own
   pub ending-is : endingOf (w .3) ≡ ending r
   pub term-is : termOf (w .4) ≡ ruleTerm r
   pub parts-are : partCount (w .4) ≡ w .0

@@ -73,7 +73,8 @@ pub fn annotation_of(
     k: usize,
 ) -> Annotation
     requires { ⌜ (k < 65536) × Readable (now pairs) (now code) conclusion ⌝ }
-    ensures { λ r. ⌜ AnnotationOf (parameterLabelOf (endingOf ending) k) (now (pairs .entry)) (now (code .entry)) conclusion r ⌝ }
+    ensures { λ r. ⌜ AnnotationOf (parameterLabelOf (endingOf ending) k)
+        (now (pairs .entry)) (now (code .entry)) conclusion r ⌝ }
 {
     match ending {
         Ending::LeftLabelled => left_label(pairs, code, conclusion, k),

@@ -18,12 +18,12 @@ fn later_premisses(count: usize, position: usize) -> usize
 }
 
 // The step that finishes the premiss of a position, earliest first: back from step k over the premisses after it.
-pub fn premiss(records: &[u8], k: usize, position: usize, sizes: &[u16]) -> usize
-    requires { ⌜ (HasStep (now records) k) × (position < premissCount (now records) k) ⌝ }
-    requires { ⌜ (k ≤ length (now sizes)) × SizeTable (now records) (k + 1) (now sizes) ⌝ }
-    ensures { λ r. ⌜ PremissStep (now (records .entry)) k position r ⌝ }
+pub fn premiss(step_records: &[u8], k: usize, position: usize, sizes: &[u16]) -> usize
+    requires { ⌜ (HasStep (now «step_records») k) × (position < premissCount (now «step_records») k) ⌝ }
+    requires { ⌜ (k ≤ length (now sizes)) × SizeTable (now «step_records») (k + 1) (now sizes) ⌝ }
+    ensures { λ r. ⌜ PremissStep (now («step_records» .entry)) k position r ⌝ }
 {
-    let later = later_premisses(premiss_count(records, k) as usize, position);
+    let later = later_premisses(premiss_count(step_records, k) as usize, position);
     let mut start = k;
     for _ in 0..later {
         start -= sizes[start - 1] as usize;

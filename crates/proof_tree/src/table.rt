@@ -23,15 +23,15 @@ ghost use mathlib.Core.Path.{_≡_};
 ghost use lib.ListN.{length, getD};
 ghost use Rattle.definitions.specs.Tree.{ProofTreeRule, rules, Sorry};
 ghost use Rattle.definitions.specs.Export.{admitsCount};
-ghost use Rattle.proof_tree.specs.Table.{placeOf, premissPlace, TableRow};
+ghost use Rattle.proof_tree.specs.Table.{modeOf, premissMode, TableRow};
 
-// Document 01's places: the Rust's `ReasoningMode`.
-pub enum Place {
+// Whether a term is checked or inferred: document 01's places, by the Rust's name.
+pub enum ReasoningMode {
     Checking,
     Inferring,
 }
 
-// What becomes of a step's term in an inferring place.
+// What becomes of a step's term in inferring mode.
 pub enum Ending {
     Bare,
     Ascribed,
@@ -58,11 +58,11 @@ pub enum RuleTerm {
     Premiss,
 }
 
-// A row of the table: the fewest premisses, all of which are read, and the most; the places of those that are read; the
+// A row of the table: the fewest premisses, all of which are read, and the most; the modes of those that are read; the
 // ending; the term.
 pub struct Row(pub u8, pub u8, pub [u8; 3], pub Ending, pub RuleTerm);
 
-// The place of a premiss: its step's own, or one of the two. Past those that are read there is none.
+// The mode of a premiss: its step's own, or one of the two. Past those that are read there is none.
 const OWN: u8 = 0;
 
 const CHECKING: u8 = 1;
@@ -102,13 +102,13 @@ pub fn row_of(rule: u8) -> Row
     ROWS[rule as usize]
 }
 
-// The place of a premiss, by its number in the row and its step's own place.
-pub fn expected_premisse_mode(number: u8, own: Place) -> Place
-    ensures { λ r. ⌜ placeOf r ≡ premissPlace (placeOf own) number ⌝ }
+// The mode of a premiss, by its number in the row and its step's own mode.
+pub fn expected_premisse_mode(number: u8, own: ReasoningMode) -> ReasoningMode
+    ensures { λ r. ⌜ modeOf r ≡ premissMode (modeOf own) number ⌝ }
 {
     match number {
-        CHECKING => Place::Checking,
-        INFERRING => Place::Inferring,
+        CHECKING => ReasoningMode::Checking,
+        INFERRING => ReasoningMode::Inferring,
         _ => own,
     }
 }

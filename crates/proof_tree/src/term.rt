@@ -26,29 +26,31 @@ pub fn rule_term(
     kind: u16,
     label: u16,
     parts: [usize; 3],
-    terms: &mut [u16],
+    term_records: &mut [u16],
     used: usize,
 ) -> usize
-    requires { ⌜ Parts term (getD parts 0 0) (getD parts 1 0) (getD parts 2 0) (now terms) used × (kind ≤ 2) ⌝ }
-    ensures { λ r. ⌜ MadeOver term first second kind label parts (now (terms .entry)) used (now (terms .exit)) r ⌝ }
+    requires { ⌜ Parts term (getD parts 0 0) (getD parts 1 0) (getD parts 2 0) (now «term_records») used
+        × (kind ≤ 2) ⌝ }
+    ensures { λ r. ⌜ MadeOver term first second kind label parts
+        (now («term_records» .entry)) used (now («term_records» .exit)) r ⌝ }
 {
     let a = parts[0];
     let b = parts[1];
     let c = parts[2];
     match term {
-        RuleTerm::Pair => pair(terms, used, a, b),
-        RuleTerm::ProjectFst => project_fst(terms, used, a),
-        RuleTerm::ProjectSnd => project_snd(terms, used, a),
-        RuleTerm::Unit => unit(terms, used),
-        RuleTerm::Function => function(terms, used, first, kind, label, a),
-        RuleTerm::Application => application(terms, used, a, b),
-        RuleTerm::Ident => ident(terms, used, first),
-        RuleTerm::OrLeft => or_left(terms, used, a),
-        RuleTerm::OrRight => or_right(terms, used, a),
-        RuleTerm::Case => case(terms, used, a, first, b, second, c),
-        RuleTerm::Abort => abort(terms, used, a),
-        RuleTerm::LetIn => let_in(terms, used, first, second, a, b),
-        RuleTerm::Sorry => sorry(terms, used),
+        RuleTerm::Pair => pair(term_records, used, a, b),
+        RuleTerm::ProjectFst => project_fst(term_records, used, a),
+        RuleTerm::ProjectSnd => project_snd(term_records, used, a),
+        RuleTerm::Unit => unit(term_records, used),
+        RuleTerm::Function => function(term_records, used, first, kind, label, a),
+        RuleTerm::Application => application(term_records, used, a, b),
+        RuleTerm::Ident => ident(term_records, used, first),
+        RuleTerm::OrLeft => or_left(term_records, used, a),
+        RuleTerm::OrRight => or_right(term_records, used, a),
+        RuleTerm::Case => case(term_records, used, a, first, b, second, c),
+        RuleTerm::Abort => abort(term_records, used, a),
+        RuleTerm::LetIn => let_in(term_records, used, first, second, a, b),
+        RuleTerm::Sorry => sorry(term_records, used),
         RuleTerm::Premiss => used,
     }
 }

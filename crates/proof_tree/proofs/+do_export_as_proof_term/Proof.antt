@@ -10,7 +10,7 @@ use Rattle.definitions.specs.Sheet.{premissCount}
 use Rattle.definitions.specs.Tree.{ruleIn}
 use Rattle.definitions.specs.Admission.{tooFewTrees}
 use Rattle.definitions.specs.Export.{row, admitsCount}
-use Rattle.proof_tree.specs.Table.{placeOf, TableRow}
+use Rattle.proof_tree.specs.Table.{modeOf, TableRow}
 use Rattle.proof_tree.specs.Exportable.{GoodStep}
 use Rattle.proof_tree.proofs.Counts.{enough}
 use Rattle.proof_tree.proofs.ReadPremisses.{PremissesRead, read-none, read-more, read-refused, room-next, read-parts}
@@ -41,11 +41,11 @@ abbrev Below : ℕ → In 5 kinds.ps
 Below t = and 5 kinds.ps (falls 5 kinds.ps _<_ μ t) reads.Pre
 
 abbrev Inv-loop : lts.InvT-loop
-Inv-loop names pairs code records sizes k place terms₀ used row reads places parts₀ next₀ i₀ terms parts next i =
-    PremissesRead names pairs code records k (placeOf place) row terms₀ used i parts terms next
+Inv-loop names pairs code records sizes k mode terms₀ used row reads modes parts₀ next₀ i₀ terms parts next i =
+    PremissesRead names pairs code records k (modeOf mode) row terms₀ used i parts terms next
 
 abbrev μ-loop : lts.MeasureT-loop
-μ-loop names pairs code records sizes k place terms₀ used row reads places parts₀ next₀ i₀ terms parts next i = reads - i
+μ-loop names pairs code records sizes k mode terms₀ used row reads modes parts₀ next₀ i₀ terms parts next i = reads - i
 
 abbrev claims : ℕ → lts.Claims
 claims t = (
@@ -70,14 +70,14 @@ claims t = (
 )
 
 module _ (t : ℕ) where
-  good : (c : lts.Start (claims t) (Pre t) reads.Post Inv-loop μ-loop) → GoodStep (c .args .names) (now (c .args .pairs)) (now (c .args .code)) (now (c .args .records)) (c .args .k)
+  good : (c : lts.Start (claims t) (Pre t) reads.Post Inv-loop μ-loop) → GoodStep (c .args .names) (now (c .args .pairs)) (now (c .args .code)) (now (c .args .step-records)) (c .args .k)
   good c = c .pre .1 .0 .good (c .args .k) (omega arith)
 
-  is-row : (c : lts.After-row-of (claims t) (Pre t) reads.Post Inv-loop μ-loop) → TableRow (ruleIn (now (c .before .before .before .before .before .before .before .args .records)) (c .before .before .before .before .before .before .before .args .k)) (c .row-of .result)
+  is-row : (c : lts.After-row-of (claims t) (Pre t) reads.Post Inv-loop μ-loop) → TableRow (ruleIn (now (c .before .before .before .before .before .before .before .args .step-records)) (c .before .before .before .before .before .before .before .args .k)) (c .row-of .result)
   unfolding ruleIn
   is-row c = rw (c .before .rule-byte .ensures) at (c .row-of .ensures)
 
-  found : (c : lts.Start (claims t) (Pre t) reads.Post Inv-loop μ-loop) → tooFewTrees (c .args .names) (now (c .args .pairs)) (now (c .args .code)) (now (c .args .records)) (c .args .k) ≡ false
+  found : (c : lts.Start (claims t) (Pre t) reads.Post Inv-loop μ-loop) → tooFewTrees (c .args .names) (now (c .args .pairs)) (now (c .args .code)) (now (c .args .step-records)) (c .args .k) ≡ false
   found c = c .pre .1 .0 .table .enough _ _ _ _ (omega arith)
 
   -- back from a step that has the premisses of its rule to its row, and to the start
@@ -88,7 +88,7 @@ module _ (t : ℕ) where
   start c = let rule = row-read c .before in rule .before .before .before .before .before .before
 
   entered : (c : lts.Else1 (claims t) (Pre t) reads.Post Inv-loop μ-loop) → let s = start c .args in
-      Entered (s .names) (now (s .pairs)) (now (s .code)) (now (s .records)) (s .k) (c .before .before .before .row-of .result)
+      Entered (s .names) (now (s .pairs)) (now (s .code)) (now (s .step-records)) (s .k) (c .before .before .before .row-of .result)
   entered c =
       record {
         is-row = is-row (c .before .before .before);
@@ -97,7 +97,7 @@ module _ (t : ℕ) where
       }
 
   -- the step has the premisses that are read
-  has-premisses : (c : lts.Else1 (claims t) (Pre t) reads.Post Inv-loop μ-loop) → let s = c .before .before .before .before .before .before .before .before .before .before .args in c .before .before .before .row-of .result .0 ≤ premissCount (now (s .records)) (s .k)
+  has-premisses : (c : lts.Else1 (claims t) (Pre t) reads.Post Inv-loop μ-loop) → let s = c .before .before .before .before .before .before .before .before .before .before .args in c .before .before .before .row-of .result .0 ≤ premissCount (now (s .step-records)) (s .k)
   unfolding admitsCount
   has-premisses c = rw (entered c .is-row .fewest-is) (enough (row _ .premisses) _ (entered c .right))
 
@@ -117,7 +117,7 @@ module _ (t : ℕ) where
   refusal-requires c κs = omega (arith, good (c .before .before .before .before .before .before .before .before .before .before) .few)
 
   returns : lts.Need-returns (claims t) (Pre t) reads.Post Inv-loop μ-loop
-  returns c = count-refused (placeOf _) (found (c .before .before .before .before .before .before .before .before .before .before .before)) (rw (c .before .before .before .premiss-count .ensures) at (sym (c .before .before .admits-count .ensures _ (is-row (c .before .before .before .before))) ∙ not-true _ (c .before .if1 .taken))) (c .refusal .ensures)
+  returns c = count-refused (modeOf _) (found (c .before .before .before .before .before .before .before .before .before .before .before)) (rw (c .before .before .before .premiss-count .ensures) at (sym (c .before .before .admits-count .ensures _ (is-row (c .before .before .before .before))) ∙ not-true _ (c .before .if1 .taken))) (c .refusal .ensures)
 
   cast-reads : lts.Need-cast-reads (claims t) (Pre t) reads.Post Inv-loop μ-loop
   cast-reads c = search needs
@@ -141,7 +141,7 @@ module _ (t : ℕ) where
       let s = c .before .before .before .before .before .before .before .before .before .before .before .before .before .before .before .before .before in
       let read = c .before .before .before .before .loop .inv in
       let room = room-next (entered (c .before .before .before .before .before .before .before) .is-row) read (c .before .before .before .loop-test .taken) (c .before .before .premiss .ensures) (c .before .expected-premisse-mode .ensures) in
-      let size = size-tree (s .args .names) (now (s .args .pairs)) (now (s .args .code)) (now (s .args .records)) (s .args .k) in (
+      let size = size-tree (s .args .names) (now (s .args .pairs)) (now (s .args .code)) (now (s .args .step-records)) (s .args .k) in (
         omega (arith, c .before .before .premiss .ensures .earlier, s .pre .0),
         (
           exportable-shorter (omega (arith, c .before .before .premiss .ensures .earlier)) (s .pre .1 .0),
@@ -161,7 +161,7 @@ module _ (t : ℕ) where
   returns-2 : lts.Need-returns-2 (claims t) (Pre t) reads.Post Inv-loop μ-loop
   returns-2 c =
       rw (c .enum-told .given .1)
-      (premiss-refused (placeOf _) (entered (c .before .before .before .before .before .before .before .before .before .before .before .before))
+      (premiss-refused (modeOf _) (entered (c .before .before .before .before .before .before .before .before .before .before .before .before))
       (read-refused (entered (c .before .before .before .before .before .before .before .before .before .before .before .before) .is-row) (c .before .before .before .before .before .before .before .before .before .loop .inv) (c .before .before .before .before .before .before .before .before .loop-test .taken) (c .before .before .before .before .before .before .before .premiss .ensures) (c .before .before .before .before .before .before .expected-premisse-mode .ensures)
       (refusal-of (c .before .before .before .before .do-export-as-proof-term .ensures) (c .enum-told .given .1))))
 
@@ -191,7 +191,7 @@ module _ (t : ℕ) where
       let s = c .before .before .before .before .before .before .before .before .before .before .before .before .before .before .before in
       let w = entered (c .before .before .before .before .before) .is-row in
       let read = c .before .before .loop .inv in
-      let size = size-tree (s .args .names) (now (s .args .pairs)) (now (s .args .code)) (now (s .args .records)) (s .args .k) in (
+      let size = size-tree (s .args .names) (now (s .args .pairs)) (now (s .args .code)) (now (s .args .step-records)) (s .args .k) in (
         (record { names = s .args .names; good = good s }, w),
         read-parts w read (omega (arith, c .before .loop-test .left, read .position)) (omega (arith, read .high, size, read .same, s .pre .1 .1 .room)) (omega (arith, read .high, size, s .pre .1 .1 .few)),
       )
@@ -202,7 +202,7 @@ module _ (t : ℕ) where
   returns-3 : lts.Need-returns-3 (claims t) (Pre t) reads.Post Inv-loop μ-loop
   returns-3 c =
       let there = c .before .before .before .before .before .before .before .before in
-      step-placed (placeOf _) (entered there) (omega (arith, c .before .before .before .before .loop-test .left, c .before .before .before .before .before .loop .inv .position)) (c .before .before .before .before .before .loop .inv) (c .before .before .placed-term .ensures _ (good (start there)))
+      step-placed (modeOf _) (entered there) (omega (arith, c .before .before .before .before .loop-test .left, c .before .before .before .before .before .loop .inv .position)) (c .before .before .before .before .before .loop .inv) (c .before .before .placed-term .ensures _ (good (start there)))
 
 pub +do-export-as-proof-term-spec : {M : Type 1} → statement M
 +do-export-as-proof-term-spec =

@@ -1,6 +1,6 @@
--- By the two places.
+-- By the two modes.
 use borrow.Author.Needs.{needs}
-use Rattle.proof_tree.specs.Table.{placeOf, endingOf}
+use Rattle.proof_tree.specs.Table.{modeOf, endingOf}
 use Rattle.proof_tree.specs.Labelling.{endingAt}
 use Rattle.proof_tree.proofs.ending_in.Statement.{statement}
 use Rattle.proof_tree.proofs.ending_in.Tie as tie
@@ -12,11 +12,11 @@ enum-told-2 : tie.Need-enum-told-2
 enum-told-2 c = search needs
 
 returns : tie.Need-returns
-unfolding placeOf endingOf endingAt
+unfolding modeOf endingOf endingAt
 returns c = rw (c .enum-told .given .1)
 
 returns-2 : tie.Need-returns-2
-unfolding placeOf endingOf endingAt
+unfolding modeOf endingOf endingAt
 returns-2 c = rw (c .enum-told2 .given .1)
 
 pub ending-in-spec : {M : Type 1} → statement M

@@ -29,8 +29,8 @@ abbrev ascribed-term : tie.After-enum-told → tie.After-rule-term
 ascribed-term c = c .before .before .before .before
 
 visited : (c : tie.After-step-at) {names : ℕ} → let s = start c .args in
-    GoodStep names (now (s .pairs)) (now (s .code)) (now (s .records)) (s .k)
-    → Visited names (now (s .pairs)) (now (s .code)) (now (s .records)) (s .k) (s .place) (s .row) (c .before .ending-in .result) (c .step-at .result)
+    GoodStep names (now (s .pairs)) (now (s .code)) (now (s .step-records)) (s .k)
+    → Visited names (now (s .pairs)) (now (s .code)) (now (s .step-records)) (s .k) (s .mode) (s .row) (c .before .ending-in .result) (c .step-at .result)
 visited c good =
     record {
       good = good;
@@ -42,7 +42,7 @@ visited c good =
 
 -- the label of a parameter
 its-label : (c : tie.After-known-told2) {names : ℕ} → let s = start (step c) .args in
-    (good : GoodStep names (now (s .pairs)) (now (s .code)) (now (s .records)) (s .k))
+    (good : GoodStep names (now (s .pairs)) (now (s .code)) (now (s .step-records)) (s .k))
     → LabelOf names (now (s .pairs)) (now (s .code)) (step c .step-at .result .conclusion) (label (visited (step c) good)) (c .before .annotation2 .given .0 .0) (c .before .annotation2 .given .0 .1 .0)
 its-label c good =
     let v = visited (step c) good in

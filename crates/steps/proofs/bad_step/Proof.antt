@@ -60,8 +60,8 @@ rule-known c = c .before .before
 -- the rule is known
 first-on : (c : tie.After-identifier-count) {r : Bool} →
     let args = c .before .before .before .before .args in
-    r ≡ fromFirst (args .names) (args .propositions) (args .records .now) (args .k) (c .identifier-count .result)
-    → r ≡ badStep (args .names) (args .propositions) (args .records .now) (args .k)
+    r ≡ fromFirst (args .names) (args .propositions) (args .step-records .now) (args .k) (c .identifier-count .result)
+    → r ≡ badStep (args .names) (args .propositions) (args .step-records .now) (args .k)
 unfolding fromFirst fromSecond fromConclusion badStep identifiers ruleIn rules
 first-on c e =
     rw (← rule-known c .rule-byte .ensures, ← c .identifier-count .ensures)
@@ -71,8 +71,8 @@ first-on c e =
 second-on : (c : tie.Else2) {r : Bool} →
     let counted = c .before .before in
     let args = counted .before .before .before .before .args in
-    r ≡ fromSecond (args .names) (args .propositions) (args .records .now) (args .k) (counted .identifier-count .result)
-    → r ≡ badStep (args .names) (args .propositions) (args .records .now) (args .k)
+    r ≡ fromSecond (args .names) (args .propositions) (args .step-records .now) (args .k) (counted .identifier-count .result)
+    → r ≡ badStep (args .names) (args .propositions) (args .step-records .now) (args .k)
 unfolding fromFirst
 second-on c e = first-on (c .before .before) (second-decides (c .before .bad-identifier .ensures _) (c .if2 .left) e)
 
@@ -80,8 +80,8 @@ second-on c e = first-on (c .before .before) (second-decides (c .before .bad-ide
 conclusion-on : (c : tie.Else3) {r : Bool} →
     let counted = c .before .before .before .before in
     let args = counted .before .before .before .before .args in
-    r ≡ fromConclusion (args .names) (args .propositions) (args .records .now) (args .k) (counted .identifier-count .result)
-    → r ≡ badStep (args .names) (args .propositions) (args .records .now) (args .k)
+    r ≡ fromConclusion (args .names) (args .propositions) (args .step-records .now) (args .k) (counted .identifier-count .result)
+    → r ≡ badStep (args .names) (args .propositions) (args .step-records .now) (args .k)
 unfolding fromSecond
 conclusion-on c e = second-on (c .before .before) (second-decides (c .before .bad-identifier2 .ensures _) (c .if3 .left) e)
 

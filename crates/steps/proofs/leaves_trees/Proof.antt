@@ -52,7 +52,7 @@ returns c names pairs code =
     let last = c .before .args .steps - 1 in
     let e : last + 1 ≡ c .before .args .steps = omega arith in
     rw (c .before .pre .2 .sizes names pairs code last (omega arith))
-    (rw e at (left-below names pairs code (now (c .before .args .records)) last))
+    (rw e at (left-below names pairs code (now (c .before .args .step-records)) last))
 
 pub leaves-trees-spec : {M : Type 1} → statement M
 leaves-trees-spec =

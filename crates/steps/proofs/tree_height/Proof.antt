@@ -21,7 +21,7 @@ abbrev μ-loop : tie.MeasureT-loop
 μ-loop records k sizes heights premisses start₀ deepest₀ counter₀ start deepest counter = premisses - counter
 
 -- the sizes of the trees before step k
-sized : (c : tie.Start Inv-loop μ-loop) → SizeTable (now (c .args .records)) (c .args .k) (now (c .args .sizes))
+sized : (c : tie.Start Inv-loop μ-loop) → SizeTable (now (c .args .step-records)) (c .args .k) (now (c .args .sizes))
 sized c = size-table-shorter _ _ _ _ (omega arith) (c .pre .1 .0)
 
 -- back from the loop to the start

@@ -23,10 +23,10 @@ abbrev μ-loop : tie.MeasureT-loop
 μ-loop records k position sizes later start₀ counter₀ start counter = later - counter
 
 -- the sizes of the trees before step k
-sized : (c : tie.Start Inv-loop μ-loop) → SizeTable (now (c .args .records)) (c .args .k) (now (c .args .sizes))
+sized : (c : tie.Start Inv-loop μ-loop) → SizeTable (now (c .args .step-records)) (c .args .k) (now (c .args .sizes))
 sized c = size-table-shorter _ _ _ _ (omega arith) (c .pre .1 .1)
 
-found : (c : tie.Start Inv-loop μ-loop) → tooFewTrees 0 [] [] (now (c .args .records)) (c .args .k) ≡ false
+found : (c : tie.Start Inv-loop μ-loop) → tooFewTrees 0 [] [] (now (c .args .step-records)) (c .args .k) ≡ false
 found c = c .pre .1 .1 .enough 0 [] [] _ (omega arith)
 
 -- a premiss that is still to be passed ends before the walk's step
