@@ -6,13 +6,15 @@ use mathlib.Core.List.{List}
 use native.Mathlib.Omega.{arith}
 use lib.ListN.{length, getD}
 use lib.Dec.{ltb}
+use denote.Ref.{now}
 use borrow.Author.Tests.{lt-ltb, le-ltb}
 use Rattle.definitions.specs.Sheet.{marked}
 use Rattle.definitions.specs.Display.{wrap}
 use Rattle.output.proofs.Writing.{same-length, then}
 use Rattle.prop.specs.Ends.{Known}
+use Rattle.prop.specs.Printing.{namedProp}
 use Rattle.prefix_code.proofs.Reading.{inside}
-use Rattle.prop.proofs.Parts.{BinaryParts, binary-parts, quantified-parts}
+use Rattle.prop.proofs.Parts.{BinaryParts, QuantifiedParts, binary-parts, quantified-parts}
 use Rattle.prop.proofs.Shown.{leaf-text, quantified-text, negation-text, binary-text}
 use borrow.Fn.Kinds.{In}
 use borrow.Fn.PlainCycle.{Measures, is, falls, and}
@@ -71,156 +73,255 @@ part-claims t = (precedence-reads.Asked, precedence-reads.Learnt, put-reads.Aske
 abbrev print-claims : ℕ → print-lts.Claims
 print-claims t = (put-sign-reads.Asked, put-sign-reads.Learnt, put-atom-reads.Asked, put-atom-reads.Learnt, number-at-reads.Asked, number-at-reads.Learnt, put-quantifier-reads.Asked, put-quantifier-reads.Learnt, print-below t, print.Post, precedence-reads.Asked, precedence-reads.Learnt, put-all-reads.Asked, put-all-reads.Learnt, part-below t, part.Post, left-strength-reads.Asked, left-strength-reads.Learnt, put-connective-reads.Asked, put-connective-reads.Learnt, right-strength-reads.Asked, right-strength-reads.Learnt)
 
-part-precedence-requires : (t : ℕ) → part-lts.Need-precedence-requires (part-claims t) (part-at t) part.Post
-part-precedence-requires t c κs = record { names = _; known = c .before .before .before .before .before .pre .1 .known }
+-- `part` by its places, likewise
+module _ (t : ℕ) where
+  abbrev part-entry : part-lts.After-shared-slice-known4 (part-claims t) (part-at t) part.Post → part-lts.Start (part-claims t) (part-at t) part.Post
+  part-entry c = c .before .before .before .before .before
 
-part-put-requires : (t : ℕ) → part-lts.Need-put-requires (part-claims t) (part-at t) part.Post
-part-put-requires t c κs = tt
+  -- in brackets: back over the first one, over the text, and over the second one
+  abbrev opening : part-lts.After-slice-known2 (part-claims t) (part-at t) part.Post → part-lts.Then1 (part-claims t) (part-at t) part.Post
+  opening c = c .before .before .before .before
 
-part-print-requires : (t : ℕ) → part-lts.Need-print-requires (part-claims t) (part-at t) part.Post
-part-print-requires t c κs = (omega (arith, c .before .before .before .before .before .before .before .before .before .before .before .before .pre .0), c .before .before .before .before .before .before .before .before .before .before .before .before .pre .1)
+  abbrev inner : part-lts.After-slice-known3 (part-claims t) (part-at t) part.Post → part-lts.After-slice-known2 (part-claims t) (part-at t) part.Post
+  inner c = c .before .before .before .before
 
-part-put-requires-2 : (t : ℕ) → part-lts.Need-put-requires-2 (part-claims t) (part-at t) part.Post
-part-put-requires-2 t c κs = tt
+  abbrev closing : part-lts.After-slice-known4 (part-claims t) (part-at t) part.Post → part-lts.After-slice-known3 (part-claims t) (part-at t) part.Post
+  closing c = c .before .before .before .before
 
-part-returns : (t : ℕ) → part-lts.Need-returns (part-claims t) (part-at t) part.Post
-unfolding wrap
-part-returns t c =
-    rw (bracketed (c .before .before .before .before .before .before .before .before .before .before .before .before .before .precedence .ensures _ (marked (c .before .before .before .before .before .before .before .before .before .before .before .before .before .before .before .before .before .before .before .args .pairs .now) (c .before .before .before .before .before .before .before .before .before .before .before .before .before .before .before .before .before .before .before .args .text .now)) (c .before .before .before .before .before .before .before .before .before .before .before .before .before .before .before .before .before .before .before .pre .1 .known)) (c .before .before .before .before .before .before .before .before .before .before .before .before .if1 .taken))
-    (then (c .before .before .before .before .before .before .before .before .before .before .put .ensures) (then (c .before .before .before .before .before .before .print .ensures) (c .before .before .put2 .ensures)))
+  part-strength : (c : part-lts.After-precedence (part-claims t) (part-at t) part.Post) → let s = part-entry (c .before) .args in
+      c .precedence .result ≡ Rattle.definitions.specs.Display.precedence (namedProp (s .names) (now (s .code)) (now (s .pairs)) (now (s .text)) (s .at))
+  part-strength c = let s = part-entry (c .before) in c .precedence .ensures _ (marked (now (s .args .pairs)) (now (s .args .text))) (s .pre .1 .known)
 
-part-same-length : (t : ℕ) → part-lts.Need-same-length (part-claims t) (part-at t) part.Post
-part-same-length t c = same-length (part-returns t c)
+  part-precedence-requires : part-lts.Need-precedence-requires (part-claims t) (part-at t) part.Post
+  part-precedence-requires c κs = record { names = _; known = part-entry c .pre .1 .known }
 
-part-print-requires-2 : (t : ℕ) → part-lts.Need-print-requires-2 (part-claims t) (part-at t) part.Post
-part-print-requires-2 t c κs = (omega (arith, c .before .before .before .before .before .before .before .before .pre .0), c .before .before .before .before .before .before .before .before .pre .1)
+  part-put-requires : part-lts.Need-put-requires (part-claims t) (part-at t) part.Post
+  part-put-requires c κs = tt
 
-part-returns-2 : (t : ℕ) → part-lts.Need-returns-2 (part-claims t) (part-at t) part.Post
-unfolding wrap
-part-returns-2 t c = rw (bare (c .before .before .before .before .before .precedence .ensures _ (marked (c .before .before .before .before .before .before .before .before .before .before .before .args .pairs .now) (c .before .before .before .before .before .before .before .before .before .before .before .args .text .now)) (c .before .before .before .before .before .before .before .before .before .before .before .pre .1 .known)) (c .before .before .before .before .if1 .left)) (c .before .before .print2 .ensures)
+  part-print-requires : part-lts.Need-print-requires (part-claims t) (part-at t) part.Post
+  part-print-requires c κs = let s = part-entry (opening (c .before) .before .before) in (omega (arith, s .pre .0), s .pre .1)
 
-part-same-length-2 : (t : ℕ) → part-lts.Need-same-length-2 (part-claims t) (part-at t) part.Post
-part-same-length-2 t c = same-length (part-returns-2 t c)
+  part-put-requires-2 : part-lts.Need-put-requires-2 (part-claims t) (part-at t) part.Post
+  part-put-requires-2 c κs = tt
 
-print-shared-slice-read-head : (t : ℕ) → print-lts.Need-shared-slice-read-head (print-claims t) (print-at t) print.Post
-print-shared-slice-read-head t c = inside (c .before .before .before .before .before .before .pre .1 .known .present) .start
+  part-returns : part-lts.Need-returns (part-claims t) (part-at t) part.Post
+  unfolding wrap
+  part-returns c =
+      let tested = opening (inner (closing c)) in
+      rw (bracketed (part-strength (tested .before)) (tested .if1 .taken))
+      (then (inner (closing c) .before .before .put .ensures) (then (closing c .before .before .print .ensures) (c .before .before .put2 .ensures)))
 
-print-put-sign-requires : (t : ℕ) → print-lts.Need-put-sign-requires (print-claims t) (print-at t) print.Post
-print-put-sign-requires t c κs = inside (c .before .before .before .before .before .before .before .before .pre .1 .known .present) .known
+  part-same-length : part-lts.Need-same-length (part-claims t) (part-at t) part.Post
+  part-same-length c = same-length (part-returns c)
 
-print-returns : (t : ℕ) → print-lts.Need-returns (print-claims t) (print-at t) print.Post
-print-returns t c = rw (← (leaf-text _ _ _ _ _ (c .before .before .before .before .before .before .before .before .before .before .before .pre .1 .known) (c .before .before .before .before .if1 .taken))) (c .before .before .put-sign .ensures)
+  part-print-requires-2 : part-lts.Need-print-requires-2 (part-claims t) (part-at t) part.Post
+  part-print-requires-2 c κs = let s = part-entry (c .before .before .before) in (omega (arith, s .pre .0), s .pre .1)
 
-print-same-length : (t : ℕ) → print-lts.Need-same-length (print-claims t) (print-at t) print.Post
-print-same-length t c = same-length (print-returns t c)
+  part-returns-2 : part-lts.Need-returns-2 (part-claims t) (part-at t) part.Post
+  unfolding wrap
+  part-returns-2 c =
+      let tested = c .before .before .before .before in
+      rw (bare (part-strength (tested .before)) (tested .if1 .left)) (c .before .before .print2 .ensures)
 
-print-put-atom-requires : (t : ℕ) → print-lts.Need-put-atom-requires (print-claims t) (print-at t) print.Post
-print-put-atom-requires t c κs = record { present = c .before .before .before .before .before .before .before .before .before .pre .1 .known .present; byte = c .before .if2 .taken; named = c .before .before .before .before .before .before .before .before .before .pre .1 .named }
+  part-same-length-2 : part-lts.Need-same-length-2 (part-claims t) (part-at t) part.Post
+  part-same-length-2 c = same-length (part-returns-2 c)
 
-print-returns-2 : (t : ℕ) → print-lts.Need-returns-2 (print-claims t) (print-at t) print.Post
-print-returns-2 t c = c .before .before .put-atom .ensures
+-- `print` by its places. Each name leads from a place back to an earlier one, as the code is read upwards.
+module _ (t : ℕ) where
+  abbrev entry : print-lts.After-shared-slice-known5 (print-claims t) (print-at t) print.Post → print-lts.Start (print-claims t) (print-at t) print.Post
+  entry c = c .before .before .before .before .before .before
 
-print-same-length-2 : (t : ℕ) → print-lts.Need-same-length-2 (print-claims t) (print-at t) print.Post
-print-same-length-2 t c = same-length (print-returns-2 t c)
+  -- back over the tests of the byte in front: to a quantifier, and to a binary proposition
+  abbrev quantifier-tests : print-lts.Then3 (print-claims t) (print-at t) print.Post → print-lts.After-shared-slice-known5 (print-claims t) (print-at t) print.Post
+  quantifier-tests c = c .before .before .before
 
-print-add-number-at : (t : ℕ) → print-lts.Need-add-number-at (print-claims t) (print-at t) print.Post
-print-add-number-at t c = omega (arith, inside (c .before .before .before .before .before .before .before .before .before .pre .1 .known .present))
+  abbrev binary-tests : print-lts.Else3 (print-claims t) (print-at t) print.Post → print-lts.After-shared-slice-known5 (print-claims t) (print-at t) print.Post
+  binary-tests c = c .before .before .before
 
-print-number-at-requires : (t : ℕ) → print-lts.Need-number-at-requires (print-claims t) (print-at t) print.Post
-print-number-at-requires t c κs = omega (arith, inside (quantified-parts _ _ _ _ (c .before .before .before .before .before .before .before .before .before .pre .1 .known) (c .if3 .taken) .body .present))
+  -- back over the strength of a binary proposition
+  abbrev strength-asked : print-lts.After-precedence (print-claims t) (print-at t) print.Post → print-lts.Else3 (print-claims t) (print-at t) print.Post
+  strength-asked c = c .before
 
-print-add-number-at-2 : (t : ℕ) → print-lts.Need-add-number-at-2 (print-claims t) (print-at t) print.Post
-print-add-number-at-2 t c = omega (arith, inside (c .before .before .before .before .before .before .before .before .before .before .pre .1 .known .present))
+  -- ⊤ or ⊥: back over its sign
+  abbrev leaf : print-lts.After-slice-known2 (print-claims t) (print-at t) print.Post → print-lts.Then1 (print-claims t) (print-at t) print.Post
+  leaf c = c .before .before .before .before
 
-print-number-at-requires-2 : (t : ℕ) → print-lts.Need-number-at-requires-2 (print-claims t) (print-at t) print.Post
-print-number-at-requires-2 t c κs = omega (arith, inside (quantified-parts _ _ _ _ (c .before .before .before .before .before .before .before .before .before .before .pre .1 .known) (c .before .if3 .taken) .body .present))
+  -- a quantifier: back over what stands before its body, and over the body
+  abbrev object-and-datatype : print-lts.After-slice-known4 (print-claims t) (print-at t) print.Post → print-lts.Then3 (print-claims t) (print-at t) print.Post
+  object-and-datatype c = c .before .before .before .before .before .before
 
-print-put-quantifier-requires : (t : ℕ) → print-lts.Need-put-quantifier-requires (print-claims t) (print-at t) print.Post
-print-put-quantifier-requires t c κs =
-    let q = quantified-parts _ _ _ _ (c .before .before .before .before .before .before .before .before .before .before .before .before .pre .1 .known) (c .before .before .before .if3 .taken) in (
-      inside (c .before .before .before .before .before .before .before .before .before .before .before .before .pre .1 .known .present) .known,
-      (c .before .before .before .before .before .before .before .before .before .before .before .before .pre .1 .named (c .before .before .number-at .result) (rw (c .before .before .number-at .ensures .0) (q .object)), c .before .before .before .before .before .before .before .before .before .before .before .before .pre .1 .named (c .before .number-at2 .result) (rw (c .before .number-at2 .ensures .0) (q .datatype))),
-    )
+  abbrev body : print-lts.After-slice-known5 (print-claims t) (print-at t) print.Post → print-lts.After-slice-known4 (print-claims t) (print-at t) print.Post
+  body c = c .before .before .before .before
 
-print-add-print : (t : ℕ) → print-lts.Need-add-print (print-claims t) (print-at t) print.Post
-print-add-print t c = omega (arith, inside (c .before .before .before .before .before .before .before .before .before .before .before .before .before .before .before .before .pre .1 .known .present))
+  -- a negation: back over its sign, and over what is negated
+  abbrev not-sign : print-lts.After-slice-known6 (print-claims t) (print-at t) print.Post → print-lts.Then4 (print-claims t) (print-at t) print.Post
+  not-sign c = c .before .before .before .before .before
 
-print-print-requires : (t : ℕ) → print-lts.Need-print-requires (print-claims t) (print-at t) print.Post
-print-print-requires t c κs = (omega (arith, c .before .before .before .before .before .before .before .before .before .before .before .before .before .before .before .before .pre .0, inside (c .before .before .before .before .before .before .before .before .before .before .before .before .before .before .before .before .pre .1 .known .present)), record { known = quantified-parts _ _ _ _ (c .before .before .before .before .before .before .before .before .before .before .before .before .before .before .before .before .pre .1 .known) (c .before .before .before .before .before .before .before .if3 .taken) .body; named = c .before .before .before .before .before .before .before .before .before .before .before .before .before .before .before .before .pre .1 .named })
+  abbrev negated : print-lts.After-slice-known7 (print-claims t) (print-at t) print.Post → print-lts.After-slice-known6 (print-claims t) (print-at t) print.Post
+  negated c = c .before .before .before .before
 
-print-returns-3 : (t : ℕ) → print-lts.Need-returns-3 (print-claims t) (print-at t) print.Post
-print-returns-3 t c =
-    let q = quantified-parts _ _ _ _ (c .before .before .before .before .before .before .before .before .before .before .before .before .before .before .before .before .before .before .before .pre .1 .known) (c .before .before .before .before .before .before .before .before .before .before .if3 .taken) in
-    rw (← (quantified-text _ _ _ _ _ q), ← (c .before .before .before .before .before .before .before .before .before .number-at .ensures .0), ← (c .before .before .before .before .before .before .before .before .number-at2 .ensures .0))
-    (then (c .before .before .before .before .before .before .put-quantifier .ensures (q .quantifier) (q .byte)) (c .before .before .print .ensures))
+  -- another binary proposition: back over its left side, its connective and its right side
+  abbrev left-side : print-lts.After-slice-known8 (print-claims t) (print-at t) print.Post → print-lts.Else4 (print-claims t) (print-at t) print.Post
+  left-side c = c .before .before .before .before .before
 
-print-same-length-3 : (t : ℕ) → print-lts.Need-same-length-3 (print-claims t) (print-at t) print.Post
-print-same-length-3 t c = same-length (print-returns-3 t c)
+  abbrev connective : print-lts.After-slice-known9 (print-claims t) (print-at t) print.Post → print-lts.After-slice-known8 (print-claims t) (print-at t) print.Post
+  connective c = c .before .before .before .before
 
-print-add-left : (t : ℕ) → print-lts.Need-add-left (print-claims t) (print-at t) print.Post
-print-add-left t c = omega (arith, inside (c .before .before .before .before .before .before .before .before .before .pre .1 .known .present))
+  abbrev right-side : print-lts.After-slice-known10 (print-claims t) (print-at t) print.Post → print-lts.After-slice-known9 (print-claims t) (print-at t) print.Post
+  right-side c = c .before .before .before .before .before .before
 
-print-precedence-requires : (t : ℕ) → print-lts.Need-precedence-requires (print-claims t) (print-at t) print.Post
-print-precedence-requires t c κs = record { names = _; known = c .before .before .before .before .before .before .before .before .before .pre .1 .known }
+  -- what is known at the entry, and past the tests of the byte in front
+  known : (c : print-lts.After-shared-slice-known5 (print-claims t) (print-at t) print.Post) → let s = entry c .args in Known (s .names) (now (s .code)) (now (s .ends)) (s .at)
+  known c = entry c .pre .1 .known
 
-print-slice-aggregate-put-all : (t : ℕ) → print-lts.Need-slice-aggregate-put-all (print-claims t) (print-at t) print.Post
-print-slice-aggregate-put-all t c = refl
+  quantified : (c : print-lts.Then3 (print-claims t) (print-at t) print.Post) → let s = entry (quantifier-tests c) .args in QuantifiedParts (s .names) (now (s .code)) (now (s .ends)) (s .at)
+  quantified c = quantified-parts _ _ _ _ (known (quantifier-tests c)) (c .if3 .taken)
 
-print-put-all-requires : (t : ℕ) → print-lts.Need-put-all-requires (print-claims t) (print-at t) print.Post
-print-put-all-requires t c κs = tt
+  binary : (c : print-lts.Else3 (print-claims t) (print-at t) print.Post) → let s = entry (binary-tests c) .args in BinaryParts (s .names) (now (s .code)) (now (s .ends)) (s .at)
+  binary c = binary-here (known (binary-tests c)) (c .before .before .if1 .left) (c .before .if2 .left) (c .if3 .left)
 
-print-part-requires : (t : ℕ) → print-lts.Need-part-requires (print-claims t) (print-at t) print.Post
-print-part-requires t c κs =
-    let b = binary-here (c .before .before .before .before .before .before .before .before .before .before .before .before .before .before .before .before .before .pre .1 .known) (c .before .before .before .before .before .before .before .before .before .before .if1 .left) (c .before .before .before .before .before .before .before .before .before .if2 .left) (c .before .before .before .before .before .before .before .before .if3 .left) in
-    (omega (arith, c .before .before .before .before .before .before .before .before .before .before .before .before .before .before .before .before .before .pre .0, inside (b .left .present)), record { known = b .left; named = c .before .before .before .before .before .before .before .before .before .before .before .before .before .before .before .before .before .pre .1 .named })
+  strength : (c : print-lts.After-precedence (print-claims t) (print-at t) print.Post) → let s = entry (binary-tests (strength-asked c)) .args in
+      c .precedence .result ≡ Rattle.definitions.specs.Display.precedence (namedProp (s .names) (now (s .code)) (now (s .pairs)) (now (s .text)) (s .at))
+  strength c = let here = binary-tests (strength-asked c) in c .precedence .ensures _ (marked (now (entry here .args .pairs)) (now (entry here .args .text))) (known here)
 
-print-returns-4 : (t : ℕ) → print-lts.Need-returns-4 (print-claims t) (print-at t) print.Post
-print-returns-4 t c =
-    let b = binary-here (c .before .before .before .before .before .before .before .before .before .before .before .before .before .before .before .before .before .before .before .before .pre .1 .known) (c .before .before .before .before .before .before .before .before .before .before .before .before .before .if1 .left) (c .before .before .before .before .before .before .before .before .before .before .before .before .if2 .left) (c .before .before .before .before .before .before .before .before .before .before .before .if3 .left) in
-    let strength = c .before .before .before .before .before .before .before .before .before .before .precedence .ensures _ (marked (c .before .before .before .before .before .before .before .before .before .before .before .before .before .before .before .before .before .before .before .before .args .pairs .now) (c .before .before .before .before .before .before .before .before .before .before .before .before .before .before .before .before .before .before .before .before .args .text .now)) (c .before .before .before .before .before .before .before .before .before .before .before .before .before .before .before .before .before .before .before .before .pre .1 .known) in
-    rw (← (negation-text _ _ _ _ _ b (sym strength ∙ c .before .before .before .before .before .before .before .before .before .if4 .taken))) (then (c .before .before .before .before .before .before .put-all .ensures) (c .before .before .part .ensures))
+  print-shared-slice-read-head : print-lts.Need-shared-slice-read-head (print-claims t) (print-at t) print.Post
+  print-shared-slice-read-head c = inside (known c .present) .start
 
-print-same-length-4 : (t : ℕ) → print-lts.Need-same-length-4 (print-claims t) (print-at t) print.Post
-print-same-length-4 t c = same-length (print-returns-4 t c)
+  print-put-sign-requires : print-lts.Need-put-sign-requires (print-claims t) (print-at t) print.Post
+  print-put-sign-requires c κs = inside (known (c .before .before) .present) .known
 
-print-left-strength-requires : (t : ℕ) → print-lts.Need-left-strength-requires (print-claims t) (print-at t) print.Post
-print-left-strength-requires t c κs = omega (arith, c .before .before .before .if2 .left, c .before .before .if3 .left)
+  print-returns : print-lts.Need-returns (print-claims t) (print-at t) print.Post
+  print-returns c = rw (← (leaf-text _ _ _ _ _ (known (leaf c .before)) (leaf c .if1 .taken))) (c .before .before .put-sign .ensures)
 
-print-part-requires-2 : (t : ℕ) → print-lts.Need-part-requires-2 (print-claims t) (print-at t) print.Post
-print-part-requires-2 t c κs =
-    let b = binary-here (c .before .before .before .before .before .before .before .before .before .before .before .before .before .pre .1 .known) (c .before .before .before .before .before .before .if1 .left) (c .before .before .before .before .before .if2 .left) (c .before .before .before .before .if3 .left) in
-    (omega (arith, c .before .before .before .before .before .before .before .before .before .before .before .before .before .pre .0, inside (b .left .present)), record { known = b .left; named = c .before .before .before .before .before .before .before .before .before .before .before .before .before .pre .1 .named })
+  print-same-length : print-lts.Need-same-length (print-claims t) (print-at t) print.Post
+  print-same-length c = same-length (print-returns c)
 
-print-put-connective-requires : (t : ℕ) → print-lts.Need-put-connective-requires (print-claims t) (print-at t) print.Post
-print-put-connective-requires t c κs = inside (c .before .before .before .before .before .before .before .before .before .before .before .before .before .before .before .before .before .pre .1 .known .present) .known
+  print-put-atom-requires : print-lts.Need-put-atom-requires (print-claims t) (print-at t) print.Post
+  print-put-atom-requires c κs =
+      record { present = known (c .before .before .before) .present; byte = c .before .if2 .taken; named = entry (c .before .before .before) .pre .1 .named }
 
-print-mul-right : (t : ℕ) → print-lts.Need-mul-right (print-claims t) (print-at t) print.Post
-print-mul-right t c = omega (arith, inside (c .before .before .before .before .before .before .before .before .before .before .before .before .before .before .before .before .before .before .before .before .pre .1 .known .present))
+  print-returns-2 : print-lts.Need-returns-2 (print-claims t) (print-at t) print.Post
+  print-returns-2 c = c .before .before .put-atom .ensures
 
-print-shared-slice-read-right : (t : ℕ) → print-lts.Need-shared-slice-read-right (print-claims t) (print-at t) print.Post
-print-shared-slice-read-right t c = binary-here (c .before .before .before .before .before .before .before .before .before .before .before .before .before .before .before .before .before .before .before .before .before .pre .1 .known) (c .before .before .before .before .before .before .before .before .before .before .before .before .before .before .if1 .left) (c .before .before .before .before .before .before .before .before .before .before .before .before .before .if2 .left) (c .before .before .before .before .before .before .before .before .before .before .before .before .if3 .left) .table
+  print-same-length-2 : print-lts.Need-same-length-2 (print-claims t) (print-at t) print.Post
+  print-same-length-2 c = same-length (print-returns-2 c)
 
-print-cast-right : (t : ℕ) → print-lts.Need-cast-right (print-claims t) (print-at t) print.Post
-print-cast-right t c = omega (arith, c .shared-slice-known6 .given (c .before .before .before .before .before .before .before .before .before .before .before .before .before .before .before .before .before .before .before .before .before .args .at + 1))
+  print-add-number-at : print-lts.Need-add-number-at (print-claims t) (print-at t) print.Post
+  print-add-number-at c = omega (arith, inside (known (quantifier-tests c) .present))
 
-print-right-strength-requires : (t : ℕ) → print-lts.Need-right-strength-requires (print-claims t) (print-at t) print.Post
-print-right-strength-requires t c κs = omega (arith, c .before .before .before .before .before .before .before .before .before .before .before .before .before .if2 .left, c .before .before .before .before .before .before .before .before .before .before .before .before .if3 .left)
+  print-number-at-requires : print-lts.Need-number-at-requires (print-claims t) (print-at t) print.Post
+  print-number-at-requires c κs = omega (arith, inside (quantified c .body .present))
 
-print-part-requires-3 : (t : ℕ) → print-lts.Need-part-requires-3 (print-claims t) (print-at t) print.Post
-print-part-requires-3 t c κs =
-    let b = binary-here (c .before .before .before .before .before .before .before .before .before .before .before .before .before .before .before .before .before .before .before .before .before .before .before .pre .1 .known) (c .before .before .before .before .before .before .before .before .before .before .before .before .before .before .before .before .if1 .left) (c .before .before .before .before .before .before .before .before .before .before .before .before .before .before .before .if2 .left) (c .before .before .before .before .before .before .before .before .before .before .before .before .before .before .if3 .left) in
-    (omega (arith, c .before .before .before .before .before .before .before .before .before .before .before .before .before .before .before .before .before .before .before .before .before .before .before .pre .0, inside (b .right .present), b .order), record { known = b .right; named = c .before .before .before .before .before .before .before .before .before .before .before .before .before .before .before .before .before .before .before .before .before .before .before .pre .1 .named })
+  print-add-number-at-2 : print-lts.Need-add-number-at-2 (print-claims t) (print-at t) print.Post
+  print-add-number-at-2 c = omega (arith, inside (known (quantifier-tests (c .before)) .present))
 
-print-returns-5 : (t : ℕ) → print-lts.Need-returns-5 (print-claims t) (print-at t) print.Post
-print-returns-5 t c =
-    let b = binary-here (c .before .before .before .before .before .before .before .before .before .before .before .before .before .before .before .before .before .before .before .before .before .before .before .before .before .before .pre .1 .known) (c .before .before .before .before .before .before .before .before .before .before .before .before .before .before .before .before .before .before .before .if1 .left) (c .before .before .before .before .before .before .before .before .before .before .before .before .before .before .before .before .before .before .if2 .left) (c .before .before .before .before .before .before .before .before .before .before .before .before .before .before .before .before .before .if3 .left) in
-    let byte = b .byte in
-    let strength = c .before .before .before .before .before .before .before .before .before .before .before .before .before .before .before .before .precedence .ensures _ (marked (c .before .before .before .before .before .before .before .before .before .before .before .before .before .before .before .before .before .before .before .before .before .before .before .before .before .before .args .pairs .now) (c .before .before .before .before .before .before .before .before .before .before .before .before .before .before .before .before .before .before .before .before .before .before .before .before .before .before .args .text .now)) (c .before .before .before .before .before .before .before .before .before .before .before .before .before .before .before .before .before .before .before .before .before .before .before .before .before .before .pre .1 .known) in
-    rw (← (binary-text _ _ _ _ _ b (λ e. c .before .before .before .before .before .before .before .before .before .before .before .before .before .before .before .if4 .left (strength ∙ e))), ← (c .before .before .before .before .before .before .before .before .before .before .before .before .before .before .left-strength .ensures (b .connective)), ← (c .before .before .before .before .right-strength .ensures (b .connective)))
-    (then (c .before .before .before .before .before .before .before .before .before .before .before .before .part2 .ensures) (then (c .before .before .before .before .before .before .before .before .put-connective .ensures (b .connective) byte) (c .before .before .part3 .ensures)))
+  print-number-at-requires-2 : print-lts.Need-number-at-requires-2 (print-claims t) (print-at t) print.Post
+  print-number-at-requires-2 c κs = omega (arith, inside (quantified (c .before) .body .present))
 
-print-same-length-5 : (t : ℕ) → print-lts.Need-same-length-5 (print-claims t) (print-at t) print.Post
-print-same-length-5 t c = same-length (print-returns-5 t c)
+  print-put-quantifier-requires : print-lts.Need-put-quantifier-requires (print-claims t) (print-at t) print.Post
+  print-put-quantifier-requires c κs =
+      let here = c .before .before .before in
+      let q = quantified here in
+      let named = entry (quantifier-tests here) .pre .1 .named in (
+        inside (known (quantifier-tests here) .present) .known,
+        (
+          named (c .before .before .number-at .result) (rw (c .before .before .number-at .ensures .0) (q .object)),
+          named (c .before .number-at2 .result) (rw (c .before .number-at2 .ensures .0) (q .datatype)),
+        ),
+      )
+
+  print-add-print : print-lts.Need-add-print (print-claims t) (print-at t) print.Post
+  print-add-print c = omega (arith, inside (known (quantifier-tests (object-and-datatype (c .before))) .present))
+
+  print-print-requires : print-lts.Need-print-requires (print-claims t) (print-at t) print.Post
+  print-print-requires c κs =
+      let here = object-and-datatype (c .before) in
+      let s = entry (quantifier-tests here) in
+      (omega (arith, s .pre .0, inside (known (quantifier-tests here) .present)), record { known = quantified here .body; named = s .pre .1 .named })
+
+  print-returns-3 : print-lts.Need-returns-3 (print-claims t) (print-at t) print.Post
+  print-returns-3 c =
+      let here = object-and-datatype (body c) in
+      let q = quantified here in
+      let written = body c .before .before in
+      rw (← (quantified-text _ _ _ _ _ q), ← (written .before .before .before .number-at .ensures .0), ← (written .before .before .number-at2 .ensures .0))
+      (then (written .put-quantifier .ensures (q .quantifier) (q .byte)) (c .before .before .print .ensures))
+
+  print-same-length-3 : print-lts.Need-same-length-3 (print-claims t) (print-at t) print.Post
+  print-same-length-3 c = same-length (print-returns-3 c)
+
+  print-add-left : print-lts.Need-add-left (print-claims t) (print-at t) print.Post
+  print-add-left c = omega (arith, inside (known (binary-tests c) .present))
+
+  print-precedence-requires : print-lts.Need-precedence-requires (print-claims t) (print-at t) print.Post
+  print-precedence-requires c κs = record { names = _; known = known (binary-tests c) }
+
+  print-slice-aggregate-put-all : print-lts.Need-slice-aggregate-put-all (print-claims t) (print-at t) print.Post
+  print-slice-aggregate-put-all c = refl
+
+  print-put-all-requires : print-lts.Need-put-all-requires (print-claims t) (print-at t) print.Post
+  print-put-all-requires c κs = tt
+
+  print-part-requires : print-lts.Need-part-requires (print-claims t) (print-at t) print.Post
+  print-part-requires c κs =
+      let here = strength-asked (not-sign (c .before) .before) in
+      let b = binary here in
+      let s = entry (binary-tests here) in
+      (omega (arith, s .pre .0, inside (b .left .present)), record { known = b .left; named = s .pre .1 .named })
+
+  print-returns-4 : print-lts.Need-returns-4 (print-claims t) (print-at t) print.Post
+  print-returns-4 c =
+      let tested = not-sign (negated c) in
+      rw (← (negation-text _ _ _ _ _ (binary (strength-asked (tested .before))) (sym (strength (tested .before)) ∙ tested .if4 .taken)))
+      (then (negated c .before .before .put-all .ensures) (c .before .before .part .ensures))
+
+  print-same-length-4 : print-lts.Need-same-length-4 (print-claims t) (print-at t) print.Post
+  print-same-length-4 c = same-length (print-returns-4 c)
+
+  print-left-strength-requires : print-lts.Need-left-strength-requires (print-claims t) (print-at t) print.Post
+  print-left-strength-requires c κs = let here = strength-asked (c .before) in omega (arith, here .before .if2 .left, here .if3 .left)
+
+  print-part-requires-2 : print-lts.Need-part-requires-2 (print-claims t) (print-at t) print.Post
+  print-part-requires-2 c κs =
+      let here = strength-asked (c .before .before .before) in
+      let b = binary here in
+      let s = entry (binary-tests here) in
+      (omega (arith, s .pre .0, inside (b .left .present)), record { known = b .left; named = s .pre .1 .named })
+
+  print-put-connective-requires : print-lts.Need-put-connective-requires (print-claims t) (print-at t) print.Post
+  print-put-connective-requires c κs = inside (known (binary-tests (strength-asked (left-side (c .before) .before))) .present) .known
+
+  print-mul-right : print-lts.Need-mul-right (print-claims t) (print-at t) print.Post
+  print-mul-right c = omega (arith, inside (known (binary-tests (strength-asked (left-side (connective c) .before))) .present))
+
+  print-shared-slice-read-right : print-lts.Need-shared-slice-read-right (print-claims t) (print-at t) print.Post
+  print-shared-slice-read-right c = binary (strength-asked (left-side (connective (c .before)) .before)) .table
+
+  print-cast-right : print-lts.Need-cast-right (print-claims t) (print-at t) print.Post
+  print-cast-right c = omega (arith, c .shared-slice-known6 .given (entry (binary-tests (strength-asked (left-side (connective (c .before)) .before))) .args .at + 1))
+
+  print-right-strength-requires : print-lts.Need-right-strength-requires (print-claims t) (print-at t) print.Post
+  print-right-strength-requires c κs = let here = strength-asked (left-side (connective (c .before)) .before) in omega (arith, here .before .if2 .left, here .if3 .left)
+
+  print-part-requires-3 : print-lts.Need-part-requires-3 (print-claims t) (print-at t) print.Post
+  print-part-requires-3 c κs =
+      let here = strength-asked (left-side (connective (c .before .before .before)) .before) in
+      let b = binary here in
+      let s = entry (binary-tests here) in
+      (omega (arith, s .pre .0, inside (b .right .present), b .order), record { known = b .right; named = s .pre .1 .named })
+
+  print-returns-5 : print-lts.Need-returns-5 (print-claims t) (print-at t) print.Post
+  print-returns-5 c =
+      let signed = right-side c in
+      let left = connective signed in
+      let tested = left-side left in
+      let b = binary (strength-asked (tested .before)) in
+      let byte = b .byte in
+      rw (← (binary-text _ _ _ _ _ b (λ e. tested .if4 .left (strength (tested .before) ∙ e))), ← (left .before .before .before .before .left-strength .ensures (b .connective)), ← (c .before .before .before .before .right-strength .ensures (b .connective)))
+      (then (left .before .before .part2 .ensures) (then (signed .before .before .put-connective .ensures (b .connective) byte) (c .before .before .part3 .ensures)))
+
+  print-same-length-5 : print-lts.Need-same-length-5 (print-claims t) (print-at t) print.Post
+  print-same-length-5 c = same-length (print-returns-5 c)
 
 pub +part+print-spec : {M : Type 1} → statement M
 +part+print-spec = close μ-part μ-print (λ t. part-lts.spec (part-claims t)
