@@ -6,16 +6,15 @@ use mathlib.Core.List.{List, [], _∷_, map}
 use native.Mathlib.Omega.{arith}
 use lib.ListN.{length, getD, List·getD-map, List·getD-eq-default}
 use Rattle.definitions.specs.declared.Style.{Style}
-use Rattle.definitions.specs.declared.Style.the-variants.{Plain}
 use Rattle.definitions.specs.Name.{Name}
 use Rattle.definitions.specs.Prop.{Prop}
 use Rattle.definitions.specs.Term.{ProofTerm, Unit, renameTerm}
-use Rattle.definitions.specs.Display.{Form, closed, call, function, block, ascription, form, partOf}
+use Rattle.definitions.specs.Display.{Form, closed, call, function, block, ascription, form}
 use Rattle.proof_term.specs.Records.{recordSize, fieldAt, leaf, formTerm, forms, recordTerm}
 use Rattle.proof_term.specs.Labels.{hasLabel}
 use Rattle.proof_term.proofs.Records.{termAt-kind}
 use Rattle.proof_term.proofs.Labels.{no-label}
-use Rattle.proof_term_display.specs.Brackets.{positions, styles, columns, column, isBracketed, bracketTable}
+use Rattle.proof_term_display.specs.Brackets.{positionOf, columns, column, isBracketed, bracketRow}
 use Rattle.proof_term_display.specs.Format.{partField, partPosition}
 use Rattle.proof_term_display.specs.Item.{KindAt}
 
@@ -60,27 +59,18 @@ column-form function = refl
 column-form block = refl
 column-form ascription = refl
 
--- the table of brackets
-pub bracket-rule :
-    (p row k : ℕ) (s : Style) (f : Form) → p < 6 → row < 2 → getD styles row Plain ≡ s → k ≡ column f →
-    getD (getD (getD bracketTable p []) row []) k false ≡ isBracketed (getD positions p partOf) s f
-bracket-rule p row k s f hp hr styled formed =
-    let found : getD columns k closed ≡ f = ap (λ i. getD columns i closed) formed ∙ column-form f in
-    let below : k < 5 = rw formed (column-below f) in
-    rw (
-      mapped (λ q. map (λ t. map (λ g. isBracketed q t g) columns) styles) positions partOf [] p hp,
-      mapped (λ t. map (λ g. isBracketed (getD positions p partOf) t g) columns) styles Plain [] row hr,
-      mapped (λ g. isBracketed (getD positions p partOf) (getD styles row Plain) g) columns closed false k below,
-      styled,
-      found,
-    )
+-- a row of the table of brackets
+pub bracket-rule : (p k : ℕ) (s : Style) (f : Form) → k ≡ column f → getD (bracketRow p s) k false ≡ isBracketed (positionOf p) s f
+bracket-rule p k s f formed =
+    mapped (isBracketed (positionOf p) s) columns closed false k (rw formed (column-below f))
+    ∙ ap (isBracketed (positionOf p) s) (ap (λ i. getD columns i closed) formed ∙ column-form f)
+
+pub at-position : (p q : ℕ) (s : Style) (f : Form) {r : Bool} → p ≡ q → r ≡ isBracketed (positionOf p) s f → r ≡ isBracketed (positionOf q) s f
+at-position p q s f e h = h ∙ ap (λ i. isBracketed (positionOf i) s f) e
 
 -- the form of each kind
 abbrev formTable : List ℕ
 formTable = 0 ∷ 0 ∷ 1 ∷ 1 ∷ 2 ∷ 1 ∷ 3 ∷ 1 ∷ 1 ∷ 3 ∷ 1 ∷ 4 ∷ 0 ∷ 0 ∷ []
-
-pub form-below : (kind : ℕ) → getD formTable kind 0 < 5
-form-below kind = omega (arith, entry-below formTable kind)
 
 form-rule :
     (f : ℕ → Name) (props : ℕ → Prop ℕ) (term : ℕ → ProofTerm ℕ) (kind a b c d e : ℕ) →

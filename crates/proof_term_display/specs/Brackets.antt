@@ -1,17 +1,21 @@
--- The rows and columns of the table of brackets: positions, styles and forms.
+-- The table of brackets, by positions, styles and forms.
 use Prim.Native.Nat.{ℕ}
 use mathlib.Core.Bool.{Bool}
 use mathlib.Core.List.{List, [], _∷_, map}
+use lib.ListN.{getD}
 use Rattle.definitions.specs.declared.Style.{Style}
-use Rattle.definitions.specs.declared.Style.the-variants.{Plain, Strict}
-use Rattle.definitions.specs.Display.{Form, closed, call, function, block, ascription, Position, functionOf, argumentOf, bodyOf, ascribedBy, partOf, within, brackets, bracketed}
+use Rattle.definitions.specs.Name.{Name}
+use Rattle.definitions.specs.Prop.{Prop}
+use Rattle.definitions.specs.Term.{renameTerm}
+use Rattle.definitions.specs.Display.{Form, closed, call, function, block, ascription, form, Position, functionOf, argumentOf, bodyOf, ascribedBy, partOf, within, brackets, bracketed}
+use Rattle.proof_term.specs.Records.{termAt}
 
 -- the positions by their numbers
 abbrev pub positions : List Position
 positions = functionOf ∷ argumentOf ∷ bodyOf ∷ ascribedBy ∷ partOf ∷ within ∷ []
 
-abbrev pub styles : List Style
-styles = Plain ∷ Strict ∷ []
+abbrev pub positionOf : ℕ → Position
+positionOf p = getD positions p partOf
 
 -- the forms by their numbers
 abbrev pub columns : List Form
@@ -28,6 +32,10 @@ column ascription = 4
 unfoldable pub isBracketed : Position → Style → Form → Bool
 isBracketed p s f = bracketed (brackets p s) f
 
--- the table, by positions, styles and forms
-abbrev pub bracketTable : List (List (List Bool))
-bracketTable = map (λ p. map (λ s. map (λ f. isBracketed p s f) columns) styles) positions
+-- the row of a position and a style
+abbrev pub bracketRow : ℕ → Style → List Bool
+bracketRow p s = map (isBracketed (positionOf p) s) columns
+
+-- the form of record n's term, over any names
+abbrev pub formAt : (ℕ → Name) → (ℕ → Prop ℕ) → List ℕ → ℕ → Form
+formAt f props records n = form (renameTerm f (termAt props records n))

@@ -10,9 +10,9 @@ use Rattle.definitions.specs.Utf8.{utf8}
 use Rattle.definitions.specs.Name.{Name}
 use Rattle.definitions.specs.Prop.{Prop}
 use Rattle.definitions.specs.Term.{ProofTerm, renameLabel, renameParameterLabel, renameTerm}
-use Rattle.definitions.specs.Display.{wrap, form, partOf, displayLabel, displayParameterLabel, displayTerm}
+use Rattle.definitions.specs.Display.{wrap, form, displayLabel, displayParameterLabel, displayTerm}
 use Rattle.proof_term.specs.Records.{labelOf, parameterLabel}
-use Rattle.proof_term_display.specs.Brackets.{positions, isBracketed}
+use Rattle.proof_term_display.specs.Brackets.{positionOf, isBracketed}
 
 pub data Item : Type 0 where
   -- a byte that stands for itself
@@ -74,7 +74,7 @@ module _ (s : Style) (f : ℕ → Name) (props : ℕ → Prop ℕ) (term : ℕ �
   unfoldable pub partText : ℕ → List ℕ
   partText k =
       let t : ProofTerm Name = renameTerm f (term (field (partField k))) in
-      wrap (isBracketed (getD positions (partPosition k) partOf) s (form t)) (displayTerm s t)
+      wrap (isBracketed (positionOf (partPosition k)) s (form t)) (displayTerm s t)
 
   unfoldable pub itemText : Item → List ℕ
   itemText (fixed b) = b ∷ []

@@ -1,6 +1,6 @@
 -- What the printing of a term says.
 pub mod Brackets
-pub mod Ascriptions
 pub mod Format
 pub mod Printable
 pub mod Item
+pub mod Ascriptions

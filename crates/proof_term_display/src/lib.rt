@@ -2,42 +2,39 @@
 use definitions::Style;
 use output::put;
 use output::put_all;
-use output::put_name;
 use proof_term::DATATYPE;
 use proof_term::KINDS;
 use proof_term::NO_LABEL;
 use proof_term::field;
-use prop::print;
+use vocabulary::Vocabulary;
+use vocabulary::name;
 ghost use mathlib.Core.Path.{_≡_};
 ghost use mathlib.Core.Bool.{_&&_};
 ghost use Prim.Native.Nat.{ℕ, _+_, _*_, _≤_, _<_};
-ghost use lib.ListN.{length, getD};
+ghost use lib.ListN.{length};
 ghost use lib.Dec.{leb};
-ghost use Rattle.definitions.specs.declared.Style.the-variants.{Plain};
 ghost use Rattle.definitions.specs.Name.{Name};
 ghost use Rattle.definitions.specs.Prop.{Prop};
-ghost use Rattle.definitions.specs.Term.{ProofTerm, renameLabel, renameParameterLabel, renameTerm};
-ghost use Rattle.definitions.specs.Sheet.{marked};
-ghost use Rattle.definitions.specs.Display.{form, partOf, displayLabel, displayParameterLabel, displayTerm};
+ghost use Rattle.definitions.specs.Term.{ProofTerm, renameTerm};
+ghost use Rattle.definitions.specs.Display.{form};
 ghost use Rattle.output.specs.Wrote.{Wrote};
-ghost use Rattle.proof_term.specs.Records.{recordSize, fieldAt, labelOf, parameterLabel, recordTerm, termAt};
-ghost use Rattle.prefix_code.specs.PropAt.{propAt};
+ghost use Rattle.proof_term.specs.Records.{recordSize, fieldAt, recordTerm};
 ghost use Rattle.proof_term_display.specs.Ascriptions.{bracket, Unascribed, bodyBracketed, afterBody};
-ghost use Rattle.proof_term_display.specs.Brackets.{positions, styles, column, isBracketed, bracketTable};
-ghost use Rattle.proof_term_display.specs.Format.{itemOf, part, FormatTable};
-ghost use Rattle.proof_term_display.specs.Printable.{PrintableTerm};
-ghost use Rattle.proof_term_display.specs.Item.{KindAt, LabelReady, ItemReady, recordItem};
+ghost use Rattle.proof_term_display.specs.Brackets.{positionOf, column, isBracketed, bracketRow, formAt};
+ghost use Rattle.proof_term_display.specs.Format.{partField, partPosition, itemOf, part, FormatTable};
+ghost use Rattle.proof_term_display.specs.Printable.{PrintableTerm, termText};
+ghost use Rattle.proof_term_display.specs.Item.{KindAt, LabelReady, ItemReady, recordItem, labelText, parameterLabelText};
 
 // The forms of terms, as far as brackets go.
-const CLOSED: u8 = 0;
+const CLOSED: usize = 0;
 
-const CALL: u8 = 1;
+const CALL: usize = 1;
 
-const FUNCTION: u8 = 2;
+const FUNCTION: usize = 2;
 
-const BLOCK: u8 = 3;
+const BLOCK: usize = 3;
 
-const ASCRIPTION: u8 = 4;
+const ASCRIPTION: usize = 4;
 
 // The positions of parts.
 const FUNCTION_OF: u8 = 0;
@@ -54,20 +51,41 @@ const WITHIN: u8 = 5;
 
 const FORMAT_SIZE: usize = 32;
 
-// The record's number and the position of each of the parts A to I.
-const PART_FIELDS: [u8; 9] = [1, 2, 3, 1, 1, 1, 2, 1, 2];
+// The record's number of each of the parts A to I.
+fn part_field(k: usize) -> usize
+    requires { ⌜ k < 9 ⌝ }
+    ensures { λ r. ⌜ r ≡ partField k ⌝ }
+{
+    match k {
+        0 => 1, // A
+        1 => 2, // B
+        2 => 3, // C
+        3 => 1, // D
+        4 => 1, // E
+        5 => 1, // F
+        6 => 2, // G
+        7 => 1, // H
+        _ => 2, // I
+    }
+}
 
-const PART_POSITIONS: [u8; 9] = [
-    WITHIN,
-    WITHIN,
-    WITHIN,
-    BODY_OF,
-    ASCRIBED_BY,
-    FUNCTION_OF,
-    ARGUMENT_OF,
-    PART_OF,
-    PART_OF,
-];
+// The position of each of them.
+fn part_position(k: usize) -> u8
+    requires { ⌜ k < 9 ⌝ }
+    ensures { λ r. ⌜ r ≡ partPosition k ⌝ }
+{
+    match k {
+        0 => WITHIN,
+        1 => WITHIN,
+        2 => WITHIN,
+        3 => BODY_OF,
+        4 => ASCRIBED_BY,
+        5 => FUNCTION_OF,
+        6 => ARGUMENT_OF,
+        7 => PART_OF,
+        _ => PART_OF,
+    }
+}
 
 // The kind of record `n`; an unknown one counts as Unit.
 fn kind_at(records: &[u16], n: usize) -> usize
@@ -81,83 +99,64 @@ fn kind_at(records: &[u16], n: usize) -> usize
     proof_term::UNIT
 }
 
-// The form of each kind of term, in the order of the kinds.
-const FORMS: [u8; KINDS] = [
-    CLOSED, // a name
-    CLOSED, // a pair
-    CALL, // fst
-    CALL, // snd
-    FUNCTION, // a function
-    CALL, // an application
-    BLOCK, // let
-    CALL, // inl
-    CALL, // inr
-    BLOCK, // case
-    CALL, // abort
-    ASCRIPTION, // an ascription
-    CLOSED, // unit
-    CLOSED, // sorry
-];
-
 // The form of a term by its record's kind.
 fn form_of(kind: usize) -> usize
     requires { ⌜ kind < 14 ⌝ }
     ensures { λ r. ⌜ ((f : ℕ → Name) (props : ℕ → Prop ℕ) (term : ℕ → ProofTerm ℕ) (a b c d e : ℕ) →
         r ≡ column (form (renameTerm f (recordTerm props term kind a b c d e)))) ⌝ }
 {
-    FORMS[kind] as usize
-}
-
-// The row of a style in the table of brackets.
-fn row_of(style: Style) -> usize
-    ensures { λ r. ⌜ (r < 2) × (getD styles r Plain ≡ style) ⌝ }
-{
-    match style {
-        Style::Plain => 0,
-        Style::Strict => 1,
+    match kind {
+        proof_term::IDENT => CLOSED,
+        proof_term::PAIR => CLOSED,
+        proof_term::PROJECT_FST => CALL,
+        proof_term::PROJECT_SND => CALL,
+        proof_term::FUNCTION => FUNCTION,
+        proof_term::APPLICATION => CALL,
+        proof_term::LET_IN => BLOCK,
+        proof_term::OR_LEFT => CALL,
+        proof_term::OR_RIGHT => CALL,
+        proof_term::CASE => BLOCK,
+        proof_term::ABORT => CALL,
+        proof_term::TYPE_ASCRIPTION => ASCRIPTION,
+        proof_term::UNIT => CLOSED,
+        _ => CLOSED, // sorry
     }
 }
 
 // Whether a part is bracketed, by its position, the style and its form: closed, call, function, block, ascription.
-type Brackets = [[[bool; 5]; 2]; 6];
+fn brackets_of(position: u8, style: Style) -> [bool; 5]
+    requires { ⌜ position < 6 ⌝ }
+    ensures { λ r. ⌜ r ≡ bracketRow position style ⌝ }
+{
+    match style {
+        Style::Plain => match position {
+            FUNCTION_OF => [false, false, true, false, true], // the function of an application, plain
+            ARGUMENT_OF => [false, true, true, false, true], // its argument, plain
+            BODY_OF => [false, true, true, true, true], // the body of a named function, plain
+            ASCRIBED_BY => [false, false, true, true, true], // the body of an ascription, plain
+            PART_OF => [false, false, false, false, false], // a part of a pair, plain
+            _ => [false, false, false, false, false], // within a function, a case or a let, plain
+        },
+        Style::Strict => match position {
+            FUNCTION_OF => [false, false, true, true, true], // the function of an application, strict
+            ARGUMENT_OF => [false, true, true, true, true], // its argument, strict
+            BODY_OF => [false, true, true, true, true], // the body of a named function, strict
+            ASCRIBED_BY => [false, false, true, true, true], // the body of an ascription, strict
+            PART_OF => [false, false, false, false, false], // a part of a pair, strict
+            _ => [false, false, false, false, true], // within a function, a case or a let, strict
+        },
+    }
+}
 
-const BRACKETS: Brackets = [
-    [
-        [false, false, true, false, true], // the function of an application, plain
-        [false, false, true, true, true], // the function of an application, strict
-    ],
-    [
-        [false, true, true, false, true], // its argument, plain
-        [false, true, true, true, true], // its argument, strict
-    ],
-    [
-        [false, true, true, true, true], // the body of a named function, plain
-        [false, true, true, true, true], // the body of a named function, strict
-    ],
-    [
-        [false, false, true, true, true], // the body of an ascription, plain
-        [false, false, true, true, true], // the body of an ascription, strict
-    ],
-    [
-        [false, false, false, false, false], // a part of a pair, plain
-        [false, false, false, false, false], // a part of a pair, strict
-    ],
-    [
-        [false, false, false, false, false], // within a function, a case or a let, plain
-        [false, false, false, false, true], // within a function, a case or a let, strict
-    ],
-];
-
-// Whether the term of record `n` is bracketed in a position, by the table that is lent.
-fn is_bracketed(brackets: &Brackets, records: &[u16], n: usize, position: u8, style: Style) -> bool
-    requires { ⌜ now brackets ≡ bracketTable ⌝ }
+// Whether the term of record `n` is bracketed in a position.
+fn is_bracketed(records: &[u16], n: usize, position: u8, style: Style) -> bool
     requires { ⌜ (recordSize * (n + 1) ≤ length (now records)) × (position < 6) ⌝ }
     ensures { λ r. ⌜ ((f : ℕ → Name) (props : ℕ → Prop ℕ) →
-        r ≡ isBracketed (getD positions position partOf) style (form (renameTerm f (termAt props (now (records .entry)) n)))) ⌝ }
+        r ≡ isBracketed (positionOf position) style (formAt f props (now (records .entry)) n)) ⌝ }
 {
-    let row = row_of(style);
+    let brackets = brackets_of(position, style);
     let column = form_of(kind_at(records, n));
-    brackets[position as usize][row][column]
+    brackets[column]
 }
 
 // The format of each kind, in the order of the kinds, up to the full stop. A digit stands for the name in that number of the
@@ -183,30 +182,34 @@ const FORMATS: Formats = [
     *b"sorry...........................",
 ];
 
+// What the printing of a term goes by: where the names and the propositions lie, the style, and whether bytes are written.
+pub struct Printer {
+    pub vocabulary: Vocabulary,
+    pub style: Style,
+    pub write: bool,
+}
+
 // The label of record `n`: a proposition or a datatype.
 fn put_label(
     out: &mut [u8],
     to: usize,
     records: &[u16],
     n: usize,
-    code: &[u8],
+    bytes: &[u8],
+    v: Vocabulary,
     ends: &[u16],
-    names: usize,
-    pairs: &[u8],
-    text: &[u8],
     write: bool,
 ) -> usize
-    requires { ⌜ PrintableTerm (now records) n names (now code) (now ends) (now pairs) (now text) ⌝ }
-    requires { ⌜ LabelReady names (now code) (now ends) (now records) n ⌝ }
-    ensures { λ r. ⌜ Wrote (displayLabel (renameLabel (marked (now (pairs .entry)) (now (text .entry)))
-        (labelOf (propAt names (now (code .entry))) (fieldAt (now (records .entry)) n 3) (fieldAt (now (records .entry)) n 4))))
+    requires { ⌜ PrintableTerm (now records) n (now bytes) v (now ends) ⌝ }
+    requires { ⌜ LabelReady (now bytes) v (now ends) (now records) n ⌝ }
+    ensures { λ r. ⌜ Wrote (labelText (now (bytes .entry)) v (now (records .entry)) n)
         write (now (out .entry)) to (now (out .exit)) r ⌝ }
 {
     let label = field(records, n, 4);
     if field(records, n, 3) == DATATYPE {
-        return put_name(out, to, pairs, text, label, write);
+        return put_all(out, to, name(bytes, v, label), write);
     }
-    print(out, to, code, ends, pairs, text, names, label, write)
+    prop::print(out, to, bytes, v, ends, label, write)
 }
 
 // The label of the parameter of record `n`, if it has one, after a colon.
@@ -215,35 +218,21 @@ fn put_parameter_label(
     to: usize,
     records: &[u16],
     n: usize,
-    code: &[u8],
+    bytes: &[u8],
+    v: Vocabulary,
     ends: &[u16],
-    names: usize,
-    pairs: &[u8],
-    text: &[u8],
     write: bool,
 ) -> usize
-    requires { ⌜ PrintableTerm (now records) n names (now code) (now ends) (now pairs) (now text) ⌝ }
-    requires { ⌜ ((fieldAt (now records) n 3 ≡ 0 → ⊥) → LabelReady names (now code) (now ends) (now records) n) ⌝ }
-    ensures { λ r. ⌜ Wrote (displayParameterLabel (renameParameterLabel (marked (now (pairs .entry)) (now (text .entry)))
-        (parameterLabel (propAt names (now (code .entry))) (fieldAt (now (records .entry)) n 3) (fieldAt (now (records .entry)) n 4))))
+    requires { ⌜ PrintableTerm (now records) n (now bytes) v (now ends) ⌝ }
+    requires { ⌜ ((fieldAt (now records) n 3 ≡ 0 → ⊥) → LabelReady (now bytes) v (now ends) (now records) n) ⌝ }
+    ensures { λ r. ⌜ Wrote (parameterLabelText (now (bytes .entry)) v (now (records .entry)) n)
         write (now (out .entry)) to (now (out .exit)) r ⌝ }
 {
     if field(records, n, 3) == NO_LABEL {
         return to;
     }
     let colon = put_all(out, to, b": ", write);
-    put_label(
-        out,
-        colon,
-        records,
-        n,
-        code,
-        ends,
-        names,
-        pairs,
-        text,
-        write,
-    )
+    put_label(out, colon, records, n, bytes, v, ends, write)
 }
 
 // A bracket, if there is one.
@@ -272,21 +261,15 @@ fn unascribed(records: &[u16], n: usize) -> usize
 }
 
 // Whether the body of an ascription is bracketed.
-fn is_body_bracketed(
-    brackets: &Brackets,
-    records: &[u16],
-    n: usize,
-    body: usize,
-    style: Style,
-) -> bool
-    requires { ⌜ now brackets ≡ bracketTable ⌝ }
+fn is_body_bracketed(records: &[u16], n: usize, body: usize, style: Style) -> bool
     requires { ⌜ recordSize * (body + 1) ≤ length (now records) ⌝ }
-    ensures { λ r. ⌜ ((f : ℕ → Name) (props : ℕ → Prop ℕ) → r ≡ bodyBracketed f props (now (records .entry)) n body style) ⌝ }
+    ensures { λ r. ⌜ ((f : ℕ → Name) (props : ℕ → Prop ℕ) →
+        r ≡ bodyBracketed f props (now (records .entry)) n body style) ⌝ }
 {
     if body == n {
         return false;
     }
-    is_bracketed(brackets, records, body, ASCRIBED_BY, style)
+    is_bracketed(records, body, ASCRIBED_BY, style)
 }
 
 // What stands after the body of an ascription: a colon and its label.
@@ -296,99 +279,67 @@ fn put_ascription(
     records: &[u16],
     n: usize,
     body: usize,
-    code: &[u8],
+    bytes: &[u8],
+    v: Vocabulary,
     ends: &[u16],
-    names: usize,
-    pairs: &[u8],
-    text: &[u8],
     write: bool,
 ) -> usize
-    requires { ⌜ PrintableTerm (now records) n names (now code) (now ends) (now pairs) (now text) ⌝ }
-    requires { ⌜ ((body ≡ n → ⊥) → LabelReady names (now code) (now ends) (now records) n) ⌝ }
-    ensures { λ r. ⌜ Wrote (afterBody (marked (now (pairs .entry)) (now (text .entry))) (propAt names (now (code .entry))) (now (records .entry)) n body)
+    requires { ⌜ PrintableTerm (now records) n (now bytes) v (now ends) ⌝ }
+    requires { ⌜ ((body ≡ n → ⊥) → LabelReady (now bytes) v (now ends) (now records) n) ⌝ }
+    ensures { λ r. ⌜ Wrote (afterBody (now (bytes .entry)) v (now (records .entry)) n body)
         write (now (out .entry)) to (now (out .exit)) r ⌝ }
 {
     if body == n {
         return to;
     }
     let colon = put_all(out, to, b": ", write);
-    put_label(
-        out,
-        colon,
-        records,
-        n,
-        code,
-        ends,
-        names,
-        pairs,
-        text,
-        write,
-    )
+    put_label(out, colon, records, n, bytes, v, ends, write)
 }
 
 // Part `k` of record `n`, one of A to I, in brackets where its position asks for them.
 fn part(
     out: &mut [u8],
     to: usize,
+    k: usize,
     formats: &Formats,
-    brackets: &Brackets,
     records: &[u16],
     n: usize,
-    k: usize,
-    style: Style,
-    code: &[u8],
+    bytes: &[u8],
     ends: &[u16],
-    names: usize,
-    pairs: &[u8],
-    text: &[u8],
-    write: bool,
+    p: Printer,
 ) -> usize
     requires { ⌜ k < 9 ⌝ }
-    requires { ⌜ FormatTable (now formats) × (now brackets ≡ bracketTable) ⌝ }
-    requires { ⌜ PrintableTerm (now records) n names (now code) (now ends) (now pairs) (now text) ⌝ }
-    requires { ⌜ ItemReady names (now code) (now ends) (now records) n (part k) ⌝ }
-    ensures { λ r. ⌜ Wrote (recordItem style names (now (code .entry)) (now (pairs .entry)) (now (text .entry)) (now (records .entry)) n (part k))
-        write (now (out .entry)) to (now (out .exit)) r ⌝ }
+    requires { ⌜ FormatTable (now formats) ⌝ }
+    requires { ⌜ PrintableTerm (now records) n (now bytes) (p .vocabulary) (now ends) ⌝ }
+    requires { ⌜ ItemReady (now bytes) (p .vocabulary) (now ends) (now records) n (part k) ⌝ }
+    ensures { λ r. ⌜ Wrote
+        (recordItem (now (bytes .entry)) (p .vocabulary) (now (records .entry)) n (p .style) (part k))
+        (p .write) (now (out .entry)) to (now (out .exit)) r ⌝ }
 {
-    let number = field(records, n, PART_FIELDS[k] as usize);
+    let number = field(records, n, part_field(k));
     if n <= number {
-        return put_all(out, to, b"()", write);
+        return put_all(out, to, b"()", p.write);
     }
-    let bracketed = is_bracketed(brackets, records, number, PART_POSITIONS[k], style);
+    let style = p.style;
+    let bracketed = is_bracketed(records, number, part_position(k), style);
     let body = unascribed(records, number);
-    let inner = is_body_bracketed(brackets, records, number, body, style);
-    let open = put_bracket(out, to, b'(', bracketed, write);
-    let start = put_bracket(out, open, b'(', inner, write);
-    let end = print_node(
-        out,
-        start,
-        formats,
-        brackets,
-        records,
-        body,
-        style,
-        code,
-        ends,
-        names,
-        pairs,
-        text,
-        write,
-    );
-    let close = put_bracket(out, end, b')', inner, write);
+    let inner = is_body_bracketed(records, number, body, style);
+    let open = put_bracket(out, to, b'(', bracketed, p.write);
+    let start = put_bracket(out, open, b'(', inner, p.write);
+    let end = print_node(out, start, formats, records, body, bytes, ends, p);
+    let close = put_bracket(out, end, b')', inner, p.write);
     let labelled = put_ascription(
         out,
         close,
         records,
         number,
         body,
-        code,
+        bytes,
+        p.vocabulary,
         ends,
-        names,
-        pairs,
-        text,
-        write,
+        p.write,
     );
-    put_bracket(out, labelled, b')', bracketed, write)
+    put_bracket(out, labelled, b')', bracketed, p.write)
 }
 
 // Whether a byte lies from the first to the last of a run.
@@ -407,78 +358,54 @@ fn put_item(
     to: usize,
     b: u8,
     formats: &Formats,
-    brackets: &Brackets,
     records: &[u16],
     n: usize,
-    style: Style,
-    code: &[u8],
+    bytes: &[u8],
     ends: &[u16],
-    names: usize,
-    pairs: &[u8],
-    text: &[u8],
-    write: bool,
+    p: Printer,
 ) -> usize
-    requires { ⌜ FormatTable (now formats) × (now brackets ≡ bracketTable) ⌝ }
-    requires { ⌜ PrintableTerm (now records) n names (now code) (now ends) (now pairs) (now text) ⌝ }
-    requires { ⌜ ItemReady names (now code) (now ends) (now records) n (itemOf b) ⌝ }
-    ensures { λ r. ⌜ Wrote (recordItem style names (now (code .entry)) (now (pairs .entry)) (now (text .entry)) (now (records .entry)) n (itemOf b))
-        write (now (out .entry)) to (now (out .exit)) r ⌝ }
+    requires { ⌜ FormatTable (now formats) ⌝ }
+    requires { ⌜ PrintableTerm (now records) n (now bytes) (p .vocabulary) (now ends) ⌝ }
+    requires { ⌜ ItemReady (now bytes) (p .vocabulary) (now ends) (now records) n (itemOf b) ⌝ }
+    ensures { λ r. ⌜ Wrote
+        (recordItem (now (bytes .entry)) (p .vocabulary) (now (records .entry)) n (p .style) (itemOf b))
+        (p .write) (now (out .entry)) to (now (out .exit)) r ⌝ }
 {
     if !is_between(b, b'1', b'M') {
-        return put(out, to, b, write);
+        return put(out, to, b, p.write);
     }
     if is_between(b, b'1', b'5') {
-        let name = field(records, n, (b - b'0') as usize);
-        return put_name(out, to, pairs, text, name, write);
+        let number = field(records, n, (b - b'0') as usize);
+        return put_all(out, to, name(bytes, p.vocabulary, number), p.write);
     }
     if is_between(b, b'A', b'I') {
         let k = (b - b'A') as usize;
-        return part(
-            out,
-            to,
-            formats,
-            brackets,
-            records,
-            n,
-            k,
-            style,
-            code,
-            ends,
-            names,
-            pairs,
-            text,
-            write,
-        );
+        return part(out, to, k, formats, records, n, bytes, ends, p);
     }
     if b == b'L' {
-        return put_parameter_label(out, to, records, n, code, ends, names, pairs, text, write);
+        return put_parameter_label(out, to, records, n, bytes, p.vocabulary, ends, p.write);
     }
     if b == b'M' {
-        return put_label(out, to, records, n, code, ends, names, pairs, text, write);
+        return put_label(out, to, records, n, bytes, p.vocabulary, ends, p.write);
     }
-    put(out, to, b, write)
+    put(out, to, b, p.write)
 }
 
-// The term of record `n`, by tables that are lent, since a constant is laid down anew wherever it is named.
+// The term of record `n`, by a table of formats that is lent, since a constant is laid down anew wherever it is named.
 fn print_node(
     out: &mut [u8],
     to: usize,
     formats: &Formats,
-    brackets: &Brackets,
     records: &[u16],
     n: usize,
-    style: Style,
-    code: &[u8],
+    bytes: &[u8],
     ends: &[u16],
-    names: usize,
-    pairs: &[u8],
-    text: &[u8],
-    write: bool,
+    p: Printer,
 ) -> usize
-    requires { ⌜ FormatTable (now formats) × (now brackets ≡ bracketTable) ⌝ }
-    requires { ⌜ PrintableTerm (now records) n names (now code) (now ends) (now pairs) (now text) ⌝ }
-    ensures { λ r. ⌜ Wrote (displayTerm style (renameTerm (marked (now (pairs .entry)) (now (text .entry)))
-        (termAt (propAt names (now (code .entry))) (now (records .entry)) n))) write (now (out .entry)) to (now (out .exit)) r ⌝ }
+    requires { ⌜ FormatTable (now formats) ⌝ }
+    requires { ⌜ PrintableTerm (now records) n (now bytes) (p .vocabulary) (now ends) ⌝ }
+    ensures { λ r. ⌜ Wrote (termText (p .style) (now (bytes .entry)) (p .vocabulary) (now (records .entry)) n)
+        (p .write) (now (out .entry)) to (now (out .exit)) r ⌝ }
 {
     let kind = kind_at(records, n);
     let mut at = to;
@@ -488,22 +415,7 @@ fn print_node(
         if b == b'.' {
             return at;
         }
-        at = put_item(
-            out,
-            at,
-            b,
-            formats,
-            brackets,
-            records,
-            n,
-            style,
-            code,
-            ends,
-            names,
-            pairs,
-            text,
-            write,
-        );
+        at = put_item(out, at, b, formats, records, n, bytes, ends, p);
         i += 1;
     }
     at
@@ -515,33 +427,21 @@ pub fn print_term(
     to: usize,
     records: &[u16],
     n: usize,
-    style: Style,
-    code: &[u8],
+    bytes: &[u8],
+    v: Vocabulary,
     ends: &[u16],
-    names: usize,
-    pairs: &[u8],
-    text: &[u8],
+    style: Style,
     write: bool,
 ) -> usize
-    requires { ⌜ PrintableTerm (now records) n names (now code) (now ends) (now pairs) (now text) ⌝ }
-    ensures { λ r. ⌜ Wrote (displayTerm style (renameTerm (marked (now (pairs .entry)) (now (text .entry)))
-        (termAt (propAt names (now (code .entry))) (now (records .entry)) n))) write (now (out .entry)) to (now (out .exit)) r ⌝ }
+    requires { ⌜ PrintableTerm (now records) n (now bytes) v (now ends) ⌝ }
+    ensures { λ r. ⌜ Wrote (termText style (now (bytes .entry)) v (now (records .entry)) n)
+        write (now (out .entry)) to (now (out .exit)) r ⌝ }
 {
     let formats = FORMATS;
-    let brackets = BRACKETS;
-    print_node(
-        out,
-        to,
-        &formats,
-        &brackets,
-        records,
-        n,
+    let p = Printer {
+        vocabulary: v,
         style,
-        code,
-        ends,
-        names,
-        pairs,
-        text,
         write,
-    )
+    };
+    print_node(out, to, &formats, records, n, bytes, ends, p)
 }

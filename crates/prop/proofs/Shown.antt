@@ -1,7 +1,7 @@
 -- How the strength and the text of a proposition follow from its byte in front and from its parts.
 use Prim.Native.Nat.{ℕ, _+_, _<_}
 use mathlib.Core.Path.{_≡_, refl, sym, ap, _∙_}
-use mathlib.Core.Bool.{true, false, cond}
+use mathlib.Core.Bool.{Bool, true, false, cond}
 use mathlib.Core.List.{List, [], _∷_, _++_, append-assoc}
 use native.Mathlib.Omega.{arith}
 use lib.ListN.{getD}
@@ -13,11 +13,19 @@ use Rattle.definitions.specs.Prop.{Prop, True, False, Binary, Atom, Quantified,
 use Rattle.definitions.specs.Sheet.{numberAt}
 use Rattle.definitions.specs.Display.{wrap, isNegation, connectivePrecedence, precedence, wrapsLeft, wrapsRight, connectiveText, quantifierText, displayProp}
 use Rattle.definitions.proofs.Connectives.{eqConnective-true}
+use Rattle.output.specs.Wrote.{Wrote}
 use Rattle.prefix_code.proofs.Heads.{connective-byte, quantifier-byte}
 use Rattle.prefix_code.specs.PropAt.{propAt}
 use Rattle.prop.specs.Ends.{Known}
 use Rattle.prop.specs.Printing.{sign}
 use Rattle.prop.proofs.Parts.{headByte, head-byte, BinaryParts, binary-parts, QuantifiedParts, quantified-parts}
+
+-- a number that is below, and a text that was written, by what they equal
+pub below-as : {a b n : ℕ} → a ≡ b → b < n → a < n
+below-as e h = omega arith
+
+pub written-as : {s t before after : List ℕ} {write : Bool} {to next : ℕ} → s ≡ t → Wrote s write before to after next → Wrote t write before to after next
+written-as e w = rw e at w
 
 -- The signs of the connectives and quantifiers.
 pub connective-sign : (c : Connective) → utf8 " " ++ (sign (connectiveByte c) ++ utf8 " ") ≡ connectiveText c

@@ -3,24 +3,24 @@ use number::number_at;
 use number::pair_offset;
 use output::put;
 use output::put_all;
-use output::put_name;
 use prefix_code::head_end;
 use prefix_code::parameter_end;
 use prefix_code::parts_after;
+use vocabulary::Vocabulary;
+use vocabulary::code_of;
+use vocabulary::name;
 ghost use mathlib.Core.Path.{_≡_};
-ghost use mathlib.Core.List.{_++_};
 ghost use Prim.Native.Nat.{ℕ, _<_};
 ghost use lib.Dec.{ltb};
-ghost use Rattle.definitions.specs.Utf8.{utf8};
 ghost use Rattle.definitions.specs.Name.{Name};
 ghost use Rattle.definitions.specs.Prop.{Connective, connectiveByte, Quantifier, quantifierByte, renameProp};
-ghost use Rattle.definitions.specs.Sheet.{pairOffset, marked};
-ghost use Rattle.definitions.specs.Display.{wrap, wrapsLeft, wrapsRight, connectiveText, quantifierText, displayProp};
-ghost use Rattle.number.specs.Pairs.{NameWithin};
+ghost use Rattle.definitions.specs.Sheet.{pairOffset};
+ghost use Rattle.definitions.specs.Display.{wrapsLeft, wrapsRight, connectiveText};
 ghost use Rattle.output.specs.Wrote.{Wrote};
 ghost use Rattle.prefix_code.specs.PropAt.{propAt};
+ghost use Rattle.vocabulary.specs.Vocabulary.{nameIn, Names};
 ghost use Rattle.prop.specs.Ends.{Known, Fillable, Filled, AllFillable};
-ghost use Rattle.prop.specs.Printing.{namedProp, AtomPrintable, Printable, Legible, sign};
+ghost use Rattle.prop.specs.Printing.{quantifierHead, propText, partText, AtomPrintable, Printable, Legible, sign};
 
 // Head bytes.
 const TRUE: u8 = 0;
@@ -60,7 +60,8 @@ pub fn fill_ends(code: &[u8], at: usize, names: usize, ends: &mut [u16]) -> usiz
 // The same for the propositions of a sheet.
 pub fn fill_all_ends(pairs: &[u8], code: &[u8], count: usize, names: usize, ends: &mut [u16])
     requires { ⌜ AllFillable names (now pairs) (now code) count (now ends) ⌝ }
-    ensures { λ r. ⌜ ((i : ℕ) → i < count → Known names (now (code .entry)) (now (ends .exit)) (pairOffset (now (pairs .entry)) i)) ⌝ }
+    ensures { λ r. ⌜ ((i : ℕ) → i < count →
+        Known names (now (code .entry)) (now (ends .exit)) (pairOffset (now (pairs .entry)) i)) ⌝ }
 {
     let mut i = 0;
     while i < count {
@@ -96,7 +97,8 @@ pub fn precedence(code: &[u8], ends: &[u16], at: usize) -> usize
 // How strongly a connective's left side must bind to stand without brackets.
 fn left_strength(head: u8) -> usize
     requires { ⌜ head < 5 ⌝ }
-    ensures { λ r. ⌜ ((c : Connective) (strength : ℕ) → head ≡ connectiveByte c → ltb strength r ≡ wrapsLeft c strength) ⌝ }
+    ensures { λ r. ⌜ ((c : Connective) (strength : ℕ) → head ≡ connectiveByte c →
+        ltb strength r ≡ wrapsLeft c strength) ⌝ }
 {
     match head {
         AND => 4, // ∧ and ∨ associate to the left
@@ -108,7 +110,8 @@ fn left_strength(head: u8) -> usize
 // The same for its right side.
 fn right_strength(head: u8) -> usize
     requires { ⌜ head < 5 ⌝ }
-    ensures { λ r. ⌜ ((c : Connective) (strength : ℕ) → head ≡ connectiveByte c → ltb strength r ≡ wrapsRight c strength) ⌝ }
+    ensures { λ r. ⌜ ((c : Connective) (strength : ℕ) → head ≡ connectiveByte c →
+        ltb strength r ≡ wrapsRight c strength) ⌝ }
 {
     match head {
         AND => 5, // ∧ and ∨ associate to the left
@@ -159,42 +162,32 @@ fn put_quantifier(
     out: &mut [u8],
     to: usize,
     head: u8,
-    pairs: &[u8],
-    text: &[u8],
+    bytes: &[u8],
+    v: Vocabulary,
     object: usize,
     datatype: usize,
     write: bool,
 ) -> usize
     requires { ⌜ head < 8 ⌝ }
-    requires { ⌜ NameWithin (now pairs) (now text) object ⌝ }
-    requires { ⌜ NameWithin (now pairs) (now text) datatype ⌝ }
+    requires { ⌜ Names (now bytes) v object × Names (now bytes) v datatype ⌝ }
     ensures { λ r. ⌜ ((q : Quantifier) → head ≡ quantifierByte q →
-        Wrote (quantifierText q ++ (marked (now (pairs .entry)) (now (text .entry)) object ++ (utf8 ":" ++
-        (marked (now (pairs .entry)) (now (text .entry)) datatype ++ utf8 ". ")))) write (now (out .entry)) to (now (out .exit)) r) ⌝ }
+        Wrote (quantifierHead (nameIn (now (bytes .entry)) v) q object datatype)
+        write (now (out .entry)) to (now (out .exit)) r) ⌝ }
 {
     let signed = put_sign(out, to, head, write);
-    let bound = put_name(out, signed, pairs, text, object, write);
+    let bound = put_all(out, signed, name(bytes, v, object), write);
     let colon = put(out, bound, b':', write);
-    let typed = put_name(out, colon, pairs, text, datatype, write);
+    let typed = put_all(out, colon, name(bytes, v, datatype), write);
     put_all(out, typed, b". ", write)
 }
 
 // An atom with its parameters.
-fn put_atom(
-    out: &mut [u8],
-    to: usize,
-    code: &[u8],
-    pairs: &[u8],
-    text: &[u8],
-    names: usize,
-    at: usize,
-    write: bool,
-) -> usize
-    requires { ⌜ AtomPrintable names (now code) (now pairs) (now text) at ⌝ }
-    ensures { λ r. ⌜ Wrote (displayProp (namedProp names (now (code .entry)) (now (pairs .entry)) (now (text .entry)) at))
-        write (now (out .entry)) to (now (out .exit)) r ⌝ }
+fn put_atom(out: &mut [u8], to: usize, bytes: &[u8], v: Vocabulary, at: usize, write: bool) -> usize
+    requires { ⌜ AtomPrintable (now bytes) v at ⌝ }
+    ensures { λ r. ⌜ Wrote (propText (now (bytes .entry)) v at) write (now (out .entry)) to (now (out .exit)) r ⌝ }
 {
-    let named = put_name(out, to, pairs, text, number_at(code, at + 1), write);
+    let code = code_of(bytes, v);
+    let named = put_all(out, to, name(bytes, v, number_at(code, at + 1)), write);
     let mut needed = code[at + 3];
     if needed == 0 {
         return named;
@@ -202,8 +195,8 @@ fn put_atom(
     let mut end = put(out, named, b'(', write);
     let mut i = at + 4;
     while 0 < needed {
-        end = put_name(out, end, pairs, text, number_at(code, i + 1), write);
-        i = parameter_end(code, i, names);
+        end = put_all(out, end, name(bytes, v, number_at(code, i + 1)), write);
+        i = parameter_end(code, i, v.name_count);
         needed -= 1;
         if 0 < needed {
             end = put_all(out, end, b", ", write);
@@ -216,68 +209,62 @@ fn put_atom(
 fn part(
     out: &mut [u8],
     to: usize,
-    code: &[u8],
+    bytes: &[u8],
+    v: Vocabulary,
     ends: &[u16],
-    pairs: &[u8],
-    text: &[u8],
-    names: usize,
     at: usize,
     least: usize,
     write: bool,
 ) -> usize
-    requires { ⌜ Printable names (now code) (now ends) (now pairs) (now text) at ⌝ }
-    ensures { λ r. ⌜ Wrote
-        (wrap (ltb (Rattle.definitions.specs.Display.precedence (namedProp names (now (code .entry)) (now (pairs .entry)) (now (text .entry)) at)) least)
-        (displayProp (namedProp names (now (code .entry)) (now (pairs .entry)) (now (text .entry)) at)))
+    requires { ⌜ Printable (now bytes) v (now ends) at ⌝ }
+    ensures { λ r. ⌜ Wrote (partText (now (bytes .entry)) v at least)
         write (now (out .entry)) to (now (out .exit)) r ⌝ }
 {
-    if precedence(code, ends, at) < least {
+    if precedence(code_of(bytes, v), ends, at) < least {
         let start = put(out, to, b'(', write);
-        let end = print(out, start, code, ends, pairs, text, names, at, write);
+        let end = print(out, start, bytes, v, ends, at, write);
         return put(out, end, b')', write);
     }
-    print(out, to, code, ends, pairs, text, names, at, write)
+    print(out, to, bytes, v, ends, at, write)
 }
 
 // The text of the proposition at `at`.
 pub fn print(
     out: &mut [u8],
     to: usize,
-    code: &[u8],
+    bytes: &[u8],
+    v: Vocabulary,
     ends: &[u16],
-    pairs: &[u8],
-    text: &[u8],
-    names: usize,
     at: usize,
     write: bool,
 ) -> usize
-    requires { ⌜ Printable names (now code) (now ends) (now pairs) (now text) at ⌝ }
-    ensures { λ r. ⌜ Wrote (displayProp (namedProp names (now (code .entry)) (now (pairs .entry)) (now (text .entry)) at))
-        write (now (out .entry)) to (now (out .exit)) r ⌝ }
+    requires { ⌜ Printable (now bytes) v (now ends) at ⌝ }
+    ensures { λ r. ⌜ Wrote (propText (now (bytes .entry)) v at) write (now (out .entry)) to (now (out .exit)) r ⌝ }
 {
+    let code = code_of(bytes, v);
     let head = code[at];
     if head < AND {
         return put_sign(out, to, head, write);
     }
     if head == ATOM {
-        return put_atom(out, to, code, pairs, text, names, at, write);
+        return put_atom(out, to, bytes, v, at, write);
     }
     if ATOM < head {
         let object = number_at(code, at + 1);
         let datatype = number_at(code, at + 3);
-        let body = put_quantifier(out, to, head, pairs, text, object, datatype, write);
-        return print(out, body, code, ends, pairs, text, names, at + 5, write);
+        let body = put_quantifier(out, to, head, bytes, v, object, datatype, write);
+        return print(out, body, bytes, v, ends, at + 5, write);
     }
     let left = at + 1;
     if precedence(code, ends, at) == ATOM_STRENGTH {
         let least = ATOM_STRENGTH;
         let not = put_all(out, to, b"\xC2\xAC", write);
-        return part(out, not, code, ends, pairs, text, names, left, least, write);
+        return part(out, not, bytes, v, ends, left, least, write);
     }
     let least = left_strength(head);
-    let end = part(out, to, code, ends, pairs, text, names, left, least, write);
+    let end = part(out, to, bytes, v, ends, left, least, write);
     let to = put_connective(out, end, head, write);
     let right = ends[left] as usize;
     let least = right_strength(head);
-    part(out, to, code, ends, pairs, text, names, right, least, write)
+    part(out, to, bytes, v, ends, right, least, write)
 }

@@ -1,20 +1,43 @@
 -- The table of the ends of an accepted sheet's propositions: it can be filled in, and with it the term can be printed.
 use Prim.Native.Nat.{ℕ, _<_}
-use mathlib.Core.Path.{_≡_}
+use mathlib.Core.Path.{_≡_, ap, _∙_}
 use mathlib.Core.List.{List}
 use native.Mathlib.Omega.{arith}
 use lib.ListN.{length}
-use Rattle.definitions.specs.Sheet.{names, propositions, namePairs, textBytes, propositionPairs, codeBytes, codeLimit, pairOffset}
+use Rattle.definitions.specs.declared.Style.{Style}
+use Rattle.definitions.specs.Sheet.{names, propositions, namePairs, propositionPairs, codeBytes, codeLimit, pairOffset, nameOf, marked}
+use Rattle.definitions.specs.Name.{Name}
+use Rattle.definitions.specs.Prop.{Prop}
+use Rattle.definitions.specs.Term.{renameTerm}
+use Rattle.definitions.specs.Display.{displayTerm}
 use Rattle.definitions.specs.Admission.{badCode}
 use Rattle.sheet.specs.declared.header.Sheet.{Sheet}
-use Rattle.sheet.specs.Header.{headerOf}
+use Rattle.prefix_code.specs.PropAt.{propAt}
+use Rattle.vocabulary.specs.declared.Vocabulary.{Vocabulary}
+use Rattle.vocabulary.specs.Vocabulary.{textIn, codeIn, nameIn, propIn}
+use Rattle.sheet.specs.Header.{headerOf, vocabularyOf}
 use Rattle.sheet.proofs.Slices.{lengths}
-use Rattle.sheet.proofs.Admitted.{AcceptedSheet, has-codes, name-within}
+use Rattle.sheet.proofs.Admitted.{AcceptedSheet, its-header, has-codes}
+use Rattle.sheet.proofs.NamesAndCode.{count-is, pairs-are, text-is, code-is, within, names-of}
 use Rattle.prop.specs.Ends.{Known, AllFillable}
-use Rattle.proof_term_display.specs.Printable.{PrintableTerm}
+use Rattle.proof_term.specs.Records.{termAt}
+use Rattle.proof_term.specs.Readable.{NamesBelow}
+use Rattle.proof_term_display.specs.Printable.{PrintableTerm, termText}
 use Rattle.sheet_term.specs.Held.{HeldTerm}
-use Rattle.text.specs.Declaring.{EndsKnown}
+use Rattle.text.specs.Declaring.{termOf, EndsKnown}
 use Rattle.text.proofs.Labels.{label-known}
+
+-- Of a term and of code, by equal counts, names and propositions:
+module _ {count names : ℕ} (counts : count ≡ names) where
+  below-by : (terms : List ℕ) (n : ℕ) {props these : ℕ → Prop ℕ} → props ≡ these → NamesBelow names (termAt these terms n) → NamesBelow count (termAt props terms n)
+  below-by terms n e h = rw (counts, e) h
+
+  known-by : {code l ends : List ℕ} {at : ℕ} → code ≡ l → Known names l ends at → Known count code ends at
+  known-by e k = rw (counts, e) k
+
+shown-by : (style : Style) (terms : List ℕ) (n : ℕ) {f g : ℕ → Name} {props these : ℕ → Prop ℕ} → f ≡ g → props ≡ these →
+    displayTerm style (renameTerm f (termAt props terms n)) ≡ displayTerm style (renameTerm g (termAt these terms n))
+shown-by style terms n e h = rw (e, h)
 
 module _ {s : List ℕ} {h : Sheet} (a : AcceptedSheet s h) where
   -- the ends of all propositions can be filled in
@@ -38,15 +61,32 @@ module _ {s : List ℕ} {h : Sheet} (a : AcceptedSheet s h) where
   unfolding headerOf
   ends-known known = record { known = rw (a .header) at known }
 
-  -- with that table the term can be printed
-  pub printable : {terms ends : List ℕ} {n : ℕ} → HeldTerm s terms n → EndsKnown s ends
-      → PrintableTerm terms n (h .names) (codeBytes s) ends (namePairs s) (textBytes s)
-  unfolding headerOf
-  printable term table = rw (a .header) (record {
-    held = term .held;
-    below = term .below;
-    labels = λ m h l.
-        let fits = term .labels m h l in
-        record { datatype = fits .datatype; proposition = λ no-datatype. label-known table (fits .proposition no-datatype) };
-    named = name-within (a .sheet);
-  })
+  -- the vocabulary's names and propositions are the sheet's
+  names-are : nameIn s (vocabularyOf h) ≡ nameOf s
+  unfolding nameIn nameOf
+  names-are = ap (λ pairs. marked pairs (textIn s (vocabularyOf h))) (pairs-are (its-header a)) ∙ ap (marked (namePairs s)) (text-is (its-header a))
+
+  props-are : propIn s (vocabularyOf h) ≡ propAt (names s) (codeBytes s)
+  unfolding propIn
+  props-are = ap (λ count. propAt count (codeIn s (vocabularyOf h))) (count-is (its-header a)) ∙ ap (propAt (names s)) (code-is (its-header a))
+
+  module _ {v : Vocabulary} (is : v ≡ vocabularyOf h) where
+    -- with that table the term can be printed
+    pub printable : {terms ends : List ℕ} {n : ℕ} → HeldTerm s terms n → EndsKnown s ends → PrintableTerm terms n s v ends
+    printable {terms} {n = n} term table =
+        let has = its-header a in
+        rw is (record {
+          held = term .held;
+          below = below-by (count-is has) terms n props-are (term .below);
+          labels = λ m h l.
+              let fits = term .labels m h l in
+              record {
+                datatype = λ e. rw (count-is has) (fits .datatype e);
+                proposition = λ no-datatype. known-by (count-is has) (code-is has) (label-known table (fits .proposition no-datatype));
+              };
+          within = within has;
+          named = λ i below. names-of a (rw (count-is has) at below);
+        })
+
+    pub term-shown : (style : Style) (terms : List ℕ) (n : ℕ) → termText style s v terms n ≡ displayTerm style (termOf s terms n)
+    term-shown style terms n = ap (λ w. termText style s w terms n) is ∙ shown-by style terms n names-are props-are

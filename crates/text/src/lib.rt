@@ -159,20 +159,15 @@ fn put_term(
     requires { ⌜ EndsKnown (now s) (now ends) ⌝ }
     ensures { λ r. ⌜ Wrote (displayTerm style (termOf (now (s .entry)) (now (terms .entry)) n)) write (now (out .entry)) to (now (out .exit)) r ⌝ }
 {
-    let code = code_bytes(s, h);
-    let pairs = name_pairs(s, h);
-    let text = text_bytes(s, h);
     print_term(
         out,
         to,
         terms,
         n,
-        style,
-        code,
+        s,
+        sheet::vocabulary(h),
         ends,
-        h.names,
-        pairs,
-        text,
+        style,
         write,
     )
 }

@@ -1,17 +1,29 @@
--- The table has what the rule gives, in the rows of the position, the row of the style and the column of the record's form.
-use mathlib.Core.Path.{sym, ap, _∙_}
+-- The row has what the rule gives, in the column of the record's form.
+use Prim.Native.Nat.{ℕ}
+use mathlib.Core.Path.{_≡_, sym, ap, _∙_}
+use mathlib.Core.Bool.{false}
 use mathlib.Core.List.{[]}
+use lib.ListN.{getD}
+use denote.Ref.{now}
 use borrow.Author.Needs.{needs}
-use Rattle.definitions.specs.Prop.{False}
-use Rattle.definitions.specs.Term.{Unit, renameTerm}
+use Rattle.definitions.specs.Name.{Name}
+use Rattle.definitions.specs.Prop.{Prop, False}
+use Rattle.definitions.specs.Term.{renameTerm}
 use Rattle.definitions.specs.Display.{form}
-use Rattle.proof_term_display.specs.Brackets.{column}
+use Rattle.proof_term_display.specs.Brackets.{column, formAt}
 use Rattle.proof_term_display.proofs.Tables.{column-below, bracket-rule}
 use Rattle.proof_term_display.proofs.is_bracketed.Statement.{statement}
 use Rattle.proof_term_display.proofs.is_bracketed.Tie as tie
 
-row-of-requires : tie.Need-row-of-requires
-row-of-requires c κs = search needs
+abbrev start : tie.After-form-of → tie.Start
+start c = c .before .before .before .before
+
+-- the column is that of the record's form
+form-is : (c : tie.After-form-of) (f : ℕ → Name) (props : ℕ → Prop ℕ) → c .form-of .result ≡ column (formAt f props (now (start c .args .records)) (start c .args .n))
+form-is c f props = c .form-of .ensures f props _ _ _ _ _ _ ∙ ap (λ t. column (form (renameTerm f t))) (sym (c .before .kind-at .ensures .holds props))
+
+brackets-of-requires : tie.Need-brackets-of-requires
+brackets-of-requires c κs = search needs
 
 kind-at-requires : tie.Need-kind-at-requires
 kind-at-requires c κs = search needs
@@ -19,37 +31,13 @@ kind-at-requires c κs = search needs
 form-of-requires : tie.Need-form-of-requires
 form-of-requires c κs = search needs
 
-mul-result : tie.Need-mul-result
-mul-result c = search needs
-
-mul-result-2 : tie.Need-mul-result-2
-mul-result-2 c = search needs
-
-index-1-result : tie.Need-index-1-result
-index-1-result c = search needs
-
-index-2-result : tie.Need-index-2-result
-index-2-result c = search needs
-
-index-3-result : tie.Need-index-3-result
-index-3-result c = rw (c .form-of .ensures (λ i. []) (λ i. False) (λ i. Unit) 0 0 0 0 0) (column-below _)
+array-read-result : tie.Need-array-read-result
+array-read-result c = rw (form-is c (λ i. []) (λ i. False)) (column-below _)
 
 returns : tie.Need-returns
-returns c = λ f props.
-    rw (c .before .before .before .before .before .pre .0)
-    (bracket-rule _ _ _ _ _ (c .before .before .before .before .before .pre .1 .1) (c .before .before .before .row-of .ensures .0) (c .before .before .before .row-of .ensures .1)
-    (c .before .form-of .ensures f props _ _ _ _ _ _ ∙ ap (λ t. column (form (renameTerm f t))) (sym (c .before .before .kind-at .ensures .holds props))))
+returns c = λ f props. ap (λ row. getD row (c .form-of .result) false) (c .before .before .brackets-of .ensures) ∙ bracket-rule (start c .args .position) _ (start c .args .style) _ (form-is c f props)
 
 pub is-bracketed-spec : {M : Type 1} → statement M
 is-bracketed-spec =
     tie.close
-    (tie.spec
-    row-of-requires
-    kind-at-requires
-    form-of-requires
-    mul-result
-    mul-result-2
-    index-1-result
-    index-2-result
-    index-3-result
-    returns)
+    (tie.spec brackets-of-requires kind-at-requires form-of-requires array-read-result returns)

@@ -1,15 +1,16 @@
--- The constants that are lent have the formats and the brackets, which antt computes over the whole tables.
+-- The constant that is lent has the formats, which antt computes over the whole table.
 use mathlib.Core.Path.{refl}
 use borrow.Author.Needs.{needs}
-use Rattle.definitions.specs.Display.{bracketsOf, isStrict, brackets, bracketed}
-use Rattle.proof_term_display.specs.Brackets.{isBracketed}
 use Rattle.proof_term_display.specs.Format.{itemOf, items, formats}
 use Rattle.proof_term_display.proofs.print_term.Statement.{statement}
 use Rattle.proof_term_display.proofs.print_term.Tie as tie
 
+abbrev start : tie.After-formats → tie.Start
+start c = c .before .before .before .before .before .before
+
 print-node-requires : tie.Need-print-node-requires
-unfolding itemOf items formats isBracketed bracketsOf isStrict brackets bracketed
-print-node-requires c κs = ((record { sizes = refl; shows = refl }, refl), c .before .before .before .before .before .before .before .before .before .pre)
+unfolding itemOf items formats
+print-node-requires c κs = (record { sizes = refl; shows = refl }, start c .pre)
 
 same-length : tie.Need-same-length
 same-length c = search needs

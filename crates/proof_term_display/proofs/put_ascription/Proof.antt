@@ -1,11 +1,20 @@
 -- Nothing is written after a record itself, and a colon and the label after the body of an ascription.
-use mathlib.Core.Path.{sym, _∙_}
 use borrow.Author.Tests.{eq-eqb, ne-eqb}
 use Rattle.output.proofs.Writing.{none, then}
 use Rattle.proof_term_display.specs.Ascriptions.{afterBody}
 use borrow.Author.Needs.{needs}
 use Rattle.proof_term_display.proofs.put_ascription.Statement.{statement}
 use Rattle.proof_term_display.proofs.put_ascription.Tie as tie
+
+-- back to the entry, over the colon and over the label
+abbrev start : tie.Else1 → tie.Start
+start c = c .before .before .before .before .before
+
+abbrev colon : tie.After-slice-known2 → tie.Else1
+colon c = c .before .before .before .before .before
+
+abbrev label : tie.After-slice-known3 → tie.After-slice-known2
+label c = c .before .before .before .before
 
 returns : tie.Need-returns
 unfolding afterBody
@@ -18,14 +27,19 @@ put-all-requires : tie.Need-put-all-requires
 put-all-requires c κs = search needs
 
 put-label-requires : tie.Need-put-label-requires
-put-label-requires c κs = let start = c .before .before .before .before .before .before .before .before .before .before .before .before .before in (start .pre .0, start .pre .1 (c .before .before .before .before .before .before .if1 .left))
+put-label-requires c κs =
+    let here = colon (c .before) in
+    let s = start here .pre in
+    (s .0, s .1 (here .if1 .left))
 
 same-length : tie.Need-same-length
 same-length c = search needs
 
 returns-2 : tie.Need-returns-2
 unfolding afterBody
-returns-2 c = rw (ne-eqb _ _ (c .before .before .before .before .before .before .before .before .before .if1 .left)) (then (c .before .before .before .before .before .before .put-all .ensures) (c .before .before .put-label .ensures))
+returns-2 c =
+    let colon-put = label c in
+    rw (ne-eqb _ _ (colon colon-put .if1 .left)) (then (colon-put .before .before .put-all .ensures) (c .before .before .put-label .ensures))
 
 pub put-ascription-spec : {M : Type 1} → statement M
 put-ascription-spec =

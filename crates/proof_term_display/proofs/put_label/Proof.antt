@@ -1,10 +1,36 @@
 -- A label of kind 2 is a datatype's name; any other is a proposition, which stands at the label's number.
-use Prim.Native.Nat.{_<_}
-use mathlib.Core.Path.{sym, _∙_}
+use mathlib.Core.Path.{_≡_, sym, ap, _∙_}
+use denote.Ref.{now}
 use borrow.Author.Needs.{needs}
+use Rattle.proof_term.specs.Records.{fieldAt}
+use Rattle.vocabulary.specs.Vocabulary.{nameIn, propIn}
+use Rattle.prop.proofs.Shown.{below-as, written-as}
 use Rattle.proof_term_display.proofs.Labels.{datatype-text, proposition-text}
 use Rattle.proof_term_display.proofs.put_label.Statement.{statement}
 use Rattle.proof_term_display.proofs.put_label.Tie as tie
+
+-- back over the label's two numbers, over a datatype's name and over a proposition
+abbrev start : tie.After-field2 → tie.Start
+start c = c .before .before .before .before .before .before
+
+abbrev datatype : tie.After-slice-known2 → tie.Then1
+datatype c = c .before .before .before .before .before
+
+abbrev proposition : tie.After-slice-known3 → tie.Else1
+proposition c = c .before .before .before .before
+
+-- the numbers are the record's
+kind-is : (c : tie.After-field2) → let s = start c .args in c .field2 .result ≡ fieldAt (now (s .records)) (s .n) 3
+kind-is c = c .field2 .ensures .0
+
+label-is : (c : tie.After-field2) → let s = start c .args in c .before .field .result ≡ fieldAt (now (s .records)) (s .n) 4
+label-is c = c .before .field .ensures .0
+
+is-datatype : (c : tie.Then1) → let s = start (c .before) .args in fieldAt (now (s .records)) (s .n) 3 ≡ 2
+is-datatype c = sym (kind-is (c .before)) ∙ c .if1 .taken
+
+no-datatype : (c : tie.Else1) → let s = start (c .before) .args in fieldAt (now (s .records)) (s .n) 3 ≡ 2 → ⊥
+no-datatype c = λ e. c .if1 .left (kind-is (c .before) ∙ e)
 
 field-requires : tie.Need-field-requires
 field-requires c κs = search needs
@@ -12,37 +38,43 @@ field-requires c κs = search needs
 field-requires-2 : tie.Need-field-requires-2
 field-requires-2 c κs = search needs
 
-put-name-requires : tie.Need-put-name-requires
-put-name-requires c κs =
-    let start = c .before .before .before .before .before .before .before .before .before .before in
-    let is-datatype = sym (c .before .before .field2 .ensures .0) ∙ c .before .if1 .taken in
-    let below : c .before .before .before .field .result < start .args .names = rw (c .before .before .before .field .ensures .0) (start .pre .1 .datatype is-datatype) in
-    let named = start .pre .0 .named _ below in
-    (named .present, named .ends)
+name-requires : tie.Need-name-requires
+name-requires c κs =
+    let here = c .before in
+    let s = start (here .before) in
+    s .pre .0 .named _ (below-as (label-is (here .before)) (s .pre .1 .datatype (is-datatype here)))
+
+put-all-requires : tie.Need-put-all-requires
+put-all-requires c κs = search needs
+
+returns : tie.Need-returns
+returns c =
+    let here = datatype c in
+    let s = start (here .before) .args in
+    let names = nameIn (now (s .bytes)) (s .v) in
+    let text = datatype-text names (propIn (now (s .bytes)) (s .v)) _ _ (is-datatype here) in
+    written-as (c .before .before .before .name .ensures ∙ ap names (label-is (here .before)) ∙ text) (c .before .before .put-all .ensures)
 
 same-length : tie.Need-same-length
 same-length c = search needs
 
-returns : tie.Need-returns
-returns c =
-    let is-datatype = sym (c .before .before .before .before .before .field2 .ensures .0) ∙ c .before .before .before .before .if1 .taken in
-    rw (← datatype-text _ _ _ _ is-datatype, ← c .before .before .before .before .before .before .field .ensures .0) (c .before .before .put-name .ensures)
-
 print-requires : tie.Need-print-requires
 print-requires c κs =
-    let start = c .before .before .before .before .before .before .before .before .before .before in
+    let here = c .before in
+    let s = start (here .before) .pre in
     record {
-      known = rw (c .before .before .before .field .ensures .0) (start .pre .1 .proposition (λ e. c .before .if1 .left (c .before .before .field2 .ensures .0 ∙ e)));
-      named = start .pre .0 .named;
+      within = s .0 .within;
+      known = rw (label-is (here .before)) (s .1 .proposition (no-datatype here));
+      named = s .0 .named;
     }
-
-same-length-2 : tie.Need-same-length-2
-same-length-2 c = search needs
 
 returns-2 : tie.Need-returns-2
 returns-2 c =
-    rw (← proposition-text _ _ _ _ (λ e. c .before .before .before .before .if1 .left (c .before .before .before .before .before .field2 .ensures .0 ∙ e)), ← c .before .before .before .before .before .before .field .ensures .0)
-    (c .before .before .print .ensures)
+    let here = proposition c in
+    rw (← (proposition-text _ _ _ _ (no-datatype here)), ← (label-is (here .before))) (c .before .before .print .ensures)
+
+same-length-2 : tie.Need-same-length-2
+same-length-2 c = search needs
 
 pub put-label-spec : {M : Type 1} → statement M
 put-label-spec =
@@ -50,7 +82,8 @@ put-label-spec =
     (tie.spec
     field-requires
     field-requires-2
-    put-name-requires
+    name-requires
+    put-all-requires
     same-length
     returns
     print-requires

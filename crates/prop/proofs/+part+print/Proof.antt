@@ -1,6 +1,6 @@
 -- The calls end by the position: a part starts further on, and `part` stands above `print` at the same one.
 use Prim.Native.Nat.{ℕ, _+_, _-_, _*_, _≤_, _<_}
-use mathlib.Core.Path.{_≡_, refl, sym, _∙_}
+use mathlib.Core.Path.{_≡_, refl, sym, ap, _∙_}
 use mathlib.Core.Bool.{true, false}
 use mathlib.Core.List.{List}
 use native.Mathlib.Omega.{arith}
@@ -8,14 +8,18 @@ use lib.ListN.{length, getD}
 use lib.Dec.{ltb}
 use denote.Ref.{now}
 use borrow.Author.Tests.{lt-ltb, le-ltb}
-use Rattle.definitions.specs.Sheet.{marked}
-use Rattle.definitions.specs.Display.{wrap}
+use Rattle.definitions.specs.Name.{Name}
+use Rattle.definitions.specs.Prop.{renameProp}
+use Rattle.definitions.specs.Sheet.{numberAt}
+use Rattle.definitions.specs.Display.{wrap, precedence}
 use Rattle.output.proofs.Writing.{same-length, then}
+use Rattle.prefix_code.specs.PropAt.{propAt}
+use Rattle.vocabulary.specs.Vocabulary.{codeIn, nameIn, propIn}
 use Rattle.prop.specs.Ends.{Known}
-use Rattle.prop.specs.Printing.{namedProp}
+use Rattle.prop.specs.Printing.{namedProp, sign}
 use Rattle.prefix_code.proofs.Reading.{inside}
 use Rattle.prop.proofs.Parts.{BinaryParts, QuantifiedParts, binary-parts, quantified-parts}
-use Rattle.prop.proofs.Shown.{leaf-text, quantified-text, negation-text, binary-text}
+use Rattle.prop.proofs.Shown.{below-as, leaf-text, quantified-text, negation-text, binary-text}
 use borrow.Fn.Kinds.{In}
 use borrow.Fn.PlainCycle.{Measures, is, falls, and}
 use Rattle.prop.proofs.part.Reads as part
@@ -34,6 +38,7 @@ use Rattle.prop.proofs.put_connective.Reads as put-connective-reads
 use Rattle.prop.proofs.put_quantifier.Reads as put-quantifier-reads
 use Rattle.prop.proofs.put_sign.Reads as put-sign-reads
 use Rattle.prop.proofs.right_strength.Reads as right-strength-reads
+use Rattle.vocabulary.proofs.code_of.Reads as code-of-reads
 use Rattle.prop.proofs.+part+print.{statement}
 use Rattle.prop.proofs.+part+print.Tie.{close}
 
@@ -44,39 +49,54 @@ bracketed {least = least} e h = rw (← e) (lt-ltb _ least h)
 bare : {strength p least : ℕ} → strength ≡ p → least ≤ strength → ltb p least ≡ false
 bare {least = least} e h = rw (← e) (le-ltb _ least h)
 
--- a head byte that is no leaf's, no atom's and no quantifier's is a connective's
-binary-here : {names : ℕ} {l ends : List ℕ} {at : ℕ} → Known names l ends at → 2 ≤ getD l at 0 → (getD l at 0 ≡ 5 → ⊥) → getD l at 0 ≤ 5
-    → BinaryParts names l ends at
-binary-here k low other high = binary-parts _ _ _ _ k low (omega arith)
+-- Of code that was read:
+module _ {code l : List ℕ} (read : code ≡ l) where
+  -- the head byte, and how strongly the proposition binds
+  head : (at : ℕ) → getD code at 0 ≡ getD l at 0
+  head at = ap (λ m. getD m at 0) read
 
-abbrev μ-part : Measures 5 part-kinds.ps ℕ
-μ-part κs a = 2 * (length (a .1 .1 .0 .now) - a .1 .1 .1 .1 .1 .1 .1 .0) + 1
+  strength-in : (f : ℕ → Name) (names at : ℕ) {r : ℕ} → r ≡ precedence (renameProp f (propAt names code at)) → r ≡ precedence (renameProp f (propAt names l at))
+  strength-in f names at e = rw read at e
 
-abbrev μ-print : Measures 5 print-kinds.ps ℕ
-μ-print κs a = 2 * (length (a .1 .1 .0 .now) - a .1 .1 .1 .1 .1 .1 .1 .0)
+  module _ {names : ℕ} {ends : List ℕ} {at : ℕ} (k : Known names l ends at) where
+    known-in : Known names code ends at
+    known-in = rw read k
 
-abbrev part-at : ℕ → In 5 part-kinds.ps
-part-at t = and 5 part-kinds.ps (is 5 part-kinds.ps μ-part t) part.Pre
+    -- a head byte that is no leaf's, no atom's and no quantifier's is a connective's
+    binary-here : 2 ≤ getD code at 0 → (getD code at 0 ≡ 5 → ⊥) → getD code at 0 ≤ 5 → BinaryParts names l ends at
+    binary-here low other high = binary-parts _ _ _ _ k (omega (arith, head at)) (omega (arith, head at))
 
-abbrev part-below : ℕ → In 5 part-kinds.ps
-part-below t = and 5 part-kinds.ps (falls 5 part-kinds.ps _<_ μ-part t) part.Pre
+    quantified-here : 5 < getD code at 0 → QuantifiedParts names l ends at
+    quantified-here low = quantified-parts _ _ _ _ k (omega (arith, head at))
 
-abbrev print-at : ℕ → In 5 print-kinds.ps
-print-at t = and 5 print-kinds.ps (is 5 print-kinds.ps μ-print t) print.Pre
+abbrev μ-part : Measures 3 part-kinds.ps ℕ
+μ-part κs a = 2 * (length (codeIn (a .1 .1 .0 .now) (a .1 .1 .1 .0)) - a .1 .1 .1 .1 .1 .0) + 1
 
-abbrev print-below : ℕ → In 5 print-kinds.ps
-print-below t = and 5 print-kinds.ps (falls 5 print-kinds.ps _<_ μ-print t) print.Pre
+abbrev μ-print : Measures 3 print-kinds.ps ℕ
+μ-print κs a = 2 * (length (codeIn (a .1 .1 .0 .now) (a .1 .1 .1 .0)) - a .1 .1 .1 .1 .1 .0)
+
+abbrev part-at : ℕ → In 3 part-kinds.ps
+part-at t = and 3 part-kinds.ps (is 3 part-kinds.ps μ-part t) part.Pre
+
+abbrev part-below : ℕ → In 3 part-kinds.ps
+part-below t = and 3 part-kinds.ps (falls 3 part-kinds.ps _<_ μ-part t) part.Pre
+
+abbrev print-at : ℕ → In 3 print-kinds.ps
+print-at t = and 3 print-kinds.ps (is 3 print-kinds.ps μ-print t) print.Pre
+
+abbrev print-below : ℕ → In 3 print-kinds.ps
+print-below t = and 3 print-kinds.ps (falls 3 print-kinds.ps _<_ μ-print t) print.Pre
 
 abbrev part-claims : ℕ → part-lts.Claims
-part-claims t = (precedence-reads.Asked, precedence-reads.Learnt, put-reads.Asked, put-reads.Learnt, print-below t, print.Post)
+part-claims t = (code-of-reads.Asked, code-of-reads.Learnt, precedence-reads.Asked, precedence-reads.Learnt, put-reads.Asked, put-reads.Learnt, print-below t, print.Post)
 
 abbrev print-claims : ℕ → print-lts.Claims
-print-claims t = (put-sign-reads.Asked, put-sign-reads.Learnt, put-atom-reads.Asked, put-atom-reads.Learnt, number-at-reads.Asked, number-at-reads.Learnt, put-quantifier-reads.Asked, put-quantifier-reads.Learnt, print-below t, print.Post, precedence-reads.Asked, precedence-reads.Learnt, put-all-reads.Asked, put-all-reads.Learnt, part-below t, part.Post, left-strength-reads.Asked, left-strength-reads.Learnt, put-connective-reads.Asked, put-connective-reads.Learnt, right-strength-reads.Asked, right-strength-reads.Learnt)
+print-claims t = (code-of-reads.Asked, code-of-reads.Learnt, put-sign-reads.Asked, put-sign-reads.Learnt, put-atom-reads.Asked, put-atom-reads.Learnt, number-at-reads.Asked, number-at-reads.Learnt, put-quantifier-reads.Asked, put-quantifier-reads.Learnt, print-below t, print.Post, precedence-reads.Asked, precedence-reads.Learnt, put-all-reads.Asked, put-all-reads.Learnt, part-below t, part.Post, left-strength-reads.Asked, left-strength-reads.Learnt, put-connective-reads.Asked, put-connective-reads.Learnt, right-strength-reads.Asked, right-strength-reads.Learnt)
 
 -- `part` by its places, likewise
 module _ (t : ℕ) where
-  abbrev part-entry : part-lts.After-shared-slice-known4 (part-claims t) (part-at t) part.Post → part-lts.Start (part-claims t) (part-at t) part.Post
-  part-entry c = c .before .before .before .before .before
+  abbrev part-entry : part-lts.After-code-of (part-claims t) (part-at t) part.Post → part-lts.Start (part-claims t) (part-at t) part.Post
+  part-entry c = c .before .before .before .before
 
   -- in brackets: back over the first one, over the text, and over the second one
   abbrev opening : part-lts.After-slice-known2 (part-claims t) (part-at t) part.Post → part-lts.Then1 (part-claims t) (part-at t) part.Post
@@ -89,11 +109,18 @@ module _ (t : ℕ) where
   closing c = c .before .before .before .before
 
   part-strength : (c : part-lts.After-precedence (part-claims t) (part-at t) part.Post) → let s = part-entry (c .before) .args in
-      c .precedence .result ≡ Rattle.definitions.specs.Display.precedence (namedProp (s .names) (now (s .code)) (now (s .pairs)) (now (s .text)) (s .at))
-  part-strength c = let s = part-entry (c .before) in c .precedence .ensures _ (marked (now (s .args .pairs)) (now (s .args .text))) (s .pre .1 .known)
+      c .precedence .result ≡ precedence (namedProp (now (s .bytes)) (s .v) (s .at))
+  unfolding propIn
+  part-strength c =
+      let s = part-entry (c .before) in
+      let read = c .before .code-of .ensures in
+      strength-in read (nameIn (now (s .args .bytes)) (s .args .v)) (s .args .v .«name_count») (s .args .at) (c .precedence .ensures _ _ (known-in read (s .pre .1 .known)))
+
+  part-code-of-requires : part-lts.Need-code-of-requires (part-claims t) (part-at t) part.Post
+  part-code-of-requires c κs = c .before .before .before .pre .1 .within
 
   part-precedence-requires : part-lts.Need-precedence-requires (part-claims t) (part-at t) part.Post
-  part-precedence-requires c κs = record { names = _; known = part-entry c .pre .1 .known }
+  part-precedence-requires c κs = record { names = _; known = known-in (c .code-of .ensures) (part-entry c .pre .1 .known) }
 
   part-put-requires : part-lts.Need-put-requires (part-claims t) (part-at t) part.Post
   part-put-requires c κs = tt
@@ -128,14 +155,14 @@ module _ (t : ℕ) where
 
 -- `print` by its places. Each name leads from a place back to an earlier one, as the code is read upwards.
 module _ (t : ℕ) where
-  abbrev entry : print-lts.After-shared-slice-known5 (print-claims t) (print-at t) print.Post → print-lts.Start (print-claims t) (print-at t) print.Post
-  entry c = c .before .before .before .before .before .before
+  abbrev entry : print-lts.After-shared-slice-known3 (print-claims t) (print-at t) print.Post → print-lts.Start (print-claims t) (print-at t) print.Post
+  entry c = c .before .before .before .before .before
 
   -- back over the tests of the byte in front: to a quantifier, and to a binary proposition
-  abbrev quantifier-tests : print-lts.Then3 (print-claims t) (print-at t) print.Post → print-lts.After-shared-slice-known5 (print-claims t) (print-at t) print.Post
+  abbrev quantifier-tests : print-lts.Then3 (print-claims t) (print-at t) print.Post → print-lts.After-shared-slice-known3 (print-claims t) (print-at t) print.Post
   quantifier-tests c = c .before .before .before
 
-  abbrev binary-tests : print-lts.Else3 (print-claims t) (print-at t) print.Post → print-lts.After-shared-slice-known5 (print-claims t) (print-at t) print.Post
+  abbrev binary-tests : print-lts.Else3 (print-claims t) (print-at t) print.Post → print-lts.After-shared-slice-known3 (print-claims t) (print-at t) print.Post
   binary-tests c = c .before .before .before
 
   -- back over the strength of a binary proposition
@@ -171,34 +198,63 @@ module _ (t : ℕ) where
   right-side c = c .before .before .before .before .before .before
 
   -- what is known at the entry, and past the tests of the byte in front
-  known : (c : print-lts.After-shared-slice-known5 (print-claims t) (print-at t) print.Post) → let s = entry c .args in Known (s .names) (now (s .code)) (now (s .ends)) (s .at)
+  known : (c : print-lts.After-shared-slice-known3 (print-claims t) (print-at t) print.Post) → let s = entry c .args in
+      Known (s .v .«name_count») (codeIn (now (s .bytes)) (s .v)) (now (s .ends)) (s .at)
   known c = entry c .pre .1 .known
 
-  quantified : (c : print-lts.Then3 (print-claims t) (print-at t) print.Post) → let s = entry (quantifier-tests c) .args in QuantifiedParts (s .names) (now (s .code)) (now (s .ends)) (s .at)
-  quantified c = quantified-parts _ _ _ _ (known (quantifier-tests c)) (c .if3 .taken)
+  read : (c : print-lts.After-shared-slice-known3 (print-claims t) (print-at t) print.Post) → let s = entry c .args in
+      now (c .before .code-of .result) ≡ codeIn (now (s .bytes)) (s .v)
+  read c = c .before .code-of .ensures
 
-  binary : (c : print-lts.Else3 (print-claims t) (print-at t) print.Post) → let s = entry (binary-tests c) .args in BinaryParts (s .names) (now (s .code)) (now (s .ends)) (s .at)
-  binary c = binary-here (known (binary-tests c)) (c .before .before .if1 .left) (c .before .if2 .left) (c .if3 .left)
+  read-length : (c : print-lts.After-shared-slice-known3 (print-claims t) (print-at t) print.Post) → let s = entry c .args in
+      length (now (c .before .code-of .result)) ≡ length (codeIn (now (s .bytes)) (s .v))
+  read-length c = ap length (read c)
+
+  head-read : (c : print-lts.After-shared-slice-known3 (print-claims t) (print-at t) print.Post) → let s = entry c .args in
+      getD (now (c .before .code-of .result)) (s .at) 0 ≡ getD (codeIn (now (s .bytes)) (s .v)) (s .at) 0
+  head-read c = head (read c) (entry c .args .at)
+
+  quantified : (c : print-lts.Then3 (print-claims t) (print-at t) print.Post) → let s = entry (quantifier-tests c) .args in
+      QuantifiedParts (s .v .«name_count») (codeIn (now (s .bytes)) (s .v)) (now (s .ends)) (s .at)
+  quantified c = quantified-here (read (quantifier-tests c)) (known (quantifier-tests c)) (c .if3 .taken)
+
+  binary : (c : print-lts.Else3 (print-claims t) (print-at t) print.Post) → let s = entry (binary-tests c) .args in
+      BinaryParts (s .v .«name_count») (codeIn (now (s .bytes)) (s .v)) (now (s .ends)) (s .at)
+  binary c = binary-here (read (binary-tests c)) (known (binary-tests c)) (c .before .before .if1 .left) (c .before .if2 .left) (c .if3 .left)
 
   strength : (c : print-lts.After-precedence (print-claims t) (print-at t) print.Post) → let s = entry (binary-tests (strength-asked c)) .args in
-      c .precedence .result ≡ Rattle.definitions.specs.Display.precedence (namedProp (s .names) (now (s .code)) (now (s .pairs)) (now (s .text)) (s .at))
-  strength c = let here = binary-tests (strength-asked c) in c .precedence .ensures _ (marked (now (entry here .args .pairs)) (now (entry here .args .text))) (known here)
+      c .precedence .result ≡ precedence (namedProp (now (s .bytes)) (s .v) (s .at))
+  unfolding propIn
+  strength c =
+      let here = binary-tests (strength-asked c) in
+      let s = entry here .args in
+      strength-in (read here) (nameIn (now (s .bytes)) (s .v)) (s .v .«name_count») (s .at) (c .precedence .ensures _ _ (known-in (read here) (known here)))
+
+  print-code-of-requires : print-lts.Need-code-of-requires (print-claims t) (print-at t) print.Post
+  print-code-of-requires c κs = c .before .before .before .pre .1 .within
 
   print-shared-slice-read-head : print-lts.Need-shared-slice-read-head (print-claims t) (print-at t) print.Post
-  print-shared-slice-read-head c = inside (known c .present) .start
+  print-shared-slice-read-head c = omega (arith, inside (known c .present) .start, read-length c)
 
   print-put-sign-requires : print-lts.Need-put-sign-requires (print-claims t) (print-at t) print.Post
-  print-put-sign-requires c κs = inside (known (c .before .before) .present) .known
+  print-put-sign-requires c κs = let here = c .before .before in omega (arith, inside (known here .present) .known, head-read here)
 
   print-returns : print-lts.Need-returns (print-claims t) (print-at t) print.Post
-  print-returns c = rw (← (leaf-text _ _ _ _ _ (known (leaf c .before)) (leaf c .if1 .taken))) (c .before .before .put-sign .ensures)
+  unfolding propIn
+  print-returns c =
+      let here = leaf c .before in
+      let s = entry here .args in
+      let low = below-as (sym (head-read here)) (leaf c .if1 .taken) in
+      rw (← (ap sign (head-read here) ∙ leaf-text (nameIn (now (s .bytes)) (s .v)) _ _ _ _ (known here) low)) (c .before .before .put-sign .ensures)
 
   print-same-length : print-lts.Need-same-length (print-claims t) (print-at t) print.Post
   print-same-length c = same-length (print-returns c)
 
   print-put-atom-requires : print-lts.Need-put-atom-requires (print-claims t) (print-at t) print.Post
   print-put-atom-requires c κs =
-      record { present = known (c .before .before .before) .present; byte = c .before .if2 .taken; named = entry (c .before .before .before) .pre .1 .named }
+      let here = c .before .before .before in
+      let s = entry here .pre .1 in
+      record { within = s .within; present = known here .present; byte = sym (head-read here) ∙ c .before .if2 .taken; named = s .named }
 
   print-returns-2 : print-lts.Need-returns-2 (print-claims t) (print-at t) print.Post
   print-returns-2 c = c .before .before .put-atom .ensures
@@ -207,54 +263,63 @@ module _ (t : ℕ) where
   print-same-length-2 c = same-length (print-returns-2 c)
 
   print-add-number-at : print-lts.Need-add-number-at (print-claims t) (print-at t) print.Post
-  print-add-number-at c = omega (arith, inside (known (quantifier-tests c) .present))
+  print-add-number-at c = let here = quantifier-tests c in omega (arith, inside (known here .present), read-length here)
 
   print-number-at-requires : print-lts.Need-number-at-requires (print-claims t) (print-at t) print.Post
-  print-number-at-requires c κs = omega (arith, inside (quantified c .body .present))
+  print-number-at-requires c κs = omega (arith, inside (quantified c .body .present), read-length (quantifier-tests c))
 
   print-add-number-at-2 : print-lts.Need-add-number-at-2 (print-claims t) (print-at t) print.Post
-  print-add-number-at-2 c = omega (arith, inside (known (quantifier-tests (c .before)) .present))
+  print-add-number-at-2 c = let here = quantifier-tests (c .before) in omega (arith, inside (known here .present), read-length here)
 
   print-number-at-requires-2 : print-lts.Need-number-at-requires-2 (print-claims t) (print-at t) print.Post
-  print-number-at-requires-2 c κs = omega (arith, inside (quantified (c .before) .body .present))
+  print-number-at-requires-2 c κs = omega (arith, inside (quantified (c .before) .body .present), read-length (quantifier-tests (c .before)))
+
+  -- the numbers that were read are those of the object and the datatype
+  object-is : (c : print-lts.After-number-at2 (print-claims t) (print-at t) print.Post) → let s = entry (quantifier-tests (c .before .before)) .args in
+      c .before .number-at .result ≡ numberAt (codeIn (now (s .bytes)) (s .v)) (s .at + 1)
+  object-is c = c .before .number-at .ensures .0 ∙ ap (λ l. numberAt l (entry (quantifier-tests (c .before .before)) .args .at + 1)) (read (quantifier-tests (c .before .before)))
+
+  datatype-is : (c : print-lts.After-number-at2 (print-claims t) (print-at t) print.Post) → let s = entry (quantifier-tests (c .before .before)) .args in
+      c .number-at2 .result ≡ numberAt (codeIn (now (s .bytes)) (s .v)) (s .at + 3)
+  datatype-is c = c .number-at2 .ensures .0 ∙ ap (λ l. numberAt l (entry (quantifier-tests (c .before .before)) .args .at + 3)) (read (quantifier-tests (c .before .before)))
 
   print-put-quantifier-requires : print-lts.Need-put-quantifier-requires (print-claims t) (print-at t) print.Post
   print-put-quantifier-requires c κs =
       let here = c .before .before .before in
+      let tests = quantifier-tests here in
       let q = quantified here in
-      let named = entry (quantifier-tests here) .pre .1 .named in (
-        inside (known (quantifier-tests here) .present) .known,
-        (
-          named (c .before .before .number-at .result) (rw (c .before .before .number-at .ensures .0) (q .object)),
-          named (c .before .number-at2 .result) (rw (c .before .number-at2 .ensures .0) (q .datatype)),
-        ),
+      let named = entry tests .pre .1 .named in (
+        omega (arith, inside (known tests .present) .known, head-read tests),
+        (named _ (below-as (object-is (c .before)) (q .object)), named _ (below-as (datatype-is (c .before)) (q .datatype))),
       )
 
   print-add-print : print-lts.Need-add-print (print-claims t) (print-at t) print.Post
-  print-add-print c = omega (arith, inside (known (quantifier-tests (object-and-datatype (c .before))) .present))
+  print-add-print c = let here = quantifier-tests (object-and-datatype (c .before)) in omega (arith, inside (known here .present), read-length here)
 
   print-print-requires : print-lts.Need-print-requires (print-claims t) (print-at t) print.Post
   print-print-requires c κs =
       let here = object-and-datatype (c .before) in
       let s = entry (quantifier-tests here) in
-      (omega (arith, s .pre .0, inside (known (quantifier-tests here) .present)), record { known = quantified here .body; named = s .pre .1 .named })
+      (omega (arith, s .pre .0, inside (known (quantifier-tests here) .present)), record { within = s .pre .1 .within; known = quantified here .body; named = s .pre .1 .named })
 
   print-returns-3 : print-lts.Need-returns-3 (print-claims t) (print-at t) print.Post
+  unfolding propIn
   print-returns-3 c =
       let here = object-and-datatype (body c) in
       let q = quantified here in
       let written = body c .before .before in
-      rw (← (quantified-text _ _ _ _ _ q), ← (written .before .before .before .number-at .ensures .0), ← (written .before .before .number-at2 .ensures .0))
-      (then (written .put-quantifier .ensures (q .quantifier) (q .byte)) (c .before .before .print .ensures))
+      let numbers = written .before .before in
+      rw (← (quantified-text _ _ _ _ _ q), ← (object-is numbers), ← (datatype-is numbers))
+      (then (written .put-quantifier .ensures (q .quantifier) (head-read (quantifier-tests here) ∙ q .byte)) (c .before .before .print .ensures))
 
   print-same-length-3 : print-lts.Need-same-length-3 (print-claims t) (print-at t) print.Post
   print-same-length-3 c = same-length (print-returns-3 c)
 
   print-add-left : print-lts.Need-add-left (print-claims t) (print-at t) print.Post
-  print-add-left c = omega (arith, inside (known (binary-tests c) .present))
+  print-add-left c = let here = binary-tests c in omega (arith, inside (known here .present), read-length here)
 
   print-precedence-requires : print-lts.Need-precedence-requires (print-claims t) (print-at t) print.Post
-  print-precedence-requires c κs = record { names = _; known = known (binary-tests c) }
+  print-precedence-requires c κs = let here = binary-tests c in record { names = _; known = known-in (read here) (known here) }
 
   print-slice-aggregate-put-all : print-lts.Need-slice-aggregate-put-all (print-claims t) (print-at t) print.Post
   print-slice-aggregate-put-all c = refl
@@ -267,9 +332,10 @@ module _ (t : ℕ) where
       let here = strength-asked (not-sign (c .before) .before) in
       let b = binary here in
       let s = entry (binary-tests here) in
-      (omega (arith, s .pre .0, inside (b .left .present)), record { known = b .left; named = s .pre .1 .named })
+      (omega (arith, s .pre .0, inside (b .left .present)), record { within = s .pre .1 .within; known = b .left; named = s .pre .1 .named })
 
   print-returns-4 : print-lts.Need-returns-4 (print-claims t) (print-at t) print.Post
+  unfolding propIn
   print-returns-4 c =
       let tested = not-sign (negated c) in
       rw (← (negation-text _ _ _ _ _ (binary (strength-asked (tested .before))) (sym (strength (tested .before)) ∙ tested .if4 .taken)))
@@ -286,19 +352,23 @@ module _ (t : ℕ) where
       let here = strength-asked (c .before .before .before) in
       let b = binary here in
       let s = entry (binary-tests here) in
-      (omega (arith, s .pre .0, inside (b .left .present)), record { known = b .left; named = s .pre .1 .named })
+      (omega (arith, s .pre .0, inside (b .left .present)), record { within = s .pre .1 .within; known = b .left; named = s .pre .1 .named })
 
   print-put-connective-requires : print-lts.Need-put-connective-requires (print-claims t) (print-at t) print.Post
-  print-put-connective-requires c κs = inside (known (binary-tests (strength-asked (left-side (c .before) .before))) .present) .known
+  print-put-connective-requires c κs =
+      let here = binary-tests (strength-asked (left-side (c .before) .before)) in
+      omega (arith, inside (known here .present) .known, head-read here)
 
   print-mul-right : print-lts.Need-mul-right (print-claims t) (print-at t) print.Post
-  print-mul-right c = omega (arith, inside (known (binary-tests (strength-asked (left-side (connective c) .before))) .present))
+  print-mul-right c =
+      let here = binary-tests (strength-asked (left-side (connective c) .before)) in
+      omega (arith, inside (known here .present), read-length here)
 
   print-shared-slice-read-right : print-lts.Need-shared-slice-read-right (print-claims t) (print-at t) print.Post
   print-shared-slice-read-right c = binary (strength-asked (left-side (connective (c .before)) .before)) .table
 
   print-cast-right : print-lts.Need-cast-right (print-claims t) (print-at t) print.Post
-  print-cast-right c = omega (arith, c .shared-slice-known6 .given (entry (binary-tests (strength-asked (left-side (connective (c .before)) .before))) .args .at + 1))
+  print-cast-right c = omega (arith, c .shared-slice-known4 .given (entry (binary-tests (strength-asked (left-side (connective (c .before)) .before))) .args .at + 1))
 
   print-right-strength-requires : print-lts.Need-right-strength-requires (print-claims t) (print-at t) print.Post
   print-right-strength-requires c κs = let here = strength-asked (left-side (connective (c .before)) .before) in omega (arith, here .before .if2 .left, here .if3 .left)
@@ -308,15 +378,16 @@ module _ (t : ℕ) where
       let here = strength-asked (left-side (connective (c .before .before .before)) .before) in
       let b = binary here in
       let s = entry (binary-tests here) in
-      (omega (arith, s .pre .0, inside (b .right .present), b .order), record { known = b .right; named = s .pre .1 .named })
+      (omega (arith, s .pre .0, inside (b .right .present), b .order), record { within = s .pre .1 .within; known = b .right; named = s .pre .1 .named })
 
   print-returns-5 : print-lts.Need-returns-5 (print-claims t) (print-at t) print.Post
+  unfolding propIn
   print-returns-5 c =
       let signed = right-side c in
       let left = connective signed in
       let tested = left-side left in
       let b = binary (strength-asked (tested .before)) in
-      let byte = b .byte in
+      let byte = head-read (binary-tests (strength-asked (tested .before))) ∙ b .byte in
       rw (← (binary-text _ _ _ _ _ b (λ e. tested .if4 .left (strength (tested .before) ∙ e))), ← (left .before .before .before .before .left-strength .ensures (b .connective)), ← (c .before .before .before .before .right-strength .ensures (b .connective)))
       (then (left .before .before .part2 .ensures) (then (signed .before .before .put-connective .ensures (b .connective) byte) (c .before .before .part3 .ensures)))
 
@@ -327,6 +398,7 @@ pub +part+print-spec : {M : Type 1} → statement M
 +part+print-spec = close μ-part μ-print (λ t. part-lts.spec (part-claims t)
     (part-at t)
     part.Post
+    (part-code-of-requires t)
     (part-precedence-requires t)
     (part-put-requires t)
     (part-print-requires t)
@@ -339,6 +411,7 @@ pub +part+print-spec : {M : Type 1} → statement M
     λ t. print-lts.spec (print-claims t)
     (print-at t)
     print.Post
+    (print-code-of-requires t)
     (print-shared-slice-read-head t)
     (print-put-sign-requires t)
     (print-same-length t)

@@ -1,41 +1,37 @@
--- The parts of the sheet and the table of ends are what the term's printing asks for.
-use Rattle.definitions.specs.Sheet.{nameOf}
-use Rattle.sheet.specs.Header.{headerOf}
+-- The sheet's vocabulary and the table of ends are what the term's printing asks for.
+use denote.Ref.{now}
+use Rattle.prop.proofs.Shown.{written-as}
 use Rattle.sheet.proofs.Admitted.{its-header}
-use Rattle.text.proofs.Ends.{printable}
+use Rattle.text.proofs.Ends.{printable, term-shown}
 use borrow.Author.Needs.{needs}
 use Rattle.text.proofs.put_term.Statement.{statement}
 use Rattle.text.proofs.put_term.Tie as tie
 
-code-bytes-requires : tie.Need-code-bytes-requires
-code-bytes-requires c κs = its-header (c .before .before .before .pre .0)
+-- back over the vocabulary, and over the term
+abbrev start : tie.After-vocabulary → tie.Start
+start c = c .before .before .before .before .before
 
-name-pairs-requires : tie.Need-name-pairs-requires
-name-pairs-requires c κs = its-header (c .before .before .before .before .pre .0)
+abbrev term : tie.After-slice-known2 → tie.After-vocabulary
+term c = c .before .before .before .before
 
-text-bytes-requires : tie.Need-text-bytes-requires
-text-bytes-requires c κs = its-header (c .before .before .before .before .before .pre .0)
+vocabulary-requires : tie.Need-vocabulary-requires
+vocabulary-requires c κs = its-header (c .before .before .before .before .pre .0) .in-range
 
 print-term-requires : tie.Need-print-term-requires
 print-term-requires c κs =
-    let (sheet, (term, ends)) = c .before .before .before .before .before .before .before .before .pre in
-    rw (c .before .before .before .name-pairs .ensures, c .before .before .text-bytes .ensures, c .before .before .before .before .code-bytes .ensures) (printable sheet term ends)
+    let here = c .before in
+    let (sheet, (term, ends)) = start here .pre in
+    printable sheet (here .vocabulary .ensures) term ends
 
 same-length : tie.Need-same-length
 same-length c = search needs
 
 returns : tie.Need-returns
-unfolding nameOf headerOf
 returns c =
-    rw (c .before .before .before .before .before .before .name-pairs .ensures, c .before .before .before .before .before .text-bytes .ensures, c .before .before .before .before .before .before .before .code-bytes .ensures, c .before .before .before .before .before .before .before .before .before .before .before .pre .0 .header) at (c .before .before .print-term .ensures)
+    let here = term c in
+    let s = start here in
+    let shown = term-shown (s .pre .0) (here .vocabulary .ensures) (s .args .style) (now (s .args .terms)) (s .args .n) in
+    written-as shown (c .before .before .print-term .ensures)
 
 pub put-term-spec : {M : Type 1} → statement M
-put-term-spec =
-    tie.close
-    (tie.spec
-    code-bytes-requires
-    name-pairs-requires
-    text-bytes-requires
-    print-term-requires
-    same-length
-    returns)
+put-term-spec = tie.close (tie.spec vocabulary-requires print-term-requires same-length returns)
