@@ -2,8 +2,8 @@
 // propositions up to the names of their bound objects, two type judgements by their names' bytes and their ids.
 use alpha_eq::Answer;
 use definitions::Refusal;
-use identifier::pair_offset;
 use identifier::same_bytes;
+use number::pair_offset;
 use sheet::Checked;
 use sheet::Sheet;
 use sheet::code_bytes;
@@ -92,10 +92,7 @@ fn compare_steps(s: &[u8], h: Sheet, i: usize, j: usize) -> Answer
     ensures { λ r. ⌜ outcomeOf r ≡ comparison (now (s .entry)) i j ⌝ }
 {
     if h.steps <= i || h.steps <= j {
-        return Answer::Refused(Refusal {
-            number: 17,
-            place: 0,
-        });
+        return Answer::Refused(Refusal::at(17, 0));
     }
     let records = step_records(s, h);
     let left = step_at(records, i).conclusion;

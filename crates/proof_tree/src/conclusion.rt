@@ -1,5 +1,4 @@
 // A step's conclusion, as it is taken apart for a label.
-use crate::step::refusal;
 use crate::table::Ending;
 use definitions::Refusal;
 use number::pair_offset;
@@ -28,14 +27,14 @@ fn left_label(pairs: &[u8], code: &[u8], conclusion: Conclusion, k: usize) -> An
     ensures { λ r. ⌜ AnnotationOf (leftLabelOf k) (now (pairs .entry)) (now (code .entry)) conclusion r ⌝ }
 {
     let Conclusion::PropIsTrue(p) = conclusion else {
-        return Annotation::Refused(refusal(14, k));
+        return Annotation::Refused(Refusal::at(14, k));
     };
     let at = pair_offset(pairs, p as usize);
     let Shape::Binary { connective, left } = shape_at(code, at) else {
-        return Annotation::Refused(refusal(14, k));
+        return Annotation::Refused(Refusal::at(14, k));
     };
     if connective != IMPL {
-        return Annotation::Refused(refusal(14, k));
+        return Annotation::Refused(Refusal::at(14, k));
     }
     Annotation::Label(PROPOSITION as u16, left as u16)
 }
@@ -46,7 +45,7 @@ fn datatype_label(pairs: &[u8], code: &[u8], conclusion: Conclusion, k: usize) -
     ensures { λ r. ⌜ AnnotationOf (datatypeLabelOf k) (now (pairs .entry)) (now (code .entry)) conclusion r ⌝ }
 {
     let Conclusion::PropIsTrue(p) = conclusion else {
-        return Annotation::Refused(refusal(15, k));
+        return Annotation::Refused(Refusal::at(15, k));
     };
     let at = pair_offset(pairs, p as usize);
     let Shape::Quantified {
@@ -56,10 +55,10 @@ fn datatype_label(pairs: &[u8], code: &[u8], conclusion: Conclusion, k: usize) -
         body: _,
     } = shape_at(code, at)
     else {
-        return Annotation::Refused(refusal(15, k));
+        return Annotation::Refused(Refusal::at(15, k));
     };
     if quantifier != FOR_ALL {
-        return Annotation::Refused(refusal(15, k));
+        return Annotation::Refused(Refusal::at(15, k));
     }
     Annotation::Label(DATATYPE as u16, datatype as u16)
 }

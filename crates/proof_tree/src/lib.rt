@@ -12,7 +12,6 @@ use number::pair_offset;
 use proof_term::PROPOSITION;
 use proof_term::type_ascription;
 use step::premiss;
-use step::refusal;
 use steps::Conclusion;
 use steps::premiss_count;
 use steps::rule_byte;
@@ -58,7 +57,7 @@ fn wrap_into_type_ascription(
         (now («term_records» .exit)) conclusion r ⌝ }
 {
     let Conclusion::PropIsTrue(p) = conclusion else {
-        return Exported::Refused(refusal(13, k));
+        return Exported::Refused(Refusal::at(13, k));
     };
     let at = pair_offset(pairs, p as usize);
     Exported::Term(type_ascription(term_records, used, used - 1, PROPOSITION as u16, at as u16))
@@ -133,7 +132,7 @@ fn do_export_as_proof_term(
 {
     let row = row_of(rule_byte(step_records, k));
     if !admits_count(row, premiss_count(step_records, k)) {
-        return Exported::Refused(refusal(12, k));
+        return Exported::Refused(Refusal::at(12, k));
     }
     let reads = row.0 as usize;
     let modes = row.2;

@@ -1,5 +1,4 @@
-// Which steps finish a step's premisses, and the refusals at a step.
-use definitions::Refusal;
+// Which steps finish a step's premisses.
 use steps::premiss_count;
 ghost use Prim.Native.Nat.{_+_, _<_, _≤_};
 ghost use mathlib.Core.Path.{_≡_};
@@ -29,15 +28,4 @@ pub fn premiss(step_records: &[u8], k: usize, position: usize, sizes: &[u16]) ->
         start -= sizes[start - 1] as usize;
     }
     start - 1
-}
-
-// The refusal of a number at step k.
-pub fn refusal(number: u8, k: usize) -> Refusal
-    requires { ⌜ k < 65536 ⌝ }
-    ensures { λ r. ⌜ r ≡ record { number = number; place = k } ⌝ }
-{
-    Refusal {
-        number,
-        place: k as u16,
-    }
 }

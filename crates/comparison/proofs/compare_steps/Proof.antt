@@ -1,6 +1,7 @@
 -- 17 is tested for both numbers; then the two conclusions decide.
 use Prim.Native.Nat.{_<_}
 use mathlib.Core.Logic.{inl, inr, ⊎-elim}
+use borrow.Author.Needs.{needs}
 use borrow.Author.Tests.{leb-true, leb-false}
 use denote.Ref.{now}
 use Rattle.definitions.specs.Outcome.{refuse}
@@ -39,12 +40,17 @@ both c =
       second = has-step sheet (leb-false _ _ (c .if2 .left));
     }
 
+at-requires : tie.Need-at-requires
+at-requires c κs = search needs
+
 returns : tie.Need-returns
 unfolding outcomeOf refuse
 returns c =
-    let sheet = c .before .before .before .pre in
-    no-such-step sheet _ _
-    (⊎-elim (λ first. inl (has-no-step sheet (first .taken))) (λ second. inr (has-no-step sheet (leb-true _ _ (second .2 .taken)))) (c .if1 .came))
+    let refused = c .before in
+    let sheet = refused .before .before .before .pre in
+    rw (c .at .ensures)
+    (no-such-step sheet _ _
+    (⊎-elim (λ first. inl (has-no-step sheet (first .taken))) (λ second. inr (has-no-step sheet (leb-true _ _ (second .2 .taken)))) (refused .if1 .came)))
 
 step-records-requires : tie.Need-step-records-requires
 step-records-requires c κs = its-header (both c .sheet)
@@ -76,6 +82,7 @@ pub compare-steps-spec : {M : Type 1} → statement M
 compare-steps-spec =
     tie.close
     (tie.spec
+    at-requires
     returns
     step-records-requires
     step-at-requires

@@ -23,7 +23,7 @@ use Rattle.proof_tree.proofs.+do_export_as_proof_term.Lts-do_export_as_
 use Rattle.proof_tree.proofs.placed_term.Reads as placed-term-reads
 use Rattle.proof_tree.proofs.step.premiss.Reads as premiss-reads
 use Rattle.steps.proofs.premiss_count.Reads as premiss-count-reads
-use Rattle.proof_tree.proofs.step.refusal.Reads as refusal-reads
+use Rattle.definitions.proofs.Refusal.at.Reads as at-reads
 use Rattle.steps.proofs.rule_byte.Reads as rule-byte-reads
 use Rattle.proof_tree.proofs.table.admits_count.Reads as admits-count-reads
 use Rattle.proof_tree.proofs.table.expected_premisse_mode.Reads as expected-premisse-mode-reads
@@ -57,8 +57,8 @@ claims t = (
   premiss-count-reads.Learnt,
   admits-count-reads.Asked,
   admits-count-reads.Learnt,
-  refusal-reads.Asked,
-  refusal-reads.Learnt,
+  at-reads.Asked,
+  at-reads.Learnt,
   premiss-reads.Asked,
   premiss-reads.Learnt,
   expected-premisse-mode-reads.Asked,
@@ -113,11 +113,11 @@ module _ (t : ℕ) where
   admits-count-requires : lts.Need-admits-count-requires (claims t) (Pre t) reads.Post Inv-loop μ-loop
   admits-count-requires c κs = search needs
 
-  refusal-requires : lts.Need-refusal-requires (claims t) (Pre t) reads.Post Inv-loop μ-loop
-  refusal-requires c κs = omega (arith, good (c .before .before .before .before .before .before .before .before .before .before) .few)
+  at-requires : lts.Need-at-requires (claims t) (Pre t) reads.Post Inv-loop μ-loop
+  at-requires c κs = omega (arith, good (c .before .before .before .before .before .before .before .before .before .before) .few)
 
   returns : lts.Need-returns (claims t) (Pre t) reads.Post Inv-loop μ-loop
-  returns c = count-refused (modeOf _) (found (c .before .before .before .before .before .before .before .before .before .before .before)) (rw (c .before .before .before .premiss-count .ensures) at (sym (c .before .before .admits-count .ensures _ (is-row (c .before .before .before .before))) ∙ not-true _ (c .before .if1 .taken))) (c .refusal .ensures)
+  returns c = count-refused (modeOf _) (found (c .before .before .before .before .before .before .before .before .before .before .before)) (rw (c .before .before .before .premiss-count .ensures) at (sym (c .before .before .admits-count .ensures _ (is-row (c .before .before .before .before))) ∙ not-true _ (c .before .if1 .taken))) (c .at .ensures)
 
   cast-reads : lts.Need-cast-reads (claims t) (Pre t) reads.Post Inv-loop μ-loop
   cast-reads c = search needs
@@ -211,7 +211,7 @@ pub +do-export-as-proof-term-spec : {M : Type 1} → statement M
     (row-of-requires t)
     (premiss-count-requires t)
     (admits-count-requires t)
-    (refusal-requires t)
+    (at-requires t)
     (returns t)
     (cast-reads t)
     (loop-holds t)

@@ -19,11 +19,11 @@ enum-known-conclusion c = search needs
 enum-told : tie.Need-enum-told
 enum-told c = search needs
 
-refusal-requires : tie.Need-refusal-requires
-refusal-requires c κs = search needs
+at-requires : tie.Need-at-requires
+at-requires c κs = search needs
 
 returns : tie.Need-returns
-returns c = rw (c .before .enum-told .given .1) (refuses (c .refusal .ensures))
+returns c = rw (c .before .enum-told .given .1) (refuses (c .at .ensures))
 
 cast-pair-offset : tie.Need-cast-pair-offset
 cast-pair-offset c = search needs
@@ -60,7 +60,7 @@ wrap-into-type-ascription-spec =
     (tie.spec
     enum-known-conclusion
     enum-told
-    refusal-requires
+    at-requires
     returns
     cast-pair-offset
     pair-offset-requires

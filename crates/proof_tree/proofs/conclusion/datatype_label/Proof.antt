@@ -23,11 +23,11 @@ enum-known-conclusion c = search needs
 enum-told : tie.Need-enum-told
 enum-told c = search needs
 
-refusal-requires : tie.Need-refusal-requires
-refusal-requires c κs = search needs
+at-requires : tie.Need-at-requires
+at-requires c κs = search needs
 
 returns : tie.Need-returns
-returns c names m means = no-datatype-judged means (c .before .enum-told .given .1) (c .refusal .ensures)
+returns c names m means = no-datatype-judged means (c .before .enum-told .given .1) (c .at .ensures)
 
 cast-pair-offset : tie.Need-cast-pair-offset
 cast-pair-offset c = search needs
@@ -42,18 +42,18 @@ shape-at-requires c κs =
 enum-known-quantifier : tie.Need-enum-known-quantifier
 enum-known-quantifier c = search needs
 
-refusal-requires-2 : tie.Need-refusal-requires-2
-refusal-requires-2 c κs = search needs
+at-requires-2 : tie.Need-at-requires-2
+at-requires-2 c κs = search needs
 
 returns-2 : tie.Need-returns-2
 returns-2 c names m means =
     let there = c .before .before in
     let concludes = proposition there .before .conclusion .given .1 in
     let is = shaped (there .before .pair-offset .ensures) (stated means concludes .here) (there .shape-at .ensures) refl in
-    no-datatype means concludes (no-quantified _ is (c .before .match2 .keys2)) (c .refusal2 .ensures)
+    no-datatype means concludes (no-quantified _ is (c .before .match2 .keys2)) (c .at2 .ensures)
 
-refusal-requires-3 : tie.Need-refusal-requires-3
-refusal-requires-3 c κs = search needs
+at-requires-3 : tie.Need-at-requires-3
+at-requires-3 c κs = search needs
 
 returns-3 : tie.Need-returns-3
 returns-3 c names m means =
@@ -61,7 +61,7 @@ returns-3 c names m means =
     let there = shape byte in
     let concludes = proposition there .before .conclusion .given .1 in
     let is = shaped (there .before .pair-offset .ensures) (stated means concludes .here) (there .shape-at .ensures) (byte .before .quantifier .given .1) in
-    no-datatype means concludes (other-quantifier _ is (c .before .if1 .taken)) (c .refusal3 .ensures)
+    no-datatype means concludes (other-quantifier _ is (c .before .if1 .taken)) (c .at3 .ensures)
 
 cast-t15 : tie.Need-cast-t15
 cast-t15 c = search needs
@@ -90,15 +90,15 @@ datatype-label-spec =
     (tie.spec
     enum-known-conclusion
     enum-told
-    refusal-requires
+    at-requires
     returns
     cast-pair-offset
     pair-offset-requires
     shape-at-requires
     enum-known-quantifier
-    refusal-requires-2
+    at-requires-2
     returns-2
-    refusal-requires-3
+    at-requires-3
     returns-3
     cast-t15
     cast-t16
