@@ -14,7 +14,7 @@ use Rattle.definitions.specs.Name.{Name, eqName}
 use Rattle.definitions.specs.Prop.{AtomUse}
 use Rattle.definitions.specs.Utf8.{utf8}
 use Rattle.definitions.specs.Text.{occurs, firstsAfter, firsts, eqAtomUse, atomDeclaration, followingLines, joinLines, atomDeclarations, datatypeDeclarations}
-use Rattle.proof_term_lists.specs.Labels.{useOf, datatypeUses}
+use Rattle.prop_lists.specs.Entries.{useOf, datatypeUses}
 use Rattle.declarations.specs.Declared.{useOver, usesOver, entryAt, entriesOf, Noted}
 use Rattle.declarations.specs.Lines.{breakBefore, declaration, declarationLines}
 

@@ -12,11 +12,11 @@ use lib.Seq.{getD-set-same, getD-set-other}
 use Rattle.definitions.specs.Name.{Name}
 use Rattle.definitions.specs.Prop.{AtomUse}
 use Rattle.definitions.specs.Code.{parameterLimit}
-use Rattle.definitions.specs.Sheet.{marked}
 use Rattle.definitions.specs.Text.{occurs, firsts, eqAtomUse}
-use Rattle.number.specs.Pairs.{NameWithin}
-use Rattle.proof_term_lists.specs.Labels.{useOf}
-use Rattle.declarations.specs.Declared.{useOver, usesOver, entriesOf, flagOf, flagged, Held, Notable, Noted, Notes, Searchable}
+use Rattle.vocabulary.specs.declared.Vocabulary.{Vocabulary}
+use Rattle.vocabulary.specs.Vocabulary.{nameIn, Names}
+use Rattle.prop_lists.specs.Entries.{useOf}
+use Rattle.declarations.specs.Declared.{useOver, usesOver, entriesOf, isDeclared, flagOf, flagged, Noted, Declared, Held, Notes}
 use Rattle.declarations.proofs.Firsts.{occurs-append, occurs-firsts, firsts-known, firsts-new, eqAtomUse-true, eqAtomUse-refl}
 use Rattle.declarations.proofs.Declared.{flagged-few, flagged-more, entries-kept}
 
@@ -57,30 +57,32 @@ module _ {f : ℕ → Name} {l : List (AtomUse ℕ)} {declared : List ℕ} {len 
       (λ other. stays f l (useOf name count) _
       (noted .flags n c h (λ z. isSet (getD-set-other seen (flagOf name count) (flagOf n c) 1 0 other ∙ z))))
 
-module _ {pairs text declared : List ℕ} {len : ℕ} {seen : List ℕ} {name count : ℕ}
-    (held : Held pairs text declared len seen) (this : Notable pairs text seen name count) where
-  pub searchable : Searchable pairs text declared len name
-  searchable = record {
-    there = omega (arith, held .few, held .room, flagged-few seen);
-    marks = held .marks;
-    wanted = this .marks;
-  }
+-- what is held are declarations
+pub declared-held : {bytes : List ℕ} {v : Vocabulary} {declared : List ℕ} {len : ℕ} {seen : List ℕ} → Held bytes v declared len seen → Declared bytes v declared len
+declared-held {seen = seen} held = record { there = omega (arith, held .few, held .room, flagged-few seen); named = held .named }
+
+module _ {bytes : List ℕ} {v : Vocabulary} {declared : List ℕ} {len : ℕ} {seen : List ℕ} {name count : ℕ}
+    (held : Held bytes v declared len seen) (below : name < v .«name_count») (few : count ≤ parameterLimit) where
+  -- the use has its flag
+  pub has-flag : flagOf name count < length seen
+  unfolding parameterLimit
+  has-flag = omega (arith, held .flags)
 
   -- the flag is set
-  pub noted-again : (getD seen (flagOf name count) 0 ≡ 0 → ⊥) → Notes pairs text (useOf name count ∷ []) declared len seen declared len seen
+  pub noted-again : (getD seen (flagOf name count) 0 ≡ 0 → ⊥) → Notes bytes v (useOf name count ∷ []) declared len seen declared len seen
   noted-again isSet = record {
     held = held;
     sized = refl;
     flags = refl;
     adds = λ l noted. record {
-      entries = noted .entries ∙ sym (known _ l (useOf name count) (noted .flags name count (this .few) isSet));
+      entries = noted .entries ∙ sym (known _ l (useOf name count) (noted .flags name count (few) isSet));
       flags = λ n c h k. stays _ l (useOf name count) _ (noted .flags n c h k);
     };
   }
 
   module _ (unset : getD seen (flagOf name count) 0 ≡ 0) where
     counted : flagged (set seen (flagOf name count) 1) ≡ suc (flagged seen)
-    counted = flagged-more seen (flagOf name count) (this .flag) unset
+    counted = flagged-more seen (flagOf name count) has-flag unset
 
     -- there is room for one declaration more
     pub room-for-one : 2 * len + 2 ≤ length declared
@@ -89,15 +91,22 @@ module _ {pairs text declared : List ℕ} {len : ℕ} {seen : List ℕ} {name co
         omega (arith, counted, held .few, held .room, most)
 
     -- a declaration has the bytes and the count
-    pub noted-known : occurs eqAtomUse (useOver (marked pairs text) (useOf name count)) (usesOver (marked pairs text) (entriesOf declared len)) ≡ true
-        → Notes pairs text (useOf name count ∷ []) declared len seen declared len (set seen (flagOf name count) 1)
+    pub noted-known : isDeclared (nameIn bytes v) declared len (useOf name count) ≡ true
+        → Notes bytes v (useOf name count ∷ []) declared len seen declared len (set seen (flagOf name count) 1)
     noted-known e = record {
-      held = record { marks = held .marks; room = simp length-set (held .room); few = omega (arith, counted, held .few) };
+      held = record {
+        names = held .names;
+        small = held .small;
+        flags = simp length-set (held .flags);
+        named = held .named;
+        room = simp length-set (held .room);
+        few = omega (arith, counted, held .few);
+      };
       sized = refl;
       flags = simp length-set;
       adds = λ l noted. record {
         entries = noted .entries ∙ sym (known _ l (useOf name count) (sym (looked-up noted _) ∙ e));
-        flags = flags-more noted name count (this .few);
+        flags = flags-more noted name count (few);
       };
     }
 
@@ -128,21 +137,24 @@ module _ {pairs text declared : List ℕ} {len : ℕ} {seen : List ℕ} {name co
         getD-set-other (set declared (2 * len) name) (2 * len + 1) (2 * j) count 0 (λ e. omega arith)
         ∙ getD-set-other declared (2 * len) (2 * j) name 0 (λ e. omega arith)
 
-    marks-stored : (j : ℕ) → j < len + 1 → NameWithin pairs text (getD stored (2 * j) 0)
-    marks-stored j h = by-cases (decLt j len)
-        (λ k. rw (kept-below j k) (held .marks j k))
-        (λ k. let last : j ≡ len = omega arith in rw (last, name-stored) (this .marks))
+    named-stored : (j : ℕ) → j < len + 1 → Names bytes v (getD stored (2 * j) 0)
+    named-stored j h = by-cases (decLt j len)
+        (λ k. rw (kept-below j k) (held .named j k))
+        (λ k. let last : j ≡ len = omega arith in rw (last, name-stored) (held .names name below))
 
     long-stored : length stored ≡ length declared
     unfolding stored
     long-stored = simp length-set
 
-    pub noted-new : occurs eqAtomUse (useOver (marked pairs text) (useOf name count)) (usesOver (marked pairs text) (entriesOf declared len)) ≡ false
-        → Notes pairs text (useOf name count ∷ []) declared len seen (set (set declared (2 * len) name) (2 * len + 1) count) (len + 1) (set seen (flagOf name count) 1)
+    pub noted-new : isDeclared (nameIn bytes v) declared len (useOf name count) ≡ false
+        → Notes bytes v (useOf name count ∷ []) declared len seen (set (set declared (2 * len) name) (2 * len + 1) count) (len + 1) (set seen (flagOf name count) 1)
     unfolding stored
     noted-new e = record {
       held = record {
-        marks = marks-stored;
+        names = held .names;
+        small = held .small;
+        flags = simp length-set (held .flags);
+        named = named-stored;
         room = simp length-set (held .room);
         few = omega (arith, counted, held .few);
       };
@@ -150,10 +162,10 @@ module _ {pairs text declared : List ℕ} {len : ℕ} {seen : List ℕ} {name co
       flags = simp length-set;
       adds = λ l noted. record {
         entries =
-            ap (usesOver (marked pairs text)) entries-stored
-            ∙ (one-more (marked pairs text) (entriesOf declared len) (useOf name count)
-            ∙ (ap (λ es. es ++ (useOver (marked pairs text) (useOf name count) ∷ [])) (noted .entries)
+            ap (usesOver (nameIn bytes v)) entries-stored
+            ∙ (one-more (nameIn bytes v) (entriesOf declared len) (useOf name count)
+            ∙ (ap (λ es. es ++ (useOver (nameIn bytes v) (useOf name count) ∷ [])) (noted .entries)
             ∙ sym (new _ l (useOf name count) (sym (looked-up noted _) ∙ e))));
-        flags = flags-more noted name count (this .few);
+        flags = flags-more noted name count (few);
       };
     }

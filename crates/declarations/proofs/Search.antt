@@ -15,9 +15,11 @@ use Rattle.definitions.specs.Prop.{AtomUse}
 use Rattle.definitions.specs.Sheet.{pairOffset, pairLength, pairEnd, marked}
 use Rattle.definitions.specs.Text.{occurs, eqAtomUse}
 use Rattle.number.specs.Pairs.{NameWithin}
+use Rattle.vocabulary.specs.declared.Vocabulary.{Vocabulary}
+use Rattle.vocabulary.specs.Vocabulary.{pairsIn, textIn, nameIn, Names}
 use Rattle.identifier.proofs.Equality.{eqName-lengths, eqName-differ, eqName-alike}
-use Rattle.proof_term_lists.specs.Labels.{useOf}
-use Rattle.declarations.specs.Declared.{useOver, usesOver, entryAt, entriesOf, Searchable}
+use Rattle.prop_lists.specs.Entries.{useOf}
+use Rattle.declarations.specs.Declared.{useOver, usesOver, entryAt, entriesOf, isDeclared, Declared}
 use Rattle.declarations.proofs.Firsts.{occurs-append}
 
 -- the bytes of a name, in the text
@@ -51,10 +53,26 @@ module _ (f : ℕ → Name) (u : AtomUse Name) (declared : List ℕ) where
       go (yes k) again = rw (one-more len, again k)
       go (no k) again = let same : len ≡ j = omega arith in rw (one-more len, same, e, or-true)
 
+-- what the search asks: the declarations are there, each has a name, and so has the use that is looked for
+pub record Searchable (pairs text declared : List ℕ) (len name : ℕ) : Type 0 where
+  pub there : 2 * len ≤ length declared
+  pub marks : (j : ℕ) → j < len → NameWithin pairs text (getD declared (2 * j) 0)
+  pub wanted : NameWithin pairs text name
+
+-- The pairs and the text, as they were cut out of a memory:
+module _ (bytes : List ℕ) (v : Vocabulary) {pairs text : List ℕ} (cut : pairs ≡ pairsIn bytes v) (cut-text : text ≡ textIn bytes v) where
+  pub searchable : {declared : List ℕ} {len name : ℕ} → Declared bytes v declared len → Names bytes v name → Searchable pairs text declared len name
+  searchable these wanted =
+      rw (cut, cut-text) (record { there = these .there; marks = λ j h. these .named j h .marks; wanted = wanted .marks })
+
+  pub names-cut : nameIn bytes v ≡ marked pairs text
+  unfolding nameIn
+  names-cut = rw (cut, cut-text)
+
 -- no declaration before j has the bytes and the count
 abbrev pub Passed : List ℕ → List ℕ → List ℕ → ℕ → ℕ → ℕ → Type 0
 Passed pairs text declared name count j =
-    occurs eqAtomUse (useOver (marked pairs text) (useOf name count)) (usesOver (marked pairs text) (entriesOf declared j)) ≡ false
+    isDeclared (marked pairs text) declared j (useOf name count) ≡ false
 
 -- the search is at declaration j
 pub record Reached (pairs text declared : List ℕ) (len name count j : ℕ) : Type 0 where
@@ -119,7 +137,7 @@ module _ {pairs text declared : List ℕ} {len name count offset size j start : 
 
   -- a declaration with the same bytes is the one that was looked for
   same-bytes : ((k : ℕ) → k < size → getD text (start + k) 0 ≡ getD text (offset + k) 0)
-      → occurs eqAtomUse (useOver (marked pairs text) (useOf name count)) (usesOver (marked pairs text) (entriesOf declared len)) ≡ true
+      → isDeclared (marked pairs text) declared len (useOf name count) ≡ true
   unfolding eqAtomUse
   same-bytes same =
       let (long-j, long-name) = lengths in
@@ -146,5 +164,5 @@ module _ {pairs text declared : List ℕ} {len name count offset size j start k 
   one-more-alike h e = record { candidate = these .candidate; up-to = omega arith; same = below-more _ _ (these .same) e }
 
   pub all-alike : size ≤ k
-      → occurs eqAtomUse (useOver (marked pairs text) (useOf name count)) (usesOver (marked pairs text) (entriesOf declared len)) ≡ true
+      → isDeclared (marked pairs text) declared len (useOf name count) ≡ true
   all-alike h = same-bytes (these .candidate) (λ m l. these .same m (omega (arith, these .up-to)))

@@ -7,8 +7,6 @@ use classes::OTHER;
 use classes::class;
 use definitions::Found;
 use number::marked_bytes;
-pub use number::pair_length;
-pub use number::pair_offset;
 ghost use mathlib.Core.Path.{_≡_};
 ghost use Rattle.definitions.specs.Name.{isName, eqName};
 ghost use Rattle.definitions.specs.Outcome.{lowest, foundAt};

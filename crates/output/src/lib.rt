@@ -30,6 +30,19 @@ pub fn put(out: &mut [u8], to: usize, b: u8, write: bool) -> usize
     out.len() + 1
 }
 
+// One number, into memory of numbers.
+pub fn put_number(out: &mut [u16], to: usize, n: u16, write: bool) -> usize
+    ensures { λ r. ⌜ Wrote (n ∷ []) write (now (out .entry)) to (now (out .exit)) r ⌝ }
+{
+    if out.len() <= to {
+        return out.len() + 1;
+    }
+    if write {
+        out[to] = n;
+    }
+    to + 1
+}
+
 // So many of the bytes, all of which lie within the memory; none in a dry run.
 fn copy(out: &mut [u8], to: usize, s: &[u8], count: usize, write: bool)
     requires { ⌜ (count ≤ length (now s)) × (count ≤ length (now out) - to) ⌝ }

@@ -1,145 +1,91 @@
--- A record's labels are those of its parts, one part after the other, and then its own: one test over the table of forms.
-use Prim.Native.Nat.{ℕ, zero, suc, _+_, _≤_, _<_}
+-- What the label of a record adds stands in the memory, and one record after the other adds what the term's labels add.
+use Prim.Native.Nat.{ℕ, _+_, _≤_}
 use mathlib.Core.Path.{_≡_, refl, sym, ap, _∙_}
-use mathlib.Core.Bool.{true, false, true≢false}
-use mathlib.Core.Logic.{_⊎_, ⊎-elim, by-cases}
+use mathlib.Core.Bool.{Bool, true, false, cond}
+use mathlib.Core.Logic.{by-cases}
 use mathlib.Core.Option.{Option, none, some}
-use mathlib.Core.List.{List, [], _∷_, _++_, map, map-append, append-nil, append-assoc, List·Memᴰ, Memᴰ·append-left, Memᴰ·append-right}
+use mathlib.Core.List.{List, [], _++_, map-append}
 use native.Mathlib.Omega.{arith}
-use native.Mathlib.Decide.{ℕ-discrete, decLt}
-use native.Mathlib.Numerals.{add-one}
-use lib.ListN.{getD, set, replicate, List·getD-map}
-use lib.Seq.{getD-set-other}
-use lib.Dec.{eqb}
-use borrow.Author.Tests.{not-false}
+use native.Mathlib.Decide.{ℕ-discrete}
+use borrow.Author.Tests.{ne-eqb}
 use Rattle.definitions.specs.declared.Version.{Version}
+use Rattle.definitions.specs.declared.Version.the-variants.{First, Second}
+use Rattle.definitions.specs.declared.TermList.{TermList}
 use Rattle.definitions.specs.declared.TermList.the-variants.{Atoms, Datatypes}
-use Rattle.definitions.specs.Prop.{Prop}
-use Rattle.definitions.specs.Term.{Label, ProofTerm, Ident, Pair, Named, Function, Application, LetIn, Case, TypeAscription, Unit, Sorry, ofLabel, ofLabels, labelDatatypes, atomList, datatypeList}
-use Rattle.proof_term.specs.Records.{fieldAt, Form, leaf, formTerm, labelOf, parameterLabel, forms, recordTermAt, partCount, termAt, partAt}
-use Rattle.proof_term.proofs.Records.{arity, part-count, termAt-is, part-below, part-else}
-use Rattle.proof_term.specs.Labels.{hasLabel}
-use Rattle.proof_term.proofs.Labels.{labelled-kind}
-use Rattle.proof_term_lists.specs.Labels.{useOf, datatypeUses, labelUses, termUses}
+use Rattle.definitions.specs.Prop.{AtomUse}
+use Rattle.definitions.specs.Term.{Label, ProofTerm, Ident, Pair, Named, Function, Application, LetIn, Case, TypeAscription, Unit, Sorry, ofLabel, ofLabels, labelAtoms, propositionDatatypes, labelDatatypes, atomList, datatypeList}
+use Rattle.prefix_code.specs.PropAt.{Present}
+use Rattle.vocabulary.specs.declared.Vocabulary.{Vocabulary}
+use Rattle.vocabulary.specs.Vocabulary.{codeIn, propIn, Within}
+use Rattle.proof_term.specs.Records.{fieldAt, labelOf}
+use Rattle.proof_term.specs.Labels.{hasLabel, ofOwnLabel, ofRecord, ofRecords, LabelFits}
+use Rattle.proof_term.proofs.Labels.{in-order, records-more}
+use Rattle.prop_lists.specs.Entries.{useOf, datatypeUses}
+use Rattle.proof_term_lists.specs.declared.Added.{Added}
+use Rattle.proof_term_lists.specs.declared.Added.the-variants.{Nothing, Datatype, Proposition}
+use Rattle.proof_term_lists.specs.Labels.{labelUses, termUses, propositionAdds, labelAdds, recordAdds, addedUses, AddedStands, Listable, termIn}
 
--- the first lists, joined
-joined : {A : Type 0} → ℕ → (ℕ → List A) → List A
-joined zero f = []
-joined (suc n) f = joined n f ++ f n
+module _ (bytes : List ℕ) (v : Vocabulary) where
+  -- what a label adds, as the definitions say
+  label-adds : (list : TermList) (kind number : ℕ) → addedUses bytes v list (labelAdds list kind number) ≡ labelUses list (labelOf (propIn bytes v) kind number)
+  unfolding labelAdds propositionAdds labelUses labelOf labelAtoms labelDatatypes propositionDatatypes
+  label-adds Atoms kind number = by-cases (ℕ-discrete kind 2) (λ is. rw is) (λ other. rw (ne-eqb kind 2 other))
+  label-adds (Datatypes First) kind number = by-cases (ℕ-discrete kind 2) (λ is. rw is) (λ other. rw (ne-eqb kind 2 other))
+  label-adds (Datatypes Second) kind number = by-cases (ℕ-discrete kind 2) (λ is. rw is) (λ other. rw (ne-eqb kind 2 other))
 
--- what is in one of them is in all of them joined
-one-joined : {A : Type 0} (f : ℕ → List A) {x : A} (i n : ℕ) → i < n → List·Memᴰ x (f i) → List·Memᴰ x (joined n f)
-unfolding joined
-one-joined f i zero h m = absurd (omega arith)
-one-joined f i (suc n) h m = by-cases (decLt i n)
-    (λ l. Memᴰ·append-left (f n) (one-joined f i n l m))
-    (λ l. let last : i ≡ n = omega arith in Memᴰ·append-right (joined n f) (rw last at m))
+  record-adds : (list : TermList) (records : List ℕ) (m : ℕ)
+      → addedUses bytes v list (recordAdds list records m) ≡ ofRecord (labelUses list) (propIn bytes v) records m
+  unfolding recordAdds ofOwnLabel
+  record-adds list records m = go (hasLabel (fieldAt records m 0) (fieldAt records m 3))
+    where
+      go : (b : Bool) → addedUses bytes v list (cond b (labelAdds list (fieldAt records m 3) (fieldAt records m 4)) Nothing)
+          ≡ cond b (labelUses list (labelOf (propIn bytes v) (fieldAt records m 3) (fieldAt records m 4))) []
+      go true = label-adds list (fieldAt records m 3) (fieldAt records m 4)
+      go false = refl
 
-same-at : {A B : Type 0} (m w : A → B) (l : List A) (d : A) → m d ≡ w d → map m l ≡ map w l → (i : ℕ) → m (getD l i d) ≡ w (getD l i d)
-same-at m w l d p q i = cc (List·getD-map m l i d, List·getD-map w l i d)
+  -- the entries that the labels of the records below m add
+  abbrev pub usesBelow : TermList → List ℕ → ℕ → List (AtomUse ℕ)
+  usesBelow list records m = ofRecords (labelUses list) (propIn bytes v) records m
 
--- What a label adds, whatever that is.
-module _ {A : Type 0} (add : Label ℕ → List A) (props : ℕ → Prop ℕ) where
-  -- what a record's own label adds, by the kind of the record, the kind of the label and its number
-  abbrev ownTable : ℕ → ℕ → List (List A)
-  ownTable kind number =
-      [] ∷ [] ∷ [] ∷ [] ∷ ofLabel add (parameterLabel props kind number) ∷ [] ∷ [] ∷ [] ∷ [] ∷ [] ∷ [] ∷ add (labelOf props kind number) ∷ [] ∷ [] ∷ []
+  pub uses-none : (list : TermList) (records : List ℕ) → usesBelow list records 0 ≡ []
+  unfolding ofRecords
+  uses-none list records = refl
 
-  ofOwn : ℕ → ℕ → ℕ → List A
-  ofOwn record-kind kind number = getD (ownTable kind number) record-kind []
+  pub uses-more : (list : TermList) (records : List ℕ) (m : ℕ) {added : Added} → added ≡ recordAdds list records m
+      → usesBelow list records (m + 1) ≡ usesBelow list records m ++ addedUses bytes v list added
+  uses-more list records m is =
+      records-more (labelUses list) (propIn bytes v) records m
+      ∙ ap (λ own. usesBelow list records m ++ own) (rw is (sym (record-adds list records m)))
 
-  module _ (number : ℕ → ℕ) (d e : ℕ) where
-    abbrev table : List Form
-    table = forms props (number 1) (number 2) (number 3) d e
+  -- what a label adds stands in the memory
+  module _ (within : Within bytes v) (few : v .«name_count» ≤ 65536) (kind number : ℕ)
+      (fits : LabelFits (v .«name_count») (Present (v .«name_count») (codeIn bytes v)) kind number) where
+    name-stands : kind ≡ 2 → AddedStands bytes v (Datatype number)
+    name-stands is = let below = fits .datatype is in (below, omega arith)
 
-    abbrev over : (ℕ → ProofTerm ℕ) → Form → ProofTerm ℕ
-    over part form = formTerm part form (number 1) (number 2) (number 3)
+    proposition-stands : (kind ≡ 2 → ⊥) → AddedStands bytes v (Proposition number)
+    proposition-stands other = record { within = within; present = fits .proposition other }
 
-    -- over parts without labels a record has its own
-    own-is : (kind : ℕ) → ofLabels add (over (λ i. Unit) (getD table kind (leaf Unit))) ≡ ofOwn kind (number 3) d
-    unfolding ofLabels ofOwn
-    own-is kind = sym (List·getD-map (λ form. ofLabels add (over (λ i. Unit) form)) table kind (leaf Unit))
+    label-stands : (list : TermList) → AddedStands bytes v (labelAdds list kind number)
+    unfolding labelAdds propositionAdds
+    label-stands Atoms = by-cases (ℕ-discrete kind 2) (λ is. rw is tt) (λ other. rw (ne-eqb kind 2 other) (proposition-stands other))
+    label-stands (Datatypes First) = by-cases (ℕ-discrete kind 2) (λ is. rw is (name-stands is)) (λ other. rw (ne-eqb kind 2 other) tt)
+    label-stands (Datatypes Second) =
+        by-cases (ℕ-discrete kind 2) (λ is. rw is (name-stands is)) (λ other. rw (ne-eqb kind 2 other) (proposition-stands other))
 
-    labels-are : (part : ℕ → ProofTerm ℕ) (kind : ℕ) → ofLabels add (over part (getD table kind (leaf Unit)))
-        ≡ joined (partCount kind) (λ i. ofLabels add (part (number (1 + i)))) ++ ofOwn kind (number 3) d
-    unfolding ofLabels joined
-    labels-are part kind =
-        rw (← own-is kind, part-count props kind (number 1) (number 2) (number 3) d e)
-        (same-at (λ form. ofLabels add (over part form))
-        (λ form. joined (arity form) (λ i. ofLabels add (part (number (1 + i)))) ++ ofLabels add (over (λ i. Unit) form))
-        table (leaf Unit) refl (simp (append-nil, append-assoc)) kind)
+module _ {bytes : List ℕ} {v : Vocabulary} {records : List ℕ} {n : ℕ} (here : Listable bytes v records n) (list : TermList) where
+  pub added-stands : (m : ℕ) {added : Added} → m ≤ n → added ≡ recordAdds list records m → AddedStands bytes v added
+  unfolding recordAdds
+  added-stands m h is = rw is (go (hasLabel (fieldAt records m 0) (fieldAt records m 3)) refl)
+    where
+      go : (b : Bool) → hasLabel (fieldAt records m 0) (fieldAt records m 3) ≡ b
+          → AddedStands bytes v (cond b (labelAdds list (fieldAt records m 3) (fieldAt records m 4)) Nothing)
+      go true has = label-stands bytes v (here .within) (here .few) (fieldAt records m 3) (fieldAt records m 4) (here .labels m h has) list
+      go false has = tt
 
-  -- By whether the record has a label.
-  module _ (kind label number : ℕ) where
-    own-else : (kind ≡ 11 → ⊥) → (kind ≡ 4 → ⊥) → ofOwn kind label number ≡ []
-    unfolding ofOwn
-    own-else h k =
-        getD-set-other (set (replicate 14 []) 4 (ofLabel add (parameterLabel props label number))) 11 kind (add (labelOf props label number)) [] h
-        ∙ (getD-set-other (replicate 14 []) 4 kind (ofLabel add (parameterLabel props label number)) [] k
-        ∙ none-at 14 kind)
-      where
-        none-at : (n i : ℕ) → _≡_ {A = List A} (getD (replicate n []) i []) []
-        none-at zero i = refl
-        none-at (suc n) zero = refl
-        none-at (suc n) (suc i) = none-at n i
-
-    owned : hasLabel kind label ≡ true → ofOwn kind label number ≡ add (labelOf props label number)
-    unfolding ofOwn ofLabel parameterLabel
-    owned h = ⊎-elim (λ e. rw e) (λ e. rw (e .0, e .1)) (labelled-kind kind label h)
-
-    unowned : hasLabel kind label ≡ false → ofOwn kind label number ≡ []
-    unfolding hasLabel ofOwn ofLabel parameterLabel
-    unowned h = by-cases (ℕ-discrete kind 11)
-        (λ e. absurd (true≢false (rw e at h)))
-        (λ other. by-cases (ℕ-discrete kind 4)
-        (λ e. let none-there = not-false (eqb label 0) (rw e at h) in rw (e, none-there))
-        (λ another. own-else other another))
-
--- what the labels of the first parts of record n add
-pub ofParts : {A : Type 0} → (Label ℕ → List A) → (ℕ → Prop ℕ) → List ℕ → ℕ → ℕ → List A
-ofParts add props records n i = joined i (λ j. ofLabels add (partAt props records n (fieldAt records n (1 + j))))
-
-module _ {A : Type 0} (add : Label ℕ → List A) (props : ℕ → Prop ℕ) (records : List ℕ) (n : ℕ) where
-  pub parts-none : ofParts add props records n 0 ≡ []
-  unfolding ofParts joined
-  parts-none = refl
-
-  parts-all : {i : ℕ} → i ≡ partCount (fieldAt records n 0) → ofLabels add (termAt props records n)
-      ≡ ofParts add props records n i ++ ofOwn add props (fieldAt records n 0) (fieldAt records n 3) (fieldAt records n 4)
-  unfolding ofParts recordTermAt
-  parts-all all = rw (all, termAt-is props records n) (labels-are add props (fieldAt records n) (fieldAt records n 4) (fieldAt records n 5) (partAt props records n) (fieldAt records n 0))
-
-  module _ (i : ℕ) {part : ℕ} (is : part ≡ fieldAt records n (1 + i)) where
-    parts-more : ofParts add props records n (i + 1) ≡ ofParts add props records n i ++ ofLabels add (partAt props records n part)
-    unfolding ofParts joined
-    parts-more = rw (is, add-one i)
-
-    pub parts-part : part < n → ofParts add props records n (i + 1) ≡ ofParts add props records n i ++ ofLabels add (termAt props records part)
-    parts-part l = rw (← part-below props records n part l) parts-more
-
-    -- what a part's labels add is among what all parts' add
-    pub part-among : {x : A} → i < partCount (fieldAt records n 0) → part < n → List·Memᴰ x (ofLabels add (termAt props records part)) → List·Memᴰ x (ofLabels add (termAt props records n))
-    unfolding ofParts
-    part-among h l m =
-        rw (parts-all refl) (Memᴰ·append-left _ (one-joined (λ j. ofLabels add (partAt props records n (fieldAt records n (1 + j)))) i _ h (rw (← is, part-below props records n part l) m)))
-
-    pub parts-unit : n ≤ part → ofParts add props records n (i + 1) ≡ ofParts add props records n i
-    unfolding ofLabels
-    parts-unit l = parts-more ∙ rw (part-else props records n part l, append-nil)
-
-  -- once all parts are done, the record's own label is left
-  module _ {i kind label number : ℕ} (all : i ≡ partCount (fieldAt records n 0)) (k : kind ≡ fieldAt records n 0) (l : label ≡ fieldAt records n 3) (m : number ≡ fieldAt records n 4) where
-    pub with-label : hasLabel kind label ≡ true
-        → ofLabels add (termAt props records n) ≡ ofParts add props records n i ++ add (labelOf props label number)
-    with-label h = parts-all all ∙ ap (λ own. ofParts add props records n i ++ own) (rw (← k, ← l, ← m) (owned add props kind label number h))
-
-    pub own-among : {x : A} → hasLabel kind label ≡ true → List·Memᴰ x (add (labelOf props label number)) → List·Memᴰ x (ofLabels add (termAt props records n))
-    own-among h m = rw (with-label h) (Memᴰ·append-right (ofParts add props records n i) m)
-
-    pub without-label : hasLabel kind label ≡ false → ofLabels add (termAt props records n) ≡ ofParts add props records n i
-    without-label h =
-        parts-all all
-        ∙ (ap (λ own. ofParts add props records n i ++ own) (rw (← k, ← l, ← m) (unowned add props kind label number h)) ∙ append-nil _)
+  -- once all records are passed
+  pub uses-all : (m : ℕ) → m ≡ n + 1 → usesBelow bytes v list records m ≡ termUses list (termIn bytes v records n)
+  uses-all m all = rw all (in-order (labelUses list) (propIn bytes v) records (here .in-order))
 
 -- A function of lists that goes through joining goes through the labels.
 module _ {A B : Type 0} (f : List A → List B) (empty : f [] ≡ []) (joins : (a b : List A) → f (a ++ b) ≡ f a ++ f b) (add : Label ℕ → List A) where
@@ -148,7 +94,7 @@ module _ {A B : Type 0} (f : List A → List B) (empty : f [] ≡ []) (joins : (
   of-label none = sym empty
   of-label (some l) = refl
 
-  pub of-labels : (t : ProofTerm ℕ) → ofLabels (λ l. f (add l)) t ≡ f (ofLabels add t)
+  of-labels : (t : ProofTerm ℕ) → ofLabels (λ l. f (add l)) t ≡ f (ofLabels add t)
   unfolding ofLabels
   of-labels (Ident x) = sym empty
   of-labels (Pair a b) = rw (of-labels a, of-labels b) (sym (joins _ _))

@@ -1,4 +1,3 @@
--- The laws of a term's labels.
+-- The laws of what a term's labels add.
 pub mod Labels
-pub mod Fitting
 pub mod Numbers

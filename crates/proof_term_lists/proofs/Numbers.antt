@@ -1,21 +1,27 @@
--- The numbers of a term's lists are those that its labels add, one after the other.
+-- The numbers of a term's lists are those of the entries that its labels add.
 use Prim.Native.Nat.{ℕ}
-use mathlib.Core.Path.{_≡_, refl, sym}
-use mathlib.Core.List.{List, [], _∷_, _++_}
+use mathlib.Core.Path.{_≡_, refl, sym, ap, _∙_}
+use mathlib.Core.List.{List, [], _∷_, map}
 use Rattle.definitions.specs.declared.TermList.{TermList}
 use Rattle.definitions.specs.declared.TermList.the-variants.{Atoms, Datatypes}
-use Rattle.definitions.specs.Prop.{AtomUse}
-use Rattle.definitions.specs.Term.{ProofTerm, ofLabels, labelAtoms, atomList, datatypeList}
+use Rattle.definitions.specs.Term.{ProofTerm, atomList}
 use Rattle.definitions.specs.Answers.{atomNumbers}
-use Rattle.proof_term_lists.specs.Numbers.{listNumbers, labelNumbers}
-use Rattle.proof_term_lists.proofs.Labels.{of-labels}
+use Rattle.prop_lists.specs.Entries.{datatypeUses, entryNumbers}
+use Rattle.proof_term_lists.specs.Labels.{labelUses, termUses}
+use Rattle.proof_term_lists.specs.Numbers.{listNumbers}
+use Rattle.proof_term_lists.proofs.Labels.{datatypes-are}
 
-numbers-join : (a b : List (AtomUse ℕ)) → atomNumbers (a ++ b) ≡ atomNumbers a ++ atomNumbers b
-unfolding atomNumbers
-numbers-join [] b = refl
-numbers-join (u ∷ a) b = rw (numbers-join a b)
+-- no entries have no numbers
+pub no-numbers : (list : TermList) → entryNumbers list [] ≡ []
+unfolding entryNumbers atomNumbers
+no-numbers Atoms = refl
+no-numbers (Datatypes v) = refl
 
-pub numbers-are : (list : TermList) (t : ProofTerm ℕ) → listNumbers list t ≡ ofLabels (labelNumbers list) t
-unfolding listNumbers labelNumbers atomList datatypeList atomNumbers
-numbers-are Atoms t = sym (of-labels atomNumbers refl numbers-join labelAtoms t)
-numbers-are (Datatypes v) t = refl
+names-of : (ts : List ℕ) → map (λ e. e .name) (datatypeUses ts) ≡ ts
+names-of [] = refl
+names-of (t ∷ ts) = ap (λ us. t ∷ us) (names-of ts)
+
+pub numbers-are : (list : TermList) (t : ProofTerm ℕ) → listNumbers list t ≡ entryNumbers list (termUses list t)
+unfolding listNumbers entryNumbers labelUses atomList
+numbers-are Atoms t = refl
+numbers-are (Datatypes v) t = sym (ap (entryNumbers (Datatypes v)) (datatypes-are v t) ∙ names-of _)

@@ -1,22 +1,23 @@
--- What the labels of a term in records add, and what is asked of the labels.
-use Prim.Native.Nat.{ℕ, _≤_, _<_}
-use mathlib.Core.Path.{_≡_}
-use mathlib.Core.List.{List, map, List·Memᴰ}
-use Rattle.definitions.specs.declared.Version.the-variants.{First}
+-- What the labels of a term in records add to a list, and what is asked of the labels.
+use Prim.Native.Nat.{ℕ, _+_, _*_, _≤_, _<_}
+use mathlib.Core.Bool.{cond}
+use mathlib.Core.List.{List, [], _∷_}
+use lib.ListN.{length}
+use lib.Dec.{eqb}
+use Rattle.definitions.specs.declared.Version.{Version}
+use Rattle.definitions.specs.declared.Version.the-variants.{First, Second}
 use Rattle.definitions.specs.declared.TermList.{TermList}
 use Rattle.definitions.specs.declared.TermList.the-variants.{Atoms, Datatypes}
-use Rattle.definitions.specs.Prop.{Prop, AtomUse}
-use Rattle.definitions.specs.Term.{Label, ProofTerm, ofLabels, labelAtoms, labelDatatypes, datatypeList}
-use Rattle.prefix_code.specs.Scan.{At}
-use Rattle.proof_term.specs.Records.{fieldAt, termAt}
-use Rattle.proof_term.specs.Readable.{PropositionLabel}
-
-abbrev pub useOf : ℕ → ℕ → AtomUse ℕ
-useOf name count = record { name = name; count = count }
-
--- datatypes as uses
-abbrev pub datatypeUses : List ℕ → List (AtomUse ℕ)
-datatypeUses ts = map (λ t. useOf t 0) ts
+use Rattle.definitions.specs.Prop.{AtomUse}
+use Rattle.definitions.specs.Term.{Label, ProofTerm, ofLabels, labelAtoms, labelDatatypes}
+use Rattle.prefix_code.specs.PropAt.{Present}
+use Rattle.vocabulary.specs.declared.Vocabulary.{Vocabulary}
+use Rattle.vocabulary.specs.Vocabulary.{codeIn, propIn, Within, SomeProposition}
+use Rattle.proof_term.specs.Records.{recordSize, fieldAt, termAt}
+use Rattle.proof_term.specs.Labels.{hasLabel, InOrder, LabelsFit}
+use Rattle.prop_lists.specs.Entries.{useOf, datatypeUses, entries}
+use Rattle.proof_term_lists.specs.declared.Added.{Added}
+use Rattle.proof_term_lists.specs.declared.Added.the-variants.{Nothing, Datatype, Proposition}
 
 -- what a label adds to a list
 unfoldable pub labelUses : TermList → Label ℕ → List (AtomUse ℕ)
@@ -27,27 +28,43 @@ labelUses (Datatypes v) l = datatypeUses (labelDatatypes v l)
 abbrev pub termUses : TermList → ProofTerm ℕ → List (AtomUse ℕ)
 termUses list t = ofLabels (labelUses list) t
 
--- the proposition of a position stands there in the code
-pub record PropStands (names : ℕ) (code : List ℕ) (props : ℕ → Prop ℕ) (at : ℕ) : Type 0 where
-  pub rest : List ℕ
-  pub stands : At names code at (props at) rest
+-- what a label adds, by its kind and its number: a label of kind 2 is a datatype, any other a proposition, whose datatypes are listed
+-- in version 2 only
+unfoldable pub propositionAdds : Version → ℕ → Added
+propositionAdds First number = Nothing
+propositionAdds Second number = Proposition number
 
--- what a label's number is: the number of a datatype's name, or the position at which its proposition stands
-pub record LabelFits (names : ℕ) (code : List ℕ) (props : ℕ → Prop ℕ) (kind number : ℕ) : Type 0 where
-  pub datatype : kind ≡ 2 → number < names
-  pub proposition : (kind ≡ 2 → ⊥) → PropStands names code props number
+unfoldable pub labelAdds : TermList → ℕ → ℕ → Added
+labelAdds Atoms kind number = cond (eqb kind 2) Nothing (Proposition number)
+labelAdds (Datatypes v) kind number = cond (eqb kind 2) (Datatype number) (propositionAdds v number)
 
--- each datatype label of the term that record n holds does so (version 1 lists them and nothing else), and each proposition label
--- of the records up to n
-pub record LabelsFit (names : ℕ) (code records : List ℕ) (n : ℕ) (props : ℕ → Prop ℕ) : Type 0 where
-  pub datatypes : (t : ℕ) → List·Memᴰ t (datatypeList First (termAt props records n)) → t < names
-  pub propositions : (m : ℕ) → m ≤ n → PropositionLabel records m → PropStands names code props (fieldAt records m 4)
+-- what the label of record m adds, if it has one
+unfoldable pub recordAdds : TermList → List ℕ → ℕ → Added
+recordAdds list records m =
+    cond (hasLabel (fieldAt records m 0) (fieldAt records m 3)) (labelAdds list (fieldAt records m 3) (fieldAt records m 4)) Nothing
 
--- for some propositions
-pub record SomeLabel (names : ℕ) (code : List ℕ) (kind number : ℕ) : Type 0 where
-  pub props : ℕ → Prop ℕ
-  pub fits : LabelFits names code props kind number
+-- In a memory with a vocabulary:
+module _ (bytes : List ℕ) (v : Vocabulary) where
+  -- the entries of what is added
+  abbrev pub addedUses : TermList → Added → List (AtomUse ℕ)
+  addedUses list Nothing = []
+  addedUses list (Datatype name) = useOf name 0 ∷ []
+  addedUses list (Proposition at) = entries list (propIn bytes v at)
 
-pub record SomeLabels (names : ℕ) (code records : List ℕ) (n : ℕ) : Type 0 where
-  pub props : ℕ → Prop ℕ
-  pub fit : LabelsFit names code records n props
+  -- it has a name there, or a proposition
+  abbrev pub AddedStands : Added → Type 0
+  AddedStands Nothing = Unit {0}
+  AddedStands (Datatype name) = (name < v .«name_count») × (name < 65536)
+  AddedStands (Proposition at) = SomeProposition bytes v at
+
+  -- the term that record n holds
+  abbrev pub termIn : List ℕ → ℕ → ProofTerm ℕ
+  termIn records n = termAt (propIn bytes v) records n
+
+  -- the records up to n are there and stand in the order of the term that record n holds, and their labels fit
+  pub record Listable (records : List ℕ) (n : ℕ) : Type 0 where
+    pub held : recordSize * (n + 1) ≤ length records
+    pub in-order : InOrder records n
+    pub within : Within bytes v
+    pub few : v .«name_count» ≤ 65536
+    pub labels : LabelsFit (v .«name_count») (Present (v .«name_count») (codeIn bytes v)) records n

@@ -1,15 +1,11 @@
--- The two lists as numbers, and what one label adds to them.
+-- The two lists as numbers.
 use Prim.Native.Nat.{ℕ}
 use mathlib.Core.List.{List}
 use Rattle.definitions.specs.declared.TermList.{TermList}
 use Rattle.definitions.specs.declared.TermList.the-variants.{Atoms, Datatypes}
-use Rattle.definitions.specs.Term.{Label, ProofTerm, labelAtoms, labelDatatypes, atomList, datatypeList}
+use Rattle.definitions.specs.Term.{ProofTerm, atomList, datatypeList}
 use Rattle.definitions.specs.Answers.{atomNumbers}
 
 unfoldable pub listNumbers : TermList → ProofTerm ℕ → List ℕ
 listNumbers Atoms t = atomNumbers (atomList t)
 listNumbers (Datatypes v) t = datatypeList v t
-
-unfoldable pub labelNumbers : TermList → Label ℕ → List ℕ
-labelNumbers Atoms l = atomNumbers (labelAtoms l)
-labelNumbers (Datatypes v) l = labelDatatypes v l

@@ -1,93 +1,112 @@
-// The atom list and the datatype list of a term in records, as numbers in lent memory: what the labels add, a term's parts before its own.
+// The atom list and the datatype list of a term in records, as numbers in lent memory. The records stand in the term's order, so that
+// a list is what the labels of one record after the other add.
 use definitions::TermList;
 use definitions::Version;
-use prefix_code::scan;
 use proof_term::DATATYPE;
 use proof_term::field;
 use proof_term::has_label;
-use proof_term::part_count;
-use prop_lists::put_atoms;
-use prop_lists::put_datatypes;
-use prop_lists::put_number;
-ghost use Prim.Native.Nat.{ℕ, _+_, _*_, _≤_, _<_};
+use prop_lists::put_entries;
+use prop_lists::put_entry;
+use vocabulary::Vocabulary;
+ghost use mathlib.Core.Path.{_≡_};
+ghost use Prim.Native.Nat.{_+_, _*_, _≤_};
 ghost use lib.ListN.{length};
-ghost use Rattle.definitions.specs.Prop.{Prop};
 ghost use Rattle.output.specs.Wrote.{Wrote};
-ghost use Rattle.proof_term.specs.Records.{recordSize, labelOf, termAt};
-ghost use Rattle.proof_term_lists.specs.Labels.{LabelFits, LabelsFit, SomeLabel, SomeLabels};
-ghost use Rattle.proof_term_lists.specs.Numbers.{listNumbers, labelNumbers};
+ghost use Rattle.proof_term.specs.Records.{recordSize};
+ghost use Rattle.prop_lists.specs.Entries.{entryNumbers};
+ghost use Rattle.proof_term_lists.specs.Labels.{labelAdds, recordAdds, addedUses, AddedStands, Listable, termIn};
+ghost use Rattle.proof_term_lists.specs.Numbers.{listNumbers};
 
-// Writes what a label adds to a list.
-fn put_label(
-    kind: usize,
-    number: usize,
-    list: TermList,
-    code: &[u8],
-    names: usize,
-    out: &mut [u16],
-    to: usize,
-    write: bool,
-) -> usize
-    requires { ⌜ SomeLabel names (now code) kind number × (number < 65536) ⌝ }
-    ensures { λ r. ⌜ ((props : ℕ → Prop ℕ) → LabelFits names (now (code .entry)) props kind number →
-        Wrote (labelNumbers list (labelOf props kind number)) write (now (out .entry)) to (now (out .exit)) r) ⌝ }
+// What a label adds to a list: nothing, a datatype by the number of its name, or the entries of the proposition at an offset of the
+// code.
+pub enum Added {
+    Nothing,
+    Datatype(usize),
+    Proposition(usize),
+}
+
+// What a label adds to a list, by its kind and its number. A datatype is no atom, and the datatypes of a proposition are listed in
+// version 2 only.
+fn label_adds(kind: usize, number: usize, list: TermList) -> Added
+    ensures { λ r. ⌜ r ≡ labelAdds list kind number ⌝ }
 {
     match list {
         TermList::Atoms => {
             if kind == DATATYPE {
-                return to;
+                return Added::Nothing;
             }
-            let end = scan(code, number, names);
-            return put_atoms(code, number, end, names, out, to, write);
+            Added::Proposition(number)
         }
         TermList::Datatypes(version) => {
             if kind == DATATYPE {
-                return put_number(out, to, number as u16, write);
+                return Added::Datatype(number);
             }
             match version {
-                Version::First => {
-                    return to;
-                }
-                Version::Second => {
-                    let end = scan(code, number, names);
-                    return put_datatypes(code, number, end, names, out, to, write);
-                }
+                Version::First => Added::Nothing,
+                Version::Second => Added::Proposition(number),
             }
         }
     }
 }
 
-// Writes a list of the term that record `n` holds: what the labels of its parts add, and then its own.
-pub fn put_list(
-    records: &[u16],
-    n: usize,
+// What the label of a record adds to a list, and nothing where it has none.
+pub fn record_adds(term_records: &[u16], m: usize, list: TermList) -> Added
+    requires { ⌜ recordSize * (m + 1) ≤ length (now «term_records») ⌝ }
+    ensures { λ r. ⌜ r ≡ recordAdds list (now («term_records» .entry)) m ⌝ }
+{
+    let kind = field(term_records, m, 3);
+    if has_label(field(term_records, m, 0), kind) {
+        return label_adds(kind, field(term_records, m, 4), list);
+    }
+    Added::Nothing
+}
+
+// Writes what a label adds to a list.
+fn put_added(
+    added: Added,
     list: TermList,
-    code: &[u8],
-    names: usize,
+    bytes: &[u8],
+    v: Vocabulary,
     out: &mut [u16],
     to: usize,
     write: bool,
 ) -> usize
-    requires { ⌜ (recordSize * (n + 1) ≤ length (now records)) × SomeLabels names (now code) (now records) n ⌝ }
-    ensures { λ r. ⌜ ((props : ℕ → Prop ℕ) → LabelsFit names (now (code .entry)) (now (records .entry)) n props →
-        Wrote (listNumbers list (termAt props (now (records .entry)) n)) write (now (out .entry)) to (now (out .exit)) r) ⌝ }
+    requires { ⌜ AddedStands (now bytes) v added ⌝ }
+    ensures { λ r. ⌜ Wrote (entryNumbers list (addedUses (now (bytes .entry)) v list added))
+        write (now (out .entry)) to (now (out .exit)) r ⌝ }
 {
-    let kind = field(records, n, 0);
-    let parts = part_count(kind);
-    let mut position = to;
-    let mut i = 0;
-    'parts: while i < parts {
-        let part = field(records, n, 1 + i);
-        i += 1;
-        if n <= part {
-            continue 'parts;
+    match added {
+        Added::Nothing => {
+            return to;
         }
-        position = put_list(records, part, list, code, names, out, position, write);
+        Added::Datatype(name) => {
+            return put_entry(list, name, 0, out, to, write);
+        }
+        Added::Proposition(at) => {
+            return put_entries(bytes, v, at, list, out, to, write);
+        }
     }
-    let label = field(records, n, 3);
-    let number = field(records, n, 4);
-    if has_label(kind, label) {
-        return put_label(label, number, list, code, names, out, position, write);
+}
+
+// Writes a list of the term that record `n` holds: what the label of each record up to it adds.
+pub fn put_list(
+    term_records: &[u16],
+    n: usize,
+    list: TermList,
+    bytes: &[u8],
+    v: Vocabulary,
+    out: &mut [u16],
+    to: usize,
+    write: bool,
+) -> usize
+    requires { ⌜ Listable (now bytes) v (now «term_records») n ⌝ }
+    ensures { λ r. ⌜ Wrote (listNumbers list (termIn (now (bytes .entry)) v (now («term_records» .entry)) n))
+        write (now (out .entry)) to (now (out .exit)) r ⌝ }
+{
+    let mut position = to;
+    for m in 0..n + 1 {
+        let added = record_adds(term_records, m, list);
+        position = put_added(added, list, bytes, v, out, position, write);
     }
     position
 }

@@ -1,22 +1,26 @@
 -- A row of propositions reads back. Behind the head of its first one stands a row again: that one's parts, and then the others.
 use Prim.Native.Nat.{ℕ, zero, suc, _+_, _-_, _≤_, _<_}
 use mathlib.Core.Path.{_≡_, refl, ap, _∙_}
-use mathlib.Core.List.{List, [], _∷_, _++_, append-assoc, append-nil, flatMap}
+use mathlib.Core.List.{List, [], _∷_, _++_, append-assoc, append-nil, map-append, flatMap}
 use native.Mathlib.Omega.{arith}
 use lib.ListN.{length, drop, length-append, length-drop}
 use lib.Seq.{take-at}
-use Rattle.definitions.specs.Prop.{Prop, True, False, Binary, Atom, Quantified, getAtoms, getDatatypes}
+use Rattle.definitions.specs.declared.TermList.{TermList}
+use Rattle.definitions.specs.declared.TermList.the-variants.{Atoms, Datatypes}
+use Rattle.definitions.specs.Prop.{Prop, AtomUse, True, False, Binary, Atom, Quantified, getAtoms, getDatatypes}
 use Rattle.definitions.specs.Code.{followedBy, _>>=_, byte, proposition, u16, encode, Codable}
 use Rattle.definitions.proofs.PrefixCode.{code-nonempty, read-encode}
-use Rattle.prefix_code.specs.Scan.{Stands, Ends, At}
+use Rattle.prefix_code.specs.Scan.{Stands, Ends, At, Scanned}
+use Rattle.prefix_code.specs.PropAt.{propAt}
 use Rattle.prefix_code.specs.Head.{Head, TrueHead, FalseHead, BinaryHead, AtomHead, QuantifiedHead, encodeHead, CodableHead, headCoding}
 use Rattle.prefix_code.proofs.Positions.{after, extent}
 use Rattle.prefix_code.proofs.Heads.{HeadAt}
 use Rattle.prefix_code.proofs.Forms.{inside-at}
-use Rattle.prop_lists.specs.declared.Listing.{Listing}
-use Rattle.prop_lists.specs.declared.Listing.the-variants.{Atoms, Datatypes}
+use Rattle.prefix_code.proofs.Reading.{inside}
+use Rattle.vocabulary.specs.declared.Vocabulary.{Vocabulary}
+use Rattle.vocabulary.specs.Vocabulary.{codeIn, propIn, SomeProposition}
 use Rattle.prop_lists.specs.Row.{encodeRow, CodableRow, rowCoding, Row, andAfter, readRow, propositionsFrom}
-use Rattle.prop_lists.specs.Entries.{Entry, entries, entriesFrom, atomsFrom, datatypesFrom}
+use Rattle.prop_lists.specs.Entries.{useOf, entries, entriesFrom}
 
 -- A proposition is a head and its parts.
 abbrev headOf : Prop ℕ → Head
@@ -34,14 +38,14 @@ parts (Atom a ps) = []
 parts (Quantified q x t p) = p ∷ []
 
 -- what a head adds to a list
-abbrev pub headEntries : Head → (listing : Listing) → List (Entry listing)
-headEntries TrueHead listing = []
-headEntries FalseHead listing = []
-headEntries (BinaryHead c) listing = []
-headEntries (AtomHead a ps) Atoms = record { name = a; count = length ps } ∷ []
-headEntries (AtomHead a ps) Datatypes = []
+abbrev pub headEntries : Head → TermList → List (AtomUse ℕ)
+headEntries TrueHead list = []
+headEntries FalseHead list = []
+headEntries (BinaryHead c) list = []
+headEntries (AtomHead a ps) Atoms = useOf a (length ps) ∷ []
+headEntries (AtomHead a ps) (Datatypes v) = []
 headEntries (QuantifiedHead q x t) Atoms = []
-headEntries (QuantifiedHead q x t) Datatypes = t ∷ []
+headEntries (QuantifiedHead q x t) (Datatypes v) = useOf t 0 ∷ []
 
 head-code : (p : Prop ℕ) → encode p ≡ encodeHead (headOf p) ++ encodeRow (parts p)
 unfolding encode encodeHead flatMap u16
@@ -51,13 +55,13 @@ head-code (Binary c p q) = rw append-nil
 head-code (Atom a ps) = rw append-nil
 head-code (Quantified q x t p) = rw append-nil
 
-head-list : (p : Prop ℕ) (listing : Listing) → entries listing p ≡ headEntries (headOf p) listing ++ flatMap (entries listing) (parts p)
+head-list : (p : Prop ℕ) (list : TermList) → entries list p ≡ headEntries (headOf p) list ++ flatMap (entries list) (parts p)
 unfolding getAtoms getDatatypes flatMap
-head-list True = elim [ Atoms ↦ refl | Datatypes ↦ refl ]
-head-list False = elim [ Atoms ↦ refl | Datatypes ↦ refl ]
-head-list (Binary c p q) = elim [ Atoms ↦ rw append-nil | Datatypes ↦ rw append-nil ]
-head-list (Atom a ps) = elim [ Atoms ↦ refl | Datatypes ↦ refl ]
-head-list (Quantified q x t p) = elim [ Atoms ↦ rw append-nil | Datatypes ↦ rw append-nil ]
+head-list True = elim [ Atoms ↦ refl | Datatypes v ↦ refl ]
+head-list False = elim [ Atoms ↦ refl | Datatypes v ↦ refl ]
+head-list (Binary c p q) = elim [ Atoms ↦ rw append-nil | Datatypes v ↦ rw (map-append (λ t. useOf t 0) (getDatatypes p) (getDatatypes q), append-nil) ]
+head-list (Atom a ps) = elim [ Atoms ↦ refl | Datatypes v ↦ refl ]
+head-list (Quantified q x t p) = elim [ Atoms ↦ rw append-nil | Datatypes v ↦ rw append-nil ]
 
 flatMap-append : {A B : Type 0} (f : A → List B) (xs ys : List A) → flatMap f (xs ++ ys) ≡ flatMap f xs ++ flatMap f ys
 unfolding flatMap
@@ -98,13 +102,13 @@ module _ (names : ℕ) (code : List ℕ) (at end : ℕ) where
       omega (arith, extent code at (encodeRow (row .propositions)) (drop end code) start (row .stands .1), length-drop end code)
 
   -- the entries of a row, whatever is listed
-  entries-row : (row : Row names code at end) (listing : Listing)
-      → entriesFrom names listing code at end ≡ flatMap (entries listing) (row .propositions)
+  entries-row : (row : Row names code at end) (list : TermList)
+      → entriesFrom names list code at end ≡ flatMap (entries list) (row .propositions)
   unfolding entriesFrom propositionsFrom Stands
-  entries-row row listing =
+  entries-row row list =
       let ps : List (Prop ℕ) = row .propositions in
       let long : length (encodeRow ps) ≡ end - at = omega (arith, row-length row) in
-      ap (flatMap (entries listing))
+      ap (flatMap (entries list))
       (rw (row .stands .1, take-at (encodeRow ps) (drop end code) (end - at) long) (read-row names (end - at) ps (row .stands .0) (omega arith)))
 
   -- a proposition is a row of one
@@ -121,24 +125,33 @@ module _ (names : ℕ) (code : List ℕ) (at end : ℕ) where
       }
 
   -- from where a proposition stands up to its end: its entries
-  pub entries-of : (p : Prop ℕ) (rest : List ℕ) → At names code at p rest → end ≡ at + length (encode p) → (listing : Listing)
-      → entriesFrom names listing code at end ≡ entries listing p
+  pub entries-of : (p : Prop ℕ) (rest : List ℕ) → At names code at p rest → end ≡ at + length (encode p) → (list : TermList)
+      → entriesFrom names list code at end ≡ entries list p
   unfolding flatMap row-of
-  entries-of p rest s ends listing = entries-row (row-of p rest s ends) listing ∙ append-nil (entries listing p)
+  entries-of p rest s ends list = entries-row (row-of p rest s ends) list ∙ append-nil (entries list p)
 
-module _ (names : ℕ) (code : List ℕ) (at : ℕ) (p : Prop ℕ) (rest : List ℕ) (s : At names code at p rest) where
-  pub atoms-of : atomsFrom names code at (at + length (encode p)) ≡ getAtoms p
-  atoms-of = entries-of names code at (at + length (encode p)) p rest s refl Atoms
+-- Of a proposition in a memory, whose code was cut out and scanned: it is a row of one, and has its entries.
+module _ {bytes : List ℕ} {v : Vocabulary} {at : ℕ} (there : SomeProposition bytes v at) {code : List ℕ} (cut : code ≡ codeIn bytes v) where
+  pub begins : at ≤ length code
+  begins = rw cut (omega (arith, inside (there .present) .start))
 
-  pub datatypes-of : datatypesFrom names code at (at + length (encode p)) ≡ getDatatypes p
-  datatypes-of = entries-of names code at (at + length (encode p)) p rest s refl Datatypes
+  stands-there : At (v .«name_count») code at (propAt (v .«name_count») code at) (there .present .rest)
+  stands-there = rw (← cut) at (there .present .stands)
+
+  module _ {end : ℕ} (scanned : Scanned (v .«name_count») code at end) where
+    pub row-there : Row (v .«name_count») code at end
+    row-there = row-of _ code at end _ _ stands-there (scanned .found _ _ stands-there)
+
+    pub entries-there : (list : TermList) → entriesFrom (v .«name_count») list code at end ≡ entries list (propIn bytes v at)
+    unfolding propIn
+    entries-there list = rw (← cut) (entries-of _ code at end _ _ stands-there (scanned .found _ _ stands-there) list)
 
 -- The first head of a row, what it adds to a list, and the row behind it.
 pub record First (names : ℕ) (code : List ℕ) (at end next : ℕ) : Type 0 where
   pub head : Head
   pub stands : HeadAt names code at head (drop next code)
   pub row : Row names code next end
-  pub list : (listing : Listing) → entriesFrom names listing code at end ≡ headEntries head listing ++ entriesFrom names listing code next end
+  pub adds : (list : TermList) → entriesFrom names list code at end ≡ headEntries head list ++ entriesFrom names list code next end
 
 module _ (p : Prop ℕ) (ps : List (Prop ℕ)) where
   -- the code of a row, and its entries: first those of the head, and then those of what stands behind it
@@ -150,12 +163,12 @@ module _ (p : Prop ℕ) (ps : List (Prop ℕ)) where
     append-assoc (encodeHead (headOf p)) (encodeRow (parts p)) (encodeRow ps),
   )
 
-  row-list : (listing : Listing) → flatMap (entries listing) (p ∷ ps) ≡ headEntries (headOf p) listing ++ flatMap (entries listing) (parts p ++ ps)
+  row-list : (list : TermList) → flatMap (entries list) (p ∷ ps) ≡ headEntries (headOf p) list ++ flatMap (entries list) (parts p ++ ps)
   unfolding flatMap
-  row-list listing = cc (
-    head-list p listing,
-    flatMap-append (entries listing) (parts p) ps,
-    append-assoc (headEntries (headOf p) listing) (flatMap (entries listing) (parts p)) (flatMap (entries listing) ps),
+  row-list list = cc (
+    head-list p list,
+    flatMap-append (entries list) (parts p) ps,
+    append-assoc (headEntries (headOf p) list) (flatMap (entries list) (parts p)) (flatMap (entries list) ps),
   )
 
   head-stands : (names : ℕ) (code : List ℕ) (at : ℕ) (rest : List ℕ) → Stands (rowCoding names) code at (p ∷ ps) rest
@@ -188,6 +201,6 @@ module _ (names : ℕ) (code : List ℕ) (at end : ℕ) (row : Row names code at
             head = headOf p;
             stands = rw there here;
             row = behind;
-            list = λ listing.
-                cc (entries-row names code at end row listing, e, row-list p ps listing, entries-row names code next end behind listing);
+            adds = λ list.
+                cc (entries-row names code at end row list, e, row-list p ps list, entries-row names code next end behind list);
           }

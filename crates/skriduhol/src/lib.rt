@@ -11,7 +11,7 @@ use located::put_refusal;
 use output::Written;
 use proof_term_lists::put_list;
 use sheet::Sheet;
-use sheet::code_bytes;
+use sheet::vocabulary;
 use sheet_term::Counted;
 use sheet_term::SheetTerm;
 use sheet_term::TERM_NUMBERS;
@@ -130,12 +130,12 @@ fn list(s: &[u8], h: Sheet, terms: &[u16], n: usize, which: TermList, out: &mut 
     requires { ⌜ AcceptedSheet (now s) h × HeldTerm (now s) (now terms) n ⌝ }
     ensures { λ r. ⌜ Fills (listAnswer which (now (s .entry)) (length (now (out .entry)))) (now (out .entry)) (now (out .exit)) r ⌝ }
 {
-    let code = code_bytes(s, h);
-    let end = put_list(terms, n, which, code, h.names, out, 0, false);
+    let v = vocabulary(h);
+    let end = put_list(terms, n, which, s, v, out, 0, false);
     if out.len() < end {
         return Written::Refused(Refusal::at(16, 0));
     }
-    put_list(terms, n, which, code, h.names, out, 0, true);
+    put_list(terms, n, which, s, v, out, 0, true);
     Written::Length(end)
 }
 

@@ -1,6 +1,6 @@
 -- What is noted of the labels of a sheet's term and then of its goal are the declarations of its text.
-use Prim.Native.Nat.{ℕ, _+_, _*_, _≤_}
-use mathlib.Core.Path.{_≡_, refl, ap, _∙_}
+use Prim.Native.Nat.{ℕ, _*_}
+use mathlib.Core.Path.{_≡_, refl, sym, ap, _∙_}
 use mathlib.Core.Logic.{by-cases}
 use mathlib.Core.List.{List, [], _++_, map-append}
 use native.Mathlib.Omega.{arith}
@@ -10,35 +10,35 @@ use Rattle.definitions.specs.declared.TermList.{TermList}
 use Rattle.definitions.specs.declared.TermList.the-variants.{Atoms, Datatypes}
 use Rattle.definitions.specs.Name.{Name}
 use Rattle.definitions.specs.Prop.{Prop, getAtoms, getDatatypes, renameProp}
-use Rattle.definitions.specs.Sheet.{nameLimit, names, goal, namePairs, textBytes, propositionPairs, codeBytes, nameOf, pairOffset}
+use Rattle.definitions.specs.Sheet.{nameLimit, names, goal, propositionPairs, codeBytes, nameOf, pairOffset}
 use Rattle.definitions.specs.Term.{ProofTerm, atomList, datatypeList, renameTerm}
 use Rattle.definitions.specs.Text.{firsts, firstsAfter, declarations}
 use Rattle.definitions.specs.Answers.{goalProp}
 use Rattle.definitions.proofs.PrefixCode.{Bytes}
-use Rattle.prefix_code.specs.Scan.{At}
-use Rattle.prefix_code.specs.PropAt.{propAt, Present}
-use Rattle.proof_term.specs.Records.{recordSize, termAt}
-use Rattle.proof_term_lists.specs.Labels.{useOf, termUses, LabelsFit, SomeLabels}
+use Rattle.prefix_code.specs.PropAt.{propAt}
+use Rattle.vocabulary.specs.declared.Vocabulary.{Vocabulary}
+use Rattle.vocabulary.specs.Vocabulary.{nameIn, propIn, SomeProposition}
+use Rattle.prop_lists.specs.Entries.{useOf, entries}
+use Rattle.proof_term_lists.specs.Labels.{termUses, Listable, termIn}
 use Rattle.proof_term_lists.proofs.Labels.{atoms-are, datatypes-are}
-use Rattle.proof_term_lists.proofs.Fitting.{labels-fit}
-use Rattle.declarations.specs.Declared.{useOver, usesOver, entriesOf, flagOf, listed, Held, Named, Noted, Notes, SomeProp}
+use Rattle.declarations.specs.Declared.{useOver, declaredUses, entriesOf, flagOf, Noted, Held, Notes}
 use Rattle.declarations.specs.Lines.{declarationLines}
-use Rattle.declarations.proofs.Declared.{flagged-few}
+use Rattle.declarations.proofs.Noting.{declared-held}
 use Rattle.declarations.proofs.Lines.{atoms-declared, datatypes-declared}
 use Rattle.sheet.specs.declared.header.Sheet.{Sheet}
-use Rattle.sheet.specs.Header.{headerOf}
-use Rattle.sheet.proofs.Admitted.{AcceptedSheet, name-within}
+use Rattle.sheet.specs.Header.{headerOf, vocabularyOf}
+use Rattle.sheet.proofs.Admitted.{AcceptedSheet, its-header}
+use Rattle.sheet.proofs.NamesAndCode.{count-is, prop-is, some-proposition, names-of}
 use Rattle.sheet_term.specs.Held.{HeldTerm}
-use Rattle.sheet_term.proofs.Held.{label-present}
 use Rattle.text.specs.Declaring.{termOf, Declares}
-use Rattle.text.proofs.Labels.{proposition-present, proposition-is}
+use Rattle.text.proofs.Labels.{few-names, names-are, props-are, proposition-present, proposition-is, listable}
 use Rattle.text.proofs.Heading.{named-term}
 use Rattle.text.proofs.Renaming.{prop-atoms-renamed, prop-datatypes-renamed, atoms-renamed, datatypes-renamed}
 
 -- the lines of what a term's labels and a proposition list are those of the heading
 lines-are : (list : TermList) (f : ℕ → Name) (t : ProofTerm ℕ) (p : Prop ℕ) {declared : List ℕ} {len : ℕ} {seen : List ℕ}
-    → Noted f (termUses list t ++ listed list p) declared len seen
-    → declarationLines list (usesOver f (entriesOf declared len)) ≡ declarations list (renameTerm f t) (renameProp f p)
+    → Noted f (termUses list t ++ entries list p) declared len seen
+    → declarationLines list (declaredUses f declared len) ≡ declarations list (renameTerm f t) (renameProp f p)
 unfolding declarations
 lines-are Atoms f t p noted =
     atoms-declared noted
@@ -67,61 +67,57 @@ nothing-noted : (f : ℕ → Name) (declared : List ℕ) → Noted f [] declared
 unfolding entriesOf firsts firstsAfter
 nothing-noted f declared = record { entries = refl; flags = λ name count few isSet. absurd (isSet (unset (flagOf name count))) }
 
--- Of an accepted sheet:
-module _ {s : List ℕ} {h : Sheet} (a : AcceptedSheet s h) (bytes : Bytes s) where
-  -- each name has its flags
-  names-flagged : {seen : List ℕ} → length seen ≡ flagCount → Named (namePairs s) (textBytes s) seen (h .names)
-  unfolding headerOf nameLimit
-  names-flagged long = rw (a .header) (record { marks = name-within (a .sheet); flags = omega (arith, a .sheet .in-range .names) })
-
-  labels-stand : {terms : List ℕ} {n : ℕ} → HeldTerm s terms n → LabelsFit (h .names) (codeBytes s) terms n (propAt (h .names) (codeBytes s))
-  unfolding headerOf
-  labels-stand term = rw (a .header) (labels-fit (term .below) (λ m l p. label-present a bytes (term .labels m l (p .labelled) .proposition (p .no-datatype))))
-
-  goal-stands : Present (h .names) (codeBytes s) (pairOffset (propositionPairs s) (h .goal))
-  unfolding headerOf
-  goal-stands = rw (a .header) (proposition-present (a .sheet) bytes (goal s) (a .sheet .in-range .goal))
-
-  goal-is : goalProp s ≡ renameProp (nameOf s) (propAt (names s) (codeBytes s) (pairOffset (propositionPairs s) (goal s)))
-  unfolding goalProp headerOf
-  goal-is = ap (renameProp (nameOf s)) (proposition-is (a .sheet) bytes (goal s) (a .sheet .in-range .goal))
+-- Of an accepted sheet, by its vocabulary:
+module _ {s : List ℕ} {h : Sheet} (a : AcceptedSheet s h) (bytes : Bytes s) {words : Vocabulary} (same : words ≡ vocabularyOf h) where
+  -- before anything is noted
+  nothing-held : {declared : List ℕ} → length declared ≡ 2 * flagCount → Held s words declared 0 noFlags
+  unfolding nameLimit
+  nothing-held long =
+      let has = its-header a in
+      let few = few-names has in
+      rw same
+      (record {
+        names = λ name below. names-of a (rw (count-is has) at below);
+        small = omega arith;
+        flags = omega (arith, no-flags);
+        named = λ j below. absurd (omega arith);
+        room = omega (arith, no-flags);
+        few = omega arith;
+      })
 
   -- what it takes to note the term's labels, from no declarations and no flags
   pub labels-notable : {terms : List ℕ} {n : ℕ} {declared : List ℕ} → HeldTerm s terms n → length declared ≡ 2 * flagCount
-      → (recordSize * (n + 1) ≤ length terms) × SomeLabels (h .names) (codeBytes s) terms n
-      × Named (namePairs s) (textBytes s) noFlags (h .names) × Held (namePairs s) (textBytes s) declared 0 noFlags
-  labels-notable term long = (
-    term .held,
-    record { props = propAt (h .names) (codeBytes s); fit = labels-stand term },
-    names-flagged no-flags,
-    record { marks = λ j below. absurd (omega arith); room = omega (arith, no-flags); few = omega arith },
-  )
+      → Listable s words terms n × Held s words declared 0 noFlags
+  labels-notable term long = (listable (a .sheet) bytes a same term, nothing-held long)
 
-  -- Once they are noted:
-  module _ {terms : List ℕ} {n : ℕ} (term : HeldTerm s terms n) (list : TermList) {declared declared₁ : List ℕ} {len₁ : ℕ} {seen₁ : List ℕ}
-      (labels-noted : (props : ℕ → Prop ℕ) → LabelsFit (h .names) (codeBytes s) terms n props
-      → Notes (namePairs s) (textBytes s) (termUses list (termAt props terms n)) declared 0 noFlags declared₁ len₁ seen₁) where
-    -- the goal can be noted too
-    pub goal-notable : SomeProp (h .names) (codeBytes s) (pairOffset (propositionPairs s) (h .goal))
-        × Named (namePairs s) (textBytes s) seen₁ (h .names) × Held (namePairs s) (textBytes s) declared₁ len₁ seen₁
-    goal-notable =
-        let noted = labels-noted _ (labels-stand term) in
-        (record { prop = _; rest = goal-stands .rest; stands = goal-stands .stands }, names-flagged (noted .flags ∙ no-flags), noted .held)
+  -- Where the goal stands:
+  module _ {pairs : List ℕ} (cut : pairs ≡ propositionPairs s) {goal-offset : ℕ} (is : goal-offset ≡ pairOffset pairs (h .goal)) where
+    offset-is : goal-offset ≡ pairOffset (propositionPairs s) (goal s)
+    unfolding headerOf
+    offset-is = rw (is, cut, a .header)
 
-    -- and after that the declarations are those of the sheet's text
-    pub declares : {declared₂ : List ℕ} {len₂ : ℕ} {seen₂ : List ℕ}
-        → ((p : Prop ℕ) (rest : List ℕ) → At (h .names) (codeBytes s) (pairOffset (propositionPairs s) (h .goal)) p rest
-        → Notes (namePairs s) (textBytes s) (listed list p) declared₁ len₁ seen₁ declared₂ len₂ seen₂)
-        → Declares s list declared₂ len₂
-    unfolding headerOf nameOf
-    declares {seen₂ = seen₂} goal-noted =
-        let first = labels-noted _ (labels-stand term) in
-        let second = goal-noted _ _ (goal-stands .stands) in
+    pub goal-there : SomeProposition s words goal-offset
+    unfolding headerOf
+    goal-there = rw (same, offset-is) (some-proposition (its-header a) (proposition-present (a .sheet) bytes (goal s) (a .sheet .in-range .goal)))
+
+    goal-is : goalProp s ≡ renameProp (nameOf s) (propIn s words goal-offset)
+    unfolding goalProp headerOf
+    goal-is =
+        ap (renameProp (nameOf s)) (proposition-is (a .sheet) bytes (goal s) (a .sheet .in-range .goal) ∙ rw (same, offset-is) (sym (prop-is (its-header a) _)))
+
+    -- once the term's labels and then the goal are noted, the declarations are those of the sheet's text
+    pub declares : {terms : List ℕ} {n : ℕ} → HeldTerm s terms n → (list : TermList)
+        → {declared declared₁ declared₂ : List ℕ} {len₁ len₂ : ℕ} {seen₁ seen₂ : List ℕ}
+        → Notes s words (termUses list (termIn s words terms n)) declared 0 noFlags declared₁ len₁ seen₁
+        → Notes s words (entries list (propIn s words goal-offset)) declared₁ len₁ seen₁ declared₂ len₂ seen₂
+        → Declares s h list declared₂ len₂
+    declares {terms} {n} term list first second =
         let noted = second .adds _ (first .adds [] (nothing-noted _ _)) in
         record {
-          there = omega (arith, second .held .few, second .held .room, flagged-few seen₂);
-          marks = second .held .marks;
-          lines = λ t is.
-              let same : t ≡ termOf s terms n = cc (named-term term) in
-              rw (same, goal-is) (lines-are list (nameOf s) _ _ (rw (a .header) at noted));
+          printable = rw same at (declared-held (second .held));
+          lines = λ t is-term.
+              let held : t ≡ termOf s terms n = cc (named-term term) in
+              let same-lines : declarations list (renameTerm (nameIn s words) (termIn s words terms n)) (renameProp (nameIn s words) (propIn s words goal-offset))
+              ≡ declarations list t (goalProp s) = rw (held, goal-is, names-are (its-header a) same, props-are (its-header a) same) in
+              rw same at (lines-are list (nameIn s words) (termIn s words terms n) (propIn s words goal-offset) noted ∙ same-lines);
         }

@@ -1,5 +1,5 @@
 // The text of a sheet's term: the declarations, and then the term (source document 005).
-use declarations::note_prop;
+use declarations::note_entries;
 use declarations::note_term;
 use declarations::put_declarations;
 use definitions::Refusal;
@@ -17,6 +17,7 @@ use sheet::code_bytes;
 use sheet::name_pairs;
 use sheet::proposition_pairs;
 use sheet::text_bytes;
+use sheet::vocabulary;
 ghost use mathlib.Core.Path.{_≡_};
 ghost use lib.ListN.{length};
 ghost use Rattle.definitions.specs.Outcome.{accepted};
@@ -68,36 +69,13 @@ fn declare(
 ) -> usize
     requires { ⌜ AcceptedSheet (now s) h ⌝ }
     requires { ⌜ HeldTerm (now s) (now terms) n ⌝ }
-    ensures { λ r. ⌜ Declares (now (s .entry)) list (now (declared .exit)) r ⌝ }
+    ensures { λ r. ⌜ Declares (now (s .entry)) h list (now (declared .exit)) r ⌝ }
 {
     let mut seen = [0u16; FLAGS];
-    let code = code_bytes(s, h);
-    let pairs = name_pairs(s, h);
-    let text = text_bytes(s, h);
-    let len = note_term(
-        terms,
-        n,
-        list,
-        code,
-        h.names,
-        declared,
-        0,
-        &mut seen,
-        pairs,
-        text,
-    );
+    let v = vocabulary(h);
+    let len = note_term(terms, n, list, s, v, declared, 0, &mut seen);
     let goal = pair_offset(proposition_pairs(s, h), h.goal);
-    note_prop(
-        code,
-        goal,
-        h.names,
-        list,
-        declared,
-        len,
-        &mut seen,
-        pairs,
-        text,
-    )
+    note_entries(s, v, goal, list, declared, len, &mut seen)
 }
 
 // Fills in where each proposition of the sheet and each of its parts ends.
@@ -127,18 +105,17 @@ fn put_heading(
     write: bool,
 ) -> usize
     requires { ⌜ AcceptedSheet (now s) h ⌝ }
-    requires { ⌜ Declares (now s) (firstList version) (now first) «first_count» ⌝ }
-    requires { ⌜ Declares (now s) (secondList version) (now second) «second_count» ⌝ }
+    requires { ⌜ Declares (now s) h (firstList version) (now first) «first_count» ⌝ }
+    requires { ⌜ Declares (now s) h (secondList version) (now second) «second_count» ⌝ }
     ensures { λ r. ⌜ ((t : ProofTerm Name) → namedTerm (now (s .entry)) ≡ accepted t →
         Wrote (heading version t (goalProp (now (s .entry)))) write (now (out .entry)) 0 (now (out .exit)) r) ⌝ }
 {
-    let pairs = name_pairs(s, h);
-    let text = text_bytes(s, h);
+    let v = vocabulary(h);
     let upper = first_list(version);
-    let upper_end = put_declarations(out, 0, first, first_count, upper, pairs, text, write);
+    let upper_end = put_declarations(out, 0, first, first_count, upper, s, v, write);
     let line = put(out, upper_end, b'\n', write);
     let lower = second_list(version);
-    let end = put_declarations(out, line, second, second_count, lower, pairs, text, write);
+    let end = put_declarations(out, line, second, second_count, lower, s, v, write);
     put_all(out, end, b"\n\n", write)
 }
 

@@ -1,6 +1,6 @@
 -- The declarations loop: none before j has the bytes and the count. The bytes loop: declaration j has the count and a name of the
 -- same length, and its first k bytes are the same. Both are left where all its bytes are the same, and then j is below the length.
-use Prim.Native.Nat.{ℕ, _*_, _≤_, _+_, _-_}
+use Prim.Native.Nat.{_*_, _≤_, _+_, _-_}
 use mathlib.Core.Path.{_≡_, refl, sym, _∙_}
 use mathlib.Core.Logic.{⊎-elim}
 use native.Mathlib.Omega.{arith}
@@ -8,29 +8,33 @@ use denote.Ref.{now}
 use borrow.Author.Tests.{lt-ltb, le-ltb}
 use Rattle.definitions.specs.Text.{occurs}
 use Rattle.declarations.specs.Declared.{entriesOf}
-use Rattle.declarations.proofs.Search.{Passed, Reached, Alike, other-count, other-length, in-text, other-byte, none-compared, one-more-alike, all-alike}
+use Rattle.declarations.proofs.Search.{Searchable, searchable, names-cut, Passed, Reached, Alike, other-count, other-length, in-text, other-byte, none-compared, one-more-alike, all-alike}
 use Rattle.declarations.proofs.is_declared.Statement.{statement}
 use Rattle.declarations.proofs.is_declared.Tie as tie
 
 abbrev Inv-loop : tie.InvT-loop
-Inv-loop declared len name count pairs text offset length j₀ other earlier k₀ j k =
+Inv-loop declared len name count bytes pairs text offset length j₀ other earlier k₀ j k =
     (j ≡ j₀) × Alike pairs text declared len name count offset length j earlier k
 
 abbrev μ-loop : tie.MeasureT-loop
-μ-loop declared len name count pairs text offset length j₀ other earlier k₀ j k = length - k
+μ-loop declared len name count bytes pairs text offset length j₀ other earlier k₀ j k = length - k
 
 abbrev Inv-declarations : tie.InvT-declarations
-Inv-declarations declared len name count pairs text offset length j₀ j = (j ≤ len) × Passed pairs text declared name count j
+Inv-declarations declared len name count bytes pairs text offset length j₀ j = (j ≤ len) × Passed pairs text declared name count j
 
 abbrev μ-declarations : tie.MeasureT-declarations
-μ-declarations declared len name count pairs text offset length j₀ j = len - j
+μ-declarations declared len name count bytes pairs text offset length j₀ j = len - j
 
--- Each name leads from a place back to an earlier one: to the start of the function;
-abbrev entry : tie.At-declarations Inv-loop μ-loop Inv-declarations μ-declarations → tie.Start Inv-loop μ-loop Inv-declarations μ-declarations
-entry c = c .before .before .before .before .before .before
+-- Each name leads from a place back to an earlier one: over the length and the start of the name that is looked for; over the cuts
+-- of the names' pairs and text;
+abbrev measured : tie.At-declarations Inv-loop μ-loop Inv-declarations μ-declarations → tie.After-text-of Inv-loop μ-loop Inv-declarations μ-declarations
+measured c = c .before .before .before
+
+abbrev cut : tie.After-text-of Inv-loop μ-loop Inv-declarations μ-declarations → tie.Start Inv-loop μ-loop Inv-declarations μ-declarations
+cut c = c .before .before .before .before
 
 -- over the two numbers of declaration j, over the length of its name, and over where its name starts;
-abbrev numbers : tie.After-shared-slice-known5 Inv-loop μ-loop Inv-declarations μ-declarations → tie.In-declarations Inv-loop μ-loop Inv-declarations μ-declarations
+abbrev numbers : tie.After-shared-slice-known4 Inv-loop μ-loop Inv-declarations μ-declarations → tie.In-declarations Inv-loop μ-loop Inv-declarations μ-declarations
 numbers c = c .before .before
 
 abbrev name-length : tie.After-pair-length2 Inv-loop μ-loop Inv-declarations μ-declarations → tie.In-declarations Inv-loop μ-loop Inv-declarations μ-declarations
@@ -40,23 +44,33 @@ abbrev name-start : tie.After-pair-offset2 Inv-loop μ-loop Inv-declarations μ-
 name-start c = name-length (c .before .before)
 
 -- and over a byte of each name
-abbrev bytes : tie.After-shared-slice-known7 Inv-loop μ-loop Inv-declarations μ-declarations → tie.In-loop Inv-loop μ-loop Inv-declarations μ-declarations
+abbrev bytes : tie.After-shared-slice-known6 Inv-loop μ-loop Inv-declarations μ-declarations → tie.In-loop Inv-loop μ-loop Inv-declarations μ-declarations
 bytes c = c .before .before
 
-reached : (c : tie.In-declarations Inv-loop μ-loop Inv-declarations μ-declarations) → let s = entry (c .before) .args in
-    Reached (now (s .pairs)) (now (s .text)) (now (s .declared)) (s .len) (s .name) (s .count) (c .before .declarations .j)
+asked : (c : tie.After-text-of Inv-loop μ-loop Inv-declarations μ-declarations) → let s = cut c .args in
+    Searchable (now (c .before .pairs-of .result)) (now (c .text-of .result)) (now (s .declared)) (s .len) (s .name)
+asked c = let (declared, wanted) = cut c .pre in searchable _ _ (c .before .pairs-of .ensures) (c .text-of .ensures) declared wanted
+
+reached : (c : tie.In-declarations Inv-loop μ-loop Inv-declarations μ-declarations) → let names = measured (c .before) in let s = cut names .args in
+    Reached (now (names .before .pairs-of .result)) (now (names .text-of .result)) (now (s .declared)) (s .len) (s .name) (s .count) (c .before .declarations .j)
 reached c =
     record {
-      asked = entry (c .before) .pre;
+      asked = asked (measured (c .before));
       before = c .declarations-test .taken;
       passed = c .before .declarations .inv .1;
     }
 
+pairs-of-requires : tie.Need-pairs-of-requires Inv-loop μ-loop Inv-declarations μ-declarations
+pairs-of-requires c κs = c .before .before .pre .1 .within
+
+text-of-requires : tie.Need-text-of-requires Inv-loop μ-loop Inv-declarations μ-declarations
+text-of-requires c κs = c .before .before .before .pre .1 .within
+
 pair-offset-requires : tie.Need-pair-offset-requires Inv-loop μ-loop Inv-declarations μ-declarations
-pair-offset-requires c κs = c .before .before .before .pre .wanted .present
+pair-offset-requires c κs = asked c .wanted .present
 
 pair-length-requires : tie.Need-pair-length-requires Inv-loop μ-loop Inv-declarations μ-declarations
-pair-length-requires c κs = c .before .before .before .before .pre .wanted .present
+pair-length-requires c κs = asked (c .before) .wanted .present
 
 declarations-holds : tie.Need-declarations-holds Inv-loop μ-loop Inv-declarations μ-declarations
 unfolding occurs entriesOf
@@ -72,7 +86,7 @@ shared-slice-read-other : tie.Need-shared-slice-read-other Inv-loop μ-loop Inv-
 shared-slice-read-other c = omega (arith, reached (c .before) .asked .there)
 
 cast-other : tie.Need-cast-other Inv-loop μ-loop Inv-declarations μ-declarations
-cast-other c = omega (arith, c .shared-slice-known4 .given (2 * c .before .before .declarations .j))
+cast-other c = omega (arith, c .shared-slice-known3 .given (2 * c .before .before .declarations .j))
 
 mul-if1 : tie.Need-mul-if1 Inv-loop μ-loop Inv-declarations μ-declarations
 mul-if1 c = omega arith
@@ -87,7 +101,7 @@ shared-slice-read-if1 : tie.Need-shared-slice-read-if1 Inv-loop μ-loop Inv-decl
 shared-slice-read-if1 c = omega (arith, reached (numbers c) .asked .there)
 
 cast-if1 : tie.Need-cast-if1 Inv-loop μ-loop Inv-declarations μ-declarations
-cast-if1 c = omega (arith, c .shared-slice-known5 .given (2 * numbers c .before .declarations .j + 1))
+cast-if1 c = omega (arith, c .shared-slice-known4 .given (2 * numbers c .before .declarations .j + 1))
 
 add-j : tie.Need-add-j Inv-loop μ-loop Inv-declarations μ-declarations
 add-j c = omega arith
@@ -115,15 +129,15 @@ pair-offset-requires-2 c κs = let this = reached (name-length (c .before)) in t
 
 loop-holds : tie.Need-loop-holds Inv-loop μ-loop Inv-declarations μ-declarations
 loop-holds c =
-    let measured = name-start c .before .before in (
+    let sized = name-start c .before .before in (
       refl,
       none-compared
           record {
             reached = reached (name-start c);
             count-of-j = omega arith;
-            offset-of-name = measured .before .pair-offset .ensures;
+            offset-of-name = sized .before .pair-offset .ensures;
             offset-of-j = c .pair-offset2 .ensures;
-            length-of-name = measured .pair-length .ensures;
+            length-of-name = sized .pair-length .ensures;
             length-of-j = omega arith;
           },
     )
@@ -166,9 +180,12 @@ loop-again c =
 -- the declarations came to their end, or both loops were left at declaration j
 returns : tie.Need-returns Inv-loop μ-loop Inv-declarations μ-declarations
 returns c =
-    let len = entry (c .before) .args .len in
+    let names = measured (c .before) in
+    let s = cut names .args in
+    let len = s .len in
     let (up-to, passed) = c .before .declarations .inv in
-    ⊎-elim
+    rw (names-cut (now (s .bytes)) (s .v) (names .before .pairs-of .ensures) (names .text-of .ensures))
+    (⊎-elim
     (λ w.
     let (test, same) = w in
     let all : c .before .declarations .j ≡ len = omega (arith, test .left, up-to) in
@@ -177,7 +194,7 @@ returns c =
     let (test, name, count, if1, length, if2, start, loop, end, same) = w in
     let (j-same, alike) = loop .inv in
     lt-ltb (c .declarations-test .j) len (omega (arith, same, j-same, alike .candidate .reached .before)) ∙ sym (all-alike alike (end .taken)))
-    (c .declarations-test .came)
+    (c .declarations-test .came))
 
 pub is-declared-spec : {M : Type 1} → statement M
 is-declared-spec =
@@ -187,6 +204,8 @@ is-declared-spec =
     μ-loop
     Inv-declarations
     μ-declarations
+    pairs-of-requires
+    text-of-requires
     pair-offset-requires
     pair-length-requires
     declarations-holds

@@ -29,6 +29,9 @@ datatype-named c = c .before .before .before .before
 abbrev datatype-word : tie.After-slice-known6 → tie.After-enum-told2
 datatype-word c = c .before .before .before .before .before
 
+name-requires : tie.Need-name-requires
+name-requires c κs = search needs
+
 enum-told : tie.Need-enum-told
 enum-told c = search needs
 
@@ -38,8 +41,8 @@ slice-aggregate-put-all c = search needs
 put-all-requires : tie.Need-put-all-requires
 put-all-requires c κs = search needs
 
-put-name-requires : tie.Need-put-name-requires
-put-name-requires c κs = search needs
+put-all-requires-2 : tie.Need-put-all-requires-2
+put-all-requires-2 c κs = search needs
 
 put-count-requires : tie.Need-put-count-requires
 put-count-requires c κs = search needs
@@ -56,9 +59,10 @@ returns c =
     let after-count = semicolon c in
     let after-name = counted after-count in
     let after-word = named after-name in
-    rw (word after-word .enum-told .given .1)
+    let atom = word after-word in
+    rw (atom .enum-told .given .1, ← atom .before .before .name .ensures)
     (writing.then (after-word .before .before .put-all .ensures)
-    (writing.then (after-name .before .before .put-name .ensures)
+    (writing.then (after-name .before .before .put-all2 .ensures)
     (writing.then (after-count .before .before .put-count .ensures) (c .before .before .put .ensures))))
 
 enum-told-2 : tie.Need-enum-told-2
@@ -67,11 +71,11 @@ enum-told-2 c = search needs
 slice-aggregate-put-all-2 : tie.Need-slice-aggregate-put-all-2
 slice-aggregate-put-all-2 c = search needs
 
-put-all-requires-2 : tie.Need-put-all-requires-2
-put-all-requires-2 c κs = search needs
+put-all-requires-3 : tie.Need-put-all-requires-3
+put-all-requires-3 c κs = search needs
 
-put-name-requires-2 : tie.Need-put-name-requires-2
-put-name-requires-2 c κs = search needs
+put-all-requires-4 : tie.Need-put-all-requires-4
+put-all-requires-4 c κs = search needs
 
 put-requires-2 : tie.Need-put-requires-2
 put-requires-2 c κs = search needs
@@ -84,26 +88,28 @@ unfolding declaration datatypeDeclaration
 returns-2 c =
     let after-name = datatype-semicolon c in
     let after-word = datatype-named after-name in
-    rw (datatype-word after-word .enum-told2 .given .1)
-    (writing.then (after-word .before .before .put-all2 .ensures)
-    (writing.then (after-name .before .before .put-name2 .ensures) (c .before .before .put2 .ensures)))
+    let datatype = datatype-word after-word in
+    rw (datatype .enum-told2 .given .1, ← datatype .before .before .name .ensures)
+    (writing.then (after-word .before .before .put-all3 .ensures)
+    (writing.then (after-name .before .before .put-all4 .ensures) (c .before .before .put2 .ensures)))
 
 pub put-declaration-spec : {M : Type 1} → statement M
 put-declaration-spec =
     tie.close
     (tie.spec
+    name-requires
     enum-told
     slice-aggregate-put-all
     put-all-requires
-    put-name-requires
+    put-all-requires-2
     put-count-requires
     put-requires
     same-length
     returns
     enum-told-2
     slice-aggregate-put-all-2
-    put-all-requires-2
-    put-name-requires-2
+    put-all-requires-3
+    put-all-requires-4
     put-requires-2
     same-length-2
     returns-2)

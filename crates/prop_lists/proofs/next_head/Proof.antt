@@ -9,10 +9,10 @@ use Rattle.prop_lists.proofs.next_head.Statement.{statement}
 use Rattle.prop_lists.proofs.next_head.Tie as tie
 
 abbrev Inv-loop : tie.InvT-loop
-Inv-loop code at end names listing i₀ i = Passed names listing code at end i
+Inv-loop code at end names list i₀ i = Passed names list code at end i
 
 abbrev μ-loop : tie.MeasureT-loop
-μ-loop code at end names listing i₀ i = end - i
+μ-loop code at end names list i₀ i = end - i
 
 loop-holds : tie.Need-loop-holds Inv-loop μ-loop
 loop-holds c = walk-start _ _ _ _ _ (c .before .pre)
