@@ -1,13 +1,11 @@
 // Writing into lent memory. Each function returns the position after what it writes, or a position past the end where that does
 // not fit. A dry run, with `write` false, returns a position by the same rule and leaves the memory as it is.
 use definitions::Refusal;
-use number::marked_bytes;
 ghost use mathlib.Core.List.{[], _∷_};
 ghost use mathlib.Core.Path.{_≡_};
-ghost use Prim.Native.Nat.{_+_, _*_, _-_, _≤_, min};
+ghost use Prim.Native.Nat.{_+_, _-_, _≤_, min};
 ghost use lib.ListN.{length, take};
 ghost use Rattle.definitions.specs.Text.{decimal};
-ghost use Rattle.definitions.specs.Sheet.{pairSize, pairEnd, marked};
 ghost use Rattle.output.specs.LeastDigits.{LeastDigits};
 ghost use Rattle.output.specs.Wrote.{puts, Wrote};
 
@@ -127,19 +125,4 @@ pub fn put_decimal(out: &mut [u8], to: usize, n: u64, write: bool) -> usize
         return out.len() + 1;
     }
     to + fit
-}
-
-// The bytes of the text that a pair marks.
-pub fn put_name(
-    out: &mut [u8],
-    to: usize,
-    pairs: &[u8],
-    text: &[u8],
-    i: usize,
-    write: bool,
-) -> usize
-    requires { ⌜ (pairSize * (i + 1) ≤ length (now pairs)) × (pairEnd (now pairs) i ≤ length (now text)) ⌝ }
-    ensures { λ r. ⌜ Wrote (marked (now (pairs .entry)) (now (text .entry)) i) write (now (out .entry)) to (now (out .exit)) r ⌝ }
-{
-    put_all(out, to, marked_bytes(pairs, text, i), write)
 }

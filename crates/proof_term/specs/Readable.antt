@@ -1,11 +1,7 @@
--- What a reader of a term in records asks of its names and labels.
+-- What a reader of a term in records asks of its names.
 use Prim.Native.Nat.{ℕ, _<_}
-use mathlib.Core.Path.{_≡_}
 use mathlib.Core.Option.{Option, none, some}
-use mathlib.Core.List.{List}
 use Rattle.definitions.specs.Term.{Label, proposition, datatype, ProofTerm, Ident, Pair, Named, Function, Application, LetIn, Case, TypeAscription, Unit, Sorry}
-use Rattle.proof_term.specs.Records.{fieldAt}
-use Rattle.proof_term.specs.Labels.{Labelled}
 
 -- Each name of a term is below `names`. The names of its propositions are a matter of their code.
 module _ (names : ℕ) where
@@ -28,8 +24,3 @@ module _ (names : ℕ) where
   NamesBelow (TypeAscription a l) = NamesBelow a × LabelBelow l
   NamesBelow Unit = Prim.Unit {0}
   NamesBelow Sorry = Prim.Unit {0}
-
--- record m has a label, and it is a proposition
-pub record PropositionLabel (records : List ℕ) (m : ℕ) : Type 0 where
-  pub labelled : Labelled records m
-  pub no-datatype : fieldAt records m 3 ≡ 2 → ⊥
