@@ -10,7 +10,6 @@ use Rattle.definitions.specs.Prop.{Prop}
 use Rattle.definitions.specs.Term.{Label, ProofTerm, Ident, Pair, Named, Function, Application, LetIn, Case, TypeAscription, Unit, Sorry, ofLabel, ofLabels, isLabelled, annotationCount}
 use Rattle.proof_term.specs.Records.{fieldAt, labelOf, termAt}
 use Rattle.proof_term.specs.Labels.{hasLabel, ofOwnLabel, ofRecords, single, termLabels, recordLabel, recordLabels, InOrder}
-use Rattle.proof_term.proofs.Labels.{records-labelled, records-unlabelled}
 
 -- the label count is the number of labels
 count-label : {N : Type 0} (l : Option (Label N)) → length (ofLabel single l) ≡ isLabelled l
@@ -45,14 +44,6 @@ module _ (props : ℕ → Prop ℕ) (records : List ℕ) where
   unfolding ofRecords
   few-labels zero = omega arith
   few-labels (suc n) = rw length-append (omega (arith, few-labels n, count-record n))
-
-  -- one record more, by whether it has a label
-  module _ (m : ℕ) {kind label : ℕ} (k : kind ≡ fieldAt records m 0) (l : label ≡ fieldAt records m 3) where
-    pub count-labelled : hasLabel kind label ≡ true → length (recordLabels props records (m + 1)) ≡ length (recordLabels props records m) + 1
-    count-labelled h = rw (records-labelled single props records m k l refl h, length-append)
-
-    pub count-unlabelled : hasLabel kind label ≡ false → length (recordLabels props records (m + 1)) ≡ length (recordLabels props records m)
-    count-unlabelled h = ap length (records-unlabelled single props records m k l h)
 
   -- where the records stand in the term's order, their labels are counted
   pub count-in-order : {n : ℕ} → InOrder records n → length (recordLabels props records (n + 1)) ≡ annotationCount (termAt props records n)

@@ -1,5 +1,6 @@
 pub mod Records
 pub mod Labels
 pub mod Fitting
-pub mod Making
 pub mod Counting
+pub mod Tally
+pub mod Making

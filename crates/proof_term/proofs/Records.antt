@@ -120,7 +120,7 @@ module _ (props : ℕ → Prop ℕ) (records : List ℕ) (n : ℕ) where
 -- three records: a name, `inl` over it, and a function without a label
 drawn :
     (props : ℕ → Prop ℕ) → termAt props
-    (0 ∷ 7 ∷ 0 ∷ 0 ∷ 0 ∷ 0 ∷ 7 ∷ 0 ∷ 0 ∷ 0 ∷ 0 ∷ 0 ∷ 4 ∷ 1 ∷ 7 ∷ 0 ∷ 0 ∷ 0 ∷ []) 2
+    (0 ∷ 7 ∷ 0 ∷ 0 ∷ 0 ∷ 0 ∷ 0 ∷ 7 ∷ 0 ∷ 0 ∷ 0 ∷ 0 ∷ 0 ∷ 0 ∷ 4 ∷ 1 ∷ 7 ∷ 0 ∷ 0 ∷ 0 ∷ 0 ∷ []) 2
     ≡ Function 7 none (OrLeft (Ident 7))
 unfolding termAt termWithin recordTermAt fieldAt earlier parameterLabel
 drawn props = refl

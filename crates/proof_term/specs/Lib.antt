@@ -1,4 +1,5 @@
 pub mod Records
 pub mod Labels
+pub mod Tally
 pub mod Making
 pub mod Readable

@@ -8,11 +8,11 @@ use lib.Dec.{eqb, ltb}
 use Rattle.definitions.specs.Prop.{Prop}
 use Rattle.definitions.specs.Term.{Label, proposition, datatype, ProofTerm, Ident, Pair, ProjectFst, ProjectSnd, Function, Application, LetIn, OrLeft, OrRight, Case, Abort, TypeAscription, Unit, Sorry}
 
--- a record is a kind and five numbers
+-- a record is a kind, five numbers and a tally
 abbrev pub recordSize : ℕ
-recordSize = 6
+recordSize = 7
 
--- number i of record n; number 0 is the kind
+-- number i of record n; number 0 is the kind, number 6 the tally
 unfoldable pub fieldAt : List ℕ → ℕ → ℕ → ℕ
 fieldAt records n i = getD records (recordSize * n + i) 0
 

@@ -1,15 +1,22 @@
-// Terms (source document 001) as numbered records in lent memory: a kind and five numbers each, a term's parts before the term.
+// Terms (source document 001) as numbered records in lent memory: a kind, five numbers and the label tally each, a term's parts
+// before the term.
 ghost use mathlib.Core.Path.{_≡_};
 ghost use Prim.Native.Nat.{ℕ, _+_, _*_, _≤_, _<_};
-ghost use lib.ListN.{length};
+ghost use lib.ListN.{length, getD};
 ghost use Rattle.definitions.specs.Prop.{Prop};
 ghost use Rattle.definitions.specs.Term.{Ident, Pair, ProjectFst, ProjectSnd, Function, Application, LetIn, OrLeft, OrRight, Case, Abort, TypeAscription, Unit, Sorry, annotationCount};
 ghost use Rattle.proof_term.specs.Records.{recordSize, fieldAt, recordTerm, partCount, Each, labelOf, parameterLabel, termAt};
-ghost use Rattle.proof_term.specs.Labels.{hasLabel, InOrder};
+ghost use Rattle.proof_term.specs.Labels.{hasLabel};
+ghost use Rattle.proof_term.specs.Tally.{ownCount, tallyOver, NodesTallied};
 ghost use Rattle.proof_term.specs.Making.{Room, Pushed, Made};
 
 // The numbers of a record.
-pub const RECORD_SIZE: usize = 6;
+pub const RECORD_SIZE: usize = 7;
+
+// The number of a record that is its tally, and the most that it says.
+const TALLY: usize = 6;
+
+const TALLY_LIMIT: usize = 65535;
 
 // The kinds of records, in the Rust's order.
 pub const IDENT: usize = 0;
@@ -54,7 +61,7 @@ pub const DATATYPE: usize = 2;
 const PART_COUNTS: [u8; KINDS] = [0, 2, 1, 1, 1, 2, 2, 1, 1, 3, 1, 1, 0, 0];
 
 // Stores record `used` and gives the number of the next one.
-pub fn push(
+fn push(
     records: &mut [u16],
     used: usize,
     kind: u16,
@@ -63,9 +70,10 @@ pub fn push(
     c: u16,
     d: u16,
     e: u16,
+    tally: u16,
 ) -> usize
     requires { ⌜ recordSize * (used + 1) ≤ length (now records) ⌝ }
-    ensures { λ r. ⌜ Pushed kind a b c d e (now (records .entry)) used (now (records .exit)) r ⌝ }
+    ensures { λ r. ⌜ Pushed kind a b c d e tally (now (records .entry)) used (now (records .exit)) r ⌝ }
 {
     let at = RECORD_SIZE * used;
     records[at] = kind;
@@ -74,10 +82,38 @@ pub fn push(
     records[at + 3] = c;
     records[at + 4] = d;
     records[at + 5] = e;
+    records[at + 6] = tally;
     used + 1
 }
 
-// Makes record `used`, of any kind, over earlier records.
+// How many labels a record has itself.
+fn own_count(kind: usize, label: usize) -> usize
+    ensures { λ r. ⌜ r ≡ ownCount kind label ⌝ }
+{
+    if has_label(kind, label) {
+        return 1;
+    }
+    0
+}
+
+// The tally of a record of this kind over earlier records, by its numbers a, b and c: its own label and the tallies of its parts, as
+// far as the limit.
+fn tally_over(records: &[u16], used: usize, kind: usize, numbers: [usize; 3]) -> usize
+    requires { ⌜ recordSize * used ≤ length (now records) ⌝ }
+    requires { ⌜ Each (λ part. part < used) (partCount kind) (getD numbers 0 0) (getD numbers 1 0) (getD numbers 2 0) ⌝ }
+    ensures { λ r. ⌜ (r ≡ tallyOver (now (records .entry)) kind numbers) × (r < 65536) ⌝ }
+{
+    let mut tally = own_count(kind, numbers[2]);
+    for i in 0..part_count(kind) {
+        tally += field(records, numbers[i], TALLY);
+    }
+    if TALLY_LIMIT < tally {
+        return TALLY_LIMIT;
+    }
+    tally
+}
+
+// Makes record `used`, of any kind, over earlier records, with its tally.
 fn make(
     records: &mut [u16],
     used: usize,
@@ -91,7 +127,8 @@ fn make(
     requires { ⌜ (recordSize * (used + 1) ≤ length (now records)) × (kind < 14) × Each (λ part. part < used) (partCount kind) a b c ⌝ }
     ensures { λ r. ⌜ Made (λ props part. recordTerm props part kind a b c d e) (now (records .entry)) used (now (records .exit)) r ⌝ }
 {
-    push(records, used, kind as u16, a, b, c, d, e)
+    let tally = tally_over(records, used, kind, [a as usize, b as usize, c as usize]);
+    push(records, used, kind as u16, a, b, c, d, e, tally as u16)
 }
 
 // The makers. Each makes record `used` over earlier records and gives the number of the next one. A label is a kind and a number.
@@ -258,7 +295,7 @@ pub fn sorry(records: &mut [u16], used: usize) -> usize
     make(records, used, SORRY, 0, 0, 0, 0, 0)
 }
 
-// Number `i` of record `n`; number 0 is the kind.
+// Number `i` of record `n`; number 0 is the kind, number 6 the tally.
 pub fn field(records: &[u16], n: usize, i: usize) -> usize
     requires { ⌜ (recordSize * (n + 1) ≤ length (now records)) × (i < recordSize) ⌝ }
     ensures { λ r. ⌜ (r ≡ fieldAt (now (records .entry)) n i) × (r < 65536) ⌝ }
@@ -289,16 +326,10 @@ pub fn has_label(kind: usize, label: usize) -> bool
     false
 }
 
-// The label count of the term that record `n` holds. The records up to it stand in the term's order, so that each label is met once.
+// The label count of the term that record `n` holds, whose nodes keep theirs: the record's tally.
 pub fn annotation_count(records: &[u16], n: usize) -> usize
-    requires { ⌜ (recordSize * (n + 1) ≤ length (now records)) × InOrder (now records) n ⌝ }
+    requires { ⌜ (recordSize * (n + 1) ≤ length (now records)) × NodesTallied (now records) n ⌝ }
     ensures { λ r. ⌜ ((props : ℕ → Prop ℕ) → r ≡ annotationCount (termAt props (now (records .entry)) n)) ⌝ }
 {
-    let mut count = 0;
-    for m in 0..n + 1 {
-        if has_label(field(records, m, 0), field(records, m, 3)) {
-            count += 1;
-        }
-    }
-    count
+    field(records, n, TALLY)
 }

@@ -55,6 +55,7 @@ module _ {rule : RuleTerm} {first second kind label a b c : ℕ} {before : List 
           holds = λ props. rw (last, told) (made .holds props ∙ agrees props (termAt props before));
           ordered = λ props. rw told (made-ordered made props form first second (parameterLabel props kind label) a b c (agrees props));
           kept = made .kept;
+          tallied = made .tallied;
           labels = λ m number h k l.
               let same : m ≡ used = omega (arith, made .counted) in
               own number (λ props. sym (made .label props) ∙ rw same at (l props));
@@ -79,6 +80,7 @@ premiss-own {a = a} {used = used} told newest =
       holds = λ props. rw (last, told);
       ordered = λ props. rw told (record { own = []; made = sym (append-nil _); whole = rw last (sym (append-nil _ ∙ append-nil _)) });
       kept = kept-same _ _;
+      tallied = λ t. t;
       labels = λ m number h k l. absurd (omega arith);
       some-record = omega arith;
       grows = omega arith;

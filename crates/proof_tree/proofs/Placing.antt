@@ -185,7 +185,7 @@ module _ {names : ℕ} {pairs code records : List ℕ} {k : ℕ} {mode : own.Rea
           ordered = ordered;
           low = omega (arith, made .more, v .is-row .parts-are);
           high = omega (arith, made .few);
-          grown = record { kept = made .kept; labels = labels };
+          grown = record { kept = made .kept; tallied = made .tallied; labels = labels };
         })
 
     ascribed-labels : {p last : ℕ} {final : List ℕ} → c ≡ PropIsTrue p
@@ -211,5 +211,9 @@ module _ {names : ℕ} {pairs code records : List ℕ} {k : ℕ} {mode : own.Rea
           ordered = λ props. ascribed-ordered (ordered props) more;
           low = omega (arith, made .more, v .is-row .parts-are, more .counted);
           high = omega (arith, made .few, more .counted);
-          grown = record { kept = kept-then (made .grows) (made .kept) (more .kept); labels = ascribed-labels hc more };
+          grown = record {
+            kept = kept-then (made .grows) (made .kept) (more .kept);
+            tallied = λ t. more .tallied (made .tallied t);
+            labels = ascribed-labels hc more;
+          };
         })

@@ -73,13 +73,14 @@ own-parts e = rw e
 -- the records that were made before and after
 module _ {pairs code records : List ℕ} {k : ℕ} where
   grown-none : (terms : List ℕ) (used : ℕ) → Grown pairs code records k terms used terms used
-  grown-none terms used = record { kept = kept-same used terms; labels = λ m offset h i l. absurd (omega arith) }
+  grown-none terms used = record { kept = kept-same used terms; tallied = λ t. t; labels = λ m offset h i l. absurd (omega arith) }
 
   pub grown-then : {used next last : ℕ} {before mid after : List ℕ} → used ≤ next
       → Grown pairs code records k before used mid next → Grown pairs code records k mid next after last → Grown pairs code records k before used after last
   grown-then {used} {next} {last} {before} {mid} {after} h p q =
       record {
         kept = kept-then h (p .kept) (q .kept);
+        tallied = λ t. q .tallied (p .tallied t);
         labels = λ m offset low high has. by-cases (decLt m next)
             (λ l. p .labels m offset low l (λ props. sym (record-kept single props after mid next (q .kept .numbers) m l) ∙ has props))
             (λ l. q .labels m offset (omega arith) high has);
@@ -89,6 +90,7 @@ module _ {pairs code records : List ℕ} {k : ℕ} where
   grown-later h g =
       record {
         kept = g .kept;
+        tallied = g .tallied;
         labels = λ m offset low high has.
             let l = g .labels m offset low high has in
             record { step = l .step; visited = omega (arith, l .visited); number = l .number; concludes = l .concludes; stands = l .stands };

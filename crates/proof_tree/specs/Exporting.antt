@@ -15,6 +15,7 @@ use Rattle.steps.specs.Size.{size}
 use Rattle.steps.specs.declared.Conclusion.the-variants.{PropIsTrue}
 use Rattle.steps.specs.StepAt.{stepAt}
 use Rattle.proof_term.specs.Records.{recordSize, termAt}
+use Rattle.proof_term.specs.Tally.{Tallied}
 use Rattle.proof_term.specs.Making.{Kept}
 use Rattle.proof_tree.specs.declared.Exported.{Exported}
 use Rattle.proof_tree.specs.declared.Exported.the-variants.{Term, Refused}
@@ -31,10 +32,11 @@ pub record LabelOffset (pairs code records : List ℕ) (k offset : ℕ) : Type 0
   pub concludes : stepAt records step .conclusion ≡ PropIsTrue number
   pub stands : (offset ≡ pairOffset pairs number) ⊎ ImplicationAt code (pairOffset pairs number) offset
 
--- `after` is the memory `before` with the records from `used` to `next` made: those below are as they were, and a label that is a
--- proposition is the offset of its code
+-- `after` is the memory `before` with the records from `used` to `next` made: those below are as they were, the new ones keep their
+-- tallies if those do, and a label that is a proposition is the offset of its code
 pub record Grown (pairs code records : List ℕ) (k : ℕ) (before : List ℕ) (used : ℕ) (after : List ℕ) (next : ℕ) : Type 0 where
   pub kept : Kept used before after
+  pub tallied : Tallied before used → Tallied after next
   pub labels : (m offset : ℕ) → used ≤ m → m < next → HasProposition after m offset → LabelOffset pairs code records k offset
 
 -- the outcome is the term of the last record before `next`, and the records that were made stand in its order, behind its parts

@@ -9,6 +9,7 @@ use Rattle.definitions.specs.Term.{Label, proposition, ProofTerm}
 use Rattle.definitions.specs.Export.{premissTerm}
 use Rattle.proof_term.specs.Records.{Each, parameterLabel, termAt}
 use Rattle.proof_term.specs.Labels.{single, termLabels, recordLabel, recordLabels}
+use Rattle.proof_term.specs.Tally.{Tallied}
 use Rattle.proof_term.specs.Making.{Room, Kept}
 use Rattle.proof_tree.specs.declared.table.RuleTerm.{RuleTerm}
 use Rattle.proof_tree.specs.declared.table.RuleTerm.the-variants.{Premiss}
@@ -53,6 +54,7 @@ pub record MadeTerm (term : RuleTerm) (first second kind label a b c : ℕ) (bef
       ≡ termOver term first second (parameterLabel props kind label) (partTerms (termAt props before) (partCount term) (a ∷ b ∷ c ∷ []))
   pub ordered : (props : ℕ → Prop ℕ) → Ordered props before used (partTerms (termAt props before) (partCount term) (a ∷ b ∷ c ∷ [])) after next
   pub kept : Kept used before after
+  pub tallied : Tallied before used → Tallied after next
   pub labels : (m number : ℕ) → used ≤ m → m < next → HasProposition after m number → (kind ≡ 1) × (number ≡ label)
   pub some-record : 0 < next
   pub grows : used ≤ next

@@ -21,8 +21,10 @@ use Rattle.prefix_code.proofs.Shapes.{left-present}
 use Rattle.steps.proofs.GoodSteps.{known-conclusion}
 use Rattle.proof_term.specs.Records.{recordSize}
 use Rattle.proof_term.specs.Labels.{ofRecords, InOrder}
+use Rattle.proof_term.specs.Tally.{Tallied}
 use Rattle.proof_term.specs.Readable.{NamesBelow}
 use Rattle.proof_term.proofs.Fitting.{datatype-below}
+use Rattle.proof_term.proofs.Tally.{nodes-tallied}
 use Rattle.sheet.specs.Header.{headerOf}
 use Rattle.sheet.specs.declared.header.Sheet.{Sheet}
 use Rattle.sheet.proofs.Admitted.{AcceptedSheet, code-of-bytes, has-codes}
@@ -47,6 +49,10 @@ unfolding ofRecords termsLabels
 from-first {next = next} low o =
     let all : next - 1 + 1 ≡ next = omega arith in
     record { labels = λ props. rw all (o props .made ∙ sym (o props .whole)) }
+
+-- before any record is made, each keeps its tally
+none-made : {terms : List ℕ} → Tallied terms 0
+none-made = record { cut-counts = λ m l. absurd (omega arith) }
 
 module _ {s : List ℕ} {h : Sheet} (a : AcceptedSheet s h) where
   -- the root's outcome is the sheet's
@@ -88,6 +94,7 @@ module _ {s : List ℕ} {h : Sheet} (a : AcceptedSheet s h) where
           let t = term-of (rw (a .header) at walked) e in
           let most = size-within (names s) (propositionPairs s) (codeBytes s) (stepRecords s) (steps s - 1) in
           let range = a .sheet .in-range in
+          let all : next - 1 + 1 ≡ next = omega (arith, t .low) in
           let ordered = from-first (t .low) (λ props. t .ordered props) in
           record {
             is-term = root-outcome ∙ t .holds;
@@ -95,6 +102,7 @@ module _ {s : List ℕ} {h : Sheet} (a : AcceptedSheet s h) where
             held = omega (arith, t .low, t .high, most, range .steps, range .some-step);
             below = names-below _ (t .holds);
             in-order = ordered;
+            tallied = nodes-tallied (rw (← all) at (t .grown .tallied none-made)) ordered (omega (arith, t .high, most, range .steps));
             labels = λ m h l. record {
               datatype = datatype-below _ ordered (names-below _ (t .holds)) m h l;
               proposition = λ no-datatype. label-stands (t .grown .labels m _ (omega arith) (omega (arith, t .low)) (has-proposition after m l no-datatype));

@@ -1,11 +1,18 @@
--- What six numbers stored as a record make, whatever its kind.
+-- What seven numbers stored as a record make, whatever its kind.
+use native.Mathlib.Omega.{arith}
 use borrow.Author.Needs.{needs}
 use Rattle.proof_term.proofs.Making.{made}
 use Rattle.proof_term.proofs.make.Statement.{statement}
 use Rattle.proof_term.proofs.make.Tie as tie
 
+tally-over-requires : tie.Need-tally-over-requires
+tally-over-requires c κs = (omega arith, c .before .before .pre .2)
+
 cast-push : tie.Need-cast-push
 cast-push c = search needs
+
+cast-push-2 : tie.Need-cast-push-2
+cast-push-2 c = search needs
 
 push-requires : tie.Need-push-requires
 push-requires c κs = search needs
@@ -14,7 +21,11 @@ same-length : tie.Need-same-length
 same-length c = search needs
 
 returns : tie.Need-returns
-returns c = made (c .before .before .before .before .before .pre .0) (c .before .before .push .ensures) (c .before .before .before .before .before .pre .2)
+returns c =
+    let pushed = c .before .before in
+    let asked = pushed .before .before in
+    let start = asked .before .before .before in
+    made (start .pre .0) (pushed .push .ensures) (start .pre .2) (asked .tally-over .ensures .0)
 
 pub make-spec : {M : Type 1} → statement M
-make-spec = tie.close (tie.spec cast-push push-requires same-length returns)
+make-spec = tie.close (tie.spec tally-over-requires cast-push cast-push-2 push-requires same-length returns)

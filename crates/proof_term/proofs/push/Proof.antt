@@ -1,4 +1,4 @@
--- Six numbers are stored in a row, within the memory.
+-- Seven numbers are stored in a row, within the memory.
 use native.Mathlib.Omega.{arith}
 use lib.ListN.{length-set}
 use borrow.Author.Needs.{needs}
@@ -60,6 +60,15 @@ mul-records-6 c = search needs
 slice-write-records-6 : tie.Need-slice-write-records-6
 slice-write-records-6 c = simp length-set (omega arith)
 
+add-records-6 : tie.Need-add-records-6
+add-records-6 c = search needs
+
+mul-records-7 : tie.Need-mul-records-7
+mul-records-7 c = search needs
+
+slice-write-records-7 : tie.Need-slice-write-records-7
+slice-write-records-7 c = simp length-set (omega arith)
+
 add-result : tie.Need-add-result
 add-result c = search needs
 
@@ -67,7 +76,7 @@ same-length : tie.Need-same-length
 same-length c = search needs
 
 returns : tie.Need-returns
-returns c = pushed _ _ _ _ _ _ _ _
+returns c = pushed _ _ _ _ _ _ _ _ _
 
 pub push-spec : {M : Type 1} → statement M
 push-spec =
@@ -91,6 +100,9 @@ push-spec =
     add-records-5
     mul-records-6
     slice-write-records-6
+    add-records-6
+    mul-records-7
+    slice-write-records-7
     add-result
     same-length
     returns)

@@ -1,4 +1,4 @@
--- The records of the term that is held stand in its order, so that its labels can be counted.
+-- The root of the term that is held keeps the label count.
 use mathlib.Core.Path.{sym, ap}
 use borrow.Author.Needs.{needs}
 use Rattle.definitions.specs.Outcome.{mapOutcome}
@@ -26,7 +26,7 @@ slice-aggregate-annotation-count c = sym (term-of (c .before .before .before .be
 annotation-count-requires : tie.Need-annotation-count-requires
 annotation-count-requires c κs =
     let t = term-of (c .before .before .before .before .sheet-term .ensures) (c .before .before .found2 .given .1) in
-    (t .held, t .in-order)
+    (t .held, t .tallied)
 
 returns : tie.Need-returns
 unfolding labelCount mapOutcome countedOf
