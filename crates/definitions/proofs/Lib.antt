@@ -20,3 +20,4 @@ pub mod Accuracy
 pub mod Versions
 pub mod Drawings
 pub mod SoundDrawing
+pub mod Collections

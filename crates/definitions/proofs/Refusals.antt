@@ -1,4 +1,5 @@
--- Comparison uses 1 to 11, 17 and 19 only, export 1 to 16, and the handout of any number 21 too. So 18 never occurs.
+-- Comparison uses 1 to 11, 17 and 19 only, export 1 to 16, the handout of any number 21 too, and an exercise 16, 29 and 30. So 18
+-- never occurs.
 use Prim.Native.Nat.{ℕ, _≤_}
 use native.Mathlib.Omega.{arith}
 use mathlib.Core.Path.{_≡_, refl}
@@ -22,8 +23,9 @@ use Rattle.definitions.specs.declared.Style.{Style}
 use Rattle.definitions.specs.declared.Version.{Version}
 use Rattle.definitions.specs.declared.Version.the-variants.{First, Second}
 use Rattle.definitions.specs.Answers.{inRoom, sheetTerm, namedTerm, sheetText, versionOf, textAnswer, atomsAnswer, datatypesAnswer, labelCount, comparison}
+use Rattle.definitions.specs.Exercises.{exerciseAnswer}
 use Rattle.definitions.proofs.AlphaEquality.{textbook}
-use Rattle.definitions.specs.Refusals.{Uses, is-accepted, is-refused, Between, OfHandout, OfComparison}
+use Rattle.definitions.specs.Refusals.{Uses, is-accepted, is-refused, Between, OfHandout, OfComparison, OfExercise}
 
 -- How outcomes of one kind of refusal are put together.
 module _ {Kind : ℕ → Type 0} {A B : Type 0} where
@@ -216,3 +218,13 @@ other-than-18 place (is-refused (inr (inr h))) = omega arith
 
 pub never-18 : (s : List ℕ) (i j place : ℕ) → comparison s i j ≡ refuse 18 place → ⊥
 never-18 s i j place e = other-than-18 place (rw e at (comparison-uses s i j))
+
+-- an exercise
+pub exercise-uses : (text : List ℕ) (n ordinal room : ℕ) → Uses OfExercise (exerciseAnswer text n ordinal room)
+unfolding exerciseAnswer inRoom
+exercise-uses text n ordinal room =
+    after (tested _ 29 0 (inr (inl refl))) λ _.
+    after (tested _ 30 0 (inr (inr refl))) λ _.
+    after is-accepted λ a.
+    after (tested _ 16 0 (inl refl)) λ _.
+    is-accepted

@@ -10,18 +10,21 @@ use Rattle.definitions.specs.Utf8.{utf8}
 use Rattle.definitions.specs.Outcome.{Outcome, accepted, refuse, mapOutcome}
 use Rattle.definitions.specs.Prop.{Prop, True, False, And, Or, Impl, Atom, ForAll, Exists, Uninstantiated, Instantiated}
 use Rattle.definitions.specs.Tree.{Identifier, ProofTreeRule, AndIntro, AndElimFst, AndElimSnd, TrueIntro, ImplIntro, ImplElim, Ident, OrIntroFst, OrIntroSnd, OrElim, ForAllIntro, ForAllElim, ExistsElim, Sorry, AlphaEquivalent}
-use Rattle.definitions.specs.Code.{u16}
+use Rattle.definitions.specs.Code.{u16, encode}
 use Rattle.definitions.specs.Encode.{noIdentifier, encodeRule, encodePropIsTrue, encodeSheet}
 use Rattle.definitions.specs.Answers.{textAnswer, atomsAnswer, datatypesAnswer, labelCount, comparison, boardRoom, boardOutput}
+use Rattle.definitions.specs.Exercises.{exerciseAnswer}
 
 -- a question about a sheet: a text, how many bytes it has, a list, the label count, a comparison of two steps, what the board
--- prints, or a text or a datatype list of a version; texts and lists are lent the board's room
+-- prints, or a text or a datatype list of a version; texts and lists are lent the board's room. Or about a caller's names: the
+-- exercise of at most so many connectives at an ordinal, in a room
 pub data Question : Type 0 where
   text size : Style → Question
   atoms datatypes labels board : Question
   compare : ℕ → ℕ → Question
   handout : ℕ → Style → Question
   handoutDatatypes : ℕ → Question
+  exercise : ℕ → ℕ → ℕ → Question
 
 pub data Answer : Type 0 where
   bytes numbers : List ℕ → Answer
@@ -38,6 +41,7 @@ ask board s = accepted (bytes (boardOutput s))
 ask (compare i j) s = mapOutcome yesNo (comparison s i j)
 ask (handout version style) s = mapOutcome bytes (textAnswer s version style boardRoom)
 ask (handoutDatatypes version) s = mapOutcome numbers (datatypesAnswer s version boardRoom)
+ask (exercise n ordinal room) s = mapOutcome bytes (exerciseAnswer s n ordinal room)
 
 pub record Drawing : Type 0 where
   pub sheet : List ℕ
@@ -293,6 +297,49 @@ columns =
     (prints "refused 12 at 0 column 40\n")
     ∷ drawing alphaEquivalentAlone board (prints "refused 12 at 0 column 0\n")
     ∷ drawing (smallest ++ (0 ∷ [])) board (prints "refused 3 at 0\n")
+    ∷ []
+
+-- Ticket 13, exercises for a whole term.
+
+-- the code of a proposition
+unfoldable pub sets : Prop ℕ → Outcome Answer
+sets p = accepted (bytes (encode p))
+
+-- the zero-place atom of a name
+unfoldable pub named : ℕ → Prop ℕ
+named a = Atom a []
+
+-- Two names and one connective, and no names and two connectives: the leaves, then by root, by the left part's size, by the left
+-- part, by the right part. An atom takes 4 bytes. No names leave ⊤ and ⊥; a word such as `sorry` is a name.
+unfoldable pub exerciseDrawings : List Drawing
+exerciseDrawings =
+    drawing (utf8 "A\nB") (exercise 1 0 1) (sets True)
+    ∷ drawing (utf8 "A\nB") (exercise 1 1 1) (sets False)
+    ∷ drawing (utf8 "A\nB") (exercise 1 2 4) (sets (named 0))
+    ∷ drawing (utf8 "A\nB") (exercise 1 3 4) (sets (named 1))
+    ∷ drawing (utf8 "A\nB") (exercise 1 5 3) (sets (And True False))
+    ∷ drawing (utf8 "A\nB") (exercise 1 8 3) (sets (And False True))
+    ∷ drawing (utf8 "A\nB") (exercise 1 20 3) (sets (Or True True))
+    ∷ drawing (utf8 "A\nB") (exercise 1 36 3) (sets (Impl True True))
+    ∷ drawing (utf8 "A\nB") (exercise 1 51 9) (sets (Impl (named 1) (named 1)))
+    ∷ drawing (utf8 "A\nB") (exercise 1 51 8) (refuse 16 0)
+    ∷ drawing (utf8 "A\nB") (exercise 1 52 9) (refuse 30 0)
+    ∷ drawing [] (exercise 2 14 5) (sets (And True (And True True)))
+    ∷ drawing [] (exercise 2 37 5) (sets (And False (Impl False False)))
+    ∷ drawing [] (exercise 2 38 5) (sets (And (And True True) True))
+    ∷ drawing [] (exercise 2 157 5) (sets (Impl (Impl False False) False))
+    ∷ drawing [] (exercise 2 158 5) (refuse 30 0)
+    ∷ drawing [] (exercise 0 1 1) (sets False)
+    ∷ drawing [] (exercise 0 2 0) (refuse 30 0)
+    ∷ drawing (utf8 "sorry") (exercise 0 2 4) (sets (named 0))
+    ∷ drawing (utf8 "A23456789012345678901234567890ab") (exercise 0 2 4) (sets (named 0))
+    ∷ drawing (utf8 "A23456789012345678901234567890abc") (exercise 0 2 4) (refuse 29 0)
+    ∷ drawing (utf8 "A\nB\nC") (exercise 0 4 4) (sets (named 2))
+    ∷ drawing (utf8 "A\nB\nC\nD") (exercise 0 0 1) (refuse 29 0)
+    ∷ drawing (utf8 "A\nB\nA") (exercise 0 0 1) (refuse 29 0)
+    ∷ drawing (utf8 "A\n") (exercise 0 0 1) (refuse 29 0)
+    ∷ drawing (utf8 "2A") (exercise 0 0 1) (refuse 29 0)
+    ∷ drawing [] (exercise 4 9999 0) (refuse 29 0)
     ∷ []
 
 unfoldable pub asked : Drawing → Outcome Answer

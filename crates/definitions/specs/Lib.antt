@@ -1,6 +1,7 @@
 -- Document 01 as definitions: what a reader has to believe, in document 01's order.
 pub mod Utf8
 pub mod Outcome
+pub mod Collection
 pub mod Name
 pub mod Prop
 pub mod Code
@@ -17,6 +18,7 @@ pub mod IdentifierContext
 pub mod Answers
 pub mod Refusals
 pub mod ComparisonWith18
+pub mod Exercises
 pub mod CheckingRules
 pub mod Sound
 pub mod Labels

@@ -1,4 +1,5 @@
--- Which refusals a question can meet. Document 01, "Refusals in checking order"; document 02, ticket 7, for 18, and ticket 3, for 21.
+-- Which refusals a question can meet. Document 01, "Refusals in checking order"; document 02, ticket 7, for 18, ticket 3, for
+-- 21, and ticket 13, for 29 and 30.
 use Prim.Native.Nat.{ℕ, _≤_}
 use mathlib.Core.Path.{_≡_}
 use mathlib.Core.Logic.{_⊎_}
@@ -21,3 +22,7 @@ OfHandout number = Between 1 16 number ⊎ number ≡ 21
 -- comparison uses 1 to 11, 17 and 19 only
 abbrev pub OfComparison : ℕ → Type 0
 OfComparison number = Between 1 11 number ⊎ (number ≡ 17 ⊎ number ≡ 19)
+
+-- an exercise uses 16, 29 and 30 only
+abbrev pub OfExercise : ℕ → Type 0
+OfExercise number = number ≡ 16 ⊎ (number ≡ 29 ⊎ number ≡ 30)

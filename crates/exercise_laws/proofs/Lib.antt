@@ -1,0 +1,4 @@
+pub mod EveryOnce
+pub mod Counts
+pub mod Ordinals
+pub mod Codes

@@ -1,0 +1,2 @@
+pub mod EveryOnce
+pub mod Counts
