@@ -1,0 +1,6 @@
+pub mod Counted
+pub mod Leaf
+pub mod Unranked
+pub mod Pieces
+pub mod Counting
+pub mod Answering

@@ -1,0 +1,3 @@
+-- What the functions that find an exercise say.
+pub mod Names
+pub mod Sizes
