@@ -1,5 +1,5 @@
 /*
- * Skriduhol: from the sheet of a proof board to its printed term.
+ * Skriduhol: from the sheet of a proof board to its printed term, and exercises for its classes.
  *
  * A sheet is any sequence of bytes: every function answers for every sequence and every length. The functions are proved in
  * Rattle, in crates/skriduhol_c; `rt staticlib skriduhol_c` writes target/staticlib/libskriduhol_c.a for x86-64 Linux.
@@ -7,8 +7,9 @@
  * What a caller owes
  *   - Each pointer is aligned for its type and not null, also where its length is 0: a function takes it for a reference,
  *     and nothing is promised of a null one. An empty std::vector may have a null pointer: lend the address of any element then.
- *   - `sheet` can be read for `sheet_length` bytes; `out` can be written for `room` elements, and all of them have a value
- *     (clear the memory once); `value` and `column` can be written.
+ *   - `sheet` can be read for `sheet_length` bytes, and so can the `names` of an exercise, of which all that is said of the sheet
+ *     holds; `out` can be written for `room` elements, and all of them have a value (clear the memory once); `value` and
+ *     `column` can be written.
  *   - `out`, `value` and `column` overlap neither each other nor the sheet, and no other thread touches the four during the
  *     call.
  *
@@ -40,8 +41,8 @@ extern "C" {
 /* Refusals, in the order in which they are tried, save that 21 is tried first: before each its place, which is 0 or the number of
    a name, a proposition or a step, and its reason. Those whose place is a step, 9 to 15, hand back its column too.
 
-   Texts and lists use 1 to 16, those of the handout 21 too, the label count 1 to 15, a comparison 1 to 11, 17 and 19. 16 is
-   tried last. It does not say how much room is missing: most answers fit 65,536 elements, but a text can pass 88 million bytes
+   Texts and lists use 1 to 16, those of the handout 21 too, the label count 1 to 15, a comparison 1 to 11, 17 and 19, an
+   exercise 29, 30 and 16. 16 is tried last. It does not say how much room is missing: most answers fit 65,536 elements, but a text can pass 88 million bytes
    and a list 3 million numbers. */
 enum skriduhol_refusal {
     /* 0: fewer than 12 bytes came */
@@ -83,7 +84,11 @@ enum skriduhol_refusal {
     /* 0: two uninstantiated parameters meet with neither bound on its side */
     SKRIDUHOL_REFUSED_UNBOUND_PARAMETER = 19,
     /* 0: the version of the handout is neither 1 nor 2 */
-    SKRIDUHOL_REFUSED_VERSION = 21
+    SKRIDUHOL_REFUSED_VERSION = 21,
+    /* 0: the names of an exercise are too many, repeated or malformed, or its number of connectives passes 3 */
+    SKRIDUHOL_REFUSED_EXERCISE = 29,
+    /* 0: the ordinal of an exercise is past the end */
+    SKRIDUHOL_REFUSED_ORDINAL = 30
 };
 
 /* The bytes that skriduhol_board_output writes into. */
@@ -91,6 +96,9 @@ enum skriduhol_refusal {
 
 /* The longest sheet, in bytes. A reader lends one byte more, to see that an input is longer. */
 #define SKRIDUHOL_LONGEST_SHEET 40972
+
+/* The longest code of an exercise, in bytes: three connectives and four names. */
+#define SKRIDUHOL_LONGEST_EXERCISE 19
 
 /* The plain text: declarations and then the term, in UTF-8, with no 0 at its end. *value: its length in bytes. */
 uint8_t skriduhol_plain_text(const uint8_t *sheet, size_t sheet_length, uint8_t *out, size_t room, size_t *value,
@@ -125,6 +133,15 @@ uint8_t skriduhol_label_count(const uint8_t *sheet, size_t sheet_length, size_t 
 
 /* Whether the conclusions of steps i and j are equal up to the names of their bound objects. *value: 1 for yes, 0 for no. */
 uint8_t skriduhol_compare(const uint8_t *sheet, size_t sheet_length, size_t i, size_t j, size_t *value, size_t *column);
+
+/* The code of the proposition at an ordinal, from 0, among all of at most n binary connectives over ⊤, ⊥ and up to 3 names, n up
+   to 3. Fewer connectives come first; then by root, ∧ before ∨ before ⊃; then by the left part's size, the left part, the right
+   part; leaves are ⊤, ⊥, then the names as given, by which they are numbered in the code. Three names and n of 3 give 86,705.
+   `names` is no sheet but names divided by newlines: no bytes are no names, and a newline at the end makes an empty name, which
+   is malformed. A name has 1 to 32 bytes, an ASCII letter and then letters, digits or `_`, and no two have the same bytes.
+   *value: the code's length in bytes, at most SKRIDUHOL_LONGEST_EXERCISE. */
+uint8_t skriduhol_exercise(const uint8_t *names, size_t names_length, size_t n, size_t ordinal, uint8_t *out, size_t room,
+                           size_t *value, size_t *column);
 
 /* What the board prints: the plain text of version 1 if 65,536 bytes have room for it, or `refused R at P` and a newline, R the
    number and P the place; for 9 to 15 ` column K` stands before the newline, K the column. `out` has SKRIDUHOL_BOARD_ROOM

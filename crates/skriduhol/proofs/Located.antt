@@ -1,11 +1,16 @@
 -- Each answer as it is handed back, from what the layers below answer; and that its refusal comes after 1 to 3.
 use Prim.Native.Nat.{ℕ}
-use mathlib.Core.Path.{_≡_}
-use mathlib.Core.List.{List}
+use mathlib.Core.Path.{_≡_, sym, _∙_}
+use mathlib.Core.Logic.{inl, inr}
+use mathlib.Core.List.{List, []}
+use native.Mathlib.Omega.{arith}
 use Rattle.definitions.specs.declared.Refusal.{Refusal}
 use Rattle.definitions.specs.declared.Located.{Located}
 use Rattle.definitions.specs.Outcome.{Outcome, accepted, refused}
-use Rattle.definitions.specs.Answers.{located}
+use Rattle.definitions.specs.Answers.{located, columnOf, namesStep}
+use Rattle.definitions.specs.Exercises.{exerciseAnswer}
+use Rattle.definitions.specs.Refusals.{Uses, is-accepted, is-refused, OfExercise}
+use Rattle.definitions.proofs.Refusals.{exercise-uses}
 use Rattle.output.specs.declared.Written.{Written}
 use Rattle.output.specs.declared.Written.the-variants as written
 use Rattle.output.specs.Written.{writtenOf, Fills}
@@ -55,3 +60,25 @@ module _ (s : List ℕ) where
       → ((o : Outcome (List ℕ)) → w ≡ writtenOf o → r ≡ filledOf s o)
       → FillsOf s outcome before after r
   fills-back f back = record { answer = back _ (f .answer); memory = f .memory }
+
+-- a refusal of an exercise names no step, so it has no column
+no-step : (r : Refusal) → OfExercise (r .number) → located [] r ≡ record { refusal = r; column = 0 }
+unfolding located columnOf namesStep
+no-step r (inl e) = rw e
+no-step r (inr (inl e)) = rw e
+no-step r (inr (inr e)) = rw e
+
+refused-kind : {r : Refusal} {o : Outcome (List ℕ)} → Uses OfExercise o → o ≡ refused r → OfExercise (r .number)
+refused-kind is-accepted e = let no : _≡_ {A = ℕ} 0 1 = cc in absurd (omega arith)
+refused-kind {r} (is-refused {r = x} h) e = let same : x ≡ r = cc in rw same at h
+
+-- an exercise in lent memory as it is handed back
+module _ (text : List ℕ) (n ordinal room : ℕ) {before after : List ℕ} {w : Written} (f : Fills (exerciseAnswer text n ordinal room) before after w) where
+  pub exercise-accepted : {l : ℕ} → w ≡ written.Length l → FillsOf [] (exerciseAnswer text n ordinal room) before after (filled.Length l)
+  exercise-accepted e = record { answer = length-back [] (exerciseAnswer text n ordinal room) (sym e ∙ f .answer); memory = f .memory }
+
+  pub exercise-refused : {r : Refusal} → w ≡ written.Refused r
+      → FillsOf [] (exerciseAnswer text n ordinal room) before after (filled.Refused (record { refusal = r; column = 0 }))
+  exercise-refused {r} e =
+      let none = no-step r (refused-kind (exercise-uses text n ordinal room) (written-refused f e)) in
+      record { answer = refusal-back [] (exerciseAnswer text n ordinal room) (sym none) (sym e ∙ f .answer); memory = f .memory }

@@ -18,12 +18,13 @@ use sheet_term::TERM_NUMBERS;
 use sheet_term::sheet_term;
 use text::text;
 ghost use mathlib.Core.Path.{_≡_};
-ghost use mathlib.Core.List.{List};
+ghost use mathlib.Core.List.{List, []};
 ghost use Prim.Native.Nat.{ℕ};
 ghost use lib.ListN.{length};
 ghost use Rattle.definitions.specs.Outcome.{Outcome};
 ghost use Rattle.definitions.specs.declared.Style.the-variants.{Plain, Strict};
 ghost use Rattle.definitions.specs.Answers.{inRoom, sheetText, versionOf, textAnswer, atomsAnswer, datatypesAnswer, labelCount, comparison, boardOutput};
+ghost use Rattle.definitions.specs.Exercises.{exerciseAnswer};
 ghost use Rattle.output.specs.Written.{writtenOf, Fills};
 ghost use Rattle.sheet.proofs.Admitted.{AcceptedSheet};
 ghost use Rattle.sheet_term.specs.Held.{HeldTerm};
@@ -215,5 +216,18 @@ pub fn board_output(s: &[u8], out: &mut [u8; BOARD_ROOM]) -> usize
     match filled {
         Filled::Length(length) => length,
         Filled::Refused(located) => put_refusal(out, located),
+    }
+}
+
+// The code of the proposition at an ordinal among all of at most n connectives over a caller's names, which are divided by
+// newlines. No sheet is asked about, so a refusal has no column.
+pub fn exercise(names: &[u8], n: usize, ordinal: usize, out: &mut [u8]) -> Filled
+    ensures { λ r. ⌜ FillsOf [] (exerciseAnswer (now (names .entry)) n ordinal (length (now (out .entry))))
+        (now (out .entry)) (now (out .exit)) r ⌝ }
+{
+    let written = exercises::exercise(names, n, ordinal, out);
+    match written {
+        Written::Length(length) => Filled::Length(length),
+        Written::Refused(refusal) => Filled::Refused(Located { refusal, column: 0 }),
     }
 }

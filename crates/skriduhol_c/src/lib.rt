@@ -8,11 +8,12 @@ use skriduhol::Count;
 use skriduhol::Filled;
 use skriduhol::Verdict;
 ghost use mathlib.Core.Path.{_≡_};
-ghost use mathlib.Core.List.{List};
+ghost use mathlib.Core.List.{List, []};
 ghost use Prim.Native.Nat.{ℕ};
 ghost use lib.ListN.{length};
 ghost use Rattle.definitions.specs.Outcome.{Outcome};
 ghost use Rattle.definitions.specs.Answers.{textAnswer, atomsAnswer, datatypesAnswer, labelCount, comparison, boardOutput};
+ghost use Rattle.definitions.specs.Exercises.{exerciseAnswer};
 ghost use Rattle.definitions.specs.declared.Style.the-variants.{Plain, Strict};
 ghost use Rattle.skriduhol.specs.Located.{filledOf};
 ghost use Rattle.skriduhol.specs.Board.{Prints};
@@ -209,4 +210,20 @@ pub extern "C" fn skriduhol_board_output(sheet: &[u8], out: &mut [u8; BOARD_ROOM
     ensures { λ r. ⌜ Prints (boardOutput (now (sheet .entry))) (now (out .entry)) (now (out .exit)) r ⌝ }
 {
     skriduhol::board_output(sheet, out)
+}
+
+// The code of the proposition at an ordinal among all of at most n connectives over a caller's names, divided by newlines.
+#[no_mangle]
+pub extern "C" fn skriduhol_exercise(
+    names: &[u8],
+    n: usize,
+    ordinal: usize,
+    out: &mut [u8],
+    value: &mut usize,
+    column: &mut usize,
+) -> u8
+    ensures { λ r. ⌜ HandsFilled (λ _. exerciseAnswer (now (names .entry)) n ordinal) [] (now (out .entry))
+        (now (out .exit)) (now (value .exit)) (now (column .exit)) r ⌝ }
+{
+    hand_filled(skriduhol::exercise(names, n, ordinal, out), value, column)
 }
