@@ -107,14 +107,17 @@ pub enum Answer {
     List(Vec<u16>),
     Count(usize),
     Equal(bool),
+    /// The code of a proposition.
+    Code(Vec<u8>),
 }
 
 impl Answer {
-    /// The room that the answer fills: bytes of a text, numbers of a list.
+    /// The room that the answer fills: bytes of a text or a code, numbers of a list.
     pub fn length(&self) -> usize {
         match self {
             Answer::Text(text) => text.len(),
             Answer::List(list) => list.len(),
+            Answer::Code(code) => code.len(),
             Answer::Count(_) | Answer::Equal(_) => 0,
         }
     }

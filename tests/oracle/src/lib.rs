@@ -2,6 +2,7 @@
 pub mod answer;
 pub mod context;
 pub mod draw;
+pub mod exercise;
 pub mod formula;
 pub mod generate;
 pub mod limits;

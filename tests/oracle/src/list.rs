@@ -2,6 +2,7 @@
 //! `README.md` has its form, and says which sheets are in it.
 use crate::{
     answer::{examine, Answer, Examined, Finding, Question, VERSIONS},
+    exercise::{bad_names, count_names, good_names, Exercise, Exercises, CONNECTIVES, TOO_MANY},
     generate::{Kind, Sheets},
     rng::Rng,
     sheet::{decode, Refusal, BOARD_ROOM, CODE, HEADER_BYTES, NAMES, PAIR_BYTES, PROPS, STEPS, STEP_BYTES, TEXT},
@@ -21,10 +22,15 @@ const LONGEST_SHEET: usize = HEADER_BYTES + PAIR_BYTES * (NAMES + PROPS) + STEP_
 /// So many of the worst sheets.
 const WORST: usize = 3;
 
+/// The kind of a question on an exercise.
+pub const EXERCISE: u8 = 10;
+
 #[derive(Default)]
 pub struct List {
     pub bytes: Vec<u8>,
     pub sheets: usize,
+    /// Entries whose bytes are a caller's names.
+    pub names: usize,
     pub questions: usize,
 }
 
@@ -44,7 +50,11 @@ pub fn list(seed: u64) -> Result<List, Finding> {
         list.sample(kind, seed, 0..=SMALL_BYTES, SMALL, &mut rng)?;
         list.sample(kind, seed, SMALL_BYTES + 1..=LARGE_BYTES, LARGE, &mut rng)?;
     }
-    list.bytes.splice(0..0, (list.sheets as u32).to_le_bytes());
+    let exercises = Exercises::default();
+    for names in good_names().into_iter().chain(bad_names()).filter(|names| names.len() <= SMALL_BYTES) {
+        list.add_exercises(&exercises, names, &mut rng);
+    }
+    list.bytes.splice(0..0, ((list.sheets + list.names) as u32).to_le_bytes());
     Ok(list)
 }
 
@@ -107,18 +117,54 @@ impl List {
         self.bytes.extend(room.into_iter().flat_map(|room| (room as u32).to_le_bytes()));
     }
 
+    /// Adds an entry with names: questions on each number of connectives, and on one that is too large.
+    fn add_exercises(&mut self, exercises: &Exercises, names: Vec<u8>, rng: &mut Rng) {
+        let mut asked: Vec<(Exercise, usize)> = vec![];
+        for n in (0..=CONNECTIVES).chain([*rng.pick(&TOO_MANY)]) {
+            let end =
+                count_names(&names).filter(|_| n <= CONNECTIVES).map_or(1, |names| exercises.codes(names, n).len());
+            let wrapped = (1 << 32) + rng.below(end);
+            let beyond = *rng.pick(&[end, end + 1, wrapped, usize::MAX]);
+            for ordinal in [0, rng.below(end), rng.below(end), end - 1, beyond] {
+                let exercise = Exercise { names: names.clone(), n, ordinal };
+                let room = match exercises.answer(&exercise, None) {
+                    Ok(code) => code.len() - rng.chance(40) as usize + rng.chance(20) as usize,
+                    Err(_) => rng.below(20),
+                };
+                asked.push((exercise, room));
+            }
+        }
+        if count_names(&names).is_none() {
+            rng.shuffle(&mut asked);
+            asked.truncate(REFUSED);
+        }
+        self.names += 1;
+        self.questions += asked.len();
+        self.bytes.extend((names.len() as u32).to_le_bytes());
+        self.bytes.extend(names);
+        self.bytes.push(asked.len() as u8);
+        for (exercise, room) in asked {
+            self.bytes.push(EXERCISE);
+            self.bytes.extend([exercise.n, exercise.ordinal].map(|number| (number as u64).to_le_bytes()).concat());
+            self.bytes.extend((room as u32).to_le_bytes());
+            self.add_answer(&exercises.answer(&exercise, Some(room)).map(Answer::Code));
+        }
+    }
+
     fn add_answer(&mut self, answer: &Result<Answer, Refusal>) {
         let (number, value) = match answer {
             Ok(Answer::Text(text)) => (0, text.len()),
             Ok(Answer::List(list)) => (0, list.len()),
             Ok(Answer::Count(count)) => (0, *count),
             Ok(Answer::Equal(equal)) => (0, *equal as usize),
+            Ok(Answer::Code(code)) => (0, code.len()),
             Err(refusal) => (refusal.number, refusal.place),
         };
         self.bytes.push(number);
         self.bytes.extend((value as u32).to_le_bytes());
         match answer {
             Ok(Answer::Text(text)) => self.bytes.extend(text.bytes()),
+            Ok(Answer::Code(code)) => self.bytes.extend(code),
             Ok(Answer::List(list)) => self.bytes.extend(list.iter().flat_map(|number| number.to_le_bytes())),
             Ok(Answer::Count(_) | Answer::Equal(_)) => {}
             Err(refusal) => self.bytes.extend(refusal.column.to_le_bytes()),
@@ -126,7 +172,7 @@ impl List {
     }
 }
 
-/// So many questions are asked of a sheet that is refused.
+/// So many questions are asked of a sheet or of names that are refused.
 const REFUSED: usize = 4;
 const COMPARISONS: usize = 6;
 /// So many of a hundred answers are asked for with more room than they fill.

@@ -2,8 +2,9 @@
 use oracle::{
     answer::{examine, Answer, Examined, Question},
     context,
+    exercise::{count_names, Exercises, CONNECTIVES},
     generate::{Kind, Sheets},
-    list::list,
+    list::{list, List},
     rng::Rng,
     sheet::Refusal,
     sound,
@@ -14,6 +15,7 @@ const USAGE: &str = "usage:
   oracle answer [--room N] plain|strict|atoms|datatypes|count|board FILE
   oracle answer compare I J FILE
   oracle answer [--room N] handout VERSION plain|strict|datatypes FILE
+  oracle exercises N [NAME]...
   oracle generate --kind KIND [--seed N --count M] --out DIR
   oracle compare --kind KIND [--seed N --count M]
   oracle accuracy --seed N --count M
@@ -73,6 +75,7 @@ fn run() -> i32 {
             answer(handout(number(version), part), file, Some(number(room)))
         }
         ["answer", "handout", version, part, file] => answer(handout(number(version), part), file, None),
+        ["exercises", n, ref names @ ..] => exercises(number(n), names),
         ["generate", ref rest @ ..] => generate(&sheets(rest), option(rest, "--out")),
         ["compare", ref rest @ ..] => compare(&sheets(rest)),
         ["accuracy", ref rest @ ..] => accuracy(&random_sheets(Kind::Sound, rest)),
@@ -103,6 +106,23 @@ fn handout(version: usize, part: &str) -> Question {
     }
 }
 
+/// The code of every exercise, one to a line.
+fn exercises(n: usize, names: &[&str]) -> i32 {
+    match (count_names(names.join("\n").as_bytes()), n) {
+        (Some(names), 0..=CONNECTIVES) => {
+            let codes = Exercises::default();
+            let hex = |code: &Vec<u8>| code.iter().map(|byte| format!("{byte:02x}")).collect::<String>() + "\n";
+            let lines: String = codes.codes(names, n).iter().map(hex).collect();
+            std::io::stdout().write_all(lines.as_bytes()).unwrap();
+            0
+        }
+        _ => {
+            println!("refused 29 at 0");
+            0
+        }
+    }
+}
+
 fn answer(question: Question, file: &str, room: Option<usize>) -> i32 {
     match examine(&read(file)).and_then(|examined| examined.answer(question, room)) {
         Ok(answer) => {
@@ -119,6 +139,7 @@ fn answer(question: Question, file: &str, room: Option<usize>) -> i32 {
 fn printed(answer: Result<Answer, Refusal>) -> Vec<u8> {
     match answer {
         Ok(Answer::Text(text)) => text.into(),
+        Ok(Answer::Code(code)) => code,
         Ok(Answer::List(list)) => list.iter().map(|n| format!("{n}\n")).collect::<String>().into(),
         Ok(Answer::Count(count)) => format!("{count}\n").into(),
         Ok(Answer::Equal(equal)) => if equal { "yes\n" } else { "no\n" }.into(),
@@ -213,8 +234,9 @@ fn accuracy(sheets: &Sheets) -> i32 {
 fn write_list(seed: u64, file: &str) -> i32 {
     match list(seed) {
         Ok(list) => {
-            println!("{} sheets, {} questions, {} bytes", list.sheets, list.questions, list.bytes.len());
-            fs::write(file, list.bytes).unwrap();
+            let List { sheets, names, questions, bytes } = list;
+            println!("{sheets} sheets, {names} lists of names, {questions} questions, {} bytes", bytes.len());
+            fs::write(file, bytes).unwrap();
             0
         }
         Err(finding) => {

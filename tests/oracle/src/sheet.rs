@@ -287,7 +287,7 @@ fn cut<'a>(
 }
 
 /// Are all bytes of a name admitted where they stand?
-fn admitted(name: &[u8]) -> bool {
+pub fn admitted(name: &[u8]) -> bool {
     name[0].is_ascii_alphabetic() && name.iter().all(|b| b.is_ascii_alphanumeric() || *b == b'_')
 }
 

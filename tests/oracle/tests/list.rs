@@ -1,7 +1,8 @@
 //! The list is read back by its format, and each answer asked for once more.
 use oracle::{
     answer::{examine, Answer, Operation, Question},
-    list::list,
+    exercise::{Exercise, Exercises},
+    list::{list, EXERCISE},
     sheet::Refusal,
 };
 
@@ -35,11 +36,17 @@ impl Reader<'_> {
         }
     }
 
-    fn answer(&mut self, question: Question) -> Result<Answer, Refusal> {
+    /// An answer's value, or a refusal.
+    fn value(&mut self) -> Result<usize, Refusal> {
         let (number, value) = (self.number(1) as u8, self.number(4));
-        if number > 0 {
-            return Err(Refusal { number, place: value, column: self.number(2) as u16 });
+        match number {
+            0 => Ok(value),
+            _ => Err(Refusal { number, place: value, column: self.number(2) as u16 }),
         }
+    }
+
+    fn answer(&mut self, question: Question) -> Result<Answer, Refusal> {
+        let value = self.value()?;
         Ok(match question {
             Question::AtomList | Question::DatatypeList | Question::HandoutDatatypes(_) => {
                 Answer::List((0..value).map(|_| self.number(2) as u16).collect())
@@ -56,9 +63,9 @@ fn the_list_reads_back() {
     let list = list(1).unwrap();
     assert!(list.sheets >= 1500 && list.bytes.len() <= 2_000_000);
     let mut reader = Reader(&list.bytes);
-    let (mut asked, mut refused, mut exact, mut short, mut more) = ([0; Operation::ALL.len()], [0; 22], 0, 0, 0);
+    let (mut asked, mut refused, mut exact, mut short, mut more) = ([0; Operation::ALL.len()], [0; 31], 0, 0, 0);
     let (mut strict, mut second) = (0, 0);
-    assert_eq!(reader.number(4), list.sheets);
+    assert_eq!(reader.number(4), list.sheets + list.names);
     for _ in 0..list.sheets {
         let length = reader.number(4);
         let examined = examine(&reader.bytes(length)).unwrap();
@@ -79,10 +86,26 @@ fn the_list_reads_back() {
             refused[answer.map_or_else(|refusal| refusal.number as usize, |_| 0)] += 1;
         }
     }
+    let (exercises, mut codes) = (Exercises::default(), 0);
+    for _ in 0..list.names {
+        let length = reader.number(4);
+        let names = reader.bytes(length);
+        for _ in 0..reader.number(1) {
+            assert_eq!(reader.number(1), EXERCISE as usize);
+            let exercise = Exercise { names: names.clone(), n: reader.number(8), ordinal: reader.number(8) };
+            let room = reader.number(4);
+            let answer = reader.value().map(|length| reader.bytes(length));
+            assert_eq!(answer, exercises.answer(&exercise, Some(room)));
+            codes += answer.is_ok() as usize;
+            refused[answer.map_or_else(|refusal| refusal.number as usize, |_| 0)] += 1;
+        }
+    }
+    assert!(codes > 100, "{codes}");
     assert!(reader.0.is_empty());
     assert!(asked.iter().all(|count| *count > 0), "{asked:?}");
-    // every refusal but 18; there is none with the number 20
-    assert!((0..22).all(|number| (refused[number] > 0) == ![18, 20].contains(&number)), "{refused:?}");
+    // every refusal but 18; there is none with the number 20, nor from 22 to 28
+    let none = |number| [18, 20].contains(&number) || (22..29).contains(&number);
+    assert!((0..31).all(|number| (refused[number] > 0) != none(number)), "{refused:?}");
     assert!(exact > 1000 && short > 1000, "{exact} {short}");
     assert!(more > 100 && strict > 100 && second > 50, "{more} {strict} {second}");
 }
