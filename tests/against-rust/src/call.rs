@@ -1,6 +1,7 @@
 //! The C interface, and one call of it over memory in which every byte is watched.
 use oracle::{
     answer::{Answer, Question},
+    exercise::Exercise,
     sheet::{Refusal, BOARD_ROOM},
 };
 use std::fmt;
@@ -32,6 +33,16 @@ pub type Compare = unsafe extern "C" fn(
     value: *mut usize,
     column: *mut usize,
 ) -> u8;
+pub type OfExercise = unsafe extern "C" fn(
+    names: *const u8,
+    names_length: usize,
+    n: usize,
+    ordinal: usize,
+    out: *mut u8,
+    room: usize,
+    value: *mut usize,
+    column: *mut usize,
+) -> u8;
 pub type Board = unsafe extern "C" fn(sheet: *const u8, sheet_length: usize, out: *mut u8) -> usize;
 
 /// The functions of `skriduhol.h`.
@@ -47,6 +58,7 @@ pub struct Library {
     pub handout_plain: Handout<u8>,
     pub handout_strict: Handout<u8>,
     pub handout_datatypes: Handout<u16>,
+    pub exercise: OfExercise,
 }
 
 /// What a call gave: the refusal's number or 0, the value, the column, and the memory it was lent.
@@ -109,6 +121,19 @@ impl Library {
         };
         Said { number, value, column, memory, sheet_changed: lent != sheet }
     }
+
+    /// The exercise in a room; its names stand for the sheet.
+    pub fn call_exercise(&self, exercise: &Exercise, room: usize, salt: u8) -> Said {
+        let mut lent = exercise.names.clone();
+        let (pointer, length) = (lent.as_mut_ptr().cast_const(), lent.len());
+        let (mut value, mut column) = (UNSAID, UNSAID);
+        let mut out = Lent::new(room, salt);
+        let Exercise { n, ordinal, .. } = *exercise;
+        // SAFETY: the names, the value, the column and the lent room outlive the call.
+        let number =
+            unsafe { (self.exercise)(pointer, length, n, ordinal, out.start(), room, &mut value, &mut column) };
+        Said { number, value, column, memory: Memory::Bytes(out), sheet_changed: lent != exercise.names }
+    }
 }
 
 impl Said {
@@ -132,6 +157,7 @@ impl Said {
         match (&self.memory, expected) {
             (Memory::None, _) => None,
             (Memory::Bytes(out), Ok(Answer::Text(text))) => out.differs(text.as_bytes()),
+            (Memory::Bytes(out), Ok(Answer::Code(code))) => out.differs(code),
             (Memory::Bytes(out), _) => out.differs(&[]),
             (Memory::Numbers(out), Ok(Answer::List(list))) => out.differs(list),
             (Memory::Numbers(out), _) => out.differs(&[]),

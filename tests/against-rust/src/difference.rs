@@ -35,6 +35,7 @@ fn shown(answer: &Result<Answer, Refusal>) -> String {
     match answer {
         Ok(Answer::Text(text)) => format!("accepted, {}: {text:?}", text.len()),
         Ok(Answer::List(list)) => format!("accepted, {}: {list:?}", list.len()),
+        Ok(Answer::Code(code)) => format!("accepted, {}: {code:?}", code.len()),
         Ok(Answer::Count(count)) => format!("accepted, {count}"),
         Ok(Answer::Equal(equal)) => format!("accepted, {}", *equal as usize),
         Err(refusal) => refusal.to_string(),

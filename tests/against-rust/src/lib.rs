@@ -1,6 +1,7 @@
 //! Compares a library behind the C interface with document 01 and the unchanged Rust.
 pub mod call;
 pub mod difference;
+pub mod exercises;
 pub mod kinds;
 pub mod questions;
 pub mod shrink;

@@ -1,6 +1,6 @@
 //! The command line: `run` beside this folder builds the library and starts it.
-use against_rust::{call::Library, kinds, tally::Table};
-use oracle::generate::Kind;
+use against_rust::{call::Library, exercises, kinds, tally::Table};
+use oracle::{exercise::Exercises, generate::Kind};
 use std::{process::exit, str::FromStr, thread, time::Instant};
 
 #[link(name = "skriduhol_c", kind = "static")]
@@ -74,6 +74,16 @@ extern "C" {
         value: *mut usize,
         column: *mut usize,
     ) -> u8;
+    fn skriduhol_exercise(
+        names: *const u8,
+        names_length: usize,
+        n: usize,
+        ordinal: usize,
+        out: *mut u8,
+        room: usize,
+        value: *mut usize,
+        column: *mut usize,
+    ) -> u8;
 }
 
 const LIBRARY: Library = Library {
@@ -87,6 +97,7 @@ const LIBRARY: Library = Library {
     handout_plain: skriduhol_handout_plain,
     handout_strict: skriduhol_handout_strict,
     handout_datatypes: skriduhol_handout_datatypes,
+    exercise: skriduhol_exercise,
 };
 
 const USAGE: &str = "usage: run [--seed N] [--count M] [--kind KIND] [--threads T]
@@ -151,6 +162,13 @@ fn main() {
     match missing.is_empty() {
         true => println!("Every refusal from 1 to 21 but 18 and 20 occurred."),
         false => println!("Refusals that did not occur: {missing:?}"),
+    }
+    if only.is_none() {
+        let asked = exercises::compare(&LIBRARY, &Exercises::default(), seed).unwrap_or_else(|difference| {
+            println!("DIFFERENCE in an {difference}");
+            exit(1)
+        });
+        println!("{asked}");
     }
     println!("No difference.");
     if only.is_none() && count >= COUNT && !missing.is_empty() {

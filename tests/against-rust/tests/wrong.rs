@@ -1,11 +1,13 @@
 //! Libraries that are wrong in one thing each: the comparison must find every one of them, and nothing in a right one.
 use against_rust::{
     call::Library,
+    exercises,
     kinds::{compare, Found},
 };
 use oracle::{
     answer::{examine, Answer, Examined, Operation, Question},
     draw::smallest,
+    exercise::{count_names, Exercise, Exercises},
     formula::{Formula, Parameter},
     generate::Kind,
     reference::meets_two_counts,
@@ -16,7 +18,10 @@ use oracle::{
 use std::{
     cell::RefCell,
     rc::Rc,
-    sync::atomic::{AtomicUsize, Ordering::SeqCst},
+    sync::{
+        atomic::{AtomicUsize, Ordering::SeqCst},
+        LazyLock,
+    },
 };
 
 /// A question as the library gets it.
@@ -125,6 +130,7 @@ impl Reply {
         let numbers: Vec<u16> = match answer {
             Ok(Answer::Text(text)) => text.bytes().map(u16::from).collect(),
             Ok(Answer::List(list)) => list.clone(),
+            Ok(Answer::Code(code)) => code.iter().copied().map(u16::from).collect(),
             _ => vec![],
         };
         let (number, value, column) = match answer {
@@ -621,7 +627,247 @@ const LIBRARY: Library = Library {
     handout_plain,
     handout_strict,
     handout_datatypes,
+    exercise,
 };
+
+/// An exercise as the library gets it, and the names in its memory.
+struct AskedExercise {
+    exercise: Exercise,
+    room: usize,
+    names: *mut u8,
+}
+
+static EXERCISES: LazyLock<Exercises> = LazyLock::new(Exercises::default);
+
+impl AskedExercise {
+    fn right(&self, room: Option<usize>) -> Result<Answer, Refusal> {
+        EXERCISES.answer(&self.exercise, room).map(Answer::Code)
+    }
+
+    /// Answers as another question.
+    fn take(&self, reply: &mut Reply, change: impl FnOnce(&mut Exercise)) {
+        let mut exercise = self.exercise.clone();
+        change(&mut exercise);
+        *reply = Reply::new(&EXERCISES.answer(&exercise, Some(self.room)).map(Answer::Code));
+    }
+
+    /// Answers names that are refused as so many good ones, if the test holds of them.
+    fn take_names(&self, reply: &mut Reply, test: impl Fn(&[&[u8]]) -> bool) {
+        let names: Vec<&[u8]> = self.exercise.names.split(|byte| *byte == b'\n').collect();
+        if reply.number == 29 && self.exercise.n <= 3 && test(&names) {
+            self.take(reply, |exercise| exercise.names = b"A\nB\nC"[..2 * names.len().min(3) - 1].to_vec());
+        }
+    }
+
+    /// How many names there are, where the question is not refused with 29.
+    fn names(&self) -> Option<usize> {
+        count_names(&self.exercise.names).filter(|_| self.exercise.n <= 3)
+    }
+}
+
+impl Reply {
+    /// Puts other bytes in the place of those in front of propositions, and other numbers in that of names.
+    fn recode(&mut self, head: impl Fn(u16) -> u16, name: impl Fn(u16) -> u16) {
+        let mut at = 0;
+        while at < self.cells.len() {
+            let atom = self.cells[at].1 == 5;
+            self.cells[at].1 = head(self.cells[at].1);
+            if atom {
+                self.cells[at + 1].1 = name(self.cells[at + 1].1);
+            }
+            at += if atom { 4 } else { 1 };
+        }
+    }
+}
+
+fn well_formed(name: &[u8]) -> bool {
+    !name.is_empty() && count_names(name) == Some(1)
+}
+
+type ExerciseFault = fn(&AskedExercise, &mut Reply);
+
+const EXERCISE_FAULTS: &[(&str, ExerciseFault)] = &[
+    ("∨ before ∧", |_, reply| reply.recode(|head| [0, 1, 3, 2, 4, 5][head as usize], |name| name)),
+    ("the right part varies slowest", |asked, reply| {
+        let leaves = asked.names().map_or(0, |names| names + 2);
+        let index = asked.exercise.ordinal.wrapping_sub(leaves);
+        if asked.exercise.n > 0 && index < leaves * leaves {
+            asked.take(reply, |exercise| exercise.ordinal = leaves + index % leaves * leaves + index / leaves);
+        }
+    }),
+    ("larger left parts come first", |asked, reply| {
+        if let (Some(0), 2..=3, 14..=61) = (asked.names(), asked.exercise.n, asked.exercise.ordinal) {
+            asked.take(reply, |exercise| exercise.ordinal = 14 + (exercise.ordinal - 14 + 24) % 48);
+        }
+    }),
+    ("names before ⊤ and ⊥", |asked, reply| {
+        if let Some(leaves) = asked.names().map(|names| names + 2) {
+            if asked.exercise.ordinal < leaves {
+                asked.take(reply, |exercise| exercise.ordinal = (exercise.ordinal + 2) % leaves);
+            }
+        }
+    }),
+    ("an ordinal equal to the total is accepted", |asked, reply| {
+        let total = asked.names().map(|names| EXERCISES.codes(names, asked.exercise.n).len());
+        if total == Some(asked.exercise.ordinal) {
+            asked.take(reply, |exercise| exercise.ordinal -= 1);
+        }
+    }),
+    ("the last ordinal is refused", |asked, reply| {
+        let total = asked.names().map(|names| EXERCISES.codes(names, asked.exercise.n).len());
+        if total == Some(asked.exercise.ordinal + 1) {
+            reply.refuse(30, 0);
+        }
+    }),
+    ("n of 4 is taken for 3", |asked, reply| {
+        if asked.exercise.n == 4 {
+            asked.take(reply, |exercise| exercise.n = 3);
+        }
+    }),
+    ("n is cut to 8 bits", |asked, reply| asked.take(reply, |exercise| exercise.n %= 256)),
+    ("n is cut to 16 bits", |asked, reply| asked.take(reply, |exercise| exercise.n %= 1 << 16)),
+    ("n is cut to 32 bits", |asked, reply| asked.take(reply, |exercise| exercise.n %= 1 << 32)),
+    ("the ordinal is cut to 16 bits", |asked, reply| asked.take(reply, |exercise| exercise.ordinal %= 1 << 16)),
+    ("the ordinal is cut to 32 bits", |asked, reply| asked.take(reply, |exercise| exercise.ordinal %= 1 << 32)),
+    ("repeated names are taken", |asked, reply| {
+        asked.take_names(reply, |names| names.len() <= 3 && names.iter().all(|name| well_formed(name)));
+    }),
+    ("a name is compared with the next one only", |asked, reply| {
+        let neighbours = |names: &[&[u8]]| names.windows(2).all(|pair| pair[0] != pair[1]);
+        asked.take_names(reply, |names| {
+            names.len() <= 3 && names.iter().all(|name| well_formed(name)) && neighbours(names)
+        });
+    }),
+    ("names are compared without their case", |asked, reply| {
+        if asked.exercise.names == b"a\nA" {
+            reply.refuse(29, 0);
+        }
+    }),
+    ("a name that begins another is a repeat", |asked, reply| {
+        if asked.exercise.names == b"A\nAA\nAAA" {
+            reply.refuse(29, 0);
+        }
+    }),
+    ("four names are taken", |asked, reply| {
+        asked.take_names(reply, |names| names.len() == 4 && names.iter().all(|name| well_formed(name)));
+    }),
+    ("names of 33 bytes are taken", |asked, reply| {
+        asked.take_names(reply, |names| names.iter().all(|name| well_formed(name) || **name == [b'n'; 33]));
+    }),
+    ("names of 32 bytes are refused", |asked, reply| {
+        if asked.exercise.names == [b'n'; 32] {
+            reply.refuse(29, 0);
+        }
+    }),
+    ("a name may begin with any of its bytes", |asked, reply| {
+        asked.take_names(reply, |names| names.len() == 1 && well_formed(&[b"A", names[0]].concat()));
+    }),
+    ("a newline may stand at the end", |asked, reply| {
+        asked.take_names(reply, |names| names.len() == 2 && well_formed(names[0]) && names[1].is_empty());
+    }),
+    ("a word of terms is no name", |asked, reply| {
+        if asked.exercise.names.starts_with(b"sorry") {
+            reply.refuse(29, 0);
+        }
+    }),
+    ("no names are refused", |asked, reply| {
+        if asked.exercise.names.is_empty() {
+            reply.refuse(29, 0);
+        }
+    }),
+    ("30 is tried before 29", |asked, reply| {
+        if reply.number == 29 && asked.exercise.ordinal > 86_704 {
+            reply.refuse(30, 0);
+        }
+    }),
+    ("16 is tried before 30", |asked, reply| {
+        if reply.number == 30 && asked.room == 0 {
+            reply.refuse(16, 0);
+        }
+    }),
+    ("29 has the number of a name as its place", |asked, reply| {
+        if reply.number == 29 && asked.exercise.names == b"A\nB\nA" {
+            reply.value = 2;
+        }
+    }),
+    ("names are numbered from 1", |_, reply| reply.recode(|head| head, |name| name + 1)),
+    ("a room exactly enough is refused", |asked, reply| {
+        if reply.number == 0 && reply.value == asked.room {
+            reply.refuse(16, 0);
+        }
+    }),
+    ("a room one short is accepted", |asked, reply| {
+        let right = Reply::new(&asked.right(None));
+        if reply.number == 16 && right.value == asked.room + 1 {
+            *reply = right;
+            reply.cells.pop();
+        }
+    }),
+    ("a code is begun before its room is judged", |asked, reply| {
+        if reply.number == 16 {
+            reply.cells = Reply::new(&asked.right(None)).cells;
+            reply.cells.truncate(asked.room);
+        }
+    }),
+    ("a byte is written after the code", |asked, reply| {
+        if reply.number == 0 && reply.value < asked.room {
+            reply.cells.push((reply.value as isize, 0));
+        }
+    }),
+    ("a byte is written past the lent room", |asked, reply| reply.cells.push((asked.room as isize, 0))),
+    ("a refusal leaves its number in the output", |asked, reply| {
+        if reply.number > 0 && asked.room > 0 {
+            reply.cells.push((0, reply.number as u16));
+        }
+    }),
+    ("a length is one too many", |_, reply| reply.value += (reply.number == 0) as usize),
+    ("the column is left unset", |_, reply| reply.column = usize::MAX / 3),
+    ("the names are written to", |asked, reply| {
+        if reply.number == 0 && !asked.exercise.names.is_empty() {
+            // SAFETY: the names have bytes, and the library is lent a copy of them.
+            unsafe { *asked.names ^= 1 }
+        }
+    }),
+];
+
+/// Which fault in exercises the library has now; none past the last.
+static EXERCISE_FAULT: AtomicUsize = AtomicUsize::new(usize::MAX);
+
+#[allow(clippy::too_many_arguments)]
+unsafe extern "C" fn exercise(
+    s: *const u8,
+    length: usize,
+    n: usize,
+    ordinal: usize,
+    out: *mut u8,
+    room: usize,
+    value: *mut usize,
+    column: *mut usize,
+) -> u8 {
+    let names = if length == 0 { vec![] } else { std::slice::from_raw_parts(s, length).to_vec() };
+    let asked = AskedExercise { exercise: Exercise { names, n, ordinal }, room, names: s.cast_mut() };
+    let mut reply = Reply::new(&asked.right(Some(room)));
+    if let Some((_, fault)) = EXERCISE_FAULTS.get(EXERCISE_FAULT.load(SeqCst)) {
+        fault(&asked, &mut reply);
+    }
+    for (at, number) in reply.cells {
+        *out.offset(at) = number as u8;
+    }
+    (*value, *column) = (reply.value, reply.column);
+    reply.number
+}
+
+#[test]
+fn every_library_with_wrong_exercises_is_found() {
+    let asked = exercises::compare(&LIBRARY, &EXERCISES, 11).unwrap_or_else(|found| panic!("a right library: {found}"));
+    assert!(asked.accepted > 2 * 140_636 && asked.refused_16 > 140_636, "{asked}");
+    assert!(asked.refused_29 > 1000 && asked.refused_30 > 100, "{asked}");
+    for (index, (fault, _)) in EXERCISE_FAULTS.iter().enumerate() {
+        EXERCISE_FAULT.store(index, SeqCst);
+        let found = exercises::compare(&LIBRARY, &EXERCISES, 11);
+        println!("{fault}\n{}\n", found.err().unwrap_or_else(|| panic!("not found: {fault}")));
+    }
+}
 
 /// The first difference over some sheets of each kind.
 fn found() -> Option<Found> {
