@@ -81,6 +81,16 @@ extern "C" {
         value: *mut usize,
         column: *mut usize,
     ) -> u8;
+    fn skriduhol_exercise(
+        names: *const u8,
+        names_length: usize,
+        n: usize,
+        ordinal: usize,
+        out: *mut u8,
+        room: usize,
+        value: *mut usize,
+        column: *mut usize,
+    ) -> u8;
     fn skriduhol_board_output(sheet: *const u8, sheet_length: usize, out: *mut u8) -> usize;
 }
 
@@ -206,4 +216,26 @@ pub fn compare(sheet: &[u8], i: usize, j: usize, value: &mut usize, column: &mut
 
 pub fn board_output(sheet: &[u8], out: &mut [u8; BOARD_ROOM]) -> usize {
     unsafe { skriduhol_board_output(sheet.as_ptr(), sheet.len(), out.as_mut_ptr()) }
+}
+
+pub fn exercise(
+    names: &[u8],
+    n: usize,
+    ordinal: usize,
+    out: &mut [u8],
+    value: &mut usize,
+    column: &mut usize,
+) -> u8 {
+    unsafe {
+        skriduhol_exercise(
+            names.as_ptr(),
+            names.len(),
+            n,
+            ordinal,
+            out.as_mut_ptr(),
+            out.len(),
+            value,
+            column,
+        )
+    }
 }

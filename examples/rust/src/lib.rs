@@ -1,5 +1,5 @@
-//! The proved library behind proof boards, for Rust: a sheet's text, its lists, its label count, and the comparison of two
-//! conclusions. Every function answers for any bytes. A refusal leaves the lent memory as it was, save that `board_output` then
+//! The proved library behind proof boards, for Rust: a sheet's text, its lists, its label count, the comparison of two
+//! conclusions, and exercises. Every function answers for any bytes. A refusal leaves the lent memory as it was, save that `board_output` then
 //! writes the refusal's line.
 #![deny(unsafe_code)]
 
@@ -12,6 +12,9 @@ pub const BOARD_ROOM: usize = 65_536;
 
 /// The longest sheet, in bytes. A reader needs one byte more, to see that an input is longer.
 pub const LONGEST_SHEET: usize = 40_972;
+
+/// The longest code of an exercise, in bytes: three connectives and four names.
+pub const LONGEST_EXERCISE: usize = 19;
 
 /// A refusal: its number, its place, and the grid column of the step that 9 to 15 name, for any other 0.
 /// `include/skriduhol.h` lists them.
@@ -96,6 +99,13 @@ pub fn compare(sheet: &[u8], i: usize, j: usize) -> Result<bool, Refusal> {
 /// What the board prints, at the start of `out`: the plain text of version 1, or the refusal's line; its length in bytes.
 pub fn board_output(sheet: &[u8], out: &mut [u8; BOARD_ROOM]) -> usize {
     c::board_output(sheet, out)
+}
+
+/// The code of the proposition at an ordinal, from 0, among all of at most `n` binary connectives over ⊤, ⊥ and up to 3 names, `n` up
+/// to 3, at the start of `out`; its length in bytes. The names are divided by newlines, no bytes are no names, and in the code they
+/// are numbered as given. `include/skriduhol.h` says their order.
+pub fn exercise(names: &[u8], n: usize, ordinal: usize, out: &mut [u8]) -> Result<usize, Refusal> {
+    asked(|value, column| c::exercise(names, n, ordinal, out, value, column))
 }
 
 /// What a C function handed over: a value, or a refusal's number with its place as the value, and its column.

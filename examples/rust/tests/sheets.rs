@@ -1,7 +1,8 @@
 //! The example sheets through the wrapper: answers, refusals, and what becomes of the lent memory.
 use skriduhol::{
-    atom_list, board_output, compare, datatype_list, handout, handout_datatypes, label_count,
-    plain_text, strict_text, Refusal, Style, BOARD_ROOM, LONGEST_SHEET,
+    atom_list, board_output, compare, datatype_list, exercise, handout, handout_datatypes,
+    label_count, plain_text, strict_text, Refusal, Style, BOARD_ROOM, LONGEST_EXERCISE,
+    LONGEST_SHEET,
 };
 
 const SMALLEST: &[u8] = include_bytes!("../../sheets/smallest.sheet");
@@ -130,6 +131,68 @@ fn a_number_that_is_no_version_is_refused_first() {
             assert_eq!(handout_datatypes(sheet, version, &mut []), refusal(21, 0));
         }
     }
+}
+
+/// The code of an exercise in a room of so many bytes.
+fn exercise_in(
+    room: usize,
+    names: &str,
+    n: usize,
+    ordinal: usize,
+) -> (Result<usize, Refusal>, Vec<u8>) {
+    let mut out = vec![UNTOUCHED; room];
+    let answer = exercise(names.as_bytes(), n, ordinal, &mut out);
+    (answer, out)
+}
+
+#[test]
+fn exercises() {
+    let code = |names, n, ordinal| {
+        let (answer, mut out) = exercise_in(LONGEST_EXERCISE, names, n, ordinal);
+        out.truncate(answer?);
+        Ok(out)
+    };
+    assert_eq!(code("", 0, 0), Ok(vec![0]));
+    assert_eq!(code("", 0, 1), Ok(vec![1]));
+    assert_eq!(code("", 0, 2), refusal(30, 0));
+    assert_eq!(code("A\nB", 2, 3), Ok(vec![5, 1, 0, 0]));
+    assert_eq!(code("A\nB", 2, 5), Ok(vec![2, 0, 1]));
+    assert_eq!(code("A\nB", 2, 8), Ok(vec![2, 1, 0]));
+    assert_eq!(code("A\nB", 2, 244), Ok(vec![2, 2, 0, 0, 0]));
+    assert_eq!(
+        code("sorry\nfn\nin", 3, 86_704),
+        Ok(vec![
+            4, 4, 4, 5, 2, 0, 0, 5, 2, 0, 0, 5, 2, 0, 0, 5, 2, 0, 0
+        ])
+    );
+    assert_eq!(code("A\nB\nC", 3, 86_705), refusal(30, 0));
+    for (names, n) in [
+        ("A\nB\nC\nD", 0),
+        ("A\nB\nA", 0),
+        ("A\n", 0),
+        ("1A", 0),
+        ("A", 4),
+    ] {
+        assert_eq!(code(names, n, usize::MAX), refusal(29, 0));
+    }
+}
+
+#[test]
+fn memory_past_an_exercise_and_under_its_refusal_is_untouched() {
+    assert_eq!(
+        exercise_in(3, "A", 0, 2),
+        (refusal(16, 0), vec![UNTOUCHED; 3])
+    );
+    assert_eq!(exercise_in(4, "A", 0, 2), (Ok(4), vec![5, 0, 0, 0]));
+    assert_eq!(
+        exercise_in(6, "A", 0, 2),
+        (Ok(4), vec![5, 0, 0, 0, UNTOUCHED, UNTOUCHED])
+    );
+    assert_eq!(
+        exercise_in(6, "A\nA", 0, 2),
+        (refusal(29, 0), vec![UNTOUCHED; 6])
+    );
+    assert_eq!(exercise_in(0, "", 0, 0), (refusal(16, 0), vec![]));
 }
 
 #[test]
