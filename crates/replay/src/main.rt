@@ -1,5 +1,5 @@
-// Asks each question of a fixed list of sheets, and says how many of the answers agree with those that the list holds: the Rust's,
-// and those of documents 01 and 02 where the Rust has none. tests/oracle/README.md has the form of the list, and README.md says how it is made.
+// Asks each question of a fixed list of sheets and of names for exercises, and says how many of the answers agree with those that the
+// list holds: the Rust's, and those of documents 01 and 02 where the Rust has none. tests/oracle/README.md has the form of the list, and README.md says how it is made.
 use definitions::Located;
 use definitions::Style;
 use libc::STDOUT_FILENO;
@@ -28,6 +28,8 @@ const HANDOUT_PLAIN: u8 = 7;
 const HANDOUT_STRICT: u8 = 8;
 
 const HANDOUT_DATATYPES: u8 = 9;
+
+const EXERCISE: u8 = 10;
 
 // The most bytes or numbers that are lent. Memory is zero before it is lent.
 const ROOM: usize = 65536;
@@ -184,12 +186,14 @@ fn same_bytes(a: &[u8; ROOM], b: &[u8; ROOM]) -> bool {
     check::same(a, b)
 }
 
-// The text that a question asks for, and of the handout its version.
+// The text that a question asks for, and of the handout its version; or the code of an exercise, with the number of connectives and
+// the ordinal.
 enum AskedText {
     Plain,
     Strict,
     HandoutPlain(usize),
     HandoutStrict(usize),
+    Exercise(usize, usize),
 }
 
 fn text(s: &[u8], asked: AskedText, room: usize, out: &mut [u8]) -> Filled {
@@ -206,6 +210,9 @@ fn text(s: &[u8], asked: AskedText, room: usize, out: &mut [u8]) -> Filled {
         }
         AskedText::HandoutStrict(version) => {
             return skriduhol::handout(s, version, Style::Strict, &mut out[..lent]);
+        }
+        AskedText::Exercise(n, ordinal) => {
+            return skriduhol::exercise(s, n, ordinal, &mut out[..lent]);
         }
     }
 }
@@ -300,6 +307,13 @@ fn board_agrees(fd: i32, s: &[u8]) -> bool {
     same_bytes(&out, &bytes)
 }
 
+// Names stand where other questions have a sheet.
+fn exercise_agrees(fd: i32, names: &[u8]) -> bool {
+    let n = read_u64(fd);
+    let ordinal = read_u64(fd);
+    text_agrees(fd, names, AskedText::Exercise(n, ordinal))
+}
+
 // Whether the answer to the next question agrees.
 fn agrees(fd: i32, s: &[u8]) -> bool {
     match read_byte(fd) {
@@ -312,6 +326,7 @@ fn agrees(fd: i32, s: &[u8]) -> bool {
         HANDOUT_PLAIN => text_agrees(fd, s, AskedText::HandoutPlain(read_u64(fd))),
         HANDOUT_STRICT => text_agrees(fd, s, AskedText::HandoutStrict(read_u64(fd))),
         HANDOUT_DATATYPES => list_agrees(fd, s, AskedList::HandoutDatatypes(read_u64(fd))),
+        EXERCISE => exercise_agrees(fd, s),
         _ => board_agrees(fd, s),
     }
 }
@@ -339,7 +354,7 @@ struct Tally {
     agreed: usize,
 }
 
-// Fills the memory with a sheet of the list, and asks the questions on it.
+// Fills the memory with an entry of the list, a sheet or names, and asks the questions on it.
 fn ask(fd: i32, sheet: &mut [u8]) -> Tally
     ensures { λ r. ⌜ (r .«questions» < 256) × (r .«agreed» < 256) ⌝ }
 {
@@ -352,7 +367,7 @@ fn ask(fd: i32, sheet: &mut [u8]) -> Tally
     }
 }
 
-// Asks the questions on the next sheet of the list.
+// Asks the questions on the next entry of the list.
 fn ask_next(fd: i32) -> Tally
     ensures { λ r. ⌜ (r .«questions» < 256) × (r .«agreed» < 256) ⌝ }
 {
@@ -366,8 +381,8 @@ fn write_count(count: usize, words: &[u8]) {
     io::write_all(STDOUT_FILENO, words);
 }
 
-fn report(sheets: usize, questions: usize, agreed: usize) {
-    write_count(sheets, b" sheets, ");
+fn report(entries: usize, questions: usize, agreed: usize) {
+    write_count(entries, b" entries, ");
     write_count(questions, b" questions, ");
     write_count(agreed, b" answers agree\n");
 }
