@@ -34,6 +34,11 @@ pub fn ask(question: Question, sheet: &[u8], lent: &mut Lent) -> Result<usize, R
     }
 }
 
+/// The length of the code at an ordinal over three names with n of 3, or the refusal.
+pub fn exercise(ordinal: usize, lent: &mut Lent) -> Result<usize, Refusal> {
+    skriduhol::exercise(b"A\nB\nC", 3, ordinal, &mut lent.bytes)
+}
+
 /// The question of each operation on a sheet of so many steps. The comparison is of the first step with the last, and the
 /// handout is version 2.
 pub fn question(operation: Operation, steps: usize) -> Question {

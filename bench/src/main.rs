@@ -1,4 +1,5 @@
 //! Times the Rust and Skriduhol on the same sheets, and measures Skriduhol's stack. docs/PERFORMANCE.md says how.
+mod exercises;
 mod handouts;
 mod library;
 mod lines;
@@ -9,6 +10,7 @@ mod stack;
 mod texts;
 mod timing;
 
+use exercises::exercises;
 use handouts::handouts;
 use library::{ask, question, Lent};
 use lines::lines;
@@ -53,7 +55,7 @@ const MANY_LABELS: usize = 500;
 /// Prints a table, and gives the figure that is required of it, if there is one.
 type Section = fn(&Plan, &mut Lent) -> Option<Required>;
 
-const SECTIONS: [(&str, Section); 7] = [
+const SECTIONS: [(&str, Section); 8] = [
     ("sound", |plan, lent| Some(sound_sheets(plan, lent))),
     ("worst", |plan, lent| Some(worst_sheets(plan, lent))),
     ("growth", |plan, lent| Some(growth(plan, lent))),
@@ -72,10 +74,15 @@ const SECTIONS: [(&str, Section); 7] = [
         handouts(&plan.effort, &sheets::quantified(), lent);
         None
     }),
+    ("exercises", |plan, lent| {
+        println!("## Exercises over three names with up to three connectives\n");
+        exercises(&plan.effort, lent);
+        None
+    }),
 ];
 
 fn usage() -> ! {
-    eprintln!("usage: bench/run short|full [sound|worst|growth|stack|operations|lines|handouts]...");
+    eprintln!("usage: bench/run short|full [sound|worst|growth|stack|operations|lines|handouts|exercises]...");
     exit(2)
 }
 

@@ -1,25 +1,33 @@
 //! How much stack an operation uses. It runs on a stack of its own, which is painted before and scanned after.
-use crate::library::{ask, Lent};
+use crate::library::{ask, exercise, Lent};
 use oracle::answer::Question;
 use std::{arch::asm, ffi::c_void};
 
 const STACK_BYTES: usize = 4 << 20;
 const PAINT: u64 = 0x5ca1_ab1e_0ddb_a115;
 
-/// What to run on the other stack. Without a question, nothing.
+/// What is asked: nothing, a question about a sheet, or an exercise by its ordinal.
+enum Asked<'a> {
+    Nothing,
+    Question(Question, &'a [u8]),
+    Exercise(usize),
+}
+
+/// What to run on the other stack.
 struct Call<'a> {
-    question: Option<Question>,
-    sheet: &'a [u8],
+    asked: Asked<'a>,
     lent: &'a mut Lent,
 }
 
 extern "C" fn run(call: *mut c_void) {
     // SAFETY: `Stack::touched` hands over a call that nobody else uses meanwhile.
     let call = unsafe { &mut *call.cast::<Call>() };
-    if let Some(question) = call.question {
-        // A refusal uses the stack as well as an answer.
-        let _ = ask(question, call.sheet, call.lent);
-    }
+    // A refusal uses the stack as well as an answer.
+    let _ = match call.asked {
+        Asked::Nothing => Ok(0),
+        Asked::Question(question, sheet) => ask(question, sheet, call.lent),
+        Asked::Exercise(ordinal) => exercise(ordinal, call.lent),
+    };
 }
 
 /// # Safety
@@ -59,7 +67,16 @@ impl Stack {
 
     /// The bytes of stack that the answer to a question takes, without those of the call itself.
     pub fn used(&mut self, question: Question, sheet: &[u8], lent: &mut Lent) -> usize {
-        let call = self.touched(&mut Call { question: None, sheet, lent });
-        self.touched(&mut Call { question: Some(question), sheet, lent }) - call
+        self.used_by(Asked::Question(question, sheet), lent)
+    }
+
+    /// The same of an exercise.
+    pub fn used_by_exercise(&mut self, ordinal: usize, lent: &mut Lent) -> usize {
+        self.used_by(Asked::Exercise(ordinal), lent)
+    }
+
+    fn used_by(&mut self, asked: Asked, lent: &mut Lent) -> usize {
+        let call = self.touched(&mut Call { asked: Asked::Nothing, lent });
+        self.touched(&mut Call { asked, lent }) - call
     }
 }
