@@ -4,6 +4,7 @@ pub mod Upward
 pub mod Arms
 pub mod Decimal
 pub mod Names
+pub mod NameOrder
 pub mod Connectives
 pub mod Views
 pub mod Readings

@@ -21,7 +21,7 @@ use Rattle.definitions.specs.Comparison.{no, alphaEq, conclusionAlphaEq}
 use Rattle.definitions.specs.AlphaEquality.{Verdict}
 use Rattle.definitions.specs.declared.Style.{Style}
 use Rattle.definitions.specs.declared.Version.{Version}
-use Rattle.definitions.specs.declared.Version.the-variants.{First, Second}
+use Rattle.definitions.specs.declared.Version.the-variants.{First, Second, Third}
 use Rattle.definitions.specs.Answers.{inRoom, sheetTerm, namedTerm, sheetText, versionOf, textAnswer, atomsAnswer, datatypesAnswer, labelCount, comparison}
 use Rattle.definitions.specs.Exercises.{exerciseAnswer}
 use Rattle.definitions.proofs.AlphaEquality.{textbook}
@@ -170,12 +170,13 @@ datatypes-uses s room = version-datatypes-uses s First room
 -- the same of any number: 21 is the only refusal of a version
 version-uses : (version : ℕ) → Uses OfHandout (versionOf version)
 unfolding versionOf
-version-uses version = of-tests (eqb version 1) (eqb version 2)
+version-uses version = of-tests (eqb version 1) (eqb version 2) (eqb version 3)
   where
-    of-tests : (first second : Bool) → Uses OfHandout (cond first (accepted First) (cond second (accepted Second) (refuse 21 0)))
-    of-tests true second = is-accepted
-    of-tests false true = is-accepted
-    of-tests false false = refusal 21 0 (inr refl)
+    of-tests : (first second third : Bool) → Uses OfHandout (cond first (accepted First) (cond second (accepted Second) (cond third (accepted Third) (refuse 21 0))))
+    of-tests true second third = is-accepted
+    of-tests false true third = is-accepted
+    of-tests false false true = is-accepted
+    of-tests false false false = refusal 21 0 (inr refl)
 
 pub handout-uses : (s : List ℕ) (version : ℕ) (style : Style) (room : ℕ) → Uses OfHandout (textAnswer s version style room)
 unfolding textAnswer

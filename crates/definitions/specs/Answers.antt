@@ -1,5 +1,5 @@
 -- The answer to each question about a sheet, for every sequence of bytes and every room; the board's output.
--- Document 01, "Refusals in checking order" and "Text"; document 02, ticket 3, for the versions of the handout.
+-- Document 01, "Refusals in checking order" and "Text"; document 02, tickets 3 and 8, for the versions of the handout.
 use Prim.Native.Nat.{ℕ}
 use mathlib.Core.Bool.{Bool, _||_, _&&_, cond}
 use mathlib.Core.List.{List, [], _∷_, _++_}
@@ -10,7 +10,7 @@ use Rattle.definitions.specs.declared.Located.{Located}
 use Rattle.definitions.specs.declared.Style.{Style}
 use Rattle.definitions.specs.declared.Style.the-variants.{Plain}
 use Rattle.definitions.specs.declared.Version.{Version}
-use Rattle.definitions.specs.declared.Version.the-variants.{First, Second}
+use Rattle.definitions.specs.declared.Version.the-variants.{First, Second, Third}
 use Rattle.definitions.specs.Outcome.{Outcome, refused, accepted, refuse, _>>=_, mapOutcome, refuseIf}
 use Rattle.definitions.specs.Utf8.{utf8}
 use Rattle.definitions.specs.Name.{Name}
@@ -64,9 +64,12 @@ unfoldable pub printed : List ℕ → Outcome (List ℕ) → List ℕ
 printed s (refused r) = refusalLine (located s r)
 printed s (accepted a) = a
 
--- the version of the handout that a number asks for; 21: it is neither 1 nor 2
+-- the version of the handout that a number asks for; 21: it is outside 1 to 3
 unfoldable pub versionOf : ℕ → Outcome Version
-versionOf number = cond (eqb number 1) (accepted First) (cond (eqb number 2) (accepted Second) (refuse 21 0))
+versionOf number =
+    cond (eqb number 1) (accepted First)
+    (cond (eqb number 2) (accepted Second)
+    (cond (eqb number 3) (accepted Third) (refuse 21 0)))
 
 -- Of a sheet's bytes:
 module _ (s : List ℕ) where

@@ -256,7 +256,7 @@ strictDrawings =
     ∷ drawing ascribedParts (text Strict) (prints "atom A;\n\n\nfst (sorry: A, fn u: A => (sorry: A))")
     ∷ []
 
--- Document 02, ticket 3: the versions of the handout.
+-- Document 02, tickets 3 and 8: the versions of the handout.
 
 -- ForAllIntro v over ForAllElim of ForAllIntro x over Sorry of ∀y:U. ∃z:T. P(y, z), and Ident a; goal ∀v:V. ∀y:U. ∃z:T. P(y, z)
 unfoldable pub secondHandout : List ℕ
@@ -265,8 +265,15 @@ secondHandout =
     sheet ("P" ∷ "T" ∷ "U" ∷ "V" ∷ "x" ∷ "y" ∷ "z" ∷ "v" ∷ "a" ∷ []) (body ∷ ForAll 4 1 body ∷ ForAll 7 3 body ∷ []) 2
     (step Sorry 0 0 ∷ stepNaming ForAllIntro 4 1 1 ∷ stepNaming Ident 8 0 0 ∷ step ForAllElim 2 0 ∷ stepNaming ForAllIntro 7 1 2 ∷ [])
 
+-- Sorry of Pa ∧ (P(x) ∧ (P_ ∧ (PZ ∧ P))), its goal
+unfoldable pub byAlphabet : List ℕ
+byAlphabet =
+    sheet ("Pa" ∷ "P" ∷ "P_" ∷ "PZ" ∷ "x" ∷ [])
+    (And (Atom 0 []) (And (Atom 1 (Instantiated 4 0 ∷ [])) (And (Atom 2 []) (And (Atom 3 []) (Atom 1 [])))) ∷ []) 0 (step Sorry 0 0 ∷ [])
+
 -- the datatypes of the sorry's label are met before that of the function around it, T twice; V is the goal's alone; the board prints
--- version 1; a number that is no version is refused before the bytes are looked at
+-- version 1; a number that is no version is refused before the bytes are looked at; version 3 sorts the declarations, a name before
+-- its own extensions and then by count, and not the list
 unfoldable pub handouts : List Drawing
 handouts =
     drawing secondHandout (handout 1 Plain)
@@ -275,13 +282,19 @@ handouts =
     (prints "datatype U;\ndatatype T;\ndatatype V;\natom P(2);\n\nfn v => (fn x: T => sorry: ∀y:U. ∃z:T. P(y, z)) a")
     ∷ drawing secondHandout (handout 2 Strict)
     (prints "datatype U;\ndatatype T;\ndatatype V;\natom P(2);\n\nfn v => (fn x: T => (sorry: ∀y:U. ∃z:T. P(y, z))) a")
+    ∷ drawing secondHandout (handout 3 Plain)
+    (prints "datatype T;\ndatatype U;\ndatatype V;\natom P(2);\n\nfn v => (fn x: T => sorry: ∀y:U. ∃z:T. P(y, z)) a")
+    ∷ drawing byAlphabet (handout 2 Plain) (prints "\natom Pa;\natom P(1);\natom P_;\natom PZ;\natom P;\n\nsorry")
+    ∷ drawing byAlphabet (handout 3 Plain) (prints "\natom P;\natom P(1);\natom PZ;\natom P_;\natom Pa;\n\nsorry")
     ∷ drawing secondHandout board
     (prints "atom P(2);\ndatatype T;\ndatatype V;\ndatatype U;\n\nfn v => (fn x: T => sorry: ∀y:U. ∃z:T. P(y, z)) a")
     ∷ drawing secondHandout (handoutDatatypes 1) (lists (1 ∷ []))
     ∷ drawing secondHandout (handoutDatatypes 2) (lists (2 ∷ 1 ∷ 1 ∷ []))
+    ∷ drawing secondHandout (handoutDatatypes 3) (lists (2 ∷ 1 ∷ 1 ∷ []))
     ∷ drawing smallest (handout 2 Plain) (prints "\n\n\n()")
     ∷ drawing [] (handout 2 Plain) (refuse 1 0)
-    ∷ drawing [] (handout 3 Plain) (refuse 21 0)
+    ∷ drawing [] (handout 3 Plain) (refuse 1 0)
+    ∷ drawing [] (handout 4 Plain) (refuse 21 0)
     ∷ drawing [] (handoutDatatypes 0) (refuse 21 0)
     ∷ []
 

@@ -3,6 +3,7 @@ pub mod Utf8
 pub mod Outcome
 pub mod Collection
 pub mod Name
+pub mod Sorting
 pub mod Prop
 pub mod Code
 pub mod Sheet

@@ -1,9 +1,11 @@
 -- Names. Document 01, "The sheet": 1 to 32 bytes, an ASCII letter, then letters, digits or `_`.
--- The length belongs to the sheet's pairs (refusal 4); the bytes are judged here (refusal 5).
+-- The length belongs to the sheet's pairs (refusal 4); the bytes are judged here (refusal 5). Document 02, ticket 8, for their order.
 use Prim.Native.Nat.{ℕ}
 use mathlib.Core.Bool.{Bool, true, false, _&&_, _||_, cond}
 use mathlib.Core.List.{List, [], _∷_}
-use lib.Dec.{leb, eqb}
+use lib.Dec.{ltb, leb, eqb}
+use Rattle.definitions.specs.declared.Order.{Order}
+use Rattle.definitions.specs.declared.Order.the-variants.{Less, Equal, Greater}
 
 -- a name is its bytes: equal bytes are the same name under different numbers
 abbrev pub Name : Type 0
@@ -45,3 +47,30 @@ eqName [] [] = true
 eqName [] (y ∷ ys) = false
 eqName (x ∷ xs) [] = false
 eqName (x ∷ xs) (y ∷ ys) = eqb x y && eqName xs ys
+
+-- how two numbers stand to each other
+unfoldable pub compareNumber : ℕ → ℕ → Order
+compareNumber a b = cond (ltb a b) Less (cond (eqb a b) Equal Greater)
+
+-- the first difference decides
+unfoldable pub orElse : Order → Order → Order
+orElse Less next = Less
+orElse Equal next = next
+orElse Greater next = Greater
+
+-- by bytes, a name before its own extensions
+unfoldable pub compareName : Name → Name → Order
+compareName [] [] = Equal
+compareName [] (y ∷ ys) = Less
+compareName (x ∷ xs) [] = Greater
+compareName (x ∷ xs) (y ∷ ys) = orElse (compareNumber x y) (compareName xs ys)
+
+unfoldable pub isEqual : Order → Bool
+isEqual Less = false
+isEqual Equal = true
+isEqual Greater = false
+
+unfoldable pub isGreater : Order → Bool
+isGreater Less = false
+isGreater Equal = false
+isGreater Greater = true

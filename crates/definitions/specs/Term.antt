@@ -4,7 +4,7 @@ use Prim.Native.Nat.{ℕ, _+_}
 use mathlib.Core.Option.{Option, none, some}
 use mathlib.Core.List.{List, [], _∷_, _++_}
 use Rattle.definitions.specs.declared.Version.{Version}
-use Rattle.definitions.specs.declared.Version.the-variants.{First, Second}
+use Rattle.definitions.specs.declared.Version.the-variants.{First, Second, Third}
 use Rattle.definitions.specs.Prop.{Prop, AtomUse, getAtoms, getDatatypes, renameProp}
 
 -- document 01's label: a proposition or a datatype
@@ -90,10 +90,11 @@ module _ {N : Type 0} where
   labelAtoms (proposition p) = getAtoms p
   labelAtoms (datatype t) = []
 
-  -- in version 1 a proposition label's datatypes are not added, in version 2 they are
+  -- in version 1 a proposition label's datatypes are not added, in versions 2 and 3 they are
   unfoldable pub propositionDatatypes : Version → Prop N → List N
   propositionDatatypes First p = []
   propositionDatatypes Second p = getDatatypes p
+  propositionDatatypes Third p = getDatatypes p
 
   -- a ∀ label adds its datatype in each
   unfoldable pub labelDatatypes : Version → Label N → List N

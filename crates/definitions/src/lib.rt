@@ -34,16 +34,24 @@ pub enum Style {
 }
 
 // The version of the handout. The first is document 01's. The second has the datatype declarations before the atoms', and its
-// datatype list holds the datatypes of every label.
+// datatype list holds the datatypes of every label. The third is the second with its declarations sorted.
 pub enum Version {
     First,
     Second,
+    Third,
 }
 
 // A list of a term: its atoms, or its datatypes in a version.
 pub enum TermList {
     Atoms,
     Datatypes(Version),
+}
+
+// How one name, or one number, stands to another.
+pub enum Order {
+    Less,
+    Equal,
+    Greater,
 }
 
 // The place that a search found, if there is one.

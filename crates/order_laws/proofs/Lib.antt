@@ -1,0 +1,4 @@
+pub mod Lawfulness
+pub mod Sorting
+pub mod Declarations
+pub mod Merging

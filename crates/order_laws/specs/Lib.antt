@@ -1,0 +1,3 @@
+pub mod Ordered
+pub mod Sorted
+pub mod Merging
