@@ -3,12 +3,12 @@ use Prim.Native.Nat.{ℕ, _+_, _*_, _≤_}
 use mathlib.Core.Bool.{Bool}
 use mathlib.Core.List.{List}
 use lib.ListN.{length}
-use Rattle.definitions.specs.Name.{eqName}
+use Rattle.definitions.specs.Name.{compareName, isEqual}
 use Rattle.definitions.specs.Sheet.{pairSize, pairEnd, marked}
 
--- name j has the bytes of name i
+-- the comparison says that name j equals name i
 abbrev pub sameBytes : List ℕ → List ℕ → ℕ → ℕ → Bool
-sameBytes pairs text i j = eqName (marked pairs text j) (marked pairs text i)
+sameBytes pairs text i j = isEqual (compareName (marked pairs text j) (marked pairs text i))
 
 -- the pairs of the numbers 0 to i are there, and each ends within the text
 pub record PairsWithin (pairs text : List ℕ) (i : ℕ) : Type 0 where

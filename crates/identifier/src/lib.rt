@@ -1,4 +1,4 @@
-// Names, after the Rust's identifier.rs: which bytes are one, when two are the same, and where a name stood first.
+// Names, after the Rust's identifier.rs: which bytes are one, how two stand to each other, and where a name stood first.
 mod classes;
 
 pub use classes::CLASSES;
@@ -6,9 +6,10 @@ use classes::LETTER;
 use classes::OTHER;
 use classes::class;
 use definitions::Found;
+use definitions::Order;
 use number::marked_bytes;
 ghost use mathlib.Core.Path.{_≡_};
-ghost use Rattle.definitions.specs.Name.{isName, eqName};
+ghost use Rattle.definitions.specs.Name.{isName, eqName, compareName, isEqual};
 ghost use Rattle.definitions.specs.Outcome.{lowest, foundAt};
 ghost use Rattle.definitions.specs.Sheet.{marked};
 ghost use Rattle.number.specs.Pairs.{NameWithin};
@@ -35,21 +36,57 @@ pub fn is_name(name: &[u8]) -> bool
     true
 }
 
+// How two names stand to each other: by bytes, a name before its own extensions.
+pub fn compare_names(a: &[u8], b: &[u8]) -> Order
+    ensures { λ r. ⌜ r ≡ compareName (now (a .entry)) (now (b .entry)) ⌝ }
+{
+    let mut i = 0;
+    while i < a.len() {
+        if b.len() <= i {
+            return Order::Greater;
+        }
+        let byte = a[i];
+        let other = b[i];
+        if byte < other {
+            return Order::Less;
+        }
+        if other < byte {
+            return Order::Greater;
+        }
+        i += 1;
+    }
+    if i < b.len() {
+        return Order::Less;
+    }
+    Order::Equal
+}
+
+// Whether a comparison says equal.
+pub fn is_equal(order: Order) -> bool
+    ensures { λ r. ⌜ r ≡ isEqual order ⌝ }
+{
+    match order {
+        Order::Less => false,
+        Order::Equal => true,
+        Order::Greater => false,
+    }
+}
+
 // Whether two names have the same bytes.
 pub fn same_name(a: &[u8], b: &[u8]) -> bool
     ensures { λ r. ⌜ r ≡ eqName (now (a .entry)) (now (b .entry)) ⌝ }
 {
-    if a.len() != b.len() {
-        return false;
-    }
-    let mut i = 0;
-    while i < a.len() {
-        if a[i] != b[i] {
-            return false;
-        }
-        i += 1;
-    }
-    true
+    is_equal(compare_names(a, b))
+}
+
+// How the names of two numbers stand to each other.
+pub fn compare_bytes(pairs: &[u8], text: &[u8], a: usize, b: usize) -> Order
+    requires { ⌜ NameWithin (now pairs) (now text) a × NameWithin (now pairs) (now text) b ⌝ }
+    ensures { λ r. ⌜ r ≡ compareName
+        (marked (now (pairs .entry)) (now (text .entry)) a)
+        (marked (now (pairs .entry)) (now (text .entry)) b) ⌝ }
+{
+    compare_names(marked_bytes(pairs, text, a), marked_bytes(pairs, text, b))
 }
 
 // Whether the names of two numbers have the same bytes.
@@ -59,7 +96,7 @@ pub fn same_bytes(pairs: &[u8], text: &[u8], a: usize, b: usize) -> bool
         (marked (now (pairs .entry)) (now (text .entry)) a)
         (marked (now (pairs .entry)) (now (text .entry)) b) ⌝ }
 {
-    same_name(marked_bytes(pairs, text, a), marked_bytes(pairs, text, b))
+    is_equal(compare_bytes(pairs, text, a, b))
 }
 
 // The first name before number i with the same bytes as name i. No operation asks for it: it is the plain search that an index of
@@ -69,7 +106,7 @@ pub fn first_equal(pairs: &[u8], text: &[u8], i: usize) -> Found
     ensures { λ r. ⌜ r ≡ foundAt (lowest (sameBytes (now (pairs .entry)) (now (text .entry)) i) i) ⌝ }
 {
     for j in 0..i {
-        if same_bytes(pairs, text, j, i) {
+        if is_equal(compare_bytes(pairs, text, j, i)) {
             return Found::At(j);
         }
     }

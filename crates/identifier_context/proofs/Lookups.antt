@@ -8,7 +8,8 @@ use borrow.Author.Tests.{eq-eqb, ne-eqb}
 use Rattle.definitions.specs.declared.Found.{Found}
 use Rattle.definitions.specs.declared.Found.the-variants.{Nowhere, At}
 use Rattle.definitions.specs.Outcome.{foundAt}
-use Rattle.definitions.specs.Name.{Name, eqName}
+use Rattle.definitions.specs.Name.{Name, compareName, isEqual}
+use Rattle.definitions.proofs.NameOrder.{equal-name}
 use Rattle.definitions.specs.Tree.{renameIdentifier}
 use Rattle.definitions.specs.Comparison.{eqIdentifier}
 use Rattle.definitions.specs.IdentifierContext.{IdentifierContext, latest, withoutLatest, hasName, hasIdentifier, getByName, get, removeByName, remove}
@@ -57,9 +58,9 @@ finds {nameOf} {lookup} {entries} {n} index =
 -- Of an entry whose four numbers were read, a lookup by name admits that of the name's bytes; one by name and id that of the id too.
 module _ (nameOf : ℕ → Name) (entries : List ℕ) (i : ℕ) where
   pub admits-name : {lookup : Lookup} {n : ℕ} {e : Entry} {r : Bool} → lookup ≡ ByName n → e ≡ entryAt entries i
-      → r ≡ eqName (nameOf n) (nameOf (e .name)) → r ≡ admitted nameOf lookup (entryOf (entryAt entries i))
+      → r ≡ isEqual (compareName (nameOf n) (nameOf (e .name))) → r ≡ admitted nameOf lookup (entryOf (entryAt entries i))
   unfolding admitted hasName entryOf
-  admits-name asked read same = rw asked (rw read at same)
+  admits-name asked read same = rw asked (rw (read, equal-name) at same)
 
   pub admits-no-other-id : {lookup : Lookup} {n id : ℕ} {e : Entry} → lookup ≡ ByIdentifier n id → e ≡ entryAt entries i
       → (e .id ≡ id → ⊥) → false ≡ admitted nameOf lookup (entryOf (entryAt entries i))
@@ -67,6 +68,6 @@ module _ (nameOf : ℕ → Name) (entries : List ℕ) (i : ℕ) where
   admits-no-other-id asked read other = rw (asked, ne-eqb _ _ (λ e. other (rw read (sym e))), and-false)
 
   pub admits-identifier : {lookup : Lookup} {n id : ℕ} {e : Entry} {r : Bool} → lookup ≡ ByIdentifier n id → e ≡ entryAt entries i
-      → e .id ≡ id → r ≡ eqName (nameOf n) (nameOf (e .name)) → r ≡ admitted nameOf lookup (entryOf (entryAt entries i))
+      → e .id ≡ id → r ≡ isEqual (compareName (nameOf n) (nameOf (e .name))) → r ≡ admitted nameOf lookup (entryOf (entryAt entries i))
   unfolding admitted hasIdentifier eqIdentifier renameIdentifier identifierOf entryOf
-  admits-identifier asked read alike same = rw (asked, eq-eqb _ _ (sym (rw read at alike)), and-true) (rw read at same)
+  admits-identifier asked read alike same = rw (asked, eq-eqb _ _ (sym (rw read at alike)), and-true) (rw (read, equal-name) at same)

@@ -2,7 +2,8 @@
 // The caller keeps the count of entries. Names are numbers of the sheet, and equal where their bytes are.
 use definitions::Found;
 use definitions::Refusal;
-use identifier::same_bytes;
+use identifier::compare_bytes;
+use identifier::is_equal;
 ghost use mathlib.Core.Path.{_≡_};
 ghost use Prim.Native.Nat.{_+_, _-_, _*_, _≤_, _<_};
 ghost use lib.ListN.{length};
@@ -79,12 +80,14 @@ fn admits(entries: &[u16], i: usize, pairs: &[u8], text: &[u8], lookup: Lookup) 
 {
     let entry = entry_at(entries, i);
     match lookup {
-        Lookup::ByName(name) => same_bytes(pairs, text, name as usize, entry.name as usize),
+        Lookup::ByName(name) => {
+            is_equal(compare_bytes(pairs, text, name as usize, entry.name as usize))
+        }
         Lookup::ByIdentifier(name, id) => {
             if entry.id != id {
                 return false;
             }
-            same_bytes(pairs, text, name as usize, entry.name as usize)
+            is_equal(compare_bytes(pairs, text, name as usize, entry.name as usize))
         }
     }
 }

@@ -1,20 +1,26 @@
--- The names' bytes are compared.
+-- The comparison says equal.
+use denote.Ref.{now}
 use borrow.Author.Needs.{needs}
+use Rattle.definitions.specs.Sheet.{marked}
+use Rattle.identifier.proofs.Comparing.{equals}
 use Rattle.identifier.proofs.same_bytes.Statement.{statement}
 use Rattle.identifier.proofs.same_bytes.Tie as tie
 
-marked-bytes-requires : tie.Need-marked-bytes-requires
-marked-bytes-requires c κs = search needs
+-- back over the comparison
+abbrev asked : tie.After-is-equal → tie.Start
+asked c = c .before .before .before .before
 
-marked-bytes-requires-2 : tie.Need-marked-bytes-requires-2
-marked-bytes-requires-2 c κs = search needs
+compare-bytes-requires : tie.Need-compare-bytes-requires
+compare-bytes-requires c κs = search needs
 
-same-name-requires : tie.Need-same-name-requires
-same-name-requires c κs = search needs
+is-equal-requires : tie.Need-is-equal-requires
+is-equal-requires c κs = search needs
 
 returns : tie.Need-returns
-returns c = cc
+returns c =
+    let start = asked c in
+    let name = marked (now (start .args .pairs)) (now (start .args .text)) in
+    equals (name (start .args .a)) (name (start .args .b)) (c .before .compare-bytes .ensures) (c .is-equal .ensures)
 
 pub same-bytes-spec : {M : Type 1} → statement M
-same-bytes-spec =
-    tie.close (tie.spec marked-bytes-requires marked-bytes-requires-2 same-name-requires returns)
+same-bytes-spec = tie.close (tie.spec compare-bytes-requires is-equal-requires returns)

@@ -1,19 +1,25 @@
--- The bytes of the two names are compared.
+-- The comparison says equal.
+use denote.Ref.{now}
 use borrow.Author.Needs.{needs}
+use Rattle.identifier.proofs.Comparing.{equals}
+use Rattle.vocabulary.specs.Vocabulary.{nameIn}
 use Rattle.vocabulary.proofs.same_name.Statement.{statement}
 use Rattle.vocabulary.proofs.same_name.Tie as tie
 
-name-requires : tie.Need-name-requires
-name-requires c κs = search needs
+-- back over the comparison
+abbrev asked : tie.After-is-equal → tie.Start
+asked c = c .before .before .before .before
 
-name-requires-2 : tie.Need-name-requires-2
-name-requires-2 c κs = search needs
+compare-names-requires : tie.Need-compare-names-requires
+compare-names-requires c κs = search needs
 
-same-name-requires : tie.Need-same-name-requires
-same-name-requires c κs = search needs
+is-equal-requires : tie.Need-is-equal-requires
+is-equal-requires c κs = search needs
 
 returns : tie.Need-returns
-returns c = cc
+returns c =
+    let args = asked c .args in
+    equals (nameIn (now (args .a)) (args .v) (args .i)) (nameIn (now (args .b)) (args .w) (args .j)) (c .before .compare-names .ensures) (c .is-equal .ensures)
 
 pub same-name-spec : {M : Type 1} → statement M
-same-name-spec = tie.close (tie.spec name-requires name-requires-2 same-name-requires returns)
+same-name-spec = tie.close (tie.spec compare-names-requires is-equal-requires returns)
