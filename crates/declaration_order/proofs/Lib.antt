@@ -1,0 +1,4 @@
+pub mod Uses
+pub mod Comparing
+pub mod Merged
+pub mod Halved

@@ -1,0 +1,3 @@
+-- What the functions that sort declarations say.
+pub mod Entries
+pub mod Sorted
