@@ -1,5 +1,6 @@
 //! The answers to a sheet's questions, each taken from the Rust where the Rust has it and checked against document
-//! 01's own walk. The texts and lists of version 2 are document 02's alone. Where the two disagree, that is a `Finding`.
+//! 01's own walk. The texts and lists of versions 2 and 3 are document 02's alone. Where the two disagree, that is a
+//! `Finding`.
 use crate::{
     reference,
     sheet::{decode, refuse, Refusal, Sheet, BOARD_ROOM},
@@ -25,8 +26,8 @@ pub enum Question {
     HandoutDatatypes(usize),
 }
 
-/// The two versions, and numbers that are none, among them such as have the low bytes of one.
-pub const VERSIONS: [usize; 8] = [1, 2, 0, 3, 257, 65537, (1 << 32) + 1, usize::MAX];
+/// The three versions, and numbers that are none, among them such as have the low bytes of one.
+pub const VERSIONS: [usize; 9] = [1, 2, 3, 0, 4, 257, 65537, (1 << 32) + 1, usize::MAX];
 
 /// The operation that a question asks for, in the order in which the list numbers them.
 #[derive(Clone, Copy, PartialEq, Eq, Debug)]
@@ -137,24 +138,22 @@ pub struct Exported {
     pub export: Export,
     pub plain: String,
     pub strict: String,
-    /// The texts of version 2, which the Rust has not.
-    pub second_plain: String,
-    pub second_strict: String,
+    /// What stands before the term in each version. The Rust has the first only.
+    headings: [String; 3],
 }
 
 impl Exported {
-    fn plain(&self, version: Version) -> &str {
-        match version {
-            Version::First => &self.plain,
-            Version::Second => &self.second_plain,
-        }
+    pub fn plain(&self, version: Version) -> String {
+        self.headed(version, &self.plain)
     }
 
-    fn strict(&self, version: Version) -> &str {
-        match version {
-            Version::First => &self.strict,
-            Version::Second => &self.second_strict,
-        }
+    pub fn strict(&self, version: Version) -> String {
+        self.headed(version, &self.strict)
+    }
+
+    /// A text of version 1 with the heading of another: the term is the same in each.
+    fn headed(&self, version: Version, first: &str) -> String {
+        self.headings[version as usize].clone() + &first[self.headings[Version::First as usize].len()..]
     }
 }
 
@@ -199,9 +198,9 @@ fn exported(sheet: &Sheet) -> Result<Result<Exported, Refusal>, Finding> {
     ensure(plain == text::text(sheet, &export, Version::First, text::plain), || "the plain texts differ".into())?;
     let strict = text::text(sheet, &export, Version::First, text::strict);
     ensure(strict.len() == plain.len() + 2 * export.strict_brackets, || "the strict text has other brackets".into())?;
-    let second_plain = text::text(sheet, &export, Version::Second, text::plain);
-    let second_strict = text::text(sheet, &export, Version::Second, text::strict);
-    Ok(Ok(Exported { export, plain, strict, second_plain, second_strict }))
+    let headings = [Version::First, Version::Second, Version::Third]
+        .map(|version| text::declared(sheet, &export, version).heading(version));
+    Ok(Ok(Exported { export, plain, strict, headings }))
 }
 
 /// Comparison by the document and by the Rust.
@@ -222,10 +221,9 @@ impl Examined {
             return Ok(refuse(21, 0));
         };
         let exported = self.exported.as_ref().map_err(|refusal| *refusal);
-        let text = |text: &str| Answer::Text(text.into());
         let answer = match question {
-            Question::PlainText | Question::HandoutPlain(_) => exported.map(|e| text(e.plain(version))),
-            Question::StrictText | Question::HandoutStrict(_) => exported.map(|e| text(e.strict(version))),
+            Question::PlainText | Question::HandoutPlain(_) => exported.map(|e| Answer::Text(e.plain(version))),
+            Question::StrictText | Question::HandoutStrict(_) => exported.map(|e| Answer::Text(e.strict(version))),
             Question::AtomList => {
                 exported.map(|e| Answer::List(e.export.atoms.iter().flat_map(|(n, count)| [*n, *count]).collect()))
             }

@@ -177,7 +177,7 @@ const REFUSED: usize = 4;
 const COMPARISONS: usize = 6;
 /// So many of a hundred answers are asked for with more room than they fill.
 const MORE: usize = 10;
-/// So many of a hundred sheets are asked for the handout of version 2.
+/// So many of a hundred sheets are asked for the handout of versions 2 and 3.
 const HANDOUTS: usize = 25;
 
 /// Questions with their rooms, for those that are lent one: one short, but never more than the board lends; exactly
@@ -187,8 +187,8 @@ fn questions(examined: &Examined, longest: usize, rng: &mut Rng) -> Vec<(Questio
     let mut long = false;
     let mut filling = vec![Question::PlainText, Question::StrictText, Question::AtomList, Question::DatatypeList];
     if rng.chance(HANDOUTS) {
-        filling.extend([Question::HandoutPlain(2), Question::HandoutStrict(2), Question::HandoutDatatypes(2)]);
         let handout = [Question::HandoutPlain, Question::HandoutStrict, Question::HandoutDatatypes];
+        filling.extend([2, 3].into_iter().flat_map(|version| handout.map(|question| question(version))));
         filling.push(rng.pick(&handout)(*rng.pick(&VERSIONS)));
     }
     for question in filling {

@@ -86,7 +86,26 @@ fn named(list: Vec<(&str, Plain)>) -> Vec<Named> {
     list.into_iter().map(|(what, sheet)| (what.into(), sheet.bytes())).collect()
 }
 
-/// Those that the Rust answers in seconds; the last three have labels and stay within the board's room.
+/// The most declarations that a sheet has, 1,210 pairs of name and count in 8,190 bytes of code: each name with two counts
+/// or three, in the label of a sorry. The names differ at their end, and are met from the last to the first.
+pub fn most_declarations() -> Plain {
+    const WITH_THREE: usize = 186;
+    let counts = |n| if n < WITH_THREE { 3 } else { 2 };
+    let uses =
+        |n| (0..counts(n)).rev().map(move |count| Formula::Atom(n as u16, vec![Parameter::Uninstantiated(0); count]));
+    let mut names = wide_names(NAMES, 16);
+    names.sort();
+    names.reverse();
+    let mut steps = Vec::new();
+    for n in 0..NAMES {
+        steps.push(step(rule::SORRY, 0, &[], n));
+        steps.extend(vec![step(rule::AND_INTRO, 2, &[], 0); (n + 1).trailing_zeros() as usize]);
+    }
+    steps.push(step(rule::AND_ELIM_FST, 1, &[], 0));
+    Plain { names, props: (0..NAMES).map(|n| code(&uses(n).reduce(and).unwrap())).collect(), steps, goal: 0 }
+}
+
+/// Those that the Rust answers in seconds; the three before the last have labels and stay within the board's room.
 pub fn worst() -> Vec<Named> {
     let ident = step(rule::IDENT, 0, &[1], 0);
     let argument = [ident, step(rule::ALPHA, 1, &[], 0), step(rule::OR_INTRO_FST, 1, &[], 0)];
@@ -109,6 +128,7 @@ pub fn worst() -> Vec<Named> {
             concluding(conjunction(&vec![atom(0); 2000], CODE), wide_names(1, 30), one.to_vec()),
         ),
         ("three labels of 1,163 different atoms", three),
+        ("1,210 declarations, in 512 labels", most_declarations()),
     ])
 }
 

@@ -239,13 +239,14 @@ fn the_second_handout() {
     let handout = |version, term: &str| {
         let heading = match version {
             1 => "atom P(2);\ndatatype T;\ndatatype V;\ndatatype U;",
+            3 => "datatype T;\ndatatype U;\ndatatype V;\natom P(2);",
             _ => "datatype U;\ndatatype T;\ndatatype V;\natom P(2);",
         };
         Ok(Answer::Text(format!("{heading}\n\n{term}")))
     };
     let term = "fn v => (fn x: T => sorry: ∀y:U. ∃z:T. P(y, z)) a";
     let bracketed = "fn v => (fn x: T => (sorry: ∀y:U. ∃z:T. P(y, z))) a";
-    for version in [1, 2] {
+    for version in [1, 2, 3] {
         assert_eq!(ask(Question::HandoutPlain(version), &sheet), handout(version, term));
         assert_eq!(ask(Question::HandoutStrict(version), &sheet), handout(version, bracketed));
     }
@@ -254,6 +255,7 @@ fn the_second_handout() {
     assert_eq!(list(Question::HandoutDatatypes(1), &sheet), list(Question::DatatypeList, &sheet));
     assert_eq!(list(Question::DatatypeList, &sheet), [1]);
     assert_eq!(list(Question::HandoutDatatypes(2), &sheet), [2, 1, 1]);
+    assert_eq!(list(Question::HandoutDatatypes(3), &sheet), [2, 1, 1]);
     // the left side of a labelled function's conclusion is a label too
     let [x, y] = [forall(1, 2, atom(A)), exists(1, 3, atom(A))];
     let steps =
@@ -261,6 +263,21 @@ fn the_second_handout() {
     let sheet = plain(&["A", "x", "T", "U", "u"], &[implies(and(x.clone(), y.clone()), y), x], &steps);
     assert_eq!(list(Question::HandoutDatatypes(1), &sheet), []);
     assert_eq!(list(Question::HandoutDatatypes(2), &sheet), [2, 3]);
+}
+
+#[test]
+fn declarations_by_alphabet() {
+    // upper case before `_` before lower case, a name before its own extensions, and then by count; equal bytes once
+    let names = ["Pa", "P", "P_", "PZ", "x", "P", "P1"];
+    let of = |name, count| Formula::Atom(name, vec![Parameter::Instantiated(4, 0); count]);
+    let all = [of(0, 0), of(1, 2), of(2, 0), of(3, 0), of(1, 1), of(5, 2), of(6, 0), of(5, 0)];
+    let goal = all.into_iter().reduce(and).unwrap();
+    let sheet = plain(&names, &[goal], &[step(SORRY, 0, &[], 0)]);
+    let printed = |lines: &str| Ok(Answer::Text(format!("\n{lines}\n\nsorry")));
+    let met = "atom Pa;\natom P(2);\natom P_;\natom PZ;\natom P(1);\natom P1;\natom P;";
+    let sorted = "atom P;\natom P(1);\natom P(2);\natom P1;\natom PZ;\natom P_;\natom Pa;";
+    assert_eq!(ask(Question::HandoutPlain(2), &sheet), printed(met));
+    assert_eq!(ask(Question::HandoutPlain(3), &sheet), printed(sorted));
 }
 
 #[test]
@@ -272,7 +289,7 @@ fn a_number_that_is_no_version_is_refused_first() {
             {
                 for room in [None, Some(0)] {
                     let is_21 = answer(question, &sheet, room) == refused(21, 0);
-                    assert_eq!(is_21, version != 1 && version != 2, "{question:?}");
+                    assert_eq!(is_21, !(1..=3).contains(&version), "{question:?}");
                 }
             }
         }

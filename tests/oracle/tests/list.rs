@@ -4,6 +4,7 @@ use oracle::{
     exercise::{Exercise, Exercises},
     list::{list, EXERCISE},
     sheet::Refusal,
+    text::Version,
 };
 
 struct Reader<'a>(&'a [u8]);
@@ -64,7 +65,7 @@ fn the_list_reads_back() {
     assert!(list.sheets >= 1500 && list.bytes.len() <= 2_000_000);
     let mut reader = Reader(&list.bytes);
     let (mut asked, mut refused, mut exact, mut short, mut more) = ([0; Operation::ALL.len()], [0; 31], 0, 0, 0);
-    let (mut strict, mut second) = (0, 0);
+    let (mut strict, mut second, mut third) = (0, 0, 0);
     assert_eq!(reader.number(4), list.sheets + list.names);
     for _ in 0..list.sheets {
         let length = reader.number(4);
@@ -77,8 +78,14 @@ fn the_list_reads_back() {
             let enough = examined.answer(question, None).unwrap();
             let differs = examined.exported.as_ref().is_ok_and(|exported| exported.strict != exported.plain);
             strict += (question == Question::StrictText && answer.is_ok() && differs) as usize;
-            let changed = examined.exported.as_ref().is_ok_and(|exported| exported.second_plain != exported.plain);
+            let changed =
+                examined.exported.as_ref().is_ok_and(|exported| exported.plain(Version::Second) != exported.plain);
+            let sorted = examined
+                .exported
+                .as_ref()
+                .is_ok_and(|exported| exported.plain(Version::Third) != exported.plain(Version::Second));
             second += (question == Question::HandoutPlain(2) && answer.is_ok() && changed) as usize;
+            third += (question == Question::HandoutPlain(3) && answer.is_ok() && sorted) as usize;
             exact += (room.is_some() && answer.as_ref().is_ok_and(|answer| Some(answer.length()) == room)) as usize;
             more += (room.is_some() && answer.as_ref().is_ok_and(|answer| Some(answer.length()) < room)) as usize;
             short +=
@@ -107,7 +114,7 @@ fn the_list_reads_back() {
     let none = |number| [18, 20].contains(&number) || (22..29).contains(&number);
     assert!((0..31).all(|number| (refused[number] > 0) != none(number)), "{refused:?}");
     assert!(exact > 1000 && short > 1000, "{exact} {short}");
-    assert!(more > 100 && strict > 100 && second > 50, "{more} {strict} {second}");
+    assert!(more > 100 && strict > 100 && second > 50 && third > 50, "{more} {strict} {second} {third}");
 }
 
 #[test]
