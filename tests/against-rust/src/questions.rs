@@ -31,14 +31,14 @@ pub fn questions(examined: &Examined, operation: Operation, comparisons: usize, 
     }
 }
 
-/// Version 2 in rooms of every kind, and each other number in one of them.
+/// Versions 2 and 3 in rooms of every kind, and each other number in one of them.
 fn versions(
     question: fn(usize) -> Question,
     in_rooms: impl Fn(Question, &mut Rng) -> Vec<Asked>,
     rng: &mut Rng,
 ) -> Vec<Asked> {
-    let mut all = in_rooms(question(2), rng);
-    for version in VERSIONS.into_iter().filter(|version| *version != 2) {
+    let mut all = [in_rooms(question(2), rng), in_rooms(question(3), rng)].concat();
+    for version in VERSIONS.into_iter().filter(|version| ![2, 3].contains(version)) {
         let asked = in_rooms(question(version), rng);
         all.push(*rng.pick(&asked));
     }

@@ -12,7 +12,7 @@ use oracle::{
     generate::Kind,
     reference::meets_two_counts,
     sheet::{Layout, Refusal, Sheet, BOARD_ROOM},
-    text::{strict, text, Brackets, Under, Version},
+    text::{declared, plain, strict, term, text, Brackets, Declared, Under, Version},
     walk::alpha,
 };
 use std::{
@@ -106,6 +106,20 @@ impl Asked {
     fn take(&self, reply: &mut Reply, other: fn(usize) -> usize) {
         if let (Some((version, question)), 21) = (self.version(), reply.number) {
             *reply = Reply::new(&self.examined.answer(question(other(version)), Some(self.room)).unwrap());
+        }
+    }
+
+    /// Answers the plain text of version 3 with its declarations changed, if it fits.
+    fn arrange(&self, reply: &mut Reply, change: fn(&mut Declared)) {
+        let (sheet, exported) = (&self.examined.sheet, &self.examined.exported);
+        if let (Question::HandoutPlain(3), 0, Ok(sheet), Ok(exported)) = (self.question, reply.number, sheet, exported)
+        {
+            let mut all = declared(sheet, &exported.export, Version::Third);
+            change(&mut all);
+            let text = all.heading(Version::Third) + &term(&exported.export.term, plain);
+            if text.len() <= self.room {
+                reply.text(&text);
+            }
         }
     }
 
@@ -335,8 +349,9 @@ const FAULTS: &[(&str, Operation, Fault)] = &[
     }),
     ("the board prints version 2", Operation::BoardOutput, |asked, reply| {
         if let (true, Ok(exported)) = (asked.is(Operation::BoardOutput), &asked.examined.exported) {
-            if exported.plain.len().max(exported.second_plain.len()) <= BOARD_ROOM {
-                reply.text(&exported.second_plain);
+            let second = exported.plain(Version::Second);
+            if exported.plain.len().max(second.len()) <= BOARD_ROOM {
+                reply.text(&second);
             }
         }
     }),
@@ -372,8 +387,56 @@ const FAULTS: &[(&str, Operation, Fault)] = &[
         }
     }),
     ("version 0 is version 1", Operation::HandoutPlain, |asked, reply| asked.take(reply, |version| version.max(1))),
-    ("version 3 is version 2", Operation::HandoutPlain, |asked, reply| {
-        asked.take(reply, |version| if version == 3 { 2 } else { version });
+    ("version 4 is version 3", Operation::HandoutPlain, |asked, reply| {
+        asked.take(reply, |version| if version == 4 { 3 } else { version });
+    }),
+    ("version 3 is refused with 21", Operation::HandoutPlain, |asked, reply| {
+        if let Some((3, _)) = asked.version() {
+            reply.refuse(21, 0);
+        }
+    }),
+    ("versions 2 and 3 are swapped", Operation::HandoutPlain, |asked, reply| {
+        if let (Some((version @ (2 | 3), question)), 0) = (asked.version(), reply.number) {
+            *reply = Reply::new(&asked.examined.answer(question(5 - version), Some(asked.room)).unwrap());
+        }
+    }),
+    ("version 3 has a name after its own extensions", Operation::HandoutPlain, |asked, reply| {
+        asked.arrange(reply, |declared| {
+            declared.atoms.sort_by(|(a, m), (b, n)| (a.clone() + "~").cmp(&(b.clone() + "~")).then(m.cmp(n)));
+        });
+    }),
+    ("version 3 sorts by count before name", Operation::HandoutPlain, |asked, reply| {
+        asked.arrange(reply, |declared| declared.atoms.sort_by_key(|(name, count)| (*count, name.clone())));
+    }),
+    ("version 3 has the counts of a name as they are met", Operation::HandoutPlain, |asked, reply| {
+        asked.arrange(reply, |declared| {
+            declared.atoms.sort_by_key(|(_, count)| u16::MAX - count);
+            declared.atoms.sort_by_key(|(name, _)| name.clone());
+        });
+    }),
+    ("version 3 descends", Operation::HandoutPlain, |asked, reply| {
+        asked.arrange(reply, |declared| {
+            declared.atoms.reverse();
+            declared.datatypes.reverse();
+        });
+    }),
+    ("version 3 takes small letters for large ones", Operation::HandoutPlain, |asked, reply| {
+        asked.arrange(reply, |declared| declared.atoms.sort_by_key(|(name, count)| (name.to_lowercase(), *count)));
+    }),
+    ("version 3 leaves the last declaration out", Operation::HandoutPlain, |asked, reply| {
+        asked.arrange(reply, |declared| {
+            declared.atoms.pop();
+        });
+    }),
+    ("version 3 declares one twice", Operation::HandoutPlain, |asked, reply| {
+        asked.arrange(reply, |declared| declared.atoms.extend(declared.atoms.last().cloned()));
+    }),
+    ("version 3 sorts its list", Operation::HandoutDatatypes, |asked, reply| {
+        if asked.question == Question::HandoutDatatypes(3) && reply.number == 0 {
+            let mut list = reply.held();
+            list.sort();
+            reply.list(list);
+        }
     }),
     ("a version wraps at 8 bits", Operation::HandoutPlain, |asked, reply| asked.take(reply, |version| version % 256)),
     ("a version wraps at 16 bits", Operation::HandoutPlain, |asked, reply| {
