@@ -83,7 +83,7 @@ enum skriduhol_refusal {
     SKRIDUHOL_REFUSED_PARAMETER_COUNT = 18,
     /* 0: two uninstantiated parameters meet with neither bound on its side */
     SKRIDUHOL_REFUSED_UNBOUND_PARAMETER = 19,
-    /* 0: the version of the handout is neither 1 nor 2 */
+    /* 0: the version of the handout is outside 1 to 3 */
     SKRIDUHOL_REFUSED_VERSION = 21,
     /* 0: the names of an exercise are too many, repeated or malformed, or its number of connectives passes 3 */
     SKRIDUHOL_REFUSED_EXERCISE = 29,
@@ -120,7 +120,8 @@ uint8_t skriduhol_datatype_list(const uint8_t *sheet, size_t sheet_length, uint1
 
 /* The plain text, the strict text and the datatype list of a version of the handout. Version 1 is what the functions above give.
    Version 2 has the datatype declarations before the atoms, and its datatype list holds every datatype of every label, those
-   within a proposition too. The atom list has no version. *value: as above. */
+   within a proposition too. Version 3 is version 2 with its declarations sorted, by name bytes, a name before its own extensions,
+   then by parameter count; its list is version 2's. The atom list has no version. *value: as above. */
 uint8_t skriduhol_handout_plain(const uint8_t *sheet, size_t sheet_length, size_t version, uint8_t *out, size_t room,
                                 size_t *value, size_t *column);
 uint8_t skriduhol_handout_strict(const uint8_t *sheet, size_t sheet_length, size_t version, uint8_t *out, size_t room,

@@ -95,7 +95,7 @@ fn styled_text(s: &[u8], version: Version, style: Style, out: &mut [u8]) -> Writ
     }
 }
 
-// The text of a version of the handout, 1 or 2, in a style.
+// The text of a version of the handout, 1 to 3, in a style.
 pub fn handout(s: &[u8], version: usize, style: Style, out: &mut [u8]) -> Filled
     ensures { λ r. ⌜ FillsOf (now (s .entry)) (textAnswer (now (s .entry)) version style (length (now (out .entry)))) (now (out .entry)) (now (out .exit)) r ⌝ }
     ensures { λ r. ⌜ AccurateText version style (now (s .entry)) (now (out .entry)) (now (out .exit)) r ⌝ }
@@ -160,7 +160,7 @@ pub fn atom_list(s: &[u8], out: &mut [u16]) -> Filled
     locate_written(s, written)
 }
 
-// The datatype list of a version of the handout, 1 or 2: the number of a name for each datatype.
+// The datatype list of a version of the handout, 1 to 3: the number of a name for each datatype.
 pub fn handout_datatypes(s: &[u8], version: usize, out: &mut [u16]) -> Filled
     ensures { λ r. ⌜ FillsOf (now (s .entry)) (datatypesAnswer (now (s .entry)) version (length (now (out .entry)))) (now (out .entry)) (now (out .exit)) r ⌝ }
 {

@@ -100,7 +100,7 @@ pub extern "C" fn skriduhol_datatype_list(
     hand_filled(skriduhol::datatype_list(sheet, out), value, column)
 }
 
-// The plain text of a version of the handout, 1 or 2.
+// The plain text of a version of the handout, 1 to 3.
 #[no_mangle]
 pub extern "C" fn skriduhol_handout_plain(
     sheet: &[u8],
@@ -119,7 +119,7 @@ pub extern "C" fn skriduhol_handout_plain(
     )
 }
 
-// The strict text of a version of the handout, 1 or 2.
+// The strict text of a version of the handout, 1 to 3.
 #[no_mangle]
 pub extern "C" fn skriduhol_handout_strict(
     sheet: &[u8],
@@ -138,7 +138,7 @@ pub extern "C" fn skriduhol_handout_strict(
     )
 }
 
-// The datatype list of a version of the handout, 1 or 2.
+// The datatype list of a version of the handout, 1 to 3.
 #[no_mangle]
 pub extern "C" fn skriduhol_handout_datatypes(
     sheet: &[u8],

@@ -66,7 +66,8 @@ pub fn datatype_list(sheet: &[u8], out: &mut [u16]) -> Result<usize, Refusal> {
 }
 
 /// The text of a version of the handout, at the start of `out`; its length in bytes. Version 1 is `plain_text` and
-/// `strict_text`. Version 2 has the datatype declarations before the atoms, and declares the datatypes of its own list.
+/// `strict_text`. Version 2 has the datatype declarations before the atoms, and declares the datatypes of its own list. Version 3
+/// is version 2 with its declarations sorted, by name bytes, a name before its own extensions, then by parameter count.
 pub fn handout(
     sheet: &[u8],
     version: usize,
@@ -81,7 +82,7 @@ pub fn handout(
 }
 
 /// The datatype list of a version of the handout, at the start of `out`; its length in numbers. Version 1 is `datatype_list`.
-/// Version 2 has every datatype of every label, those within a proposition too.
+/// Version 2 has every datatype of every label, those within a proposition too, and version 3 the same.
 pub fn handout_datatypes(sheet: &[u8], version: usize, out: &mut [u16]) -> Result<usize, Refusal> {
     asked(|value, column| c::handout_datatypes(sheet, version, out, value, column))
 }

@@ -97,7 +97,8 @@ fn the_versions_of_the_handout() {
     let bracketed = "fn v => (fn x: T => (sorry: ∀y:U. ∃z:T. P(y, z))) a";
     let first = "atom P(2);\ndatatype T;\ndatatype V;\ndatatype U;\n\n";
     let second = "datatype U;\ndatatype T;\ndatatype V;\natom P(2);\n\n";
-    for (version, heading) in [(1, first), (2, second)] {
+    let third = "datatype T;\ndatatype U;\ndatatype V;\natom P(2);\n\n";
+    for (version, heading) in [(1, first), (2, second), (3, third)] {
         let text = |style| handout_of(SECOND_HANDOUT, version, style);
         assert_eq!(text(Style::Plain), Ok(format!("{heading}{term}")));
         assert_eq!(text(Style::Strict), Ok(format!("{heading}{bracketed}")));
@@ -109,6 +110,7 @@ fn the_versions_of_the_handout() {
     );
     assert_eq!(datatypes_of(SECOND_HANDOUT, 1), Ok(vec![5]));
     assert_eq!(datatypes_of(SECOND_HANDOUT, 2), Ok(vec![3, 5, 5]));
+    assert_eq!(datatypes_of(SECOND_HANDOUT, 3), Ok(vec![3, 5, 5]));
     assert_eq!(
         handout_of(REFUSED, 2, Style::Plain),
         refusal_of_step(14, 1, 3)
@@ -121,7 +123,7 @@ fn the_versions_of_the_handout() {
 
 #[test]
 fn a_number_that_is_no_version_is_refused_first() {
-    for version in [0, 3, 257, 65_537, (1 << 32) + 1, usize::MAX] {
+    for version in [0, 4, 257, 65_537, (1 << 32) + 1, usize::MAX] {
         for sheet in [SECOND_HANDOUT, SMALLEST, REFUSED, &[]] {
             for style in [Style::Plain, Style::Strict] {
                 let mut out = [UNTOUCHED; 8];
