@@ -69,11 +69,7 @@ const SECTIONS: [(&str, Section); 8] = [
         lines(&plan.effort, &sheets::with_numbers(), lent);
         None
     }),
-    ("handouts", |plan, lent| {
-        println!("## The versions of the handout\n");
-        handouts(&plan.effort, &sheets::quantified(), lent);
-        None
-    }),
+    ("handouts", |plan, lent| Some(versions(plan, lent))),
     ("exercises", |plan, lent| {
         println!("## Exercises over three names with up to three connectives\n");
         exercises(&plan.effort, lent);
@@ -154,6 +150,16 @@ fn stack_use(plan: &Plan, lent: &mut Lent) -> Required {
     }
     let (bound, measured) = ("below 262,144 bytes".into(), format!("{} bytes", grouped(most)));
     Required { what: "stack of an operation", bound, measured, met: most < 256 << 10 }
+}
+
+/// Version 2 beside version 1 on more and more labels, and version 3 beside version 2 on the most declarations.
+fn versions(plan: &Plan, lent: &mut Lent) -> Required {
+    println!("## The versions of the handout\n");
+    handouts(&plan.effort, &sheets::quantified(), [1, 2], lent);
+    println!();
+    let longest = handouts(&plan.effort, &[sheets::most_declared()], [2, 3], lent);
+    let (bound, measured) = ("at most 1.5 times version 2's time".into(), format!("{longest:.2} times"));
+    Required { what: "version 3 with the most declarations", bound, measured, met: longest <= 1.5 }
 }
 
 /// On two sound sheets and on two of the worst within the board's room.

@@ -4,7 +4,7 @@ use oracle::{
     formula::{Formula, Parameter},
     generate::{Kind, Named, Sheets},
     sheet::{rule, Plain, CODE, PROP_NESTING, STEPS, STEP_NESTING},
-    worst::{conjunction, labelled, wide_atoms},
+    worst::{conjunction, labelled, most_declarations, wide_atoms},
 };
 
 /// The steps that a sheet's header gives.
@@ -67,6 +67,11 @@ pub fn quantified() -> Vec<Named> {
     [1, 4, 16, 64, 256, 1008]
         .map(|labels| (format!("819 quantifiers in a label, {labels} times"), sheet(labels)))
         .to_vec()
+}
+
+/// 1,210 declarations, of which sorting finds none in its place.
+pub fn most_declared() -> Named {
+    ("1,210 declarations, in 512 labels".into(), most_declarations().bytes())
 }
 
 /// No byte at all, which is refused with a line, and sheets with and without declarations that have a count.
