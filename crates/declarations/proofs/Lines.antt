@@ -10,12 +10,13 @@ use borrow.Author.Tests.{ne-eqb}
 use Rattle.definitions.specs.declared.Version.{Version}
 use Rattle.definitions.specs.declared.TermList.{TermList}
 use Rattle.definitions.specs.declared.TermList.the-variants.{Atoms, Datatypes}
-use Rattle.definitions.specs.Name.{Name, eqName}
+use Rattle.definitions.specs.Name.{Name, eqName, compareName}
 use Rattle.definitions.specs.Prop.{AtomUse}
 use Rattle.definitions.specs.Utf8.{utf8}
-use Rattle.definitions.specs.Text.{occurs, firstsAfter, firsts, eqAtomUse, atomDeclaration, followingLines, joinLines, atomDeclarations, datatypeDeclarations}
+use Rattle.definitions.specs.Text.{occurs, firstsAfter, firsts, eqAtomUse, compareAtomUse, arranged, atomDeclaration, followingLines, joinLines, atomDeclarations, datatypeDeclarations}
+use Rattle.order_laws.proofs.Datatypes.{asUse, same-arranged}
 use Rattle.prop_lists.specs.Entries.{useOf, datatypeUses}
-use Rattle.declarations.specs.Declared.{useOver, usesOver, entryAt, entriesOf, Noted}
+use Rattle.declarations.specs.Declared.{useOver, usesOver, entryAt, entriesOf}
 use Rattle.declarations.specs.Lines.{breakBefore, declaration, declarationLines}
 
 following-more : (ls : List (List ℕ)) (l : List ℕ) → followingLines (ls ++ (l ∷ [])) ≡ followingLines ls ++ (utf8 "\n" ++ l)
@@ -65,18 +66,14 @@ module _ (list : TermList) (f : ℕ → Name) (declared : List ℕ) where
   lines-more zero = rw lines-none lines-one
   lines-more (suc j) = rw (ne-eqb (suc j) 0 (λ e. omega arith)) (lines-after (suc j) (omega arith))
 
--- the lines of the atoms that were noted are document 01's
-pub atoms-declared : {f : ℕ → Name} {l : List (AtomUse ℕ)} {declared : List ℕ} {len : ℕ} {seen : List ℕ} → Noted f l declared len seen
-    → declarationLines Atoms (usesOver f (entriesOf declared len)) ≡ atomDeclarations (usesOver f l)
+-- the lines of atoms that stand in a version's order are the version's
+pub atoms-declared : (v : Version) (uses : List (AtomUse Name))
+    → declarationLines Atoms (arranged compareAtomUse v (firsts eqAtomUse uses)) ≡ atomDeclarations v uses
 unfolding declarationLines declaration atomDeclarations
-atoms-declared noted = ap (λ us. joinLines (map atomDeclaration us)) (noted .entries)
-
--- a datatype is a use with the count 0
-asUse : Name → AtomUse Name
-asUse n = record { name = n; count = 0 }
+atoms-declared v uses = refl
 
 same-occurs : (n : Name) (seen : List Name) → occurs eqAtomUse (asUse n) (map asUse seen) ≡ occurs eqName n seen
-unfolding occurs eqAtomUse asUse
+unfolding occurs eqAtomUse
 same-occurs n [] = refl
 same-occurs n (m ∷ seen) = rw (and-true (eqName n m), same-occurs n seen)
 
@@ -92,10 +89,14 @@ same-firsts seen (n ∷ ns) = rw (same-occurs n seen) (go (occurs eqName n seen)
     go true known new = known
     go false known new = ap (λ us. asUse n ∷ us) new
 
-pub datatypes-declared : {f : ℕ → Name} (v : Version) (ts : List ℕ) {declared : List ℕ} {len : ℕ} {seen : List ℕ} → Noted f (datatypeUses ts) declared len seen
-    → declarationLines (Datatypes v) (usesOver f (entriesOf declared len)) ≡ datatypeDeclarations (map f ts)
-unfolding declarationLines declaration datatypeDeclarations firsts asUse
-datatypes-declared {f} v ts noted =
-    let over : usesOver f (datatypeUses ts) ≡ map asUse (map f ts) = map-map (useOver f) (λ t. useOf t 0) ts ∙ sym (map-map asUse f ts) in
-    ap (λ us. joinLines (map (declaration (Datatypes v)) us)) (noted .entries ∙ (ap (firsts eqAtomUse) over ∙ same-firsts [] (map f ts)))
-    ∙ ap joinLines (map-map (declaration (Datatypes v)) asUse (firsts eqName (map f ts)))
+-- so are those of datatypes, which are uses with the count 0
+pub datatypes-declared : (v listed : Version) (ts : List Name)
+    → declarationLines (Datatypes listed) (arranged compareAtomUse v (firsts eqAtomUse (map asUse ts))) ≡ datatypeDeclarations v ts
+unfolding declarationLines declaration datatypeDeclarations firsts
+datatypes-declared v listed ts =
+    let first : firsts eqAtomUse (map asUse ts) ≡ map asUse (firsts eqName ts) = same-firsts [] ts in
+    ap (λ us. joinLines (map (declaration (Datatypes listed)) us)) (ap (arranged compareAtomUse v) first ∙ same-arranged v (firsts eqName ts))
+    ∙ ap joinLines (map-map (declaration (Datatypes listed)) asUse (arranged compareName v (firsts eqName ts)))
+
+pub datatypes-over : (f : ℕ → Name) (ts : List ℕ) → usesOver f (datatypeUses ts) ≡ map asUse (map f ts)
+datatypes-over f ts = map-map (useOver f) (λ t. useOf t 0) ts ∙ sym (map-map asUse f ts)

@@ -9,7 +9,7 @@ use borrow.Author.Tests.{lt-leb}
 use Rattle.definitions.specs.declared.Refusal.{Refusal}
 use Rattle.definitions.specs.declared.Style.{Style}
 use Rattle.definitions.specs.declared.Version.{Version}
-use Rattle.definitions.specs.declared.Version.the-variants.{First, Second}
+use Rattle.definitions.specs.declared.Version.the-variants.{First, Second, Third}
 use Rattle.definitions.specs.Outcome.{Outcome, refused, accepted, refuse, _>>=_, mapOutcome, refuseIf}
 use Rattle.definitions.specs.Admission.{admitted}
 use Rattle.definitions.specs.Term.{ProofTerm}
@@ -46,13 +46,15 @@ header-names-none false false false e = absurd (let z : _≡_ {A = ℕ} 0 1 = cc
 -- that of a version too
 version-names-none : (version : ℕ) {r : Refusal} → versionOf version ≡ refused r → namesStep r ≡ false
 unfolding versionOf refuse
-version-names-none version e = of-tests (eqb version 1) (eqb version 2) e
+version-names-none version e = of-tests (eqb version 1) (eqb version 2) (eqb version 3) e
   where
-    of-tests : (first second : Bool) {r : Refusal} → cond first (accepted First) (cond second (accepted Second) (refused (record { number = 21; place = 0 }))) ≡ refused r
+    of-tests : (first second third : Bool) {r : Refusal}
+        → cond first (accepted First) (cond second (accepted Second) (cond third (accepted Third) (refused (record { number = 21; place = 0 })))) ≡ refused r
         → namesStep r ≡ false
-    of-tests true second e = absurd (let z : _≡_ {A = ℕ} 0 1 = cc in omega arith)
-    of-tests false true e = absurd (let z : _≡_ {A = ℕ} 0 1 = cc in omega arith)
-    of-tests false false e = rw (← same-refusal e) named-by-21
+    of-tests true second third e = absurd (let z : _≡_ {A = ℕ} 0 1 = cc in omega arith)
+    of-tests false true third e = absurd (let z : _≡_ {A = ℕ} 0 1 = cc in omega arith)
+    of-tests false false true e = absurd (let z : _≡_ {A = ℕ} 0 1 = cc in omega arith)
+    of-tests false false false e = rw (← same-refusal e) named-by-21
 
 -- Of a sheet's bytes:
 module _ (s : List ℕ) where

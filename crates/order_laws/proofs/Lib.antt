@@ -2,3 +2,4 @@ pub mod Lawfulness
 pub mod Sorting
 pub mod Declarations
 pub mod Merging
+pub mod Datatypes

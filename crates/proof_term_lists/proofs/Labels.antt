@@ -9,7 +9,7 @@ use native.Mathlib.Omega.{arith}
 use native.Mathlib.Decide.{ℕ-discrete}
 use borrow.Author.Tests.{ne-eqb}
 use Rattle.definitions.specs.declared.Version.{Version}
-use Rattle.definitions.specs.declared.Version.the-variants.{First, Second}
+use Rattle.definitions.specs.declared.Version.the-variants.{First, Second, Third}
 use Rattle.definitions.specs.declared.TermList.{TermList}
 use Rattle.definitions.specs.declared.TermList.the-variants.{Atoms, Datatypes}
 use Rattle.definitions.specs.Prop.{AtomUse}
@@ -32,6 +32,7 @@ module _ (bytes : List ℕ) (v : Vocabulary) where
   label-adds Atoms kind number = by-cases (ℕ-discrete kind 2) (λ is. rw is) (λ other. rw (ne-eqb kind 2 other))
   label-adds (Datatypes First) kind number = by-cases (ℕ-discrete kind 2) (λ is. rw is) (λ other. rw (ne-eqb kind 2 other))
   label-adds (Datatypes Second) kind number = by-cases (ℕ-discrete kind 2) (λ is. rw is) (λ other. rw (ne-eqb kind 2 other))
+  label-adds (Datatypes Third) kind number = by-cases (ℕ-discrete kind 2) (λ is. rw is) (λ other. rw (ne-eqb kind 2 other))
 
   record-adds : (list : TermList) (records : List ℕ) (m : ℕ)
       → addedUses bytes v list (recordAdds list records m) ≡ ofRecord (labelUses list) (propIn bytes v) records m
@@ -71,6 +72,8 @@ module _ (bytes : List ℕ) (v : Vocabulary) where
     label-stands Atoms = by-cases (ℕ-discrete kind 2) (λ is. rw is tt) (λ other. rw (ne-eqb kind 2 other) (proposition-stands other))
     label-stands (Datatypes First) = by-cases (ℕ-discrete kind 2) (λ is. rw is (name-stands is)) (λ other. rw (ne-eqb kind 2 other) tt)
     label-stands (Datatypes Second) =
+        by-cases (ℕ-discrete kind 2) (λ is. rw is (name-stands is)) (λ other. rw (ne-eqb kind 2 other) (proposition-stands other))
+    label-stands (Datatypes Third) =
         by-cases (ℕ-discrete kind 2) (λ is. rw is (name-stands is)) (λ other. rw (ne-eqb kind 2 other) (proposition-stands other))
 
 module _ {bytes : List ℕ} {v : Vocabulary} {records : List ℕ} {n : ℕ} (here : Listable bytes v records n) (list : TermList) where

@@ -5,7 +5,7 @@ use mathlib.Core.List.{List, [], _∷_}
 use lib.ListN.{length}
 use lib.Dec.{eqb}
 use Rattle.definitions.specs.declared.Version.{Version}
-use Rattle.definitions.specs.declared.Version.the-variants.{First, Second}
+use Rattle.definitions.specs.declared.Version.the-variants.{First, Second, Third}
 use Rattle.definitions.specs.declared.TermList.{TermList}
 use Rattle.definitions.specs.declared.TermList.the-variants.{Atoms, Datatypes}
 use Rattle.definitions.specs.Prop.{AtomUse}
@@ -29,10 +29,11 @@ abbrev pub termUses : TermList → ProofTerm ℕ → List (AtomUse ℕ)
 termUses list t = ofLabels (labelUses list) t
 
 -- what a label adds, by its kind and its number: a label of kind 2 is a datatype, any other a proposition, whose datatypes are listed
--- in version 2 only
+-- in versions 2 and 3 only
 unfoldable pub propositionAdds : Version → ℕ → Added
 propositionAdds First number = Nothing
 propositionAdds Second number = Proposition number
+propositionAdds Third number = Proposition number
 
 unfoldable pub labelAdds : TermList → ℕ → ℕ → Added
 labelAdds Atoms kind number = cond (eqb kind 2) Nothing (Proposition number)

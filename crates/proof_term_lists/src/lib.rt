@@ -26,7 +26,7 @@ pub enum Added {
 }
 
 // What a label adds to a list, by its kind and its number. A datatype is no atom, and the datatypes of a proposition are listed in
-// version 2 only.
+// versions 2 and 3 only.
 fn label_adds(kind: usize, number: usize, list: TermList) -> Added
     ensures { λ r. ⌜ r ≡ labelAdds list kind number ⌝ }
 {
@@ -44,6 +44,7 @@ fn label_adds(kind: usize, number: usize, list: TermList) -> Added
             match version {
                 Version::First => Added::Nothing,
                 Version::Second => Added::Proposition(number),
+                Version::Third => Added::Proposition(number),
             }
         }
     }

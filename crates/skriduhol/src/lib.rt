@@ -80,6 +80,9 @@ fn asked_version(number: usize) -> Asked
     if number == 2 {
         return Asked::Of(Version::Second);
     }
+    if number == 3 {
+        return Asked::Of(Version::Third);
+    }
     Asked::Refused(Refusal::at(21, 0))
 }
 

@@ -2,51 +2,55 @@
 use Prim.Native.Nat.{ℕ, _*_}
 use mathlib.Core.Path.{_≡_, refl, sym, ap, _∙_}
 use mathlib.Core.Logic.{by-cases}
-use mathlib.Core.List.{List, [], _++_, map-append}
+use mathlib.Core.List.{List, [], _++_, map, map-append}
 use native.Mathlib.Omega.{arith}
 use native.Mathlib.Decide.{decLt}
 use lib.ListN.{length, getD, replicate, getD-replicate, length-replicate, List·getD-eq-default}
+use Rattle.definitions.specs.declared.Version.the-variants.{First}
 use Rattle.definitions.specs.declared.TermList.{TermList}
 use Rattle.definitions.specs.declared.TermList.the-variants.{Atoms, Datatypes}
 use Rattle.definitions.specs.Name.{Name}
-use Rattle.definitions.specs.Prop.{Prop, getAtoms, getDatatypes, renameProp}
+use Rattle.definitions.specs.Prop.{Prop, AtomUse, getAtoms, getDatatypes, renameProp}
 use Rattle.definitions.specs.Sheet.{nameLimit, names, goal, propositionPairs, codeBytes, nameOf, pairOffset}
 use Rattle.definitions.specs.Term.{ProofTerm, atomList, datatypeList, renameTerm}
-use Rattle.definitions.specs.Text.{firsts, firstsAfter, declarations}
+use Rattle.definitions.specs.Text.{firsts, firstsAfter, eqAtomUse, compareAtomUse, arranged}
 use Rattle.definitions.specs.Answers.{goalProp}
 use Rattle.definitions.proofs.PrefixCode.{Bytes}
+use Rattle.order_laws.proofs.Datatypes.{asUse}
 use Rattle.prefix_code.specs.PropAt.{propAt}
 use Rattle.vocabulary.specs.declared.Vocabulary.{Vocabulary}
 use Rattle.vocabulary.specs.Vocabulary.{nameIn, propIn, SomeProposition}
 use Rattle.prop_lists.specs.Entries.{useOf, entries}
 use Rattle.proof_term_lists.specs.Labels.{termUses, Listable, termIn}
 use Rattle.proof_term_lists.proofs.Labels.{atoms-are, datatypes-are}
-use Rattle.declarations.specs.Declared.{useOver, declaredUses, entriesOf, flagOf, Noted, Held, Notes}
-use Rattle.declarations.specs.Lines.{declarationLines}
+use Rattle.declarations.specs.Declared.{useOver, usesOver, declaredUses, entriesOf, flagOf, Noted, Held, Notes}
 use Rattle.declarations.proofs.Noting.{declared-held}
-use Rattle.declarations.proofs.Lines.{atoms-declared, datatypes-declared}
+use Rattle.declarations.proofs.Lines.{datatypes-over}
 use Rattle.sheet.specs.declared.header.Sheet.{Sheet}
 use Rattle.sheet.specs.Header.{headerOf, vocabularyOf}
 use Rattle.sheet.proofs.Admitted.{AcceptedSheet, its-header}
 use Rattle.sheet.proofs.NamesAndCode.{count-is, prop-is, some-proposition, names-of}
 use Rattle.sheet_term.specs.Held.{HeldTerm}
-use Rattle.text.specs.Declaring.{termOf, Declares}
+use Rattle.text.specs.Declaring.{listedUses, termOf, Declares}
 use Rattle.text.proofs.Labels.{few-names, names-are, props-are, proposition-present, proposition-is, listable}
 use Rattle.text.proofs.Heading.{named-term}
 use Rattle.text.proofs.Renaming.{prop-atoms-renamed, prop-datatypes-renamed, atoms-renamed, datatypes-renamed}
 
--- the lines of what a term's labels and a proposition list are those of the heading
-lines-are : (list : TermList) (f : ℕ → Name) (t : ProofTerm ℕ) (p : Prop ℕ) {declared : List ℕ} {len : ℕ} {seen : List ℕ}
-    → Noted f (termUses list t ++ entries list p) declared len seen
-    → declarationLines list (declaredUses f declared len) ≡ declarations list (renameTerm f t) (renameProp f p)
-unfolding declarations
-lines-are Atoms f t p noted =
-    atoms-declared noted
-    ∙ rw (atoms-are t, atoms-renamed f t, prop-atoms-renamed f p, map-append (useOver f) (atomList t) (getAtoms p))
-lines-are (Datatypes v) f t p noted =
-    datatypes-declared v (datatypeList v t ++ getDatatypes p)
-    (rw (datatypes-are v t, ← map-append (λ t. useOf t 0) (datatypeList v t) (getDatatypes p)) at noted)
-    ∙ rw (datatypes-renamed f v t, prop-datatypes-renamed f p, map-append f (datatypeList v t) (getDatatypes p))
+-- what a term's labels and a proposition list is the list over the names' bytes
+uses-are : (list : TermList) (f : ℕ → Name) (t : ProofTerm ℕ) (p : Prop ℕ)
+    → usesOver f (termUses list t ++ entries list p) ≡ listedUses list (renameTerm f t) (renameProp f p)
+uses-are Atoms f t p =
+    rw (atoms-are t, atoms-renamed f t, prop-atoms-renamed f p) (map-append (useOver f) (atomList t) (getAtoms p))
+uses-are (Datatypes v) f t p =
+    rw (datatypes-are v t, ← map-append (λ t. useOf t 0) (datatypeList v t) (getDatatypes p))
+    (datatypes-over f (datatypeList v t ++ getDatatypes p)
+    ∙ rw (datatypes-renamed f v t, prop-datatypes-renamed f p) (ap (map asUse) (map-append f (datatypeList v t) (getDatatypes p))))
+
+-- in the order of version 1 declarations stand as they were first met
+met : {f : ℕ → Name} {l : List (AtomUse ℕ)} {declared : List ℕ} {len : ℕ} {seen : List ℕ} → Noted f l declared len seen
+    → declaredUses f declared len ≡ arranged compareAtomUse First (firsts eqAtomUse (usesOver f l))
+unfolding arranged
+met noted = noted .entries
 
 -- the flags before anything is noted
 abbrev flagCount : ℕ
@@ -110,14 +114,17 @@ module _ {s : List ℕ} {h : Sheet} (a : AcceptedSheet s h) (bytes : Bytes s) {w
         → {declared declared₁ declared₂ : List ℕ} {len₁ len₂ : ℕ} {seen₁ seen₂ : List ℕ}
         → Notes s words (termUses list (termIn s words terms n)) declared 0 noFlags declared₁ len₁ seen₁
         → Notes s words (entries list (propIn s words goal-offset)) declared₁ len₁ seen₁ declared₂ len₂ seen₂
-        → Declares s h list declared₂ len₂
+        → Declares s h First list declared₂ len₂
     declares {terms} {n} term list first second =
         let noted = second .adds _ (first .adds [] (nothing-noted _ _)) in
         record {
-          printable = rw same at (declared-held (second .held));
-          lines = λ t is-term.
+          table = rw same at (declared-held (second .held));
+          entries = λ t is-term.
               let held : t ≡ termOf s terms n = cc (named-term term) in
-              let same-lines : declarations list (renameTerm (nameIn s words) (termIn s words terms n)) (renameProp (nameIn s words) (propIn s words goal-offset))
-              ≡ declarations list t (goalProp s) = rw (held, goal-is, names-are (its-header a) same, props-are (its-header a) same) in
-              rw same at (lines-are list (nameIn s words) (termIn s words terms n) (propIn s words goal-offset) noted ∙ same-lines);
+              let f = nameIn s words in
+              let t′ = termIn s words terms n in
+              let p′ = propIn s words goal-offset in
+              let same-uses : listedUses list (renameTerm f t′) (renameProp f p′) ≡ listedUses list t (goalProp s)
+              = rw (held, goal-is, names-are (its-header a) same, props-are (its-header a) same) in
+              rw same at (met noted ∙ ap (λ l. arranged compareAtomUse First (firsts eqAtomUse l)) (uses-are list f t′ p′ ∙ same-uses));
         }

@@ -4,4 +4,5 @@ pub mod Labels
 pub mod Ends
 pub mod Heading
 pub mod Renaming
+pub mod Arranging
 pub mod Declaring

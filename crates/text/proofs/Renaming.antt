@@ -5,7 +5,7 @@ use mathlib.Core.Option.{Option, none, some}
 use mathlib.Core.List.{List, map, map-append}
 use lib.ListN.{length-map}
 use Rattle.definitions.specs.declared.Version.{Version}
-use Rattle.definitions.specs.declared.Version.the-variants.{First, Second}
+use Rattle.definitions.specs.declared.Version.the-variants.{First, Second, Third}
 use Rattle.definitions.specs.Name.{Name}
 use Rattle.definitions.specs.Prop.{Prop, True, False, Binary, Atom, Quantified, getAtoms, getDatatypes, renameParameter, renameProp}
 use Rattle.definitions.specs.Term.{Label, proposition, datatype, ProofTerm, Ident, Pair, Named, Function, Application, LetIn, Case, TypeAscription, Unit, Sorry, ofLabel, ofLabels, labelAtoms, propositionDatatypes, labelDatatypes, atomList, datatypeList, renameLabel, renameParameterLabel, renameTerm}
@@ -57,6 +57,7 @@ module _ (f : ℕ → Name) where
   unfolding propositionDatatypes
   added-datatypes-renamed First p = refl
   added-datatypes-renamed Second p = prop-datatypes-renamed p
+  added-datatypes-renamed Third p = prop-datatypes-renamed p
 
   label-datatypes-renamed : (v : Version) (l : Label ℕ) → labelDatatypes v (renameLabel f l) ≡ map f (labelDatatypes v l)
   unfolding labelDatatypes renameLabel

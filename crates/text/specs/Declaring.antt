@@ -1,22 +1,30 @@
 -- The text of a sheet's term in two halves: the declarations, which stand in lent memory before they are written, and the term.
 use Prim.Native.Nat.{ℕ, _<_}
 use mathlib.Core.Path.{_≡_}
-use mathlib.Core.List.{List}
+use mathlib.Core.List.{List, _++_, map}
+use Rattle.definitions.specs.declared.Version.{Version}
 use Rattle.definitions.specs.declared.TermList.{TermList}
+use Rattle.definitions.specs.declared.TermList.the-variants.{Atoms, Datatypes}
 use Rattle.definitions.specs.Outcome.{accepted}
 use Rattle.definitions.specs.Name.{Name}
 use Rattle.definitions.specs.Sheet.{names, propositions, propositionPairs, codeBytes, nameOf, pairOffset}
-use Rattle.definitions.specs.Term.{ProofTerm, renameTerm}
-use Rattle.definitions.specs.Text.{declarations}
+use Rattle.definitions.specs.Prop.{Prop, AtomUse, getAtoms, getDatatypes}
+use Rattle.definitions.specs.Term.{ProofTerm, atomList, datatypeList, renameTerm}
+use Rattle.definitions.specs.Text.{firsts, eqAtomUse, compareAtomUse, arranged}
 use Rattle.definitions.specs.Answers.{namedTerm, goalProp}
+use Rattle.order_laws.proofs.Datatypes.{asUse}
 use Rattle.prefix_code.specs.PropAt.{propAt}
 use Rattle.vocabulary.specs.Vocabulary.{nameIn}
 use Rattle.prop.specs.Ends.{Known}
 use Rattle.proof_term.specs.Records.{termAt}
 use Rattle.declarations.specs.Declared.{declaredUses, Declared}
-use Rattle.declarations.specs.Lines.{declarationLines}
 use Rattle.sheet.specs.declared.header.Sheet.{Sheet}
 use Rattle.sheet.specs.Header.{vocabularyOf}
+
+-- what a list of a term and of its goal has, a datatype as a use with the count 0
+abbrev pub listedUses : TermList → ProofTerm Name → Prop Name → List (AtomUse Name)
+listedUses Atoms t goal = atomList t ++ getAtoms goal
+listedUses (Datatypes v) t goal = map asUse (datatypeList v t ++ getDatatypes goal)
 
 -- Of a sheet's bytes:
 module _ (s : List ℕ) where
@@ -24,11 +32,16 @@ module _ (s : List ℕ) where
   abbrev pub termOf : List ℕ → ℕ → ProofTerm Name
   termOf terms n = renameTerm (nameOf s) (termAt (propAt (names s) (codeBytes s)) terms n)
 
-  -- so many declarations stand in lent memory, each of a name of the sheet, and their lines are those of the sheet's text
-  pub record Declares (h : Sheet) (list : TermList) (declared : List ℕ) (len : ℕ) : Type 0 where
-    pub printable : Declared s (vocabularyOf h) declared len
-    pub lines : (t : ProofTerm Name) → namedTerm s ≡ accepted t
-        → declarationLines list (declaredUses (nameIn s (vocabularyOf h)) declared len) ≡ declarations list t (goalProp s)
+  -- so many declarations stand in lent memory, each of a name of the sheet, and they are those of a list in a version's order
+  pub record Declares (h : Sheet) (v : Version) (list : TermList) (declared : List ℕ) (len : ℕ) : Type 0 where
+    pub table : Declared s (vocabularyOf h) declared len
+    pub entries : (t : ProofTerm Name) → namedTerm s ≡ accepted t
+        → declaredUses (nameIn s (vocabularyOf h)) declared len ≡ arranged compareAtomUse v (firsts eqAtomUse (listedUses list t (goalProp s)))
+
+  -- declarations are put into a version's order
+  pub record Arranges (h : Sheet) (v : Version) (len : ℕ) (before after : List ℕ) : Type 0 where
+    pub table : Declared s (vocabularyOf h) after len
+    pub entries : declaredUses (nameIn s (vocabularyOf h)) after len ≡ arranged compareAtomUse v (declaredUses (nameIn s (vocabularyOf h)) before len)
 
   -- the table has the ends of each proposition of the sheet
   pub record EndsKnown (ends : List ℕ) : Type 0 where

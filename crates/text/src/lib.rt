@@ -1,4 +1,5 @@
 // The text of a sheet's term: the declarations, and then the term (source document 005).
+use declaration_order::sort_declarations;
 use declarations::note_entries;
 use declarations::note_term;
 use declarations::put_declarations;
@@ -20,6 +21,7 @@ use sheet::text_bytes;
 use sheet::vocabulary;
 ghost use mathlib.Core.Path.{_≡_};
 ghost use lib.ListN.{length};
+ghost use Rattle.definitions.specs.declared.Version.the-variants.{First};
 ghost use Rattle.definitions.specs.Outcome.{accepted};
 ghost use Rattle.definitions.specs.Name.{Name};
 ghost use Rattle.definitions.specs.Term.{ProofTerm};
@@ -28,9 +30,11 @@ ghost use Rattle.definitions.specs.Text.{firstList, secondList, heading};
 ghost use Rattle.definitions.specs.Answers.{inRoom, namedTerm, goalProp, sheetText};
 ghost use Rattle.output.specs.Wrote.{Wrote};
 ghost use Rattle.output.specs.Written.{Fills};
+ghost use Rattle.declarations.specs.Declared.{Declared};
+ghost use Rattle.sheet.specs.Header.{vocabularyOf};
 ghost use Rattle.sheet.proofs.Admitted.{AcceptedSheet};
 ghost use Rattle.sheet_term.specs.Held.{HeldTerm};
-ghost use Rattle.text.specs.Declaring.{termOf, Declares, EndsKnown};
+ghost use Rattle.text.specs.Declaring.{termOf, Declares, Arranges, EndsKnown};
 
 // One flag for each name and each count of parameters.
 const FLAGS: usize = Sheet::NAME_LIMIT * (Sheet::PARAMETER_LIMIT + 1);
@@ -45,6 +49,7 @@ fn first_list(version: Version) -> TermList
     match version {
         Version::First => TermList::Atoms,
         Version::Second => TermList::Datatypes(Version::Second),
+        Version::Third => TermList::Datatypes(Version::Third),
     }
 }
 
@@ -55,6 +60,7 @@ fn second_list(version: Version) -> TermList
     match version {
         Version::First => TermList::Datatypes(Version::First),
         Version::Second => TermList::Atoms,
+        Version::Third => TermList::Atoms,
     }
 }
 
@@ -69,13 +75,34 @@ fn declare(
 ) -> usize
     requires { ⌜ AcceptedSheet (now s) h ⌝ }
     requires { ⌜ HeldTerm (now s) (now terms) n ⌝ }
-    ensures { λ r. ⌜ Declares (now (s .entry)) h list (now (declared .exit)) r ⌝ }
+    ensures { λ r. ⌜ Declares (now (s .entry)) h First list (now (declared .exit)) r ⌝ }
 {
     let mut seen = [0u16; FLAGS];
     let v = vocabulary(h);
     let len = note_term(terms, n, list, s, v, declared, 0, &mut seen);
     let goal = pair_offset(proposition_pairs(s, h), h.goal);
     note_entries(s, v, goal, list, declared, len, &mut seen)
+}
+
+// Puts declarations, as they were first met, into the order of a version.
+fn arrange(s: &[u8], h: Sheet, version: Version, declared: &mut [u16; DECLARED_NUMBERS], len: usize)
+    requires { ⌜ AcceptedSheet (now s) h ⌝ }
+    requires { ⌜ Declared (now s) (vocabularyOf h) (now declared) len ⌝ }
+    ensures { λ r. ⌜ Arranges (now (s .entry)) h version len (now (declared .entry)) (now (declared .exit)) ⌝ }
+{
+    match version {
+        Version::First => {
+            return;
+        }
+        Version::Second => {
+            return;
+        }
+        Version::Third => {
+            let mut merged = [0u16; DECLARED_NUMBERS];
+            sort_declarations(declared, &mut merged, len, s, vocabulary(h));
+            return;
+        }
+    }
 }
 
 // Fills in where each proposition of the sheet and each of its parts ends.
@@ -105,8 +132,8 @@ fn put_heading(
     write: bool,
 ) -> usize
     requires { ⌜ AcceptedSheet (now s) h ⌝ }
-    requires { ⌜ Declares (now s) h (firstList version) (now first) «first_count» ⌝ }
-    requires { ⌜ Declares (now s) h (secondList version) (now second) «second_count» ⌝ }
+    requires { ⌜ Declares (now s) h version (firstList version) (now first) «first_count» ⌝ }
+    requires { ⌜ Declares (now s) h version (secondList version) (now second) «second_count» ⌝ }
     ensures { λ r. ⌜ ((t : ProofTerm Name) → namedTerm (now (s .entry)) ≡ accepted t →
         Wrote (heading version t (goalProp (now (s .entry)))) write (now (out .entry)) 0 (now (out .exit)) r) ⌝ }
 {
@@ -168,7 +195,9 @@ pub fn text(
     let mut second = [0u16; DECLARED_NUMBERS];
     fill_sheet_ends(s, h, &mut ends);
     let first_count = declare(s, h, terms, n, first_list(version), &mut first);
+    arrange(s, h, version, &mut first, first_count);
     let second_count = declare(s, h, terms, n, second_list(version), &mut second);
+    arrange(s, h, version, &mut second, second_count);
     let start = put_heading(
         out,
         s,

@@ -32,6 +32,9 @@ enum-told-2 c = search needs
 enum-told-3 : tie.Need-enum-told-3
 enum-told-3 c = search needs
 
+enum-told-4 : tie.Need-enum-told-4
+enum-told-4 c = search needs
+
 returns-3 : tie.Need-returns-3
 unfolding labelAdds
 returns-3 c = rw (c .before .enum-told .given .1, ne-eqb (of-atoms c .args .kind) 2 (c .if1 .left))
@@ -48,6 +51,12 @@ returns-5 c =
     let here = c .before .before in
     rw (here .before .before .list .given .1, c .enum-told3 .given .1, ne-eqb (of-datatypes here .args .kind) 2 (here .if2 .left))
 
+returns-6 : tie.Need-returns-6
+unfolding labelAdds propositionAdds
+returns-6 c =
+    let here = c .before .before in
+    rw (here .before .before .list .given .1, c .enum-told4 .given .1, ne-eqb (of-datatypes here .args .kind) 2 (here .if2 .left))
+
 pub label-adds-spec : {M : Type 1} → statement M
 label-adds-spec =
     tie.close
@@ -58,6 +67,8 @@ label-adds-spec =
     returns-2
     enum-told-2
     enum-told-3
+    enum-told-4
     returns-3
     returns-4
-    returns-5)
+    returns-5
+    returns-6)

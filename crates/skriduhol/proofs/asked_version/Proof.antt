@@ -1,4 +1,4 @@
--- 1 and 2 are versions, and any other number is none.
+-- 1, 2 and 3 are versions, and any other number is none.
 use borrow.Author.Needs.{needs}
 use borrow.Author.Tests.{ne-eqb}
 use Rattle.definitions.specs.Outcome.{refuse}
@@ -15,15 +15,20 @@ returns-2 : tie.Need-returns-2
 unfolding askedOf versionOf refuse
 returns-2 c = rw (c .if2 .taken)
 
+returns-3 : tie.Need-returns-3
+unfolding askedOf versionOf refuse
+returns-3 c = rw (c .if3 .taken)
+
 at-requires : tie.Need-at-requires
 at-requires c κs = search needs
 
-returns-3 : tie.Need-returns-3
+returns-4 : tie.Need-returns-4
 unfolding askedOf versionOf refuse
-returns-3 c =
-    let neither = c .before in
+returns-4 c =
+    let none = c .before in
+    let neither = none .before in
     let number = neither .before .before .args .number in
-    rw (c .at .ensures, ne-eqb number 1 (neither .before .if1 .left), ne-eqb number 2 (neither .if2 .left))
+    rw (c .at .ensures, ne-eqb number 1 (neither .before .if1 .left), ne-eqb number 2 (neither .if2 .left), ne-eqb number 3 (none .if3 .left))
 
 pub asked-version-spec : {M : Type 1} → statement M
-asked-version-spec = tie.close (tie.spec returns returns-2 at-requires returns-3)
+asked-version-spec = tie.close (tie.spec returns returns-2 returns-3 at-requires returns-4)

@@ -1,21 +1,31 @@
 -- A dry run measures the text; it is refused for want of room, or written.
 use borrow.Author.Needs.{needs}
-use Rattle.text.proofs.Heading.{noted-of, text-too-long, text-fills}
+use Rattle.text.proofs.Heading.{in-order, noted-of, text-too-long, text-fills}
 use Rattle.text.proofs.text.Statement.{statement}
 use Rattle.text.proofs.text.Tie as tie
 
 abbrev entry : tie.After-fill-sheet-ends → tie.Start
 entry c = c .before .before .before .before .before
 
--- back over the noting of the first list, and of the second
+-- back over the noting of the first list, and of the second, and over the arranging of each
 abbrev first-noted : tie.After-declare → tie.After-fill-sheet-ends
 first-noted c = c .before .before .before
 
-abbrev second-noted : tie.After-declare2 → tie.After-declare
+abbrev first-arranged : tie.After-arrange → tie.After-declare
+first-arranged c = c .before .before
+
+abbrev second-noted : tie.After-declare2 → tie.After-arrange
 second-noted c = c .before .before .before
 
+abbrev second-arranged : tie.After-arrange2 → tie.After-declare2
+second-arranged c = c .before .before
+
+-- from both lists arranged to the first noted
+abbrev to-first : tie.After-arrange2 → tie.After-declare
+to-first c = first-arranged (second-noted (second-arranged c))
+
 -- back from the heading of the dry run, and from its term
-abbrev heading-measured : tie.After-put-heading → tie.After-declare2
+abbrev heading-measured : tie.After-put-heading → tie.After-arrange2
 heading-measured c = c .before .before .before .before
 
 abbrev term-measured : tie.After-put-term → tie.After-put-heading
@@ -44,25 +54,35 @@ first-list-requires c κs = search needs
 declare-requires : tie.Need-declare-requires
 declare-requires c κs = search needs
 
+arrange-requires : tie.Need-arrange-requires
+arrange-requires c κs = (entry (first-noted (c .before)) .pre .0, c .before .declare .ensures .table)
+
 second-list-requires : tie.Need-second-list-requires
 second-list-requires c κs = search needs
 
 declare-requires-2 : tie.Need-declare-requires-2
 declare-requires-2 c κs = search needs
 
+arrange-requires-2 : tie.Need-arrange-requires-2
+arrange-requires-2 c κs = (entry (first-noted (first-arranged (second-noted (c .before)))) .pre .0, c .before .declare2 .ensures .table)
+
 put-heading-requires : tie.Need-put-heading-requires
 put-heading-requires c κs =
     let second = c .before .before .before in
-    let first = second-noted second in (
-      entry (first-noted first) .pre .0,
+    let lower = second-arranged second in
+    let first = second-noted lower in
+    let upper = first-arranged first in (
+      entry (first-noted upper) .pre .0,
       (
-        noted-of (first .before .before .first-list .ensures) (first .declare .ensures),
-        noted-of (second .before .before .second-list .ensures) (second .declare2 .ensures),
+        noted-of (upper .before .before .first-list .ensures) (in-order (upper .declare .ensures) (first .arrange .ensures)),
+        noted-of (lower .before .before .second-list .ensures) (in-order (lower .declare2 .ensures) (second .arrange2 .ensures)),
       ),
     )
 
 put-term-requires : tie.Need-put-term-requires
-put-term-requires c κs = search needs
+put-term-requires c κs =
+    let here = first-noted (to-first (heading-measured (c .before .before .before .before))) in
+    (entry here .pre .0, (entry here .pre .1, here .fill-sheet-ends .ensures))
 
 same-length : tie.Need-same-length
 same-length c = search needs
@@ -75,24 +95,26 @@ returns c =
     let refused = c .before in
     let term = no-room refused in
     let heading = term-measured term in
-    let s = entry (first-noted (second-noted (heading-measured heading))) in
+    let s = entry (first-noted (to-first (heading-measured heading))) in
     rw (c .at .ensures)
     (text-too-long (s .pre .1) _ _ (heading .put-heading .ensures) (term .put-term .ensures) (refused .if1 .taken))
 
 put-heading-requires-2 : tie.Need-put-heading-requires-2
 put-heading-requires-2 c κs =
     let second = heading-measured (term-measured (room-found (c .before .before .before))) in
-    let first = second-noted second in (
-      entry (first-noted first) .pre .0,
+    let lower = second-arranged second in
+    let first = second-noted lower in
+    let upper = first-arranged first in (
+      entry (first-noted upper) .pre .0,
       (
-        noted-of (first .before .before .first-list .ensures) (first .declare .ensures),
-        noted-of (second .before .before .second-list .ensures) (second .declare2 .ensures),
+        noted-of (upper .before .before .first-list .ensures) (in-order (upper .declare .ensures) (first .arrange .ensures)),
+        noted-of (lower .before .before .second-list .ensures) (in-order (lower .declare2 .ensures) (second .arrange2 .ensures)),
       ),
     )
 
 put-term-requires-2 : tie.Need-put-term-requires-2
 put-term-requires-2 c κs =
-    let here = first-noted (second-noted (heading-measured (term-measured (room-found (heading-put (c .before .before .before .before)))))) in
+    let here = first-noted (to-first (heading-measured (term-measured (room-found (heading-put (c .before .before .before .before)))))) in
     (entry here .pre .0, (entry here .pre .1, here .fill-sheet-ends .ensures))
 
 same-length-2 : tie.Need-same-length-2
@@ -105,7 +127,7 @@ returns-2 c =
     let room = heading-put heading in
     let measured-term = room-found room in
     let measured-heading = term-measured measured-term in
-    let s = entry (first-noted (second-noted (heading-measured measured-heading))) in
+    let s = entry (first-noted (to-first (heading-measured measured-heading))) in
     text-fills (s .pre .1) _ _ (measured-heading .put-heading .ensures) (measured-term .put-term .ensures) (room .if1 .left)
     (heading .put-heading2 .ensures) (term .put-term2 .ensures)
 
@@ -116,8 +138,10 @@ text-spec =
     fill-sheet-ends-requires
     first-list-requires
     declare-requires
+    arrange-requires
     second-list-requires
     declare-requires-2
+    arrange-requires-2
     put-heading-requires
     put-term-requires
     at-requires
