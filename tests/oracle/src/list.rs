@@ -12,7 +12,7 @@ use crate::{
 use std::ops::RangeInclusive;
 
 /// Sheets of each random kind: so many small ones, and a few larger ones.
-const SMALL: usize = 130;
+const SMALL: usize = 120;
 const LARGE: usize = 3;
 /// The longest sheet, and the longest answer, of a small and of a large one.
 const SMALL_BYTES: usize = 800;

@@ -98,7 +98,7 @@ pub fn most_declarations() -> Plain {
     names.reverse();
     let mut steps = Vec::new();
     for n in 0..NAMES {
-        steps.push(step(rule::SORRY, 0, &[], n));
+        steps.push(step(rule::SORRY, 0, &[], n as u16));
         steps.extend(vec![step(rule::AND_INTRO, 2, &[], 0); (n + 1).trailing_zeros() as usize]);
     }
     steps.push(step(rule::AND_ELIM_FST, 1, &[], 0));
