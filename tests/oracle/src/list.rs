@@ -12,7 +12,7 @@ use crate::{
 use std::ops::RangeInclusive;
 
 /// Sheets of each random kind: so many small ones, and a few larger ones.
-const SMALL: usize = 120;
+const SMALL: usize = 130;
 const LARGE: usize = 3;
 /// The longest sheet, and the longest answer, of a small and of a large one.
 const SMALL_BYTES: usize = 800;
@@ -177,8 +177,8 @@ const REFUSED: usize = 4;
 const COMPARISONS: usize = 6;
 /// So many of a hundred answers are asked for with more room than they fill.
 const MORE: usize = 10;
-/// So many of a hundred sheets are asked for the handout of versions 2 and 3.
-const HANDOUTS: usize = 25;
+/// So many of a hundred sheets are asked for the handouts of versions 2 and 3.
+const HANDOUTS: usize = 22;
 
 /// Questions with their rooms, for those that are lent one: one short, but never more than the board lends; exactly
 /// enough, and at times up to 100 more, for an answer that is not too long; and anything below 100 for a refusal.
@@ -188,7 +188,8 @@ fn questions(examined: &Examined, longest: usize, rng: &mut Rng) -> Vec<(Questio
     let mut filling = vec![Question::PlainText, Question::StrictText, Question::AtomList, Question::DatatypeList];
     if rng.chance(HANDOUTS) {
         let handout = [Question::HandoutPlain, Question::HandoutStrict, Question::HandoutDatatypes];
-        filling.extend([2, 3].into_iter().flat_map(|version| handout.map(|question| question(version))));
+        filling.extend(handout.map(|question| question(2)));
+        filling.extend([Question::HandoutPlain(3), Question::HandoutDatatypes(3)]);
         filling.push(rng.pick(&handout)(*rng.pick(&VERSIONS)));
     }
     for question in filling {

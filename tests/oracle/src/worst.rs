@@ -87,15 +87,16 @@ fn named(list: Vec<(&str, Plain)>) -> Vec<Named> {
 }
 
 /// The most declarations that a sheet has, 1,210 pairs of name and count in 8,190 bytes of code: each name with two counts
-/// or three, in the label of a sorry. The names differ at their end, and are met from the last to the first.
+/// or three, in the label of a sorry. The names differ at their end, and are met by the bits of their rank read backwards, so
+/// that halves of the declarations interleave.
 pub fn most_declarations() -> Plain {
     const WITH_THREE: usize = 186;
     let counts = |n| if n < WITH_THREE { 3 } else { 2 };
     let uses =
         |n| (0..counts(n)).rev().map(move |count| Formula::Atom(n as u16, vec![Parameter::Uninstantiated(0); count]));
-    let mut names = wide_names(NAMES, 16);
-    names.sort();
-    names.reverse();
+    let mut sorted = wide_names(NAMES, 16);
+    sorted.sort();
+    let names = (0..NAMES as u16).map(|n| sorted[n.reverse_bits() as usize / (65536 / NAMES)].clone()).collect();
     let mut steps = Vec::new();
     for n in 0..NAMES {
         steps.push(step(rule::SORRY, 0, &[], n as u16));

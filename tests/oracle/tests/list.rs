@@ -114,7 +114,7 @@ fn the_list_reads_back() {
     let none = |number| [18, 20].contains(&number) || (22..29).contains(&number);
     assert!((0..31).all(|number| (refused[number] > 0) != none(number)), "{refused:?}");
     assert!(exact > 1000 && short > 1000, "{exact} {short}");
-    assert!(more > 100 && strict > 100 && second > 50 && third > 50, "{more} {strict} {second} {third}");
+    assert!(more > 100 && strict > 100 && second > 50 && third > 25, "{more} {strict} {second} {third}");
 }
 
 #[test]
