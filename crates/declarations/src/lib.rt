@@ -172,7 +172,8 @@ pub fn note_term(
     seen: &mut [u16],
 ) -> usize
     requires { ⌜ Listable (now bytes) v (now «term_records») n × Held (now bytes) v (now declared) len (now seen) ⌝ }
-    ensures { λ r. ⌜ Notes (now (bytes .entry)) v (termUses list (termIn (now (bytes .entry)) v (now («term_records» .entry)) n))
+    ensures { λ r. ⌜ Notes (now (bytes .entry)) v
+        (termUses list (termIn (now (bytes .entry)) v (now («term_records» .entry)) n))
         (now (declared .entry)) len (now (seen .entry)) (now (declared .exit)) r (now (seen .exit)) ⌝ }
 {
     let mut noted = len;
@@ -248,7 +249,8 @@ pub fn put_declarations(
     write: bool,
 ) -> usize
     requires { ⌜ Declared (now bytes) v (now declared) len ⌝ }
-    ensures { λ r. ⌜ Wrote (declarationLines list (declaredUses (nameIn (now (bytes .entry)) v) (now (declared .entry)) len))
+    ensures { λ r. ⌜ Wrote
+        (declarationLines list (declaredUses (nameIn (now (bytes .entry)) v) (now (declared .entry)) len))
         write (now (out .entry)) to (now (out .exit)) r ⌝ }
 {
     let mut at = to;

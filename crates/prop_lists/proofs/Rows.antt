@@ -10,9 +10,9 @@ use Rattle.definitions.specs.declared.TermList.the-variants.{Atoms, Datatypes}
 use Rattle.definitions.specs.Prop.{Prop, AtomUse, True, False, Binary, Atom, Quantified, getAtoms, getDatatypes}
 use Rattle.definitions.specs.Code.{followedBy, _>>=_, byte, proposition, u16, encode, Codable}
 use Rattle.definitions.proofs.PrefixCode.{code-nonempty, read-encode}
-use Rattle.prefix_code.specs.Scan.{Stands, Ends, At, Scanned}
+use Rattle.prefix_code.specs.Scan.{Stands, At, Scanned}
 use Rattle.prefix_code.specs.PropAt.{propAt}
-use Rattle.prefix_code.specs.Head.{Head, TrueHead, FalseHead, BinaryHead, AtomHead, QuantifiedHead, encodeHead, CodableHead, headCoding}
+use Rattle.prefix_code.specs.Head.{Head, TrueHead, FalseHead, BinaryHead, AtomHead, QuantifiedHead, encodeHead, CodableHead}
 use Rattle.prefix_code.proofs.Positions.{after, extent}
 use Rattle.prefix_code.proofs.Heads.{HeadAt}
 use Rattle.prefix_code.proofs.Forms.{inside-at}
@@ -146,10 +146,24 @@ module _ {bytes : List ℕ} {v : Vocabulary} {at : ℕ} (there : SomeProposition
     unfolding propIn
     entries-there list = rw (← cut) (entries-of _ code at end _ _ stands-there (scanned .found _ _ stands-there) list)
 
+-- `next` is where the head ends that stands at `at`, whichever that is
+abbrev pub HeadEnds : ℕ → List ℕ → ℕ → ℕ → Type 0
+HeadEnds names code at next = (h : Head) (rest : List ℕ) → HeadAt names code at h rest → next ≡ at + length (encodeHead h)
+
+-- a head has a byte in front
+head-nonempty : (h : Head) → 0 < length (encodeHead h)
+unfolding encodeHead
+head-nonempty TrueHead = omega arith
+head-nonempty FalseHead = omega arith
+head-nonempty (BinaryHead c) = omega arith
+head-nonempty (AtomHead a ps) = omega arith
+head-nonempty (QuantifiedHead q x t) = omega arith
+
 -- The first head of a row, what it adds to a list, and the row behind it.
 pub record First (names : ℕ) (code : List ℕ) (at end next : ℕ) : Type 0 where
   pub head : Head
   pub stands : HeadAt names code at head (drop next code)
+  pub further : at < next
   pub row : Row names code next end
   pub adds : (list : TermList) → entriesFrom names list code at end ≡ headEntries head list ++ entriesFrom names list code next end
 
@@ -178,7 +192,7 @@ module _ (p : Prop ℕ) (ps : List (Prop ℕ)) where
       (head-codable names p (g .0) .0, cc (row-code, append-assoc (encodeHead (headOf p)) (encodeRow (parts p ++ ps)) rest))
 
 module _ (names : ℕ) (code : List ℕ) (at end : ℕ) (row : Row names code at end) (before : at < end) where
-  pub first : (next : ℕ) → Ends (headCoding names) code at next → First names code at end next
+  pub first : (next : ℕ) → HeadEnds names code at next → First names code at end next
   unfolding Stands CodableRow flatMap
   first next ends = go (row .propositions) refl
     where
@@ -189,7 +203,7 @@ module _ (names : ℕ) (code : List ℕ) (at end : ℕ) (row : Row names code at
           let rest : List ℕ = encodeRow (parts p ++ ps) ++ drop end code in
           let here = head-stands p ps names code at (drop end code) whole in
           let size = extent code at (encodeHead (headOf p)) rest (omega arith) (here .1) in
-          let ended : next ≡ at + length (encodeHead (headOf p)) = ends .found (headOf p) rest here in
+          let ended : next ≡ at + length (encodeHead (headOf p)) = ends (headOf p) rest here in
           let there : drop next code ≡ rest = rw ended (after code at (encodeHead (headOf p)) rest (here .1)) in
           let behind : Row names code next end = record {
             propositions = parts p ++ ps;
@@ -200,6 +214,7 @@ module _ (names : ℕ) (code : List ℕ) (at end : ℕ) (row : Row names code at
           record {
             head = headOf p;
             stands = rw there here;
+            further = omega (arith, head-nonempty (headOf p));
             row = behind;
             adds = λ list.
                 cc (entries-row names code at end row list, e, row-list p ps list, entries-row names code next end behind list);

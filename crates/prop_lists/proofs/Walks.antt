@@ -7,18 +7,19 @@ use native.Mathlib.Omega.{arith}
 use lib.ListN.{length, drop, getD}
 use borrow.Author.Tests.{eqb-true, ltb-true, ne-eqb, lt-ltb, le-ltb}
 use Rattle.definitions.specs.Sheet.{numberAt}
+use Rattle.definitions.specs.declared.Version.{Version}
 use Rattle.definitions.specs.declared.TermList.{TermList}
 use Rattle.definitions.specs.declared.TermList.the-variants.{Atoms, Datatypes}
 use Rattle.definitions.specs.Prop.{AtomUse, connectiveByte, quantifierByte}
 use Rattle.definitions.proofs.Readings.{Bytes}
+use Rattle.definitions.specs.Code.{u16}
 use Rattle.prefix_code.specs.Scan.{Stands, Ends}
 use Rattle.prefix_code.specs.Head.{Head, TrueHead, FalseHead, BinaryHead, AtomHead, QuantifiedHead, encodeHead, headCoding}
 use Rattle.prefix_code.proofs.Positions.{byte-at}
 use Rattle.prefix_code.proofs.Heads.{HeadAt, atom-bytes, quantified-bytes, head-bytes, connective-byte, quantifier-byte}
-use Rattle.prefix_code.proofs.Propositions.{headed}
 use Rattle.prop_lists.specs.Row.{Row, propositionsFrom, readRow}
 use Rattle.prop_lists.specs.Entries.{useOf, entriesFrom, hasEntry, Bounds, Passed, NextHead, FirstEntry}
-use Rattle.prop_lists.proofs.Rows.{headEntries, First, first}
+use Rattle.prop_lists.proofs.Rows.{headEntries, HeadEnds, First, first}
 
 -- the entry by the bytes of its head: an atom's name and count, a quantifier's second name
 abbrev pub entryAt : TermList → List ℕ → ℕ → AtomUse ℕ
@@ -65,6 +66,16 @@ module _ (names : ℕ) (code : List ℕ) (at : ℕ) where
       let (q, x, t, b) = head-bytes names code at h rest s .quantified (ltb-true 5 (getD code at 0) e) in
       (b .inside, λ bytes. record { below = omega arith; small = omega (arith, bytes (at + 3), bytes (at + 3 + 1)); few = omega arith })
 
+  -- a quantifier's head has five bytes
+  pub quantifier-ends : 5 < getD code at 0 → HeadEnds names code at (at + 5)
+  unfolding Stands encodeHead u16
+  quantifier-ends high TrueHead rest s = absurd (omega (arith, byte-at code at (at + 1) 0 rest (omega arith) (s .1) .value))
+  quantifier-ends high FalseHead rest s = absurd (omega (arith, byte-at code at (at + 1) 1 rest (omega arith) (s .1) .value))
+  quantifier-ends high (BinaryHead c) rest s =
+      absurd (omega (arith, byte-at code at (at + 1) (connectiveByte c) rest (omega arith) (s .1) .value, connective-byte c .1))
+  quantifier-ends high (AtomHead a ps) rest s = absurd (omega (arith, atom-bytes names code at a ps rest s .byte))
+  quantifier-ends high (QuantifiedHead q x t) rest s = refl
+
 module _ (names : ℕ) (list : TermList) (code : List ℕ) (at end : ℕ) where
   -- the walk starts with no head passed
   pub walk-start : Row names code at end → Passed names list code at end at
@@ -74,17 +85,21 @@ module _ (names : ℕ) (list : TermList) (code : List ℕ) (at end : ℕ) where
   pub walk-on : (i next : ℕ) → Passed names list code at end i → i < end → hasEntry list (getD code i 0) ≡ false
       → Ends (headCoding names) code i next → (i < next) × Passed names list code at end next
   walk-on i next w h e ends =
-      let f = first names code i end (w .row) h next ends in
-      let further = headed names code i next ends (omega arith) .further in
+      let f = first names code i end (w .row) h next (ends .found) in
       let nothing = rw e at (read-entries names code i (f .head) (drop next code) list (f .stands)) in
-      (further, record { forward = omega arith; row = f .row; same = w .same ∙ f .adds list ∙ rw nothing refl })
+      (f .further, record { forward = omega (arith, f .further); row = f .row; same = w .same ∙ f .adds list ∙ rw nothing refl })
 
   -- at the end no entry is left
   pub walk-end : (i : ℕ) → Passed names list code at end i → end ≤ i → entriesFrom names list code at end ≡ []
   unfolding entriesFrom propositionsFrom readRow flatMap
   walk-end i w h = let none : end - i ≡ 0 = omega arith in w .same ∙ rw none refl
 
-  module _ (i next : ℕ) (w : NextHead names list code at end i) (h : i < end) (ends : Ends (headCoding names) code i next) where
+  -- where the walk stops in a datatype list, a quantifier's head ends five bytes on
+  pub stops-at-quantifier : (i : ℕ) → NextHead names list code at end i → i < end → {v : Version} → list ≡ Datatypes v → HeadEnds names code i (i + 5)
+  unfolding hasEntry
+  stops-at-quantifier i w h is = quantifier-ends names code i (ltb-true 5 (getD code i 0) (rw is at (w .has-entry h)))
+
+  module _ (i next : ℕ) (w : NextHead names list code at end i) (h : i < end) (ends : HeadEnds names code i next) where
     head-here : First names code i end next
     head-here = first names code i end (w .passed .row) h next ends
 
@@ -98,7 +113,7 @@ module _ (names : ℕ) (list : TermList) (code : List ℕ) (at end : ℕ) where
           let one = rw (w .has-entry h) at (read-entries names code i (head-here .head) (drop next code) list (head-here .stands)) in
           rw (← is)
           (record {
-            forward = omega (arith, headed names code i next ends (omega (arith, head-here .row)) .further);
+            forward = omega (arith, head-here .further);
             row = head-here .row;
             bounds = read-bounds names code i (head-here .head) (drop next code) list (head-here .stands) (w .has-entry h) .1 bytes;
             adds = w .passed .same ∙ head-here .adds list ∙ rw one refl;

@@ -60,9 +60,9 @@ pub fn next_entry(code: &[u8], at: usize, end: usize, names: usize, list: TermLi
     if end <= i {
         return NextEntry::End;
     }
-    let next = head_end(code, i, names);
     match list {
         TermList::Atoms => {
+            let next = head_end(code, i, names);
             let name = number_at(code, i + 1);
             let count = code[i + 3] as usize;
             NextEntry::Entry { name, count, next }
@@ -72,7 +72,7 @@ pub fn next_entry(code: &[u8], at: usize, end: usize, names: usize, list: TermLi
             NextEntry::Entry {
                 name,
                 count: 0,
-                next,
+                next: i + 5,
             }
         }
     }
@@ -88,7 +88,8 @@ pub fn put_entry(
     write: bool,
 ) -> usize
     requires { ⌜ (name < 65536) × (count < 65536) ⌝ }
-    ensures { λ r. ⌜ Wrote (entryNumbers list (useOf name count ∷ [])) write (now (out .entry)) to (now (out .exit)) r ⌝ }
+    ensures { λ r. ⌜ Wrote (entryNumbers list (useOf name count ∷ []))
+        write (now (out .entry)) to (now (out .exit)) r ⌝ }
 {
     let named = put_number(out, to, name as u16, write);
     match list {
