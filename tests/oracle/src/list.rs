@@ -178,7 +178,7 @@ const COMPARISONS: usize = 6;
 /// So many of a hundred answers are asked for with more room than they fill.
 const MORE: usize = 10;
 /// So many of a hundred sheets are asked for the handouts of versions 2 and 3.
-const HANDOUTS: usize = 22;
+const HANDOUTS: usize = 25;
 
 /// Questions with their rooms, for those that are lent one: one short, but never more than the board lends; exactly
 /// enough, and at times up to 100 more, for an answer that is not too long; and anything below 100 for a refusal.

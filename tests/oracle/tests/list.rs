@@ -62,7 +62,7 @@ impl Reader<'_> {
 #[test]
 fn the_list_reads_back() {
     let list = list(1).unwrap();
-    assert!(list.sheets >= 1500 && list.bytes.len() <= 2_000_000);
+    assert!(list.sheets >= 1500 && list.bytes.len() <= 2_200_000);
     let mut reader = Reader(&list.bytes);
     let (mut asked, mut refused, mut exact, mut short, mut more) = ([0; Operation::ALL.len()], [0; 31], 0, 0, 0);
     let (mut strict, mut second, mut third) = (0, 0, 0);
