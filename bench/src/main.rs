@@ -123,7 +123,9 @@ fn worst_sheets(plan: &Plan, lent: &mut Lent) -> Required {
     let mut all = sheets::worst();
     all.retain(|(_, sheet)| ask(Question::PlainText, sheet, lent).unwrap() <= plan.longest_text);
     let texts = texts(&plan.effort, &all, lent);
-    let label_sheets = texts.iter().filter(|text| text.labels >= MANY_LABELS);
+    // the time of the sheet with the most declarations is that of the search for repeats, and not of its labels
+    let declared = sheets::most_declared().0;
+    let label_sheets = texts.iter().filter(|text| text.labels >= MANY_LABELS && text.what != declared);
     at_least("worst sheets with 500 labels or more", 50.0, label_sheets.map(Text::ratio).collect())
 }
 

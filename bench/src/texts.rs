@@ -9,7 +9,7 @@ use oracle::{answer::Question, generate::Named, sheet::decode};
 use std::{cell::RefCell, rc::Rc};
 
 pub struct Text {
-    what: String,
+    pub what: String,
     steps: usize,
     pub labels: usize,
     sheet_bytes: usize,
