@@ -1,5 +1,5 @@
 -- First occurrences, one more element at a time: it is added where it occurs neither in the list nor among the first ones of it.
-use mathlib.Core.Path.{_≡_, refl, sym, _∙_}
+use mathlib.Core.Path.{_≡_, refl, sym, ap, _∙_, fun-ext}
 use mathlib.Core.Bool.{Bool, true, false, _||_, cond, or-false, or-assoc, and-eq-true-iff}
 use mathlib.Core.List.{List, [], _∷_, _++_, append-nil}
 use lib.Dec.{eqb}
@@ -9,6 +9,8 @@ use Rattle.definitions.specs.Name.{Name, eqName}
 use Rattle.definitions.specs.Prop.{AtomUse}
 use Rattle.definitions.specs.Text.{occurs, firstsAfter, firsts, eqAtomUse}
 use Rattle.definitions.proofs.Names.{eqName-refl, eqName-true}
+use Rattle.definitions.proofs.NameOrder.{equal-use}
+use Rattle.declarations.specs.Declared.{sameUse}
 
 shuffle : (p q x : Bool) → (p || (q || x)) ≡ ((q || p) || x)
 shuffle true true x = refl
@@ -86,3 +88,7 @@ eqAtomUse-true a b e =
 pub eqAtomUse-refl : (a : AtomUse Name) → eqAtomUse a a ≡ true
 unfolding eqAtomUse
 eqAtomUse-refl a = rw (eqName-refl, eq-eqb (a .count) (a .count) refl)
+
+-- the search by the comparison is the search by name bytes and count
+pub same-search : (u : AtomUse Name) (l : List (AtomUse Name)) → occurs sameUse u l ≡ occurs eqAtomUse u l
+same-search u l = ap (λ same. occurs same u l) (fun-ext (λ a. fun-ext (λ b. equal-use a b)))

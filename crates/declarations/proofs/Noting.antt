@@ -17,7 +17,7 @@ use Rattle.vocabulary.specs.declared.Vocabulary.{Vocabulary}
 use Rattle.vocabulary.specs.Vocabulary.{nameIn, Names}
 use Rattle.prop_lists.specs.Entries.{useOf}
 use Rattle.declarations.specs.Declared.{useOver, usesOver, entriesOf, isDeclared, flagOf, flagged, Noted, Declared, Held, Notes}
-use Rattle.declarations.proofs.Firsts.{occurs-append, occurs-firsts, firsts-known, firsts-new, eqAtomUse-true, eqAtomUse-refl}
+use Rattle.declarations.proofs.Firsts.{occurs-append, occurs-firsts, firsts-known, firsts-new, eqAtomUse-true, eqAtomUse-refl, same-search}
 use Rattle.declarations.proofs.Declared.{flagged-few, flagged-more, entries-kept}
 
 module _ (f : ℕ → Name) (l : List (AtomUse ℕ)) (a : AtomUse ℕ) where
@@ -41,8 +41,10 @@ module _ (f : ℕ → Name) (l : List (AtomUse ℕ)) (a : AtomUse ℕ) where
 
 -- among the declarations as among the uses
 module _ {f : ℕ → Name} {l : List (AtomUse ℕ)} {declared : List ℕ} {len : ℕ} {seen : List ℕ} (noted : Noted f l declared len seen) where
-  looked-up : (u : AtomUse Name) → occurs eqAtomUse u (usesOver f (entriesOf declared len)) ≡ occurs eqAtomUse u (usesOver f l)
-  looked-up u = ap (occurs eqAtomUse u) (noted .entries) ∙ occurs-firsts eqAtomUse eqAtomUse-true (usesOver f l) u
+  looked-up : (u : AtomUse ℕ) → isDeclared f declared len u ≡ occurs eqAtomUse (useOver f u) (usesOver f l)
+  looked-up u =
+      same-search (useOver f u) (usesOver f (entriesOf declared len))
+      ∙ (ap (occurs eqAtomUse (useOver f u)) (noted .entries) ∙ occurs-firsts eqAtomUse eqAtomUse-true (usesOver f l) (useOver f u))
 
   -- the flags after one more is set
   flags-more : (name count : ℕ) → count ≤ parameterLimit → (n c : ℕ) → c ≤ parameterLimit

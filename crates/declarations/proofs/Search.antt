@@ -14,12 +14,13 @@ use Rattle.definitions.specs.Name.{Name}
 use Rattle.definitions.specs.Prop.{AtomUse}
 use Rattle.definitions.specs.Sheet.{pairOffset, pairLength, pairEnd, marked}
 use Rattle.definitions.specs.Text.{occurs, eqAtomUse}
+use Rattle.definitions.proofs.NameOrder.{equal-use}
 use Rattle.number.specs.Pairs.{NameWithin}
 use Rattle.vocabulary.specs.declared.Vocabulary.{Vocabulary}
 use Rattle.vocabulary.specs.Vocabulary.{pairsIn, textIn, nameIn, Names}
 use Rattle.identifier.proofs.Equality.{eqName-lengths, eqName-differ, eqName-alike}
 use Rattle.prop_lists.specs.Entries.{useOf}
-use Rattle.declarations.specs.Declared.{useOver, usesOver, entryAt, entriesOf, isDeclared, Declared}
+use Rattle.declarations.specs.Declared.{useOver, usesOver, entryAt, entriesOf, sameUse, isDeclared, Declared}
 use Rattle.declarations.proofs.Firsts.{occurs-append}
 
 -- the bytes of a name, in the text
@@ -33,23 +34,23 @@ module _ {pairs text : List ℕ} {i : ℕ} (marks : NameWithin pairs text i) whe
   marked-byte k h = rw (getD-take, getD-drop)
 
 module _ (f : ℕ → Name) (u : AtomUse Name) (declared : List ℕ) where
-  one-more : (j : ℕ) → occurs eqAtomUse u (usesOver f (entriesOf declared (suc j)))
-      ≡ (occurs eqAtomUse u (usesOver f (entriesOf declared j)) || eqAtomUse u (useOver f (entryAt declared j)))
+  one-more : (j : ℕ) → occurs sameUse u (usesOver f (entriesOf declared (suc j)))
+      ≡ (occurs sameUse u (usesOver f (entriesOf declared j)) || sameUse u (useOver f (entryAt declared j)))
   unfolding entriesOf occurs
   one-more j =
-      ap (occurs eqAtomUse u) (map-append (useOver f) (entriesOf declared j) (entryAt declared j ∷ []))
-      ∙ (occurs-append eqAtomUse u (usesOver f (entriesOf declared j)) (useOver f (entryAt declared j) ∷ []) ∙ rw or-false)
+      ap (occurs sameUse u) (map-append (useOver f) (entriesOf declared j) (entryAt declared j ∷ []))
+      ∙ (occurs-append sameUse u (usesOver f (entriesOf declared j)) (useOver f (entryAt declared j) ∷ []) ∙ rw or-false)
 
-  passed-over : (j : ℕ) → occurs eqAtomUse u (usesOver f (entriesOf declared j)) ≡ false → eqAtomUse u (useOver f (entryAt declared j)) ≡ false
-      → occurs eqAtomUse u (usesOver f (entriesOf declared (j + 1))) ≡ false
+  passed-over : (j : ℕ) → occurs sameUse u (usesOver f (entriesOf declared j)) ≡ false → sameUse u (useOver f (entryAt declared j)) ≡ false
+      → occurs sameUse u (usesOver f (entriesOf declared (j + 1))) ≡ false
   passed-over j h e = rw (add-one, one-more j, h, e)
 
-  found : (j len : ℕ) → j < len → eqAtomUse u (useOver f (entryAt declared j)) ≡ true → occurs eqAtomUse u (usesOver f (entriesOf declared len)) ≡ true
+  found : (j len : ℕ) → j < len → sameUse u (useOver f (entryAt declared j)) ≡ true → occurs sameUse u (usesOver f (entriesOf declared len)) ≡ true
   found j zero h e = absurd (omega arith)
   found j (suc len) h e = go (decLt j len) (λ k. found j len k e)
     where
-      go : Dec (j < len) → (j < len → occurs eqAtomUse u (usesOver f (entriesOf declared len)) ≡ true)
-          → occurs eqAtomUse u (usesOver f (entriesOf declared (suc len))) ≡ true
+      go : Dec (j < len) → (j < len → occurs sameUse u (usesOver f (entriesOf declared len)) ≡ true)
+          → occurs sameUse u (usesOver f (entriesOf declared (suc len))) ≡ true
       go (yes k) again = rw (one-more len, again k)
       go (no k) again = let same : len ≡ j = omega arith in rw (one-more len, same, e, or-true)
 
@@ -86,14 +87,17 @@ module _ {pairs text declared : List ℕ} {len name count j : ℕ} (this : Reach
   unfolding eqAtomUse
   other-count d =
       passed-over _ _ declared j (this .passed)
-      (rw (ne-eqb count (getD declared (2 * j + 1) 0) (λ e. d (sym e)), and-false))
+      (rw (equal-use, ne-eqb count (getD declared (2 * j + 1) 0) (λ e. d (sym e)), and-false))
 
   pub other-length : (pairLength pairs (getD declared (2 * j) 0) ≡ pairLength pairs name → ⊥) → Passed pairs text declared name count (j + 1)
   unfolding eqAtomUse
   other-length d =
       passed-over _ _ declared j (this .passed)
-      (rw (eqName-lengths (marked pairs text name) (marked pairs text (getD declared (2 * j) 0))
-      (λ e. d (omega (arith, marked-length (this .asked .wanted), marked-length (this .asked .marks j (this .before)))))))
+      (rw (
+        equal-use,
+        eqName-lengths (marked pairs text name) (marked pairs text (getD declared (2 * j) 0))
+            (λ e. d (omega (arith, marked-length (this .asked .wanted), marked-length (this .asked .marks j (this .before))))),
+      ))
 
 -- declaration j has the count, and its name, which starts at `start`, is as long
 pub record Candidate (pairs text declared : List ℕ) (len name count offset size j start : ℕ) : Type 0 where
@@ -130,10 +134,13 @@ module _ {pairs text declared : List ℕ} {len name count offset size j start : 
   unfolding eqAtomUse
   other-byte k h d =
       passed-over _ _ declared j (this .reached .passed)
-      (rw (eqName-differ (marked pairs text name) (marked pairs text (getD declared (2 * j) 0)) k
-      (omega (arith, lengths))
-      (omega (arith, lengths))
-      (λ e. d (sym (byte-of-j k h) ∙ (sym e ∙ byte-of-name k h)))))
+      (rw (
+        equal-use,
+        eqName-differ (marked pairs text name) (marked pairs text (getD declared (2 * j) 0)) k
+            (omega (arith, lengths))
+            (omega (arith, lengths))
+            (λ e. d (sym (byte-of-j k h) ∙ (sym e ∙ byte-of-name k h))),
+      ))
 
   -- a declaration with the same bytes is the one that was looked for
   same-bytes : ((k : ℕ) → k < size → getD text (start + k) 0 ≡ getD text (offset + k) 0)
@@ -143,6 +150,7 @@ module _ {pairs text declared : List ℕ} {len name count offset size j start : 
       let (long-j, long-name) = lengths in
       found _ _ declared j len (this .reached .before)
       (rw (
+        equal-use,
         eqName-alike (marked pairs text name) (marked pairs text (getD declared (2 * j) 0)) (omega arith)
             (λ k h. let h′ : k < size = omega arith in byte-of-name k h′ ∙ (sym (same k h′) ∙ sym (byte-of-j k h′))),
         eq-eqb count (getD declared (2 * j + 1) 0) (sym (this .count-of-j)),

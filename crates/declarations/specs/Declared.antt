@@ -5,10 +5,10 @@ use mathlib.Core.Bool.{Bool, true, cond}
 use mathlib.Core.List.{List, [], _∷_, _++_, map}
 use lib.ListN.{length, getD}
 use lib.Dec.{eqb}
-use Rattle.definitions.specs.Name.{Name}
+use Rattle.definitions.specs.Name.{Name, isEqual}
 use Rattle.definitions.specs.Prop.{AtomUse}
 use Rattle.definitions.specs.Code.{parameterLimit}
-use Rattle.definitions.specs.Text.{occurs, firsts, eqAtomUse}
+use Rattle.definitions.specs.Text.{occurs, firsts, eqAtomUse, compareAtomUse}
 use Rattle.vocabulary.specs.declared.Vocabulary.{Vocabulary}
 use Rattle.vocabulary.specs.Vocabulary.{nameIn, Names}
 use Rattle.prop_lists.specs.Entries.{useOf}
@@ -28,12 +28,16 @@ unfoldable pub entriesOf : List ℕ → ℕ → List (AtomUse ℕ)
 entriesOf declared zero = []
 entriesOf declared (suc len) = entriesOf declared len ++ (entryAt declared len ∷ [])
 
--- the declarations over the bytes of the names, and whether one of them has the bytes and the count of a use
+-- the declarations over the bytes of the names
 abbrev pub declaredUses : (ℕ → Name) → List ℕ → ℕ → List (AtomUse Name)
 declaredUses f declared len = usesOver f (entriesOf declared len)
 
+-- the comparison says equal of two uses; whether it does so of a use and one of the declarations (document 02, ticket 8)
+abbrev pub sameUse : AtomUse Name → AtomUse Name → Bool
+sameUse a b = isEqual (compareAtomUse a b)
+
 abbrev pub isDeclared : (ℕ → Name) → List ℕ → ℕ → AtomUse ℕ → Bool
-isDeclared f declared len u = occurs eqAtomUse (useOver f u) (declaredUses f declared len)
+isDeclared f declared len u = occurs sameUse (useOver f u) (declaredUses f declared len)
 
 -- the place of a use's flag: a name has nine of them, for the counts 0 to 8
 abbrev pub flagOf : ℕ → ℕ → ℕ
