@@ -151,6 +151,11 @@ impl Exported {
         self.headed(version, &self.strict)
     }
 
+    /// Does version 3 put declarations of version 2 into another order?
+    pub fn sorts(&self) -> bool {
+        self.headings[Version::Third as usize] != self.headings[Version::Second as usize]
+    }
+
     /// A text of version 1 with the heading of another: the term is the same in each.
     fn headed(&self, version: Version, first: &str) -> String {
         self.headings[version as usize].clone() + &first[self.headings[Version::First as usize].len()..]

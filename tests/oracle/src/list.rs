@@ -177,8 +177,10 @@ const REFUSED: usize = 4;
 const COMPARISONS: usize = 6;
 /// So many of a hundred answers are asked for with more room than they fill.
 const MORE: usize = 10;
-/// So many of a hundred sheets are asked for the handouts of versions 2 and 3.
-const HANDOUTS: usize = 25;
+/// So many of a hundred sheets are asked for the handouts of versions 2 and 3: of those whose declarations version 3
+/// puts into another order, and of all others.
+const SORTED_HANDOUTS: usize = 75;
+const HANDOUTS: usize = 15;
 
 /// Questions with their rooms, for those that are lent one: one short, but never more than the board lends; exactly
 /// enough, and at times up to 100 more, for an answer that is not too long; and anything below 100 for a refusal.
@@ -186,10 +188,10 @@ fn questions(examined: &Examined, longest: usize, rng: &mut Rng) -> Vec<(Questio
     let mut all = vec![(Question::LabelCount, None)];
     let mut long = false;
     let mut filling = vec![Question::PlainText, Question::StrictText, Question::AtomList, Question::DatatypeList];
-    if rng.chance(HANDOUTS) {
+    let sorts = examined.exported.as_ref().is_ok_and(|exported| exported.sorts());
+    if rng.chance(if sorts { SORTED_HANDOUTS } else { HANDOUTS }) {
         let handout = [Question::HandoutPlain, Question::HandoutStrict, Question::HandoutDatatypes];
-        filling.extend(handout.map(|question| question(2)));
-        filling.extend([Question::HandoutPlain(3), Question::HandoutDatatypes(3)]);
+        filling.extend([2, 3].iter().flat_map(|version| handout.map(|question| question(*version))));
         filling.push(rng.pick(&handout)(*rng.pick(&VERSIONS)));
     }
     for question in filling {

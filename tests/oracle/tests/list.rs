@@ -65,7 +65,7 @@ fn the_list_reads_back() {
     assert!(list.sheets >= 1500 && list.bytes.len() <= 2_200_000);
     let mut reader = Reader(&list.bytes);
     let (mut asked, mut refused, mut exact, mut short, mut more) = ([0; Operation::ALL.len()], [0; 31], 0, 0, 0);
-    let (mut strict, mut second, mut third) = (0, 0, 0);
+    let (mut strict, mut second, mut third, mut strict_third) = (0, 0, 0, 0);
     assert_eq!(reader.number(4), list.sheets + list.names);
     for _ in 0..list.sheets {
         let length = reader.number(4);
@@ -80,12 +80,10 @@ fn the_list_reads_back() {
             strict += (question == Question::StrictText && answer.is_ok() && differs) as usize;
             let changed =
                 examined.exported.as_ref().is_ok_and(|exported| exported.plain(Version::Second) != exported.plain);
-            let sorted = examined
-                .exported
-                .as_ref()
-                .is_ok_and(|exported| exported.plain(Version::Third) != exported.plain(Version::Second));
+            let sorted = examined.exported.as_ref().is_ok_and(|exported| exported.sorts());
             second += (question == Question::HandoutPlain(2) && answer.is_ok() && changed) as usize;
             third += (question == Question::HandoutPlain(3) && answer.is_ok() && sorted) as usize;
+            strict_third += (question == Question::HandoutStrict(3) && answer.is_ok() && sorted) as usize;
             exact += (room.is_some() && answer.as_ref().is_ok_and(|answer| Some(answer.length()) == room)) as usize;
             more += (room.is_some() && answer.as_ref().is_ok_and(|answer| Some(answer.length()) < room)) as usize;
             short +=
@@ -114,7 +112,8 @@ fn the_list_reads_back() {
     let none = |number| [18, 20].contains(&number) || (22..29).contains(&number);
     assert!((0..31).all(|number| (refused[number] > 0) != none(number)), "{refused:?}");
     assert!(exact > 1000 && short > 1000, "{exact} {short}");
-    assert!(more > 100 && strict > 100 && second > 50 && third > 25, "{more} {strict} {second} {third}");
+    assert!(more > 100 && strict > 100 && second > 50, "{more} {strict} {second}");
+    assert!(third > 50 && strict_third > 50, "{third} {strict_third}");
 }
 
 #[test]
