@@ -6,7 +6,7 @@ use oracle::{
     generate::{Kind, Sheets},
     list::{list, List},
     rng::Rng,
-    sheet::Refusal,
+    sheet::{decode, Refusal},
     sound,
 };
 use std::{collections::BTreeMap, fs, io::Write, process::exit, str::FromStr, thread};
@@ -19,6 +19,7 @@ const USAGE: &str = "usage:
   oracle generate --kind KIND [--seed N --count M] --out DIR
   oracle compare --kind KIND [--seed N --count M]
   oracle accuracy --seed N --count M
+  oracle sound DIR
   oracle list --seed N --out FILE
   oracle contexts --seed N --out FILE
 KIND: sound random quantified damaged limits worst slowest";
@@ -79,6 +80,7 @@ fn run() -> i32 {
         ["generate", ref rest @ ..] => generate(&sheets(rest), option(rest, "--out")),
         ["compare", ref rest @ ..] => compare(&sheets(rest)),
         ["accuracy", ref rest @ ..] => accuracy(&random_sheets(Kind::Sound, rest)),
+        ["sound", dir] => print_sound(dir),
         ["list", ref rest @ ..] => write_list(number(option(rest, "--seed")), option(rest, "--out")),
         ["contexts", ref rest @ ..] => write_contexts(number(option(rest, "--seed")), option(rest, "--out")),
         _ => usage(),
@@ -229,6 +231,19 @@ fn accuracy(sheets: &Sheets) -> i32 {
     }
     println!("{} sound sheets of {steps} steps with {labels} labels", sheets.count());
     findings.code()
+}
+
+/// Of each sheet in a folder, by name, whether it is sound.
+fn print_sound(dir: &str) -> i32 {
+    let mut files: Vec<_> =
+        fs::read_dir(dir).unwrap().map(|entry| entry.unwrap().file_name().into_string().unwrap()).collect();
+    files.retain(|file| file.ends_with(".sheet"));
+    files.sort();
+    for file in files {
+        let verdict = decode(&read(&format!("{dir}/{file}"))).is_ok_and(|sheet| sound::sound(&sheet).is_ok());
+        println!("{file} {}", if verdict { "sound" } else { "unsound" });
+    }
+    0
 }
 
 fn write_list(seed: u64, file: &str) -> i32 {
