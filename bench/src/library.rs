@@ -1,4 +1,4 @@
-//! Skriduhol through the wrapper in examples/rust.
+//! Skriduhol through the wrapper in bindings/rust.
 use oracle::answer::{Operation, Question};
 use skriduhol::{Refusal, Style};
 

@@ -5,14 +5,15 @@ use skriduhol::{
     LONGEST_SHEET,
 };
 
-const SMALLEST: &[u8] = include_bytes!("../../sheets/smallest.sheet");
-const SECOND: &[u8] = include_bytes!("../../sheets/second_drawing.sheet");
-const LABELLED: &[u8] = include_bytes!("../../sheets/labelled_function.sheet");
-const CASE_AS_AN_ARGUMENT: &[u8] = include_bytes!("../../sheets/case_as_an_argument.sheet");
+const SMALLEST: &[u8] = include_bytes!("../../../examples/sheets/smallest.sheet");
+const SECOND: &[u8] = include_bytes!("../../../examples/sheets/second_drawing.sheet");
+const LABELLED: &[u8] = include_bytes!("../../../examples/sheets/labelled_function.sheet");
+const CASE_AS_AN_ARGUMENT: &[u8] =
+    include_bytes!("../../../examples/sheets/case_as_an_argument.sheet");
 const CASE_WITH_AN_APPLIED_BRANCH: &[u8] =
-    include_bytes!("../../sheets/case_with_an_applied_branch.sheet");
-const SECOND_HANDOUT: &[u8] = include_bytes!("../../sheets/second_handout.sheet");
-const REFUSED: &[u8] = include_bytes!("../../sheets/refused.sheet");
+    include_bytes!("../../../examples/sheets/case_with_an_applied_branch.sheet");
+const SECOND_HANDOUT: &[u8] = include_bytes!("../../../examples/sheets/second_handout.sheet");
+const REFUSED: &[u8] = include_bytes!("../../../examples/sheets/refused.sheet");
 
 const SECOND_TEXT: &str = "atom A;\natom B;\n\n\nfn u => inl u";
 
