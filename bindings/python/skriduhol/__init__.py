@@ -1,0 +1,212 @@
+"""The proved library behind proof boards: a sheet's text, its lists, its label count, the comparison of two conclusions, and exercises.
+
+Every function answers for any bytes, and raises `Refused` where the library refuses. A text or list is as long as it has to be;
+given a room, a longer one is refused with 16, as the library does. Functions may be called from several threads at once.
+
+The shared library is the one that the environment variable SKRIDUHOL_LIB names, a file or the folder that it stands in; without it
+the repository's, where `tools/install target/install` writes it, or else the system's.
+"""
+
+from __future__ import annotations
+
+import ctypes
+import ctypes.util
+import enum
+import os
+import pathlib
+from collections.abc import Callable, Sequence
+from typing import Any, Final, NamedTuple
+
+__all__ = ["BOARD_ROOM", "LONGEST_EXERCISE", "LONGEST_SHEET", "REFUSALS", "VERSION", "Atom", "Refused", "Style", "atom_list",
+           "board_output", "compare", "datatype_list", "exercise", "handout", "handout_datatypes", "label_count", "plain_text",
+           "strict_text"]
+
+VERSION: Final = 2
+"""The version of include/skriduhol.h that this module is written for."""
+
+BOARD_ROOM: Final = 65536
+"""What the board lends, in bytes."""
+
+LONGEST_SHEET: Final = 40972
+"""The longest sheet, in bytes."""
+
+LONGEST_EXERCISE: Final = 19
+"""The longest code of an exercise, in bytes."""
+
+REFUSALS: Final[dict[int, tuple[str, str]]] = {
+    1: ("0", "fewer than 12 bytes came"),
+    2: ("0", "a header number lies outside its range"),
+    3: ("0", "the byte count is not the one that the header gives"),
+    4: ("name", "a name's pair starts before the last one's end, ends past the text, or has a length outside 1 to 32"),
+    5: ("name", "a name holds a byte that its position does not allow"),
+    6: ("proposition", "a proposition's pair starts before the last one's end, ends past the code, or has length 0"),
+    7: ("proposition", "its code is not exactly one proposition over its whole length with names of the sheet"),
+    8: ("proposition", "it nests deeper than 64"),
+    9: ("step", "a rule, kind, name, proposition number or column is out of range, or an unused field is not 0"),
+    10: ("step", "a step finds too few trees before it, or the last step leaves more than one"),
+    11: ("step", "its tree nests deeper than 256"),
+    12: ("step", "a visited step has the wrong premiss count"),
+    13: ("step", "an ascription is needed where the conclusion is a type judgement"),
+    14: ("step", "a function of ImplIntro needs a label and its conclusion is no implication"),
+    15: ("step", "a function of ForAllIntro needs a label and its conclusion is no ∀"),
+    16: ("0", "the lent output is shorter than the answer"),
+    17: ("0", "a comparison names a step that the sheet has not"),
+    18: ("0", "does not occur: two atoms of one name with different parameter counts are a no"),
+    19: ("0", "two uninstantiated parameters meet with neither bound on its side"),
+    21: ("0", "the version of the handout is outside 1 to 3"),
+    29: ("0", "the names of an exercise are too many, repeated or malformed, or its number of connectives passes 3"),
+    30: ("0", "the ordinal of an exercise is past the end"),
+}
+"""Of each refusal what its place counts (0 for nothing) and its reason."""
+
+class Refused(Exception):
+    """A refusal: its number; its place, which is 0 or the number of a name, a proposition or a step; the grid column of the step
+    that 9 to 15 name, for any other 0; and its reason in words."""
+
+    def __init__(self, number: int, place: int, column: int) -> None:
+        super().__init__(number, place, column)
+        self.number, self.place, self.column = number, place, column
+        self.words: str = REFUSALS[number][1] if number in REFUSALS else "unknown to this module"
+
+    def __str__(self) -> str:
+        where = f"{self.place} column {self.column}" if 9 <= self.number <= 15 else f"{self.place}"
+        return f"refused {self.number} at {where}: {self.words}"
+
+class Style(enum.Enum):
+    """How a text is asked for."""
+
+    PLAIN = "plain"
+    STRICT = "strict"
+
+class Atom(NamedTuple):
+    """An atom of a label: the number of its name in the sheet, and how many parameters it has."""
+
+    name: int
+    parameters: int
+
+def _file() -> str:
+    """The shared library's path, or its name where the system is to find it."""
+    file = f"libskriduhol.so.{VERSION}"
+    named = os.environ.get("SKRIDUHOL_LIB")
+    if named:
+        return os.path.join(named, file) if os.path.isdir(named) else named
+    own = pathlib.Path(__file__).resolve().parents[3] / "target" / "install" / "lib" / file
+    return str(own) if own.exists() else ctypes.util.find_library("skriduhol") or file
+
+def _opened() -> ctypes.CDLL:
+    try:
+        return ctypes.CDLL(_file())
+    except OSError as error:
+        raise ImportError(f"no shared library of Skriduhol ({error}): `tools/install PREFIX` writes it to PREFIX/lib, and "
+                          "SKRIDUHOL_LIB may name that folder") from None
+
+_library = _opened()
+_SIZE = ctypes.c_size_t
+_RESULT: list[Any] = [ctypes.POINTER(_SIZE)] * 2
+_BYTES: list[Any] = [ctypes.c_char_p, _SIZE]
+
+def _function(name: str, *arguments: Any) -> Callable[..., int]:
+    """A function of the library that takes bytes, the arguments, and where its value and column go."""
+    function = getattr(_library, f"skriduhol_{name}")
+    function.argtypes, function.restype = _BYTES + list(arguments) + _RESULT, ctypes.c_uint8
+    return function  # type: ignore[no-any-return]
+
+_TEXT = [ctypes.POINTER(ctypes.c_uint8), _SIZE]
+_LIST = [ctypes.POINTER(ctypes.c_uint16), _SIZE]
+_plain_text = _function("plain_text", *_TEXT)
+_strict_text = _function("strict_text", *_TEXT)
+_atom_list = _function("atom_list", *_LIST)
+_datatype_list = _function("datatype_list", *_LIST)
+_handout = {Style.PLAIN: _function("handout_plain", _SIZE, *_TEXT), Style.STRICT: _function("handout_strict", _SIZE, *_TEXT)}
+_handout_datatypes = _function("handout_datatypes", _SIZE, *_LIST)
+_label_count = _function("label_count")
+_compare = _function("compare", _SIZE, _SIZE)
+_exercise = _function("exercise", _SIZE, _SIZE, *_TEXT)
+_board_output = _library.skriduhol_board_output
+_board_output.argtypes, _board_output.restype = _BYTES + [ctypes.POINTER(ctypes.c_uint8)], _SIZE
+
+def _size(what: str, number: int) -> int:
+    """A number that C can be handed: ctypes would cut any other one to its low bits."""
+    if not 0 <= number < 1 << 8 * ctypes.sizeof(_SIZE):
+        raise ValueError(f"{what} is {number}, expected a number from 0 on that a size_t holds")
+    return number
+
+def _frozen(content: bytes) -> bytes:
+    """The bytes themselves, or a copy of other memory, which no other thread can then change. Empty ones have an address too."""
+    return content if isinstance(content, bytes) else bytes(memoryview(content))
+
+def _asked(function: Callable[..., int], content: bytes, *arguments: Any) -> int:
+    """The value that a function hands back, or its refusal."""
+    content, value, column = _frozen(content), _SIZE(), _SIZE()
+    number = function(content, len(content), *arguments, ctypes.byref(value), ctypes.byref(column))
+    if number:
+        raise Refused(number, value.value, column.value)
+    return value.value
+
+def _filled(element: Any, function: Callable[..., int], content: bytes, *arguments: int, room: int | None) -> tuple[Any, int]:
+    """The memory that a function fills and how much of it: a room of so many elements, or one that grows until it is enough."""
+    lent = BOARD_ROOM if room is None else _size("the room", room)
+    while True:
+        # One element at least: the library takes no null address, even of no room.
+        out = (element * max(lent, 1))()
+        try:
+            return out, _asked(function, content, *arguments, out, lent)
+        except Refused as refused:
+            if refused.number != 16 or room is not None:
+                raise
+            lent *= 8
+
+def _bytes(function: Callable[..., int], content: bytes, *arguments: int, room: int | None) -> bytes:
+    return ctypes.string_at(*_filled(ctypes.c_uint8, function, content, *arguments, room=room))
+
+def _numbers(function: Callable[..., int], content: bytes, *arguments: int, room: int | None) -> list[int]:
+    out, length = _filled(ctypes.c_uint16, function, content, *arguments, room=room)
+    return list(out[:length])
+
+def plain_text(sheet: bytes, *, room: int | None = None) -> str:
+    """The declarations and the term. A room is counted in bytes."""
+    return _bytes(_plain_text, sheet, room=room).decode()
+
+def strict_text(sheet: bytes, *, room: int | None = None) -> str:
+    """The plain text with brackets also around a case or let on either side of an application, and around an ascription within a
+    function, a case or a let."""
+    return _bytes(_strict_text, sheet, room=room).decode()
+
+def atom_list(sheet: bytes, *, room: int | None = None) -> list[Atom]:
+    """The atoms of the term's labels, left to right with repeats. A room is counted in numbers, two for each atom."""
+    numbers = _numbers(_atom_list, sheet, room=room)
+    return [Atom(name, parameters) for name, parameters in zip(numbers[::2], numbers[1::2])]
+
+def datatype_list(sheet: bytes, *, room: int | None = None) -> list[int]:
+    """The datatypes that are labels of the term, left to right with repeats, each by the number of its name."""
+    return _numbers(_datatype_list, sheet, room=room)
+
+def handout(sheet: bytes, version: int, style: Style = Style.PLAIN, *, room: int | None = None) -> str:
+    """The text of a version of the handout, 1 to 3. Version 1 is `plain_text` and `strict_text`; version 2 has the datatype
+    declarations before the atoms, and declares the datatypes of its own list; version 3 is version 2 with its declarations sorted."""
+    return _bytes(_handout[style], sheet, _size("the version", version), room=room).decode()
+
+def handout_datatypes(sheet: bytes, version: int, *, room: int | None = None) -> list[int]:
+    """The datatype list of a version of the handout. Version 1 is `datatype_list`; versions 2 and 3 have every datatype of every
+    label, those within a proposition too."""
+    return _numbers(_handout_datatypes, sheet, _size("the version", version), room=room)
+
+def label_count(sheet: bytes) -> int:
+    """How many ascriptions and labelled functions the sheet's term has."""
+    return _asked(_label_count, sheet)
+
+def compare(sheet: bytes, i: int, j: int) -> bool:
+    """Whether the conclusions of steps i and j are equal up to the names of their bound objects."""
+    return _asked(_compare, sheet, _size("a step", i), _size("a step", j)) == 1
+
+def exercise(names: Sequence[str], n: int, ordinal: int, *, room: int | None = None) -> bytes:
+    """The code of the proposition at an ordinal, from 0, among all of at most n binary connectives over ⊤, ⊥ and up to 3 names, n
+    up to 3. In the code the names are numbered as given. `include/skriduhol.h` says their order."""
+    # A name with a newline in it would be two, and one of no bytes none: both are malformed, and handed over as such.
+    content = "\n".join(name.replace("\n", "?") or "?" for name in names).encode(errors="replace")
+    return _bytes(_exercise, content, _size("the number of connectives", n), _size("the ordinal", ordinal), room=room)
+
+def board_output(sheet: bytes) -> bytes:
+    """What the board prints: the plain text if 65,536 bytes have room for it, or the refusal's line."""
+    content, out = _frozen(sheet), (ctypes.c_uint8 * BOARD_ROOM)()
+    return ctypes.string_at(out, _board_output(content, len(content), out))

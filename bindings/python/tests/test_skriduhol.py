@@ -1,0 +1,207 @@
+"""Every operation on the example sheets and on the stored answers, refusals, rooms, and what is no argument."""
+
+import pathlib
+import re
+import struct
+import subprocess
+import sys
+import threading
+import typing
+import unittest
+
+import skriduhol
+from skriduhol import Atom, Refused, Style
+
+ROOT = pathlib.Path(__file__).resolve().parents[3]
+
+def example(name):
+    return (ROOT / "examples" / "sheets" / f"{name}.sheet").read_bytes()
+
+SECOND, REFUSED, HANDOUT = example("second_drawing"), example("refused"), example("second_handout")
+
+class Examples(unittest.TestCase):
+    def assert_refused(self, number, place, column, question, *arguments, **room):
+        with self.assertRaises(Refused) as caught:
+            question(*arguments, **room)
+        refused = caught.exception
+        self.assertEqual((refused.number, refused.place, refused.column), (number, place, column))
+        self.assertEqual(refused.words, skriduhol.REFUSALS[number][1])
+        return refused
+
+    def test_texts(self):
+        self.assertEqual(skriduhol.plain_text(example("smallest")), "\n\n\n()")
+        self.assertEqual(skriduhol.plain_text(SECOND), "atom A;\natom B;\n\n\nfn u => inl u")
+        self.assertEqual(skriduhol.plain_text(example("case_as_an_argument")), "\n\n\nf case h of inl x => a, inr y => b c")
+        self.assertEqual(skriduhol.strict_text(example("case_as_an_argument")), "\n\n\nf (case h of inl x => a, inr y => b) c")
+
+    def test_handouts(self):
+        self.assertEqual(skriduhol.handout(HANDOUT, 1), skriduhol.plain_text(HANDOUT))
+        self.assertEqual(skriduhol.handout(HANDOUT, 1, Style.STRICT), skriduhol.strict_text(HANDOUT))
+        self.assertTrue(skriduhol.handout(HANDOUT, 2).startswith("datatype U;\ndatatype T;\ndatatype V;\natom P(2);\n"))
+        self.assertTrue(skriduhol.handout(HANDOUT, 3, Style.STRICT).startswith("datatype T;\ndatatype U;\ndatatype V;\natom P(2);\n"))
+        self.assertEqual([skriduhol.handout_datatypes(HANDOUT, version) for version in (1, 2, 3)], [[5], [3, 5, 5], [3, 5, 5]])
+        self.assertEqual(skriduhol.datatype_list(HANDOUT), [5])
+        for version in (0, 4, 2 ** 64 - 1):
+            self.assert_refused(21, 0, 0, skriduhol.handout, HANDOUT, version)
+            self.assert_refused(21, 0, 0, skriduhol.handout_datatypes, b"", version)
+
+    def test_lists_counts_and_comparisons(self):
+        self.assertEqual(skriduhol.atom_list(example("labelled_function")), [Atom(name=0, parameters=0)])
+        self.assertEqual(skriduhol.label_count(example("labelled_function")), 1)
+        self.assertIs(skriduhol.compare(example("labelled_function"), 0, 2), True)
+        self.assertIs(skriduhol.compare(example("labelled_function"), 0, 1), False)
+        self.assert_refused(17, 0, 0, skriduhol.compare, SECOND, 0, 2 ** 64 - 1)
+
+    def test_the_board(self):
+        self.assertEqual(skriduhol.board_output(SECOND), b"atom A;\natom B;\n\n\nfn u => inl u")
+        self.assertEqual(skriduhol.board_output(REFUSED), b"refused 14 at 1 column 3\n")
+
+    def test_exercises(self):
+        self.assertEqual(skriduhol.exercise([], 0, 0), b"\x00")
+        self.assertEqual(skriduhol.exercise(["A"], 0, 2), b"\x05\x00\x00\x00")
+        self.assertEqual(len(skriduhol.exercise(("A", "B", "C"), 3, 86704)), skriduhol.LONGEST_EXERCISE)
+        self.assert_refused(30, 0, 0, skriduhol.exercise, ["A", "B", "C"], 3, 86705)
+        for names in ([""], ["A", ""], ["", ""], ["A\nB"], ["\n"], ["é"], ["\udc80"], ["A", "A"], ["A", "B", "C", "D"], ["A" * 33]):
+            self.assert_refused(29, 0, 0, skriduhol.exercise, names, 0, 0)
+        self.assert_refused(29, 0, 0, skriduhol.exercise, [], 4, 0)
+
+    def test_a_refusal_says_what_it_is(self):
+        refused = self.assert_refused(14, 1, 3, skriduhol.plain_text, REFUSED)
+        self.assertEqual(str(refused), "refused 14 at 1 column 3: a function of ImplIntro needs a label and its conclusion is no "
+                         "implication")
+        self.assertEqual(str(self.assert_refused(1, 0, 0, skriduhol.label_count, b"")), "refused 1 at 0: fewer than 12 bytes came")
+
+    def test_rooms(self):
+        """Without a room an answer may be longer than the first one lent."""
+        for question in (skriduhol.plain_text, skriduhol.strict_text):
+            self.assertEqual(question(SECOND, room=31), "atom A;\natom B;\n\n\nfn u => inl u")
+            for room in (0, 30):
+                self.assert_refused(16, 0, 0, question, SECOND, room=room)
+        self.assert_refused(16, 0, 0, skriduhol.atom_list, example("labelled_function"), room=1)
+        self.assertEqual(skriduhol.datatype_list(SECOND, room=0), [])
+        self.assertGreater(len(skriduhol.plain_text(of_many_labels(250))), skriduhol.BOARD_ROOM)
+        self.assertEqual(len(skriduhol.atom_list(of_many_labels(250))), 64 * 250)
+
+    def test_other_memory_than_bytes(self):
+        for sheet in (bytearray(SECOND), memoryview(SECOND)):
+            self.assertEqual(skriduhol.plain_text(sheet), skriduhol.plain_text(SECOND))
+            self.assertEqual(skriduhol.board_output(sheet), skriduhol.board_output(SECOND))
+        for sheet in ("text", 5, None):
+            with self.assertRaises(TypeError):
+                skriduhol.plain_text(sheet)
+
+    def test_numbers_that_no_size_holds(self):
+        for number in (-1, 2 ** 64):
+            for question in (lambda n: skriduhol.compare(SECOND, n, 0), lambda n: skriduhol.compare(SECOND, 0, n),
+                             lambda n: skriduhol.handout(SECOND, n), lambda n: skriduhol.handout_datatypes(SECOND, n),
+                             lambda n: skriduhol.exercise([], n, 0), lambda n: skriduhol.exercise([], 0, n),
+                             lambda n: skriduhol.plain_text(SECOND, room=n)):
+                with self.assertRaises(ValueError):
+                    question(number)
+
+    def test_threads(self):
+        found = []
+        threads = [threading.Thread(target=lambda: found.extend(skriduhol.plain_text(SECOND) for _ in range(200))) for _ in range(4)]
+        for thread in threads:
+            thread.start()
+        for thread in threads:
+            thread.join()
+        self.assertEqual(found, [skriduhol.plain_text(SECOND)] * 800)
+
+def of_many_labels(count):
+    """A sheet of so many sorries, each of a conjunction of 64 atoms that is its label, in pairs under AndElimFst."""
+    code = bytes([2] * 63) + bytes([5, 0, 0, 0]) * 64
+    sorry, pair, first = (struct.pack("<2B9H", rule, premisses, *[0] * 9) for rule, premisses in ((15, 0), (0, 2), (1, 1)))
+    steps = sorry + (sorry + pair) * (count - 1) + first
+    return struct.pack("<10H", 1, 1, len(code), 1, 2 * count, 0, 0, 1, 0, len(code)) + steps + b"A" + code
+
+class Answers(unittest.TestCase):
+    """The stored answers of the oracle, laid out as tests/oracle/README.md says."""
+
+    QUESTIONS = {
+        0: lambda sheet, room: skriduhol.plain_text(sheet, room=room).encode(),
+        1: lambda sheet, room: skriduhol.strict_text(sheet, room=room).encode(),
+        2: lambda sheet, room: [number for atom in skriduhol.atom_list(sheet, room=room) for number in atom],
+        3: lambda sheet, room: skriduhol.datatype_list(sheet, room=room),
+        4: skriduhol.label_count,
+        5: skriduhol.compare,
+        6: skriduhol.board_output,
+        7: lambda sheet, version, room: skriduhol.handout(sheet, version, room=room).encode(),
+        8: lambda sheet, version, room: skriduhol.handout(sheet, version, Style.STRICT, room=room).encode(),
+        9: lambda sheet, version, room: skriduhol.handout_datatypes(sheet, version, room=room),
+        10: lambda names, n, ordinal, room: skriduhol.exercise(
+            names.decode("latin-1").split("\n") if names else [], n, ordinal, room=room),
+    }
+    ASKED = {**dict.fromkeys(range(4), "<I"), 5: "<2H", **dict.fromkeys(range(7, 10), "<QI"), 10: "<2QI"}
+    LISTS = (2, 3, 9)
+
+    def read(self):
+        data, at = (ROOT / "crates" / "replay" / "data" / "answers").read_bytes(), 0
+
+        def take(layout):
+            nonlocal at
+            at += struct.calcsize(layout)
+            return struct.unpack_from(layout, data, at - struct.calcsize(layout))
+
+        for entry in range(*take("<I")):
+            content, = take("<%ds" % take("<I"))
+            for _ in range(*take("<B")):
+                kind, = take("<B")
+                asked, (number, value) = take(self.ASKED.get(kind, "<")), take("<BI")
+                if number:
+                    answer = number, value, *take("<H")
+                elif kind in (4, 5):
+                    answer = value
+                else:
+                    answer = list(take(f"<{value}H")) if kind in self.LISTS else take(f"<{value}s")[0]
+                yield entry, content, kind, asked, answer
+
+    def test_every_stored_answer(self):
+        met = set()
+        for entry, content, kind, asked, answer in self.read():
+            try:
+                found = self.QUESTIONS[kind](content, *asked)
+            except Refused as refused:
+                found = refused.number, refused.place, refused.column
+                met.add(refused.number)
+            self.assertEqual(found, answer, (entry, kind, asked))
+        self.assertEqual(met, set(skriduhol.REFUSALS) - {18})
+
+class Module(unittest.TestCase):
+    def test_every_function_of_the_header_is_called(self):
+        header = (ROOT / "include" / "skriduhol.h").read_text(encoding="utf-8")
+        source = pathlib.Path(skriduhol.__file__).read_text(encoding="utf-8")
+        called = set(re.findall(r'_function\("(\w+)"', source)) | set(re.findall(r"_library\.skriduhol_(\w+)", source))
+        self.assertEqual(called, set(re.findall(r"skriduhol_([a-z_]+)\(", header)))
+
+    def test_the_constants_of_the_header(self):
+        header = (ROOT / "include" / "skriduhol.h").read_text(encoding="utf-8")
+        defined = {name: int(value) for name, value in re.findall(r"#define SKRIDUHOL_(\w+) (\d+)", header)}
+        self.assertEqual({name: getattr(skriduhol, name) for name in defined}, defined)
+        refusals = re.findall(r"/\* (\w+): (.*) \*/\n +SKRIDUHOL_REFUSED_\w+ = (\d+)", header)
+        self.assertEqual({int(number): (place, words) for place, words, number in refusals}, skriduhol.REFUSALS)
+
+    def test_all_that_is_public_is_typed_and_said(self):
+        for name in skriduhol.__all__:
+            value = getattr(skriduhol, name)
+            if callable(value):
+                self.assertTrue(value.__doc__, name)
+                if not isinstance(value, type):
+                    self.assertIn("return", typing.get_type_hints(value))
+        self.assertTrue((pathlib.Path(skriduhol.__file__).parent / "py.typed").exists())
+
+    def test_the_program(self):
+        def run(*words):
+            return subprocess.run([sys.executable, "-m", "skriduhol", *map(str, words)], capture_output=True, text=True, check=False)
+
+        sheets = ROOT / "examples" / "sheets"
+        answer = run(sheets / "labelled_function.sheet")
+        self.assertEqual((answer.returncode, answer.stdout), (0, "atom A;\n\n\n(fn u: A => u) v\nlabels: 1\natoms: 0 0\ndatatypes:\n"))
+        answer = run(sheets / "refused.sheet", 1)
+        self.assertEqual((answer.returncode, answer.stdout[:25]), (1, "refused 14 at 1 column 3:"))
+        for words in ((), ("a", "b"), ("a", "1", "2"), (sheets / "none.sheet",), (sheets,)):
+            answer = run(*words)
+            self.assertEqual((answer.returncode, answer.stdout, answer.stderr.count("\n")), (2, "", 1))
+
+if __name__ == "__main__":
+    unittest.main()
