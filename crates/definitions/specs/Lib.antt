@@ -20,6 +20,7 @@ pub mod Answers
 pub mod Refusals
 pub mod ComparisonWith18
 pub mod Exercises
+pub mod NameIndex
 pub mod CheckingRules
 pub mod Sound
 pub mod Labels
