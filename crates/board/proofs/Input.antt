@@ -11,10 +11,9 @@ use borrow.Author.Tests.{le-ltb, leb-true, leb-false, ne-eqb}
 use Rattle.definitions.specs.declared.Refusal.{Refusal}
 use Rattle.definitions.specs.Outcome.{Outcome, refused, refuse, _>>=_, mapOutcome, refuseIf}
 use Rattle.definitions.specs.Sheet.{headerSize, pairSize, nameLimit, propositionLimit, stepSize, stepLimit, textLimit, codeLimit, numberAt, textLength, names, codeLength, propositions, steps, goal, headerOutOfRange, namePairsStart, propositionPairsStart, stepsStart, textStart, codeStart, sheetLength}
-use Rattle.definitions.specs.Admission.{admitted}
+use Rattle.definitions.specs.Admission.{headerChecks, admitted}
 use Rattle.definitions.specs.Answers.{sheetTerm, namedTerm, sheetText, inRoom, versionOf, textAnswer, namesStep, columnOf, located, printed, refusalLine, boardOutput}
 use Rattle.sheet.specs.Header.{headerOf}
-use Rattle.sheet.specs.Checks.{shortCheck, headerChecks}
 use Rattle.sheet.proofs.Ranges.{in-range}
 use Rattle.sheet.proofs.Order.{in-stages}
 use Rattle.board.specs.Input.{longestSheet, inputRoom, readPart}
@@ -37,7 +36,7 @@ tooLong : Bool → Refusal
 tooLong outOfRange = record { number = cond outOfRange 2 3; place = 0 }
 
 header-refused : (s : List ℕ) → longestSheet < length s → (b : Bool) → headerOutOfRange s ≡ b → headerChecks s ≡ refused (tooLong b)
-unfolding tooLong shortCheck headerChecks refuseIf refuse _>>=_
+unfolding tooLong headerChecks refuseIf refuse _>>=_
 header-refused s longer true e = rw (le-ltb _ _ (long-enough s longer), e)
 header-refused s longer false e =
     rw (le-ltb _ _ (long-enough s longer), e, ne-eqb (length s) (sheetLength s) (λ same. omega (arith, in-range-length s e)))

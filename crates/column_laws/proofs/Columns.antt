@@ -12,7 +12,7 @@ use Rattle.definitions.specs.Outcome.{refuseLowest}
 use Rattle.definitions.specs.Sheet as sheet
 use Rattle.definitions.specs.Sheet.{headerSize, pairSize, stepSize, columnLimit, numberAt, textLength, codeLength, headerOutOfRange, namePairsStart, propositionPairsStart, stepsStart, textStart, codeStart, sheetLength, textBytes, codeBytes, ruleByte, premissCount, stepNumber, column, nameOf, marked}
 use Rattle.definitions.specs.Tree.{ruleIn, identifierIn, conclusionIn, conclusionOf, stepIn, stepOver, treesBefore, treeIn, propOf, treeOf, rootOf}
-use Rattle.definitions.specs.Admission.{noName, notZero, badIdentifier, badPropIsTrue, badTypeJudgement, badConclusion, badColumn, identifiers, badStep, tooFewTrees, treesLeft, deepTree, admitted}
+use Rattle.definitions.specs.Admission.{noName, notZero, badIdentifier, badPropIsTrue, badTypeJudgement, badConclusion, badColumn, identifiers, badStep, tooFewTrees, treesLeft, deepTree, headerChecks, admitted}
 use Rattle.definitions.specs.Answers.{sheetTerm, namedTerm, goalProp, sheetText, textAnswer, atomsAnswer, datatypesAnswer, labelCount, namedConclusion, comparison}
 use Rattle.column_laws.specs.Columns.{ColumnByte, SameButColumns}
 use Rattle.definitions.proofs.Lowest.{same-lowest}
@@ -239,7 +239,7 @@ module _ (s s′ : List ℕ) (w : SameButColumns s s′) where
 
   -- the same sheet to refusals 1 to 11, with the same places
   pub same-admitted : admitted s ≡ admitted s′
-  unfolding admitted refuseLowest
+  unfolding admitted headerChecks refuseLowest
   same-admitted =
       let n = sheet.names s in
       let p = sheet.propositionPairs s in

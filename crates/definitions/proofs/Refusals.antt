@@ -15,7 +15,7 @@ use Rattle.definitions.specs.Prop.{Sides, Scope, asBinary, asQuantified,
 use Rattle.definitions.specs.Tree.{ProofTreeConclusion, PropIsTrue, TypeJudgement, Step, ProofTree, over, Premisses, none, _and_, count}
 use Rattle.definitions.specs.Term.{proposition, datatype, ProofTerm, datatypeList}
 use Rattle.definitions.specs.Name.{Name}
-use Rattle.definitions.specs.Admission.{admitted}
+use Rattle.definitions.specs.Admission.{headerChecks, admitted}
 use Rattle.definitions.specs.Export.{Place, checking, inferring, Ending, bare, ascribed, leftLabelled, datatypeLabelled, premissOwn, ending, places, admitsCount, ascriptionLabel, implicationLabel, leftLabel, universalLabel, datatypeLabel, inferringTerm, placedTerm, export, exportAll}
 use Rattle.definitions.specs.Comparison.{no, alphaEq, conclusionAlphaEq}
 use Rattle.definitions.specs.AlphaEquality.{Verdict}
@@ -34,7 +34,7 @@ module _ {Kind : ℕ → Type 0} {A B : Type 0} where
   after (is-refused h) k = is-refused h
   after {o = accepted a} is-accepted k = k a
 
-  changed : (f : A → B) {o : Outcome A} → Uses Kind o → Uses Kind (mapOutcome f o)
+  pub changed : (f : A → B) {o : Outcome A} → Uses Kind o → Uses Kind (mapOutcome f o)
   unfolding mapOutcome
   changed f (is-refused h) = is-refused h
   changed f is-accepted = is-accepted
@@ -66,12 +66,17 @@ widened : {Kind Wide : ℕ → Type 0} → ((number : ℕ) → Kind number → W
 widened wide (is-refused {r = r} h) = is-refused (wide (r .number) h)
 widened wide is-accepted = is-accepted
 
+pub header-uses : (s : List ℕ) → Uses (Between 1 3) (headerChecks s)
+unfolding headerChecks
+header-uses s =
+    after (tested _ 1 _ (search needs)) λ _.
+    after (tested _ 2 _ (search needs)) λ _.
+    tested _ 3 _ (search needs)
+
 pub admission-uses : (s : List ℕ) → Uses (Between 1 11) (admitted s)
 unfolding admitted
 admission-uses s =
-    after (tested _ 1 _ (search needs)) λ _.
-    after (tested _ 2 _ (search needs)) λ _.
-    after (tested _ 3 _ (search needs)) λ _.
+    after (widened (λ n h. search needs) (header-uses s)) λ _.
     after (searched _ _ 4 (search needs)) λ _.
     after (searched _ _ 5 (search needs)) λ _.
     after (searched _ _ 6 (search needs)) λ _.

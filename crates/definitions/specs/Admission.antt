@@ -87,6 +87,13 @@ module _ (names : ℕ) (pairs code records : List ℕ) where
   unfoldable pub deepTree : ℕ → Bool
   deepTree k = ltb treeNestingLimit (height (treeIn names pairs code records k))
 
+-- 1 to 3: the bytes are fewer than a header's, a header number is out of range, or the length is not the header's
+unfoldable pub headerChecks : List ℕ → Outcome (Unit {0})
+headerChecks s = do
+  _ ← refuseIf (ltb (length s) headerSize) 1 0
+  _ ← refuseIf (headerOutOfRange s) 2 0
+  refuseIf (not (eqb (length s) (sheetLength s))) 3 0
+
 -- the tree of an admitted sheet's root, or the first of refusals 1 to 11
 unfoldable pub admitted : List ℕ → Outcome (ProofTree ℕ)
 admitted s =
@@ -95,9 +102,7 @@ admitted s =
     let code = codeBytes s in
     let records = stepRecords s in
     do
-      _ ← refuseIf (ltb (length s) headerSize) 1 0
-      _ ← refuseIf (headerOutOfRange s) 2 0
-      _ ← refuseIf (not (eqb (length s) (sheetLength s))) 3 0
+      _ ← headerChecks s
       _ ← refuseLowest (badNamePair (namePairs s) (textLength s)) n 4
       _ ← refuseLowest (badName (namePairs s) (textBytes s)) n 5
       _ ← refuseLowest (badPropositionPair pairs (codeLength s)) (propositions s) 6

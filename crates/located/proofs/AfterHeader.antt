@@ -11,11 +11,10 @@ use Rattle.definitions.specs.declared.Style.{Style}
 use Rattle.definitions.specs.declared.Version.{Version}
 use Rattle.definitions.specs.declared.Version.the-variants.{First, Second, Third}
 use Rattle.definitions.specs.Outcome.{Outcome, refused, accepted, refuse, _>>=_, mapOutcome, refuseIf}
-use Rattle.definitions.specs.Admission.{admitted}
+use Rattle.definitions.specs.Admission.{headerChecks, admitted}
 use Rattle.definitions.specs.Term.{ProofTerm}
 use Rattle.definitions.specs.Answers.{namesStep, inRoom, versionOf, sheetTerm, namedTerm, sheetText, labelCount, comparison}
 use Rattle.sheet.specs.Header.{headerOf, HasHeader}
-use Rattle.sheet.specs.Checks.{shortCheck, headerChecks}
 use Rattle.sheet.proofs.Order.{in-stages, header-given}
 use Rattle.located.specs.AfterHeader.{AfterHeader}
 
@@ -60,7 +59,7 @@ version-names-none version e = of-tests (eqb version 1) (eqb version 2) (eqb ver
 module _ (s : List ℕ) where
   checked-header : {r : Refusal} (o : Outcome (Unit {0})) → headerChecks s ≡ o → ((x : Refusal) → admitted s ≡ refused x → x ≡ r) → namesStep r ≡ true
       → HasHeader s (headerOf s)
-  unfolding headerChecks shortCheck _>>=_
+  unfolding headerChecks _>>=_
   checked-header (accepted a) e only names = header-given s refl e
   checked-header (refused x) e only names =
       let is : x ≡ _ = only x (sym (in-stages s) ∙ rw e) in

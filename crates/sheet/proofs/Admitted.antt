@@ -6,7 +6,7 @@ use mathlib.Core.Option.{Option, none, some, Option·getD}
 use mathlib.Core.List.{List, [], _∷_}
 use native.Mathlib.Omega.{arith}
 use lib.ListN.{length, drop}
-use borrow.Author.Tests.{ltb-false, eqb-true, not-false}
+use borrow.Author.Tests.{ltb-false, not-false}
 use Rattle.definitions.specs.declared.Refusal.{Refusal}
 use Rattle.definitions.specs.Name.{isName}
 use Rattle.definitions.specs.Prop.{nesting}
@@ -33,7 +33,7 @@ use Rattle.number.specs.Pairs.{NameWithin}
 use Rattle.sheet.proofs.Ranges.{in-range}
 use Rattle.sheet.proofs.Given.{good-pairs, pair-within, good-name-pair, good-proposition-pair}
 use Rattle.sheet.proofs.Stages.{stage-accepted, stage-refuses}
-use Rattle.sheet.proofs.Order.{fromNames, fromPropositions, fromSteps, fromTrees, in-stages}
+use Rattle.sheet.proofs.Order.{fromNames, fromPropositions, fromSteps, fromTrees, in-stages, header-given}
 use Rattle.sheet.proofs.Slices.{lengths}
 
 is-some : {A : Type 0} (o : Option A) (d : A) → isNone o ≡ false → o ≡ some (Option·getD o d)
@@ -93,9 +93,8 @@ last-tree s r e = only-root _ _ _ _ (steps s) (r .some-step) e
 admission : (s : List ℕ) {root : ProofTree ℕ} → admitted s ≡ accepted root → (root ≡ rootOf s) × Admitted s
 unfolding admitted
 admission s e =
-    let (_, one, e) = each-accepted _ _ e in
-    let (_, two, e) = each-accepted _ _ e in
-    let (_, three, e) = each-accepted _ _ e in
+    let (_, header, e) = each-accepted _ _ e in
+    let given = header-given s refl header in
     let (_, four, e) = each-accepted _ _ e in
     let (_, five, e) = each-accepted _ _ e in
     let (_, six, e) = each-accepted _ _ e in
@@ -107,8 +106,8 @@ admission s e =
     let (_, eleven, e) = each-accepted _ _ e in (
       cc,
       record {
-        in-range = in-range s (test-failed _ _ _ two);
-        whole = eqb-true _ _ (not-false _ (test-failed _ _ _ three));
+        in-range = given .in-range;
+        whole = given .whole;
         name-pair = λ i h. good-name-pair s i (all-fail _ _ (none-lowest _ _ _ four) i h);
         name = λ i h. is-name s i (all-fail _ _ (none-lowest _ _ _ five) i h);
         proposition-pair = λ i h. good-proposition-pair s i (all-fail _ _ (none-lowest _ _ _ six) i h);
@@ -116,7 +115,7 @@ admission s e =
         shallow-proposition = λ i h. nests-at-most s i (all-fail _ _ (none-lowest _ _ _ eight) i h);
         good-step = all-fail _ _ (none-lowest _ _ _ nine);
         enough-trees = λ k h. finds-trees s k (all-fail _ _ (none-lowest _ _ _ ten) k h);
-        one-tree = last-tree s (in-range s (test-failed _ _ _ two)) (test-failed _ _ _ last);
+        one-tree = last-tree s (given .in-range) (test-failed _ _ _ last);
         shallow-tree = λ k h. is-low s k (all-fail _ _ (none-lowest _ _ _ eleven) k h);
       },
     )

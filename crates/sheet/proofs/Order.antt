@@ -5,11 +5,11 @@ use mathlib.Core.List.{List}
 use borrow.Author.Tests.{eqb-true, not-false}
 use Rattle.definitions.specs.Outcome.{Outcome, accepted, _>>=_}
 use Rattle.definitions.specs.Tree.{ProofTree, rootOf}
-use Rattle.definitions.specs.Admission.{admitted}
+use Rattle.definitions.specs.Admission.{headerChecks, admitted}
 use Rattle.sheet.specs.declared.header.Sheet.{Sheet}
 use Rattle.sheet.specs.declared.Checked.{Checked}
 use Rattle.sheet.specs.Header.{headerOf, HasHeader}
-use Rattle.sheet.specs.Checks.{answered, checkedOf, shortCheck, headerChecks, nameChecks, propositionChecks, stepChecks, treeChecks}
+use Rattle.sheet.specs.Checks.{answered, checkedOf, nameChecks, propositionChecks, stepChecks, treeChecks}
 use Rattle.sheet.proofs.Outcomes.{bind-assoc, each-accepted, test-failed}
 use Rattle.sheet.proofs.Ranges.{in-range}
 
@@ -28,7 +28,7 @@ module _ (s : List ℕ) where
   fromNames = _>>=_ (nameChecks s) (λ _. fromPropositions)
 
   pub in-stages : _>>=_ (headerChecks s) (λ _. fromNames) ≡ admitted s
-  unfolding admitted shortCheck headerChecks nameChecks propositionChecks stepChecks treeChecks fromTrees fromSteps fromPropositions fromNames
+  unfolding admitted headerChecks nameChecks propositionChecks stepChecks treeChecks fromTrees fromSteps fromPropositions fromNames
   in-stages = simp bind-assoc
 
   pub from-header : {h : Sheet} {r : Checked} → h ≡ headerOf s → r ≡ answered h (_>>=_ (headerChecks s) (λ _. fromNames))

@@ -1,11 +1,10 @@
--- Refusals 1 to 11 in five stages, and what the checks answer.
+-- Refusals 1 to 11 in five stages, of which the definitions have the first, and what the checks answer.
 use Prim.Native.Nat.{ℕ, _-_}
-use mathlib.Core.Bool.{not}
 use mathlib.Core.List.{List}
 use lib.ListN.{length}
-use lib.Dec.{ltb, eqb}
+use lib.Dec.{ltb}
 use Rattle.definitions.specs.Outcome.{Outcome, refused, accepted, _>>=_, refuseIf, refuseLowest}
-use Rattle.definitions.specs.Sheet.{headerSize, headerOutOfRange, sheetLength, names, textLength, codeLength, propositions, steps, namePairs, propositionPairs, stepRecords, textBytes, codeBytes}
+use Rattle.definitions.specs.Sheet.{headerSize, names, textLength, codeLength, propositions, steps, namePairs, propositionPairs, stepRecords, textBytes, codeBytes}
 use Rattle.definitions.specs.Admission.{badNamePair, badName, badPropositionPair, badCode, deepProposition, badStep, tooFewTrees, treesLeft, deepTree, admitted}
 use Rattle.sheet.specs.declared.header.Sheet.{Sheet}
 use Rattle.sheet.specs.declared.Checked.{Checked}
@@ -26,13 +25,6 @@ module _ (s : List ℕ) where
   -- 1: a header's bytes
   unfoldable pub shortCheck : Outcome (Unit {0})
   shortCheck = refuseIf (ltb (length s) headerSize) 1 0
-
-  -- 1 to 3: the header, and the length that it gives
-  unfoldable pub headerChecks : Outcome (Unit {0})
-  headerChecks = do
-    _ ← shortCheck
-    _ ← refuseIf (headerOutOfRange s) 2 0
-    refuseIf (not (eqb (length s) (sheetLength s))) 3 0
 
   -- 4 and 5: the names
   unfoldable pub nameChecks : Outcome (Unit {0})

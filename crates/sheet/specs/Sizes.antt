@@ -5,9 +5,9 @@ use mathlib.Core.List.{List}
 use lib.ListN.{drop}
 use Rattle.definitions.specs.Outcome.{Outcome, refused, accepted, lowest, foundAt}
 use Rattle.definitions.specs.Sheet.{names, steps, propositionPairs, stepRecords, codeBytes}
-use Rattle.definitions.specs.Admission.{tooFewTrees}
+use Rattle.definitions.specs.Admission.{headerChecks, tooFewTrees}
 use Rattle.steps.specs.Tables.{SizeTable, passed}
-use Rattle.sheet.specs.Checks.{headerChecks, nameChecks, propositionChecks, stepChecks}
+use Rattle.sheet.specs.Checks.{nameChecks, propositionChecks, stepChecks}
 
 -- the steps before the first that finds too few trees, or else all
 unfoldable pub stepsFindingTrees : List ℕ → ℕ

@@ -25,8 +25,9 @@ ghost use mathlib.Core.Path.{_≡_};
 ghost use Prim.Native.Nat.{_<_, _≤_};
 ghost use lib.ListN.{length};
 ghost use Rattle.definitions.specs.Sheet.{stepLimit};
+ghost use Rattle.definitions.specs.Admission.{headerChecks};
 ghost use Rattle.sheet.specs.Header.{headerOf, HasHeader};
-ghost use Rattle.sheet.specs.Checks.{checkedOf, answered, headerChecks, nameChecks, propositionChecks, stepChecks, treeChecks};
+ghost use Rattle.sheet.specs.Checks.{checkedOf, answered, nameChecks, propositionChecks, stepChecks, treeChecks};
 ghost use Rattle.sheet.specs.Sizes.{stepsFindingTrees, sizedSteps, Sized};
 
 // What refusals 1 to 11 say of some bytes: the header of a sheet, or the first refusal.
@@ -44,7 +45,7 @@ fn refuse(number: u8, place: usize) -> Checked
 }
 
 // Refusals 1 to 3: the header, and the length that it gives.
-fn check_header(s: &[u8]) -> Checked
+pub fn check_header(s: &[u8]) -> Checked
     ensures { λ r. ⌜ r ≡ answered (headerOf (now (s .entry))) (headerChecks (now (s .entry))) ⌝ }
 {
     let read = Sheet::header(s);

@@ -6,10 +6,11 @@ use native.Mathlib.Omega.{arith}
 use borrow.Author.Needs.{needs}
 use Rattle.definitions.specs.Outcome.{accepted}
 use Rattle.definitions.specs.Sheet.{stepLimit, stepRecords}
+use Rattle.definitions.specs.Admission.{headerChecks}
 use Rattle.steps.proofs.Tables.{size-table-none}
 use Rattle.sheet.specs.declared.Checked.{Checked}
 use Rattle.sheet.specs.Header.{headerOf, HasHeader}
-use Rattle.sheet.specs.Checks.{answered, checkedOf, headerChecks, nameChecks, propositionChecks, stepChecks}
+use Rattle.sheet.specs.Checks.{answered, checkedOf, nameChecks, propositionChecks, stepChecks}
 use Rattle.sheet.specs.Sizes.{unlessRefused, sizedSteps, Sized}
 use Rattle.sheet.proofs.Stages.{passed-on, stage-refuses, stage-refused, stage-accepted, stage-last}
 use Rattle.sheet.proofs.Order.{fromNames, fromPropositions, fromSteps, fromTrees, from-header, header-given}

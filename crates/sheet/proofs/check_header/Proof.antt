@@ -5,10 +5,11 @@ use borrow.Author.Needs.{needs}
 use borrow.Author.Tests.{eq-eqb, ne-eqb}
 use Rattle.definitions.specs.Outcome.{accepted}
 use Rattle.definitions.specs.Sheet.{headerOutOfRange, namePairsStart, propositionPairsStart, stepsStart, textStart, codeStart, sheetLength}
+use Rattle.definitions.specs.Admission.{headerChecks}
 use Rattle.sheet.specs.declared.header.Layout.{Layout}
 use Rattle.sheet.specs.declared.Checked.the-variants.{Accepted}
 use Rattle.sheet.specs.Header.{headerOf, layoutOf}
-use Rattle.sheet.specs.Checks.{headerChecks, shortCheck}
+use Rattle.sheet.specs.Checks.{shortCheck}
 use Rattle.sheet.proofs.Ranges.{in-range}
 use Rattle.sheet.proofs.Stages.{refused-if, not-refused-if, refused-last, accepted-last, refused-now, passed-on, stage-accepted, stage-refused}
 use Rattle.sheet.proofs.check_header.Statement.{statement}
@@ -49,7 +50,7 @@ enum-told : tie.Need-enum-told
 enum-told c = search needs
 
 returns : tie.Need-returns
-unfolding headerChecks
+unfolding headerChecks shortCheck
 returns c = stage-refused _ _ _ (c .before .before .header .ensures) (c .enum-told .given .1)
 
 out-of-range-requires : tie.Need-out-of-range-requires
@@ -59,7 +60,7 @@ refuse-requires : tie.Need-refuse-requires
 refuse-requires c κs = search needs
 
 returns-2 : tie.Need-returns-2
-unfolding headerChecks
+unfolding headerChecks shortCheck
 returns-2 c =
     let tested = c .before .before in
     passed-on _ _ (long-enough (read-before tested))
@@ -72,7 +73,7 @@ refuse-requires-2 : tie.Need-refuse-requires-2
 refuse-requires-2 c κs = search needs
 
 returns-3 : tie.Need-returns-3
-unfolding headerChecks
+unfolding headerChecks shortCheck
 returns-3 c =
     let laid = c .before .before .before in
     let tested = tested-before laid in
@@ -83,7 +84,7 @@ returns-3 c =
     (c .refuse2 .ensures)))
 
 returns-4 : tie.Need-returns-4
-unfolding headerChecks
+unfolding headerChecks shortCheck
 returns-4 c =
     let laid = c .before .before in
     let tested = tested-before laid in
