@@ -4,7 +4,7 @@ use mathlib.Core.List.{[], _∷_, map}
 use lib.ListN.{length}
 use Rattle.definitions.specs.Tree.{rules}
 use Rattle.definitions.specs.Encode.{ruleNumber}
-use Rattle.definitions.specs.Drawings.{smallest, drawings, temptations, strictDrawings, handouts, columns, exerciseDrawings, asked, expected}
+use Rattle.definitions.specs.Drawings.{smallest, drawings, temptations, strictDrawings, handouts, columns, exerciseDrawings, indexes, asked, expected}
 use Rattle.definitions.proofs.Everything.{everything}
 
 pub drawings-hold : map asked drawings ≡ map expected drawings
@@ -30,6 +30,10 @@ columns-hold = refl
 pub exercises-hold : map asked exerciseDrawings ≡ map expected exerciseDrawings
 unfolding everything
 exercises-hold = refl
+
+pub indexes-hold : map asked indexes ≡ map expected indexes
+unfolding everything
+indexes-hold = refl
 
 pub smallest-size : length smallest ≡ 37
 unfolding everything

@@ -2,8 +2,9 @@
 use Prim.Native.Nat.{ℕ}
 use Prim.Native.String.{String}
 use mathlib.Core.Bool.{Bool, true, false}
+use mathlib.Core.Option.{Option, none, some}
 use mathlib.Core.List.{List, [], _∷_, _++_, map}
-use lib.ListN.{length, take}
+use lib.ListN.{length, take, set, replicate}
 use Rattle.definitions.specs.declared.Style.{Style}
 use Rattle.definitions.specs.declared.Style.the-variants.{Plain, Strict}
 use Rattle.definitions.specs.Utf8.{utf8}
@@ -14,10 +15,11 @@ use Rattle.definitions.specs.Code.{u16, encode}
 use Rattle.definitions.specs.Encode.{noIdentifier, encodeRule, encodePropIsTrue, encodeSheet}
 use Rattle.definitions.specs.Answers.{textAnswer, atomsAnswer, datatypesAnswer, labelCount, comparison, boardRoom, boardOutput}
 use Rattle.definitions.specs.Exercises.{exerciseAnswer}
+use Rattle.definitions.specs.NameIndex.{slotCount, free, indexOf, indexAnswer, findAnswer}
 
 -- a question about a sheet: a text, how many bytes it has, a list, the label count, a comparison of two steps, what the board
--- prints, or a text or a datatype list of a version; texts and lists are lent the board's room. Or about a caller's names: the
--- exercise of at most so many connectives at an ordinal, in a room
+-- prints, a text or a datatype list of a version, the index of its names, or what that answers of a name; texts and lists are
+-- lent the board's room. Or about a caller's names: the exercise of at most so many connectives at an ordinal, in a room
 pub data Question : Type 0 where
   text size : Style → Question
   atoms datatypes labels board : Question
@@ -25,11 +27,14 @@ pub data Question : Type 0 where
   handout : ℕ → Style → Question
   handoutDatatypes : ℕ → Question
   exercise : ℕ → ℕ → ℕ → Question
+  nameIndex : Question
+  findName : String → Question
 
 pub data Answer : Type 0 where
   bytes numbers : List ℕ → Answer
   count : ℕ → Answer
   yesNo : Bool → Answer
+  found : Option ℕ → Answer
 
 unfoldable pub ask : Question → List ℕ → Outcome Answer
 ask (text style) s = mapOutcome bytes (textAnswer s 1 style boardRoom)
@@ -42,6 +47,8 @@ ask (compare i j) s = mapOutcome yesNo (comparison s i j)
 ask (handout version style) s = mapOutcome bytes (textAnswer s version style boardRoom)
 ask (handoutDatatypes version) s = mapOutcome numbers (datatypesAnswer s version boardRoom)
 ask (exercise n ordinal room) s = mapOutcome bytes (exerciseAnswer s n ordinal room)
+ask nameIndex s = mapOutcome numbers (indexAnswer s)
+ask (findName x) s = mapOutcome found (findAnswer s (indexOf s) (utf8 x))
 
 pub record Drawing : Type 0 where
   pub sheet : List ℕ
@@ -353,6 +360,48 @@ exerciseDrawings =
     ∷ drawing (utf8 "A\n") (exercise 0 0 1) (refuse 29 0)
     ∷ drawing (utf8 "2A") (exercise 0 0 1) (refuse 29 0)
     ∷ drawing [] (exercise 4 9999 0) (refuse 29 0)
+    ∷ []
+
+-- Ticket 14, find a name at once.
+
+-- TrueIntro below names that it does not use
+unfoldable pub naming : List String → List ℕ
+naming names = sheet names (True ∷ []) 0 (step TrueIntro 0 0 ∷ [])
+
+-- fib and fHa start at slot 1,023, aA at 0, Aa and BB at 64, A at 65, B at 66; the second Aa is number 6
+unfoldable pub sevenNames : List ℕ
+sevenNames = naming ("fib" ∷ "fHa" ∷ "aA" ∷ "Aa" ∷ "BB" ∷ "A" ∷ "Aa" ∷ [])
+
+-- so fHa goes round the end, aA, BB and A step over taken slots, and the second Aa does not enter
+unfoldable pub sixSlots : List ℕ
+sixSlots =
+    let fHa = set (set (replicate slotCount free) 1023 0) 0 1 in
+    set (set (set (set fHa 1 2) 64 3) 65 4) 66 5
+
+unfoldable pub finds : ℕ → Outcome Answer
+finds i = accepted (found (some i))
+
+unfoldable pub findsNone : Outcome Answer
+findsNone = accepted (found none)
+
+-- A name that refusal 5 turns away has no index, and is found all the same where slots have it: searching tries 1 to 3.
+unfoldable pub indexes : List Drawing
+indexes =
+    drawing sevenNames nameIndex (lists sixSlots)
+    ∷ drawing sevenNames (findName "fHa") (finds 1)
+    ∷ drawing sevenNames (findName "aA") (finds 2)
+    ∷ drawing sevenNames (findName "Aa") (finds 3)
+    ∷ drawing sevenNames (findName "BB") (finds 4)
+    ∷ drawing sevenNames (findName "A") (finds 5)
+    ∷ drawing sevenNames (findName "B") findsNone
+    ∷ drawing sevenNames (findName "ioe") findsNone
+    ∷ drawing sevenNames (findName "") findsNone
+    ∷ drawing smallest nameIndex (lists (replicate slotCount free))
+    ∷ drawing smallest (findName "A") findsNone
+    ∷ drawing (naming ("2A" ∷ [])) nameIndex (refuse 5 0)
+    ∷ drawing (naming ("2A" ∷ [])) (findName "2A") (finds 0)
+    ∷ drawing (smallest ++ (0 ∷ [])) nameIndex (refuse 3 0)
+    ∷ drawing (smallest ++ (0 ∷ [])) (findName "A") (refuse 3 0)
     ∷ []
 
 unfoldable pub asked : Drawing → Outcome Answer

@@ -5,11 +5,11 @@ use mathlib.Core.Option.{Option, none, some}
 use mathlib.Core.List.{List, [], _∷_}
 use lib.ListN.{getD, set, replicate}
 use lib.Dec.{eqb}
-use Rattle.definitions.specs.Outcome.{lowest}
+use Rattle.definitions.specs.Outcome.{Outcome, mapOutcome, lowest}
 use Rattle.definitions.specs.Name.{Name, eqName}
 use Rattle.definitions.specs.Sheet as sheet
 use Rattle.definitions.specs.Sheet.{nameOf}
-use Rattle.definitions.specs.Admission.{isNone}
+use Rattle.definitions.specs.Admission.{isNone, headerChecks, admitted}
 
 -- the slots of an index
 unfoldable pub slotCount : ℕ
@@ -68,6 +68,15 @@ module _ (name : ℕ → Name) where
   unfoldable pub find : List ℕ → Name → Option ℕ
   find slots x = findFrom slots x slotCount (startSlot x)
 
--- the index of a sheet's names
-unfoldable pub indexOf : List ℕ → List ℕ
-indexOf s = index (nameOf s) (sheet.names s)
+-- Of a sheet's bytes:
+module _ (s : List ℕ) where
+  unfoldable pub indexOf : List ℕ
+  indexOf = index (nameOf s) (sheet.names s)
+
+  -- the index of the sheet's names, or the first of refusals 1 to 11
+  unfoldable pub indexAnswer : Outcome (List ℕ)
+  indexAnswer = mapOutcome (λ _. indexOf) (admitted s)
+
+  -- what slots beside the sheet's names answer, or the first of refusals 1 to 3: where the names lie is all that is asked
+  unfoldable pub findAnswer : List ℕ → Name → Outcome (Option ℕ)
+  findAnswer slots x = mapOutcome (λ _. find (nameOf s) slots x) (headerChecks s)
