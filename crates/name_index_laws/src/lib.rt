@@ -1,0 +1,1 @@
+// Ticket 14's laws of the definitions on the index of names; no function.
