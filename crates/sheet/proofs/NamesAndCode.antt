@@ -1,10 +1,10 @@
 -- The vocabulary of a sheet names the definitions' own parts. The laws ask for the header and the length that it gives, so that they
 -- serve the checks as well: an accepted sheet has both (`its-header`).
 use Prim.Native.Nat.{ℕ, _<_}
-use mathlib.Core.Path.{_≡_}
+use mathlib.Core.Path.{_≡_, ap₂}
 use mathlib.Core.List.{List}
 use native.Mathlib.Omega.{arith}
-use Rattle.definitions.specs.Sheet.{names, namePairsStart, propositionPairsStart, stepsStart, textStart, codeStart, sheetLength, namePairs, textBytes, codeBytes, nameOf}
+use Rattle.definitions.specs.Sheet.{marked, names, namePairsStart, propositionPairsStart, stepsStart, textStart, codeStart, sheetLength, namePairs, textBytes, codeBytes, nameOf}
 use Rattle.prefix_code.specs.PropAt.{propAt, Present}
 use Rattle.vocabulary.specs.Vocabulary.{pairsIn, textIn, codeIn, nameIn, propIn, Within, Names, SomeProposition}
 use Rattle.sheet.specs.declared.header.Sheet.{Sheet}
@@ -31,6 +31,10 @@ module _ {s : List ℕ} {h : Sheet} (has : HasHeader s h) where
   pub name-is : (i : ℕ) → nameIn s (vocabularyOf h) i ≡ nameOf s i
   unfolding nameIn nameOf
   name-is i = rw (pairs-are, text-is)
+
+  pub names-are : nameIn s (vocabularyOf h) ≡ nameOf s
+  unfolding nameIn nameOf
+  names-are = ap₂ marked pairs-are text-is
 
   pub prop-is : (at : ℕ) → propIn s (vocabularyOf h) at ≡ propAt (names s) (codeBytes s) at
   unfolding propIn
