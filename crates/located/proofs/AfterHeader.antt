@@ -70,6 +70,15 @@ module _ (s : List ℕ) where
   after-header : {r : Refusal} → ((x : Refusal) → admitted s ≡ refused x → x ≡ r) → AfterHeader s r
   after-header only = record { header = λ names. checked-header (headerChecks s) refl only names }
 
+  -- the admission's own, and that of a header
+  pub admission-after-header : {r : Refusal} → admitted s ≡ refused r → AfterHeader s r
+  admission-after-header e = after-header (λ x a. same-refusal (sym a ∙ e))
+
+  pub header-after-header : {r : Refusal} → headerChecks s ≡ refused r → AfterHeader s r
+  unfolding headerChecks
+  header-after-header e =
+      record { header = λ names. absurd (let none = header-names-none _ _ _ e in let z : _≡_ {A = ℕ} 0 1 = cc in omega arith) }
+
   -- 21 names no step, whatever the bytes
   pub version-after-header : (version : ℕ) {r : Refusal} → versionOf version ≡ refused r → AfterHeader s r
   version-after-header version e =

@@ -1,4 +1,5 @@
 pub mod Located
+pub mod Names
 pub mod Texts
 pub mod Handouts
 pub mod Lists

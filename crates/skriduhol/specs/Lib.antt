@@ -3,3 +3,4 @@ pub mod Accurate
 pub mod Lists
 pub mod Asked
 pub mod Board
+pub mod Searched

@@ -1,6 +1,7 @@
 // The public operations, for every sequence of bytes and every room: each equals a definition, and a refusal leaves the lent memory
 // as it was, save that the board's output is then the refusal's line.
 use alpha_eq::Answer;
+use definitions::Found;
 use definitions::Located;
 use definitions::Refusal;
 use definitions::Style;
@@ -8,9 +9,12 @@ use definitions::TermList;
 use definitions::Version;
 use located::locate;
 use located::put_refusal;
+use name_index::SLOT_COUNT;
 use output::Written;
 use proof_term_lists::put_list;
+use sheet::Checked;
 use sheet::Sheet;
+use sheet::check_header;
 use sheet::vocabulary;
 use sheet_term::Counted;
 use sheet_term::SheetTerm;
@@ -25,6 +29,7 @@ ghost use Rattle.definitions.specs.Outcome.{Outcome};
 ghost use Rattle.definitions.specs.declared.Style.the-variants.{Plain, Strict};
 ghost use Rattle.definitions.specs.Answers.{inRoom, sheetText, versionOf, textAnswer, atomsAnswer, datatypesAnswer, labelCount, comparison, boardOutput};
 ghost use Rattle.definitions.specs.Exercises.{exerciseAnswer};
+ghost use Rattle.definitions.specs.NameIndex.{indexOf, indexAnswer, findAnswer};
 ghost use Rattle.output.specs.Written.{writtenOf, Fills};
 ghost use Rattle.sheet.proofs.Admitted.{AcceptedSheet};
 ghost use Rattle.sheet_term.specs.Held.{HeldTerm};
@@ -34,6 +39,7 @@ ghost use Rattle.skriduhol.specs.Lists.{listAnswer};
 ghost use Rattle.skriduhol.specs.Asked.{askedOf};
 ghost use Rattle.skriduhol.specs.Located.{filledOf, FillsOf, countOf, verdictOf};
 ghost use Rattle.skriduhol.specs.Board.{Prints};
+ghost use Rattle.skriduhol.specs.Searched.{searchedOf, plainAnswer};
 
 // The length of an answer in lent memory, or a refusal with its column.
 pub enum Filled {
@@ -51,6 +57,13 @@ pub enum Count {
 pub enum Verdict {
     Yes,
     No,
+    Refused(Located),
+}
+
+// What a search for a name answers: the lowest number of its bytes, or that there is none; or a refusal with its column.
+pub enum Searched {
+    At(usize),
+    Nowhere,
     Refused(Located),
 }
 
@@ -232,5 +245,36 @@ pub fn exercise(names: &[u8], n: usize, ordinal: usize, out: &mut [u8]) -> Fille
     match written {
         Written::Length(length) => Filled::Length(length),
         Written::Refused(refusal) => Filled::Refused(Located { refusal, column: 0 }),
+    }
+}
+
+// The index of the sheet's names.
+pub fn name_index(s: &[u8], slots: &mut [u16; SLOT_COUNT]) -> Filled
+    ensures { λ r. ⌜ FillsOf (now (s .entry)) (indexAnswer (now (s .entry))) (now (slots .entry)) (now (slots .exit)) r ⌝ }
+{
+    let checked = sheet::answer(s);
+    match checked {
+        Checked::Refused(refusal) => Filled::Refused(locate(s, refusal)),
+        Checked::Accepted(h) => {
+            name_index::build(slots, s, vocabulary(h));
+            Filled::Length(SLOT_COUNT)
+        }
+    }
+}
+
+// The number of a name by slots beside the sheet: by its own index, the lowest of equal bytes. Of the sheet no more is asked than
+// where its names lie.
+pub fn find_name(s: &[u8], slots: &[u16; SLOT_COUNT], name: &[u8]) -> Searched
+    ensures { λ r. ⌜ r ≡ searchedOf (now (s .entry)) (findAnswer (now (s .entry)) (now (slots .entry)) (now (name .entry))) ⌝ }
+    ensures { λ r. ⌜ (now (slots .entry) ≡ indexOf (now (s .entry))
+        → r ≡ searchedOf (now (s .entry)) (plainAnswer (now (s .entry)) (now (name .entry)))) ⌝ }
+{
+    let checked = check_header(s);
+    match checked {
+        Checked::Refused(refusal) => Searched::Refused(locate(s, refusal)),
+        Checked::Accepted(h) => match name_index::find(slots, s, vocabulary(h), name) {
+            Found::At(i) => Searched::At(i),
+            Found::Nowhere => Searched::Nowhere,
+        },
     }
 }
