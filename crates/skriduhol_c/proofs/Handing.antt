@@ -2,6 +2,7 @@
 use Prim.Native.Nat.{ℕ}
 use mathlib.Core.Path.{_≡_, refl}
 use mathlib.Core.Bool.{Bool, true, false}
+use mathlib.Core.Option.{Option, none, some}
 use mathlib.Core.List.{List}
 use lib.ListN.{length}
 use Rattle.definitions.specs.declared.Refusal.{Refusal}
@@ -12,6 +13,8 @@ use Rattle.skriduhol.specs.declared.Filled.{Filled}
 use Rattle.skriduhol.specs.declared.Filled.the-variants as filled
 use Rattle.skriduhol.specs.declared.Count.the-variants as count
 use Rattle.skriduhol.specs.declared.Verdict.the-variants as verdict
+use Rattle.skriduhol.specs.declared.Searched.the-variants as searched
+use Rattle.skriduhol.specs.Searched.{searchedOf}
 use Rattle.skriduhol.specs.Located.{filledOf, FillsOf, countOf, verdictOf}
 use Rattle.skriduhol_c.specs.Handed.{numberOf, valueOf, columnFor, Hands, HandsFilled, HandsRefusal}
 
@@ -73,6 +76,24 @@ module _ (s : List ℕ) where
   verdict-refused (accepted true) e = record { refusal = record { number = 0; place = 0 }; is = cc; at = cc }
   verdict-refused (accepted false) e = record { refusal = record { number = 0; place = 0 }; is = cc; at = cc }
   verdict-refused (refused r) e = record { refusal = r; is = refl; at = cc }
+
+  pub number-found : {i : ℕ} (o : Outcome (Option ℕ)) → searched.At i ≡ searchedOf s o → o ≡ accepted (some i)
+  unfolding searchedOf
+  number-found (accepted (some i)) e = cc
+  number-found (accepted none) e = cc
+  number-found (refused r) e = cc
+
+  pub none-found : (o : Outcome (Option ℕ)) → searched.Nowhere ≡ searchedOf s o → o ≡ accepted none
+  unfolding searchedOf
+  none-found (accepted (some i)) e = cc
+  none-found (accepted none) e = refl
+  none-found (refused r) e = cc
+
+  pub search-refused : {l : Located} (o : Outcome (Option ℕ)) → searched.Refused l ≡ searchedOf s o → RefusedAs s o l
+  unfolding searchedOf
+  search-refused (accepted (some i)) e = record { refusal = record { number = 0; place = 0 }; is = cc; at = cc }
+  search-refused (accepted none) e = record { refusal = record { number = 0; place = 0 }; is = cc; at = cc }
+  search-refused (refused r) e = record { refusal = r; is = refl; at = cc }
 
   -- an answer that fills lent memory, handed over
   pub fills : {answer : List ℕ → ℕ → Outcome (List ℕ)} {before after : List ℕ} {r : Filled} {value column result : ℕ}

@@ -2,11 +2,13 @@
 use Prim.Native.Nat.{ℕ}
 use mathlib.Core.Path.{_≡_}
 use mathlib.Core.Bool.{Bool, true, false}
+use mathlib.Core.Option.{Option, none, some}
 use mathlib.Core.List.{List}
 use lib.ListN.{length}
 use Rattle.definitions.specs.declared.Located.{Located}
 use Rattle.definitions.specs.Outcome.{Outcome, accepted, refused}
 use Rattle.definitions.specs.Answers.{columnOf}
+use Rattle.definitions.specs.NameIndex.{free}
 use Rattle.output.specs.Written.{filled}
 
 -- 0 for what is accepted, else the refusal's number
@@ -28,6 +30,11 @@ columnFor s (refused r) = columnOf s r
 unfoldable pub yesOrNo : Bool → ℕ
 yesOrNo true = 1
 yesOrNo false = 0
+
+-- the number of a name, or that of a free slot for none
+unfoldable pub numberOrFree : Option ℕ → ℕ
+numberOrFree (some i) = i
+numberOrFree none = free
 
 -- the result, the value and the column of a sheet's outcome, whatever both were before
 pub record Hands {A : Type 0} (says : A → ℕ) (s : List ℕ) (outcome : Outcome A) (value column result : ℕ) : Type 0 where

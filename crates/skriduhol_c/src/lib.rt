@@ -3,9 +3,12 @@
 // that of the step that refusals 9 to 15 name, else 0.
 use definitions::Located;
 use definitions::Style;
+use name_index::FREE;
+use name_index::SLOT_COUNT;
 use skriduhol::BOARD_ROOM;
 use skriduhol::Count;
 use skriduhol::Filled;
+use skriduhol::Searched;
 use skriduhol::Verdict;
 ghost use mathlib.Core.Path.{_≡_};
 ghost use mathlib.Core.List.{List, []};
@@ -14,10 +17,12 @@ ghost use lib.ListN.{length};
 ghost use Rattle.definitions.specs.Outcome.{Outcome};
 ghost use Rattle.definitions.specs.Answers.{textAnswer, atomsAnswer, datatypesAnswer, labelCount, comparison, boardOutput};
 ghost use Rattle.definitions.specs.Exercises.{exerciseAnswer};
+ghost use Rattle.definitions.specs.NameIndex.{indexOf, indexAnswer, findAnswer};
 ghost use Rattle.definitions.specs.declared.Style.the-variants.{Plain, Strict};
 ghost use Rattle.skriduhol.specs.Located.{filledOf};
 ghost use Rattle.skriduhol.specs.Board.{Prints};
-ghost use Rattle.skriduhol_c.specs.Handed.{Hands, HandsFilled, HandsRefusal, yesOrNo};
+ghost use Rattle.skriduhol.specs.Searched.{plainAnswer};
+ghost use Rattle.skriduhol_c.specs.Handed.{Hands, HandsFilled, HandsRefusal, yesOrNo, numberOrFree};
 
 // A refusal's place is the value, and its column the column.
 fn hand_refusal(located: Located, value: &mut usize, column: &mut usize) -> u8
@@ -226,4 +231,51 @@ pub extern "C" fn skriduhol_exercise(
         (now (out .exit)) (now (value .exit)) (now (column .exit)) r ⌝ }
 {
     hand_filled(skriduhol::exercise(names, n, ordinal, out), value, column)
+}
+
+// The index of the sheet's names, in 1,024 slots.
+#[no_mangle]
+pub extern "C" fn skriduhol_name_index(
+    sheet: &[u8],
+    slots: &mut [u16; SLOT_COUNT],
+    value: &mut usize,
+    column: &mut usize,
+) -> u8
+    ensures { λ r. ⌜ HandsFilled (λ s _. indexAnswer s) (now (sheet .entry)) (now (slots .entry)) (now (slots .exit))
+        (now (value .exit)) (now (column .exit)) r ⌝ }
+{
+    hand_filled(skriduhol::name_index(sheet, slots), value, column)
+}
+
+// The number of a name by slots beside the sheet, or that of a free slot where there is none: by the sheet's own index, the lowest
+// of equal bytes.
+#[no_mangle]
+pub extern "C" fn skriduhol_find_name(
+    sheet: &[u8],
+    slots: &[u16; SLOT_COUNT],
+    name: &[u8],
+    value: &mut usize,
+    column: &mut usize,
+) -> u8
+    ensures { λ r. ⌜ Hands numberOrFree (now (sheet .entry))
+        (findAnswer (now (sheet .entry)) (now (slots .entry)) (now (name .entry))) (now (value .exit)) (now (column .exit)) r ⌝ }
+    ensures { λ r. ⌜ (now (slots .entry) ≡ indexOf (now (sheet .entry)) → Hands numberOrFree (now (sheet .entry))
+        (plainAnswer (now (sheet .entry)) (now (name .entry))) (now (value .exit)) (now (column .exit)) r) ⌝ }
+{
+    let searched = skriduhol::find_name(sheet, slots, name);
+    match searched {
+        Searched::At(i) => {
+            *value = i;
+            *column = 0;
+            return 0;
+        }
+        Searched::Nowhere => {
+            *value = FREE as usize;
+            *column = 0;
+            return 0;
+        }
+        Searched::Refused(located) => {
+            return hand_refusal(located, value, column);
+        }
+    }
 }
