@@ -3,6 +3,7 @@ pub mod call;
 pub mod difference;
 pub mod exercises;
 pub mod kinds;
+pub mod names;
 pub mod questions;
 pub mod shrink;
 pub mod tally;

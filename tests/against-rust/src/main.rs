@@ -1,5 +1,5 @@
 //! The command line: `run` beside this folder builds the library and starts it.
-use against_rust::{call::Library, exercises, kinds, tally::Table};
+use against_rust::{call::Library, exercises, kinds, names, tally::Table};
 use oracle::{exercise::Exercises, generate::Kind};
 use std::{process::exit, str::FromStr, thread, time::Instant};
 
@@ -84,7 +84,25 @@ extern "C" {
         value: *mut usize,
         column: *mut usize,
     ) -> u8;
+    fn skriduhol_name_index(
+        sheet: *const u8,
+        length: usize,
+        slots: *mut u16,
+        value: *mut usize,
+        column: *mut usize,
+    ) -> u8;
+    fn skriduhol_find_name(
+        sheet: *const u8,
+        length: usize,
+        slots: *const u16,
+        name: *const u8,
+        name_length: usize,
+        value: *mut usize,
+        column: *mut usize,
+    ) -> u8;
 }
+
+const NAMES: names::Library = names::Library { name_index: skriduhol_name_index, find_name: skriduhol_find_name };
 
 const LIBRARY: Library = Library {
     plain_text: skriduhol_plain_text,
@@ -166,6 +184,11 @@ fn main() {
     if only.is_none() {
         let asked = exercises::compare(&LIBRARY, &Exercises::default(), seed).unwrap_or_else(|difference| {
             println!("DIFFERENCE in an {difference}");
+            exit(1)
+        });
+        println!("{asked}");
+        let asked = names::compare(&NAMES, seed, count).unwrap_or_else(|difference| {
+            println!("DIFFERENCE in {difference}");
             exit(1)
         });
         println!("{asked}");

@@ -5,6 +5,7 @@ pub mod draw;
 pub mod exercise;
 pub mod formula;
 pub mod generate;
+pub mod index;
 pub mod limits;
 pub mod list;
 pub mod reference;

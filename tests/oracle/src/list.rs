@@ -4,6 +4,7 @@ use crate::{
     answer::{examine, Answer, Examined, Finding, Question, VERSIONS},
     exercise::{bad_names, count_names, good_names, Exercise, Exercises, CONNECTIVES, TOO_MANY},
     generate::{Kind, Sheets},
+    index::{find_name, name_index, searches, sheets, FREE, SLOTS},
     rng::Rng,
     sheet::{decode, Refusal, BOARD_ROOM, CODE, HEADER_BYTES, NAMES, PAIR_BYTES, PROPS, STEPS, STEP_BYTES, TEXT},
     text::{plain, text, Version},
@@ -24,6 +25,11 @@ const WORST: usize = 3;
 
 /// The kind of a question on an exercise.
 pub const EXERCISE: u8 = 10;
+/// The kinds of questions on the index of a sheet's names, and on a name in it.
+pub const NAME_INDEX: u8 = 11;
+pub const FIND_NAME: u8 = 12;
+/// So many of a sheet's names are asked for.
+const FOUND: usize = 12;
 
 #[derive(Default)]
 pub struct List {
@@ -31,6 +37,8 @@ pub struct List {
     pub sheets: usize,
     /// Entries whose bytes are a caller's names.
     pub names: usize,
+    /// Entries that are asked for their names.
+    pub indexed: usize,
     pub questions: usize,
 }
 
@@ -54,7 +62,10 @@ pub fn list(seed: u64) -> Result<List, Finding> {
     for names in good_names().into_iter().chain(bad_names()).filter(|names| names.len() <= SMALL_BYTES) {
         list.add_exercises(&exercises, names, &mut rng);
     }
-    list.bytes.splice(0..0, ((list.sheets + list.names) as u32).to_le_bytes());
+    for (_, sheet) in sheets() {
+        list.add_names(&sheet, &mut rng);
+    }
+    list.bytes.splice(0..0, ((list.sheets + list.names + list.indexed) as u32).to_le_bytes());
     Ok(list)
 }
 
@@ -148,6 +159,28 @@ impl List {
             self.bytes.extend([exercise.n, exercise.ordinal].map(|number| (number as u64).to_le_bytes()).concat());
             self.bytes.extend((room as u32).to_le_bytes());
             self.add_answer(&exercises.answer(&exercise, Some(room)).map(Answer::Code));
+        }
+    }
+
+    /// Adds a sheet with questions on its index and on names in it. A refused sheet leaves the slots 0, so these are asked then.
+    fn add_names(&mut self, sheet: &[u8], rng: &mut Rng) {
+        let index = name_index(sheet);
+        let slots = index.unwrap_or([0; SLOTS]);
+        let mut names: Vec<Vec<u8>> = searches(sheet, FOUND, rng).into_iter().map(|(_, name)| name).collect();
+        names.dedup();
+        self.indexed += 1;
+        self.questions += 1 + names.len();
+        self.bytes.extend((sheet.len() as u32).to_le_bytes());
+        self.bytes.extend(sheet);
+        self.bytes.push(1 + names.len() as u8);
+        self.bytes.push(NAME_INDEX);
+        self.add_answer(&index.map(|slots| Answer::List(slots.to_vec())));
+        for name in names {
+            self.bytes.push(FIND_NAME);
+            self.bytes.push(name.len() as u8);
+            self.bytes.extend(&name);
+            let found = find_name(sheet, &slots, &name);
+            self.add_answer(&found.map(|found| Answer::Count(found.unwrap_or(FREE).into())));
         }
     }
 

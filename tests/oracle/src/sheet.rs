@@ -254,7 +254,7 @@ pub struct Sheet {
 }
 
 /// The parts of the sheet, or refusal 1, 2 or 3.
-fn laid_out(bytes: &[u8]) -> Result<Layout, Refusal> {
+pub fn laid_out(bytes: &[u8]) -> Result<Layout, Refusal> {
     if bytes.len() < HEADER_BYTES {
         return refuse(1, 0);
     }

@@ -2,7 +2,8 @@
 use oracle::{
     answer::{examine, Answer, Operation, Question},
     exercise::{Exercise, Exercises},
-    list::{list, EXERCISE},
+    index::{find_name, name_index, FREE, SLOTS},
+    list::{list, EXERCISE, FIND_NAME, NAME_INDEX},
     sheet::Refusal,
     text::Version,
 };
@@ -66,7 +67,7 @@ fn the_list_reads_back() {
     let mut reader = Reader(&list.bytes);
     let (mut asked, mut refused, mut exact, mut short, mut more) = ([0; Operation::ALL.len()], [0; 31], 0, 0, 0);
     let (mut strict, mut second, mut third, mut strict_third) = (0, 0, 0, 0);
-    assert_eq!(reader.number(4), list.sheets + list.names);
+    assert_eq!(reader.number(4), list.sheets + list.names + list.indexed);
     for _ in 0..list.sheets {
         let length = reader.number(4);
         let examined = examine(&reader.bytes(length)).unwrap();
@@ -106,6 +107,27 @@ fn the_list_reads_back() {
         }
     }
     assert!(codes > 100, "{codes}");
+    let (mut found, mut missed) = (0, 0);
+    for _ in 0..list.indexed {
+        let length = reader.number(4);
+        let sheet = reader.bytes(length);
+        let questions = reader.number(1);
+        assert_eq!(reader.number(1), NAME_INDEX as usize);
+        let index = reader.value().map(|slots| (0..slots).map(|_| reader.number(2) as u16).collect::<Vec<u16>>());
+        assert_eq!(index, name_index(&sheet).map(|slots| slots.to_vec()));
+        let slots = index.map_or([0; SLOTS], |index| index.try_into().unwrap());
+        for _ in 1..questions {
+            assert_eq!(reader.number(1), FIND_NAME as usize);
+            let length = reader.number(1);
+            let name = reader.bytes(length);
+            let answer = reader.value();
+            let expected = find_name(&sheet, &slots, &name);
+            assert_eq!(answer, expected.map(|number| number.unwrap_or(FREE) as usize));
+            found += expected.is_ok_and(|number| number.is_some()) as usize;
+            missed += expected.is_ok_and(|number| number.is_none()) as usize;
+        }
+    }
+    assert!(found > 100 && missed > 100, "{found} {missed}");
     assert!(reader.0.is_empty());
     assert!(asked.iter().all(|count| *count > 0), "{asked:?}");
     // every refusal but 18; there is none with the number 20, nor from 22 to 28
