@@ -1,7 +1,7 @@
 -- What the byte in front says of the proposition that stands there: its form, its names, and where its parts stand.
 use Prim.Native.Nat.{ℕ, _+_, _≤_, _<_}
 use mathlib.Core.Path.{_≡_, refl, subst}
-use mathlib.Core.Logic.{_↔_, Iff·rfl}
+use mathlib.Core.Logic.{_↔_, Iff·rfl, by-cases}
 use mathlib.Core.List.{List, [], _∷_, _++_, append-assoc}
 use native.Mathlib.Omega.{arith}
 use native.Mathlib.Decide.{decLt}
@@ -99,13 +99,10 @@ module _ (names : ℕ) (l : List ℕ) (at : ℕ) (rest : List ℕ) where
         (inside, omega (arith, extent l at (encode p) rest (omega arith) (s .1)))
 
     pub known-at : getD l at 0 < 8
-    known-at = go (decLt (getD l at 0) 8)
-      where
-        go : Dec (getD l at 0 < 8) → getD l at 0 < 8
-        go (yes h) = h
-        go (no h) =
-            let past : 8 ≤ getD l at 0 = omega arith in
-            absurd (subst (λ (Form : Prop ℕ → Type 0). Form p) (List·getD-eq-default forms (λ q. ⊥) past) (form-at p s))
+    known-at = by-cases (decLt (getD l at 0) 8)
+        (λ h. h)
+        (λ h. let none = List·getD-eq-default forms (λ q. ⊥) {n = getD l at 0} (omega arith) in
+        absurd (subst (λ (Form : Prop ℕ → Type 0). Form p) none (form-at p s)))
 
     pub true-at : getD l at 0 ≡ 0 → p ≡ True
     true-at h = rw h at (form-at p s)

@@ -1,6 +1,7 @@
 -- What the bytes at a position say of the head whose code stands there, and the other way round.
 use Prim.Native.Nat.{ℕ, zero, suc, _+_, _≤_, _<_}
 use mathlib.Core.Path.{_≡_, refl, sym, ap, _∙_}
+use mathlib.Core.Logic.{by-cases}
 use mathlib.Core.List.{List, [], _∷_, _++_}
 use native.Mathlib.Omega.{arith}
 use native.Mathlib.Decide.{decLt}
@@ -12,6 +13,7 @@ use Rattle.definitions.proofs.Readings.{Bytes}
 use Rattle.prefix_code.specs.Scan.{Stands, Ends, Several, parametersCoding}
 use Rattle.prefix_code.specs.Head.{Head, TrueHead, FalseHead, BinaryHead, AtomHead, QuantifiedHead, encodeHead, CodableHead, headCoding, partsAfter}
 use Rattle.prefix_code.proofs.Positions.{extent, byte-stands, byte-at, number-stands, number-at}
+use Rattle.prefix_code.proofs.Runs.{no-ends}
 
 -- how many parts follow a head
 abbrev pub partCount : Head → ℕ
@@ -36,20 +38,13 @@ quantifier-byte exists = (omega arith, omega arith, refl)
 -- the connective and the quantifier of a byte
 pub connective-of : (b : ℕ) → 2 ≤ b → b < 5 → (c : Connective) × (b ≡ connectiveByte c)
 unfolding connectiveByte
-connective-of b low high = go (decLt b 3) (decLt b 4)
-  where
-    go : Dec (b < 3) → Dec (b < 4) → (c : Connective) × (b ≡ connectiveByte c)
-    go (yes h) k = (and, omega arith)
-    go (no h) (yes k) = (or, omega arith)
-    go (no h) (no k) = (impl, omega arith)
+connective-of b low high = by-cases (decLt b 3)
+    (λ h. (and, omega arith))
+    (λ h. by-cases (decLt b 4) (λ k. (or, omega arith)) (λ k. (impl, omega arith)))
 
 pub quantifier-of : (b : ℕ) → 5 < b → b < 8 → (q : Quantifier) × (b ≡ quantifierByte q)
 unfolding quantifierByte
-quantifier-of b low high = go (decLt b 7)
-  where
-    go : Dec (b < 7) → (q : Quantifier) × (b ≡ quantifierByte q)
-    go (yes k) = (forAll, omega arith)
-    go (no k) = (exists, omega arith)
+quantifier-of b low high = by-cases (decLt b 7) (λ h. (forAll, omega arith)) (λ h. (exists, omega arith))
 
 module _ (names : ℕ) where
   abbrev pub HeadAt : List ℕ → ℕ → Head → List ℕ → Type 0
@@ -163,6 +158,11 @@ module _ (names : ℕ) where
         atom = λ m. absurd (omega arith);
         quantified = λ _. (q, x, t, b);
       }
+
+  -- past the end of the list, where the bytes are those of no head
+  pub headless : (l : List ℕ) (at r : ℕ) → length l < r → ((h : Head) (rest : List ℕ) → HeadBytes l at h rest → ⊥)
+      → Ends (headCoding names) l at r
+  headless l at r k none = no-ends (headCoding names) l at r k (λ h rest s. none h rest (head-bytes l at h rest s))
 
   -- the head of a byte below 5
   bare-head : (b : ℕ) → b < 5 → (h : Head) × CodableHead names h × (encodeHead h ≡ b ∷ [])

@@ -1,5 +1,5 @@
 -- What the bytes at a position say of the parameters whose code stands there, and the other way round.
-use Prim.Native.Nat.{ℕ, zero, suc, _+_, _≤_, _<_}
+use Prim.Native.Nat.{ℕ, zero, suc, _+_, _-_, _≤_, _<_}
 use mathlib.Core.Path.{_≡_, refl, sym, ap, _∙_}
 use mathlib.Core.Logic.{_↔_}
 use mathlib.Core.List.{List, [], _∷_, _++_, append-assoc}
@@ -9,9 +9,9 @@ use Rattle.definitions.specs.Sheet.{numberAt}
 use Rattle.definitions.specs.Prop.{PropParameter, Uninstantiated, Instantiated, parameterName}
 use Rattle.definitions.specs.Code.{u16, encodeParameter, encodeParameters, CodableParameter, CodableParameters}
 use Rattle.definitions.proofs.Readings.{Bytes}
-use Rattle.prefix_code.specs.Scan.{Stands, Several, parameterCoding, parametersCoding}
-use Rattle.prefix_code.proofs.Positions.{byte-stands, byte-at, number-stands, number-at}
-use Rattle.prefix_code.proofs.Runs.{Run}
+use Rattle.prefix_code.specs.Scan.{Stands, Ends, Several, parameterCoding, parametersCoding}
+use Rattle.prefix_code.proofs.Positions.{after, byte-stands, byte-at, number-stands, number-at}
+use Rattle.prefix_code.proofs.Runs.{Run, no-ends}
 
 module _ (names : ℕ) where
   abbrev pub ParameterAt : List ℕ → ℕ → PropParameter ℕ → List ℕ → Type 0
@@ -53,6 +53,12 @@ module _ (names : ℕ) where
         instantiated = λ _. (cc, omega (arith, m .inside), m .next);
       }
 
+  -- past the end of the list, where the bytes are those of no parameter
+  pub no-parameter : (l : List ℕ) (at r : ℕ) → length l < r
+      → ((p : PropParameter ℕ) (rest : List ℕ) → ParameterBytes l at p rest → ⊥) → Ends (parameterCoding names) l at r
+  no-parameter l at r k none =
+      no-ends (parameterCoding names) l at r k (λ p rest s. none p rest (parameter-bytes l at p rest s))
+
   module _ (l : List ℕ) (at : ℕ) (bytes : Bytes l) (below : numberAt l (at + 1) < names) where
     -- the parameter that the bytes at a position are
     pub uninstantiated-stands : at + 3 ≤ length l → getD l at 0 ≡ 0 → ParameterAt l at (Uninstantiated (numberAt l (at + 1))) (drop (at + 3) l)
@@ -70,6 +76,30 @@ module _ (names : ℕ) where
         let name = number-stands l (at + 1) (at + 3) (omega arith) bytes (omega arith) in
         let id = number-stands l (at + 3) (at + 5) (omega arith) bytes (omega arith) in
         ((below, omega (arith, bytes (at + 3), bytes (at + 3 + 1))), cc)
+
+  -- the first of some parameters that stand at a position, and the others
+  pub record FirstParameter (l : List ℕ) (at needed : ℕ) (ps : List (PropParameter ℕ)) (rest : List ℕ) : Type 0 where
+    pub parameter : PropParameter ℕ
+    pub others : List (PropParameter ℕ)
+    pub is : ps ≡ parameter ∷ others
+    pub first : ParameterAt l at parameter (encodeParameters others ++ rest)
+    pub stands : Stands (parametersCoding names (needed - 1)) l (at + length (encodeParameter parameter)) others rest
+
+  module _ (l : List ℕ) (at needed : ℕ) where
+    pub first-parameter : (ps : List (PropParameter ℕ)) (rest : List ℕ) → 0 < needed
+        → Stands (parametersCoding names needed) l at ps rest → FirstParameter l at needed ps rest
+    unfolding Stands Several CodableParameters encodeParameters
+    first-parameter [] rest more ((g, c), e) = absurd (omega arith)
+    first-parameter (p ∷ ps) rest more ((g, c), e) =
+        let next = e ∙ append-assoc (encodeParameter p) (encodeParameters ps) rest in
+        let later = after l at (encodeParameter p) (encodeParameters ps ++ rest) next in
+        record { parameter = p; others = ps; is = refl; first = (g .0, next); stands = ((g .1, omega arith), later) }
+
+    pub none-stand : (ps : List (PropParameter ℕ)) (rest : List ℕ) → needed ≤ 0
+        → Stands (parametersCoding names needed) l at ps rest → ps ≡ []
+    unfolding Stands Several
+    none-stand [] rest none s = refl
+    none-stand (p ∷ ps) rest none ((g, c), e) = absurd (omega arith)
 
   -- a list of parameters is a run of them
   parameters-run : (ps : List (PropParameter ℕ)) (rest : List ℕ) → CodableParameters names ps

@@ -1,7 +1,7 @@
 -- What a list that begins with known bytes from a position on has at that position, and the other way round.
-use Prim.Native.Nat.{ℕ, _+_, _*_, _/_, _%_, _≤_, _<_}
+use Prim.Native.Nat.{ℕ, zero, suc, max, _+_, _*_, _/_, _%_, _≤_, _<_}
 use mathlib.Core.Path.{_≡_, sym, ap, _∙_}
-use mathlib.Core.List.{List, _∷_, _++_}
+use mathlib.Core.List.{List, [], _∷_, _++_}
 use native.Mathlib.Omega.{arith}
 use native.Mathlib.Numerals.{add-one}
 use lib.ListN.{length, drop, getD, length-append, length-drop}
@@ -54,3 +54,13 @@ number-at l i j n rest e d =
     let first = byte-at l i (i + 1) (n % 256) (n / 256 ∷ rest) (omega arith) d in
     let second = byte-at l (i + 1) j (n / 256) rest (omega arith) (first .next) in
     record { inside = omega (arith, second .inside); value = omega (arith, first .value, second .value); next = second .next }
+
+-- no entry of a table is above its largest
+abbrev pub largest : List ℕ → ℕ
+largest [] = 0
+largest (n ∷ ns) = max n (largest ns)
+
+pub entry-below : (ns : List ℕ) (i : ℕ) → getD ns i 0 ≤ largest ns
+entry-below [] i = omega arith
+entry-below (n ∷ ns) zero = omega arith
+entry-below (n ∷ ns) (suc i) = omega (arith, entry-below ns i)

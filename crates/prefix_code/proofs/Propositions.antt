@@ -108,7 +108,7 @@ module _ (names : ℕ) (Whole Part : Prop ℕ → Type 0) (layer : Layer names W
         let (k, ys, g, e, t) = head-run (drop at l) rest .0 s in
         omega (arith, ends .found k ys (g, e), extent l at (encodeHead k) ys start e)
 
-head-long : (h : Head) → (0 < length (encodeHead h)) × (partCount h ≤ 2)
+pub head-long : (h : Head) → (0 < length (encodeHead h)) × (partCount h ≤ 2)
 unfolding encodeHead
 head-long TrueHead = omega arith
 head-long FalseHead = omega arith

@@ -46,7 +46,7 @@ part-bytes n k l bytes i = by-cases (decLt i n)
     (λ h. rw (getD-take n (drop k l) i 0 h, getD-drop) (bytes (k + i)))
     (λ h. rw (List·getD-eq-default (take n (drop k l)) 0 {n = i} (omega (arith, length-take n (drop k l)))) (omega arith))
 
-is-some : {A : Type 0} (o : Option A) → isNone o ≡ false → (a : A) × (o ≡ some a)
+pub is-some : {A : Type 0} (o : Option A) → isNone o ≡ false → (a : A) × (o ≡ some a)
 unfolding isNone
 is-some none h = let z : _≡_ {A = ℕ} 0 1 = cc in absurd (omega arith)
 is-some (some a) h = (a, refl)

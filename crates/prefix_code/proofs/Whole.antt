@@ -15,6 +15,7 @@ use Rattle.definitions.specs.Admission.{isNone}
 use Rattle.definitions.proofs.PrefixCode.{Bytes, decode-encode, encode-decode, encode-injective}
 use Rattle.prefix_code.specs.Scan.{Stands, Ends, At, Scanned, Shallow, shallowCoding}
 use Rattle.prefix_code.proofs.Depth.{two-bytes-a-level}
+use Rattle.prefix_code.proofs.Reading.{is-some}
 
 module _ (names : ℕ) (l : List ℕ) (bytes : Bytes l) where
   -- bytes that decode are the code of what they decode to
@@ -48,32 +49,26 @@ module _ (names : ℕ) (l : List ℕ) (bytes : Bytes l) where
 
   pub shallow-whole : (depth r : ℕ) → isNone (decode names l) ≡ false → Ends (shallowCoding names depth) l 0 r
       → ltb (length l) r ≡ ltb depth (nesting (Option·getD (decode names l) False))
-  unfolding isNone Stands Shallow
-  shallow-whole depth r is s = go (decode names l) refl is
+  unfolding Stands Shallow
+  shallow-whole depth r is s =
+      let (p, e) = is-some (decode names l) is in rw e (by p e (decLt (length l) r) (decLt depth (nesting p)))
     where
-      go : (d : Option (Prop ℕ)) → decode names l ≡ d → isNone d ≡ false → ltb (length l) r ≡ ltb depth (nesting (Option·getD d False))
-      go none e n = let z : _≡_ {A = ℕ} 0 1 = cc in absurd (omega arith)
-      go (some p) e n = by (decLt (length l) r) (decLt depth (nesting p))
-        where
-          whole : At names l 0 p []
-          whole = decoded p e
-
-          by : Dec (length l < r) → Dec (depth < nesting p) → ltb (length l) r ≡ ltb depth (nesting p)
-          by (yes past) (yes deep) = lt-ltb (length l) r past ∙ sym (lt-ltb depth (nesting p) deep)
-          by (no inside) (no flat) = le-ltb (length l) r (omega arith) ∙ sym (le-ltb depth (nesting p) (omega arith))
-          by (yes past) (no flat) =
-              absurd (omega (arith, s .found p [] ((whole .0, omega arith), whole .1), decoded-length p e))
-          by (no inside) (yes deep) =
-              let (q, rest, t, end) = s .only (omega arith) in
-              let same = encode-injective names q p rest [] (t .0 .0) (whole .0) (sym (t .1) ∙ whole .1) .0 in
-              absurd (omega (arith, ap nesting same, t .0 .1))
+      by : (p : Prop ℕ) → decode names l ≡ some p → Dec (length l < r) → Dec (depth < nesting p)
+          → ltb (length l) r ≡ ltb depth (nesting p)
+      by p e (yes past) (yes deep) = lt-ltb (length l) r past ∙ sym (lt-ltb depth (nesting p) deep)
+      by p e (no inside) (no flat) = le-ltb (length l) r (omega arith) ∙ sym (le-ltb depth (nesting p) (omega arith))
+      by p e (yes past) (no flat) =
+          let whole = decoded p e in
+          absurd (omega (arith, s .found p [] ((whole .0, omega arith), whole .1), decoded-length p e))
+      by p e (no inside) (yes deep) =
+          let whole = decoded p e in
+          let (q, rest, t, end) = s .only (omega arith) in
+          let same = encode-injective names q p rest [] (t .0 .0) (whole .0) (sym (t .1) ∙ whole .1) .0 in
+          absurd (omega (arith, ap nesting same, t .0 .1))
 
   -- short code nests no deeper
   pub short-whole : (depth : ℕ) → isNone (decode names l) ≡ false → length l ≤ 2 * depth
       → false ≡ ltb depth (nesting (Option·getD (decode names l) False))
-  unfolding isNone
-  short-whole depth is short = go (decode names l) refl is
-    where
-      go : (d : Option (Prop ℕ)) → decode names l ≡ d → isNone d ≡ false → false ≡ ltb depth (nesting (Option·getD d False))
-      go none e n = let z : _≡_ {A = ℕ} 0 1 = cc in absurd (omega arith)
-      go (some p) e n = sym (le-ltb depth (nesting p) (omega (arith, two-bytes-a-level p, decoded-length p e)))
+  short-whole depth is short =
+      let (p, e) = is-some (decode names l) is in
+      rw e (sym (le-ltb depth (nesting p) (omega (arith, two-bytes-a-level p, decoded-length p e))))

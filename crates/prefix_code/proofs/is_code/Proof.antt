@@ -5,11 +5,9 @@ use borrow.Author.Needs.{needs}
 use Rattle.prefix_code.proofs.is_code.Statement.{statement}
 use Rattle.prefix_code.proofs.is_code.Tie as tie
 
-scan-requires : tie.Need-scan-requires
-scan-requires c κs = search needs
-
-returns : tie.Need-returns
-returns c = scanned-whole _ _ (λ i. omega (arith, c .before .shared-slice-known .given i)) _ (c .scan .ensures)
-
 pub is-code-spec : {M : Type 1} → statement M
-is-code-spec = tie.close (tie.spec scan-requires returns)
+is-code-spec =
+    tie.close
+    (tie.spec
+    (λ c κs. search needs)
+    (λ c. scanned-whole _ _ (λ i. omega (arith, c .before .shared-slice-known .given i)) _ (c .scan .ensures)))

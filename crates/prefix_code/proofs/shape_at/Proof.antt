@@ -1,7 +1,11 @@
 -- Each return is one shape, by the tests of the byte in front.
+use Prim.Native.Nat.{_+_, _≤_, _<_}
 use native.Mathlib.Omega.{arith}
+use lib.ListN.{length, getD}
+use denote.Ref.{now}
 use Rattle.prefix_code.proofs.Reading.{inside}
-use Rattle.prefix_code.proofs.Shapes.{one-name, two-names, true-shape, false-shape, binary-shape, atom-shape, quantified-shape}
+use Rattle.prefix_code.proofs.Shapes.{one-name, two-names}
+use Rattle.prefix_code.proofs.Shapes.{true-shape, false-shape, binary-shape, atom-shape, quantified-shape}
 use Rattle.prefix_code.proofs.shape_at.Statement.{statement}
 use Rattle.prefix_code.proofs.shape_at.Tie as tie
 
@@ -12,71 +16,33 @@ entry c = c .before .before
 abbrev tests : tie.Else3 → tie.After-shared-slice-known2
 tests c = c .before .before .before
 
-shared-slice-read-head : tie.Need-shared-slice-read-head
-shared-slice-read-head c = inside (entry c .pre .present) .start
+-- an atom or a quantifier has a name, and a quantifier has two
+named : (c : tie.Else3) → let s = entry (tests c) .args in s .at + 4 ≤ length (now (s .code))
+named c = one-name (entry (tests c) .pre .present) (c .if3 .left)
 
-returns : tie.Need-returns
-returns c names h = true-shape h (c .if1 .taken)
+quantified : (c : tie.Else4) → let s = entry (tests (c .before .before)) .args in 5 < getD (now (s .code)) (s .at) 0
+quantified c = omega (arith, c .before .before .if3 .left, c .if4 .left)
 
-returns-2 : tie.Need-returns-2
-returns-2 c names h = false-shape h (c .if2 .taken)
-
-add-t8 : tie.Need-add-t8
-add-t8 c = omega (arith, inside (entry (c .before .before .before) .pre .present))
-
-returns-3 : tie.Need-returns-3
-returns-3 c names h = binary-shape h (omega (arith, c .before .before .if1 .left, c .before .if2 .left)) (c .if3 .taken)
-
-add-number-at : tie.Need-add-number-at
-add-number-at c = omega (arith, one-name (entry (tests c) .pre .present) (c .if3 .left))
-
-number-at-requires : tie.Need-number-at-requires
-number-at-requires c κs = omega (arith, one-name (entry (tests c) .pre .present) (c .if3 .left))
-
-add-t10 : tie.Need-add-t10
-add-t10 c = let here = c .before .before in omega (arith, one-name (entry (tests here) .pre .present) (here .if3 .left))
-
-shared-slice-read-t12 : tie.Need-shared-slice-read-t12
-shared-slice-read-t12 c = let here = c .before .before .before in omega (arith, one-name (entry (tests here) .pre .present) (here .if3 .left))
-
-add-t13 : tie.Need-add-t13
-add-t13 c = let here = c .before .before .before in omega (arith, one-name (entry (tests here) .pre .present) (here .if3 .left))
-
-returns-4 : tie.Need-returns-4
-returns-4 c names h = rw (c .before .before .number-at .ensures .0) (atom-shape h (c .before .if4 .taken))
-
-add-number-at-2 : tie.Need-add-number-at-2
-add-number-at-2 c = let here = c .before .before in omega (arith, one-name (entry (tests here) .pre .present) (here .if3 .left))
-
-number-at-requires-2 : tie.Need-number-at-requires-2
-number-at-requires-2 c κs =
-    let here = c .before .before in omega (arith, two-names (entry (tests here) .pre .present) (omega (arith, here .if3 .left, c .if4 .left)))
-
-add-t15 : tie.Need-add-t15
-add-t15 c =
-    let here = c .before .before .before in omega (arith, two-names (entry (tests here) .pre .present) (omega (arith, here .if3 .left, c .before .if4 .left)))
-
-returns-5 : tie.Need-returns-5
-returns-5 c names h =
-    rw (c .before .before .number-at .ensures .0, c .number-at2 .ensures .0)
-    (quantified-shape h (omega (arith, c .before .before .before .if3 .left, c .before .if4 .left)))
+twice-named : (c : tie.Else4) → let s = entry (tests (c .before .before)) .args in s .at + 5 ≤ length (now (s .code))
+twice-named c = two-names (entry (tests (c .before .before)) .pre .present) (quantified c)
 
 pub shape-at-spec : {M : Type 1} → statement M
 shape-at-spec =
     tie.close
     (tie.spec
-    shared-slice-read-head
-    returns
-    returns-2
-    add-t8
-    returns-3
-    add-number-at
-    number-at-requires
-    add-t10
-    shared-slice-read-t12
-    add-t13
-    returns-4
-    add-number-at-2
-    number-at-requires-2
-    add-t15
-    returns-5)
+    (λ c. inside (entry c .pre .present) .start)
+    (λ c names h. true-shape h (c .if1 .taken))
+    (λ c names h. false-shape h (c .if2 .taken))
+    (λ c. omega (arith, inside (entry (c .before .before .before) .pre .present)))
+    (λ c names h. binary-shape h (omega (arith, c .before .before .if1 .left, c .before .if2 .left)) (c .if3 .taken))
+    (λ c. omega (arith, named c))
+    (λ c κs. omega (arith, named c))
+    (λ c. omega (arith, named (c .before .before)))
+    (λ c. omega (arith, named (c .before .before .before)))
+    (λ c. omega (arith, named (c .before .before .before)))
+    (λ c names h. rw (c .before .before .number-at .ensures .0) (atom-shape h (c .before .if4 .taken)))
+    (λ c. omega (arith, named (c .before .before)))
+    (λ c κs. omega (arith, twice-named c))
+    (λ c. omega (arith, twice-named (c .before)))
+    (λ c names h. rw (c .before .before .number-at .ensures .0, c .number-at2 .ensures .0)
+    (quantified-shape h (quantified (c .before)))))
