@@ -1,22 +1,22 @@
 -- The text of an atom: its name, and the names of its parameters one after the other.
 use Prim.Native.Nat.{ℕ, _+_, _-_, _≤_, _<_}
-use mathlib.Core.Path.{_≡_, refl, sym, _∙_}
+use mathlib.Core.Path.{_≡_, refl, sym, ap, _∙_}
 use mathlib.Core.Bool.{Bool}
 use mathlib.Core.List.{List, [], _∷_, _++_, map, append-assoc, append-nil}
 use native.Mathlib.Nat.{pos-of-ne-zero}
 use native.Mathlib.Omega.{arith}
-use lib.ListN.{length, drop, getD, length-map}
+use lib.ListN.{length, getD, length-map}
 use Rattle.definitions.specs.Utf8.{utf8}
 use Rattle.definitions.specs.Name.{Name}
 use Rattle.definitions.specs.Prop.{Prop, True, False, Binary, Atom, Quantified, PropParameter, Uninstantiated, Instantiated, parameterName, renameParameter, renameProp}
-use Rattle.definitions.specs.Code.{encodeParameter, encodeParameters, CodableParameters}
+use Rattle.definitions.specs.Code.{encodeParameter, encodeParameters}
 use Rattle.definitions.specs.Sheet.{numberAt}
 use Rattle.definitions.specs.Display.{followingParameters, displayParameters, displayProp}
 use Rattle.output.specs.Wrote.{Wrote}
 use Rattle.output.proofs.Writing.{then, none as nothing}
 use Rattle.prefix_code.specs.Scan.{Stands, Ends, parameterCoding, Several, parametersCoding}
 use Rattle.prefix_code.proofs.Positions.{after}
-use Rattle.prefix_code.proofs.Parameters.{ParameterAt, ParameterBytes, parameter-bytes}
+use Rattle.prefix_code.proofs.Parameters.{ParameterBytes, parameter-bytes, FirstParameter, first-parameter, none-stand}
 use Rattle.prefix_code.proofs.Forms.{AtomAt, atom-at}
 use Rattle.prefix_code.specs.PropAt.{propAt, Present}
 
@@ -59,14 +59,10 @@ unfolding parameterName renameParameter
 renamed-name f (Uninstantiated x) = refl
 renamed-name f (Instantiated x i) = refl
 
--- the first of some parameters, and the others
-first-parameter : (names : ℕ) (l : List ℕ) (i needed : ℕ) (p : PropParameter ℕ) (ps : List (PropParameter ℕ)) (rest : List ℕ)
-    → Stands (parametersCoding names needed) l i (p ∷ ps) rest
-    → ParameterAt names l i p (encodeParameters ps ++ rest) × Stands (parametersCoding names (needed - 1)) l (i + length (encodeParameter p)) ps rest
-unfolding Stands Several CodableParameters encodeParameters
-first-parameter names l i needed p ps rest (g, e) =
-    let split : drop i l ≡ encodeParameter p ++ (encodeParameters ps ++ rest) = e ∙ append-assoc (encodeParameter p) (encodeParameters ps) rest in
-    ((g .0 .0, split), ((g .0 .1, omega (arith, g .1)), after l i (encodeParameter p) (encodeParameters ps ++ rest) split))
+-- the first of listed parameters, and the others
+listed-first : (f : ℕ → Name) {ps others : List (PropParameter ℕ)} {p : PropParameter ℕ} → ps ≡ p ∷ others
+    → listed (map (renameParameter f) ps) ≡ f (parameterName p) ++ followingParameters (map (renameParameter f) others)
+listed-first f e = rw (e, renamed-name)
 
 -- a name below `names` stands behind the byte at i, within so many bytes
 pub record NameAt (names : ℕ) (l : List ℕ) (i size : ℕ) : Type 0 where
@@ -128,34 +124,23 @@ module _ (f : ℕ → Name) (names : ℕ) (l : List ℕ) (at : ℕ) where
         wrote = nothing write out to;
       }
 
-  module _ {write : Bool} {before : List ℕ} {to : ℕ} {out : List ℕ} {i end needed : ℕ} (s : Listing write before to out i end needed) where
-    -- the next parameter, and those behind it
-    record Next : Type 0 where
-      parameter : PropParameter ℕ
-      others : List (PropParameter ℕ)
-      first : ParameterAt names l i parameter (encodeParameters others ++ s .rest)
-      stands : Stands (parametersCoding names (needed - 1)) l (i + length (encodeParameter parameter)) others (s .rest)
-      count-others : length (map (renameParameter f) others) ≡ needed - 1
-      whole : listed (parametersOf named) ≡ s .done ++ (f (parameterName parameter) ++ followingParameters (map (renameParameter f) others))
-
+  module _ {write : Bool} {before : List ℕ} {to : ℕ} {out : List ℕ} {i end needed : ℕ}
+      (s : Listing write before to out i end needed) where
     module _ (some : 0 < needed) where
-      next : Next
+      -- the next parameter, and those behind it
+      abbrev next : FirstParameter names l i needed (s .todo) (s .rest)
+      next = first-parameter names l i needed (s .todo) (s .rest) some (s .stands)
+
+      -- their names, in the text
+      abbrev others : List (PropParameter Name)
+      others = map (renameParameter f) (next .others)
+
+      count-others : length others ≡ needed - 1
       unfolding Stands Several
-      next = go (s .todo) (s .stands) (s .whole)
-        where
-          go : (todo : List (PropParameter ℕ)) → Stands (parametersCoding names needed) l i todo (s .rest)
-              → listed (parametersOf named) ≡ s .done ++ listed (map (renameParameter f) todo) → Next
-          go [] t whole = absurd (omega (arith, t .0 .1))
-          go (p ∷ todo) t whole =
-              let (first, stands) = first-parameter names l i needed p todo (s .rest) t in
-              record {
-                parameter = p;
-                others = todo;
-                first = first;
-                stands = stands;
-                count-others = length-map todo (renameParameter f) ∙ stands .0 .1;
-                whole = rw renamed-name at whole;
-              }
+      count-others = length-map (next .others) (renameParameter f) ∙ next .stands .0 .1
+
+      whole : listed (parametersOf named) ≡ s .done ++ (f (parameterName (next .parameter)) ++ followingParameters others)
+      whole = s .whole ∙ ap (λ t. s .done ++ t) (listed-first f (next .is))
 
       abbrev bytes : ParameterBytes names l i (next .parameter) (encodeParameters (next .others) ++ s .rest)
       bytes = parameter-bytes names l i (next .parameter) (encodeParameters (next .others) ++ s .rest) (next .first)
@@ -166,7 +151,7 @@ module _ (f : ℕ → Name) (names : ℕ) (l : List ℕ) (at : ℕ) where
       module _ {j : ℕ} (ends : Ends (parameterCoding names) l i j) where
         -- its name, and what separates it from the others
         listing-with : {after : List ℕ} {r : ℕ} (separator : List ℕ)
-            → followingParameters (map (renameParameter f) (next .others)) ≡ separator ++ listed (map (renameParameter f) (next .others))
+            → followingParameters others ≡ separator ++ listed others
             → Wrote (f (numberAt l (i + 1)) ++ separator) write out end after r → Listing write before to after j r (needed - 1)
         listing-with separator separated w =
             let here : j ≡ i + length (encodeParameter (next .parameter)) = ends .found (next .parameter) _ (next .first) in
@@ -175,23 +160,20 @@ module _ (f : ℕ → Name) (names : ℕ) (l : List ℕ) (at : ℕ) where
               todo = next .others;
               rest = s .rest;
               stands = rw here (next .stands);
-              whole = next .whole ∙ rw (separated, bytes .name) (simp append-assoc);
+              whole = whole ∙ rw (separated, bytes .name) (simp append-assoc);
               wrote = then (s .wrote) w;
             }
 
         module _ {mid : List ℕ} {named-end : ℕ} (name : Wrote (f (numberAt l (i + 1))) write out end mid named-end) where
           pub listing-last : needed - 1 ≤ 0 → Listing write before to mid j named-end (needed - 1)
-          listing-last last = listing-with [] (followed-last _ (omega (arith, next .count-others))) (rw append-nil name)
+          listing-last last = listing-with [] (followed-last _ (omega (arith, count-others))) (rw append-nil name)
 
           pub listing-comma : {after : List ℕ} {r : ℕ} → 0 < needed - 1 → Wrote (utf8 ", ") write mid named-end after r
               → Listing write before to after j r (needed - 1)
-          listing-comma more comma = listing-with (utf8 ", ") (followed-comma _ (omega (arith, next .count-others))) (then name comma)
+          listing-comma more comma = listing-with (utf8 ", ") (followed-comma _ (omega (arith, count-others))) (then name comma)
 
     pub listing-ends : needed ≤ 0 → Wrote (listed (parametersOf named)) write before to out end
-    unfolding Stands Several
-    listing-ends none = go (s .todo) (s .stands .0 .1) (s .whole)
-      where
-        go : (todo : List (PropParameter ℕ)) → length todo ≡ needed → listed (parametersOf named) ≡ s .done ++ listed (map (renameParameter f) todo)
-            → Wrote (listed (parametersOf named)) write before to out end
-        go [] count whole = rw (whole, append-nil) (s .wrote)
-        go (p ∷ todo) count whole = absurd (omega arith)
+    listing-ends none =
+        let empty = none-stand names l i needed (s .todo) (s .rest) none (s .stands) in
+        let all : listed (parametersOf named) ≡ s .done ++ [] = s .whole ∙ rw empty in
+        rw (all, append-nil) (s .wrote)

@@ -11,6 +11,7 @@ use Rattle.prefix_code.specs.Scan.{Stands, At, Ends}
 use Rattle.prefix_code.specs.Head.{Head, TrueHead, FalseHead, BinaryHead, AtomHead, QuantifiedHead, encodeHead, CodableHead, headCoding, partsAfter}
 use Rattle.prefix_code.proofs.Positions.{after}
 use Rattle.prefix_code.proofs.Heads.{partCount, HeadAt, head-bytes}
+use Rattle.prefix_code.proofs.Propositions.{head-long}
 use Rattle.prefix_code.specs.PropAt.{propAt, Present}
 use Rattle.prop.specs.Ends.{EndAt, EndsOf, Room, Filled}
 use Rattle.prefix_code.proofs.Reading.{prop-at, present}
@@ -47,38 +48,32 @@ partsOf (Binary c p q) = p ∷ q ∷ []
 partsOf (Atom a ps) = []
 partsOf (Quantified q x t p) = p ∷ []
 
--- Of propositions in a row: where the last one ends, and their ends in a table.
-abbrev rowEnd : ℕ → List (Prop ℕ) → ℕ
-rowEnd i [] = i
-rowEnd i (p ∷ ps) = rowEnd (i + length (encode p)) ps
-
+-- the ends in a table of propositions in a row
 abbrev EndsOfRow : List ℕ → ℕ → List (Prop ℕ) → Type 0
 EndsOfRow ends i [] = Unit {0}
 EndsOfRow ends i (p ∷ ps) = EndsOf ends i p × EndsOfRow ends (i + length (encode p)) ps
 
 module _ (names : ℕ) (l : List ℕ) where
-  -- they stand in a row from i on
-  abbrev Row : ℕ → List (Prop ℕ) → Type 0
-  Row i [] = Unit {0}
-  Row i (p ∷ ps) = ((rest : List ℕ) × At names l i p rest) × Row (i + length (encode p)) ps
+  -- they stand in a row from i up to j
+  abbrev Row : ℕ → List (Prop ℕ) → ℕ → Type 0
+  Row i [] j = i ≡ j
+  Row i (p ∷ ps) j = ((rest : List ℕ) × At names l i p rest) × Row (i + length (encode p)) ps j
 
   -- a proposition is a head and its parts in a row
   record Split (at : ℕ) (p : Prop ℕ) : Type 0 where
     head : Head
     rest : List ℕ
     stands : HeadAt names l at head rest
-    long : 0 < length (encodeHead head)
     count : length (partsOf p) ≡ partCount head
-    row : Row (at + length (encodeHead head)) (partsOf p)
-    end : rowEnd (at + length (encodeHead head)) (partsOf p) ≡ at + length (encode p)
+    row : Row (at + length (encodeHead head)) (partsOf p) (at + length (encode p))
     ends : (table : List ℕ) → EndAt table at p → EndsOfRow table (at + length (encodeHead head)) (partsOf p) → EndsOf table at p
 
   split : (at : ℕ) (p : Prop ℕ) (rest : List ℕ) → At names l at p rest → Split at p
   unfolding Stands EndsOf encode Codable encodeHead CodableHead u16
   split at True rest (g, e) =
-      record { head = TrueHead; rest = rest; stands = (tt, e); long = omega arith; count = refl; row = tt; end = refl; ends = λ table f r. f }
+      record { head = TrueHead; rest = rest; stands = (tt, e); count = refl; row = refl; ends = λ table f r. f }
   split at False rest (g, e) =
-      record { head = FalseHead; rest = rest; stands = (tt, e); long = omega arith; count = refl; row = tt; end = refl; ends = λ table f r. f }
+      record { head = FalseHead; rest = rest; stands = (tt, e); count = refl; row = refl; ends = λ table f r. f }
   split at (Binary c p q) rest (g, e) =
       let parts : drop at l ≡ (connectiveByte c ∷ []) ++ (encode p ++ (encode q ++ rest)) = cc (append-assoc (encode p) (encode q) rest) in
       let next = after l at (connectiveByte c ∷ []) (encode p ++ (encode q ++ rest)) parts in
@@ -87,33 +82,28 @@ module _ (names : ℕ) (l : List ℕ) where
         head = BinaryHead c;
         rest = encode p ++ (encode q ++ rest);
         stands = (tt, parts);
-        long = omega arith;
         count = refl;
-        row = ((encode q ++ rest, (g .0, next)), ((rest, (g .1, after l (at + 1) (encode p) (encode q ++ rest) next)), tt));
-        end = omega arith;
+        row = ((encode q ++ rest, (g .0, next)), ((rest, (g .1, after l (at + 1) (encode p) (encode q ++ rest) next)), omega arith));
         ends = λ table f (r, (t, u)). (f, r, t);
       }
   split at (Atom a ps) rest s =
-      record { head = AtomHead a ps; rest = rest; stands = s; long = omega arith; count = refl; row = tt; end = refl; ends = λ table f r. f }
+      record { head = AtomHead a ps; rest = rest; stands = s; count = refl; row = refl; ends = λ table f r. f }
   split at (Quantified q x t p) rest (g, e) =
       record {
         head = QuantifiedHead q x t;
         rest = encode p ++ rest;
         stands = ((g .0, g .1), e);
-        long = omega arith;
         count = refl;
-        row = ((rest, (g .2, after l at (encodeHead (QuantifiedHead q x t)) (encode p ++ rest) e)), tt);
-        end = omega arith;
+        row = ((rest, (g .2, after l at (encodeHead (QuantifiedHead q x t)) (encode p ++ rest) e)), omega arith);
         ends = λ table f (r, t). (f, r);
       }
 
   -- The ends of some parts of the proposition p at `at` are filled in, up to i, and those of the parts from i on are not: the table
   -- was `before`, and is `ends`.
-  record Between (p : Prop ℕ) (at : ℕ) (before ends : List ℕ) (i : ℕ) (todo : List (Prop ℕ)) : Type 0 where
-    size : length ends ≡ length before
-    row : Row i todo
-    further : at < i
-    end : rowEnd i todo ≡ at + length (encode p)
+  pub record Between (p : Prop ℕ) (at : ℕ) (before ends : List ℕ) (i : ℕ) (todo : List (Prop ℕ)) : Type 0 where
+    pub size : length ends ≡ length before
+    row : Row i todo (at + length (encode p))
+    pub further : at < i
     complete : (table : List ℕ) → Agree table ends (at + 1) i → EndAt table at p → EndsOfRow table i todo → EndsOf table at p
     earlier : (k : ℕ) → k < at → getD ends k 0 ≡ getD before k 0
     later : (k : ℕ) → i ≤ k → getD ends k 0 ≡ getD before k 0
@@ -122,7 +112,7 @@ module _ (names : ℕ) (l : List ℕ) where
   pub record Filling (p : Prop ℕ) (at : ℕ) (before ends : List ℕ) (i needed : ℕ) : Type 0 where
     todo : List (Prop ℕ)
     count : length todo ≡ needed
-    so-far : Between p at before ends i todo
+    pub so-far : Between p at before ends i todo
 
   -- behind the head all parts are needed
   pub filling-starts : (p : Prop ℕ) (at : ℕ) (rest before : List ℕ) (i : ℕ) → At names l at p rest → Ends (headCoding names) l at i
@@ -136,8 +126,7 @@ module _ (names : ℕ) (l : List ℕ) where
         so-far = record {
           size = refl;
           row = z .row;
-          further = omega (arith, z .long);
-          end = z .end;
+          further = omega (arith, head-long (z .head));
           complete = λ table same. z .ends table;
           earlier = λ k h. refl;
           later = λ k h. refl;
@@ -145,12 +134,6 @@ module _ (names : ℕ) (l : List ℕ) where
       })
 
   module _ {p : Prop ℕ} {at : ℕ} {before ends : List ℕ} {i needed : ℕ} (f : Filling p at before ends i needed) where
-    pub filling-size : length ends ≡ length before
-    filling-size = f .so-far .size
-
-    pub filling-further : at < i
-    filling-further = f .so-far .further
-
     -- the next part
     pub filling-next : 0 < needed → Present names l i
     filling-next h = go (f .todo) (f .count) (f .so-far)
@@ -177,7 +160,6 @@ module _ (names : ℕ) (l : List ℕ) where
                 size = size ∙ b .size;
                 row = rw here (b .row .1);
                 further = omega (arith, b .further);
-                end = rw here (b .end);
                 complete = λ last same own others. b .complete last
                     (λ k low high. same k low (omega arith) ∙ filled .earlier k high)
                     own
@@ -195,10 +177,10 @@ module _ (names : ℕ) (l : List ℕ) where
       go : (todo : List (Prop ℕ)) → length todo ≡ 0 → Between p at before ends i todo → Filled p before at (set ends at i) i
       go (a ∷ todo) count b = absurd (omega arith)
       go [] count b = record {
-        end = b .end;
+        end = b .row;
         filled = b .complete (set ends at i)
             (λ k low high. getD-set-other ends at k i 0 (omega arith))
-            (getD-set-same ends at i 0 inside ∙ b .end)
+            (getD-set-same ends at i 0 inside ∙ b .row)
             tt;
         earlier = λ k low. getD-set-other ends at k i 0 (omega arith) ∙ b .earlier k low;
         later = λ k high. getD-set-other ends at k i 0 (omega (arith, b .further)) ∙ b .later k high;

@@ -1,17 +1,17 @@
 -- What the bytes and the table tell of the proposition at a position: its byte in front, and where its parts stand, with their ends.
 use Prim.Native.Nat.{ℕ, _+_, _≤_, _<_}
-use mathlib.Core.Path.{_≡_, refl, _∙_}
+use mathlib.Core.Path.{_≡_, sym, ap, _∙_}
 use mathlib.Core.Logic.{by-cases}
-use mathlib.Core.List.{List, _∷_, _++_}
+use mathlib.Core.List.{List, _++_}
 use native.Mathlib.Omega.{arith}
 use native.Mathlib.Decide.{decLt}
-use lib.ListN.{length, getD, List·getD-eq-default}
+use lib.ListN.{length, getD, List·getD-append, List·getD-eq-default}
+use lib.Seq.{getD-drop}
 use Rattle.definitions.specs.Prop.{Prop, True, False, Binary, Atom, Quantified, Connective, connectiveByte, Quantifier, quantifierByte}
 use Rattle.definitions.specs.Code.{encode}
 use Rattle.definitions.specs.Sheet.{numberAt}
 use Rattle.definitions.proofs.PrefixCode.{code-nonempty}
 use Rattle.prefix_code.specs.Scan.{Stands, At}
-use Rattle.prefix_code.proofs.Positions.{byte-at}
 use Rattle.prefix_code.proofs.Forms.{binary-at, quantified-at}
 use Rattle.prefix_code.specs.PropAt.{propAt, Present}
 use Rattle.prop.specs.Ends.{EndAt, EndsOf, Known}
@@ -19,26 +19,15 @@ use Rattle.prefix_code.proofs.Reading.{prop-at, present}
 
 -- the byte in front of a proposition's code
 abbrev pub headByte : Prop ℕ → ℕ
-headByte True = 0
-headByte False = 1
-headByte (Binary c p q) = connectiveByte c
-headByte (Atom a ps) = 5
-headByte (Quantified q x t p) = quantifierByte q
-
-byte-in-front : (p : Prop ℕ) (rest : List ℕ) → (tail : List ℕ) × (encode p ++ rest ≡ headByte p ∷ tail)
-unfolding encode
-byte-in-front True rest = (rest, refl)
-byte-in-front False rest = (rest, refl)
-byte-in-front (Binary c p q) rest = (_, refl)
-byte-in-front (Atom a ps) rest = (_, refl)
-byte-in-front (Quantified q x t p) rest = (_, refl)
+headByte p = getD (encode p) 0 0
 
 -- the byte at the position of a proposition
 pub head-byte : {names : ℕ} {l : List ℕ} {at : ℕ} → Present names l at → getD l at 0 ≡ headByte (propAt names l at)
 unfolding Stands
 head-byte {names} {l} {at} h =
-    let (tail, e) = byte-in-front (propAt names l at) (h .rest) in
-    byte-at l at (at + 1) (headByte (propAt names l at)) tail refl (h .stands .1 ∙ e) .value
+    let p = propAt names l at in
+    let here : at + 0 ≡ at = omega arith in
+    sym (rw here at (getD-drop at l 0 0)) ∙ ap (λ s. getD s 0 0) (h .stands .1) ∙ List·getD-append (encode p) (h .rest) 0 0 (code-nonempty p)
 
 -- the table has the end of the proposition itself
 pub own-end : (ends : List ℕ) (at : ℕ) (p : Prop ℕ) → EndsOf ends at p → EndAt ends at p

@@ -10,6 +10,7 @@ use borrow.Author.Tests.{eq-eqb, ne-eqb}
 use Rattle.definitions.specs.Utf8.{utf8}
 use Rattle.definitions.specs.Name.{Name}
 use Rattle.definitions.specs.Prop.{Prop, True, False, Binary, Atom, Quantified, Connective, and, or, impl, connectiveByte, eqConnective, Quantifier, forAll, exists, quantifierByte, isFalse, renameProp}
+use Rattle.definitions.specs.Code.{encode}
 use Rattle.definitions.specs.Sheet.{numberAt}
 use Rattle.definitions.specs.Display.{wrap, isNegation, connectivePrecedence, precedence, wrapsLeft, wrapsRight, connectiveText, quantifierText, displayProp}
 use Rattle.definitions.proofs.Connectives.{eqConnective-true}
@@ -71,19 +72,16 @@ negation-strength impl p q = elim (isFalse q) as (λ b. eqb (cond b 999 2) 999 �
 module _ (f : ℕ → Name) where
   -- ⊥ is told by its byte in front, and so is a strength, but for implications
   is-false : (p : Prop ℕ) → isFalse (renameProp f p) ≡ eqb (headByte p) 1
-  unfolding isFalse renameProp connectiveByte quantifierByte
+  unfolding isFalse renameProp encode
   is-false True = refl
   is-false False = refl
-  is-false (Binary and p q) = refl
-  is-false (Binary or p q) = refl
-  is-false (Binary impl p q) = refl
+  is-false (Binary c p q) = sym (ne-eqb (connectiveByte c) 1 (λ e. omega (arith, connective-byte c)))
   is-false (Atom a ps) = refl
-  is-false (Quantified forAll x t p) = refl
-  is-false (Quantified exists x t p) = refl
+  is-false (Quantified q x t p) = sym (ne-eqb (quantifierByte q) 1 (λ e. omega (arith, quantifier-byte q)))
 
   strength-by-head : (p : Prop ℕ) → (headByte p ≡ 4 → ⊥)
       → getD strengths (headByte p) 0 ≡ precedence (renameProp f p)
-  unfolding renameProp connectiveByte quantifierByte precedence isNegation connectivePrecedence
+  unfolding encode renameProp connectiveByte quantifierByte precedence isNegation connectivePrecedence
   strength-by-head True h = refl
   strength-by-head False h = refl
   strength-by-head (Binary and p q) h = refl
@@ -94,7 +92,7 @@ module _ (f : ℕ → Name) where
   strength-by-head (Quantified exists x t p) h = refl
 
   leaf : (p : Prop ℕ) → headByte p < 2 → sign (headByte p) ≡ displayProp (renameProp f p)
-  unfolding sign renameProp displayProp
+  unfolding encode sign renameProp displayProp
   leaf True h = refl
   leaf False h = refl
   leaf (Binary c p q) h = absurd (omega (arith, connective-byte c .0))

@@ -1,102 +1,105 @@
--- The loop's invariant: the ends of some parts are filled in, and those of the needed ones from i on are not. The calls end by the position.
+-- The loop's invariant: the ends of some parts are filled in, and those of the needed ones from i on are not. The calls
+-- end by the position.
 use Prim.Native.Nat.{ℕ, _-_, _<_}
 use mathlib.Core.Path.{_≡_}
 use native.Mathlib.Omega.{arith}
 use lib.ListN.{length, length-set}
-use Rattle.prefix_code.specs.PropAt.{propAt}
-use Rattle.prefix_code.proofs.Reading.{inside}
-use Rattle.prop.proofs.Filling.{room-kept, Filling, filling-starts, filling-size, filling-further, filling-next, filling-steps, filling-ends}
-use borrow.Fn.Kinds.{In}
+use denote.Ref.{now}
+use borrow.Fn.Kinds.{In, Out}
 use borrow.Fn.PlainCycle.{Measures, is, falls, and}
+use Rattle.prefix_code.specs.PropAt.{propAt}
+use Rattle.prefix_code.proofs.Reading.{Inside, inside}
+use Rattle.prop.proofs.Filling.{room-kept, Filling, filling-starts, filling-next, filling-steps, filling-ends}
 use Rattle.prop.proofs.fill_ends.Reads as fill-ends
-use Rattle.prop.proofs.fill_ends.Kinds as fill-ends-kinds
-use Rattle.prop.proofs.+fill_ends.Lts-fill_ends as fill-ends-lts
-use Rattle.prefix_code.proofs.head_end.Reads as head-end-reads
-use Rattle.prefix_code.proofs.parts_after.Reads as parts-after-reads
+use Rattle.prop.proofs.fill_ends.Kinds as kinds
+use Rattle.prop.proofs.+fill_ends.Lts-fill_ends as lts
+use Rattle.prefix_code.proofs.head_end.Reads as head-end
+use Rattle.prefix_code.proofs.parts_after.Reads as parts-after
 use Rattle.prop.proofs.+fill_ends.{statement}
 use Rattle.prop.proofs.+fill_ends.Tie.{close}
 
-abbrev μ-fill-ends : Measures 2 fill-ends-kinds.ps ℕ
-μ-fill-ends κs a = length (a .0 .now) - a .1 .0
+abbrev μ : Measures 2 kinds.ps ℕ
+μ κs a = length (a .0 .now) - a .1 .0
 
-abbrev fill-ends-at : ℕ → In 2 fill-ends-kinds.ps
-fill-ends-at t = and 2 fill-ends-kinds.ps (is 2 fill-ends-kinds.ps μ-fill-ends t) fill-ends.Pre
+abbrev Inv-loop : lts.InvT-loop
+Inv-loop code at names ends₀ i₀ needed₀ ends i needed = Filling names code (propAt names code at) at ends₀ ends i needed
 
-abbrev fill-ends-below : ℕ → In 2 fill-ends-kinds.ps
-fill-ends-below t =
-    and 2 fill-ends-kinds.ps (falls 2 fill-ends-kinds.ps _<_ μ-fill-ends t) fill-ends.Pre
+abbrev μ-loop : lts.MeasureT-loop
+μ-loop code at names ends₀ i₀ needed₀ ends i needed = needed
 
-abbrev fill-ends-Inv-loop : fill-ends-lts.InvT-loop
-fill-ends-Inv-loop code at names ends₀ i₀ needed₀ ends i needed = Filling names code (propAt names code at) at ends₀ ends i needed
+module _ (t : ℕ) where
+  abbrev claims : lts.Claims
+  claims = (
+    head-end.Asked,
+    head-end.Learnt,
+    parts-after.Asked,
+    parts-after.Learnt,
+    and 2 kinds.ps (falls 2 kinds.ps _<_ μ t) fill-ends.Pre,
+    fill-ends.Post,
+  )
 
-abbrev fill-ends-μ-loop : fill-ends-lts.MeasureT-loop
-fill-ends-μ-loop code at names ends₀ i₀ needed₀ ends i needed = needed
+  abbrev pre : In 2 kinds.ps
+  pre = and 2 kinds.ps (is 2 kinds.ps μ t) fill-ends.Pre
 
-abbrev fill-ends-claims : ℕ → fill-ends-lts.Claims
-fill-ends-claims t = (head-end-reads.Asked, head-end-reads.Learnt, parts-after-reads.Asked, parts-after-reads.Learnt, fill-ends-below t, fill-ends.Post)
+  -- its places and needs
+  abbrev Fill :
+      (lts.Claims → In 2 kinds.ps → Out 2 kinds.ps kinds.r → lts.InvT-loop → lts.MeasureT-loop → Type 0) → Type 0
+  Fill place = place claims pre fill-ends.Post Inv-loop μ-loop
 
-fill-ends-head-end-requires : (t : ℕ) → fill-ends-lts.Need-head-end-requires (fill-ends-claims t) (fill-ends-at t) fill-ends.Post fill-ends-Inv-loop fill-ends-μ-loop
-fill-ends-head-end-requires t c κs = omega (arith, inside (c .before .before .pre .1 .present))
+  -- from the loop back to the start, and back over the filling in of a part
+  abbrev start : Fill lts.At-loop → Fill lts.Start
+  start c = c .before .before .before .before .before .before
 
-fill-ends-shared-slice-read-parts-after : (t : ℕ) → fill-ends-lts.Need-shared-slice-read-parts-after (fill-ends-claims t) (fill-ends-at t) fill-ends.Post fill-ends-Inv-loop fill-ends-μ-loop
-fill-ends-shared-slice-read-parts-after t c = inside (c .before .before .before .before .pre .1 .present) .start
+  abbrev part : Fill lts.After-slice-known2 → Fill lts.In-loop
+  part c = c .before .before .before .before
 
-fill-ends-parts-after-requires : (t : ℕ) → fill-ends-lts.Need-parts-after-requires (fill-ends-claims t) (fill-ends-at t) fill-ends.Post fill-ends-Inv-loop fill-ends-μ-loop
-fill-ends-parts-after-requires t c κs = inside (c .before .before .before .before .pre .1 .present) .known
+  -- the proposition lies within the code, and so its entry within the table
+  within : (c : Fill lts.At-loop) → let s = start c .args in Inside (s .names) (now (s .code)) (s .at)
+  within c = inside (start c .pre .1 .present)
 
-fill-ends-loop-holds : (t : ℕ) → fill-ends-lts.Need-loop-holds (fill-ends-claims t) (fill-ends-at t) fill-ends.Post fill-ends-Inv-loop fill-ends-μ-loop
-fill-ends-loop-holds t c =
-    let parts = c .parts-after .ensures in
-    rw parts (filling-starts _ _ _ _ _ _ _ (c .before .before .before .before .before .pre .1 .present .stands) (c .before .before .head-end .ensures))
+  entry-inside : (c : Fill lts.At-loop) → start c .args .at < length (c .loop .ends)
+  entry-inside c = omega (arith, c .loop .inv .so-far .size, within c .start, start c .pre .1 .room .long)
 
-fill-ends-fill-ends-requires : (t : ℕ) → fill-ends-lts.Need-fill-ends-requires (fill-ends-claims t) (fill-ends-at t) fill-ends.Post fill-ends-Inv-loop fill-ends-μ-loop
-fill-ends-fill-ends-requires t c κs =
-    let next = filling-next _ _ (c .before .before .loop .inv) (c .before .loop-test .taken) in
-    let further = filling-further _ _ (c .before .before .loop .inv) in
-    (omega (arith, c .before .before .before .before .before .before .before .before .pre .0, inside next), record { present = next; room = room-kept (filling-size _ _ (c .before .before .loop .inv)) (c .before .before .before .before .before .before .before .before .pre .1 .room) })
+  loop-holds : Fill lts.Need-loop-holds
+  loop-holds c =
+      let stands = c .before .before .before .before .before .pre .1 .present .stands in
+      rw (c .parts-after .ensures) (filling-starts _ _ _ _ _ _ _ stands (c .before .before .head-end .ensures))
 
-fill-ends-sub-needed : (t : ℕ) → fill-ends-lts.Need-sub-needed (fill-ends-claims t) (fill-ends-at t) fill-ends.Post fill-ends-Inv-loop fill-ends-μ-loop
-fill-ends-sub-needed t c = omega (arith, c .before .before .before .before .loop-test .taken)
+  part-requires : Fill lts.Need-fill-ends-requires
+  part-requires c κs =
+      let here = c .before .before in
+      let next = filling-next _ _ (here .loop .inv) (c .before .loop-test .taken) in
+      let further = here .loop .inv .so-far .further in
+      let room = room-kept (here .loop .inv .so-far .size) (start here .pre .1 .room) in
+      (omega (arith, start here .pre .0, inside next), record { present = next; room = room })
 
-fill-ends-loop-less : (t : ℕ) → fill-ends-lts.Need-loop-less (fill-ends-claims t) (fill-ends-at t) fill-ends.Post fill-ends-Inv-loop fill-ends-μ-loop
-fill-ends-loop-less t c = omega (arith, c .before .before .before .before .loop-test .taken)
+  loop-again : Fill lts.Need-loop-again
+  loop-again c =
+      let here = part c in
+      let filled = c .before .before .fill-ends in
+      filling-steps _ _ (here .before .loop .inv) (here .loop-test .taken) (filled .kept .1 .1 .1 .0) (filled .ensures)
 
-fill-ends-loop-again : (t : ℕ) → fill-ends-lts.Need-loop-again (fill-ends-claims t) (fill-ends-at t) fill-ends.Post fill-ends-Inv-loop fill-ends-μ-loop
-fill-ends-loop-again t c = filling-steps _ _ (c .before .before .before .before .before .loop .inv) (c .before .before .before .before .loop-test .taken) (c .before .before .fill-ends .kept .1 .1 .1 .0) (c .before .before .fill-ends .ensures)
+  returns : Fill lts.Need-returns
+  returns c =
+      let none : c .before .loop .needed ≡ 0 = omega (arith, c .loop-test .left) in
+      filling-ends _ _ (rw none at (c .before .loop .inv)) (entry-inside (c .before))
 
-fill-ends-returns : (t : ℕ) → fill-ends-lts.Need-returns (fill-ends-claims t) (fill-ends-at t) fill-ends.Post fill-ends-Inv-loop fill-ends-μ-loop
-fill-ends-returns t c =
-    let none : c .before .loop .needed ≡ 0 = omega (arith, c .loop-test .left) in
-    filling-ends _ _ (rw none at (c .before .loop .inv)) (omega (arith, filling-size _ _ (c .before .loop .inv), inside (c .before .before .before .before .before .before .before .pre .1 .present), c .before .before .before .before .before .before .before .pre .1 .room))
-
-fill-ends-cast-ends : (t : ℕ) → fill-ends-lts.Need-cast-ends (fill-ends-claims t) (fill-ends-at t) fill-ends.Post fill-ends-Inv-loop fill-ends-μ-loop
-fill-ends-cast-ends t c = omega (arith, fill-ends-returns t c .end, inside (c .before .before .before .before .before .before .before .pre .1 .present), c .before .before .before .before .before .before .before .pre .1 .room)
-
-fill-ends-mul-ends : (t : ℕ) → fill-ends-lts.Need-mul-ends (fill-ends-claims t) (fill-ends-at t) fill-ends.Post fill-ends-Inv-loop fill-ends-μ-loop
-fill-ends-mul-ends t c = omega (arith, inside (c .before .before .before .before .before .before .before .pre .1 .present), c .before .before .before .before .before .before .before .pre .1 .room)
-
-fill-ends-slice-write-ends : (t : ℕ) → fill-ends-lts.Need-slice-write-ends (fill-ends-claims t) (fill-ends-at t) fill-ends.Post fill-ends-Inv-loop fill-ends-μ-loop
-fill-ends-slice-write-ends t c = omega (arith, filling-size _ _ (c .before .loop .inv), inside (c .before .before .before .before .before .before .before .pre .1 .present), c .before .before .before .before .before .before .before .pre .1 .room)
-
-fill-ends-same-length : (t : ℕ) → fill-ends-lts.Need-same-length (fill-ends-claims t) (fill-ends-at t) fill-ends.Post fill-ends-Inv-loop fill-ends-μ-loop
-fill-ends-same-length t c = simp length-set (filling-size _ _ (c .before .loop .inv))
+  closed : {M : Type 1} → lts.Closed claims pre fill-ends.Post M
+  closed =
+      lts.spec claims pre fill-ends.Post Inv-loop μ-loop
+      (λ c κs. omega (arith, inside (c .before .before .pre .1 .present)))
+      (λ c. inside (c .before .before .before .before .pre .1 .present) .start)
+      (λ c κs. inside (c .before .before .before .before .pre .1 .present) .known)
+      loop-holds
+      part-requires
+      (λ c. omega (arith, part c .loop-test .taken))
+      (λ c. omega (arith, part c .loop-test .taken))
+      loop-again
+      (λ c. omega (arith, returns c .end, within (c .before), start (c .before) .pre .1 .room))
+      (λ c. omega (arith, within (c .before), start (c .before) .pre .1 .room))
+      (λ c. entry-inside (c .before))
+      (λ c. simp length-set (c .before .loop .inv .so-far .size))
+      returns
 
 pub +fill-ends-spec : {M : Type 1} → statement M
-+fill-ends-spec = close μ-fill-ends λ t. fill-ends-lts.spec (fill-ends-claims t)
-    (fill-ends-at t)
-    fill-ends.Post
-    fill-ends-Inv-loop
-    fill-ends-μ-loop
-    (fill-ends-head-end-requires t)
-    (fill-ends-shared-slice-read-parts-after t)
-    (fill-ends-parts-after-requires t)
-    (fill-ends-loop-holds t)
-    (fill-ends-fill-ends-requires t)
-    (fill-ends-sub-needed t)
-    (fill-ends-loop-less t)
-    (fill-ends-loop-again t)
-    (fill-ends-cast-ends t)
-    (fill-ends-mul-ends t)
-    (fill-ends-slice-write-ends t)
-    (fill-ends-same-length t)
-    (fill-ends-returns t)
++fill-ends-spec = close μ (λ t. closed t)
