@@ -1,5 +1,5 @@
 -- What the tables say: each entry is what the rule gives of its key, which antt computes over the whole table.
-use Prim.Native.Nat.{ℕ, zero, suc, max, _≤_, _<_}
+use Prim.Native.Nat.{ℕ, zero, suc, _≤_, _<_}
 use mathlib.Core.Path.{_≡_, refl, ap, _∙_}
 use mathlib.Core.Bool.{Bool, false}
 use mathlib.Core.List.{List, [], _∷_, map}
@@ -10,6 +10,7 @@ use Rattle.definitions.specs.Name.{Name}
 use Rattle.definitions.specs.Prop.{Prop}
 use Rattle.definitions.specs.Term.{ProofTerm, Unit, renameTerm}
 use Rattle.definitions.specs.Display.{Form, closed, call, function, block, ascription, form}
+use Rattle.prefix_code.proofs.Positions.{entry-below}
 use Rattle.proof_term.specs.Records.{recordSize, fieldAt, leaf, formTerm, forms, recordTerm}
 use Rattle.proof_term.specs.Labels.{hasLabel}
 use Rattle.proof_term.proofs.Records.{termAt-kind}
@@ -26,16 +27,6 @@ mapped rule [] d e k h = absurd (omega arith)
 mapped rule (x ∷ xs) d e zero h = refl
 mapped rule (x ∷ xs) d e (suc k) h = mapped rule xs d e k (omega arith)
 
--- no entry is above the largest
-abbrev largest : List ℕ → ℕ
-largest [] = 0
-largest (x ∷ xs) = max x (largest xs)
-
-entry-below : (table : List ℕ) (k : ℕ) → getD table k 0 ≤ largest table
-entry-below [] k = omega arith
-entry-below (x ∷ xs) zero = omega arith
-entry-below (x ∷ xs) (suc k) = omega (arith, entry-below xs k)
-
 pub part-field-below : (k : ℕ) → partField k < recordSize
 part-field-below k = omega (arith, entry-below (1 ∷ 2 ∷ 3 ∷ 1 ∷ 1 ∷ 1 ∷ 2 ∷ 1 ∷ 2 ∷ []) k)
 
@@ -43,27 +34,19 @@ pub part-position-below : (k : ℕ) → partPosition k < 6
 part-position-below k = omega (arith, entry-below (5 ∷ 5 ∷ 5 ∷ 2 ∷ 3 ∷ 0 ∷ 1 ∷ 4 ∷ 4 ∷ []) k)
 
 -- The forms, by their numbers:
-pub column-below : (f : Form) → column f < 5
+pub column-form : (f : Form) → (column f < 5) × (getD columns (column f) closed ≡ f)
 unfolding column
-column-below closed = omega arith
-column-below call = omega arith
-column-below function = omega arith
-column-below block = omega arith
-column-below ascription = omega arith
-
-pub column-form : (f : Form) → getD columns (column f) closed ≡ f
-unfolding column
-column-form closed = refl
-column-form call = refl
-column-form function = refl
-column-form block = refl
-column-form ascription = refl
+column-form closed = (omega arith, refl)
+column-form call = (omega arith, refl)
+column-form function = (omega arith, refl)
+column-form block = (omega arith, refl)
+column-form ascription = (omega arith, refl)
 
 -- a row of the table of brackets
 pub bracket-rule : (p k : ℕ) (s : Style) (f : Form) → k ≡ column f → getD (bracketRow p s) k false ≡ isBracketed (positionOf p) s f
 bracket-rule p k s f formed =
-    mapped (isBracketed (positionOf p) s) columns closed false k (rw formed (column-below f))
-    ∙ ap (isBracketed (positionOf p) s) (ap (λ i. getD columns i closed) formed ∙ column-form f)
+    mapped (isBracketed (positionOf p) s) columns closed false k (rw formed (column-form f .0))
+    ∙ ap (isBracketed (positionOf p) s) (ap (λ i. getD columns i closed) formed ∙ column-form f .1)
 
 pub at-position : (p q : ℕ) (s : Style) (f : Form) {r : Bool} → p ≡ q → r ≡ isBracketed (positionOf p) s f → r ≡ isBracketed (positionOf q) s f
 at-position p q s f e h = h ∙ ap (λ i. isBracketed (positionOf i) s f) e

@@ -4,14 +4,10 @@ use Rattle.proof_term_display.proofs.Tables.{known-kind, unknown-kind}
 use Rattle.proof_term_display.proofs.kind_at.Statement.{statement}
 use Rattle.proof_term_display.proofs.kind_at.Tie as tie
 
-field-requires : tie.Need-field-requires
-field-requires c κs = search needs
-
-returns : tie.Need-returns
-returns c = known-kind _ _ _ (c .before .field .ensures .0) (c .if1 .taken)
-
-returns-2 : tie.Need-returns-2
-returns-2 c = unknown-kind _ _ _ (c .before .field .ensures .0) (c .if1 .left)
-
 pub kind-at-spec : {M : Type 1} → statement M
-kind-at-spec = tie.close (tie.spec field-requires returns returns-2)
+kind-at-spec =
+    tie.close
+    (tie.spec
+    (λ c κs. search needs)
+    (λ c. known-kind _ _ _ (c .before .field .ensures .0) (c .if1 .taken))
+    (λ c. unknown-kind _ _ _ (c .before .field .ensures .0) (c .if1 .left)))
