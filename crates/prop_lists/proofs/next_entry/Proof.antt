@@ -41,26 +41,8 @@ quantifier : (c : tie.After-enum-told2) → let s = start (at-quantifier c .befo
     HeadEnds (s .names) (now (s .code)) (at-quantifier c .before .next-head .result) (at-quantifier c .before .next-head .result + 5)
 quantifier c = stops-at-quantifier _ _ _ _ _ _ (at-quantifier c .before .next-head .ensures) (at-quantifier c .if1 .left) (c .enum-told2 .given .1)
 
-next-head-requires : tie.Need-next-head-requires
-next-head-requires c κs = search needs
-
-returns : tie.Need-returns
-returns c = walk-end _ _ _ _ _ _ (c .before .next-head .ensures .passed) (c .if1 .taken)
-
-enum-told : tie.Need-enum-told
-enum-told c = search needs
-
-head-end-requires : tie.Need-head-end-requires
-head-end-requires c κs = search needs
-
-add-number-at : tie.Need-add-number-at
-add-number-at c = search needs
-
 number-at-requires : tie.Need-number-at-requires
 number-at-requires c κs = let atom = c .before in omega (arith, inside (at-atom atom) (atom .enum-told .given .1) (c .head-end .ensures .found))
-
-add-count : tie.Need-add-count
-add-count c = search needs
 
 shared-slice-read-count : tie.Need-shared-slice-read-count
 shared-slice-read-count c =
@@ -79,18 +61,6 @@ returns-2 c =
     let atom = head .before in
     rw (c .before .number-at .ensures .0) (here (at-atom atom) (atom .enum-told .given .1) (head .head-end .ensures .found))
 
-enum-told-2 : tie.Need-enum-told-2
-enum-told-2 c = search needs
-
-add-number-at-2 : tie.Need-add-number-at-2
-add-number-at-2 c = search needs
-
-number-at-requires-2 : tie.Need-number-at-requires-2
-number-at-requires-2 c κs = omega (arith, inside (at-quantifier c) (c .enum-told2 .given .1) (quantifier c))
-
-add-t16 : tie.Need-add-t16
-add-t16 c = search needs
-
 returns-3 : tie.Need-returns-3
 returns-3 c =
     let arm = c .before in
@@ -100,18 +70,18 @@ pub next-entry-spec : {M : Type 1} → statement M
 next-entry-spec =
     tie.close
     (tie.spec
-    next-head-requires
-    returns
-    enum-told
-    head-end-requires
-    add-number-at
+    (λ c κs. search needs)
+    (λ c. walk-end _ _ _ _ _ _ (c .before .next-head .ensures .passed) (c .if1 .taken))
+    (λ c. search needs)
+    (λ c κs. search needs)
+    (λ c. search needs)
     number-at-requires
-    add-count
+    (λ c. search needs)
     shared-slice-read-count
     cast-count
-    enum-told-2
-    add-number-at-2
-    number-at-requires-2
-    add-t16
+    (λ c. search needs)
+    (λ c. search needs)
+    (λ c κs. omega (arith, inside (at-quantifier c) (c .enum-told2 .given .1) (quantifier c)))
+    (λ c. search needs)
     returns-2
     returns-3)

@@ -1,7 +1,8 @@
 -- The loop's invariant: no entry stands before `i`.
-use Prim.Native.Nat.{_-_}
+use Prim.Native.Nat.{_-_, _<_}
 use mathlib.Core.Path.{sym, _∙_}
 use native.Mathlib.Omega.{arith}
+use denote.Ref.{now}
 use borrow.Author.Needs.{needs}
 use Rattle.prop_lists.specs.Entries.{Passed}
 use Rattle.prop_lists.proofs.Walks.{walk-start, walk-on}
@@ -14,29 +15,22 @@ Inv-loop code at end names list i₀ i = Passed names list code at end i
 abbrev μ-loop : tie.MeasureT-loop
 μ-loop code at end names list i₀ i = end - i
 
-loop-holds : tie.Need-loop-holds Inv-loop μ-loop
-loop-holds c = walk-start _ _ _ _ _ (c .before .pre)
-
-shared-slice-read-has-entry : tie.Need-shared-slice-read-has-entry Inv-loop μ-loop
-shared-slice-read-has-entry c = omega arith
-
-has-entry-requires : tie.Need-has-entry-requires Inv-loop μ-loop
-has-entry-requires c κs = search needs
-
 returns : tie.Need-returns Inv-loop μ-loop
-returns c = record { passed = c .before .before .before .before .loop .inv; has-entry = λ h. sym (c .before .has-entry .ensures) ∙ c .if1 .taken }
+returns c =
+    let has = sym (c .before .has-entry .ensures) ∙ c .if1 .taken in
+    record { passed = c .before .before .before .before .loop .inv; has-entry = λ h. has }
 
-head-end-requires : tie.Need-head-end-requires Inv-loop μ-loop
-head-end-requires c κs = omega arith
+-- back over the head, and a head without an entry is passed
+abbrev looped : tie.After-head-end Inv-loop μ-loop → tie.In-loop Inv-loop μ-loop
+looped c = c .before .before .before .before
 
-loop-less : tie.Need-loop-less Inv-loop μ-loop
-loop-less c = omega (arith, walk-on _ _ _ _ _ _ _ (c .before .before .before .before .before .loop .inv) (c .before .before .before .before .loop-test .taken) (sym (c .before .before .has-entry .ensures) ∙ c .before .if1 .left) (c .head-end .ensures))
-
-loop-again : tie.Need-loop-again Inv-loop μ-loop
-loop-again c = walk-on _ _ _ _ _ _ _ (c .before .before .before .before .before .loop .inv) (c .before .before .before .before .loop-test .taken) (sym (c .before .before .has-entry .ensures) ∙ c .before .if1 .left) (c .head-end .ensures) .1
-
-returns-2 : tie.Need-returns-2 Inv-loop μ-loop
-returns-2 c = record { passed = c .before .loop .inv; has-entry = λ h. absurd (omega arith) }
+passed : (c : tie.After-head-end Inv-loop μ-loop) → let s = looped c .before .before .before .args in
+    (looped c .before .loop .i < c .head-end .result)
+    × Passed (s .names) (s .list) (now (s .code)) (s .at) (s .end) (c .head-end .result)
+passed c =
+    let here = looped c in
+    walk-on _ _ _ _ _ _ _ (here .before .loop .inv) (here .loop-test .taken)
+    (sym (c .before .before .has-entry .ensures) ∙ c .before .if1 .left) (c .head-end .ensures)
 
 pub next-head-spec : {M : Type 1} → statement M
 next-head-spec =
@@ -44,11 +38,11 @@ next-head-spec =
     (tie.spec
     Inv-loop
     μ-loop
-    loop-holds
-    shared-slice-read-has-entry
-    has-entry-requires
+    (λ c. walk-start _ _ _ _ _ (c .before .pre))
+    (λ c. omega arith)
+    (λ c κs. search needs)
     returns
-    head-end-requires
-    loop-less
-    loop-again
-    returns-2)
+    (λ c κs. omega arith)
+    (λ c. omega (arith, passed c))
+    (λ c. passed c .1)
+    (λ c. record { passed = c .before .loop .inv; has-entry = λ h. absurd (omega arith) }))

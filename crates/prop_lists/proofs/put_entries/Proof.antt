@@ -38,33 +38,12 @@ found : (c : tie.After-known-told Inv-loop μ-loop) →
     FirstEntry (s .v .«name_count») (s .list) (now (l .before .before .code-of .result)) (l .loop .i) (l .before .scan .result) (useOf name count) next
 found c = rw (c .before .name .given .1) at (c .before .before .before .next-entry .ensures)
 
-code-of-requires : tie.Need-code-of-requires Inv-loop μ-loop
-code-of-requires c κs = c .before .before .pre .within
-
-scan-requires : tie.Need-scan-requires Inv-loop μ-loop
-scan-requires c κs = begins (c .before .before .before .pre) (c .code-of .ensures)
-
-loop-holds : tie.Need-loop-holds Inv-loop μ-loop
-loop-holds c = (row-there (scanned c .pre) (c .before .code-of .ensures) (c .scan .ensures), all-left)
-
-next-entry-requires : tie.Need-next-entry-requires Inv-loop μ-loop
-next-entry-requires c κs = c .loop .inv .0
-
-enum-known-name : tie.Need-enum-known-name Inv-loop μ-loop
-enum-known-name c = search needs
-
-enum-told : tie.Need-enum-told Inv-loop μ-loop
-enum-told c = search needs
-
 returns : tie.Need-returns Inv-loop μ-loop
 returns c =
     let loop = c .before .before .before in
     let none = rw (c .enum-told .given .1) at (c .before .before .next-entry .ensures) in
     let all = entries-there (scanned (loop .before) .pre) (loop .before .before .code-of .ensures) (loop .before .scan .ensures) (scanned (loop .before) .args .list) in
     rw all at (none-left (rw none at (loop .loop .inv .1)))
-
-same-length : tie.Need-same-length Inv-loop μ-loop
-same-length c = writing.same-length (returns c)
 
 put-entry-requires : tie.Need-put-entry-requires Inv-loop μ-loop
 unfolding parameterLimit
@@ -84,13 +63,13 @@ put-entries-spec =
     (tie.spec
     Inv-loop
     μ-loop
-    code-of-requires
-    scan-requires
-    loop-holds
-    next-entry-requires
-    enum-known-name
-    enum-told
-    same-length
+    (λ c κs. c .before .before .pre .within)
+    (λ c κs. begins (c .before .before .before .pre) (c .code-of .ensures))
+    (λ c. (row-there (scanned c .pre) (c .before .code-of .ensures) (c .scan .ensures), all-left))
+    (λ c κs. c .loop .inv .0)
+    (λ c. search needs)
+    (λ c. search needs)
+    (λ c. writing.same-length (returns c))
     returns
     put-entry-requires
     loop-less
