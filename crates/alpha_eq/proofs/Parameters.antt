@@ -1,23 +1,22 @@
 -- Two parameters are compared by their bytes. Of two lists of parameters the first two decide, and after a yes the others do.
-use Prim.Native.Nat.{ℕ, suc, _+_, _-_, _≤_, _<_}
-use mathlib.Core.Path.{_≡_, refl}
+use Prim.Native.Nat.{ℕ, _+_, _-_, _≤_, _<_}
+use mathlib.Core.Path.{_≡_}
 use mathlib.Core.Bool.{Bool, _&&_}
-use mathlib.Core.List.{List, [], _∷_, _++_, append-assoc}
+use mathlib.Core.List.{List, _∷_, _++_}
 use native.Mathlib.Omega.{arith}
 use native.Mathlib.Decide.{decLt}
-use lib.ListN.{length, drop, getD, length-append}
+use lib.ListN.{length, getD, length-append}
 use lib.Dec.{eqb}
 use Rattle.definitions.specs.Outcome.{Outcome, accepted}
 use Rattle.definitions.specs.Name.{eqName}
 use Rattle.definitions.specs.Sheet.{numberAt, marked}
 use Rattle.definitions.specs.Prop.{PropParameter, renameParameter}
-use Rattle.definitions.specs.Code.{u16, encodeParameter, encodeParameters, CodableParameters}
+use Rattle.definitions.specs.Code.{u16, encodeParameter, encodeParameters}
 use Rattle.definitions.specs.Comparison.{no as a-no, andAlso, alphaEqParameter, alphaEqParameters}
 use Rattle.number.specs.Pairs.{NameWithin}
 use Rattle.identifier.proofs.Within.{last-within}
-use Rattle.prefix_code.specs.Scan.{Stands, Several, parameterCoding, parametersCoding}
-use Rattle.prefix_code.proofs.Positions.{after}
-use Rattle.prefix_code.proofs.Parameters.{ParameterBytes, parameter-bytes}
+use Rattle.prefix_code.specs.Scan.{parameterCoding}
+use Rattle.prefix_code.proofs.Parameters.{ParameterBytes, parameter-bytes, first-parameter, none-stand}
 use Rattle.alpha_eq.specs.declared.Compared.{Compared}
 use Rattle.alpha_eq.specs.declared.Compared.the-variants.{Same, Different}
 use Rattle.alpha_eq.specs.Comparing.{compared, boundAlikeIn, alphaEqParameterIn, alphaEqParametersIn, severalCoding, Standing, endOf, Two, Comparable, Answers}
@@ -91,32 +90,10 @@ record First (names : ℕ) (code : List ℕ) (at n : ℕ) (ps : List (PropParame
   others : Standing (severalCoding n) names code (endOf first)
   is : ps ≡ first .value ∷ others .value
 
-first-of : (names : ℕ) (code : List ℕ) (at k n : ℕ) (ps : List (PropParameter ℕ)) (rest : List ℕ) → k ≡ suc n
-    → Stands (parametersCoding names k) code at ps rest → First names code at n ps
-unfolding Stands Several CodableParameters encodeParameters
-first-of names code at k n [] rest more ((g, c), d) = absurd (omega arith)
-first-of names code at k n (p ∷ ps) rest more ((g, c), d) =
-    let next : drop at code ≡ encodeParameter p ++ (encodeParameters ps ++ rest) = cc (append-assoc (encodeParameter p) (encodeParameters ps) rest) in
-    record {
-      first = record { value = p; rest = encodeParameters ps ++ rest; stands = (g .0, next) };
-      others = record {
-        value = ps;
-        rest = rest;
-        stands = ((g .1, omega arith), after code at (encodeParameter p) (encodeParameters ps ++ rest) next);
-      };
-      is = refl;
-    }
-
 cons-length : {ps others : List (PropParameter ℕ)} {p : PropParameter ℕ} → ps ≡ p ∷ others
     → length (encodeParameters ps) ≡ length (encodeParameter p) + length (encodeParameters others)
 unfolding encodeParameters
 cons-length {others} {p} e = rw e (length-append (encodeParameter p) (encodeParameters others))
-
-no-parameters : (names : ℕ) (code : List ℕ) (at k : ℕ) (ps : List (PropParameter ℕ)) (rest : List ℕ) → k ≡ 0
-    → Stands (parametersCoding names k) code at ps rest → ps ≡ []
-unfolding Stands Several
-no-parameters names code at k [] rest none s = refl
-no-parameters names code at k (p ∷ ps) rest none ((g, c), d) = absurd (omega arith)
 
 module _ (pairs text memory : List ℕ) (depth : ℕ) where
   -- what is left to compare, so many parameters from `left` and `right` on, decides the comparison from i and j on
@@ -135,7 +112,13 @@ module _ {pairs text memory : List ℕ} {depth : ℕ} {code : List ℕ} {i j cou
     (held : Remaining pairs text memory depth code i j count left right needed) where
   module _ (more : 0 < needed) where
     parts : {names at : ℕ} (s : Standing (severalCoding needed) names code at) → First names code at (needed - 1) (s .value)
-    parts {names} {at} s = first-of names code at needed (needed - 1) (s .value) (s .rest) (omega arith) (s .stands)
+    parts {names} {at} s =
+        let f = first-parameter names code at needed (s .value) (s .rest) more (s .stands) in
+        record {
+          first = record { value = f .parameter; rest = encodeParameters (f .others) ++ s .rest; stands = f .first };
+          others = record { value = f .others; rest = s .rest; stands = f .stands };
+          is = f .is;
+        }
 
     first-two : {names : ℕ} → Two (severalCoding needed) code left right names → Two parameterCoding code left right names
     first-two two = record { left = parts (two .left) .first; right = parts (two .right) .first }
@@ -190,8 +173,8 @@ module _ {pairs text memory : List ℕ} {depth : ℕ} {code : List ℕ} {i j cou
         let left-end : left ≡ left + 0 = omega arith in
         let right-end : right ≡ right + 0 = omega arith in
         rw (
-          no-parameters names code left needed (two .left .value) (two .left .rest) none (two .left .stands),
-          no-parameters names code right needed (two .right .value) (two .right .rest) none (two .right .stands),
+          none-stand names code left needed (two .left .value) (two .left .rest) (omega arith) (two .left .stands),
+          none-stand names code right needed (two .right .value) (two .right .rest) (omega arith) (two .right .stands),
         )
         (cc);
   })

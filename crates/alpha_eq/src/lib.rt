@@ -49,7 +49,8 @@ fn bound_alike(
 ) -> Answer
     requires { ⌜ Bound (now pairs) (now text) (now bindings) depth ⌝ }
     requires { ⌜ NameWithin (now pairs) (now text) x × NameWithin (now pairs) (now text) y ⌝ }
-    ensures { λ r. ⌜ outcomeOf r ≡ boundAlikeIn (now (pairs .entry)) (now (text .entry)) (now (bindings .entry)) depth x y ⌝ }
+    ensures { λ r. ⌜ outcomeOf r
+        ≡ boundAlikeIn (now (pairs .entry)) (now (text .entry)) (now (bindings .entry)) depth x y ⌝ }
 {
     let mut unseen = depth;
     while 0 < unseen {

@@ -7,92 +7,65 @@ use Rattle.alpha_eq.proofs.Atoms.{atom-at, two-lists, other-name, other
 use Rattle.alpha_eq.proofs.alpha_eq_atom.Statement.{statement}
 use Rattle.alpha_eq.proofs.alpha_eq_atom.Tie as tie
 
-add-number-at : tie.Need-add-number-at
-add-number-at c = omega (arith, atom-at (c .before .before .before .before .pre .two .left))
+-- back to the entry, over the comparison of the names, and over the counts
+abbrev start : tie.After-shared-slice-known4 → tie.Start
+start c = c .before .before .before .before
 
-number-at-requires : tie.Need-number-at-requires
-number-at-requires c κs = omega (arith, atom-at (c .before .before .before .before .pre .two .left))
+abbrev entry : tie.After-same-bytes → tie.Start
+entry c = start (c .before .before .before)
 
-add-number-at-2 : tie.Need-add-number-at-2
-add-number-at-2 c = omega (arith, atom-at (c .before .before .before .before .before .pre .two .right))
-
-number-at-requires-2 : tie.Need-number-at-requires-2
-number-at-requires-2 c κs = omega (arith, atom-at (c .before .before .before .before .before .pre .two .right))
+abbrev counts : tie.After-shared-slice-known6 → tie.After-same-bytes
+counts c = c .before .before
 
 same-bytes-requires : tie.Need-same-bytes-requires
-same-bytes-requires c κs = (
-  last-within
-      (c .before .before .before .before .before .before .pre .named (c .before .number-at .result)
-      (omega (arith, atom-at (c .before .before .before .before .before .before .pre .two .left)))),
-  last-within
-      (c .before .before .before .before .before .before .pre .named (c .number-at2 .result)
-      (omega (arith, atom-at (c .before .before .before .before .before .before .pre .two .right)))),
-)
-
-add-count : tie.Need-add-count
-add-count c = omega (arith, atom-at (c .before .before .before .before .before .before .before .pre .two .left))
-
-shared-slice-read-count : tie.Need-shared-slice-read-count
-shared-slice-read-count c = omega (arith, atom-at (c .before .before .before .before .before .before .before .before .pre .two .left))
-
-add-other-count : tie.Need-add-other-count
-add-other-count c = omega (arith, atom-at (c .before .before .before .before .before .before .before .before .pre .two .right))
-
-shared-slice-read-other-count : tie.Need-shared-slice-read-other-count
-shared-slice-read-other-count c = omega (arith, atom-at (c .before .before .before .before .before .before .before .before .before .pre .two .right))
+same-bytes-requires c κs =
+    let s = start (c .before .before) .pre in (
+      last-within (s .named (c .before .number-at .result) (omega (arith, atom-at (s .two .left)))),
+      last-within (s .named (c .number-at2 .result) (omega (arith, atom-at (s .two .right)))),
+    )
 
 returns : tie.Need-returns
 returns c =
-    other-name _ _ _ _ _ _ _ (c .before .before .before .before .before .number-at .ensures .0)
-    (c .before .before .before .before .number-at2 .ensures .0) (c .before .before .before .same-bytes .ensures) (not-true _ (c .if1 .taken))
+    let same = counts (c .before) in
+    other-name _ _ _ _ _ _ _ (same .before .before .number-at .ensures .0) (same .before .number-at2 .ensures .0)
+    (same .same-bytes .ensures) (not-true _ (c .if1 .taken))
 
 returns-2 : tie.Need-returns-2
 returns-2 c =
-    other-count _ _ _ _ _ _ _ (c .before .before .before .before .before .before .number-at .ensures .0)
-    (c .before .before .before .before .before .number-at2 .ensures .0) (c .before .before .before .before .same-bytes .ensures)
-    (not-false _ (c .before .if1 .left)) (c .if2 .taken)
-
-add-alpha-eq-parameters : tie.Need-add-alpha-eq-parameters
-add-alpha-eq-parameters c =
-    omega (arith, atom-at (c .before .before .before .before .before .before .before .before .before .before .before .pre .two .left))
-
-add-alpha-eq-parameters-2 : tie.Need-add-alpha-eq-parameters-2
-add-alpha-eq-parameters-2 c =
-    omega (arith, atom-at (c .before .before .before .before .before .before .before .before .before .before .before .pre .two .right))
-
-cast-alpha-eq-parameters : tie.Need-cast-alpha-eq-parameters
-cast-alpha-eq-parameters c =
-    omega
-    (arith, c .before .before .before .shared-slice-known5 .given (c .before .before .before .before .before .before .before .before .before .before .before .args .i + 3))
+    let same = counts (c .before .before) in
+    other-count _ _ _ _ _ _ _ (same .before .before .number-at .ensures .0) (same .before .number-at2 .ensures .0)
+    (same .same-bytes .ensures) (not-false _ (c .before .if1 .left)) (c .if2 .taken)
 
 alpha-eq-parameters-requires : tie.Need-alpha-eq-parameters-requires
 alpha-eq-parameters-requires c κs =
-    record
-    { names = c .before .before .before .before .before .before .before .before .before .before .before .pre .names; named = c .before .before .before .before .before .before .before .before .before .before .before .pre .named; two = two-lists (c .if2 .left) (c .before .before .before .before .before .before .before .before .before .before .before .pre .two); bound = c .before .before .before .before .before .before .before .before .before .before .before .pre .bound }
+    let s = entry (counts (c .before .before)) .pre in
+    record { names = s .names; named = s .named; two = two-lists (c .if2 .left) (s .two); bound = s .bound }
 
 returns-3 : tie.Need-returns-3
 returns-3 c =
-    by-parameters _ _ _ _ _ _ _ (c .before .before .before .before .before .before .before .number-at .ensures .0)
-    (c .before .before .before .before .before .before .number-at2 .ensures .0) (c .before .before .before .before .before .same-bytes .ensures)
-    (not-false _ (c .before .before .if1 .left)) (c .before .if2 .left) (c .alpha-eq-parameters .ensures)
+    let tested = c .before .before in
+    let same = counts (tested .before) in
+    by-parameters _ _ _ _ _ _ _ (same .before .before .number-at .ensures .0) (same .before .number-at2 .ensures .0)
+    (same .same-bytes .ensures) (not-false _ (tested .if1 .left)) (c .before .if2 .left) (c .alpha-eq-parameters .ensures)
 
 pub alpha-eq-atom-spec : {M : Type 1} → statement M
 alpha-eq-atom-spec =
     tie.close
     (tie.spec
-    add-number-at
-    number-at-requires
-    add-number-at-2
-    number-at-requires-2
+    (λ c. omega (arith, atom-at (start c .pre .two .left)))
+    (λ c κs. omega (arith, atom-at (start c .pre .two .left)))
+    (λ c. omega (arith, atom-at (start (c .before) .pre .two .right)))
+    (λ c κs. omega (arith, atom-at (start (c .before) .pre .two .right)))
     same-bytes-requires
-    add-count
-    shared-slice-read-count
-    add-other-count
-    shared-slice-read-other-count
+    (λ c. omega (arith, atom-at (entry c .pre .two .left)))
+    (λ c. omega (arith, atom-at (entry (c .before) .pre .two .left)))
+    (λ c. omega (arith, atom-at (entry (c .before) .pre .two .right)))
+    (λ c. omega (arith, atom-at (entry (counts c) .pre .two .right)))
     returns
     returns-2
-    add-alpha-eq-parameters
-    add-alpha-eq-parameters-2
-    cast-alpha-eq-parameters
+    (λ c. omega (arith, atom-at (entry (counts (c .before .before)) .pre .two .left)))
+    (λ c. omega (arith, atom-at (entry (counts (c .before .before)) .pre .two .right)))
+    (λ c. let known = c .before .before .before in
+    omega (arith, known .shared-slice-known5 .given (entry (known .before) .args .i + 3)))
     alpha-eq-parameters-requires
     returns-3)

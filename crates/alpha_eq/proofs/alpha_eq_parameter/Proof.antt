@@ -1,144 +1,96 @@
 -- The bytes that are read are those of the two parameters, so that each return is one case of their comparison.
+use Prim.Native.Nat.{_+_, _≤_}
+use mathlib.Core.Path.{_≡_, refl}
+use mathlib.Core.Bool.{Bool, _&&_}
 use native.Mathlib.Omega.{arith}
+use lib.ListN.{length, getD}
+use lib.Dec.{eqb}
+use denote.Ref.{now}
 use borrow.Author.Needs.{needs}
 use borrow.Author.Tests.{not-true, not-false, eq-eqb, ne-eqb}
-use Rattle.alpha_eq.specs.Comparing.{compared}
-use Rattle.alpha_eq.proofs.Parameters.{parameter-at, id-at, names-within, other-kind, uninstantiated-both, instantiated-both}
+use Rattle.definitions.specs.Outcome.{accepted}
+use Rattle.prefix_code.specs.Scan.{parameterCoding}
+use Rattle.alpha_eq.specs.declared.Compared.{Compared}
+use Rattle.alpha_eq.specs.Comparing.{compared, alphaEqParameterIn, Answers}
+use Rattle.alpha_eq.proofs.Parameters.{parameter-at, id-at, names-within}
+use Rattle.alpha_eq.proofs.Parameters.{other-kind, uninstantiated-both, instantiated-both}
 use Rattle.alpha_eq.proofs.alpha_eq_parameter.Statement.{statement}
 use Rattle.alpha_eq.proofs.alpha_eq_parameter.Tie as tie
 
-shared-slice-read-kind : tie.Need-shared-slice-read-kind
-shared-slice-read-kind c = omega (arith, parameter-at (c .before .before .before .before .before .pre .two .left))
+-- back to the entry: from the first kind, from the test of both, and over the names
+abbrev start : tie.After-shared-slice-known5 → tie.Start
+start c = c .before .before .before .before .before
 
-shared-slice-read-if1 : tie.Need-shared-slice-read-if1
-shared-slice-read-if1 c = omega (arith, parameter-at (c .before .before .before .before .before .before .pre .two .right))
+abbrev kinds : tie.Else1 → tie.Start
+kinds c = start (c .before .before)
 
-returns : tie.Need-returns
-returns c = other-kind _ _ _ _ _ _ _ (c .if1 .taken)
+abbrev entry : tie.After-number-at2 → tie.Start
+entry c = kinds (c .before .before)
 
-add-number-at : tie.Need-add-number-at
-add-number-at c = omega (arith, parameter-at (c .before .before .before .before .before .before .before .pre .two .left))
+-- both are instantiated
+left-id : (c : tie.Else2) → let s = entry (c .before) .args in
+    (getD (now (s .code)) (s .i) 0 ≡ 1) × (s .i + 5 ≤ length (now (s .code)))
+left-id c = id-at (entry (c .before) .pre .two .left) (c .if2 .left)
 
-number-at-requires : tie.Need-number-at-requires
-number-at-requires c κs = omega (arith, parameter-at (c .before .before .before .before .before .before .before .pre .two .left))
+right-id : (c : tie.Else2) → let s = entry (c .before) .args in
+    (getD (now (s .code)) (s .j) 0 ≡ 1) × (s .j + 5 ≤ length (now (s .code)))
+right-id c = id-at (entry (c .before) .pre .two .right) (omega arith)
 
-add-number-at-2 : tie.Need-add-number-at-2
-add-number-at-2 c = omega (arith, parameter-at (c .before .before .before .before .before .before .before .before .pre .two .right))
-
-number-at-requires-2 : tie.Need-number-at-requires-2
-number-at-requires-2 c κs = omega (arith, parameter-at (c .before .before .before .before .before .before .before .before .pre .two .right))
+-- so that their names and ids decide
+decided : (c : tie.After-number-at4) {named alike : Bool} {r : Compared}
+    → let s = entry (c .before .before .before .before) .args in
+    c .before .before .same-bytes .result ≡ named → eqb (c .before .number-at3 .result) (c .number-at4 .result) ≡ alike
+    → r ≡ compared (accepted (named && alike)) (s .i + 5) (s .j + 5)
+    → Answers parameterCoding (now (s .code)) (s .i) (s .j)
+    (alphaEqParameterIn (now (s .pairs)) (now (s .text)) (now (s .bindings)) (s .depth)) r
+decided c p q e =
+    let same = c .before .before in
+    let names = same .before .before in
+    instantiated-both _ _ _ _ _ _ _ (left-id (same .before) .0) (right-id (same .before) .0)
+    (names .before .number-at .ensures .0) (names .number-at2 .ensures .0)
+    (c .before .number-at3 .ensures .0) (c .number-at4 .ensures .0) (same .same-bytes .ensures) (rw (p, q) e)
 
 bound-alike-requires : tie.Need-bound-alike-requires
-bound-alike-requires c κs = (
-  c .before .before .before .before .before .before .before .before .before .before .pre .bound,
-  names-within (c .before .before .before .before .before .before .before .before .before .before .pre) (c .before .before .number-at .ensures .0)
-      (c .before .number-at2 .ensures .0),
-)
-
-add-with-ends : tie.Need-add-with-ends
-add-with-ends c =
-    omega (arith, parameter-at (c .before .before .before .before .before .before .before .before .before .before .before .pre .two .left))
-
-add-with-ends-2 : tie.Need-add-with-ends-2
-add-with-ends-2 c =
-    omega (arith, parameter-at (c .before .before .before .before .before .before .before .before .before .before .before .pre .two .right))
-
-with-ends-requires : tie.Need-with-ends-requires
-with-ends-requires c κs = search needs
+bound-alike-requires c κs =
+    let names = c .before in
+    let s = entry names .pre in
+    (s .bound, names-within s (names .before .number-at .ensures .0) (names .number-at2 .ensures .0))
 
 returns-2 : tie.Need-returns-2
 returns-2 c =
-    uninstantiated-both _ _ _ _ _ _ _ (omega arith) (omega arith) (c .before .before .before .before .number-at .ensures .0)
-    (c .before .before .before .number-at2 .ensures .0) (c .before .bound-alike .ensures) (c .with-ends .ensures)
+    let names = c .before .before .before in
+    uninstantiated-both _ _ _ _ _ _ _ (omega arith) (omega arith) (names .before .number-at .ensures .0)
+    (names .number-at2 .ensures .0) (c .before .bound-alike .ensures) (c .with-ends .ensures)
 
 same-bytes-requires : tie.Need-same-bytes-requires
 same-bytes-requires c κs =
-    names-within (c .before .before .before .before .before .before .before .before .before .before .pre) (c .before .before .number-at .ensures .0)
-    (c .before .number-at2 .ensures .0)
-
-add-number-at-3 : tie.Need-add-number-at-3
-add-number-at-3 c =
-    omega
-    (arith, id-at (c .before .before .before .before .before .before .before .before .before .before .before .pre .two .left) (c .before .if2 .left))
-
-number-at-requires-3 : tie.Need-number-at-requires-3
-number-at-requires-3 c κs =
-    omega
-    (arith, id-at (c .before .before .before .before .before .before .before .before .before .before .before .pre .two .left) (c .before .if2 .left))
-
-add-number-at-4 : tie.Need-add-number-at-4
-add-number-at-4 c =
-    omega
-    (arith, id-at (c .before .before .before .before .before .before .before .before .before .before .before .before .pre .two .right) (omega arith))
-
-number-at-requires-4 : tie.Need-number-at-requires-4
-number-at-requires-4 c κs =
-    omega
-    (arith, id-at (c .before .before .before .before .before .before .before .before .before .before .before .before .pre .two .right) (omega arith))
-
-returns-3 : tie.Need-returns-3
-unfolding compared
-returns-3 c =
-    let here = id-at (c .before .before .before .before .before .before .before .before .before .before .before .before .before .before .pre .two .left) (c .before .before .before .before .if2 .left) in
-    let there = id-at (c .before .before .before .before .before .before .before .before .before .before .before .before .before .before .pre .two .right) (omega arith) in
-    instantiated-both _ _ _ _ _ _ _ (here .0) (there .0) (c .before .before .before .before .before .before .number-at .ensures .0)
-    (c .before .before .before .before .before .number-at2 .ensures .0) (c .before .before .number-at3 .ensures .0)
-    (c .before .number-at4 .ensures .0) (c .before .before .before .same-bytes .ensures)
-    (rw (not-true (c .before .before .before .same-bytes .result) (c .if3 .taken)))
-
-returns-4 : tie.Need-returns-4
-unfolding compared
-returns-4 c =
-    let here = id-at (c .before .before .before .before .before .before .before .before .before .before .before .before .before .before .before .pre .two .left) (c .before .before .before .before .before .if2 .left) in
-    let there = id-at (c .before .before .before .before .before .before .before .before .before .before .before .before .before .before .before .pre .two .right) (omega arith) in
-    instantiated-both _ _ _ _ _ _ _ (here .0) (there .0) (c .before .before .before .before .before .before .before .number-at .ensures .0)
-    (c .before .before .before .before .before .before .number-at2 .ensures .0) (c .before .before .before .number-at3 .ensures .0)
-    (c .before .before .number-at4 .ensures .0) (c .before .before .before .before .same-bytes .ensures)
-    (rw (not-false (c .before .before .before .before .same-bytes .result) (c .before .if3 .left), ne-eqb (c .before .before .before .number-at3 .result) (c .before .before .number-at4 .result) (c .if4 .taken)))
-
-add-t19 : tie.Need-add-t19
-add-t19 c =
-    omega
-    (arith, id-at (c .before .before .before .before .before .before .before .before .before .before .before .before .before .before .before .pre .two .left) (c .before .before .before .before .before .if2 .left))
-
-add-t22 : tie.Need-add-t22
-add-t22 c =
-    omega
-    (arith, id-at (c .before .before .before .before .before .before .before .before .before .before .before .before .before .before .before .pre .two .right) (omega arith))
-
-returns-5 : tie.Need-returns-5
-unfolding compared
-returns-5 c =
-    let here = id-at (c .before .before .before .before .before .before .before .before .before .before .before .before .before .before .before .pre .two .left) (c .before .before .before .before .before .if2 .left) in
-    let there = id-at (c .before .before .before .before .before .before .before .before .before .before .before .before .before .before .before .pre .two .right) (omega arith) in
-    instantiated-both _ _ _ _ _ _ _ (here .0) (there .0) (c .before .before .before .before .before .before .before .number-at .ensures .0)
-    (c .before .before .before .before .before .before .number-at2 .ensures .0) (c .before .before .before .number-at3 .ensures .0)
-    (c .before .before .number-at4 .ensures .0) (c .before .before .before .before .same-bytes .ensures)
-    (rw (not-false (c .before .before .before .before .same-bytes .result) (c .before .if3 .left), eq-eqb (c .before .before .before .number-at3 .result) (c .before .before .number-at4 .result) (c .if4 .left)))
+    let names = c .before in
+    names-within (entry names .pre) (names .before .number-at .ensures .0) (names .number-at2 .ensures .0)
 
 pub alpha-eq-parameter-spec : {M : Type 1} → statement M
+unfolding compared
 alpha-eq-parameter-spec =
     tie.close
     (tie.spec
-    shared-slice-read-kind
-    shared-slice-read-if1
-    returns
-    add-number-at
-    number-at-requires
-    add-number-at-2
-    number-at-requires-2
+    (λ c. omega (arith, parameter-at (start c .pre .two .left)))
+    (λ c. omega (arith, parameter-at (start (c .before) .pre .two .right)))
+    (λ c. other-kind _ _ _ _ _ _ _ (c .if1 .taken))
+    (λ c. omega (arith, parameter-at (kinds c .pre .two .left)))
+    (λ c κs. omega (arith, parameter-at (kinds c .pre .two .left)))
+    (λ c. omega (arith, parameter-at (kinds (c .before) .pre .two .right)))
+    (λ c κs. omega (arith, parameter-at (kinds (c .before) .pre .two .right)))
     bound-alike-requires
-    add-with-ends
-    add-with-ends-2
-    with-ends-requires
+    (λ c. omega (arith, parameter-at (entry (c .before .before) .pre .two .left)))
+    (λ c. omega (arith, parameter-at (entry (c .before .before) .pre .two .right)))
+    (λ c κs. search needs)
     returns-2
     same-bytes-requires
-    add-number-at-3
-    number-at-requires-3
-    add-number-at-4
-    number-at-requires-4
-    returns-3
-    returns-4
-    add-t19
-    add-t22
-    returns-5)
+    (λ c. omega (arith, left-id (c .before)))
+    (λ c κs. omega (arith, left-id (c .before)))
+    (λ c. omega (arith, right-id (c .before .before)))
+    (λ c κs. omega (arith, right-id (c .before .before)))
+    (λ c. decided (c .before) (not-true _ (c .if3 .taken)) refl refl)
+    (λ c. decided (c .before .before) (not-false _ (c .before .if3 .left)) (ne-eqb _ _ (c .if4 .taken)) refl)
+    (λ c. omega (arith, left-id (c .before .before .before .before .before)))
+    (λ c. omega (arith, right-id (c .before .before .before .before .before)))
+    (λ c. decided (c .before .before) (not-false _ (c .before .if3 .left)) (eq-eqb _ _ (c .if4 .left)) refl))

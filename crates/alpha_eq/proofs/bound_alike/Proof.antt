@@ -1,11 +1,13 @@
 -- The invariant: the bindings not yet seen, the earlier ones, decide as all of them do.
-use Prim.Native.Nat.{ℕ, _≤_}
+use Prim.Native.Nat.{ℕ, _-_, _≤_}
 use mir.Syntax.{w16, w64}
 use mir.Val.{Fits}
 use mathlib.Core.Path.{_≡_, refl, sym, ap, _∙_}
+use mathlib.Core.Bool.{Bool, _||_, _&&_, cond}
 use native.Mathlib.Omega.{arith}
+use denote.Ref.{now}
 use borrow.Author.Needs.{needs}
-use Rattle.definitions.specs.Outcome.{refused, refuse}
+use Rattle.definitions.specs.Outcome.{accepted, refused, refuse}
 use Rattle.identifier.proofs.Within.{last-within}
 use Rattle.alpha_eq.specs.Comparing.{outcomeOf, boundAlikeIn}
 use Rattle.alpha_eq.proofs.Bindings.{latest-binding, none-bound}
@@ -23,81 +25,38 @@ abbrev μ-loop : tie.MeasureT-loop
 widened : {n : ℕ} → Fits w16 n → Fits w64 n
 widened fits = record { fits = omega (arith, fits .fits) }
 
-loop-holds : tie.Need-loop-holds Inv-loop μ-loop
-loop-holds c = (omega arith, refl)
+-- its places and needs
+abbrev Alike : (tie.InvT-loop → tie.MeasureT-loop → Type 0) → Type 0
+Alike place = place Inv-loop μ-loop
 
-sub-latest : tie.Need-sub-latest Inv-loop μ-loop
-sub-latest c = search needs
+-- from the loop back to the entry, and back over the two comparisons
+abbrev start : Alike tie.At-loop → Alike tie.Start
+start c = c .before .before .before .before
 
-mul-latest : tie.Need-mul-latest Inv-loop μ-loop
-mul-latest c = search needs
+abbrev compared : Alike tie.After-same-bytes2 → Alike tie.In-loop
+compared c = c .before .before .before .before
 
-mul-same-bytes : tie.Need-mul-same-bytes Inv-loop μ-loop
-mul-same-bytes c = search needs
+-- the latest binding that is not yet seen decides, or the earlier ones do
+decided : (c : Alike tie.After-same-bytes2) {has-x has-y : Bool}
+    → c .before .before .same-bytes .result ≡ has-x → c .same-bytes2 .result ≡ has-y
+    → let s = start (compared c .before) .args in
+    cond (has-x || has-y) (accepted (has-x && has-y))
+    (boundAlikeIn (now (s .pairs)) (now (s .text)) (now (s .bindings)) (compared c .before .loop .unseen - 1) (s .x) (s .y))
+    ≡ boundAlikeIn (now (s .pairs)) (now (s .text)) (now (s .bindings)) (s .depth) (s .x) (s .y)
+decided c p q =
+    let looped = compared c in
+    sym (latest-binding _ _ _ _ _ _ (looped .loop-test .taken) (sym p ∙ c .before .before .same-bytes .ensures)
+    (sym q ∙ c .same-bytes2 .ensures))
+    ∙ looped .before .loop .inv .1
 
-shared-slice-read-same-bytes : tie.Need-shared-slice-read-same-bytes Inv-loop μ-loop
-shared-slice-read-same-bytes c = search needs
+same-bytes-requires : Alike tie.Need-same-bytes-requires
+same-bytes-requires c κs = let s = start (c .before .before) .pre in (last-within (s .0 .named _ (omega arith)), s .1 .0)
 
-cast-same-bytes : tie.Need-cast-same-bytes Inv-loop μ-loop
-cast-same-bytes c = widened (c .shared-slice-known4 .given _)
+same-bytes-requires-2 : Alike tie.Need-same-bytes-requires-2
+same-bytes-requires-2 c κs =
+    let s = start (c .before .before .before .before) .pre in (last-within (s .0 .named _ (omega arith)), s .1 .1)
 
-same-bytes-requires : tie.Need-same-bytes-requires Inv-loop μ-loop
-same-bytes-requires c κs = (last-within (c .before .before .before .before .before .before .pre .0 .named _ (omega arith)), c .before .before .before .before .before .before .pre .1 .0)
-
-add-same-bytes : tie.Need-add-same-bytes Inv-loop μ-loop
-add-same-bytes c = search needs
-
-mul-same-bytes-2 : tie.Need-mul-same-bytes-2 Inv-loop μ-loop
-mul-same-bytes-2 c = search needs
-
-shared-slice-read-same-bytes-2 : tie.Need-shared-slice-read-same-bytes-2 Inv-loop μ-loop
-shared-slice-read-same-bytes-2 c = search needs
-
-cast-same-bytes-2 : tie.Need-cast-same-bytes-2 Inv-loop μ-loop
-cast-same-bytes-2 c = widened (c .shared-slice-known5 .given _)
-
-same-bytes-requires-2 : tie.Need-same-bytes-requires-2 Inv-loop μ-loop
-same-bytes-requires-2 c κs = (last-within (c .before .before .before .before .before .before .before .before .pre .0 .named _ (omega arith)), c .before .before .before .before .before .before .before .before .pre .1 .1)
-
-returns : tie.Need-returns Inv-loop μ-loop
-unfolding outcomeOf
-returns c =
-    sym
-    (latest-binding _ _ _ _ _ _ (c .before .before .before .before .before .before .loop-test .taken) (sym (c .before .if1 .taken) ∙ c .before .before .before .before .same-bytes .ensures) (sym (c .if2 .taken) ∙ c .before .before .same-bytes2 .ensures))
-    ∙ c .before .before .before .before .before .before .before .loop .inv .1
-
-returns-2 : tie.Need-returns-2 Inv-loop μ-loop
-unfolding outcomeOf
-returns-2 c =
-    sym
-    (latest-binding _ _ _ _ _ _ (c .before .before .before .before .before .before .loop-test .taken) (sym (c .before .if1 .taken) ∙ c .before .before .before .before .same-bytes .ensures) (sym (c .if2 .left) ∙ c .before .before .same-bytes2 .ensures))
-    ∙ c .before .before .before .before .before .before .before .loop .inv .1
-
-returns-3 : tie.Need-returns-3 Inv-loop μ-loop
-unfolding outcomeOf
-returns-3 c =
-    sym
-    (latest-binding _ _ _ _ _ _ (c .before .before .before .before .before .before .loop-test .taken) (sym (c .before .if1 .left) ∙ c .before .before .before .before .same-bytes .ensures) (sym (c .if3 .taken) ∙ c .before .before .same-bytes2 .ensures))
-    ∙ c .before .before .before .before .before .before .before .loop .inv .1
-
-sub-unseen : tie.Need-sub-unseen Inv-loop μ-loop
-sub-unseen c = search needs
-
-loop-less : tie.Need-loop-less Inv-loop μ-loop
-loop-less c = search needs
-
-loop-again : tie.Need-loop-again Inv-loop μ-loop
-loop-again c = (
-  omega arith,
-  sym
-      (latest-binding _ _ _ _ _ _ (c .before .before .before .before .before .before .loop-test .taken) (sym (c .before .if1 .left) ∙ c .before .before .before .before .same-bytes .ensures) (sym (c .if3 .left) ∙ c .before .before .same-bytes2 .ensures))
-      ∙ c .before .before .before .before .before .before .before .loop .inv .1,
-)
-
-at-requires : tie.Need-at-requires Inv-loop μ-loop
-at-requires c κs = search needs
-
-returns-4 : tie.Need-returns-4 Inv-loop μ-loop
+returns-4 : Alike tie.Need-returns-4
 unfolding outcomeOf refuse
 returns-4 c =
     let in-loop = c .before .before in
@@ -105,28 +64,20 @@ returns-4 c =
     ap refused (c .at .ensures) ∙ sym (none-bound _ _ _ _ _) ∙ rw none at (in-loop .loop .inv .1)
 
 pub bound-alike-spec : {M : Type 1} → statement M
+unfolding outcomeOf
 bound-alike-spec =
     tie.close
     (tie.spec
     Inv-loop
     μ-loop
-    loop-holds
-    sub-latest
-    mul-latest
-    mul-same-bytes
-    shared-slice-read-same-bytes
-    cast-same-bytes
-    same-bytes-requires
-    add-same-bytes
-    mul-same-bytes-2
-    shared-slice-read-same-bytes-2
-    cast-same-bytes-2
+    (λ c. (omega arith, refl))
+    (λ c. search needs) (λ c. search needs)
+    (λ c. search needs) (λ c. search needs) (λ c. widened (c .shared-slice-known4 .given _)) same-bytes-requires
+    (λ c. search needs) (λ c. search needs) (λ c. search needs) (λ c. widened (c .shared-slice-known5 .given _))
     same-bytes-requires-2
-    returns
-    returns-2
-    returns-3
-    sub-unseen
-    loop-less
-    loop-again
-    at-requires
-    returns-4)
+    (λ c. decided (c .before .before) (c .before .if1 .taken) (c .if2 .taken))
+    (λ c. decided (c .before .before) (c .before .if1 .taken) (c .if2 .left))
+    (λ c. decided (c .before .before) (c .before .if1 .left) (c .if3 .taken))
+    (λ c. search needs)
+    (λ c. search needs) (λ c. (omega arith, decided (c .before .before) (c .before .if1 .left) (c .if3 .left)))
+    (λ c κs. search needs) returns-4)
