@@ -94,7 +94,8 @@ fn admits(entries: &[u16], i: usize, pairs: &[u8], text: &[u8], lookup: Lookup) 
 
 // The index of the latest entry that a lookup admits.
 fn find(entries: &[u16], len: usize, pairs: &[u8], text: &[u8], lookup: Lookup) -> Found
-    requires { ⌜ Holds (now pairs) (now text) (now entries) len × NameWithin (now pairs) (now text) (nameAsked lookup) ⌝ }
+    requires { ⌜ Holds (now pairs) (now text) (now entries) len
+        × NameWithin (now pairs) (now text) (nameAsked lookup) ⌝ }
     ensures { λ r. ⌜ Finds (marked (now (pairs .entry)) (now (text .entry))) lookup (now (entries .entry)) len r ⌝ }
 {
     let mut left = len;
@@ -111,7 +112,8 @@ fn find(entries: &[u16], len: usize, pairs: &[u8], text: &[u8], lookup: Lookup) 
 // The index of the latest entry of a name.
 pub fn get_by_name(entries: &[u16], len: usize, pairs: &[u8], text: &[u8], name: u16) -> Found
     requires { ⌜ Holds (now pairs) (now text) (now entries) len × NameWithin (now pairs) (now text) name ⌝ }
-    ensures { λ r. ⌜ Finds (marked (now (pairs .entry)) (now (text .entry))) (Lookup.ByName name) (now (entries .entry)) len r ⌝ }
+    ensures { λ r. ⌜ Finds (marked (now (pairs .entry)) (now (text .entry))) (Lookup.ByName name)
+        (now (entries .entry)) len r ⌝ }
 {
     find(entries, len, pairs, text, Lookup::ByName(name))
 }
@@ -156,7 +158,8 @@ fn remove_latest(
     text: &[u8],
     lookup: Lookup,
 ) -> Removed
-    requires { ⌜ Holds (now pairs) (now text) (now entries) len × NameWithin (now pairs) (now text) (nameAsked lookup) ⌝ }
+    requires { ⌜ Holds (now pairs) (now text) (now entries) len
+        × NameWithin (now pairs) (now text) (nameAsked lookup) ⌝ }
     ensures { λ r. ⌜ Removes (marked (now (pairs .entry)) (now (text .entry))) lookup
         (now (entries .entry)) (now (entries .exit)) len r ⌝ }
 {

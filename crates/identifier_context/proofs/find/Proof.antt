@@ -21,15 +21,6 @@ Inv-loop entries len pairs text lookup left₀ left =
 abbrev μ-loop : tie.MeasureT-loop
 μ-loop entries len pairs text lookup left₀ left = left
 
-loop-holds : tie.Need-loop-holds Inv-loop μ-loop
-loop-holds c = (omega arith, refl)
-
-sub-i : tie.Need-sub-i Inv-loop μ-loop
-sub-i c = search needs
-
-sub-left : tie.Need-sub-left Inv-loop μ-loop
-sub-left c = search needs
-
 admits-requires : tie.Need-admits-requires Inv-loop μ-loop
 admits-requires c κs =
     let holds = c .before .before .before .before .before .pre .0 in
@@ -38,14 +29,13 @@ admits-requires c κs =
 returns : tie.Need-returns Inv-loop μ-loop
 unfolding foundAt
 returns c =
-    finds (sym (ap foundAt (c .before .before .before .loop .inv .1 ∙ search-ends _ _ (omega arith) (sym (c .before .admits .ensures) ∙ c .if1 .taken))))
-
-loop-less : tie.Need-loop-less Inv-loop μ-loop
-loop-less c = search needs
+    let admitted = sym (c .before .admits .ensures) ∙ c .if1 .taken in
+    finds (sym (ap foundAt (c .before .before .before .loop .inv .1 ∙ search-ends _ _ (omega arith) admitted)))
 
 loop-again : tie.Need-loop-again Inv-loop μ-loop
 loop-again c =
-    (omega arith, c .before .before .before .loop .inv .1 ∙ search-passes _ _ (omega arith) (sym (c .before .admits .ensures) ∙ c .if1 .left))
+    let passed = sym (c .before .admits .ensures) ∙ c .if1 .left in
+    (omega arith, c .before .before .before .loop .inv .1 ∙ search-passes _ _ (omega arith) passed)
 
 returns-2 : tie.Need-returns-2 Inv-loop μ-loop
 unfolding foundAt latestAt contextOf
@@ -59,11 +49,11 @@ find-spec =
     (tie.spec
     Inv-loop
     μ-loop
-    loop-holds
-    sub-i
+    (λ c. (omega arith, refl))
+    (λ c. search needs)
     admits-requires
     returns
-    sub-left
-    loop-less
+    (λ c. search needs)
+    (λ c. search needs)
     loop-again
     returns-2)

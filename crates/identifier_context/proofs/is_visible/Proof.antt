@@ -6,34 +6,29 @@ use Rattle.identifier_context.proofs.Visibility.{isAt, visible-at}
 use Rattle.identifier_context.proofs.is_visible.Statement.{statement}
 use Rattle.identifier_context.proofs.is_visible.Tie as tie
 
-entry-at-requires : tie.Need-entry-at-requires
-entry-at-requires c κs = search needs
+-- back over the entry
+abbrev start : tie.After-entry-at → tie.Start
+start c = c .before .before .before .before
 
 find-requires : tie.Need-find-requires
 unfolding entryAt
-find-requires c κs =
-    let pre = c .before .before .before .before .pre in
-    (pre .0, rw (c .entry-at .ensures) (pre .0 .named _ (pre .1)))
-
-enum-known-latest : tie.Need-enum-known-latest
-enum-known-latest c = search needs
-
-enum-told : tie.Need-enum-told
-enum-told c = search needs
+find-requires c κs = let pre = start c .pre in (pre .0, rw (c .entry-at .ensures) (pre .0 .named _ (pre .1)))
 
 returns : tie.Need-returns
 unfolding isAt entryAt
 returns c =
-    let index = rw (c .before .before .before .entry-at .ensures) at (c .before .before .find .ensures .index) in
-    visible-at _ _ (c .before .before .before .before .before .before .before .pre .1) (index-missing _ (c .enum-told .given .1) index)
+    let found = c .before .before in
+    let index = rw (found .before .entry-at .ensures) at (found .find .ensures .index) in
+    visible-at _ _ (start (found .before) .pre .1) (index-missing _ (c .enum-told .given .1) index)
 
 returns-2 : tie.Need-returns-2
 unfolding isAt entryAt
 returns-2 c =
-    let index = rw (c .before .before .before .before .entry-at .ensures) at (c .before .before .before .find .ensures .index) in
-    visible-at _ _ (c .before .before .before .before .before .before .before .before .pre .1) (index-found _ (c .before .latest .given .1) index)
+    let found = c .before .before .before in
+    let index = rw (found .before .entry-at .ensures) at (found .find .ensures .index) in
+    visible-at _ _ (start (found .before) .pre .1) (index-found _ (c .before .latest .given .1) index)
 
 pub is-visible-spec : {M : Type 1} → statement M
 is-visible-spec =
     tie.close
-    (tie.spec entry-at-requires find-requires enum-known-latest enum-told returns returns-2)
+    (tie.spec (λ c κs. search needs) find-requires (λ c. search needs) (λ c. search needs) returns returns-2)

@@ -72,25 +72,13 @@ loop-holds : tie.Need-loop-holds Inv-loop μ-loop
 loop-holds c =
     ⊎-elim (λ w. rw (w .1) (left-all _ _ _ _ (w .0 .taken))) (λ w. rw (w .1) (left-before _ _ _ _ (w .0 .left))) (c .if1 .came)
 
-sub-next : tie.Need-sub-next Inv-loop μ-loop
-sub-next c = search needs
-
-sub-left : tie.Need-sub-left Inv-loop μ-loop
-sub-left c = search needs
-
 -- back from the loop to the start
 abbrev start : tie.At-loop Inv-loop μ-loop → tie.Start Inv-loop μ-loop
 start c = c .before .before .before .before .before
 
-is-visible-requires : tie.Need-is-visible-requires Inv-loop μ-loop
-is-visible-requires c κs = (start (c .before .before) .pre, omega arith)
-
 returns : tie.Need-returns Inv-loop μ-loop
 returns c =
     left-met (omega arith) (sym (c .before .is-visible .ensures) ∙ c .if2 .taken) (c .before .before .before .before .loop .inv)
-
-loop-less : tie.Need-loop-less Inv-loop μ-loop
-loop-less c = search needs
 
 loop-again : tie.Need-loop-again Inv-loop μ-loop
 loop-again c =
@@ -108,10 +96,10 @@ next-visible-spec =
     Inv-loop
     μ-loop
     loop-holds
-    sub-next
-    is-visible-requires
+    (λ c. search needs)
+    (λ c κs. (start (c .before .before) .pre, omega arith))
     returns
-    sub-left
-    loop-less
+    (λ c. search needs)
+    (λ c. search needs)
     loop-again
     returns-2)

@@ -3,14 +3,6 @@ use borrow.Author.Needs.{needs}
 use Rattle.identifier_context.proofs.remove_by_name.Statement.{statement}
 use Rattle.identifier_context.proofs.remove_by_name.Tie as tie
 
-remove-latest-requires : tie.Need-remove-latest-requires
-remove-latest-requires c κs = c .before .before .before .before .pre
-
-same-length : tie.Need-same-length
-same-length c = search needs
-
-returns : tie.Need-returns
-returns c = search needs
-
 pub remove-by-name-spec : {M : Type 1} → statement M
-remove-by-name-spec = tie.close (tie.spec remove-latest-requires same-length returns)
+remove-by-name-spec =
+    tie.close (tie.spec (λ c κs. c .before .before .before .before .pre) (λ c. search needs) (λ c. search needs))
