@@ -161,7 +161,8 @@ fn put_term(
     requires { ⌜ AcceptedSheet (now s) h ⌝ }
     requires { ⌜ HeldTerm (now s) (now terms) n ⌝ }
     requires { ⌜ EndsKnown (now s) (now ends) ⌝ }
-    ensures { λ r. ⌜ Wrote (displayTerm style (termOf (now (s .entry)) (now (terms .entry)) n)) write (now (out .entry)) to (now (out .exit)) r ⌝ }
+    ensures { λ r. ⌜ Wrote (displayTerm style (termOf (now (s .entry)) (now (terms .entry)) n))
+        write (now (out .entry)) to (now (out .exit)) r ⌝ }
 {
     print_term(
         out,
@@ -188,7 +189,8 @@ pub fn text(
 ) -> Written
     requires { ⌜ AcceptedSheet (now s) h ⌝ }
     requires { ⌜ HeldTerm (now s) (now terms) n ⌝ }
-    ensures { λ r. ⌜ Fills (inRoom (length (now (out .entry))) (sheetText (now (s .entry)) version style)) (now (out .entry)) (now (out .exit)) r ⌝ }
+    ensures { λ r. ⌜ Fills (inRoom (length (now (out .entry))) (sheetText (now (s .entry)) version style))
+        (now (out .entry)) (now (out .exit)) r ⌝ }
 {
     let mut ends = [0u16; Sheet::CODE_LIMIT];
     let mut first = [0u16; DECLARED_NUMBERS];
