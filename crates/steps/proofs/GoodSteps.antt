@@ -1,6 +1,6 @@
 -- What refusal 9 leaves of a step: it has a rule, and its names and its proposition are the sheet's.
 use Prim.Native.Nat.{ℕ, _≤_, _<_}
-use mathlib.Core.Path.{_≡_, refl, sym, _∙_}
+use mathlib.Core.Path.{_≡_, sym, _∙_}
 use mathlib.Core.Bool.{Bool, true, false, _||_, cond, true≢false}
 use mathlib.Core.List.{List}
 use native.Mathlib.Omega.{arith}
@@ -13,10 +13,7 @@ use Rattle.definitions.specs.Admission.{noName, badIdentifier, badPropIsTrue, b
 use Rattle.steps.specs.declared.Judgement.{Judgement}
 use Rattle.steps.specs.declared.Conclusion.the-variants.{PropIsTrue, TypeJudgement}
 use Rattle.steps.specs.StepAt.{identifierAt, conclusionAt, stepAt, KnownConclusion}
-
-neither : (a b : Bool) → a || b ≡ false → (a ≡ false) × (b ≡ false)
-neither true b e = absurd (true≢false e)
-neither false b e = (refl, e)
+use Rattle.steps.proofs.Either.{neither}
 
 -- of two tests the first fails, where it is the one that is tried
 first-tried : (has a b : Bool) → has ≡ true → cond has a b ≡ false → a ≡ false

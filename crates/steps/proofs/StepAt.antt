@@ -1,17 +1,16 @@
--- What the fields of a step stand for in the definitions.
+-- What the conclusion of a step stands for in the definitions.
 use Prim.Native.Nat.{ℕ}
 use mathlib.Core.Path.{_≡_, refl, sym, _∙_}
 use mathlib.Core.Bool.{Bool, true, false, cond}
 use mathlib.Core.List.{List}
-use lib.ListN.{getD}
 use lib.Dec.{eqb}
 use borrow.Author.Tests.{eq-eqb, ne-eqb}
-use Rattle.definitions.specs.Sheet.{premissCount, stepNumber, column}
+use Rattle.definitions.specs.Sheet.{stepNumber}
 use Rattle.definitions.specs.Tree as tree
-use Rattle.definitions.specs.Tree.{rules, Sorry, ruleIn, propIn, identifierIn, conclusionIn}
+use Rattle.definitions.specs.Tree.{propIn, identifierIn, conclusionIn}
 use Rattle.steps.specs.declared.Judgement.{Judgement}
 use Rattle.steps.specs.declared.Conclusion.the-variants.{PropIsTrue, TypeJudgement}
-use Rattle.steps.specs.StepAt.{identifierAt, conclusionAt, stepAt, identifierOf, objectOf, concludedIn}
+use Rattle.steps.specs.StepAt.{conclusionAt, stepAt, objectOf, concludedIn}
 
 -- the conclusion that a step's numbers give, by its kind
 module _ (records : List ℕ) (k : ℕ) {kind first : ℕ} (is-kind : kind ≡ stepNumber records k 10) (is-first : first ≡ stepNumber records k 12) where
@@ -25,36 +24,16 @@ module _ (records : List ℕ) (k : ℕ) {kind first : ℕ} (is-kind : kind ≡ s
   judgement-at nonzero is-id is-datatype =
       rw (ne-eqb (stepNumber records k 10) 0 (λ z. nonzero (is-kind ∙ z)), is-first, is-id, is-datatype)
 
--- Of each field of step k:
-module _ (records : List ℕ) (k : ℕ) where
-  pub rule-is : getD rules (stepAt records k .rule) Sorry ≡ ruleIn records k
-  unfolding stepAt ruleIn
-  rule-is = refl
+-- what the conclusion of step k stands for
+module _ (records : List ℕ) (k names : ℕ) (pairs code : List ℕ) where
+  by-kind : (zero : Bool) (p : ℕ) (x : Judgement)
+      → concludedIn names pairs code (cond zero (PropIsTrue p) (TypeJudgement x))
+      ≡ cond zero (tree.PropIsTrue (propIn names pairs code p)) (tree.TypeJudgement (objectOf x) (x .datatype))
+  unfolding concludedIn
+  by-kind true p x = refl
+  by-kind false p x = refl
 
-  pub premiss-count-is : stepAt records k .«premiss_count» ≡ premissCount records k
-  unfolding stepAt
-  premiss-count-is = refl
-
-  pub column-is : stepAt records k .column ≡ column records k
-  unfolding stepAt
-  column-is = refl
-
-  module _ (names : ℕ) (pairs code : List ℕ) where
-    pub first-is : identifierOf (stepAt records k .first) ≡ identifierIn names pairs code records k 2
-    unfolding stepAt identifierAt identifierOf identifierIn
-    first-is = refl
-
-    pub second-is : identifierOf (stepAt records k .second) ≡ identifierIn names pairs code records k 6
-    unfolding stepAt identifierAt identifierOf identifierIn
-    second-is = refl
-
-    by-kind : (zero : Bool) (p : ℕ) (x : Judgement)
-        → concludedIn names pairs code (cond zero (PropIsTrue p) (TypeJudgement x))
-        ≡ cond zero (tree.PropIsTrue (propIn names pairs code p)) (tree.TypeJudgement (objectOf x) (x .datatype))
-    unfolding concludedIn
-    by-kind true p x = refl
-    by-kind false p x = refl
-
-    pub conclusion-is : concludedIn names pairs code (stepAt records k .conclusion) ≡ conclusionIn names pairs code records k
-    unfolding stepAt conclusionAt objectOf conclusionIn identifierIn
-    conclusion-is = by-kind (eqb (stepNumber records k 10) 0) (stepNumber records k 12) _
+  pub conclusion-is : concludedIn names pairs code (stepAt records k .conclusion)
+      ≡ conclusionIn names pairs code records k
+  unfolding stepAt conclusionAt objectOf conclusionIn identifierIn
+  conclusion-is = by-kind (eqb (stepNumber records k 10) 0) (stepNumber records k 12) _

@@ -1,7 +1,6 @@
 -- The tables of sizes and nestings, filled from step 0 upwards.
 use Prim.Native.Nat.{ℕ, _+_, _-_, _≤_, _<_}
 use mathlib.Core.Path.{_≡_, _∙_}
-use mathlib.Core.Bool.{false}
 use mathlib.Core.List.{List}
 use native.Mathlib.Omega.{arith}
 use lib.ListN.{length, getD, set}
@@ -9,7 +8,6 @@ use lib.Seq.{getD-set-same, getD-set-other}
 use borrow.Author.Count.{below-more}
 use Rattle.definitions.specs.declared.Found.the-variants.{At}
 use Rattle.definitions.specs.Tree.{height, treeIn}
-use Rattle.definitions.specs.Admission.{tooFewTrees}
 use Rattle.steps.specs.Size.{size}
 use Rattle.steps.specs.Tables.{TreeStart, SizeTable, HeightTable}
 

@@ -5,12 +5,9 @@ use Rattle.definitions.specs.Admission.{badColumn}
 use Rattle.steps.proofs.bad_column.Statement.{statement}
 use Rattle.steps.proofs.bad_column.Tie as tie
 
-column-requires : tie.Need-column-requires
-column-requires c κs = search needs
-
 returns : tie.Need-returns
 unfolding badColumn columnLimit
 returns c names propositions = rw (c .column .ensures)
 
 pub bad-column-spec : {M : Type 1} → statement M
-bad-column-spec = tie.close (tie.spec column-requires returns)
+bad-column-spec = tie.close (tie.spec (λ c κs. search needs) returns)

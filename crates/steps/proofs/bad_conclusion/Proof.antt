@@ -26,16 +26,6 @@ module _ (names propositions : ℕ) (records : List ℕ) (k : ℕ) where
   unfolding badConclusion
   of-no-kind n m = rw (ne-eqb _ _ n, ne-eqb _ _ m)
 
-step-number-requires : tie.Need-step-number-requires
-unfolding stepSize
-step-number-requires c κs = search needs
-
-bad-prop-is-true-requires : tie.Need-bad-prop-is-true-requires
-bad-prop-is-true-requires c κs = search needs
-
-bad-type-judgement-requires : tie.Need-bad-type-judgement-requires
-bad-type-judgement-requires c κs = search needs
-
 returns : tie.Need-returns
 returns c =
     c .bad-prop-is-true .ensures _
@@ -52,12 +42,13 @@ returns-3 c =
     sym (of-no-kind _ _ _ _ (λ z. c .match .rest .0 .1 (e ∙ z)) (λ z. c .match .rest .1 (e ∙ z)))
 
 pub bad-conclusion-spec : {M : Type 1} → statement M
+unfolding stepSize
 bad-conclusion-spec =
     tie.close
     (tie.spec
-    step-number-requires
-    bad-prop-is-true-requires
-    bad-type-judgement-requires
+    (λ c κs. search needs)
+    (λ c κs. search needs)
+    (λ c κs. search needs)
     returns
     returns-2
     returns-3)

@@ -5,21 +5,9 @@ use Rattle.steps.proofs.Either.{first-holds, second-decides}
 use Rattle.steps.proofs.bad_identifier.Statement.{statement}
 use Rattle.steps.proofs.bad_identifier.Tie as tie
 
-no-name-requires : tie.Need-no-name-requires
-no-name-requires c κs = search needs
-
 returns : tie.Need-returns
 unfolding badIdentifier
 returns c propositions = rw (c .before .if1 .taken) (c .no-name .ensures propositions)
-
-not-zero-requires : tie.Need-not-zero-requires
-not-zero-requires c κs = search needs
-
-add-not-zero : tie.Need-add-not-zero
-add-not-zero c = search needs
-
-not-zero-requires-2 : tie.Need-not-zero-requires-2
-not-zero-requires-2 c κs = search needs
 
 returns-2 : tie.Need-returns-2
 unfolding badIdentifier
@@ -37,10 +25,10 @@ pub bad-identifier-spec : {M : Type 1} → statement M
 bad-identifier-spec =
     tie.close
     (tie.spec
-    no-name-requires
+    (λ c κs. search needs)
     returns
-    not-zero-requires
-    add-not-zero
-    not-zero-requires-2
+    (λ c κs. search needs)
+    (λ c. search needs)
+    (λ c κs. search needs)
     returns-2
     returns-3)

@@ -9,18 +9,6 @@ use Rattle.steps.proofs.Either.{first-holds, second-decides}
 use Rattle.steps.proofs.bad_prop_is_true.Statement.{statement}
 use Rattle.steps.proofs.bad_prop_is_true.Tie as tie
 
-step-number-requires : tie.Need-step-number-requires
-unfolding stepSize
-step-number-requires c κs = search needs
-
-not-zero-requires : tie.Need-not-zero-requires
-unfolding stepSize
-not-zero-requires c κs = search needs
-
-not-zero-requires-2 : tie.Need-not-zero-requires-2
-unfolding stepSize
-not-zero-requires-2 c κs = search needs
-
 returns : tie.Need-returns
 unfolding badPropIsTrue
 returns c names = first-holds _ (ap (leb _) (c .before .step-number .ensures .0)) (le-leb _ _ (c .if1 .taken))
@@ -39,12 +27,13 @@ returns-3 c names =
     (second-decides (c .before .before .not-zero .ensures names _) (c .before .if2 .left) (c .not-zero2 .ensures names _))
 
 pub bad-prop-is-true-spec : {M : Type 1} → statement M
+unfolding stepSize
 bad-prop-is-true-spec =
     tie.close
     (tie.spec
-    step-number-requires
-    not-zero-requires
-    not-zero-requires-2
+    (λ c κs. search needs)
+    (λ c κs. search needs)
+    (λ c κs. search needs)
     returns
     returns-2
     returns-3)

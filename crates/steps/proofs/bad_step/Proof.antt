@@ -1,8 +1,6 @@
 -- The rule byte is tested first, since the rule says which identifiers the step has.
-use Prim.Native.Nat.{ℕ}
-use mathlib.Core.Path.{_≡_, refl, sym}
-use mathlib.Core.Bool.{Bool, _||_}
-use mathlib.Core.List.{List}
+use mathlib.Core.Path.{_≡_}
+use mathlib.Core.Bool.{_||_}
 use native.Mathlib.Omega.{arith}
 use lib.Dec.{leb}
 use borrow.Author.Tests.{le-leb, lt-leb}
@@ -14,107 +12,75 @@ use Rattle.steps.proofs.Either.{first-holds, second-decides}
 use Rattle.steps.proofs.bad_step.Statement.{statement}
 use Rattle.steps.proofs.bad_step.Tie as tie
 
-rule-byte-requires : tie.Need-rule-byte-requires
-rule-byte-requires c κs = search needs
+-- back over each test that failed, and over the rule's
+abbrev first-before : tie.Else3 → tie.Else2
+first-before c = c .before .before
 
-cast-rule : tie.Need-cast-rule
-cast-rule c = search needs
+abbrev counted-before : tie.Else2 → tie.After-identifier-count
+counted-before c = c .before .before
+
+abbrev rule-before : tie.After-identifier-count → tie.After-rule-byte
+rule-before c = c .before .before
 
 returns : tie.Need-returns
 unfolding badStep rules
-returns c = rw (← c .before .rule-byte .ensures) (first-holds _ (sym (le-leb _ _ (c .if1 .taken))) refl)
+returns c = rw (← c .before .rule-byte .ensures, le-leb _ _ (c .if1 .taken))
 
-identifier-count-requires : tie.Need-identifier-count-requires
-unfolding rules
-identifier-count-requires c κs = omega arith
-
-bad-identifier-requires : tie.Need-bad-identifier-requires
-unfolding stepSize
-bad-identifier-requires c κs = search needs
-
-bad-identifier-requires-2 : tie.Need-bad-identifier-requires-2
-unfolding stepSize
-bad-identifier-requires-2 c κs = search needs
-
-bad-conclusion-requires : tie.Need-bad-conclusion-requires
-bad-conclusion-requires c κs = search needs
-
-bad-column-requires : tie.Need-bad-column-requires
-bad-column-requires c κs = search needs
-
--- What the tests from one on answer is what all of them do.
-module _ (names propositions : ℕ) (records : List ℕ) (k count : ℕ) where
-  unfoldable fromConclusion : Bool
-  fromConclusion = badConclusion names propositions records k || badColumn names propositions records k
-
-  unfoldable fromSecond : Bool
-  fromSecond = badIdentifier names propositions records k 6 (leb 2 count) || fromConclusion
-
-  unfoldable fromFirst : Bool
-  fromFirst = badIdentifier names propositions records k 2 (leb 1 count) || fromSecond
-
--- back to the rule
-abbrev rule-known : tie.After-identifier-count → tie.After-rule-byte
-rule-known c = c .before .before
-
--- the rule is known
-first-on : (c : tie.After-identifier-count) {r : Bool} →
-    let args = c .before .before .before .before .args in
-    r ≡ fromFirst (args .names) (args .propositions) (args .step-records .now) (args .k) (c .identifier-count .result)
-    → r ≡ badStep (args .names) (args .propositions) (args .step-records .now) (args .k)
-unfolding fromFirst fromSecond fromConclusion badStep identifiers ruleIn rules
-first-on c e =
-    rw (← rule-known c .rule-byte .ensures, ← c .identifier-count .ensures)
-    (second-decides refl (lt-leb _ _ (c .before .if1 .left)) e)
-
--- the first identifier is good
-second-on : (c : tie.Else2) {r : Bool} →
-    let counted = c .before .before in
-    let args = counted .before .before .before .before .args in
-    r ≡ fromSecond (args .names) (args .propositions) (args .step-records .now) (args .k) (counted .identifier-count .result)
-    → r ≡ badStep (args .names) (args .propositions) (args .step-records .now) (args .k)
-unfolding fromFirst
-second-on c e = first-on (c .before .before) (second-decides (c .before .bad-identifier .ensures _) (c .if2 .left) e)
-
--- both are
-conclusion-on : (c : tie.Else3) {r : Bool} →
-    let counted = c .before .before .before .before in
-    let args = counted .before .before .before .before .args in
-    r ≡ fromConclusion (args .names) (args .propositions) (args .step-records .now) (args .k) (counted .identifier-count .result)
-    → r ≡ badStep (args .names) (args .propositions) (args .step-records .now) (args .k)
-unfolding fromSecond
-conclusion-on c e = second-on (c .before .before) (second-decides (c .before .bad-identifier2 .ensures _) (c .if3 .left) e)
+-- the rule is known, and the tests after its own are left
+tests-left : (c : tie.After-identifier-count) →
+    let s = rule-before c .before .before .args in
+    let bad = badIdentifier (s .names) (s .propositions) (s .step-records .now) (s .k) in
+    let count = c .identifier-count .result in
+    badStep (s .names) (s .propositions) (s .step-records .now) (s .k)
+    ≡ bad 2 (leb 1 count) || (bad 6 (leb 2 count)
+    || (badConclusion (s .names) (s .propositions) (s .step-records .now) (s .k)
+    || badColumn (s .names) (s .propositions) (s .step-records .now) (s .k)))
+unfolding badStep identifiers ruleIn rules
+tests-left c =
+    rw (← rule-before c .rule-byte .ensures, ← c .identifier-count .ensures, lt-leb _ _ (c .before .if1 .left))
 
 returns-2 : tie.Need-returns-2
-unfolding fromFirst
-returns-2 c = first-on (c .before .before) (first-holds _ (c .before .bad-identifier .ensures _) (c .if2 .taken))
+returns-2 c =
+    rw (tests-left (c .before .before)) (first-holds _ (c .before .bad-identifier .ensures _) (c .if2 .taken))
 
 returns-3 : tie.Need-returns-3
-unfolding fromSecond
-returns-3 c = second-on (c .before .before) (first-holds _ (c .before .bad-identifier2 .ensures _) (c .if3 .taken))
+returns-3 c =
+    let first = c .before .before in
+    rw (tests-left (counted-before first))
+    (second-decides (first .before .bad-identifier .ensures _) (first .if2 .left)
+    (first-holds _ (c .before .bad-identifier2 .ensures _) (c .if3 .taken)))
 
 returns-4 : tie.Need-returns-4
-unfolding fromConclusion
-returns-4 c = conclusion-on (c .before .before) (first-holds _ (c .before .bad-conclusion .ensures) (c .if4 .taken))
+returns-4 c =
+    let second = c .before .before in
+    let first = first-before second in
+    rw (tests-left (counted-before first))
+    (second-decides (first .before .bad-identifier .ensures _) (first .if2 .left)
+    (second-decides (second .before .bad-identifier2 .ensures _) (second .if3 .left)
+    (first-holds _ (c .before .bad-conclusion .ensures) (c .if4 .taken))))
 
 returns-5 : tie.Need-returns-5
-unfolding fromConclusion
 returns-5 c =
-    conclusion-on (c .before .before .before)
-    (second-decides (c .before .before .bad-conclusion .ensures) (c .before .if4 .left) (c .bad-column .ensures _ _))
+    let second = c .before .before .before in
+    let first = first-before second in
+    rw (tests-left (counted-before first))
+    (second-decides (first .before .bad-identifier .ensures _) (first .if2 .left)
+    (second-decides (second .before .bad-identifier2 .ensures _) (second .if3 .left)
+    (second-decides (c .before .before .bad-conclusion .ensures) (c .before .if4 .left) (c .bad-column .ensures _ _))))
 
 pub bad-step-spec : {M : Type 1} → statement M
+unfolding rules stepSize
 bad-step-spec =
     tie.close
     (tie.spec
-    rule-byte-requires
-    cast-rule
+    (λ c κs. search needs)
+    (λ c. search needs)
     returns
-    identifier-count-requires
-    bad-identifier-requires
-    bad-identifier-requires-2
-    bad-conclusion-requires
-    bad-column-requires
+    (λ c κs. omega arith)
+    (λ c κs. search needs)
+    (λ c κs. search needs)
+    (λ c κs. search needs)
+    (λ c κs. search needs)
     returns-2
     returns-3
     returns-4

@@ -6,14 +6,6 @@ use Rattle.steps.proofs.Either.{first-holds, second-decides}
 use Rattle.steps.proofs.bad_type_judgement.Statement.{statement}
 use Rattle.steps.proofs.bad_type_judgement.Tie as tie
 
-no-name-requires : tie.Need-no-name-requires
-unfolding stepSize
-no-name-requires c κs = search needs
-
-no-name-requires-2 : tie.Need-no-name-requires-2
-unfolding stepSize
-no-name-requires-2 c κs = search needs
-
 returns : tie.Need-returns
 unfolding badTypeJudgement
 returns c propositions = first-holds _ (c .before .no-name .ensures propositions) (c .if1 .taken)
@@ -24,5 +16,6 @@ returns-2 c propositions =
     second-decides (c .before .before .no-name .ensures propositions) (c .before .if1 .left) (c .no-name2 .ensures propositions)
 
 pub bad-type-judgement-spec : {M : Type 1} → statement M
+unfolding stepSize
 bad-type-judgement-spec =
-    tie.close (tie.spec no-name-requires no-name-requires-2 returns returns-2)
+    tie.close (tie.spec (λ c κs. search needs) (λ c κs. search needs) returns returns-2)

@@ -1,57 +1,42 @@
 -- The search goes up from step 0 and stops at the first that is bad.
-use Prim.Native.Nat.{_≤_, _-_}
-use mathlib.Core.Path.{_≡_, refl, sym, _∙_}
-use mathlib.Core.Option.{none}
+use Prim.Native.Nat.{_-_}
+use mathlib.Core.Path.{sym, _∙_}
 use native.Mathlib.Omega.{arith}
-use Rattle.definitions.specs.Outcome.{lowest}
 use Rattle.definitions.specs.Sheet.{stepSize}
 use Rattle.definitions.specs.Admission.{badStep}
-use Rattle.definitions.proofs.Lowest.{lowest-passed, found-here, found-nowhere}
+use Rattle.definitions.proofs.Lowest.{found-here, found-nowhere}
+use Rattle.definitions.proofs.Upward.{Passed, at-start, onward}
 use Rattle.steps.proofs.first_bad_step.Statement.{statement}
 use Rattle.steps.proofs.first_bad_step.Tie as tie
 
 abbrev Inv-loop : tie.InvT-loop
-Inv-loop records steps names propositions k₀ k = (k ≤ steps) × (lowest (badStep names propositions records) k ≡ none)
+Inv-loop records steps names propositions k₀ k = Passed (badStep names propositions records) steps k
 
 abbrev μ-loop : tie.MeasureT-loop
 μ-loop records steps names propositions k₀ k = steps - k
 
-loop-holds : tie.Need-loop-holds Inv-loop μ-loop
-unfolding lowest
-loop-holds c = (omega arith, refl)
-
-bad-step-requires : tie.Need-bad-step-requires Inv-loop μ-loop
-unfolding stepSize
-bad-step-requires c κs = omega arith
-
 returns : tie.Need-returns Inv-loop μ-loop
 returns c =
-    found-here _ _ _ (c .before .before .before .loop .inv .1) (sym (c .before .bad-step .ensures) ∙ c .if1 .taken)
-    (c .before .before .loop-test .taken)
-
-add-k : tie.Need-add-k Inv-loop μ-loop
-add-k c = omega arith
-
-loop-less : tie.Need-loop-less Inv-loop μ-loop
-loop-less c = omega arith
+    let turn = c .before .before in
+    found-here _ _ _ (turn .before .loop .inv .none-below) (sym (c .before .bad-step .ensures) ∙ c .if1 .taken)
+    (turn .loop-test .taken)
 
 loop-again : tie.Need-loop-again Inv-loop μ-loop
 loop-again c =
-    (omega arith, lowest-passed _ _ (c .before .before .before .loop .inv .1) (sym (c .before .bad-step .ensures) ∙ c .if1 .left))
-
-returns-2 : tie.Need-returns-2 Inv-loop μ-loop
-returns-2 c = found-nowhere _ _ _ (c .before .loop .inv .1) (omega arith)
+    let turn = c .before .before in
+    onward (turn .before .loop .inv) (turn .loop-test .taken) (sym (c .before .bad-step .ensures) ∙ c .if1 .left)
 
 pub first-bad-step-spec : {M : Type 1} → statement M
+unfolding stepSize
 first-bad-step-spec =
     tie.close
     (tie.spec
     Inv-loop
     μ-loop
-    loop-holds
-    bad-step-requires
+    (λ c. at-start _ _)
+    (λ c κs. omega arith)
     returns
-    add-k
-    loop-less
+    (λ c. omega arith)
+    (λ c. omega arith)
     loop-again
-    returns-2)
+    (λ c. found-nowhere _ _ _ (c .before .loop .inv .none-below) (omega arith)))

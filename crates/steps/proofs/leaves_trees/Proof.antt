@@ -35,15 +35,6 @@ module _ (names : ℕ) (pairs code records : List ℕ) where
   left-below : (k : ℕ) → ltb (size (treeIn names pairs code records k)) (k + 1) ≡ treesLeft names pairs code records (k + 1)
   left-below k = let (p, s) = seam names pairs code records k (premissCount records k) in left-from k p s
 
-sub-result : tie.Need-sub-result
-sub-result c = search needs
-
-mul-result : tie.Need-mul-result
-mul-result c = search needs
-
-shared-slice-read-result : tie.Need-shared-slice-read-result
-shared-slice-read-result c = search needs
-
 cast-result : tie.Need-cast-result
 cast-result c = omega (arith, c .shared-slice-known .given (c .before .args .steps - 1))
 
@@ -56,4 +47,4 @@ returns c names pairs code =
 
 pub leaves-trees-spec : {M : Type 1} → statement M
 leaves-trees-spec =
-    tie.close (tie.spec sub-result mul-result shared-slice-read-result cast-result returns)
+    tie.close (tie.spec (λ c. search needs) (λ c. search needs) (λ c. search needs) cast-result returns)

@@ -6,12 +6,9 @@ use Rattle.definitions.specs.Admission.{noName}
 use Rattle.steps.proofs.no_name.Statement.{statement}
 use Rattle.steps.proofs.no_name.Tie as tie
 
-step-number-requires : tie.Need-step-number-requires
-step-number-requires c κs = search needs
-
 returns : tie.Need-returns
 unfolding noName
 returns c propositions = ap (leb _) (c .step-number .ensures .0)
 
 pub no-name-spec : {M : Type 1} → statement M
-no-name-spec = tie.close (tie.spec step-number-requires returns)
+no-name-spec = tie.close (tie.spec (λ c κs. search needs) returns)

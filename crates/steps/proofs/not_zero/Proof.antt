@@ -8,12 +8,9 @@ use Rattle.definitions.specs.Admission.{notZero}
 use Rattle.steps.proofs.not_zero.Statement.{statement}
 use Rattle.steps.proofs.not_zero.Tie as tie
 
-step-number-requires : tie.Need-step-number-requires
-step-number-requires c κs = search needs
-
 returns : tie.Need-returns
 unfolding notZero
 returns c names propositions = ap (λ (n : ℕ). not (eqb n 0)) (c .step-number .ensures .0)
 
 pub not-zero-spec : {M : Type 1} → statement M
-not-zero-spec = tie.close (tie.spec step-number-requires returns)
+not-zero-spec = tie.close (tie.spec (λ c κs. search needs) returns)

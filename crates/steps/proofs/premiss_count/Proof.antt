@@ -5,21 +5,10 @@ use Rattle.definitions.specs.Sheet.{stepSize, premissCount}
 use Rattle.steps.proofs.premiss_count.Statement.{statement}
 use Rattle.steps.proofs.premiss_count.Tie as tie
 
-mul-result : tie.Need-mul-result
-unfolding stepSize
-mul-result c = omega arith
-
-add-result : tie.Need-add-result
-unfolding stepSize
-add-result c = omega arith
-
-shared-slice-read-result : tie.Need-shared-slice-read-result
-unfolding stepSize
-shared-slice-read-result c = omega arith
-
 returns : tie.Need-returns
 unfolding premissCount stepSize
 returns c = refl
 
 pub premiss-count-spec : {M : Type 1} → statement M
-premiss-count-spec = tie.close (tie.spec mul-result add-result shared-slice-read-result returns)
+unfolding stepSize
+premiss-count-spec = tie.close (tie.spec (λ c. omega arith) (λ c. omega arith) (λ c. omega arith) returns)

@@ -24,7 +24,10 @@ abbrev μ-loop : tie.MeasureT-loop
 sized : (c : tie.Start Inv-loop μ-loop) → SizeTable (now (c .args .step-records)) (c .args .k) (now (c .args .sizes))
 sized c = size-table-shorter _ _ _ _ (omega arith) (c .pre .1 .0)
 
--- back from the loop to the start
+-- back from the entry of the size table to the turn of the loop, and from the loop to the start
+abbrev turn : tie.After-shared-slice-known5 Inv-loop μ-loop → tie.In-loop Inv-loop μ-loop
+turn c = c .before .before .before
+
 abbrev begun : tie.At-loop Inv-loop μ-loop → tie.Start Inv-loop μ-loop
 begun c = c .before .before .before .before .before
 
@@ -34,50 +37,16 @@ before c =
     let s = begun (c .before) in
     walk-in (c .before .loop .inv .0) (s .pre .1 .0 .enough 0 [] [] _ (omega arith)) (omega arith)
 
-premiss-count-requires : tie.Need-premiss-count-requires Inv-loop μ-loop
-premiss-count-requires c κs = search needs
-
-loop-holds : tie.Need-loop-holds Inv-loop μ-loop
-loop-holds c = (walk-start _ _, deepest-none _ _, omega arith, c .premiss-count .ensures)
-
-sub-last : tie.Need-sub-last Inv-loop μ-loop
-sub-last c = before c
-
-mul-max : tie.Need-mul-max Inv-loop μ-loop
-mul-max c = omega (arith, walk-within (c .before .loop .inv .0))
-
-shared-slice-read-max : tie.Need-shared-slice-read-max Inv-loop μ-loop
-shared-slice-read-max c = omega (arith, before (c .before), walk-within (c .before .before .loop .inv .0))
-
-max-requires : tie.Need-max-requires Inv-loop μ-loop
-max-requires c κs = search needs
-
-mul-start : tie.Need-mul-start Inv-loop μ-loop
-mul-start c = omega (arith, walk-within (c .before .before .before .loop .inv .0))
-
-shared-slice-read-start : tie.Need-shared-slice-read-start Inv-loop μ-loop
-shared-slice-read-start c =
-    omega (arith, before (c .before .before .before), walk-within (c .before .before .before .before .loop .inv .0))
-
-cast-start : tie.Need-cast-start Inv-loop μ-loop
-cast-start c = omega (arith, c .shared-slice-known5 .given (c .before .before .before .before .loop .start - 1))
-
 sub-start : tie.Need-sub-start Inv-loop μ-loop
 sub-start c =
-    let s = begun (c .before .before .before .before) in
-    size-fits (c .before .before .before .before .loop .inv .0) _ (sized s) (before (c .before .before .before))
-
-add-counter : tie.Need-add-counter Inv-loop μ-loop
-add-counter c = omega arith
-
-loop-less : tie.Need-loop-less Inv-loop μ-loop
-loop-less c = omega arith
+    let loop = turn c .before in
+    size-fits (loop .loop .inv .0) _ (sized (begun loop)) (before (turn c))
 
 loop-again : tie.Need-loop-again Inv-loop μ-loop
 loop-again c =
-    let l = c .before .before .before .before .loop .inv in
-    let s = begun (c .before .before .before .before) in
-    let n = before (c .before .before .before) in (
+    let l = turn c .before .loop .inv in
+    let s = begun (turn c .before) in
+    let n = before (turn c) in (
       walk-on (l .0) _ (sized s) n,
       rw (c .before .max .ensures) (deepest-more _ _ _ _ _ _ (s .pre .1 .1) (l .0) n (l .1)),
       omega arith,
@@ -88,27 +57,24 @@ add-result : tie.Need-add-result Inv-loop μ-loop
 unfolding stepLimit
 add-result c = let l = c .before .loop .inv in omega (arith, deepest-within _ _ _ _ _ (l .0) (l .1))
 
-returns : tie.Need-returns Inv-loop μ-loop
-returns c = deepest-all _ _ _ _ (omega arith) (c .before .loop .inv .1)
-
 pub tree-height-spec : {M : Type 1} → statement M
 tree-height-spec =
     tie.close
     (tie.spec
     Inv-loop
     μ-loop
-    premiss-count-requires
-    loop-holds
-    sub-last
-    mul-max
-    shared-slice-read-max
-    max-requires
-    mul-start
-    shared-slice-read-start
-    cast-start
+    (λ c κs. search needs)
+    (λ c. (walk-start _ _, deepest-none _ _, omega arith, c .premiss-count .ensures))
+    before
+    (λ c. omega (arith, walk-within (c .before .loop .inv .0)))
+    (λ c. omega (arith, before (c .before), walk-within (c .before .before .loop .inv .0)))
+    (λ c κs. search needs)
+    (λ c. omega (arith, walk-within (c .before .before .before .loop .inv .0)))
+    (λ c. omega (arith, before (turn c), walk-within (turn c .before .loop .inv .0)))
+    (λ c. omega (arith, c .shared-slice-known5 .given (turn c .before .loop .start - 1)))
     sub-start
-    add-counter
-    loop-less
+    (λ c. omega arith)
+    (λ c. omega arith)
     loop-again
     add-result
-    returns)
+    (λ c. deepest-all _ _ _ _ (omega arith) (c .before .loop .inv .1)))
