@@ -28,10 +28,6 @@ module _ {s : List ℕ} {h : Sheet} (has : HasHeader s h) where
   unfolding codeIn codeBytes vocabularyOf layoutOf headerOf namePairsStart propositionPairsStart stepsStart textStart codeStart
   code-is = rw (has .header)
 
-  pub name-is : (i : ℕ) → nameIn s (vocabularyOf h) i ≡ nameOf s i
-  unfolding nameIn nameOf
-  name-is i = rw (pairs-are, text-is)
-
   pub names-are : nameIn s (vocabularyOf h) ≡ nameOf s
   unfolding nameIn nameOf
   names-are = ap₂ marked pairs-are text-is

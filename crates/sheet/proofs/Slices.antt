@@ -5,7 +5,7 @@ use mathlib.Core.List.{List}
 use native.Mathlib.Omega.{arith}
 use native.Mathlib.Nat.{add-sub-cancel-left}
 use lib.ListN.{length, take, drop, length-take, length-drop}
-use Rattle.definitions.specs.Sheet.{headerSize, pairSize, stepSize, textLength, names, codeLength, propositions, steps, namePairsStart, propositionPairsStart, stepsStart, textStart, codeStart, sheetLength, namePairs, propositionPairs, stepRecords, textBytes, codeBytes}
+use Rattle.definitions.specs.Sheet.{pairSize, stepSize, textLength, names, codeLength, propositions, steps, namePairsStart, propositionPairsStart, stepsStart, textStart, codeStart, sheetLength, namePairs, propositionPairs, stepRecords, textBytes, codeBytes}
 use Rattle.sheet.specs.declared.header.Sheet.{Sheet}
 use Rattle.sheet.specs.declared.header.Layout.{Layout}
 use Rattle.sheet.specs.Header.{headerOf, layoutOf, HasHeader}

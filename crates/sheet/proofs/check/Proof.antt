@@ -1,11 +1,11 @@
 -- Each stage that accepts hands on to the next; a stage that refuses answers, and leaves the table as it was.
 use Prim.Native.Nat.{ℕ}
-use mathlib.Core.Path.{_≡_, refl, _∙_}
+use mathlib.Core.Path.{_≡_, refl}
 use mathlib.Core.List.{List}
 use native.Mathlib.Omega.{arith}
 use borrow.Author.Needs.{needs}
 use Rattle.definitions.specs.Outcome.{accepted}
-use Rattle.definitions.specs.Sheet.{stepLimit, stepRecords}
+use Rattle.definitions.specs.Sheet.{stepLimit}
 use Rattle.definitions.specs.Admission.{headerChecks}
 use Rattle.steps.proofs.Tables.{size-table-none}
 use Rattle.sheet.specs.declared.Checked.{Checked}
@@ -81,30 +81,12 @@ trees-on : (c : tie.After-enum-told6) {r : Checked} →
 unfolding fromSteps
 trees-on c e = steps-on (propositions-before c) (passed-on _ _ (steps-passed c) e)
 
-check-header-requires : tie.Need-check-header-requires
-check-header-requires c κs = search needs
-
-enum-known-header : tie.Need-enum-known-header
-enum-known-header c = search needs
-
-enum-told : tie.Need-enum-told
-enum-told c = search needs
-
 returns : tie.Need-returns
 unfolding sizedSteps unlessRefused
 returns c =
     let answer = c .before .before .check-header .ensures in
     let refusal = c .enum-told .given .1 in
     (from-header _ refl (stage-refused _ _ _ answer refusal), untouched _ _ (rw (stage-refuses _ _ answer refusal)))
-
-check-names-requires : tie.Need-check-names-requires
-check-names-requires c κs = has-header c
-
-enum-told-2 : tie.Need-enum-told-2
-enum-told-2 c = search needs
-
-enum-told-3 : tie.Need-enum-told-3
-enum-told-3 c = search needs
 
 returns-2 : tie.Need-returns-2
 unfolding fromNames sizedSteps unlessRefused
@@ -116,15 +98,6 @@ returns-2 c =
       untouched _ _ (rw (header-passed at-header, stage-refuses _ _ answer refusal)),
     )
 
-check-propositions-requires : tie.Need-check-propositions-requires
-check-propositions-requires c κs = has-header (header-before c)
-
-enum-told-4 : tie.Need-enum-told-4
-enum-told-4 c = search needs
-
-enum-told-5 : tie.Need-enum-told-5
-enum-told-5 c = search needs
-
 returns-3 : tie.Need-returns-3
 unfolding fromPropositions sizedSteps unlessRefused
 returns-3 c =
@@ -134,15 +107,6 @@ returns-3 c =
       propositions-on at-names (stage-refused _ _ _ answer refusal),
       untouched _ _ (rw (header-passed (header-before at-names), names-passed at-names, stage-refuses _ _ answer refusal)),
     )
-
-check-steps-requires : tie.Need-check-steps-requires
-check-steps-requires c κs = has-header (header-before (names-before c))
-
-enum-told-6 : tie.Need-enum-told-6
-enum-told-6 c = search needs
-
-enum-told-7 : tie.Need-enum-told-7
-enum-told-7 c = search needs
 
 returns-4 : tie.Need-returns-4
 unfolding fromSteps sizedSteps unlessRefused
@@ -175,21 +139,21 @@ pub check-spec : {M : Type 1} → statement M
 check-spec =
     tie.close
     (tie.spec
-    check-header-requires
-    enum-known-header
-    enum-told
+    (λ c κs. search needs)
+    (λ c. search needs)
+    (λ c. search needs)
     returns
-    check-names-requires
-    enum-told-2
-    enum-told-3
+    (λ c κs. has-header c)
+    (λ c. search needs)
+    (λ c. search needs)
     returns-2
-    check-propositions-requires
-    enum-told-4
-    enum-told-5
+    (λ c κs. has-header (header-before c))
+    (λ c. search needs)
+    (λ c. search needs)
     returns-3
-    check-steps-requires
-    enum-told-6
-    enum-told-7
+    (λ c κs. has-header (header-before (names-before c)))
+    (λ c. search needs)
+    (λ c. search needs)
     returns-4
     check-trees-requires
     returns-5)

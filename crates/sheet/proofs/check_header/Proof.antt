@@ -40,24 +40,9 @@ laid-out : (c : tie.After-layout) → c .layout .result .end ≡ sheetLength (st
 unfolding layoutOf headerOf namePairsStart propositionPairsStart stepsStart textStart codeStart sheetLength
 laid-out c = ap (λ (l : Layout). l .end) (c .layout .ensures ∙ ap layoutOf (is-header (read-before (tested-before c))))
 
-header-requires : tie.Need-header-requires
-header-requires c κs = search needs
-
-enum-known-read : tie.Need-enum-known-read
-enum-known-read c = search needs
-
-enum-told : tie.Need-enum-told
-enum-told c = search needs
-
 returns : tie.Need-returns
 unfolding headerChecks shortCheck
 returns c = stage-refused _ _ _ (c .before .before .header .ensures) (c .enum-told .given .1)
-
-out-of-range-requires : tie.Need-out-of-range-requires
-out-of-range-requires c κs = search needs
-
-refuse-requires : tie.Need-refuse-requires
-refuse-requires c κs = search needs
 
 returns-2 : tie.Need-returns-2
 unfolding headerChecks shortCheck
@@ -68,9 +53,6 @@ returns-2 c =
 
 layout-requires : tie.Need-layout-requires
 layout-requires c κs = rw (is-header (read-before (c .before))) (in-range _ (range-test (c .before) ∙ c .if1 .left))
-
-refuse-requires-2 : tie.Need-refuse-requires-2
-refuse-requires-2 c κs = search needs
 
 returns-3 : tie.Need-returns-3
 unfolding headerChecks shortCheck
@@ -97,14 +79,14 @@ pub check-header-spec : {M : Type 1} → statement M
 check-header-spec =
     tie.close
     (tie.spec
-    header-requires
-    enum-known-read
-    enum-told
+    (λ c κs. search needs)
+    (λ c. search needs)
+    (λ c. search needs)
     returns
-    out-of-range-requires
-    refuse-requires
+    (λ c κs. search needs)
+    (λ c κs. search needs)
     returns-2
     layout-requires
-    refuse-requires-2
+    (λ c κs. search needs)
     returns-3
     returns-4)

@@ -13,42 +13,42 @@ use Rattle.sheet.proofs.Stages.{refused-last, accepted-last, refused-no
 use Rattle.sheet.proofs.check_names.Statement.{statement}
 use Rattle.sheet.proofs.check_names.Tie as tie
 
+-- back from the search of the names to that of the pairs, and from there to the start
+abbrev pairs-told : tie.After-first-bad-name → tie.After-enum-told
+pairs-told c = c .before .before
+
+abbrev pairs-before : tie.After-enum-told → tie.After-first-bad-pair
+pairs-before c = c .before .before
+
+abbrev start : tie.After-first-bad-pair → tie.Start
+start c = c .before .before .before
+
 pair-search : (c : tie.After-first-bad-pair) →
-    let s = c .before .before .before .args .s .now in
+    let s = start c .args .s .now in
     c .first-bad-pair .result ≡ foundAt (lowest (badNamePair (namePairs s) (textLength s)) (names s))
 unfolding headerOf nameLengthLimit
 pair-search c =
-    let start = c .before .before .before in
-    rw (c .before .name-pairs .ensures, start .pre .header, name-pairs-alike) at (c .first-bad-pair .ensures)
+    rw (c .before .name-pairs .ensures, start c .pre .header, name-pairs-alike) at (c .first-bad-pair .ensures)
 
 pairs-passed : (c : tie.After-enum-told) →
-    let s = c .before .before .before .before .before .args .s .now in
+    let s = start (pairs-before c) .args .s .now in
     refuseLowest (badNamePair (namePairs s) (textLength s)) (names s) 4 ≡ accepted tt
-pairs-passed c = not-refused _ _ (pair-search (c .before .before)) 4 (c .enum-told .given .1)
+pairs-passed c = not-refused _ _ (pair-search (pairs-before c)) 4 (c .enum-told .given .1)
 
 name-search : (c : tie.After-first-bad-name) →
-    let s = c .before .before .before .before .before .before .before .args .s .now in
+    let s = start (pairs-before (pairs-told c)) .args .s .now in
     c .first-bad-name .result ≡ foundAt (lowest (badName (namePairs s) (textBytes s)) (names s))
 unfolding headerOf
 name-search c =
-    let after-name-pairs = c .before .before .before .before .before in
-    let start = after-name-pairs .before .before in
-    rw (after-name-pairs .name-pairs .ensures, c .before .text-bytes .ensures, start .pre .header) at (c .first-bad-name .ensures)
-
-name-pairs-requires : tie.Need-name-pairs-requires
-name-pairs-requires c κs = search needs
-
-first-bad-pair-requires : tie.Need-first-bad-pair-requires
-first-bad-pair-requires c κs = rw (c .name-pairs .ensures) (name-pairs-present (c .before .before .pre))
-
-enum-known-i : tie.Need-enum-known-i
-enum-known-i c = search needs
+    let pairs = c .before .before .before .before in
+    let start = pairs .before .before .before in
+    rw (pairs .before .name-pairs .ensures, c .before .text-bytes .ensures, start .pre .header)
+    at (c .first-bad-name .ensures)
 
 refuse-requires : tie.Need-refuse-requires
 refuse-requires c κs =
-    let after-first-bad-pair = c .before .before .before in
-    let start = after-first-bad-pair .before .before .before in
-    name-place (start .pre) (found-below _ _ (pair-search after-first-bad-pair) (c .before .i .given .1))
+    let pairs = c .before .before .before in
+    name-place (start pairs .pre) (found-below _ _ (pair-search pairs) (c .before .i .given .1))
 
 returns : tie.Need-returns
 unfolding nameChecks
@@ -56,59 +56,46 @@ returns c =
     refused-now _ _ (refused-at _ _ (pair-search (c .before .before .before .before)) 4 (c .before .before .i .given .1))
     (c .refuse .ensures)
 
-enum-told : tie.Need-enum-told
-enum-told c = search needs
-
-text-bytes-requires : tie.Need-text-bytes-requires
-text-bytes-requires c κs = search needs
-
 first-bad-name-requires : tie.Need-first-bad-name-requires
 first-bad-name-requires c κs =
-    let after-first-bad-pair = c .before .before .before in
-    let after-name-pairs = after-first-bad-pair .before in
-    let start = after-name-pairs .before .before in
-    rw (after-name-pairs .name-pairs .ensures, c .text-bytes .ensures)
-    (has-name-pairs (start .pre) (none-bad _ _ (pair-search after-first-bad-pair) (c .before .enum-told .given .1)))
-
-enum-known-i-2 : tie.Need-enum-known-i-2
-enum-known-i-2 c = search needs
+    let pairs = pairs-before (c .before) in
+    rw (pairs .before .name-pairs .ensures, c .text-bytes .ensures)
+    (has-name-pairs (start pairs .pre) (none-bad _ _ (pair-search pairs) (c .before .enum-told .given .1)))
 
 refuse-requires-2 : tie.Need-refuse-requires-2
 refuse-requires-2 c κs =
-    let after-first-bad-name = c .before .before .before in
-    let start = after-first-bad-name .before .before .before .before .before .before .before in
-    name-place (start .pre) (found-below _ _ (name-search after-first-bad-name) (c .before .i2 .given .1))
+    let names = c .before .before .before in
+    let start = start (pairs-before (pairs-told names)) in
+    name-place (start .pre) (found-below _ _ (name-search names) (c .before .i2 .given .1))
 
 returns-2 : tie.Need-returns-2
 unfolding nameChecks
 returns-2 c =
-    passed-on _ _ (pairs-passed (c .before .before .before .before .before .before))
-    (refused-last _ (refused-at _ _ (name-search (c .before .before .before .before)) 5 (c .before .before .i2 .given .1))
-    (c .refuse2 .ensures))
-
-enum-told-2 : tie.Need-enum-told-2
-enum-told-2 c = search needs
+    let names = c .before .before .before .before in
+    passed-on _ _ (pairs-passed (pairs-told names))
+    (refused-last _ (refused-at _ _ (name-search names) 5 (c .before .before .i2 .given .1)) (c .refuse2 .ensures))
 
 returns-3 : tie.Need-returns-3
 unfolding nameChecks
 returns-3 c =
-    passed-on _ _ (pairs-passed (c .before .before .before .before))
-    (accepted-last _ (not-refused _ _ (name-search (c .before .before)) 5 (c .enum-told2 .given .1)))
+    let names = c .before .before in
+    passed-on _ _ (pairs-passed (pairs-told names))
+    (accepted-last _ (not-refused _ _ (name-search names) 5 (c .enum-told2 .given .1)))
 
 pub check-names-spec : {M : Type 1} → statement M
 check-names-spec =
     tie.close
     (tie.spec
-    name-pairs-requires
-    first-bad-pair-requires
-    enum-known-i
+    (λ c κs. search needs)
+    (λ c κs. rw (c .name-pairs .ensures) (name-pairs-present (c .before .before .pre)))
+    (λ c. search needs)
     refuse-requires
     returns
-    enum-told
-    text-bytes-requires
+    (λ c. search needs)
+    (λ c κs. search needs)
     first-bad-name-requires
-    enum-known-i-2
+    (λ c. search needs)
     refuse-requires-2
     returns-2
-    enum-told-2
+    (λ c. search needs)
     returns-3)

@@ -20,14 +20,8 @@ step-search c =
     let start = c .before .before .before in
     rw (c .before .step-records .ensures, start .pre .header) at (c .first-bad-step .ensures)
 
-step-records-requires : tie.Need-step-records-requires
-step-records-requires c κs = search needs
-
 first-bad-step-requires : tie.Need-first-bad-step-requires
 first-bad-step-requires c κs = rw (c .step-records .ensures) (steps-present (c .before .before .pre))
-
-enum-known-k : tie.Need-enum-known-k
-enum-known-k c = search needs
 
 refuse-requires : tie.Need-refuse-requires
 refuse-requires c κs =
@@ -41,9 +35,6 @@ returns c =
     let after-first-bad-step = c .before .before .before .before in
     refused-last _ (refused-at _ _ (step-search after-first-bad-step) 9 (c .before .before .k .given .1)) (c .refuse .ensures)
 
-enum-told : tie.Need-enum-told
-enum-told c = search needs
-
 returns-2 : tie.Need-returns-2
 unfolding stepChecks
 returns-2 c = accepted-last _ (not-refused _ _ (step-search (c .before .before)) 9 (c .enum-told .given .1))
@@ -52,10 +43,10 @@ pub check-steps-spec : {M : Type 1} → statement M
 check-steps-spec =
     tie.close
     (tie.spec
-    step-records-requires
+    (λ c κs. search needs)
     first-bad-step-requires
-    enum-known-k
+    (λ c. search needs)
     refuse-requires
     returns
-    enum-told
+    (λ c. search needs)
     returns-2)

@@ -148,9 +148,6 @@ height-search c =
     deep-of _ (records-before at-filled .step-records .ensures) (start at-filled .pre .0 .header)
     (c .first-deep-tree .ensures .found _ _ _)
 
-step-records-requires : tie.Need-step-records-requires
-step-records-requires c κs = search needs
-
 fill-sizes-requires : tie.Need-fill-sizes-requires
 unfolding stepLimit
 fill-sizes-requires c κs =
@@ -161,16 +158,10 @@ fill-sizes-requires c κs =
       omega (arith, at-start .pre .0 .in-range .steps, at-start .pre .1),
     )
 
-enum-known-k : tie.Need-enum-known-k
-enum-known-k c = search needs
-
 refuse-requires : tie.Need-refuse-requires
 refuse-requires c κs =
     let at-filled = c .before .before .before .before .before in
     step-place (start at-filled .pre .0) (found-below _ _ (tree-search at-filled) (c .before .k .given .1))
-
-same-length : tie.Need-same-length
-same-length c = search needs
 
 returns : tie.Need-returns
 unfolding treeChecks
@@ -178,24 +169,15 @@ returns c =
     let at-filled = c .before .before .before .before .before .before in
     (refused-now _ _ (refused-at _ _ (tree-search at-filled) 10 (c .before .before .k .given .1)) (c .refuse .ensures), sized at-filled)
 
-enum-told : tie.Need-enum-told
-enum-told c = search needs
-
 leaves-trees-requires : tie.Need-leaves-trees-requires
 leaves-trees-requires c κs =
     (start (filled-before (c .before)) .pre .0 .in-range .some-step, table-long-enough (c .before), program-table (c .before))
-
-sub-refuse : tie.Need-sub-refuse
-sub-refuse c = search needs
 
 refuse-requires-2 : tie.Need-refuse-requires-2
 unfolding stepLimit
 refuse-requires-2 c κs =
     let at-enough = c .before .before .before in
     omega (arith, start (filled-before at-enough) .pre .0 .in-range .steps)
-
-same-length-2 : tie.Need-same-length-2
-same-length-2 c = search needs
 
 returns-2 : tie.Need-returns-2
 unfolding treeChecks headerOf
@@ -209,9 +191,6 @@ returns-2 c =
       sized at-filled,
     )
 
-slice-aggregate-first-deep-tree : tie.Need-slice-aggregate-first-deep-tree
-slice-aggregate-first-deep-tree c = search needs
-
 first-deep-tree-requires : tie.Need-first-deep-tree-requires
 unfolding stepLimit
 first-deep-tree-requires c κs =
@@ -222,17 +201,11 @@ first-deep-tree-requires c κs =
       (table-long-enough at-enough, has .in-range .steps, program-table at-enough),
     )
 
-enum-known-k-2 : tie.Need-enum-known-k-2
-enum-known-k-2 c = search needs
-
 refuse-requires-3 : tie.Need-refuse-requires-3
 refuse-requires-3 c κs =
     let at-heights = c .before .before .before .before in
     let at-filled = filled-before (enough-before (left-before (one-before at-heights))) in
     step-place (start at-filled .pre .0) (found-below _ _ (height-search at-heights) (c .before .k2 .given .1))
-
-same-length-3 : tie.Need-same-length-3
-same-length-3 c = search needs
 
 returns-3 : tie.Need-returns-3
 unfolding treeChecks
@@ -245,12 +218,6 @@ returns-3 c =
           (refused-last _ (refused-at _ _ (height-search at-heights) 11 (c .before .before .k2 .given .1)) (c .refuse3 .ensures))),
       sized (filled-before at-enough),
     )
-
-enum-told-2 : tie.Need-enum-told-2
-enum-told-2 c = search needs
-
-same-length-4 : tie.Need-same-length-4
-same-length-4 c = search needs
 
 returns-4 : tie.Need-returns-4
 unfolding treeChecks
@@ -268,24 +235,24 @@ pub check-trees-spec : {M : Type 1} → statement M
 check-trees-spec =
     tie.close
     (tie.spec
-    step-records-requires
+    (λ c κs. search needs)
     fill-sizes-requires
-    enum-known-k
+    (λ c. search needs)
     refuse-requires
-    same-length
+    (λ c. search needs)
     returns
-    enum-told
+    (λ c. search needs)
     leaves-trees-requires
-    sub-refuse
+    (λ c. search needs)
     refuse-requires-2
-    same-length-2
+    (λ c. search needs)
     returns-2
-    slice-aggregate-first-deep-tree
+    (λ c. search needs)
     first-deep-tree-requires
-    enum-known-k-2
+    (λ c. search needs)
     refuse-requires-3
-    same-length-3
+    (λ c. search needs)
     returns-3
-    enum-told-2
-    same-length-4
+    (λ c. search needs)
+    (λ c. search needs)
     returns-4)

@@ -3,11 +3,8 @@ use borrow.Author.Needs.{needs}
 use Rattle.sheet.proofs.header.too_short.Statement.{statement}
 use Rattle.sheet.proofs.header.too_short.Tie as tie
 
-refuse-requires : tie.Need-refuse-requires
-refuse-requires c κs = search needs
-
 returns : tie.Need-returns
 returns c = c .refuse .ensures
 
 pub too-short-spec : {M : Type 1} → statement M
-too-short-spec = tie.close (tie.spec refuse-requires returns)
+too-short-spec = tie.close (tie.spec (λ c κs. search needs) returns)

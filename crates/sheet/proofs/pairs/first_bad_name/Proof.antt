@@ -14,39 +14,17 @@ Inv-loop pairs text count i₀ i = Passed (badName pairs text) count i
 abbrev μ-loop : tie.MeasureT-loop
 μ-loop pairs text count i₀ i = count - i
 
-loop-holds : tie.Need-loop-holds Inv-loop μ-loop
-loop-holds c = at-start _ _
-
-marked-bytes-requires : tie.Need-marked-bytes-requires Inv-loop μ-loop
-marked-bytes-requires c κs =
-    let start = c .before .before .before .before in
-    pair-within (start .pre) (c .loop-test .taken)
-
-is-name-requires : tie.Need-is-name-requires Inv-loop μ-loop
-is-name-requires c κs = tt
-
 returns : tie.Need-returns Inv-loop μ-loop
 unfolding badName
 returns c =
-    let after-loop-test = c .before .before .before in
-    let after-loop = after-loop-test .before in
-    found-here _ _ _ (after-loop .loop .inv .none-below) (cc) (after-loop-test .loop-test .taken)
-
-add-i : tie.Need-add-i Inv-loop μ-loop
-add-i c = omega arith
-
-loop-less : tie.Need-loop-less Inv-loop μ-loop
-loop-less c = omega arith
+    let turn = c .before .before .before in
+    found-here _ _ _ (turn .before .loop .inv .none-below) (cc) (turn .loop-test .taken)
 
 loop-again : tie.Need-loop-again Inv-loop μ-loop
 unfolding badName
 loop-again c =
-    let after-loop-test = c .before .before .before in
-    let after-loop = after-loop-test .before in
-    onward (after-loop .loop .inv) (after-loop-test .loop-test .taken) (cc)
-
-returns-2 : tie.Need-returns-2 Inv-loop μ-loop
-returns-2 c = found-nowhere _ _ _ (c .before .loop .inv .none-below) (omega arith)
+    let turn = c .before .before .before in
+    onward (turn .before .loop .inv) (turn .loop-test .taken) (cc)
 
 pub first-bad-name-spec : {M : Type 1} → statement M
 first-bad-name-spec =
@@ -54,11 +32,11 @@ first-bad-name-spec =
     (tie.spec
     Inv-loop
     μ-loop
-    loop-holds
-    marked-bytes-requires
-    is-name-requires
+    (λ c. at-start _ _)
+    (λ c κs. pair-within (c .before .before .before .before .pre) (c .loop-test .taken))
+    (λ c κs. tt)
     returns
-    add-i
-    loop-less
+    (λ c. omega arith)
+    (λ c. omega arith)
     loop-again
-    returns-2)
+    (λ c. found-nowhere _ _ _ (c .before .loop .inv .none-below) (omega arith)))

@@ -24,14 +24,6 @@ loop-holds : tie.Need-loop-holds Inv-loop μ-loop
 unfolding lastEnd
 loop-holds c = (at-start _ _, refl)
 
-pair-offset-requires : tie.Need-pair-offset-requires Inv-loop μ-loop
-unfolding pairSize
-pair-offset-requires c κs = omega arith
-
-pair-length-requires : tie.Need-pair-length-requires Inv-loop μ-loop
-unfolding pairSize
-pair-length-requires c κs = omega arith
-
 add-end : tie.Need-add-end Inv-loop μ-loop
 unfolding pairOffset pairLength numberAt
 add-end c =
@@ -53,12 +45,6 @@ returns c =
     (c .if1 .came))
     (after-loop-test .loop-test .taken)
 
-add-i : tie.Need-add-i Inv-loop μ-loop
-add-i c = omega arith
-
-loop-less : tie.Need-loop-less Inv-loop μ-loop
-loop-less c = omega arith
-
 loop-again : tie.Need-loop-again Inv-loop μ-loop
 unfolding pairEnd lastEnd
 loop-again c =
@@ -68,21 +54,19 @@ loop-again c =
       rw (add-one, lastEnd) (omega arith),
     )
 
-returns-2 : tie.Need-returns-2 Inv-loop μ-loop
-returns-2 c = found-nowhere _ _ _ (c .before .loop .inv .0 .none-below) (omega arith)
-
 pub first-bad-pair-spec : {M : Type 1} → statement M
+unfolding pairSize
 first-bad-pair-spec =
     tie.close
     (tie.spec
     Inv-loop
     μ-loop
     loop-holds
-    pair-offset-requires
-    pair-length-requires
+    (λ c κs. omega arith)
+    (λ c κs. omega arith)
     add-end
     returns
-    add-i
-    loop-less
+    (λ c. omega arith)
+    (λ c. omega arith)
     loop-again
-    returns-2)
+    (λ c. found-nowhere _ _ _ (c .before .loop .inv .0 .none-below) (omega arith)))

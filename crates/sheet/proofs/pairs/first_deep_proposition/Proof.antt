@@ -16,14 +16,6 @@ Inv-loop pairs code count names i₀ i = Passed (deepProposition names pairs cod
 abbrev μ-loop : tie.MeasureT-loop
 μ-loop pairs code count names i₀ i = count - i
 
-loop-holds : tie.Need-loop-holds Inv-loop μ-loop
-loop-holds c = at-start _ _
-
-marked-bytes-requires : tie.Need-marked-bytes-requires Inv-loop μ-loop
-marked-bytes-requires c κs =
-    let start = c .before .before .before .before in
-    pair-within (start .pre .pairs-within) (c .loop-test .taken)
-
 is-deep-requires : tie.Need-is-deep-requires Inv-loop μ-loop
 unfolding badCode
 is-deep-requires c κs =
@@ -33,25 +25,14 @@ is-deep-requires c κs =
 returns : tie.Need-returns Inv-loop μ-loop
 unfolding deepProposition propIn propositionNestingLimit
 returns c =
-    let after-loop-test = c .before .before .before in
-    let after-loop = after-loop-test .before in
-    found-here _ _ _ (after-loop .loop .inv .none-below) (cc) (after-loop-test .loop-test .taken)
-
-add-i : tie.Need-add-i Inv-loop μ-loop
-add-i c = omega arith
-
-loop-less : tie.Need-loop-less Inv-loop μ-loop
-loop-less c = omega arith
+    let turn = c .before .before .before in
+    found-here _ _ _ (turn .before .loop .inv .none-below) (cc) (turn .loop-test .taken)
 
 loop-again : tie.Need-loop-again Inv-loop μ-loop
 unfolding deepProposition propIn propositionNestingLimit
 loop-again c =
-    let after-loop-test = c .before .before .before in
-    let after-loop = after-loop-test .before in
-    onward (after-loop .loop .inv) (after-loop-test .loop-test .taken) (cc)
-
-returns-2 : tie.Need-returns-2 Inv-loop μ-loop
-returns-2 c = found-nowhere _ _ _ (c .before .loop .inv .none-below) (omega arith)
+    let turn = c .before .before .before in
+    onward (turn .before .loop .inv) (turn .loop-test .taken) (cc)
 
 pub first-deep-proposition-spec : {M : Type 1} → statement M
 first-deep-proposition-spec =
@@ -59,11 +40,11 @@ first-deep-proposition-spec =
     (tie.spec
     Inv-loop
     μ-loop
-    loop-holds
-    marked-bytes-requires
+    (λ c. at-start _ _)
+    (λ c κs. pair-within (c .before .before .before .before .pre .pairs-within) (c .loop-test .taken))
     is-deep-requires
     returns
-    add-i
-    loop-less
+    (λ c. omega arith)
+    (λ c. omega arith)
     loop-again
-    returns-2)
+    (λ c. found-nowhere _ _ _ (c .before .loop .inv .none-below) (omega arith)))

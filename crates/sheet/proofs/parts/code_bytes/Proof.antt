@@ -4,9 +4,6 @@ use borrow.Author.Needs.{needs}
 use Rattle.sheet.proofs.parts.code_bytes.Statement.{statement}
 use Rattle.sheet.proofs.parts.code_bytes.Tie as tie
 
-vocabulary-requires : tie.Need-vocabulary-requires
-vocabulary-requires c κs = search needs
-
 code-of-requires : tie.Need-code-of-requires
 code-of-requires c κs = rw (c .vocabulary .ensures) (within (c .before .before .pre))
 
@@ -14,4 +11,4 @@ returns : tie.Need-returns
 returns c = rw (c .code-of .ensures, c .before .vocabulary .ensures) (code-is (c .before .before .before .pre))
 
 pub code-bytes-spec : {M : Type 1} → statement M
-code-bytes-spec = tie.close (tie.spec vocabulary-requires code-of-requires returns)
+code-bytes-spec = tie.close (tie.spec (λ c κs. search needs) code-of-requires returns)

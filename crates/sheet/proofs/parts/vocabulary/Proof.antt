@@ -5,12 +5,9 @@ use Rattle.sheet.specs.Header.{vocabularyOf}
 use Rattle.sheet.proofs.parts.vocabulary.Statement.{statement}
 use Rattle.sheet.proofs.parts.vocabulary.Tie as tie
 
-layout-requires : tie.Need-layout-requires
-layout-requires c κs = search needs
-
 returns : tie.Need-returns
 unfolding vocabularyOf headerSize
 returns c = rw (c .layout .ensures)
 
 pub vocabulary-spec : {M : Type 1} → statement M
-vocabulary-spec = tie.close (tie.spec layout-requires returns)
+vocabulary-spec = tie.close (tie.spec (λ c κs. search needs) returns)
