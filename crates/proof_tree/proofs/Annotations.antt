@@ -1,12 +1,12 @@
 -- The label of a function's parameter as an annotation: none, that of a kind and a number, or a refusal.
-use Prim.Native.Nat.{ℕ, _≤_}
-use mathlib.Core.Path.{_≡_, refl, _∙_}
+use Prim.Native.Nat.{ℕ, _<_}
+use mathlib.Core.Path.{_≡_, refl}
 use mathlib.Core.Option.{none, some}
 use mathlib.Core.List.{List, [], _∷_}
 use native.Mathlib.Omega.{arith}
 use types.Run.{OneOf, miss}
 use denote.Enum.Declared.{tagOf}
-use Rattle.definitions.specs.Outcome.{Outcome, accepted, refused, mapOutcome, refuse}
+use Rattle.definitions.specs.Outcome.{Outcome, accepted, mapOutcome, refuse}
 use Rattle.definitions.specs.declared.Refusal.{Refusal}
 use Rattle.definitions.specs.Sheet.{pairOffset}
 use Rattle.definitions.specs.Term as term
@@ -14,7 +14,12 @@ use Rattle.definitions.specs.Tree as tree
 use Rattle.definitions.specs.Tree.{ProofTreeConclusion}
 use Rattle.definitions.specs.Export.{leftLabel, datatypeLabel}
 use Rattle.prefix_code.specs.PropAt.{propAt, Present}
-use Rattle.prefix_code.specs.Shape.{ImplicationAt}
+use Rattle.definitions.proofs.PrefixCode.{Bytes}
+use Rattle.prefix_code.specs.declared.Shape.{Shape}
+use Rattle.prefix_code.specs.declared.Shape.the-variants.{Binary, Quantified}
+use Rattle.prefix_code.specs.Shape.{ShapeOf}
+use Rattle.prefix_code.proofs.Shape as shape
+use Rattle.prefix_code.proofs.Shapes.{implication-at}
 use Rattle.steps.specs.declared.Judgement.{Judgement}
 use Rattle.steps.specs.declared.Conclusion.{Conclusion}
 use Rattle.steps.specs.declared.Conclusion.the-variants.{PropIsTrue, TypeJudgement}
@@ -24,6 +29,8 @@ use Rattle.proof_tree.specs.declared.table.Ending.the-variants.{Bare, As
 use Rattle.proof_tree.specs.declared.conclusion.Annotation.the-variants.{Label, Refused}
 use Rattle.proof_tree.specs.Table.{endingOf}
 use Rattle.proof_tree.specs.Labelling.{leftLabelOf, datatypeLabelOf, parameterLabelOf, Means, stands, judges, Annotated, labelled, refuses}
+use Rattle.proof_tree.specs.Opening.{Readable}
+use Rattle.proof_tree.proofs.Conclusions.{shaped, left-fits, datatype-fits, implication-label, other-connective, no-binary, universal-label, other-quantifier, no-quantified}
 use Rattle.proof_tree.proofs.table.Ending as ending
 
 no-parameter : (e : Ending) (k : ℕ) (c : ProofTreeConclusion ℕ) → OneOf (0 ∷ 1 ∷ 4 ∷ []) (tagOf ending.the-type e)
@@ -49,6 +56,12 @@ pub record Stated (names : ℕ) (pairs code : List ℕ) (p : ℕ) (m : ProofTree
 
 stated-as : {names : ℕ} {pairs code : List ℕ} {p : ℕ} {m : ProofTreeConclusion ℕ} → Means names pairs code (PropIsTrue p) m → Stated names pairs code p m
 stated-as (stands s) = record { here = s; is = refl }
+
+-- a conclusion that was opened: the offset of its proposition, and the shape that stands there
+pub record Opened (pairs code : List ℕ) (c : Conclusion) (p at : ℕ) (s : Shape) : Type 0 where
+  pub concludes : c ≡ PropIsTrue p
+  pub offset : at ≡ pairOffset pairs p
+  pub shape : (names : ℕ) → Present names code at → ShapeOf names code at s
 
 -- a type judgement gives no label
 left-judged : {names : ℕ} {pairs code : List ℕ} {x : Judgement} {m : ProofTreeConclusion ℕ} → Means names pairs code (TypeJudgement x) m → (k : ℕ) → leftLabel k m ≡ refuse 14 k
@@ -80,35 +93,66 @@ module _ {names : ℕ} {pairs code : List ℕ} {c : Conclusion} {m : ProofTreeCo
   no-datatype-judged {k = k} is = refused-label (datatype-judged (rw is at means) k)
 
   -- what is said of the label of its proposition
-  module _ {p : ℕ} (concludes : c ≡ PropIsTrue p) where
-    abbrev whole : ProofTreeConclusion ℕ
-    whole = tree.PropIsTrue (propAt names code (pairOffset pairs p))
+  module _ {p at : ℕ} {s : Shape} (o : Opened pairs code c p at s) where
+    is-shape : {t : Shape} → s ≡ t → ShapeOf names code (pairOffset pairs p) t
+    is-shape same = shaped (o .offset) (stated (o .concludes) .here) (o .shape) same
 
-    pub no-left : {k : ℕ} {r : Refusal} → leftLabel k whole ≡ refuse 14 k → r ≡ record { number = 14; place = k }
-        → Annotated names pairs code c (leftLabelOf k m) (Refused r)
+    no-label : (label : ProofTreeConclusion ℕ → Outcome (term.Label ℕ)) {number k : ℕ} {r : Refusal}
+        → label (tree.PropIsTrue (propAt names code (pairOffset pairs p))) ≡ refuse number k
+        → r ≡ record { number = number; place = k } → Annotated names pairs code c (mapOutcome some (label m)) (Refused r)
+    no-label label e is = rw (stated (o .concludes) .is) (refused-label e is)
+
+    pub no-left : {k : ℕ} {r : Refusal} → OneOf (0 ∷ 1 ∷ 3 ∷ 4 ∷ []) (tagOf shape.the-type s)
+        → r ≡ record { number = 14; place = k } → Annotated names pairs code c (leftLabelOf k m) (Refused r)
     unfolding leftLabelOf
-    no-left e is = rw (stated concludes .is) (refused-label e is)
+    no-left {k} other = no-label (leftLabel k) (no-binary k (is-shape refl) other)
 
-    pub no-datatype : {k : ℕ} {r : Refusal} → datatypeLabel k whole ≡ refuse 15 k → r ≡ record { number = 15; place = k }
-        → Annotated names pairs code c (datatypeLabelOf k m) (Refused r)
-    unfolding datatypeLabelOf
-    no-datatype e is = rw (stated concludes .is) (refused-label e is)
+    pub other-left : {k connective left : ℕ} {r : Refusal} → s ≡ Binary connective left → (connective ≡ 4 → ⊥)
+        → r ≡ record { number = 14; place = k } → Annotated names pairs code c (leftLabelOf k m) (Refused r)
+    unfolding leftLabelOf
+    other-left {k} same other = no-label (leftLabel k) (other-connective k (is-shape same) other)
 
-    pub left-side : (k n : ℕ) → leftLabel k whole ≡ accepted (term.proposition (propAt names code n)) → ImplicationAt code (pairOffset pairs p) n
-        → Annotated names pairs code c (leftLabelOf k m) (Label 1 n)
+    pub left-side : (k : ℕ) {connective left : ℕ} → s ≡ Binary connective left → connective ≡ 4
+        → Annotated names pairs code c (leftLabelOf k m) (Label 1 left)
     unfolding leftLabelOf mapOutcome parameterLabel labelOf
-    left-side k n e implies =
-        labelled {kind = 1} {number = n} (record {
-          is = rw (stated concludes .is, e);
+    left-side k {left = left} same four =
+        let its = stated (o .concludes) in
+        let implies = implication-at (its .here) (is-shape same) four in
+        labelled {kind = 1} {number = left} (record {
+          is = rw (its .is, implication-label k (is-shape same) four);
           known = omega arith;
-          left = λ z. record { proposition = p; concludes = concludes; implies = implies };
+          left = λ z. record { proposition = p; concludes = o .concludes; implies = implies };
         })
 
-    pub datatype : (k n : ℕ) → datatypeLabel k whole ≡ accepted (term.datatype n) → Annotated names pairs code c (datatypeLabelOf k m) (Label 2 n)
+    pub no-datatype : {k : ℕ} {r : Refusal} → OneOf (0 ∷ 1 ∷ 2 ∷ 3 ∷ []) (tagOf shape.the-type s)
+        → r ≡ record { number = 15; place = k } → Annotated names pairs code c (datatypeLabelOf k m) (Refused r)
+    unfolding datatypeLabelOf
+    no-datatype {k} other = no-label (datatypeLabel k) (no-quantified k (is-shape refl) other)
+
+    pub other-datatype : {k quantifier object d body : ℕ} {r : Refusal} → s ≡ Quantified quantifier object d body
+        → (quantifier ≡ 6 → ⊥) → r ≡ record { number = 15; place = k }
+        → Annotated names pairs code c (datatypeLabelOf k m) (Refused r)
+    unfolding datatypeLabelOf
+    other-datatype {k} same other = no-label (datatypeLabel k) (other-quantifier k (is-shape same) other)
+
+    pub datatype : (k : ℕ) {quantifier object d body : ℕ} → s ≡ Quantified quantifier object d body → quantifier ≡ 6
+        → Annotated names pairs code c (datatypeLabelOf k m) (Label 2 d)
     unfolding datatypeLabelOf mapOutcome parameterLabel labelOf
-    datatype k n e =
-        labelled {kind = 2} {number = n} (record {
-          is = rw (stated concludes .is, e);
+    datatype k {d = d} same six =
+        labelled {kind = 2} {number = d} (record {
+          is = rw (stated (o .concludes) .is, universal-label k (is-shape same) six);
           known = omega arith;
           left = λ z. absurd (omega arith);
         })
+
+-- the left side and the datatype fit a u16
+module _ {pairs code : List ℕ} {c : Conclusion} {p at : ℕ} {s : Shape} (r : Readable pairs code c)
+    (o : Opened pairs code c p at s) where
+  pub left-small : {connective left : ℕ} → s ≡ Binary connective left → left < 65536
+  left-small same =
+      let here = r .stands p (o .concludes) .present in
+      left-fits here (r .short) (shaped (o .offset) here (o .shape) same)
+
+  pub datatype-small : Bytes code → {quantifier object d body : ℕ} → s ≡ Quantified quantifier object d body → d < 65536
+  datatype-small bytes same =
+      datatype-fits bytes (shaped (o .offset) (r .stands p (o .concludes) .present) (o .shape) same)

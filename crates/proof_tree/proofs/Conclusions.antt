@@ -1,6 +1,6 @@
 -- The label that a proposition gives, by its shape.
 use Prim.Native.Nat.{ℕ, _+_, _<_}
-use mathlib.Core.Path.{_≡_, refl}
+use mathlib.Core.Path.{_≡_}
 use mathlib.Core.List.{List, [], _∷_}
 use native.Mathlib.Omega.{arith}
 use lib.ListN.{length}

@@ -1,5 +1,5 @@
 -- What the maker of a rule's term does is what the rule's term asks for.
-use Prim.Native.Nat.{ℕ, zero, suc, _+_, _-_, _≤_}
+use Prim.Native.Nat.{ℕ, zero, suc, _+_, _-_, _≤_, _<_}
 use mathlib.Core.Path.{_≡_, refl, sym, ap, _∙_}
 use mathlib.Core.Bool.{Bool, true, false, cond}
 use mathlib.Core.List.{List, [], _∷_, append-nil}
@@ -11,14 +11,14 @@ use Rattle.definitions.specs.Prop.{Prop, True, False}
 use Rattle.definitions.specs.Term as term
 use Rattle.definitions.specs.Term.{proposition, ProofTerm, ofLabel}
 use Rattle.definitions.specs.Export.{premissTerm}
-use Rattle.proof_term.specs.Records.{labelOf, parameterLabel, termAt}
+use Rattle.proof_term.specs.Records.{Each, labelOf, parameterLabel, termAt}
 use Rattle.proof_term.specs.Labels.{single, termLabels}
-use Rattle.proof_term.specs.Making.{Made}
+use Rattle.proof_term.specs.Making.{Room, Made}
 use Rattle.proof_term.proofs.Making.{kept-same}
 use Rattle.proof_tree.specs.declared.table.RuleTerm.{RuleTerm}
 use Rattle.proof_tree.specs.declared.table.RuleTerm.the-variants.{Premiss}
 use Rattle.proof_tree.specs.Table.{termOf, partCount}
-use Rattle.proof_tree.specs.Terms.{termOver, partTerms, termsLabels, MadeTerm}
+use Rattle.proof_tree.specs.Terms.{termOver, partTerms, termsLabels, Parts, MadeTerm}
 use Rattle.proof_tree.proofs.Ordering.{made-ordered}
 
 -- numbers that stand for the same proposition, whichever that is, are the same
@@ -42,6 +42,11 @@ proposition-label (suc (suc (suc kind))) label number h e = absurd (omega arith)
 
 no-label : {A : Type 0} (l : A) → _≡_ {A = List A} [] (l ∷ []) → ⊥
 no-label l e = let z : _≡_ {A = ℕ} 0 1 = ap length e in omega arith
+
+-- the parts that a form is over are earlier records
+pub parts-of : {rule form : RuleTerm} {a b c : ℕ} {terms : List ℕ} {used : ℕ} → rule ≡ form → Parts rule a b c terms used
+    → Room terms used × Each (λ part. part < used) (partCount form) a b c
+parts-of told parts = (parts .room, rw told at (parts .earlier))
 
 module _ {rule : RuleTerm} {first second kind label a b c : ℕ} {before : List ℕ} {used : ℕ} {after : List ℕ} {next : ℕ} where
   -- a record that is made over the parts

@@ -15,7 +15,7 @@ use Rattle.proof_tree.specs.Exportable.{GoodStep}
 use Rattle.proof_tree.proofs.Counts.{enough}
 use Rattle.proof_tree.proofs.ReadPremisses.{PremissesRead, read-none, read-more, read-refused, room-next, read-parts}
 use Rattle.proof_tree.proofs.Walking.{exportable-shorter, term-of, refusal-of, size-tree, count-refused, Entered, premiss-refused, step-placed}
-use borrow.Fn.Kinds.{In}
+use borrow.Fn.Kinds.{In, Out}
 use borrow.Fn.PlainCycle.{Measures, is, falls, and}
 use Rattle.proof_tree.proofs.do_export_as_proof_term.Reads as reads
 use Rattle.proof_tree.proofs.do_export_as_proof_term.Kinds as kinds
@@ -70,165 +70,184 @@ claims t = (
 )
 
 module _ (t : ℕ) where
-  good : (c : lts.Start (claims t) (Pre t) reads.Post Inv-loop μ-loop) → GoodStep (c .args .names) (now (c .args .pairs)) (now (c .args .code)) (now (c .args .step-records)) (c .args .k)
+  -- a place, or what is asked at one, with these claims
+  abbrev Of : (lts.Claims → In 5 kinds.ps → Out 5 kinds.ps kinds.r → lts.InvT-loop → lts.MeasureT-loop → Type 0) → Type 0
+  Of thing = thing (claims t) (Pre t) reads.Post Inv-loop μ-loop
+
+  -- back from the rule to the start, and from a count that the rule admits to its row
+  abbrev begun : Of lts.After-rule-byte → Of lts.Start
+  begun c = c .before .before .before .before .before .before
+
+  abbrev row-read : Of lts.Else1 → Of lts.After-row-of
+  row-read c = c .before .before .before
+
+  abbrev start : Of lts.Else1 → Of lts.Start
+  start c = begun (row-read c .before)
+
+  -- back from the loop to the count, and from a premiss's term to the turn of the loop
+  abbrev counted : Of lts.At-loop → Of lts.Else1
+  counted c = c .before .before .before
+
+  abbrev turn : Of lts.After-do-export-as-proof-term → Of lts.In-loop
+  turn c = c .before .before .before .before
+
+  good : (c : Of lts.Start) → let s = c .args in
+      GoodStep (s .names) (now (s .pairs)) (now (s .code)) (now (s .step-records)) (s .k)
   good c = c .pre .1 .0 .good (c .args .k) (omega arith)
 
-  is-row : (c : lts.After-row-of (claims t) (Pre t) reads.Post Inv-loop μ-loop) → TableRow (ruleIn (now (c .before .before .before .before .before .before .before .args .step-records)) (c .before .before .before .before .before .before .before .args .k)) (c .row-of .result)
+  found : (c : Of lts.Start) → let s = c .args in
+      tooFewTrees (s .names) (now (s .pairs)) (now (s .code)) (now (s .step-records)) (s .k) ≡ false
+  found c = c .pre .1 .0 .table .enough _ _ _ _ (omega arith)
+
+  is-row : (c : Of lts.After-row-of) → let s = begun (c .before) .args in
+      TableRow (ruleIn (now (s .step-records)) (s .k)) (c .row-of .result)
   unfolding ruleIn
   is-row c = rw (c .before .rule-byte .ensures) at (c .row-of .ensures)
 
-  found : (c : lts.Start (claims t) (Pre t) reads.Post Inv-loop μ-loop) → tooFewTrees (c .args .names) (now (c .args .pairs)) (now (c .args .code)) (now (c .args .step-records)) (c .args .k) ≡ false
-  found c = c .pre .1 .0 .table .enough _ _ _ _ (omega arith)
-
-  -- back from a step that has the premisses of its rule to its row, and to the start
-  abbrev row-read : lts.Else1 (claims t) (Pre t) reads.Post Inv-loop μ-loop → lts.After-row-of (claims t) (Pre t) reads.Post Inv-loop μ-loop
-  row-read c = c .before .before .before
-
-  abbrev start : lts.Else1 (claims t) (Pre t) reads.Post Inv-loop μ-loop → lts.Start (claims t) (Pre t) reads.Post Inv-loop μ-loop
-  start c = let rule = row-read c .before in rule .before .before .before .before .before .before
-
-  entered : (c : lts.Else1 (claims t) (Pre t) reads.Post Inv-loop μ-loop) → let s = start c .args in
-      Entered (s .names) (now (s .pairs)) (now (s .code)) (now (s .step-records)) (s .k) (c .before .before .before .row-of .result)
+  entered : (c : Of lts.Else1) → let s = start c .args in
+      Entered (s .names) (now (s .pairs)) (now (s .code)) (now (s .step-records)) (s .k) (row-read c .row-of .result)
   entered c =
       record {
-        is-row = is-row (c .before .before .before);
+        is-row = is-row (row-read c);
         found = found (start c);
-        right = rw (c .before .before .premiss-count .ensures) at (sym (c .before .admits-count .ensures _ (is-row (c .before .before .before))) ∙ not-false _ (c .if1 .left));
+        right = rw (c .before .before .premiss-count .ensures)
+            at (sym (c .before .admits-count .ensures _ (is-row (c .before .before .before))) ∙ not-false _ (c .if1 .left));
       }
 
   -- the step has the premisses that are read
-  has-premisses : (c : lts.Else1 (claims t) (Pre t) reads.Post Inv-loop μ-loop) → let s = c .before .before .before .before .before .before .before .before .before .before .args in c .before .before .before .row-of .result .0 ≤ premissCount (now (s .step-records)) (s .k)
+  has-premisses : (c : Of lts.Else1) → let s = start c .args in
+      row-read c .row-of .result .0 ≤ premissCount (now (s .step-records)) (s .k)
   unfolding admitsCount
-  has-premisses c = rw (entered c .is-row .fewest-is) (enough (row _ .premisses) _ (entered c .right))
+  has-premisses c = omega (arith, entered c .is-row .fewest-is, enough (row _ .premisses) _ (entered c .right))
 
-  rule-byte-requires : lts.Need-rule-byte-requires (claims t) (Pre t) reads.Post Inv-loop μ-loop
-  rule-byte-requires c κs = good (c .before .before .before .before .before) .whole
+  row-of-requires : Of lts.Need-row-of-requires
+  row-of-requires c κs = rw (c .rule-byte .ensures) (good (begun c) .rule)
 
-  row-of-requires : lts.Need-row-of-requires (claims t) (Pre t) reads.Post Inv-loop μ-loop
-  row-of-requires c κs = rw (c .rule-byte .ensures) (good (c .before .before .before .before .before .before) .rule)
+  at-requires : Of lts.Need-at-requires
+  at-requires c κs = omega (arith, good (begun (c .before .before .before .before)) .few)
 
-  premiss-count-requires : lts.Need-premiss-count-requires (claims t) (Pre t) reads.Post Inv-loop μ-loop
-  premiss-count-requires c κs = good (c .before .before .before .before .before .before .before) .whole
+  returns : Of lts.Need-returns
+  returns c =
+      let row = c .before .before .before .before in
+      count-refused (modeOf _) (found (begun (row .before)))
+      (rw (c .before .before .before .premiss-count .ensures)
+      at (sym (c .before .before .admits-count .ensures _ (is-row row)) ∙ not-true _ (c .before .if1 .taken)))
+      (c .at .ensures)
 
-  admits-count-requires : lts.Need-admits-count-requires (claims t) (Pre t) reads.Post Inv-loop μ-loop
-  admits-count-requires c κs = search needs
-
-  at-requires : lts.Need-at-requires (claims t) (Pre t) reads.Post Inv-loop μ-loop
-  at-requires c κs = omega (arith, good (c .before .before .before .before .before .before .before .before .before .before) .few)
-
-  returns : lts.Need-returns (claims t) (Pre t) reads.Post Inv-loop μ-loop
-  returns c = count-refused (modeOf _) (found (c .before .before .before .before .before .before .before .before .before .before .before)) (rw (c .before .before .before .premiss-count .ensures) at (sym (c .before .before .admits-count .ensures _ (is-row (c .before .before .before .before))) ∙ not-true _ (c .before .if1 .taken))) (c .at .ensures)
-
-  cast-reads : lts.Need-cast-reads (claims t) (Pre t) reads.Post Inv-loop μ-loop
-  cast-reads c = search needs
-
-  loop-holds : lts.Need-loop-holds (claims t) (Pre t) reads.Post Inv-loop μ-loop
-  loop-holds c = read-none _ _ _ _ _ _ _ _ _
-
-  premiss-requires : lts.Need-premiss-requires (claims t) (Pre t) reads.Post Inv-loop μ-loop
+  premiss-requires : Of lts.Need-premiss-requires
   premiss-requires c κs =
-      let s = c .before .before .before .before .before .before .before .before .before .before .before .before .before .before in
-      ((good s .whole, omega (arith, has-premisses (c .before .before .before .before))), (omega (arith, s .pre .1 .0 .sized), s .pre .1 .0 .table))
+      let there = counted (c .before) in
+      let s = start there in (
+        (good s .whole, omega (arith, has-premisses there)),
+        (omega (arith, s .pre .1 .0 .sized), s .pre .1 .0 .table),
+      )
 
-  array-read-expected-premisse-mode : lts.Need-array-read-expected-premisse-mode (claims t) (Pre t) reads.Post Inv-loop μ-loop
-  array-read-expected-premisse-mode c = omega (arith, entered (c .before .before .before .before .before) .is-row .few)
-
-  expected-premisse-mode-requires : lts.Need-expected-premisse-mode-requires (claims t) (Pre t) reads.Post Inv-loop μ-loop
-  expected-premisse-mode-requires c κs = search needs
-
-  do-export-as-proof-term-requires : lts.Need-do-export-as-proof-term-requires (claims t) (Pre t) reads.Post Inv-loop μ-loop
+  do-export-as-proof-term-requires : Of lts.Need-do-export-as-proof-term-requires
   do-export-as-proof-term-requires c κs =
-      let s = c .before .before .before .before .before .before .before .before .before .before .before .before .before .before .before .before .before in
-      let read = c .before .before .before .before .loop .inv in
-      let room = room-next (entered (c .before .before .before .before .before .before .before) .is-row) read (c .before .before .before .loop-test .taken) (c .before .before .premiss .ensures) (c .before .expected-premisse-mode .ensures) in
+      let mode = c .before in
+      let turn = mode .before .before in
+      let there = counted (turn .before) in
+      let s = start there in
+      let read = turn .before .loop .inv in
+      let step = mode .before .premiss .ensures in
+      let room =
+      room-next (entered there .is-row) read (turn .loop-test .taken) step (mode .expected-premisse-mode .ensures) in
       let size = size-tree (s .args .names) (now (s .args .pairs)) (now (s .args .code)) (now (s .args .step-records)) (s .args .k) in (
-        omega (arith, c .before .before .premiss .ensures .earlier, s .pre .0),
+        omega (arith, step .earlier, s .pre .0),
         (
-          exportable-shorter (omega (arith, c .before .before .premiss .ensures .earlier)) (s .pre .1 .0),
-          record { room = omega (arith, room, size, read .same, s .pre .1 .1 .room); few = omega (arith, room, size, s .pre .1 .1 .few) },
+          exportable-shorter (omega (arith, step .earlier)) (s .pre .1 .0),
+          record {
+            room = omega (arith, room, size, read .same, s .pre .1 .1 .room);
+            few = omega (arith, room, size, s .pre .1 .1 .few);
+          },
         ),
       )
 
-  enum-known-exported : lts.Need-enum-known-exported (claims t) (Pre t) reads.Post Inv-loop μ-loop
-  enum-known-exported c = search needs
+  same-length : Of lts.Need-same-length
+  same-length c =
+      let call = c .before .before .before .before in
+      call .do-export-as-proof-term .kept .1 .1 .1 .1 .1 .1 .1 .0 ∙ turn call .before .loop .inv .same
 
-  enum-told : lts.Need-enum-told (claims t) (Pre t) reads.Post Inv-loop μ-loop
-  enum-told c = search needs
-
-  same-length : lts.Need-same-length (claims t) (Pre t) reads.Post Inv-loop μ-loop
-  same-length c = c .before .before .before .before .do-export-as-proof-term .kept .1 .1 .1 .1 .1 .1 .1 .0 ∙ c .before .before .before .before .before .before .before .before .before .loop .inv .same
-
-  returns-2 : lts.Need-returns-2 (claims t) (Pre t) reads.Post Inv-loop μ-loop
+  returns-2 : Of lts.Need-returns-2
   returns-2 c =
+      let call = c .before .before .before .before in
+      let mode = call .before .before in
+      let turn = turn call in
+      let there = entered (counted (turn .before)) in
       rw (c .enum-told .given .1)
-      (premiss-refused (modeOf _) (entered (c .before .before .before .before .before .before .before .before .before .before .before .before))
-      (read-refused (entered (c .before .before .before .before .before .before .before .before .before .before .before .before) .is-row) (c .before .before .before .before .before .before .before .before .before .loop .inv) (c .before .before .before .before .before .before .before .before .loop-test .taken) (c .before .before .before .before .before .before .before .premiss .ensures) (c .before .before .before .before .before .before .expected-premisse-mode .ensures)
-      (refusal-of (c .before .before .before .before .do-export-as-proof-term .ensures) (c .enum-told .given .1))))
+      (premiss-refused (modeOf _) there
+      (read-refused (there .is-row) (turn .before .loop .inv) (turn .loop-test .taken) (mode .before .premiss .ensures)
+      (mode .expected-premisse-mode .ensures)
+      (refusal-of (call .do-export-as-proof-term .ensures) (c .enum-told .given .1))))
 
-  sub-parts : lts.Need-sub-parts (claims t) (Pre t) reads.Post Inv-loop μ-loop
-  sub-parts c = omega (arith, term-of (c .before .before .before .before .before .do-export-as-proof-term .ensures) (c .before .exported .given .1) .low)
+  sub-parts : Of lts.Need-sub-parts
+  sub-parts c =
+      let call = c .before .before .before .before .before in
+      omega (arith, term-of (call .do-export-as-proof-term .ensures) (c .before .exported .given .1) .low)
 
-  mul-parts : lts.Need-mul-parts (claims t) (Pre t) reads.Post Inv-loop μ-loop
-  mul-parts c = omega (arith, entered (c .before .before .before .before .before .before .before .before .before .before .before .before .before) .is-row .few, c .before .before .before .before .before .before .before .before .before .before .loop .inv .position)
+  -- the position of a premiss that is read is below three
+  position : (c : Of lts.In-loop) → c .before .loop .i < 3
+  position c = omega (arith, entered (counted (c .before)) .is-row .few, c .loop-test .taken)
 
-  array-write-parts : lts.Need-array-write-parts (claims t) (Pre t) reads.Post Inv-loop μ-loop
-  array-write-parts c = omega (arith, entered (c .before .before .before .before .before .before .before .before .before .before .before .before .before) .is-row .few, c .before .before .before .before .before .before .before .before .before .loop-test .taken)
-
-  add-i : lts.Need-add-i (claims t) (Pre t) reads.Post Inv-loop μ-loop
-  add-i c = omega (arith, entered (c .before .before .before .before .before .before .before .before .before .before .before .before .before) .is-row .few, c .before .before .before .before .before .before .before .before .before .loop-test .taken)
-
-  loop-less : lts.Need-loop-less (claims t) (Pre t) reads.Post Inv-loop μ-loop
-  loop-less c = omega (arith, c .before .before .before .before .before .before .before .before .before .loop-test .taken)
-
-  loop-again : lts.Need-loop-again (claims t) (Pre t) reads.Post Inv-loop μ-loop
+  loop-again : Of lts.Need-loop-again
   loop-again c =
-      read-more (entered (c .before .before .before .before .before .before .before .before .before .before .before .before .before) .is-row) (c .before .before .before .before .before .before .before .before .before .before .loop .inv) (c .before .before .before .before .before .before .before .before .before .loop-test .taken) (c .before .before .before .before .before .before .before .before .premiss .ensures) (c .before .before .before .before .before .before .before .expected-premisse-mode .ensures)
-      (term-of (c .before .before .before .before .before .do-export-as-proof-term .ensures) (c .before .exported .given .1))
-      (omega (arith, c .before .before .before .before .before .before .before .before .premiss .ensures .earlier)) (c .before .before .before .before .before .do-export-as-proof-term .kept .1 .1 .1 .1 .1 .1 .1 .0)
+      let call = c .before .before .before .before .before in
+      let mode = call .before .before in
+      let turn = turn call in
+      let step = mode .before .premiss .ensures in
+      read-more (entered (counted (turn .before)) .is-row) (turn .before .loop .inv) (turn .loop-test .taken) step
+      (mode .expected-premisse-mode .ensures)
+      (term-of (call .do-export-as-proof-term .ensures) (c .before .exported .given .1))
+      (omega (arith, step .earlier)) (call .do-export-as-proof-term .kept .1 .1 .1 .1 .1 .1 .1 .0)
 
-  placed-term-requires : lts.Need-placed-term-requires (claims t) (Pre t) reads.Post Inv-loop μ-loop
+  placed-term-requires : Of lts.Need-placed-term-requires
   placed-term-requires c κs =
-      let s = c .before .before .before .before .before .before .before .before .before .before .before .before .before .before .before in
-      let w = entered (c .before .before .before .before .before) .is-row in
-      let read = c .before .before .loop .inv in
+      let loop = c .before .before in
+      let s = start (counted loop) in
+      let row = entered (counted loop) .is-row in
+      let read = loop .loop .inv in
       let size = size-tree (s .args .names) (now (s .args .pairs)) (now (s .args .code)) (now (s .args .step-records)) (s .args .k) in (
-        (record { names = s .args .names; good = good s }, w),
-        read-parts w read (omega (arith, c .before .loop-test .left, read .position)) (omega (arith, read .high, size, read .same, s .pre .1 .1 .room)) (omega (arith, read .high, size, s .pre .1 .1 .few)),
+        (record { names = s .args .names; good = good s }, row),
+        read-parts row read (omega (arith, c .before .loop-test .left, read .position))
+            (omega (arith, read .high, size, read .same, s .pre .1 .1 .room))
+            (omega (arith, read .high, size, s .pre .1 .1 .few)),
       )
 
-  same-length-2 : lts.Need-same-length-2 (claims t) (Pre t) reads.Post Inv-loop μ-loop
-  same-length-2 c = c .before .before .placed-term .kept .1 .1 .1 .1 .1 .1 .1 .0 ∙ c .before .before .before .before .before .loop .inv .same
-
-  returns-3 : lts.Need-returns-3 (claims t) (Pre t) reads.Post Inv-loop μ-loop
+  returns-3 : Of lts.Need-returns-3
   returns-3 c =
-      let there = c .before .before .before .before .before .before .before .before in
-      step-placed (modeOf _) (entered there) (omega (arith, c .before .before .before .before .loop-test .left, c .before .before .before .before .before .loop .inv .position)) (c .before .before .before .before .before .loop .inv) (c .before .before .placed-term .ensures _ (good (start there)))
+      let done = c .before .before .before .before in
+      let read = done .before .loop .inv in
+      let there = counted (done .before) in
+      step-placed (modeOf _) (entered there) (omega (arith, done .loop-test .left, read .position)) read
+      (c .before .before .placed-term .ensures _ (good (start there)))
 
 pub +do-export-as-proof-term-spec : {M : Type 1} → statement M
 +do-export-as-proof-term-spec =
     close μ λ t. lts.spec (claims t) (Pre t) reads.Post Inv-loop μ-loop
-    (rule-byte-requires t)
+    (λ c κs. good t (c .before .before .before .before .before) .whole)
     (row-of-requires t)
-    (premiss-count-requires t)
-    (admits-count-requires t)
+    (λ c κs. good t (begun t (c .before)) .whole)
+    (λ c κs. search needs)
     (at-requires t)
     (returns t)
-    (cast-reads t)
-    (loop-holds t)
+    (λ c. search needs)
+    (λ c. read-none _ _ _ _ _ _ _ _ _)
     (premiss-requires t)
-    (array-read-expected-premisse-mode t)
-    (expected-premisse-mode-requires t)
+    (λ c. position t (c .before))
+    (λ c κs. search needs)
     (do-export-as-proof-term-requires t)
-    (enum-known-exported t)
-    (enum-told t)
+    (λ c. search needs)
+    (λ c. search needs)
     (same-length t)
     (returns-2 t)
     (sub-parts t)
-    (mul-parts t)
-    (array-write-parts t)
-    (add-i t)
-    (loop-less t)
+    (λ c. omega (arith, position t (turn t (c .before .before .before .before .before))))
+    (λ c. omega (arith, position t (turn t (c .before .before .before .before .before))))
+    (λ c. omega (arith, position t (turn t (c .before .before .before .before .before))))
+    (λ c. omega (arith, turn t (c .before .before .before .before .before) .loop-test .taken))
     (loop-again t)
     (placed-term-requires t)
-    (same-length-2 t)
+    (λ c.
+    c .before .before .placed-term .kept .1 .1 .1 .1 .1 .1 .1 .0
+    ∙ c .before .before .before .before .before .loop .inv .same)
     (returns-3 t)

@@ -5,12 +5,6 @@ use Rattle.proof_tree.specs.Labelling.{endingAt}
 use Rattle.proof_tree.proofs.ending_in.Statement.{statement}
 use Rattle.proof_tree.proofs.ending_in.Tie as tie
 
-enum-told : tie.Need-enum-told
-enum-told c = search needs
-
-enum-told-2 : tie.Need-enum-told-2
-enum-told-2 c = search needs
-
 returns : tie.Need-returns
 unfolding modeOf endingOf endingAt
 returns c = rw (c .enum-told .given .1)
@@ -20,4 +14,4 @@ unfolding modeOf endingOf endingAt
 returns-2 c = rw (c .enum-told2 .given .1)
 
 pub ending-in-spec : {M : Type 1} → statement M
-ending-in-spec = tie.close (tie.spec enum-told enum-told-2 returns returns-2)
+ending-in-spec = tie.close (tie.spec (λ c. search needs) (λ c. search needs) returns returns-2)

@@ -8,9 +8,6 @@ use Rattle.proof_tree.proofs.Walking.{exportable-shorter, size-within}
 use Rattle.proof_tree.proofs.export_as_proof_term.Statement.{statement}
 use Rattle.proof_tree.proofs.export_as_proof_term.Tie as tie
 
-sub-do-export-as-proof-term : tie.Need-sub-do-export-as-proof-term
-sub-do-export-as-proof-term c = search needs
-
 do-export-as-proof-term-requires : tie.Need-do-export-as-proof-term-requires
 do-export-as-proof-term-requires c κs =
     let s = c .before .before .before .before .before .before in
@@ -19,9 +16,6 @@ do-export-as-proof-term-requires c κs =
       record { room = omega (arith, size, s .pre .1 .room, s .pre .0 .1); few = omega (arith, size, s .pre .1 .few, s .pre .0 .1) },
     )
 
-same-length : tie.Need-same-length
-same-length c = search needs
-
 returns : tie.Need-returns
 unfolding modeOf
 returns c = c .before .before .do-export-as-proof-term .ensures
@@ -29,4 +23,4 @@ returns c = c .before .before .do-export-as-proof-term .ensures
 pub export-as-proof-term-spec : {M : Type 1} → statement M
 export-as-proof-term-spec =
     tie.close
-    (tie.spec sub-do-export-as-proof-term do-export-as-proof-term-requires same-length returns)
+    (tie.spec (λ c. search needs) do-export-as-proof-term-requires (λ c. search needs) returns)

@@ -48,9 +48,6 @@ its-label c good =
     let v = visited (step c) good in
     label-of (c .before .annotation2 .given .1) (c .before .before .before .annotation-of .ensures _ _ (means (v .good) (v .bytes) (concluded v)))
 
-ending-in-requires : tie.Need-ending-in-requires
-ending-in-requires c κs = search needs
-
 step-at-requires : tie.Need-step-at-requires
 step-at-requires c κs = let entry = c .before .before .before .before .before in entry .pre .0 .0 .good .whole
 
@@ -58,23 +55,11 @@ annotation-of-requires : tie.Need-annotation-of-requires
 annotation-of-requires c κs =
     let v = visited c (start c .pre .0 .0 .good) in (v .good .few, readable (v .good) (v .bytes) (concluded v))
 
-enum-known-annotation : tie.Need-enum-known-annotation
-enum-known-annotation c = search needs
-
-enum-known-annotation-2 : tie.Need-enum-known-annotation-2
-enum-known-annotation-2 c = search needs
-
 rule-term-requires : tie.Need-rule-term-requires
 rule-term-requires c κs =
     let there = c .before in
     let pre = start (step there) .pre in
     (pre .1 .0, its-label there (pre .0 .0 .good) .known)
-
-enum-told : tie.Need-enum-told
-enum-told c = search needs
-
-same-length : tie.Need-same-length
-same-length c = search needs
 
 returns : tie.Need-returns
 returns c names good =
@@ -102,9 +87,6 @@ returns-2 c names good =
     let v = visited there good in
     label-refused v _ (rw (c .before .annotation .given .1) at (c .before .before .before .annotation-of .ensures _ _ (means (v .good) (v .bytes) (concluded v))))
 
-same-length-2 : tie.Need-same-length-2
-same-length-2 c = search needs
-
 returns-3 : tie.Need-returns-3
 returns-3 c names good =
     let wrap = c .before .before in
@@ -119,16 +101,16 @@ pub placed-term-spec : {M : Type 1} → statement M
 placed-term-spec =
     tie.close
     (tie.spec
-    ending-in-requires
+    (λ c κs. search needs)
     step-at-requires
     annotation-of-requires
-    enum-known-annotation
-    enum-known-annotation-2
+    (λ c. search needs)
+    (λ c. search needs)
     rule-term-requires
-    enum-told
-    same-length
+    (λ c. search needs)
+    (λ c. search needs)
     returns
     wrap-into-type-ascription-requires
     returns-2
-    same-length-2
+    (λ c. search needs)
     returns-3)

@@ -13,40 +13,16 @@ start c = c .before .before .before .before .before
 abbrev offset : tie.After-type-ascription → tie.After-pair-offset
 offset c = c .before .before
 
-enum-known-conclusion : tie.Need-enum-known-conclusion
-enum-known-conclusion c = search needs
-
-enum-told : tie.Need-enum-told
-enum-told c = search needs
-
-at-requires : tie.Need-at-requires
-at-requires c κs = search needs
-
 returns : tie.Need-returns
 returns c = rw (c .before .enum-told .given .1) (refuses (c .at .ensures))
 
-cast-pair-offset : tie.Need-cast-pair-offset
-cast-pair-offset c = search needs
-
 pair-offset-requires : tie.Need-pair-offset-requires
 pair-offset-requires c κs = start c .pre .3 .there _ (c .before .conclusion .given .1)
-
-sub-type-ascription : tie.Need-sub-type-ascription
-sub-type-ascription c = search needs
-
-cast-type-ascription : tie.Need-cast-type-ascription
-cast-type-ascription c = search needs
 
 cast-type-ascription-2 : tie.Need-cast-type-ascription-2
 cast-type-ascription-2 c =
     let there = c .before .before in
     record { fits = rw (c .before .pair-offset .ensures) (start there .pre .3 .fits _ (there .before .conclusion .given .1)) }
-
-type-ascription-requires : tie.Need-type-ascription-requires
-type-ascription-requires c κs = search needs
-
-same-length : tie.Need-same-length
-same-length c = search needs
 
 returns-2 : tie.Need-returns-2
 unfolding labelOf
@@ -58,15 +34,15 @@ pub wrap-into-type-ascription-spec : {M : Type 1} → statement M
 wrap-into-type-ascription-spec =
     tie.close
     (tie.spec
-    enum-known-conclusion
-    enum-told
-    at-requires
+    (λ c. search needs)
+    (λ c. search needs)
+    (λ c κs. search needs)
     returns
-    cast-pair-offset
+    (λ c. search needs)
     pair-offset-requires
-    sub-type-ascription
-    cast-type-ascription
+    (λ c. search needs)
+    (λ c. search needs)
     cast-type-ascription-2
-    type-ascription-requires
-    same-length
+    (λ c κs. search needs)
+    (λ c. search needs)
     returns-2)

@@ -6,21 +6,6 @@ use Rattle.proof_tree.proofs.Annotations.{unlabelled}
 use Rattle.proof_tree.proofs.conclusion.annotation_of.Statement.{statement}
 use Rattle.proof_tree.proofs.conclusion.annotation_of.Tie as tie
 
-enum-told : tie.Need-enum-told
-enum-told c = search needs
-
-left-label-requires : tie.Need-left-label-requires
-left-label-requires c κs = search needs
-
-enum-told-2 : tie.Need-enum-told-2
-enum-told-2 c = search needs
-
-datatype-label-requires : tie.Need-datatype-label-requires
-datatype-label-requires c κs = search needs
-
-cast-t7 : tie.Need-cast-t7
-cast-t7 c = search needs
-
 returns : tie.Need-returns
 unfolding parameterLabelOf endingOf
 returns c names m means = rw (c .before .enum-told .given .1) (c .left-label .ensures names m means)
@@ -36,11 +21,11 @@ pub annotation-of-spec : {M : Type 1} → statement M
 annotation-of-spec =
     tie.close
     (tie.spec
-    enum-told
-    left-label-requires
-    enum-told-2
-    datatype-label-requires
-    cast-t7
+    (λ c. search needs)
+    (λ c κs. search needs)
+    (λ c. search needs)
+    (λ c κs. search needs)
+    (λ c. search needs)
     returns
     returns-2
     returns-3)

@@ -29,55 +29,26 @@ sized c = size-table-shorter _ _ _ _ (omega arith) (c .pre .1 .1)
 found : (c : tie.Start Inv-loop μ-loop) → tooFewTrees 0 [] [] (now (c .args .step-records)) (c .args .k) ≡ false
 found c = c .pre .1 .1 .enough 0 [] [] _ (omega arith)
 
+-- back from the loop to the start
+abbrev begun : tie.At-loop Inv-loop μ-loop → tie.Start Inv-loop μ-loop
+begun c = c .before .before .before .before .before
+
 -- a premiss that is still to be passed ends before the walk's step
 before : (c : tie.In-loop Inv-loop μ-loop) → 0 < c .before .loop .start
-before c = walk-in (c .before .loop .inv .0) (found (c .before .before .before .before .before .before)) (omega arith)
-
-premiss-count-requires : tie.Need-premiss-count-requires Inv-loop μ-loop
-premiss-count-requires c κs = search needs
-
-cast-later-premisses : tie.Need-cast-later-premisses Inv-loop μ-loop
-cast-later-premisses c = search needs
-
-later-premisses-requires : tie.Need-later-premisses-requires Inv-loop μ-loop
-later-premisses-requires c κs = omega arith
-
-loop-holds : tie.Need-loop-holds Inv-loop μ-loop
-loop-holds c = (walk-start _ _, omega arith, omega arith)
-
-sub-start : tie.Need-sub-start Inv-loop μ-loop
-sub-start c = before c
-
-mul-start : tie.Need-mul-start Inv-loop μ-loop
-mul-start c = omega (arith, walk-within (c .before .loop .inv .0))
-
-shared-slice-read-start : tie.Need-shared-slice-read-start Inv-loop μ-loop
-shared-slice-read-start c = omega (arith, before (c .before), walk-within (c .before .before .loop .inv .0))
-
-cast-start : tie.Need-cast-start Inv-loop μ-loop
-cast-start c = omega (arith, c .shared-slice-known3 .given (c .before .before .loop .start - 1))
+before c = walk-in (c .before .loop .inv .0) (found (begun (c .before))) (omega arith)
 
 sub-start-2 : tie.Need-sub-start-2 Inv-loop μ-loop
 sub-start-2 c =
-    size-fits (c .before .before .loop .inv .0) _ (sized (c .before .before .before .before .before .before .before)) (before (c .before))
-
-add-counter : tie.Need-add-counter Inv-loop μ-loop
-add-counter c = omega arith
-
-loop-less : tie.Need-loop-less Inv-loop μ-loop
-loop-less c = omega arith
+    size-fits (c .before .before .loop .inv .0) _ (sized (begun (c .before .before))) (before (c .before))
 
 loop-again : tie.Need-loop-again Inv-loop μ-loop
 loop-again c =
     let l = c .before .before .loop .inv in
-    (walk-on (l .0) _ (sized (c .before .before .before .before .before .before .before)) (before (c .before)), omega arith, l .2)
+    (walk-on (l .0) _ (sized (begun (c .before .before))) (before (c .before)), omega arith, l .2)
 
 sub-result : tie.Need-sub-result Inv-loop μ-loop
 sub-result c =
-    some-step (c .before .loop .inv .0) (found (c .before .before .before .before .before .before)) (c .before .before .before .before .before .before .args .position) (omega arith)
-
-returns : tie.Need-returns Inv-loop μ-loop
-returns c = premiss-step (c .before .loop .inv .0) (found (c .before .before .before .before .before .before)) _ (omega arith)
+    some-step (c .before .loop .inv .0) (found (begun (c .before))) (begun (c .before) .args .position) (omega arith)
 
 pub premiss-spec : {M : Type 1} → statement M
 premiss-spec =
@@ -85,17 +56,17 @@ premiss-spec =
     (tie.spec
     Inv-loop
     μ-loop
-    premiss-count-requires
-    cast-later-premisses
-    later-premisses-requires
-    loop-holds
-    sub-start
-    mul-start
-    shared-slice-read-start
-    cast-start
+    (λ c κs. search needs)
+    (λ c. search needs)
+    (λ c κs. omega arith)
+    (λ c. (walk-start _ _, omega arith, omega arith))
+    before
+    (λ c. omega (arith, walk-within (c .before .loop .inv .0)))
+    (λ c. omega (arith, before (c .before), walk-within (c .before .before .loop .inv .0)))
+    (λ c. omega (arith, c .shared-slice-known3 .given (c .before .before .loop .start - 1)))
     sub-start-2
-    add-counter
-    loop-less
+    (λ c. omega arith)
+    (λ c. omega arith)
     loop-again
     sub-result
-    returns)
+    (λ c. premiss-step (c .before .loop .inv .0) (found (begun (c .before))) _ (omega arith)))

@@ -8,17 +8,10 @@ use Rattle.proof_tree.proofs.Rows.{entry, table-row}
 use Rattle.proof_tree.proofs.table.row_of.Statement.{statement}
 use Rattle.proof_tree.proofs.table.row_of.Tie as tie
 
-mul-result : tie.Need-mul-result
-unfolding rules
-mul-result c = omega arith
-
-array-copy-out-result : tie.Need-array-copy-out-result
-unfolding rules
-array-copy-out-result c = omega arith
-
 returns : tie.Need-returns
 unfolding rules row rowOf places ending endingOf fewest most premissMode partCount termOf ruleTerm
 returns c = rw entry (table-row _ _ refl _ (c .before .pre))
 
 pub row-of-spec : {M : Type 1} → statement M
-row-of-spec = tie.close (tie.spec mul-result array-copy-out-result returns)
+unfolding rules
+row-of-spec = tie.close (tie.spec (λ c. omega arith) (λ c. omega arith) returns)
