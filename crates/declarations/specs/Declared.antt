@@ -9,9 +9,11 @@ use Rattle.definitions.specs.Name.{Name, isEqual}
 use Rattle.definitions.specs.Prop.{AtomUse}
 use Rattle.definitions.specs.Code.{parameterLimit}
 use Rattle.definitions.specs.Text.{occurs, firsts, eqAtomUse, compareAtomUse}
+use Rattle.definitions.specs.NameIndex.{slotCount}
 use Rattle.vocabulary.specs.declared.Vocabulary.{Vocabulary}
 use Rattle.vocabulary.specs.Vocabulary.{nameIn, Names}
 use Rattle.prop_lists.specs.Entries.{useOf}
+use Rattle.declarations.specs.Chains.{slotOf, Chained}
 
 -- a use and a list of them, over the bytes of the names
 abbrev pub useOver : (ℕ → Name) → AtomUse ℕ → AtomUse Name
@@ -48,10 +50,20 @@ unfoldable pub flagged : List ℕ → ℕ
 flagged [] = 0
 flagged (a ∷ seen) = cond (eqb a 0) 0 1 + flagged seen
 
+-- what is lent to those who note uses: the declarations and how many there are, the flags, and the chains
+pub record Lent : Type 0 where
+  pub declared : List ℕ
+  pub len : ℕ
+  pub seen : List ℕ
+  pub chains : List ℕ
+
+abbrev pub lent : List ℕ → ℕ → List ℕ → List ℕ → Lent
+lent declared len seen chains = record { declared = declared; len = len; seen = seen; chains = chains }
+
 -- the declarations are the first occurrences among the uses l, by name bytes and count; a flag that is set stands for one of l
-pub record Noted (f : ℕ → Name) (l : List (AtomUse ℕ)) (declared : List ℕ) (len : ℕ) (seen : List ℕ) : Type 0 where
-  pub entries : declaredUses f declared len ≡ firsts eqAtomUse (usesOver f l)
-  pub flags : (name count : ℕ) → count ≤ parameterLimit → (getD seen (flagOf name count) 0 ≡ 0 → ⊥)
+pub record Noted (f : ℕ → Name) (l : List (AtomUse ℕ)) (m : Lent) : Type 0 where
+  pub entries : declaredUses f (m .declared) (m .len) ≡ firsts eqAtomUse (usesOver f l)
+  pub flags : (name count : ℕ) → count ≤ parameterLimit → (getD (m .seen) (flagOf name count) 0 ≡ 0 → ⊥)
       → occurs eqAtomUse (useOver f (useOf name count)) (usesOver f l) ≡ true
 
 -- Over the names of a memory:
@@ -61,18 +73,23 @@ module _ (bytes : List ℕ) (v : Vocabulary) where
     pub there : 2 * len ≤ length declared
     pub named : (j : ℕ) → j < len → Names bytes v (getD declared (2 * j) 0)
 
-  -- every name has its flags, and each declaration stands for a flag that is set, so that there is room for as many as there are flags
-  pub record Held (declared : List ℕ) (len : ℕ) (seen : List ℕ) : Type 0 where
+  -- every name has its flags, and each declaration stands for a flag that is set, so that there is room for as many as there are flags;
+  -- the declarations are chained
+  pub record Held (m : Lent) : Type 0 where
     pub names : (name : ℕ) → name < v .«name_count» → Names bytes v name
     pub small : v .«name_count» ≤ 65536
-    pub flags : flagOf (v .«name_count») 0 ≤ length seen
-    pub named : (j : ℕ) → j < len → Names bytes v (getD declared (2 * j) 0)
-    pub room : 2 * length seen ≤ length declared
-    pub few : len ≤ flagged seen
+    pub flags : flagOf (v .«name_count») 0 ≤ length (m .seen)
+    pub named : (j : ℕ) → j < m .len → Names bytes v (getD (m .declared) (2 * j) 0)
+    pub room : 2 * length (m .seen) ≤ length (m .declared)
+    pub links : slotCount + length (m .seen) ≤ length (m .chains)
+    pub numbered : length (m .seen) < 65536
+    pub few : m .len ≤ flagged (m .seen)
+    pub chained : Chained (slotOf (nameIn bytes v) (m .declared)) (m .len) (m .chains)
 
   -- what it is to note uses: whichever uses were noted before, afterwards these are too, behind them
-  pub record Notes (uses : List (AtomUse ℕ)) (declared : List ℕ) (len : ℕ) (seen : List ℕ) (declared′ : List ℕ) (len′ : ℕ) (seen′ : List ℕ) : Type 0 where
-    pub held : Held declared′ len′ seen′
-    pub sized : length declared′ ≡ length declared
-    pub flags : length seen′ ≡ length seen
-    pub adds : (l : List (AtomUse ℕ)) → Noted (nameIn bytes v) l declared len seen → Noted (nameIn bytes v) (l ++ uses) declared′ len′ seen′
+  pub record Notes (uses : List (AtomUse ℕ)) (m m′ : Lent) : Type 0 where
+    pub held : Held m′
+    pub sized : length (m′ .declared) ≡ length (m .declared)
+    pub flags : length (m′ .seen) ≡ length (m .seen)
+    pub links : length (m′ .chains) ≡ length (m .chains)
+    pub adds : (l : List (AtomUse ℕ)) → Noted (nameIn bytes v) l m → Noted (nameIn bytes v) (l ++ uses) m′

@@ -1,6 +1,9 @@
 // Declarations, after the Rust's generate_proof_term_from_proof_tree: the first occurrence of each atom by name bytes and count,
 // and of each datatype by name bytes. They stand in lent memory, a name's number and a count each; a datatype has the count 0.
+// The search among them follows the chain of a start slot, so that first occurrences take a time that grows with the uses.
 use definitions::TermList;
+use name_index::SLOT_COUNT;
+use name_index::start_slot;
 use number::pair_length;
 use number::pair_offset;
 use output::put;
@@ -20,42 +23,50 @@ ghost use mathlib.Core.Path.{_≡_};
 ghost use mathlib.Core.List.{[], _∷_};
 ghost use Prim.Native.Nat.{_≤_, _<_};
 ghost use Rattle.definitions.specs.Code.{parameterLimit};
+ghost use Rattle.definitions.specs.NameIndex.{startSlot};
 ghost use Rattle.output.specs.Wrote.{Wrote};
 ghost use Rattle.vocabulary.specs.Vocabulary.{nameIn, propIn, Names, SomeProposition};
 ghost use Rattle.prop_lists.specs.Entries.{useOf, entries};
 ghost use Rattle.proof_term_lists.specs.Labels.{termUses, addedUses, AddedStands, Listable, termIn};
-ghost use Rattle.declarations.specs.Declared.{useOver, isDeclared, declaredUses, Declared, Held, Notes};
+ghost use Rattle.declarations.specs.Chains.{slotOf, Newest, Linked};
+ghost use Rattle.declarations.specs.Declared.{useOver, isDeclared, declaredUses, Declared, lent, Held, Notes};
 ghost use Rattle.declarations.specs.Lines.{countText, breakBefore, declaration, declarationLines};
 
 // The flags of a name: one for each count of parameters from 0 on.
 const NAME_FLAGS: usize = PARAMETER_LIMIT as usize + 1;
 
-// Whether a declaration has this count and the bytes of this name. At the first that has, both loops are left, and its number j is
-// below `len`.
+// Whether one of the first `len` declarations has this count and the bytes of this name. The last of them is the newest of the name's
+// slot, and the search goes from it to older ones of that slot. At the first that has both, the two loops are left, and more than 0
+// declarations are left to search.
 fn is_declared(
     declared: &[u16],
     len: usize,
+    chains: &[u16],
     name: usize,
     count: usize,
     bytes: &[u8],
     v: Vocabulary,
 ) -> bool
     requires { ⌜ Declared (now bytes) v (now declared) len × Names (now bytes) v name ⌝ }
+    requires { ⌜ Linked (slotOf (nameIn (now bytes) v) (now declared)) len (now chains) ⌝ }
+    requires { ⌜ Newest (slotOf (nameIn (now bytes) v) (now declared)) (startSlot (nameIn (now bytes) v name)) len len ⌝ }
     ensures { λ r. ⌜ r ≡ isDeclared (nameIn (now (bytes .entry)) v) (now (declared .entry)) len (useOf name count) ⌝ }
 {
     let pairs = pairs_of(bytes, v);
     let text = text_of(bytes, v);
     let offset = pair_offset(pairs, name);
     let length = pair_length(pairs, name);
-    let mut j = 0;
-    'declarations: while j < len {
+    let mut left = len;
+    'declarations: while 0 < left {
+        let j = left - 1;
         let other = declared[2 * j] as usize;
+        let older = chains[SLOT_COUNT + j] as usize;
         if declared[2 * j + 1] as usize != count {
-            j += 1;
+            left = older;
             continue 'declarations;
         }
         if pair_length(pairs, other) != length {
-            j += 1;
+            left = older;
             continue 'declarations;
         }
         let earlier = pair_offset(pairs, other);
@@ -67,41 +78,47 @@ fn is_declared(
             let byte = text[earlier + k];
             let wanted = text[offset + k];
             if byte != wanted {
-                j += 1;
+                left = older;
                 continue 'declarations;
             }
             k += 1;
         }
     }
-    j < len
+    0 < left
 }
 
 // Adds a use, unless a declaration has its name bytes and count. A use that was noted under the same number is known by its flag,
-// so the search runs once for each number and count.
+// so the search runs once for each number and count. A new declaration is put before the chain of its slot.
 fn note(
     declared: &mut [u16],
     len: usize,
     seen: &mut [u16],
+    chains: &mut [u16],
     name: usize,
     count: usize,
     bytes: &[u8],
     v: Vocabulary,
 ) -> usize
-    requires { ⌜ Held (now bytes) v (now declared) len (now seen) ⌝ }
+    requires { ⌜ Held (now bytes) v (lent (now declared) len (now seen) (now chains)) ⌝ }
     requires { ⌜ (name < v .«name_count») × (count ≤ parameterLimit) ⌝ }
     ensures { λ r. ⌜ Notes (now (bytes .entry)) v (useOf name count ∷ [])
-        (now (declared .entry)) len (now (seen .entry)) (now (declared .exit)) r (now (seen .exit)) ⌝ }
+        (lent (now (declared .entry)) len (now (seen .entry)) (now (chains .entry)))
+        (lent (now (declared .exit)) r (now (seen .exit)) (now (chains .exit))) ⌝ }
 {
     let flag = NAME_FLAGS * name + count;
     if seen[flag] != 0 {
         return len;
     }
     seen[flag] = 1;
-    if is_declared(declared, len, name, count, bytes, v) {
+    let slot = start_slot(vocabulary::name(bytes, v, name));
+    let newest = chains[slot];
+    if is_declared(declared, newest as usize, chains, name, count, bytes, v) {
         return len;
     }
     declared[2 * len] = name as u16;
     declared[2 * len + 1] = count as u16;
+    chains[SLOT_COUNT + len] = newest;
+    chains[slot] = len as u16 + 1;
     len + 1
 }
 
@@ -114,10 +131,12 @@ pub fn note_entries(
     declared: &mut [u16],
     len: usize,
     seen: &mut [u16],
+    chains: &mut [u16],
 ) -> usize
-    requires { ⌜ SomeProposition (now bytes) v at × Held (now bytes) v (now declared) len (now seen) ⌝ }
+    requires { ⌜ SomeProposition (now bytes) v at × Held (now bytes) v (lent (now declared) len (now seen) (now chains)) ⌝ }
     ensures { λ r. ⌜ Notes (now (bytes .entry)) v (entries list (propIn (now (bytes .entry)) v at))
-        (now (declared .entry)) len (now (seen .entry)) (now (declared .exit)) r (now (seen .exit)) ⌝ }
+        (lent (now (declared .entry)) len (now (seen .entry)) (now (chains .entry)))
+        (lent (now (declared .exit)) r (now (seen .exit)) (now (chains .exit))) ⌝ }
 {
     let code = code_of(bytes, v);
     let names = v.name_count;
@@ -128,7 +147,7 @@ pub fn note_entries(
         let NextEntry::Entry { name, count, next } = next_entry(code, i, end, names, list) else {
             return noted;
         };
-        noted = note(declared, noted, seen, name, count, bytes, v);
+        noted = note(declared, noted, seen, chains, name, count, bytes, v);
         i = next;
     }
 }
@@ -142,20 +161,22 @@ fn note_added(
     declared: &mut [u16],
     len: usize,
     seen: &mut [u16],
+    chains: &mut [u16],
 ) -> usize
-    requires { ⌜ AddedStands (now bytes) v added × Held (now bytes) v (now declared) len (now seen) ⌝ }
+    requires { ⌜ AddedStands (now bytes) v added × Held (now bytes) v (lent (now declared) len (now seen) (now chains)) ⌝ }
     ensures { λ r. ⌜ Notes (now (bytes .entry)) v (addedUses (now (bytes .entry)) v list added)
-        (now (declared .entry)) len (now (seen .entry)) (now (declared .exit)) r (now (seen .exit)) ⌝ }
+        (lent (now (declared .entry)) len (now (seen .entry)) (now (chains .entry)))
+        (lent (now (declared .exit)) r (now (seen .exit)) (now (chains .exit))) ⌝ }
 {
     match added {
         Added::Nothing => {
             return len;
         }
         Added::Datatype(name) => {
-            return note(declared, len, seen, name, 0, bytes, v);
+            return note(declared, len, seen, chains, name, 0, bytes, v);
         }
         Added::Proposition(at) => {
-            return note_entries(bytes, v, at, list, declared, len, seen);
+            return note_entries(bytes, v, at, list, declared, len, seen, chains);
         }
     }
 }
@@ -170,16 +191,19 @@ pub fn note_term(
     declared: &mut [u16],
     len: usize,
     seen: &mut [u16],
+    chains: &mut [u16],
 ) -> usize
-    requires { ⌜ Listable (now bytes) v (now «term_records») n × Held (now bytes) v (now declared) len (now seen) ⌝ }
+    requires { ⌜ Listable (now bytes) v (now «term_records») n ⌝ }
+    requires { ⌜ Held (now bytes) v (lent (now declared) len (now seen) (now chains)) ⌝ }
     ensures { λ r. ⌜ Notes (now (bytes .entry)) v
         (termUses list (termIn (now (bytes .entry)) v (now («term_records» .entry)) n))
-        (now (declared .entry)) len (now (seen .entry)) (now (declared .exit)) r (now (seen .exit)) ⌝ }
+        (lent (now (declared .entry)) len (now (seen .entry)) (now (chains .entry)))
+        (lent (now (declared .exit)) r (now (seen .exit)) (now (chains .exit))) ⌝ }
 {
     let mut noted = len;
     for m in 0..n + 1 {
         let added = record_adds(term_records, m, list);
-        noted = note_added(added, list, bytes, v, declared, noted, seen);
+        noted = note_added(added, list, bytes, v, declared, noted, seen, chains);
     }
     noted
 }

@@ -14,6 +14,7 @@ use Rattle.definitions.specs.Prop.{Prop, AtomUse, getAtoms, getDatatypes, renam
 use Rattle.definitions.specs.Sheet.{nameLimit, names, goal, propositionPairs, codeBytes, nameOf, pairOffset}
 use Rattle.definitions.specs.Term.{ProofTerm, atomList, datatypeList, renameTerm}
 use Rattle.definitions.specs.Text.{firsts, firstsAfter, eqAtomUse, compareAtomUse, arranged}
+use Rattle.definitions.specs.NameIndex.{slotCount}
 use Rattle.definitions.specs.Answers.{goalProp}
 use Rattle.definitions.proofs.PrefixCode.{Bytes}
 use Rattle.order_laws.proofs.Datatypes.{asUse}
@@ -23,7 +24,8 @@ use Rattle.vocabulary.specs.Vocabulary.{nameIn, propIn, SomeProposition}
 use Rattle.prop_lists.specs.Entries.{useOf, entries}
 use Rattle.proof_term_lists.specs.Labels.{termUses, Listable, termIn}
 use Rattle.proof_term_lists.proofs.Labels.{atoms-are, datatypes-are}
-use Rattle.declarations.specs.Declared.{useOver, usesOver, declaredUses, entriesOf, flagOf, Noted, Held, Notes}
+use Rattle.declarations.specs.Declared.{useOver, usesOver, declaredUses, entriesOf, flagOf, Lent, lent, Noted, Held, Notes}
+use Rattle.declarations.specs.Chains.{Chained}
 use Rattle.declarations.proofs.Noting.{declared-held}
 use Rattle.declarations.proofs.Lines.{datatypes-over}
 use Rattle.sheet.specs.declared.header.Sheet.{Sheet}
@@ -47,52 +49,69 @@ uses-are (Datatypes v) f t p =
     ∙ rw (datatypes-renamed f v t, prop-datatypes-renamed f p) (ap (map asUse) (map-append f (datatypeList v t) (getDatatypes p))))
 
 -- in the order of version 1 declarations stand as they were first met
-met : {f : ℕ → Name} {l : List (AtomUse ℕ)} {declared : List ℕ} {len : ℕ} {seen : List ℕ} → Noted f l declared len seen
-    → declaredUses f declared len ≡ arranged compareAtomUse First (firsts eqAtomUse (usesOver f l))
+met : {f : ℕ → Name} {l : List (AtomUse ℕ)} {m : Lent} → Noted f l m
+    → declaredUses f (m .declared) (m .len) ≡ arranged compareAtomUse First (firsts eqAtomUse (usesOver f l))
 unfolding arranged
 met noted = noted .entries
 
--- the flags before anything is noted
+-- the flags and the chains before anything is noted
 abbrev flagCount : ℕ
 flagCount = 4608
 
-abbrev noFlags : List ℕ
-noFlags = replicate flagCount 0
+abbrev chainCount : ℕ
+chainCount = 5632
 
-no-flags : length noFlags ≡ flagCount
-no-flags = length-replicate {A = ℕ} flagCount 0
+abbrev zeros : ℕ → List ℕ
+zeros n = replicate n 0
 
-unset : (i : ℕ) → getD noFlags i 0 ≡ 0
-unset i = by-cases (decLt i flagCount)
-    (λ h. getD-replicate flagCount i 0 0 h)
-    (λ h. List·getD-eq-default noFlags 0 {n = i} (omega (arith, no-flags)))
+so-many : (n : ℕ) → length (zeros n) ≡ n
+so-many n = length-replicate {A = ℕ} n 0
 
-nothing-noted : (f : ℕ → Name) (declared : List ℕ) → Noted f [] declared 0 noFlags
+zero-at : (n i : ℕ) → getD (zeros n) i 0 ≡ 0
+zero-at n i = by-cases (decLt i n)
+    (λ h. getD-replicate n i 0 0 h)
+    (λ h. List·getD-eq-default (zeros n) 0 {n = i} (omega (arith, so-many n)))
+
+-- what is lent before anything is noted
+abbrev nothing : List ℕ → Lent
+nothing declared = lent declared 0 (zeros flagCount) (zeros chainCount)
+
+nothing-noted : (f : ℕ → Name) (declared : List ℕ) → Noted f [] (nothing declared)
 unfolding entriesOf firsts firstsAfter
-nothing-noted f declared = record { entries = refl; flags = λ name count few isSet. absurd (isSet (unset (flagOf name count))) }
+nothing-noted f declared = record { entries = refl; flags = λ name count few isSet. absurd (isSet (zero-at flagCount (flagOf name count))) }
+
+nothing-chained : (slot : ℕ → ℕ) → Chained slot 0 (zeros chainCount)
+unfolding slotCount
+nothing-chained slot = record {
+  linked = record { there = omega (arith, so-many chainCount); older = λ j l. absurd (omega arith) };
+  head = λ s l. rw (zero-at chainCount s) record { within = omega arith; own = λ j e. absurd (omega arith); last = λ i h b. absurd (omega arith) };
+}
 
 -- Of an accepted sheet, by its vocabulary:
 module _ {s : List ℕ} {h : Sheet} (a : AcceptedSheet s h) (bytes : Bytes s) {words : Vocabulary} (same : words ≡ vocabularyOf h) where
   -- before anything is noted
-  nothing-held : {declared : List ℕ} → length declared ≡ 2 * flagCount → Held s words declared 0 noFlags
-  unfolding nameLimit
-  nothing-held long =
+  nothing-held : {declared : List ℕ} → length declared ≡ 2 * flagCount → Held s words (nothing declared)
+  unfolding nameLimit slotCount
+  nothing-held sized =
       let has = its-header a in
       let few = few-names has in
       rw same
       (record {
         names = λ name below. names-of a (rw (count-is has) at below);
         small = omega arith;
-        flags = omega (arith, no-flags);
+        flags = omega (arith, so-many flagCount);
         named = λ j below. absurd (omega arith);
-        room = omega (arith, no-flags);
+        room = omega (arith, so-many flagCount);
+        links = omega (arith, so-many flagCount, so-many chainCount);
+        numbered = omega (arith, so-many flagCount);
         few = omega arith;
+        chained = nothing-chained _;
       })
 
-  -- what it takes to note the term's labels, from no declarations and no flags
+  -- what it takes to note the term's labels, from no declarations, no flags and no chains
   pub labels-notable : {terms : List ℕ} {n : ℕ} {declared : List ℕ} → HeldTerm s terms n → length declared ≡ 2 * flagCount
-      → Listable s words terms n × Held s words declared 0 noFlags
-  labels-notable term long = (listable (a .sheet) bytes a same term, nothing-held long)
+      → Listable s words terms n × Held s words (nothing declared)
+  labels-notable term sized = (listable (a .sheet) bytes a same term, nothing-held sized)
 
   -- Where the goal stands:
   module _ {pairs : List ℕ} (cut : pairs ≡ propositionPairs s) {goal-offset : ℕ} (is : goal-offset ≡ pairOffset pairs (h .goal)) where
@@ -111,10 +130,8 @@ module _ {s : List ℕ} {h : Sheet} (a : AcceptedSheet s h) (bytes : Bytes s) {w
 
     -- once the term's labels and then the goal are noted, the declarations are those of the sheet's text
     pub declares : {terms : List ℕ} {n : ℕ} → HeldTerm s terms n → (list : TermList)
-        → {declared declared₁ declared₂ : List ℕ} {len₁ len₂ : ℕ} {seen₁ seen₂ : List ℕ}
-        → Notes s words (termUses list (termIn s words terms n)) declared 0 noFlags declared₁ len₁ seen₁
-        → Notes s words (entries list (propIn s words goal-offset)) declared₁ len₁ seen₁ declared₂ len₂ seen₂
-        → Declares s h First list declared₂ len₂
+        → {declared : List ℕ} {m₁ m₂ : Lent} → Notes s words (termUses list (termIn s words terms n)) (nothing declared) m₁
+        → Notes s words (entries list (propIn s words goal-offset)) m₁ m₂ → Declares s h First list (m₂ .declared) (m₂ .len)
     declares {terms} {n} term list first second =
         let noted = second .adds _ (first .adds [] (nothing-noted _ _)) in
         record {

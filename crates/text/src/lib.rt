@@ -7,6 +7,7 @@ use definitions::Refusal;
 use definitions::Style;
 use definitions::TermList;
 use definitions::Version;
+use name_index::SLOT_COUNT;
 use number::pair_offset;
 use output::Written;
 use output::put;
@@ -41,6 +42,9 @@ const FLAGS: usize = Sheet::NAME_LIMIT * (Sheet::PARAMETER_LIMIT + 1);
 
 // A name and a count for each of them.
 const DECLARED_NUMBERS: usize = 2 * FLAGS;
+
+// A head for each slot, and a link for each declaration.
+const CHAIN_NUMBERS: usize = SLOT_COUNT + FLAGS;
 
 // Whose declarations come first in a version of the heading.
 fn first_list(version: Version) -> TermList
@@ -78,10 +82,11 @@ fn declare(
     ensures { λ r. ⌜ Declares (now (s .entry)) h First list (now (declared .exit)) r ⌝ }
 {
     let mut seen = [0u16; FLAGS];
+    let mut chains = [0u16; CHAIN_NUMBERS];
     let v = vocabulary(h);
-    let len = note_term(terms, n, list, s, v, declared, 0, &mut seen);
+    let len = note_term(terms, n, list, s, v, declared, 0, &mut seen, &mut chains);
     let goal = pair_offset(proposition_pairs(s, h), h.goal);
-    note_entries(s, v, goal, list, declared, len, &mut seen)
+    note_entries(s, v, goal, list, declared, len, &mut seen, &mut chains)
 }
 
 // Puts declarations, as they were first met, into the order of a version.

@@ -1,29 +1,30 @@
--- The declarations loop: none before j has the bytes and the count. The bytes loop: declaration j has the count and a name of the
--- same length, and its first k bytes are the same. Both are left where all its bytes are the same, and then j is below the length.
-use Prim.Native.Nat.{_*_, _≤_, _+_, _-_}
+-- The declarations loop: so many are left to search, and none behind them has the bytes and the count. The bytes loop: the last of
+-- them, declaration j, has the count and a name of the same length, and its first k bytes are the same. Both are left where all its
+-- bytes are the same, and then it is still left.
+use Prim.Native.Nat.{_*_, _+_, _-_, _≤_}
 use mathlib.Core.Path.{_≡_, refl, sym, _∙_}
 use mathlib.Core.Logic.{⊎-elim}
 use native.Mathlib.Omega.{arith}
 use denote.Ref.{now}
 use borrow.Author.Tests.{lt-ltb, le-ltb}
-use Rattle.definitions.specs.Text.{occurs}
-use Rattle.declarations.specs.Declared.{entriesOf}
-use Rattle.declarations.proofs.Search.{Searchable, searchable, names-cut, Passed, Reached, Alike, other-count, other-length, in-text, other-byte, none-compared, one-more-alike, all-alike}
+use Rattle.definitions.specs.NameIndex.{slotCount}
+use Rattle.declarations.specs.Chains.{linkOf}
+use Rattle.declarations.proofs.Search.{Searchable, searchable, names-cut, Remain, all-remain, none-remain, Reached, at-last, before, Alike, other-count, other-length, in-text, other-byte, none-compared, one-more-alike, all-alike}
 use Rattle.declarations.proofs.is_declared.Statement.{statement}
 use Rattle.declarations.proofs.is_declared.Tie as tie
 
 abbrev Inv-loop : tie.InvT-loop
-Inv-loop declared len name count bytes pairs text offset length j₀ other earlier k₀ j k =
-    (j ≡ j₀) × Alike pairs text declared len name count offset length j earlier k
+Inv-loop declared len chains name count bytes pairs text offset length left₀ j other older earlier k₀ left k =
+    (left ≡ left₀) × Alike pairs text declared chains len name count offset length j earlier k
 
 abbrev μ-loop : tie.MeasureT-loop
-μ-loop declared len name count bytes pairs text offset length j₀ other earlier k₀ j k = length - k
+μ-loop declared len chains name count bytes pairs text offset length left₀ j other older earlier k₀ left k = length - k
 
 abbrev Inv-declarations : tie.InvT-declarations
-Inv-declarations declared len name count bytes pairs text offset length j₀ j = (j ≤ len) × Passed pairs text declared name count j
+Inv-declarations declared len chains name count bytes pairs text offset length left₀ left = Remain pairs text declared len name count left
 
 abbrev μ-declarations : tie.MeasureT-declarations
-μ-declarations declared len name count bytes pairs text offset length j₀ j = len - j
+μ-declarations declared len chains name count bytes pairs text offset length left₀ left = left
 
 -- Each name leads from a place back to an earlier one: over the length and the start of the name that is looked for; over the cuts
 -- of the names' pairs and text;
@@ -31,40 +32,41 @@ abbrev measured : tie.At-declarations Inv-loop μ-loop Inv-declarations μ-decla
 measured c = c .before .before .before
 
 abbrev cut : tie.After-text-of Inv-loop μ-loop Inv-declarations μ-declarations → tie.Start Inv-loop μ-loop Inv-declarations μ-declarations
-cut c = c .before .before .before .before
+cut c = c .before .before .before .before .before
 
--- over the two numbers of declaration j, over the length of its name, and over where its name starts;
-abbrev numbers : tie.After-shared-slice-known4 Inv-loop μ-loop Inv-declarations μ-declarations → tie.In-declarations Inv-loop μ-loop Inv-declarations μ-declarations
+-- over the name and the link of declaration j, over its count, over the length of its name, and over where its name starts;
+abbrev numbers : tie.After-shared-slice-known5 Inv-loop μ-loop Inv-declarations μ-declarations → tie.In-declarations Inv-loop μ-loop Inv-declarations μ-declarations
 numbers c = c .before .before
 
+abbrev its-count : tie.After-shared-slice-known6 Inv-loop μ-loop Inv-declarations μ-declarations → tie.In-declarations Inv-loop μ-loop Inv-declarations μ-declarations
+its-count c = numbers (c .before)
+
 abbrev name-length : tie.After-pair-length2 Inv-loop μ-loop Inv-declarations μ-declarations → tie.In-declarations Inv-loop μ-loop Inv-declarations μ-declarations
-name-length c = numbers (c .before .before)
+name-length c = its-count (c .before .before)
 
 abbrev name-start : tie.After-pair-offset2 Inv-loop μ-loop Inv-declarations μ-declarations → tie.In-declarations Inv-loop μ-loop Inv-declarations μ-declarations
 name-start c = name-length (c .before .before)
 
 -- and over a byte of each name
-abbrev bytes : tie.After-shared-slice-known6 Inv-loop μ-loop Inv-declarations μ-declarations → tie.In-loop Inv-loop μ-loop Inv-declarations μ-declarations
+abbrev bytes : tie.After-shared-slice-known8 Inv-loop μ-loop Inv-declarations μ-declarations → tie.In-loop Inv-loop μ-loop Inv-declarations μ-declarations
 bytes c = c .before .before
 
 asked : (c : tie.After-text-of Inv-loop μ-loop Inv-declarations μ-declarations) → let s = cut c .args in
-    Searchable (now (c .before .pairs-of .result)) (now (c .text-of .result)) (now (s .declared)) (s .len) (s .name)
-asked c = let (declared, wanted) = cut c .pre in searchable _ _ (c .before .pairs-of .ensures) (c .text-of .ensures) declared wanted
+    Searchable (now (c .before .pairs-of .result)) (now (c .text-of .result)) (now (s .declared)) (now (s .chains)) (s .len) (s .name)
+asked c =
+    let ((declared, wanted), (linked, newest)) = cut c .pre in
+    searchable _ _ (c .before .pairs-of .ensures) (c .text-of .ensures) declared wanted linked newest
 
 reached : (c : tie.In-declarations Inv-loop μ-loop Inv-declarations μ-declarations) → let names = measured (c .before) in let s = cut names .args in
-    Reached (now (names .before .pairs-of .result)) (now (names .text-of .result)) (now (s .declared)) (s .len) (s .name) (s .count) (c .before .declarations .j)
-reached c =
-    record {
-      asked = asked (measured (c .before));
-      before = c .declarations-test .taken;
-      passed = c .before .declarations .inv .1;
-    }
+    Reached (now (names .before .pairs-of .result)) (now (names .text-of .result)) (now (s .declared)) (now (s .chains)) (s .len) (s .name) (s .count)
+    (c .before .declarations .left - 1)
+reached c = at-last (asked (measured (c .before))) (c .before .declarations .inv) (c .declarations-test .taken)
 
 pairs-of-requires : tie.Need-pairs-of-requires Inv-loop μ-loop Inv-declarations μ-declarations
-pairs-of-requires c κs = c .before .before .pre .1 .within
+pairs-of-requires c κs = c .before .before .before .pre .0 .1 .within
 
 text-of-requires : tie.Need-text-of-requires Inv-loop μ-loop Inv-declarations μ-declarations
-text-of-requires c κs = c .before .before .before .pre .1 .within
+text-of-requires c κs = c .before .before .before .before .pre .0 .1 .within
 
 pair-offset-requires : tie.Need-pair-offset-requires Inv-loop μ-loop Inv-declarations μ-declarations
 pair-offset-requires c κs = asked c .wanted .present
@@ -73,59 +75,79 @@ pair-length-requires : tie.Need-pair-length-requires Inv-loop μ-loop Inv-declar
 pair-length-requires c κs = asked (c .before) .wanted .present
 
 declarations-holds : tie.Need-declarations-holds Inv-loop μ-loop Inv-declarations μ-declarations
-unfolding occurs entriesOf
-declarations-holds c = (omega arith, refl)
+declarations-holds c = all-remain (asked (c .before .before))
+
+sub-j : tie.Need-sub-j Inv-loop μ-loop Inv-declarations μ-declarations
+sub-j c = omega arith
 
 mul-other : tie.Need-mul-other Inv-loop μ-loop Inv-declarations μ-declarations
-mul-other c = omega arith
+mul-other c = omega (arith, reached c .asked .there, before (reached c))
 
 mul-other-2 : tie.Need-mul-other-2 Inv-loop μ-loop Inv-declarations μ-declarations
-mul-other-2 c = omega arith
+mul-other-2 c = omega (arith, reached c .asked .there, before (reached c))
 
 shared-slice-read-other : tie.Need-shared-slice-read-other Inv-loop μ-loop Inv-declarations μ-declarations
-shared-slice-read-other c = omega (arith, reached (c .before) .asked .there)
+shared-slice-read-other c = omega (arith, reached (c .before) .asked .there, before (reached (c .before)))
 
 cast-other : tie.Need-cast-other Inv-loop μ-loop Inv-declarations μ-declarations
-cast-other c = omega (arith, c .shared-slice-known3 .given (2 * c .before .before .declarations .j))
+cast-other c = omega (arith, c .shared-slice-known4 .given (2 * (c .before .before .declarations .left - 1)))
+
+add-older : tie.Need-add-older Inv-loop μ-loop Inv-declarations μ-declarations
+unfolding slotCount
+add-older c = omega (arith, reached (c .before) .asked .linked .there, before (reached (c .before)))
+
+mul-older : tie.Need-mul-older Inv-loop μ-loop Inv-declarations μ-declarations
+unfolding slotCount
+mul-older c = omega (arith, reached (c .before) .asked .linked .there, before (reached (c .before)))
+
+shared-slice-read-older : tie.Need-shared-slice-read-older Inv-loop μ-loop Inv-declarations μ-declarations
+unfolding slotCount
+shared-slice-read-older c = omega (arith, reached (numbers c) .asked .linked .there, before (reached (numbers c)))
+
+cast-older : tie.Need-cast-older Inv-loop μ-loop Inv-declarations μ-declarations
+cast-older c = omega (arith, c .shared-slice-known5 .given (1024 + (numbers c .before .declarations .left - 1)))
 
 mul-if1 : tie.Need-mul-if1 Inv-loop μ-loop Inv-declarations μ-declarations
-mul-if1 c = omega arith
+mul-if1 c = omega (arith, reached (numbers c) .asked .there, before (reached (numbers c)))
 
 add-if1 : tie.Need-add-if1 Inv-loop μ-loop Inv-declarations μ-declarations
-add-if1 c = omega (arith, reached (c .before) .asked .there)
+add-if1 c = omega (arith, reached (numbers c) .asked .there, before (reached (numbers c)))
 
 mul-if1-2 : tie.Need-mul-if1-2 Inv-loop μ-loop Inv-declarations μ-declarations
-mul-if1-2 c = omega (arith, reached (c .before) .asked .there)
+mul-if1-2 c = omega (arith, reached (numbers c) .asked .there, before (reached (numbers c)))
 
 shared-slice-read-if1 : tie.Need-shared-slice-read-if1 Inv-loop μ-loop Inv-declarations μ-declarations
-shared-slice-read-if1 c = omega (arith, reached (numbers c) .asked .there)
+shared-slice-read-if1 c = omega (arith, reached (its-count c) .asked .there, before (reached (its-count c)))
 
 cast-if1 : tie.Need-cast-if1 Inv-loop μ-loop Inv-declarations μ-declarations
-cast-if1 c = omega (arith, c .shared-slice-known4 .given (2 * numbers c .before .declarations .j + 1))
+cast-if1 c = omega (arith, c .shared-slice-known6 .given (2 * (its-count c .before .declarations .left - 1) + 1))
 
-add-j : tie.Need-add-j Inv-loop μ-loop Inv-declarations μ-declarations
-add-j c = omega arith
+-- a link leads to an older declaration
+falls : (c : tie.In-declarations Inv-loop μ-loop Inv-declarations μ-declarations) → let j = c .before .declarations .left - 1 in
+    linkOf (now (cut (measured (c .before)) .args .chains)) j ≤ j
+falls c = reached c .asked .linked .older _ (before (reached c)) .within
 
 declarations-less : tie.Need-declarations-less Inv-loop μ-loop Inv-declarations μ-declarations
-declarations-less c = omega arith
+unfolding slotCount
+declarations-less c = omega (arith, falls (its-count (c .before)))
 
 declarations-again : tie.Need-declarations-again Inv-loop μ-loop Inv-declarations μ-declarations
-declarations-again c = (omega arith, other-count (reached (numbers (c .before))) (c .if1 .taken))
+unfolding slotCount
+declarations-again c = other-count (reached (its-count (c .before))) (c .if1 .taken)
 
 pair-length-requires-2 : tie.Need-pair-length-requires-2 Inv-loop μ-loop Inv-declarations μ-declarations
-pair-length-requires-2 c κs = let this = reached (numbers (c .before)) in this .asked .marks _ (this .before) .present
-
-add-j-2 : tie.Need-add-j-2 Inv-loop μ-loop Inv-declarations μ-declarations
-add-j-2 c = omega arith
+pair-length-requires-2 c κs = let this = reached (its-count (c .before)) in this .asked .marks _ (before this) .present
 
 declarations-less-2 : tie.Need-declarations-less-2 Inv-loop μ-loop Inv-declarations μ-declarations
-declarations-less-2 c = omega arith
+unfolding slotCount
+declarations-less-2 c = omega (arith, falls (name-length (c .before)))
 
 declarations-again-2 : tie.Need-declarations-again-2 Inv-loop μ-loop Inv-declarations μ-declarations
-declarations-again-2 c = (omega arith, other-length (reached (name-length (c .before))) (omega arith))
+unfolding slotCount
+declarations-again-2 c = other-length (reached (name-length (c .before))) (omega arith)
 
 pair-offset-requires-2 : tie.Need-pair-offset-requires-2 Inv-loop μ-loop Inv-declarations μ-declarations
-pair-offset-requires-2 c κs = let this = reached (name-length (c .before)) in this .asked .marks _ (this .before) .present
+pair-offset-requires-2 c κs = let this = reached (name-length (c .before)) in this .asked .marks _ (before this) .present
 
 loop-holds : tie.Need-loop-holds Inv-loop μ-loop Inv-declarations μ-declarations
 loop-holds c =
@@ -154,16 +176,15 @@ add-wanted c = omega (arith, in-text (c .before .before .loop .inv .1 .candidate
 shared-slice-read-wanted : tie.Need-shared-slice-read-wanted Inv-loop μ-loop Inv-declarations μ-declarations
 shared-slice-read-wanted c = in-text (bytes c .before .loop .inv .1 .candidate) _ (bytes c .loop-test .left) .1
 
-add-j-3 : tie.Need-add-j-3 Inv-loop μ-loop Inv-declarations μ-declarations
-add-j-3 c = omega arith
-
 declarations-less-3 : tie.Need-declarations-less-3 Inv-loop μ-loop Inv-declarations μ-declarations
-declarations-less-3 c = omega arith
+unfolding slotCount
+declarations-less-3 c = omega (arith, falls (name-start (bytes (c .before) .before .before)))
 
 declarations-again-3 : tie.Need-declarations-again-3 Inv-loop μ-loop Inv-declarations μ-declarations
+unfolding slotCount
 declarations-again-3 c =
     let compared = bytes (c .before) in
-    (omega arith, other-byte (compared .before .loop .inv .1 .candidate) _ (compared .loop-test .left) (c .if3 .taken))
+    other-byte (compared .before .loop .inv .1 .candidate) _ (compared .loop-test .left) (c .if3 .taken)
 
 add-k : tie.Need-add-k Inv-loop μ-loop Inv-declarations μ-declarations
 add-k c = omega arith
@@ -177,23 +198,21 @@ loop-again c =
     let held = compared .before .loop .inv in
     (held .0, one-more-alike (held .1) (compared .loop-test .left) (c .if3 .left))
 
--- the declarations came to their end, or both loops were left at declaration j
+-- no declaration is left, or both loops were left at declaration j
 returns : tie.Need-returns Inv-loop μ-loop Inv-declarations μ-declarations
 returns c =
     let names = measured (c .before) in
     let s = cut names .args in
-    let len = s .len in
-    let (up-to, passed) = c .before .declarations .inv in
     rw (names-cut (now (s .bytes)) (s .v) (names .before .pairs-of .ensures) (names .text-of .ensures))
     (⊎-elim
     (λ w.
     let (test, same) = w in
-    let all : c .before .declarations .j ≡ len = omega (arith, test .left, up-to) in
-    le-ltb (c .declarations-test .j) len (omega (arith, same)) ∙ sym (rw all at passed))
+    let none : c .before .declarations .left ≡ 0 = omega (arith, test .left) in
+    le-ltb 0 (c .declarations-test .left) (omega (arith, same)) ∙ sym (none-remain (rw none at (c .before .declarations .inv))))
     (λ w.
-    let (test, name, count, if1, length, if2, start, loop, end, same) = w in
-    let (j-same, alike) = loop .inv in
-    lt-ltb (c .declarations-test .j) len (omega (arith, same, j-same, alike .candidate .reached .before)) ∙ sym (all-alike alike (end .taken)))
+    let (test, name, older, count, if1, length, if2, start, loop, end, same) = w in
+    let (left-same, alike) = loop .inv in
+    lt-ltb 0 (c .declarations-test .left) (omega (arith, same, left-same, test .taken)) ∙ sym (all-alike alike (end .taken)))
     (c .declarations-test .came))
 
 pub is-declared-spec : {M : Type 1} → statement M
@@ -209,20 +228,23 @@ is-declared-spec =
     pair-offset-requires
     pair-length-requires
     declarations-holds
+    sub-j
     mul-other
     mul-other-2
     shared-slice-read-other
     cast-other
+    add-older
+    mul-older
+    shared-slice-read-older
+    cast-older
     mul-if1
     add-if1
     mul-if1-2
     shared-slice-read-if1
     cast-if1
-    add-j
     declarations-less
     declarations-again
     pair-length-requires-2
-    add-j-2
     declarations-less-2
     declarations-again-2
     pair-offset-requires-2
@@ -231,7 +253,6 @@ is-declared-spec =
     shared-slice-read-byte
     add-wanted
     shared-slice-read-wanted
-    add-j-3
     declarations-less-3
     declarations-again-3
     add-k

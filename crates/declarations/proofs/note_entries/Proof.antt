@@ -6,31 +6,33 @@ use borrow.Author.Needs.{needs}
 use Rattle.prop_lists.specs.Row.{Row}
 use Rattle.prop_lists.specs.Entries.{useOf, entriesFrom, FirstEntry}
 use Rattle.prop_lists.proofs.Rows.{begins, row-there, entries-there}
+use Rattle.declarations.specs.Declared.{lent}
 use Rattle.declarations.proofs.Threads.{Left, all-left, one-less, none-left}
 use Rattle.declarations.proofs.note_entries.Statement.{statement}
 use Rattle.declarations.proofs.note_entries.Tie as tie
 
 abbrev Inv-loop : tie.InvT-loop
-Inv-loop bytes v at list declared₀ len seen₀ code names end i₀ noted₀ declared seen i noted =
+Inv-loop bytes v at list declared₀ len seen₀ chains₀ code names end i₀ noted₀ declared seen chains i noted =
     Row names code i end
-    × Left bytes v (entriesFrom names list code at end) (entriesFrom names list code i end) declared₀ len seen₀ declared noted seen
+    × Left bytes v (entriesFrom names list code at end) (entriesFrom names list code i end) (lent declared₀ len seen₀ chains₀)
+    (lent declared noted seen chains)
 
 abbrev μ-loop : tie.MeasureT-loop
-μ-loop bytes v at list declared₀ len seen₀ code names end i₀ noted₀ declared seen i noted = end - i
+μ-loop bytes v at list declared₀ len seen₀ chains₀ code names end i₀ noted₀ declared seen chains i noted = end - i
 
 -- back over the scan and the cut to the start
 abbrev scanned : tie.After-scan Inv-loop μ-loop → tie.Start Inv-loop μ-loop
-scanned c = c .before .before .before .before .before
+scanned c = c .before .before .before .before .before .before
 
 -- from an entry to the loop, back over what was noted of it, and over the memories that this left
 abbrev entry-found : tie.After-known-told Inv-loop μ-loop → tie.At-loop Inv-loop μ-loop
 entry-found c = c .before .before .before .before
 
 abbrev entry-noted : tie.After-note Inv-loop μ-loop → tie.After-known-told Inv-loop μ-loop
-entry-noted c = c .before .before .before
+entry-noted c = c .before .before .before .before
 
-abbrev left : tie.After-slice-known4 Inv-loop μ-loop → tie.After-note Inv-loop μ-loop
-left c = c .before .before .before .before
+abbrev left : tie.After-slice-known6 Inv-loop μ-loop → tie.After-note Inv-loop μ-loop
+left c = c .before .before .before .before .before .before
 
 -- the entry is the first from `i` on
 found : (c : tie.After-known-told Inv-loop μ-loop) →
@@ -41,10 +43,10 @@ found : (c : tie.After-known-told Inv-loop μ-loop) →
 found c = rw (c .before .name .given .1) at (c .before .before .before .next-entry .ensures)
 
 code-of-requires : tie.Need-code-of-requires Inv-loop μ-loop
-code-of-requires c κs = c .before .before .before .pre .0 .within
+code-of-requires c κs = c .before .before .before .before .pre .0 .within
 
 scan-requires : tie.Need-scan-requires Inv-loop μ-loop
-scan-requires c κs = begins (c .before .before .before .before .pre .0) (c .code-of .ensures)
+scan-requires c κs = begins (c .before .before .before .before .before .pre .0) (c .code-of .ensures)
 
 loop-holds : tie.Need-loop-holds Inv-loop μ-loop
 loop-holds c =
@@ -74,9 +76,12 @@ same-length c = returns c .sized
 same-length-2 : tie.Need-same-length-2 Inv-loop μ-loop
 same-length-2 c = returns c .flags
 
+same-length-3 : tie.Need-same-length-3 Inv-loop μ-loop
+same-length-3 c = returns c .links
+
 note-requires : tie.Need-note-requires Inv-loop μ-loop
 note-requires c κs =
-    let entry = c .before .before in
+    let entry = c .before .before .before in
     let bounds = found entry .bounds in
     (entry-found entry .loop .inv .1 .notes .held, (bounds .below, bounds .few))
 
@@ -103,6 +108,7 @@ note-entries-spec =
     enum-told
     same-length
     same-length-2
+    same-length-3
     returns
     note-requires
     loop-less
