@@ -49,7 +49,8 @@ fn is_declared(
 ) -> bool
     requires { ⌜ Declared (now bytes) v (now declared) len × Names (now bytes) v name ⌝ }
     requires { ⌜ Linked (slotOf (nameIn (now bytes) v) (now declared)) len (now chains) ⌝ }
-    requires { ⌜ Newest (slotOf (nameIn (now bytes) v) (now declared)) (startSlot (nameIn (now bytes) v name)) len len ⌝ }
+    requires { ⌜ Newest (slotOf (nameIn (now bytes) v) (now declared))
+        (startSlot (nameIn (now bytes) v name)) len len ⌝ }
     ensures { λ r. ⌜ r ≡ isDeclared (nameIn (now (bytes .entry)) v) (now (declared .entry)) len (useOf name count) ⌝ }
 {
     let pairs = pairs_of(bytes, v);
@@ -133,7 +134,8 @@ pub fn note_entries(
     seen: &mut [u16],
     chains: &mut [u16],
 ) -> usize
-    requires { ⌜ SomeProposition (now bytes) v at × Held (now bytes) v (lent (now declared) len (now seen) (now chains)) ⌝ }
+    requires { ⌜ SomeProposition (now bytes) v at ⌝ }
+    requires { ⌜ Held (now bytes) v (lent (now declared) len (now seen) (now chains)) ⌝ }
     ensures { λ r. ⌜ Notes (now (bytes .entry)) v (entries list (propIn (now (bytes .entry)) v at))
         (lent (now (declared .entry)) len (now (seen .entry)) (now (chains .entry)))
         (lent (now (declared .exit)) r (now (seen .exit)) (now (chains .exit))) ⌝ }
@@ -163,7 +165,8 @@ fn note_added(
     seen: &mut [u16],
     chains: &mut [u16],
 ) -> usize
-    requires { ⌜ AddedStands (now bytes) v added × Held (now bytes) v (lent (now declared) len (now seen) (now chains)) ⌝ }
+    requires { ⌜ AddedStands (now bytes) v added ⌝ }
+    requires { ⌜ Held (now bytes) v (lent (now declared) len (now seen) (now chains)) ⌝ }
     ensures { λ r. ⌜ Notes (now (bytes .entry)) v (addedUses (now (bytes .entry)) v list added)
         (lent (now (declared .entry)) len (now (seen .entry)) (now (chains .entry)))
         (lent (now (declared .exit)) r (now (seen .exit)) (now (chains .exit))) ⌝ }
