@@ -89,13 +89,16 @@ pub fn compare_bytes(pairs: &[u8], text: &[u8], a: usize, b: usize) -> Order
     compare_names(marked_bytes(pairs, text, a), marked_bytes(pairs, text, b))
 }
 
-// Whether the names of two numbers have the same bytes.
+// Whether the names of two numbers have the same bytes. Those of one number have, and are not looked at.
 pub fn same_bytes(pairs: &[u8], text: &[u8], a: usize, b: usize) -> bool
     requires { ⌜ NameWithin (now pairs) (now text) a × NameWithin (now pairs) (now text) b ⌝ }
     ensures { λ r. ⌜ r ≡ eqName
         (marked (now (pairs .entry)) (now (text .entry)) a)
         (marked (now (pairs .entry)) (now (text .entry)) b) ⌝ }
 {
+    if a == b {
+        return true;
+    }
     is_equal(compare_bytes(pairs, text, a, b))
 }
 
