@@ -10,15 +10,6 @@ use Rattle.sheet_term.proofs.Answers.{term-of, refusal-of}
 use Rattle.sheet_term.proofs.label_count.Statement.{statement}
 use Rattle.sheet_term.proofs.label_count.Tie as tie
 
-sheet-term-requires : tie.Need-sheet-term-requires
-sheet-term-requires c κs = search needs
-
-enum-known-found : tie.Need-enum-known-found
-enum-known-found c = search needs
-
-enum-known-found-2 : tie.Need-enum-known-found-2
-enum-known-found-2 c = search needs
-
 slice-aggregate-annotation-count : tie.Need-slice-aggregate-annotation-count
 unfolding stepLimit
 slice-aggregate-annotation-count c = sym (term-of (c .before .before .before .before .sheet-term .ensures) (c .before .before .found2 .given .1) .room)
@@ -40,9 +31,9 @@ pub label-count-spec : {M : Type 1} → statement M
 label-count-spec =
     tie.close
     (tie.spec
-    sheet-term-requires
-    enum-known-found
-    enum-known-found-2
+    (λ c κs. search needs)
+    (λ c. search needs)
+    (λ c. search needs)
     slice-aggregate-annotation-count
     annotation-count-requires
     returns

@@ -7,15 +7,6 @@ use Rattle.sheet_term.proofs.Held.{not-a-sheet}
 use Rattle.sheet_term.proofs.sheet_term.Statement.{statement}
 use Rattle.sheet_term.proofs.sheet_term.Tie as tie
 
-check-requires : tie.Need-check-requires
-check-requires c κs = search needs
-
-enum-known-checked : tie.Need-enum-known-checked
-enum-known-checked c = search needs
-
-enum-known-checked-2 : tie.Need-enum-known-checked-2
-enum-known-checked-2 c = search needs
-
 export-requires : tie.Need-export-requires
 export-requires c κs =
     let check = c .before .before .before .before .before .check in
@@ -26,16 +17,13 @@ export-requires c κs =
 returns : tie.Need-returns
 returns c = refuses (not-a-sheet _ (refused-sheet _ (sym (c .before .before .before .check .ensures .0) ∙ c .before .checked .given .1)))
 
-returns-2 : tie.Need-returns-2
-returns-2 c = search needs
-
 pub sheet-term-spec : {M : Type 1} → statement M
 sheet-term-spec =
     tie.close
     (tie.spec
-    check-requires
-    enum-known-checked
-    enum-known-checked-2
+    (λ c κs. search needs)
+    (λ c. search needs)
+    (λ c. search needs)
     export-requires
     returns
-    returns-2)
+    (λ c. search needs))
