@@ -20,15 +20,6 @@ first-judgement c = c .before .before .before
 abbrev judgement-start : tie.After-known-told3 → tie.Start
 judgement-start c = c .before .before .before .before
 
-enum-known-left : tie.Need-enum-known-left
-enum-known-left c = search needs
-
-enum-known-right : tie.Need-enum-known-right
-enum-known-right c = search needs
-
-enum-told : tie.Need-enum-told
-enum-told c = search needs
-
 returns : tie.Need-returns
 unfolding outcomeOf no
 returns c = proposition-and-judgement _ (c .before .before .before .left .given .1) (c .enum-told .given .1) refl
@@ -43,15 +34,6 @@ returns-2 : tie.Need-returns-2
 returns-2 c =
     let right = c .before in
     two-propositions _ (first-proposition right .before .left .given .1) (right .before .right .given .1) (c .compare-propositions .ensures)
-
-enum-known-left-2 : tie.Need-enum-known-left-2
-enum-known-left-2 c = search needs
-
-enum-known-right-2 : tie.Need-enum-known-right-2
-enum-known-right-2 c = search needs
-
-enum-told-2 : tie.Need-enum-told-2
-enum-told-2 c = search needs
 
 returns-3 : tie.Need-returns-3
 unfolding outcomeOf no
@@ -72,15 +54,15 @@ pub compare-conclusions-spec : {M : Type 1} → statement M
 compare-conclusions-spec =
     tie.close
     (tie.spec
-    enum-known-left
-    enum-known-right
-    enum-told
+    (λ c. search needs)
+    (λ c. search needs)
+    (λ c. search needs)
     returns
     compare-propositions-requires
     returns-2
-    enum-known-left-2
-    enum-known-right-2
-    enum-told-2
+    (λ c. search needs)
+    (λ c. search needs)
+    (λ c. search needs)
     returns-3
     compare-judgements-requires
     returns-4)

@@ -23,9 +23,6 @@ then-object c = c .before .before .before
 abbrev object : tie.Else2 → tie.Else1
 object c = c .before .before .before
 
-same-named-requires : tie.Need-same-named-requires
-same-named-requires c κs = search needs
-
 returns : tie.Need-returns
 unfolding outcomeOf
 returns c = ap accepted (other-object _ _ _ (sym (c .before .same-named .ensures) ∙ not-true _ (c .if1 .taken)))
@@ -33,9 +30,6 @@ returns c = ap accepted (other-object _ _ _ (sym (c .before .same-named .ensures
 returns-2 : tie.Need-returns-2
 unfolding outcomeOf
 returns-2 c = ap accepted (other-id _ _ _ (same-object (then-object c)) (c .if2 .taken))
-
-same-named-requires-2 : tie.Need-same-named-requires-2
-same-named-requires-2 c κs = search needs
 
 returns-3 : tie.Need-returns-3
 unfolding outcomeOf
@@ -52,4 +46,4 @@ returns-4 c =
 pub compare-judgements-spec : {M : Type 1} → statement M
 compare-judgements-spec =
     tie.close
-    (tie.spec same-named-requires returns returns-2 same-named-requires-2 returns-3 returns-4)
+    (tie.spec (λ c κs. search needs) returns returns-2 (λ c κs. search needs) returns-3 returns-4)

@@ -40,9 +40,6 @@ both c =
       second = has-step sheet (leb-false _ _ (c .if2 .left));
     }
 
-at-requires : tie.Need-at-requires
-at-requires c κs = search needs
-
 returns : tie.Need-returns
 unfolding outcomeOf refuse
 returns c =
@@ -82,7 +79,7 @@ pub compare-steps-spec : {M : Type 1} → statement M
 compare-steps-spec =
     tie.close
     (tie.spec
-    at-requires
+    (λ c κs. search needs)
     returns
     step-records-requires
     step-at-requires

@@ -7,21 +7,9 @@ use Rattle.definitions.specs.Sheet.{pairEnd, marked}
 use Rattle.number.proofs.marked_bytes.Statement.{statement}
 use Rattle.number.proofs.marked_bytes.Tie as tie
 
-pair-offset-requires : tie.Need-pair-offset-requires
-pair-offset-requires c κs = search needs
-
-pair-length-requires : tie.Need-pair-length-requires
-pair-length-requires c κs = search needs
-
 add-end : tie.Need-add-end
 unfolding pairEnd
 add-end c = omega (arith, c .before .before .before .before .pre .ends)
-
-sub-result : tie.Need-sub-result
-sub-result c = search needs
-
-part-result-start : tie.Need-part-result-start
-part-result-start c = search needs
 
 part-result-end : tie.Need-part-result-end
 unfolding pairEnd
@@ -38,10 +26,10 @@ pub marked-bytes-spec : {M : Type 1} → statement M
 marked-bytes-spec =
     tie.close
     (tie.spec
-    pair-offset-requires
-    pair-length-requires
+    (λ c κs. search needs)
+    (λ c κs. search needs)
     add-end
-    sub-result
-    part-result-start
+    (λ c. search needs)
+    (λ c. search needs)
     part-result-end
     returns)

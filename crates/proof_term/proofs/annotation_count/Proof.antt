@@ -5,12 +5,9 @@ use Rattle.proof_term.specs.Tally.{tallyAt, root}
 use Rattle.proof_term.proofs.annotation_count.Statement.{statement}
 use Rattle.proof_term.proofs.annotation_count.Tie as tie
 
-field-requires : tie.Need-field-requires
-field-requires c κs = search needs
-
 returns : tie.Need-returns
 unfolding tallyAt
 returns c = λ props. c .field .ensures .0 ∙ c .before .before .pre .1 .counts root props
 
 pub annotation-count-spec : {M : Type 1} → statement M
-annotation-count-spec = tie.close (tie.spec field-requires returns)
+annotation-count-spec = tie.close (tie.spec (λ c κs. search needs) returns)

@@ -7,18 +7,6 @@ use Rattle.proof_term.specs.Records.{recordSize, fieldAt}
 use Rattle.proof_term.proofs.field.Statement.{statement}
 use Rattle.proof_term.proofs.field.Tie as tie
 
-mul-result : tie.Need-mul-result
-mul-result c = search needs
-
-add-result : tie.Need-add-result
-add-result c = search needs
-
-mul-result-2 : tie.Need-mul-result-2
-mul-result-2 c = search needs
-
-shared-slice-read-result : tie.Need-shared-slice-read-result
-shared-slice-read-result c = search needs
-
 cast-result : tie.Need-cast-result
 cast-result c = omega (arith, c .shared-slice-known .given (recordSize * c .before .args .n + c .before .args .i))
 
@@ -29,4 +17,4 @@ returns c = (refl, omega (arith, c .shared-slice-known .given (recordSize * c .b
 pub field-spec : {M : Type 1} → statement M
 field-spec =
     tie.close
-    (tie.spec mul-result add-result mul-result-2 shared-slice-read-result cast-result returns)
+    (tie.spec (λ c. search needs) (λ c. search needs) (λ c. search needs) (λ c. search needs) cast-result returns)

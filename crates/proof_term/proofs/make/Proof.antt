@@ -8,18 +8,6 @@ use Rattle.proof_term.proofs.make.Tie as tie
 tally-over-requires : tie.Need-tally-over-requires
 tally-over-requires c κs = (omega arith, c .before .before .pre .2)
 
-cast-push : tie.Need-cast-push
-cast-push c = search needs
-
-cast-push-2 : tie.Need-cast-push-2
-cast-push-2 c = search needs
-
-push-requires : tie.Need-push-requires
-push-requires c κs = search needs
-
-same-length : tie.Need-same-length
-same-length c = search needs
-
 returns : tie.Need-returns
 returns c =
     let pushed = c .before .before in
@@ -28,4 +16,4 @@ returns c =
     made (start .pre .0) (pushed .push .ensures) (start .pre .2) (asked .tally-over .ensures .0)
 
 pub make-spec : {M : Type 1} → statement M
-make-spec = tie.close (tie.spec tally-over-requires cast-push cast-push-2 push-requires same-length returns)
+make-spec = tie.close (tie.spec tally-over-requires (λ c. search needs) (λ c. search needs) (λ c κs. search needs) (λ c. search needs) returns)

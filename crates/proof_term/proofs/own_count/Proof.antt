@@ -5,9 +5,6 @@ use Rattle.proof_term.specs.Tally.{ownCount}
 use Rattle.proof_term.proofs.own_count.Statement.{statement}
 use Rattle.proof_term.proofs.own_count.Tie as tie
 
-has-label-requires : tie.Need-has-label-requires
-has-label-requires c κs = search needs
-
 returns : tie.Need-returns
 unfolding ownCount
 returns c = rw (sym (c .before .has-label .ensures) ∙ c .if1 .taken)
@@ -17,4 +14,4 @@ unfolding ownCount
 returns-2 c = rw (sym (c .before .has-label .ensures) ∙ c .if1 .left)
 
 pub own-count-spec : {M : Type 1} → statement M
-own-count-spec = tie.close (tie.spec has-label-requires returns returns-2)
+own-count-spec = tie.close (tie.spec (λ c κs. search needs) returns returns-2)

@@ -8,17 +8,11 @@ use Rattle.proof_term.proofs.Records.{few-parts}
 use Rattle.proof_term.proofs.part_count.Statement.{statement}
 use Rattle.proof_term.proofs.part_count.Tie as tie
 
-array-read-result : tie.Need-array-read-result
-array-read-result c = search needs
-
 cast-result : tie.Need-cast-result
 cast-result c = omega (arith, few-parts (c .before .args .kind))
-
-returns : tie.Need-returns
-returns c = search needs
 
 returns-2 : tie.Need-returns-2
 returns-2 c = sym (List·getD-eq-default partCounts 0 (c .if1 .left))
 
 pub part-count-spec : {M : Type 1} → statement M
-part-count-spec = tie.close (tie.spec array-read-result cast-result returns returns-2)
+part-count-spec = tie.close (tie.spec (λ c. search needs) cast-result (λ c. search needs) returns-2)

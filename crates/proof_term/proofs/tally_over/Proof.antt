@@ -29,9 +29,6 @@ start c = c .before .before .before .before
 three : (c : tie.At-loop Inv-loop μ-loop) → c .before .part-count .result ≤ 3
 three c = rw (c .before .part-count .ensures) (few-parts (start c .args .kind))
 
-array-read-own-count : tie.Need-array-read-own-count Inv-loop μ-loop
-array-read-own-count c = search needs
-
 own-count-requires : tie.Need-own-count-requires Inv-loop μ-loop
 own-count-requires c κs = tt
 
@@ -67,9 +64,6 @@ add-tally c = omega (arith, three (head (c .before)))
 add-i : tie.Need-add-i Inv-loop μ-loop
 add-i c = omega (arith, three (head (c .before)))
 
-loop-less : tie.Need-loop-less Inv-loop μ-loop
-loop-less c = omega arith
-
 loop-again : tie.Need-loop-again Inv-loop μ-loop
 unfolding tallyAt
 loop-again c =
@@ -100,7 +94,7 @@ tally-over-spec =
     (tie.spec
     Inv-loop
     μ-loop
-    array-read-own-count
+    (λ c. search needs)
     own-count-requires
     part-count-requires
     loop-holds
@@ -109,7 +103,7 @@ tally-over-spec =
     field-requires
     add-tally
     add-i
-    loop-less
+    (λ c. omega arith)
     loop-again
     returns
     returns-2)

@@ -4,12 +4,9 @@ use borrow.Author.Needs.{needs}
 use Rattle.vocabulary.proofs.code_of.Statement.{statement}
 use Rattle.vocabulary.proofs.code_of.Tie as tie
 
-part-requires : tie.Need-part-requires
-part-requires c κs = search needs
-
 returns : tie.Need-returns
 unfolding codeIn
 returns c = c .part .ensures
 
 pub code-of-spec : {M : Type 1} → statement M
-code-of-spec = tie.close (tie.spec part-requires returns)
+code-of-spec = tie.close (tie.spec (λ c κs. search needs) returns)

@@ -4,12 +4,6 @@ use borrow.Author.Needs.{needs}
 use Rattle.vocabulary.proofs.name.Statement.{statement}
 use Rattle.vocabulary.proofs.name.Tie as tie
 
-pairs-of-requires : tie.Need-pairs-of-requires
-pairs-of-requires c κs = search needs
-
-text-of-requires : tie.Need-text-of-requires
-text-of-requires c κs = search needs
-
 marked-bytes-requires : tie.Need-marked-bytes-requires
 marked-bytes-requires c κs = rw (c .before .pairs-of .ensures, c .text-of .ensures) (c .before .before .before .pre .marks)
 
@@ -18,4 +12,4 @@ unfolding nameIn
 returns c = rw (c .marked-bytes .ensures, c .before .before .pairs-of .ensures, c .before .text-of .ensures)
 
 pub name-spec : {M : Type 1} → statement M
-name-spec = tie.close (tie.spec pairs-of-requires text-of-requires marked-bytes-requires returns)
+name-spec = tie.close (tie.spec (λ c κs. search needs) (λ c κs. search needs) marked-bytes-requires returns)

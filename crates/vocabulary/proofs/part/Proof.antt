@@ -4,20 +4,8 @@ use borrow.Author.Needs.{needs}
 use Rattle.vocabulary.proofs.part.Statement.{statement}
 use Rattle.vocabulary.proofs.part.Tie as tie
 
-add-end : tie.Need-add-end
-add-end c = search needs
-
-sub-result : tie.Need-sub-result
-sub-result c = search needs
-
-part-result-start : tie.Need-part-result-start
-part-result-start c = search needs
-
-part-result-end : tie.Need-part-result-end
-part-result-end c = search needs
-
 returns : tie.Need-returns
 returns c = rw add-sub-cancel-left
 
 pub part-spec : {M : Type 1} → statement M
-part-spec = tie.close (tie.spec add-end sub-result part-result-start part-result-end returns)
+part-spec = tie.close (tie.spec (λ c. search needs) (λ c. search needs) (λ c. search needs) (λ c. search needs) returns)

@@ -10,16 +10,10 @@ use Rattle.vocabulary.proofs.same_name.Tie as tie
 abbrev asked : tie.After-is-equal → tie.Start
 asked c = c .before .before .before .before
 
-compare-names-requires : tie.Need-compare-names-requires
-compare-names-requires c κs = search needs
-
-is-equal-requires : tie.Need-is-equal-requires
-is-equal-requires c κs = search needs
-
 returns : tie.Need-returns
 returns c =
     let args = asked c .args in
     equals (nameIn (now (args .a)) (args .v) (args .i)) (nameIn (now (args .b)) (args .w) (args .j)) (c .before .compare-names .ensures) (c .is-equal .ensures)
 
 pub same-name-spec : {M : Type 1} → statement M
-same-name-spec = tie.close (tie.spec compare-names-requires is-equal-requires returns)
+same-name-spec = tie.close (tie.spec (λ c κs. search needs) (λ c κs. search needs) returns)

@@ -3,9 +3,6 @@ use borrow.Author.Needs.{needs}
 use Rattle.vocabulary.proofs.shape.Statement.{statement}
 use Rattle.vocabulary.proofs.shape.Tie as tie
 
-code-of-requires : tie.Need-code-of-requires
-code-of-requires c κs = search needs
-
 shape-at-requires : tie.Need-shape-at-requires
 shape-at-requires c κs = let s = c .before .before in record { names = s .args .v .«name_count»; present = rw (c .code-of .ensures) (s .pre .present) }
 
@@ -16,4 +13,4 @@ returns c =
     rw code at (c .shape-at .ensures (s .args .v .«name_count») (rw code (s .pre .present)))
 
 pub shape-spec : {M : Type 1} → statement M
-shape-spec = tie.close (tie.spec code-of-requires shape-at-requires returns)
+shape-spec = tie.close (tie.spec (λ c κs. search needs) shape-at-requires returns)
