@@ -11,7 +11,7 @@ use Rattle.definitions.specs.Comparison.{alphaEq, conclusionAlphaEq}
 use Rattle.definitions.specs.AlphaEquality.{AlphaEqual}
 use Rattle.definitions.specs.Answers.{namedConclusion, comparison}
 use Rattle.definitions.proofs.AlphaEquality.{textbook-yes, textbook-no}
-use Rattle.sheet.proofs.Outcomes.{each-accepted}
+use Rattle.definitions.proofs.Outcomes.{each-accepted}
 
 module _ (s : List ℕ) (i j : ℕ) {p q : Prop Name} (left : namedConclusion s i ≡ PropIsTrue p) (right : namedConclusion s j ≡ PropIsTrue q) where
   -- an answer is that of the two propositions

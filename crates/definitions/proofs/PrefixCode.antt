@@ -12,10 +12,14 @@ use Rattle.definitions.specs.Code.{Read, Reading, yield, fail, followedB
 use Rattle.definitions.proofs.Readings.{given, reads-none, reads-some, reads-if, reads-then, Recovers, RecoversAfter, recover-byte, recover-number, recover-fail, recover-picked, entries, whole-read}
 pub use Rattle.definitions.proofs.Readings.{Bytes}
 
+-- a number is put together from its two bytes
+pub split-number : (n : ℕ) → n % 256 + 256 * (n / 256) ≡ n
+split-number n = omega arith
+
 -- The code reads back, for any count of names: of a number past 16 bits `u16` makes a second element that is no byte, and reads back all the same.
 read-number : (n : ℕ) (rest : List ℕ) → number (u16 n ++ rest) ≡ given n rest
 unfolding number byte yield followedBy _>>=_ u16
-read-number n rest = let e : n % 256 + 256 * (n / 256) ≡ n = omega arith in rw e
+read-number n rest = rw (split-number n)
 
 -- a code has a byte in front
 pub code-nonempty : (p : Prop ℕ) → 0 < length (encode p)

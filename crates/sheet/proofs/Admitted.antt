@@ -27,7 +27,7 @@ use Rattle.sheet.specs.Pairs.{HasPairs, HasCodes}
 use Rattle.sheet.specs.Checks.{checkedOf, treeChecks}
 use Rattle.sheet.specs.Sizes.{stepsFindingTrees, unlessRefused, sizedSteps, Sized}
 use Rattle.sheet.specs.Admitted.{Admitted}
-use Rattle.sheet.proofs.Outcomes.{each-accepted, test-failed, none-lowest}
+use Rattle.definitions.proofs.Outcomes.{each-accepted, test-failed, none-lowest}
 use Rattle.definitions.proofs.Lowest.{all-fail}
 use Rattle.number.specs.Pairs.{NameWithin}
 use Rattle.sheet.proofs.Ranges.{in-range}

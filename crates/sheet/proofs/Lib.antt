@@ -1,5 +1,4 @@
 -- The laws that the proofs of the checks share, and what an accepted sheet gives to the layers above.
-pub mod Outcomes
 pub mod Searched
 pub mod Ranges
 pub mod Slices

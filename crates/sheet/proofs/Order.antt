@@ -10,7 +10,7 @@ use Rattle.sheet.specs.declared.header.Sheet.{Sheet}
 use Rattle.sheet.specs.declared.Checked.{Checked}
 use Rattle.sheet.specs.Header.{headerOf, HasHeader}
 use Rattle.sheet.specs.Checks.{answered, checkedOf, nameChecks, propositionChecks, stepChecks, treeChecks}
-use Rattle.sheet.proofs.Outcomes.{bind-assoc, each-accepted, test-failed}
+use Rattle.definitions.proofs.Outcomes.{bind-assoc, each-accepted, test-failed}
 use Rattle.sheet.proofs.Ranges.{in-range}
 
 module _ (s : List ℕ) where

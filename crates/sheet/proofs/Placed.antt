@@ -9,7 +9,7 @@ use borrow.Author.Tests.{ltb-false, le-ltb, ne-eqb}
 use Rattle.definitions.specs.Sheet.{nameLengthLimit, pairOffset, pairLength, pairEnd, lastEnd}
 use Rattle.definitions.specs.Admission.{misplaced, badNamePair, badPropositionPair}
 use Rattle.sheet.specs.Pairs.{badPair, GoodPair}
-use Rattle.steps.proofs.Either.{neither, holds-unless}
+use Rattle.definitions.proofs.Either.{neither, holds-unless}
 
 module _ (pairs : List ℕ) (bytes longest i : ℕ) where
   pub good-pair : badPair pairs bytes longest i ≡ false → GoodPair pairs bytes longest i

@@ -9,7 +9,7 @@ use borrow.Author.Tests.{ltb-false, leb-true, leb-false, le-ltb, lt-leb}
 use Rattle.definitions.specs.Sheet.{headerOutOfRange}
 use Rattle.sheet.specs.declared.header.Sheet.{Sheet}
 use Rattle.sheet.specs.Header.{headerOf, InRange}
-use Rattle.steps.proofs.Either.{neither, holds-unless}
+use Rattle.definitions.proofs.Either.{neither, holds-unless}
 
 pub in-range : (s : List ℕ) → headerOutOfRange s ≡ false → InRange (headerOf s)
 unfolding headerOutOfRange headerOf

@@ -9,11 +9,11 @@ use lib.Dec.{eqb, leb}
 use borrow.Author.Tests.{leb-false, le-leb}
 use Rattle.definitions.specs.Sheet.{ruleByte, stepNumber}
 use Rattle.definitions.specs.Tree.{rules, ruleIn, identifierCount}
+use Rattle.definitions.proofs.Either.{neither}
 use Rattle.definitions.specs.Admission.{noName, badIdentifier, badPropIsTrue, badTypeJudgement, badConclusion, identifiers, badStep}
 use Rattle.steps.specs.declared.Judgement.{Judgement}
 use Rattle.steps.specs.declared.Conclusion.the-variants.{PropIsTrue, TypeJudgement}
 use Rattle.steps.specs.StepAt.{identifierAt, conclusionAt, stepAt, KnownConclusion}
-use Rattle.steps.proofs.Either.{neither}
 
 -- of two tests the first fails, where it is the one that is tried
 first-tried : (has a b : Bool) → has ≡ true → cond has a b ≡ false → a ≡ false
