@@ -4,7 +4,7 @@ use mathlib.Core.List.{[], _∷_, map}
 use lib.ListN.{length}
 use Rattle.definitions.specs.Tree.{rules}
 use Rattle.definitions.specs.Encode.{ruleNumber}
-use Rattle.definitions.specs.Drawings.{smallest, drawings, temptations, strictDrawings, handouts, columns, exerciseDrawings, indexes, asked, expected}
+use Rattle.definitions.specs.Drawings.{smallest, drawings, temptations, strictDrawings, handouts, columns, restatements, exerciseDrawings, indexes, asked, expected}
 use Rattle.definitions.proofs.Everything.{everything}
 
 pub drawings-hold : map asked drawings ≡ map expected drawings
@@ -26,6 +26,10 @@ handouts-hold = refl
 pub columns-hold : map asked columns ≡ map expected columns
 unfolding everything
 columns-hold = refl
+
+pub restatements-hold : map asked restatements ≡ map expected restatements
+unfolding everything
+restatements-hold = refl
 
 pub exercises-hold : map asked exerciseDrawings ≡ map expected exerciseDrawings
 unfolding everything

@@ -12,20 +12,24 @@ use Rattle.definitions.specs.Outcome.{Outcome, accepted, refuse, mapOutc
 use Rattle.definitions.specs.Prop.{Prop, True, False, And, Or, Impl, Atom, ForAll, Exists, Uninstantiated, Instantiated}
 use Rattle.definitions.specs.Tree.{Identifier, ProofTreeRule, AndIntro, AndElimFst, AndElimSnd, TrueIntro, ImplIntro, ImplElim, Ident, OrIntroFst, OrIntroSnd, OrElim, ForAllIntro, ForAllElim, ExistsElim, Sorry, AlphaEquivalent}
 use Rattle.definitions.specs.Code.{u16, encode}
-use Rattle.definitions.specs.Encode.{noIdentifier, encodeRule, encodePropIsTrue, encodeSheet}
+use Rattle.definitions.specs.Assemble.{assemble}
+use Rattle.definitions.specs.Encode.{noIdentifier, encodeRule, encodePropIsTrue, encodePairs, encodeSheet}
 use Rattle.definitions.specs.Answers.{textAnswer, atomsAnswer, datatypesAnswer, labelCount, comparison, boardRoom, boardOutput}
+use Rattle.definitions.specs.Restate.{Given, restateAnswer}
 use Rattle.definitions.specs.Exercises.{exerciseAnswer}
 use Rattle.definitions.specs.NameIndex.{slotCount, free, indexOf, indexAnswer, findAnswer}
 
 -- a question about a sheet: a text, how many bytes it has, a list, the label count, a comparison of two steps, what the board
--- prints, a text or a datatype list of a version, the index of its names, or what that answers of a name; texts and lists are
--- lent the board's room. Or about a caller's names: the exercise of at most so many connectives at an ordinal, in a room
+-- prints, a text or a datatype list of a version, a restatement in a room, the index of its names, or what that answers of a name;
+-- texts and lists are lent the board's room. Or about a caller's names: the exercise of at most so many connectives at an ordinal,
+-- in a room
 pub data Question : Type 0 where
   text size : Style → Question
   atoms datatypes labels board : Question
   compare : ℕ → ℕ → Question
   handout : ℕ → Style → Question
   handoutDatatypes : ℕ → Question
+  restate : Given → ℕ → Question
   exercise : ℕ → ℕ → ℕ → Question
   nameIndex : Question
   findName : String → Question
@@ -46,6 +50,7 @@ ask board s = accepted (bytes (boardOutput s))
 ask (compare i j) s = mapOutcome yesNo (comparison s i j)
 ask (handout version style) s = mapOutcome bytes (textAnswer s version style boardRoom)
 ask (handoutDatatypes version) s = mapOutcome numbers (datatypesAnswer s version boardRoom)
+ask (restate g room) s = mapOutcome bytes (restateAnswer s g room)
 ask (exercise n ordinal room) s = mapOutcome bytes (exerciseAnswer s n ordinal room)
 ask nameIndex s = mapOutcome numbers (indexAnswer s)
 ask (findName x) s = mapOutcome found (findAnswer s (indexOf s) (utf8 x))
@@ -317,6 +322,63 @@ columns =
     (prints "refused 12 at 0 column 40\n")
     ∷ drawing alphaEquivalentAlone board (prints "refused 12 at 0 column 0\n")
     ∷ drawing (smallest ++ (0 ∷ [])) board (prints "refused 3 at 0\n")
+    ∷ []
+
+-- Ticket 9, a conclusion restated.
+
+-- so many steps over ∀x:T. P(x), ∀y:T. P(y) and ∀x:U. P(x), with a gap in the code after the first one; the goal is the second
+unfoldable pub withGap : ℕ → List ℕ → List ℕ
+withGap many steps =
+    assemble
+    (record {
+      names = 5;
+      propositions = 3;
+      steps = many;
+      goal = 1;
+      namePairs = encodePairs 0 (map utf8 ("P" ∷ "T" ∷ "x" ∷ "y" ∷ "U" ∷ []));
+      propositionPairs = u16 0 ++ (u16 12 ++ (u16 13 ++ (u16 12 ++ (u16 25 ++ u16 12))));
+      stepRecords = steps;
+      text = utf8 "PTxyU";
+      code = encode (ForAll 2 1 (ofObject 2)) ++ (255 ∷ (encode (ForAll 3 1 (ofObject 3)) ++ encode (ForAll 2 4 (ofObject 2))));
+    })
+
+unfoldable pub sorryInColumn6 : List ℕ
+sorryInColumn6 = drawnIn 6 (step Sorry 0 0)
+
+-- the proposition of a number, and a column
+unfoldable pub proposition : ℕ → ℕ → Given
+proposition p column = record { kind = 0; first = p; second = 0; third = 0; column = column }
+
+-- the object of a name and an id, of datatype T, which is name 0
+unfoldable pub judgement : ℕ → ℕ → Given
+judgement x id = record { kind = 1; first = x; second = id; third = 0; column = 0 }
+
+unfoldable pub judgementBytes : ℕ → ℕ → List ℕ
+judgementBytes x id = u16 1 ++ (u16 x ++ (u16 id ++ (u16 0 ++ u16 0)))
+
+-- Ident of an object named x, once by name 1 and once by name 2
+unfoldable pub judged : List (List ℕ) → List ℕ
+judged more = sheet ("T" ∷ "x" ∷ "x" ∷ []) (True ∷ []) 0 ((encodeRule Ident 0 (the 1) noIdentifier ++ judgementBytes 1 5) ∷ more)
+
+-- A bound object is renamed: the gap, the goal and the old step stay, and the new step has its column. Then 16, one byte short; 25,
+-- another datatype; 23, no such proposition, a field that is not 0, no such kind, a column past the last; names by bytes, ids as they
+-- are; 19, even where the conclusion is the root's own; 1 to 11 come first.
+unfoldable pub restatements : List Drawing
+restatements =
+    drawing (withGap 1 sorryInColumn6) (restate (proposition 1 7) 126)
+    (accepted (bytes (withGap 2 (sorryInColumn6 ++ drawnIn 7 (step AlphaEquivalent 1 1)))))
+    ∷ drawing (withGap 1 sorryInColumn6) (restate (proposition 1 7) 125) (refuse 16 0)
+    ∷ drawing (withGap 1 sorryInColumn6) (restate (proposition 2 7) 0) (refuse 25 0)
+    ∷ drawing (withGap 1 sorryInColumn6) (restate (proposition 3 7) 126) (refuse 23 0)
+    ∷ drawing (withGap 1 sorryInColumn6) (restate (record { kind = 0; first = 1; second = 1; third = 0; column = 7 }) 126) (refuse 23 0)
+    ∷ drawing (withGap 1 sorryInColumn6) (restate (record { kind = 2; first = 1; second = 0; third = 0; column = 7 }) 126) (refuse 23 0)
+    ∷ drawing (withGap 1 sorryInColumn6) (restate (proposition 1 4096) 126) (refuse 23 0)
+    ∷ drawing (judged []) (restate (judgement 2 5) 72)
+    (accepted (bytes (judged ((encodeRule AlphaEquivalent 1 noIdentifier noIdentifier ++ judgementBytes 2 5) ∷ []))))
+    ∷ drawing (judged []) (restate (judgement 2 6) 72) (refuse 25 0)
+    ∷ drawing (judged []) (restate (proposition 0 0) 72) (refuse 25 0)
+    ∷ drawing (sheet ("P" ∷ "x" ∷ []) (Atom 0 (Uninstantiated 1 ∷ []) ∷ []) 0 (step Sorry 0 0 ∷ [])) (restate (proposition 0 0) 99) (refuse 19 0)
+    ∷ drawing (smallest ++ (0 ∷ [])) (restate (proposition 9 0) 99) (refuse 3 0)
     ∷ []
 
 -- Ticket 13, exercises for a whole term.

@@ -1,5 +1,4 @@
--- The writer's side of the format: a sheet without gaps, from its names, propositions, goal and steps.
--- Document 01, "The sheet".
+-- A sheet without gaps, from its names, propositions, goal and steps. Document 01, "The sheet".
 use Prim.Native.Nat.{ℕ, zero, suc, _+_}
 use Prim.Native.String.{String}
 use mathlib.Core.List.{List, [], _∷_, _++_, map}
@@ -7,6 +6,7 @@ use lib.ListN.{length}
 use Rattle.definitions.specs.Utf8.{utf8}
 use Rattle.definitions.specs.Prop.{Prop}
 use Rattle.definitions.specs.Code.{u16, encode}
+use Rattle.definitions.specs.Assemble.{assemble}
 use Rattle.definitions.specs.Tree.{Identifier, ProofTreeRule, AndIntro, AndElimFst, AndElimSnd, TrueIntro, ImplIntro, ImplElim, Ident, OrIntroFst, OrIntroSnd, OrElim, FalsumElim, ForAllIntro, ForAllElim, ExistsIntro, ExistsElim, Sorry, AlphaEquivalent}
 
 -- the byte of a rule
@@ -57,6 +57,15 @@ encodePairs from (l ∷ ls) = u16 from ++ (u16 (length l) ++ encodePairs (from +
 unfoldable pub encodeSheet : List (List ℕ) → List (Prop ℕ) → ℕ → List (List ℕ) → List ℕ
 encodeSheet names props goal steps =
     let codes = map encode props in
-    u16 (length (concat names)) ++ (u16 (length names) ++ (u16 (length (concat codes)) ++ (u16 (length codes)
-    ++ (u16 (length steps) ++ (u16 goal
-    ++ (encodePairs 0 names ++ (encodePairs 0 codes ++ (concat steps ++ (concat names ++ concat codes)))))))))
+    assemble
+    (record {
+      names = length names;
+      propositions = length codes;
+      steps = length steps;
+      goal = goal;
+      namePairs = encodePairs 0 names;
+      propositionPairs = encodePairs 0 codes;
+      stepRecords = concat steps;
+      text = concat names;
+      code = concat codes;
+    })

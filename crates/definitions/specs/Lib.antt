@@ -25,5 +25,7 @@ pub mod CheckingRules
 pub mod Sound
 pub mod Labels
 pub mod Accuracy
+pub mod Assemble
 pub mod Encode
+pub mod Restate
 pub mod Drawings

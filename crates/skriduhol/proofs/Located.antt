@@ -9,8 +9,8 @@ use Rattle.definitions.specs.declared.Located.{Located}
 use Rattle.definitions.specs.Outcome.{Outcome, accepted, refused}
 use Rattle.definitions.specs.Answers.{located, columnOf, namesStep}
 use Rattle.definitions.specs.Exercises.{exerciseAnswer}
-use Rattle.definitions.specs.Refusals.{Uses, is-accepted, is-refused, OfExercise}
-use Rattle.definitions.proofs.Refusals.{exercise-uses}
+use Rattle.definitions.specs.Refusals.{OfExercise}
+use Rattle.definitions.proofs.Refusals.{refused-kind, exercise-uses}
 use Rattle.output.specs.declared.Written.{Written}
 use Rattle.output.specs.declared.Written.the-variants as written
 use Rattle.output.specs.Written.{writtenOf, Fills}
@@ -67,10 +67,6 @@ unfolding located columnOf namesStep
 no-step r (inl e) = rw e
 no-step r (inr (inl e)) = rw e
 no-step r (inr (inr e)) = rw e
-
-refused-kind : {r : Refusal} {o : Outcome (List ℕ)} → Uses OfExercise o → o ≡ refused r → OfExercise (r .number)
-refused-kind is-accepted e = let no : _≡_ {A = ℕ} 0 1 = cc in absurd (omega arith)
-refused-kind {r} (is-refused {r = x} h) e = let same : x ≡ r = cc in rw same at h
 
 -- an exercise in lent memory as it is handed back
 module _ (text : List ℕ) (n ordinal room : ℕ) {before after : List ℕ} {w : Written} (f : Fills (exerciseAnswer text n ordinal room) before after w) where

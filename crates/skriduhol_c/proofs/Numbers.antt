@@ -5,7 +5,7 @@ use Rattle.definitions.specs.Outcome.{Outcome, accepted}
 use Rattle.definitions.specs.Refusals.{Uses, is-accepted, is-refused}
 use Rattle.skriduhol_c.specs.Handed.{numberOf}
 
-pub zero-accepted : {Kind : ℕ → Type 0} → (Kind 0 → ⊥) → {A : Type 0} {o : Outcome A} → Uses Kind o → numberOf o ≡ 0 → (a : A) × (o ≡ accepted a)
+pub zero-accepted : (Kind : ℕ → Type 0) → (Kind 0 → ⊥) → {A : Type 0} {o : Outcome A} → Uses Kind o → numberOf o ≡ 0 → (a : A) × (o ≡ accepted a)
 unfolding numberOf
-zero-accepted not-0 (is-accepted {a = a}) e = (a, refl)
-zero-accepted not-0 (is-refused h) e = absurd (not-0 (rw e at h))
+zero-accepted Kind not-0 (is-accepted {a = a}) e = (a, refl)
+zero-accepted Kind not-0 (is-refused h) e = absurd (not-0 (rw e at h))
