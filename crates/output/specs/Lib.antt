@@ -1,3 +1,4 @@
 pub mod Wrote
 pub mod Written
 pub mod LeastDigits
+pub mod Numbers

@@ -5,8 +5,10 @@ ghost use mathlib.Core.List.{[], _∷_};
 ghost use mathlib.Core.Path.{_≡_};
 ghost use Prim.Native.Nat.{_+_, _-_, _≤_, min};
 ghost use lib.ListN.{length, take};
+ghost use Rattle.definitions.specs.Code.{u16};
 ghost use Rattle.definitions.specs.Text.{decimal};
 ghost use Rattle.output.specs.LeastDigits.{LeastDigits};
+ghost use Rattle.output.specs.Numbers.{u16s};
 ghost use Rattle.output.specs.Wrote.{puts, Wrote};
 
 // What an operation answers that fills lent memory: the length of its answer, which stands at the start, or a refusal.
@@ -39,6 +41,27 @@ pub fn put_number(out: &mut [u16], to: usize, n: u16, write: bool) -> usize
         out[to] = n;
     }
     to + 1
+}
+
+// A number of a sheet: two bytes, the low one first.
+fn put_u16(out: &mut [u8], to: usize, n: u16, write: bool) -> usize
+    ensures { λ r. ⌜ Wrote (u16 n) write (now (out .entry)) to (now (out .exit)) r ⌝ }
+{
+    let high = put(out, to, (n % 256) as u8, write);
+    put(out, high, (n / 256) as u8, write)
+}
+
+// The numbers of a sheet, one after another.
+pub fn put_u16s(out: &mut [u8], to: usize, numbers: &[u16], write: bool) -> usize
+    ensures { λ r. ⌜ Wrote (u16s (now (numbers .entry))) write (now (out .entry)) to (now (out .exit)) r ⌝ }
+{
+    let mut at = to;
+    let mut i = 0;
+    while i < numbers.len() {
+        at = put_u16(out, at, numbers[i], write);
+        i += 1;
+    }
+    at
 }
 
 // So many of the bytes, all of which lie within the memory; none in a dry run.
