@@ -197,7 +197,7 @@ fn identifier_count(rule: usize) -> u8
 }
 
 // A step's rule, kind, name, proposition number or column is out of range, or an unused field is not 0.
-fn bad_step(step_records: &[u8], k: usize, names: usize, propositions: usize) -> bool
+pub fn bad_step(step_records: &[u8], k: usize, names: usize, propositions: usize) -> bool
     requires { ⌜ HasStep (now «step_records») k ⌝ }
     ensures { λ r. ⌜ r ≡ badStep names propositions (now («step_records» .entry)) k ⌝ }
 {

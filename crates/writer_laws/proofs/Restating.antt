@@ -76,6 +76,11 @@ fitting s whole =
 pub is-whole : (s : List ℕ) → Checks s → length s ≡ sheetLength s
 is-whole s c = eqb-true _ _ (not-false _ (c .whole))
 
+-- 23 is 9 for the new record
+pub new-step-bad : (s : List ℕ) (g : Given) → badStep (sheet.names s) (sheet.propositions s) (newRecord g) 0 ≡ badGiven s g
+unfolding badStep badIdentifier identifiers identifierCount ruleIn rules ruleByte stepNumber numberAt notZero stepSize newRecord encodeRule encodeIdentifier noIdentifier ruleNumber u16 badGiven
+new-step-bad s g = refl
+
 -- Of an admitted sheet, a conclusion and a column that obey the rules of a step, and room for one more step and level:
 module _ (s : List ℕ) (g : Given) (root : ProofTree ℕ) (isAdmitted : admitted s ≡ accepted root)
     (good : badGiven s g ≡ false) (room : noStepLeft s root ≡ false) where
@@ -151,8 +156,7 @@ module _ (s : List ℕ) (g : Given) (root : ProofTree ℕ) (isAdmitted : admitte
 
   -- 9: the new record passes
   new-step-good : badStep (sheet.names s) (sheet.propositions s) (newRecord g) 0 ≡ false
-  unfolding badStep badIdentifier identifiers identifierCount ruleIn rules ruleByte stepNumber numberAt notZero stepSize newRecord encodeRule encodeIdentifier noIdentifier ruleNumber u16 badGiven
-  new-step-good = good
+  new-step-good = new-step-bad s g ∙ good
 
   -- the old sheet's steps: at least one, and fewer than the limit
   range : InRange s

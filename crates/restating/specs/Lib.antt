@@ -1,0 +1,3 @@
+-- What the functions of restating ask and promise.
+pub mod Step
+pub mod Slots
