@@ -14,6 +14,7 @@ use Rattle.definitions.specs.Outcome.{Outcome, refused, accepted, refuse, _>>=_
 use Rattle.definitions.specs.Admission.{headerChecks, admitted}
 use Rattle.definitions.specs.Term.{ProofTerm}
 use Rattle.definitions.specs.Answers.{namesStep, inRoom, versionOf, sheetTerm, namedTerm, sheetText, labelCount, comparison}
+use Rattle.definitions.specs.Restate.{Given, restated, restateAnswer}
 use Rattle.sheet.specs.Header.{headerOf, HasHeader}
 use Rattle.sheet.proofs.Order.{in-stages, header-given}
 use Rattle.located.specs.AfterHeader.{AfterHeader}
@@ -100,3 +101,7 @@ module _ (s : List ℕ) where
   pub comparison-after-header : (i j : ℕ) {r : Refusal} → comparison s i j ≡ refused r → AfterHeader s r
   unfolding comparison _>>=_
   comparison-after-header i j e = after-header (λ x a. same-refusal (rw a at e))
+
+  pub restatement-after-header : (g : Given) (room : ℕ) {r : Refusal} → restateAnswer s g room ≡ refused r → AfterHeader s r
+  unfolding restateAnswer inRoom restated _>>=_
+  restatement-after-header g room e = after-header (λ x a. same-refusal (rw a at e))

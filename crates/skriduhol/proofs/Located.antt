@@ -1,9 +1,10 @@
 -- Each answer as it is handed back, from what the layers below answer; and that its refusal comes after 1 to 3.
 use Prim.Native.Nat.{ℕ}
-use mathlib.Core.Path.{_≡_, sym, _∙_}
+use mathlib.Core.Path.{_≡_, sym, ap, _∙_}
 use mathlib.Core.Logic.{inl, inr}
 use mathlib.Core.List.{List, []}
 use native.Mathlib.Omega.{arith}
+use lib.ListN.{length}
 use Rattle.definitions.specs.declared.Refusal.{Refusal}
 use Rattle.definitions.specs.declared.Located.{Located}
 use Rattle.definitions.specs.Outcome.{Outcome, accepted, refused}
@@ -60,6 +61,13 @@ module _ (s : List ℕ) where
       → ((o : Outcome (List ℕ)) → w ≡ writtenOf o → r ≡ filledOf s o)
       → FillsOf s outcome before after r
   fills-back f back = record { answer = back _ (f .answer); memory = f .memory }
+
+  -- a length is handed back where the layers below answer it
+  pub length-told : {outcome : Outcome (List ℕ)} {before after : List ℕ} {w : Written} {r : Filled} {n : ℕ} → Fills outcome before after w
+      → ((o : Outcome (List ℕ)) → w ≡ writtenOf o → r ≡ filledOf s o) → r ≡ filled.Length n → w ≡ written.Length n
+  unfolding writtenOf filledOf
+  length-told {outcome = accepted a} f back e = let is = back (accepted a) (f .answer) in f .answer ∙ (let long : length a ≡ _ = cc in ap written.Length long)
+  length-told {outcome = refused x} f back e = let is = back (refused x) (f .answer) in absurd (let z : _≡_ {A = ℕ} 0 1 = cc in omega arith)
 
 -- a refusal of an exercise names no step, so it has no column
 no-step : (r : Refusal) → OfExercise (r .number) → located [] r ≡ record { refusal = r; column = 0 }

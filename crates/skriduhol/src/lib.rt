@@ -12,6 +12,7 @@ use located::put_refusal;
 use name_index::SLOT_COUNT;
 use output::Written;
 use proof_term_lists::put_list;
+use restating::Given;
 use sheet::Checked;
 use sheet::Sheet;
 use sheet::check_header;
@@ -24,15 +25,19 @@ use text::text;
 ghost use mathlib.Core.Path.{_≡_};
 ghost use mathlib.Core.List.{List, []};
 ghost use Prim.Native.Nat.{ℕ};
-ghost use lib.ListN.{length};
+ghost use lib.ListN.{length, take};
 ghost use Rattle.definitions.specs.Outcome.{Outcome};
 ghost use Rattle.definitions.specs.declared.Style.the-variants.{Plain, Strict};
 ghost use Rattle.definitions.specs.Answers.{inRoom, sheetText, versionOf, textAnswer, atomsAnswer, datatypesAnswer, labelCount, comparison, boardOutput};
+ghost use Rattle.definitions.specs.Restate.{restateAnswer};
 ghost use Rattle.definitions.specs.Exercises.{exerciseAnswer};
 ghost use Rattle.definitions.specs.NameIndex.{indexOf, indexAnswer, findAnswer};
 ghost use Rattle.output.specs.Written.{writtenOf, Fills};
 ghost use Rattle.sheet.proofs.Admitted.{AcceptedSheet};
 ghost use Rattle.sheet_term.specs.Held.{HeldTerm};
+ghost use Rattle.writer_laws.specs.Restates.{Restates};
+ghost use Rattle.restating.specs.Step.{givenOf};
+ghost use Rattle.restating.specs.Slots.{slotsAfter};
 ghost use Rattle.located.specs.AfterHeader.{AfterHeader};
 ghost use Rattle.skriduhol.specs.Accurate.{AccurateText, AccurateCount};
 ghost use Rattle.skriduhol.specs.Lists.{listAnswer};
@@ -219,6 +224,20 @@ pub fn compare(s: &[u8], i: usize, j: usize) -> Verdict
         Answer::No => Verdict::No,
         Answer::Refused(refusal) => Verdict::Refused(locate(s, refusal)),
     }
+}
+
+// The old sheet with one more step, AlphaEquivalent over the old root: its conclusion and its column are given. The slots are the
+// index of the new sheet's names. The bytes handed over are a sheet with the old one's parts, answers and index.
+pub fn restate(s: &[u8], given: Given, slots: &mut [u16; SLOT_COUNT], out: &mut [u8]) -> Filled
+    ensures { λ r. ⌜ FillsOf (now (s .entry)) (restateAnswer (now (s .entry)) (givenOf given) (length (now (out .entry))))
+        (now (out .entry)) (now (out .exit)) r ⌝ }
+    ensures { λ _. ⌜ now (slots .exit) ≡ slotsAfter
+        (restateAnswer (now (s .entry)) (givenOf given) (length (now (out .entry)))) (now (slots .entry)) ⌝ }
+    ensures { λ r. ⌜ ((n : ℕ) → r ≡ Filled.Length n
+        → Restates (now (s .entry)) (givenOf given) (take n (now (out .exit)))) ⌝ }
+{
+    let written = restating::restate(s, given, slots, out);
+    locate_written(s, written)
 }
 
 // The bytes that the board program lends.
