@@ -4,11 +4,12 @@ use mathlib.Core.Path.{_≡_}
 use mathlib.Core.Bool.{Bool, true, false}
 use mathlib.Core.Option.{Option, none, some}
 use mathlib.Core.List.{List}
-use lib.ListN.{length}
+use lib.ListN.{length, getD}
 use Rattle.definitions.specs.declared.Located.{Located}
 use Rattle.definitions.specs.Outcome.{Outcome, accepted, refused}
 use Rattle.definitions.specs.Answers.{columnOf}
 use Rattle.definitions.specs.NameIndex.{free}
+use Rattle.definitions.specs.Restate.{Given}
 use Rattle.output.specs.Written.{filled}
 
 -- 0 for what is accepted, else the refusal's number
@@ -35,6 +36,17 @@ yesOrNo false = 0
 unfoldable pub numberOrFree : Option ℕ → ℕ
 numberOrFree (some i) = i
 numberOrFree none = free
+
+-- what is given for a restatement: a kind, three numbers and a column, in the order of a step record
+unfoldable pub givenIn : List ℕ → Given
+givenIn numbers =
+    record {
+      kind = getD numbers 0 0;
+      first = getD numbers 1 0;
+      second = getD numbers 2 0;
+      third = getD numbers 3 0;
+      column = getD numbers 4 0;
+    }
 
 -- the result, the value and the column of a sheet's outcome, whatever both were before
 pub record Hands {A : Type 0} (says : A → ℕ) (s : List ℕ) (outcome : Outcome A) (value column result : ℕ) : Type 0 where

@@ -5,6 +5,7 @@ use definitions::Located;
 use definitions::Style;
 use name_index::FREE;
 use name_index::SLOT_COUNT;
+use restating::Given;
 use skriduhol::BOARD_ROOM;
 use skriduhol::Count;
 use skriduhol::Filled;
@@ -16,13 +17,15 @@ ghost use Prim.Native.Nat.{ℕ};
 ghost use lib.ListN.{length};
 ghost use Rattle.definitions.specs.Outcome.{Outcome};
 ghost use Rattle.definitions.specs.Answers.{textAnswer, atomsAnswer, datatypesAnswer, labelCount, comparison, boardOutput};
+ghost use Rattle.definitions.specs.Restate.{restateAnswer};
 ghost use Rattle.definitions.specs.Exercises.{exerciseAnswer};
 ghost use Rattle.definitions.specs.NameIndex.{indexOf, indexAnswer, findAnswer};
 ghost use Rattle.definitions.specs.declared.Style.the-variants.{Plain, Strict};
+ghost use Rattle.restating.specs.Slots.{slotsAfter};
 ghost use Rattle.skriduhol.specs.Located.{filledOf};
 ghost use Rattle.skriduhol.specs.Board.{Prints};
 ghost use Rattle.skriduhol.specs.Searched.{plainAnswer};
-ghost use Rattle.skriduhol_c.specs.Handed.{Hands, HandsFilled, HandsRefusal, yesOrNo, numberOrFree};
+ghost use Rattle.skriduhol_c.specs.Handed.{Hands, HandsFilled, HandsRefusal, yesOrNo, numberOrFree, givenIn};
 
 // A refusal's place is the value, and its column the column.
 fn hand_refusal(located: Located, value: &mut usize, column: &mut usize) -> u8
@@ -207,6 +210,36 @@ pub extern "C" fn skriduhol_compare(
             return hand_refusal(located, value, column);
         }
     }
+}
+
+// The old sheet with one more step, AlphaEquivalent over the old root. Given are a kind, three numbers and a column, in the order of
+// a step record; the slots are the index of the new sheet's names.
+#[no_mangle]
+pub extern "C" fn skriduhol_restate(
+    sheet: &[u8],
+    given: &[u16; 5],
+    slots: &mut [u16; SLOT_COUNT],
+    out: &mut [u8],
+    value: &mut usize,
+    column: &mut usize,
+) -> u8
+    ensures { λ r. ⌜ HandsFilled (λ s. restateAnswer s (givenIn (now (given .entry)))) (now (sheet .entry)) (now (out .entry))
+        (now (out .exit)) (now (value .exit)) (now (column .exit)) r ⌝ }
+    ensures { λ _. ⌜ now (slots .exit) ≡ slotsAfter
+        (restateAnswer (now (sheet .entry)) (givenIn (now (given .entry))) (length (now (out .entry)))) (now (slots .entry)) ⌝ }
+{
+    let restatement = Given {
+        kind: given[0],
+        first: given[1],
+        second: given[2],
+        third: given[3],
+        column: given[4],
+    };
+    hand_filled(
+        skriduhol::restate(sheet, restatement, slots, out),
+        value,
+        column,
+    )
 }
 
 // What the board program prints, and how many bytes it is.
