@@ -3,7 +3,9 @@
 use definitions::Located;
 use definitions::Style;
 use libc::STDOUT_FILENO;
+use name_index::SLOT_COUNT;
 use number::number_at;
+use restating::Given;
 use skriduhol::Count;
 use skriduhol::Filled;
 use skriduhol::Verdict;
@@ -30,6 +32,8 @@ const HANDOUT_STRICT: u8 = 8;
 const HANDOUT_DATATYPES: u8 = 9;
 
 const EXERCISE: u8 = 10;
+
+const RESTATE: u8 = 13;
 
 // The most bytes or numbers that are lent. Memory is zero before it is lent.
 const ROOM: usize = 65536;
@@ -187,13 +191,14 @@ fn same_bytes(a: &[u8; ROOM], b: &[u8; ROOM]) -> bool {
 }
 
 // The text that a question asks for, and of the handout its version; or the code of an exercise, with the number of connectives and
-// the ordinal.
+// the ordinal; or the sheet with a restated conclusion, with what is given.
 enum AskedText {
     Plain,
     Strict,
     HandoutPlain(usize),
     HandoutStrict(usize),
     Exercise(usize, usize),
+    Restate(Given),
 }
 
 fn text(s: &[u8], asked: AskedText, room: usize, out: &mut [u8]) -> Filled {
@@ -213,6 +218,10 @@ fn text(s: &[u8], asked: AskedText, room: usize, out: &mut [u8]) -> Filled {
         }
         AskedText::Exercise(n, ordinal) => {
             return skriduhol::exercise(s, n, ordinal, &mut out[..lent]);
+        }
+        AskedText::Restate(given) => {
+            let mut slots = [0u16; SLOT_COUNT];
+            return skriduhol::restate(s, given, &mut slots, &mut out[..lent]);
         }
     }
 }
@@ -314,6 +323,22 @@ fn exercise_agrees(fd: i32, names: &[u8]) -> bool {
     text_agrees(fd, names, AskedText::Exercise(n, ordinal))
 }
 
+fn read_number(fd: i32) -> u16 {
+    read_u16(fd) as u16
+}
+
+// What is given for a restatement stands in the order of a step record.
+fn restate_agrees(fd: i32, s: &[u8]) -> bool {
+    let given = Given {
+        kind: read_number(fd),
+        first: read_number(fd),
+        second: read_number(fd),
+        third: read_number(fd),
+        column: read_number(fd),
+    };
+    text_agrees(fd, s, AskedText::Restate(given))
+}
+
 // Whether the answer to the next question agrees.
 fn agrees(fd: i32, s: &[u8]) -> bool {
     match read_byte(fd) {
@@ -327,6 +352,7 @@ fn agrees(fd: i32, s: &[u8]) -> bool {
         HANDOUT_STRICT => text_agrees(fd, s, AskedText::HandoutStrict(read_u64(fd))),
         HANDOUT_DATATYPES => list_agrees(fd, s, AskedList::HandoutDatatypes(read_u64(fd))),
         EXERCISE => exercise_agrees(fd, s),
+        RESTATE => restate_agrees(fd, s),
         _ => board_agrees(fd, s),
     }
 }

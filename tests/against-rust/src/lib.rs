@@ -5,5 +5,6 @@ pub mod exercises;
 pub mod kinds;
 pub mod names;
 pub mod questions;
+pub mod restatements;
 pub mod shrink;
 pub mod tally;

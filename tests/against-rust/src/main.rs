@@ -1,5 +1,5 @@
 //! The command line: `run` beside this folder builds the library and starts it.
-use against_rust::{call::Library, exercises, kinds, names, tally::Table};
+use against_rust::{call::Library, exercises, kinds, names, restatements, tally::Table};
 use oracle::{exercise::Exercises, generate::Kind};
 use std::{process::exit, str::FromStr, thread, time::Instant};
 
@@ -100,7 +100,19 @@ extern "C" {
         value: *mut usize,
         column: *mut usize,
     ) -> u8;
+    fn skriduhol_restate(
+        sheet: *const u8,
+        length: usize,
+        given: *const u16,
+        slots: *mut u16,
+        out: *mut u8,
+        room: usize,
+        value: *mut usize,
+        column: *mut usize,
+    ) -> u8;
 }
+
+const RESTATING: restatements::Library = restatements::Library { restate: skriduhol_restate, asked: LIBRARY };
 
 const NAMES: names::Library = names::Library { name_index: skriduhol_name_index, find_name: skriduhol_find_name };
 
@@ -189,6 +201,11 @@ fn main() {
         println!("{asked}");
         let asked = names::compare(&NAMES, seed, count).unwrap_or_else(|difference| {
             println!("DIFFERENCE in {difference}");
+            exit(1)
+        });
+        println!("{asked}");
+        let asked = restatements::compare(&RESTATING, seed, count).unwrap_or_else(|difference| {
+            println!("DIFFERENCE in a restatement: {difference}");
             exit(1)
         });
         println!("{asked}");

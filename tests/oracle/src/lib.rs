@@ -9,6 +9,7 @@ pub mod index;
 pub mod limits;
 pub mod list;
 pub mod reference;
+pub mod restate;
 pub mod rng;
 pub mod sheet;
 pub mod sound;

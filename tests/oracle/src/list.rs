@@ -5,6 +5,7 @@ use crate::{
     exercise::{bad_names, count_names, good_names, Exercise, Exercises, CONNECTIVES, TOO_MANY},
     generate::{Kind, Sheets},
     index::{find_name, name_index, searches, sheets, FREE, SLOTS},
+    restate::{givens, restate, Given},
     rng::Rng,
     sheet::{decode, Refusal, BOARD_ROOM, CODE, HEADER_BYTES, NAMES, PAIR_BYTES, PROPS, STEPS, STEP_BYTES, TEXT},
     text::{plain, text, Version},
@@ -28,6 +29,8 @@ pub const EXERCISE: u8 = 10;
 /// The kinds of questions on the index of a sheet's names, and on a name in it.
 pub const NAME_INDEX: u8 = 11;
 pub const FIND_NAME: u8 = 12;
+/// The kind of a question on a restatement.
+pub const RESTATE: u8 = 13;
 /// So many of a sheet's names are asked for.
 const FOUND: usize = 12;
 
@@ -39,6 +42,8 @@ pub struct List {
     pub names: usize,
     /// Entries that are asked for their names.
     pub indexed: usize,
+    /// Entries whose conclusion is restated.
+    pub restated: usize,
     pub questions: usize,
 }
 
@@ -65,7 +70,11 @@ pub fn list(seed: u64) -> Result<List, Finding> {
     for (_, sheet) in sheets() {
         list.add_names(&sheet, &mut rng);
     }
-    list.bytes.splice(0..0, ((list.sheets + list.names + list.indexed) as u32).to_le_bytes());
+    for (_, sheet) in crate::restate::sheets() {
+        list.add_restatements(&sheet, &mut rng);
+    }
+    let entries = list.sheets + list.names + list.indexed + list.restated;
+    list.bytes.splice(0..0, (entries as u32).to_le_bytes());
     Ok(list)
 }
 
@@ -181,6 +190,35 @@ impl List {
             self.bytes.extend(&name);
             let found = find_name(sheet, &slots, &name);
             self.add_answer(&found.map(|found| Answer::Count(found.unwrap_or(FREE).into())));
+        }
+    }
+
+    /// Adds a sheet with restatements, each in exactly enough room or one byte short where it is accepted. A new sheet that is
+    /// long stands in one answer only.
+    fn add_restatements(&mut self, sheet: &[u8], rng: &mut Rng) {
+        let mut long = false;
+        let mut asked: Vec<(Given, usize)> = vec![];
+        for given in givens(sheet, rng) {
+            let room = match restate(sheet, given, None) {
+                Ok(new) => {
+                    let short = long || rng.chance(25);
+                    long |= !short && new.len() > SMALL_BYTES;
+                    new.len() - short as usize
+                }
+                Err(_) => rng.below(40_000),
+            };
+            asked.push((given, room));
+        }
+        self.restated += 1;
+        self.questions += asked.len();
+        self.bytes.extend((sheet.len() as u32).to_le_bytes());
+        self.bytes.extend(sheet);
+        self.bytes.push(asked.len() as u8);
+        for (given, room) in asked {
+            self.bytes.push(RESTATE);
+            self.bytes.extend(given.row().map(u16::to_le_bytes).concat());
+            self.bytes.extend((room as u32).to_le_bytes());
+            self.add_answer(&restate(sheet, given, Some(room)).map(Answer::Code));
         }
     }
 
