@@ -41,8 +41,8 @@ extern "C" {
 /* Refusals, in the order in which they are tried, save that 21 is tried first: before each its place, which is 0 or the number of
    a name, a proposition or a step, and its reason. Those whose place is a step, 9 to 15, hand back its column too.
 
-   Texts and lists use 1 to 16, those of the handout 21 too, the label count 1 to 15, a comparison 1 to 11, 17 and 19, an
-   exercise 29, 30 and 16. 16 is tried last. It does not say how much room is missing: most answers fit 65,536 elements, but a text can pass 88 million bytes
+   Texts and lists use 1 to 16, those of the handout 21 too, the label count 1 to 15, a comparison 1 to 11, 17 and 19, a
+   restatement 1 to 11, 23, 24, 19 or 25, and 16, an exercise 29, 30 and 16. 16 is tried last. It does not say how much room is missing: most answers fit 65,536 elements, but a text can pass 88 million bytes
    and a list 3 million numbers. */
 enum skriduhol_refusal {
     /* 0: fewer than 12 bytes came */
@@ -85,6 +85,12 @@ enum skriduhol_refusal {
     SKRIDUHOL_REFUSED_UNBOUND_PARAMETER = 19,
     /* 0: the version of the handout is outside 1 to 3 */
     SKRIDUHOL_REFUSED_VERSION = 21,
+    /* 0: the given conclusion or column breaks the rules of a step */
+    SKRIDUHOL_REFUSED_GIVEN = 23,
+    /* 0: there are already 1,024 steps or 256 levels */
+    SKRIDUHOL_REFUSED_NO_STEP_LEFT = 24,
+    /* 0: the root's conclusion and the given one are not alpha equal */
+    SKRIDUHOL_REFUSED_NOT_ALPHA_EQUAL = 25,
     /* 0: the names of an exercise are too many, repeated or malformed, or its number of connectives passes 3 */
     SKRIDUHOL_REFUSED_EXERCISE = 29,
     /* 0: the ordinal of an exercise is past the end */
@@ -134,6 +140,15 @@ uint8_t skriduhol_label_count(const uint8_t *sheet, size_t sheet_length, size_t 
 
 /* Whether the conclusions of steps i and j are equal up to the names of their bound objects. *value: 1 for yes, 0 for no. */
 uint8_t skriduhol_compare(const uint8_t *sheet, size_t sheet_length, size_t i, size_t j, size_t *value, size_t *column);
+
+/* The sheet with one more step, AlphaEquivalent over its root, whose conclusion is equal to the root's up to the names of bound
+   objects. `given` are the numbers of a step record's end: the kind, three numbers and the column. Names, propositions and goal are
+   kept byte for byte, and every answer to the new sheet is the old one's, in text, lists, labels and refusals. `slots` has
+   1,024 numbers, which become the index of the new sheet's names (skriduhol_name_index) and stay as they were where
+   the answer is a refusal; they overlap nothing else.
+   *value: the length of the new sheet in bytes, 20 more than the old one's. */
+uint8_t skriduhol_restate(const uint8_t *sheet, size_t sheet_length, const uint16_t given[5],
+                          uint16_t slots[1024], uint8_t *out, size_t room, size_t *value, size_t *column);
 
 /* The code of the proposition at an ordinal, from 0, among all of at most n binary connectives over ⊤, ⊥ and up to 3 names, n up
    to 3. Fewer connectives come first; then by root, ∧ before ∨ before ⊃; then by the left part's size, the left part, the right
