@@ -112,7 +112,7 @@ extern "C" {
     ) -> u8;
 }
 
-const RESTATING: restatements::Library = restatements::Library { restate: skriduhol_restate, asked: LIBRARY };
+const RESTATING: restatements::Library = restatements::Library { restate: skriduhol_restate, asked: Some(LIBRARY) };
 
 const NAMES: names::Library = names::Library { name_index: skriduhol_name_index, find_name: skriduhol_find_name };
 

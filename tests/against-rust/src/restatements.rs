@@ -21,11 +21,11 @@ pub type Restate = unsafe extern "C" fn(
     column: *mut usize,
 ) -> u8;
 
-/// What the comparison calls: the restatement, and the other operations for the new sheets.
+/// What the comparison calls: the restatement, and the other operations, if the new sheets are to be asked too.
 #[derive(Clone, Copy)]
 pub struct Library {
     pub restate: Restate,
-    pub asked: call::Library,
+    pub asked: Option<call::Library>,
 }
 
 /// So many sheets were asked, so often; what was accepted and refused, and how many questions the new sheets were asked.
@@ -123,7 +123,7 @@ impl Asker<'_> {
     }
 
     /// What the new sheet answers is what the old one answers.
-    fn ask_new(&mut self, old: &[u8], new: &[u8]) -> Result<(), String> {
+    fn ask_new(&mut self, library: call::Library, old: &[u8], new: &[u8]) -> Result<(), String> {
         let (old, steps) = (examine(old)?, usize::from(u16::from_le_bytes([old[8], old[9]])));
         let (i, j) = (self.rng.below(steps), self.rng.below(steps));
         let mut questions = vec![
@@ -145,7 +145,7 @@ impl Asker<'_> {
             for room in [exactly, exactly.saturating_sub(1), exactly + 9] {
                 let expected = old.answer(question, Some(room))?;
                 self.asked.of_new_sheets += 1;
-                let said = self.library.asked.call(new, question, room, self.rng.draw() as u8);
+                let said = library.call(new, question, room, self.rng.draw() as u8);
                 if let Some(how) = said.differs(&expected) {
                     return Err(format!("{question:?} of a new sheet in a room of {room}: {how}, expected {expected:?}, said {said}"));
                 }
@@ -156,15 +156,15 @@ impl Asker<'_> {
 
     fn ask_sheet(&mut self, sheet: &[u8], of_new: bool) -> Result<(), String> {
         self.asked.sheets += 1;
-        let mut once = of_new;
+        let mut asks = self.library.asked.filter(|_| of_new);
         for given in givens(sheet, &mut self.rng) {
             if !agrees_with_the_rust(sheet, given) {
                 return Err(format!("{given:?}: the Rust's create_alphq_eq_tree says otherwise"));
             }
             self.ask_in_rooms(sheet, given)?;
-            if let (true, Ok(new)) = (once, restate(sheet, given, None)) {
-                once = false;
-                self.ask_new(sheet, &new)?;
+            if let (Some(library), Ok(new)) = (asks, restate(sheet, given, None)) {
+                asks = None;
+                self.ask_new(library, sheet, &new)?;
             }
         }
         Ok(())

@@ -3,7 +3,8 @@ use oracle::{
     answer::{examine, Answer, Operation, Question},
     exercise::{Exercise, Exercises},
     index::{find_name, name_index, FREE, SLOTS},
-    list::{list, EXERCISE, FIND_NAME, NAME_INDEX},
+    list::{list, EXERCISE, FIND_NAME, NAME_INDEX, RESTATE},
+    restate::{restate, Given},
     sheet::Refusal,
     text::Version,
 };
@@ -67,7 +68,7 @@ fn the_list_reads_back() {
     let mut reader = Reader(&list.bytes);
     let (mut asked, mut refused, mut exact, mut short, mut more) = ([0; Operation::ALL.len()], [0; 31], 0, 0, 0);
     let (mut strict, mut second, mut third, mut strict_third) = (0, 0, 0, 0);
-    assert_eq!(reader.number(4), list.sheets + list.names + list.indexed);
+    assert_eq!(reader.number(4), list.sheets + list.names + list.indexed + list.restated);
     for _ in 0..list.sheets {
         let length = reader.number(4);
         let examined = examine(&reader.bytes(length)).unwrap();
@@ -128,10 +129,26 @@ fn the_list_reads_back() {
         }
     }
     assert!(found > 100 && missed > 100, "{found} {missed}");
+    let mut sheets = 0;
+    for _ in 0..list.restated {
+        let length = reader.number(4);
+        let sheet = reader.bytes(length);
+        for _ in 0..reader.number(1) {
+            assert_eq!(reader.number(1), RESTATE as usize);
+            let [kind, first, second, third, column] = [0; 5].map(|_| reader.number(2) as u16);
+            let given = Given { kind, numbers: [first, second, third], column };
+            let room = reader.number(4);
+            let answer = reader.value().map(|length| reader.bytes(length));
+            assert_eq!(answer, restate(&sheet, given, Some(room)));
+            sheets += answer.is_ok() as usize;
+            refused[answer.map_or_else(|refusal| refusal.number as usize, |_| 0)] += 1;
+        }
+    }
+    assert!(sheets > 50, "{sheets}");
     assert!(reader.0.is_empty());
     assert!(asked.iter().all(|count| *count > 0), "{asked:?}");
-    // every refusal but 18; there is none with the number 20, nor from 22 to 28
-    let none = |number| [18, 20].contains(&number) || (22..29).contains(&number);
+    // every refusal but 18; there is none with the number 20 or 22, nor from 26 to 28
+    let none = |number| [18, 20, 22].contains(&number) || (26..29).contains(&number);
     assert!((0..31).all(|number| (refused[number] > 0) != none(number)), "{refused:?}");
     assert!(exact > 1000 && short > 1000, "{exact} {short}");
     assert!(more > 100 && strict > 100 && second > 50, "{more} {strict} {second}");
