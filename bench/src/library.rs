@@ -1,5 +1,8 @@
 //! Skriduhol through the wrapper in bindings/rust.
-use oracle::answer::{Operation, Question};
+use oracle::{
+    answer::{Operation, Question},
+    restate::Given,
+};
 use skriduhol::{Refusal, Style};
 
 /// The memory that is lent for answers.
@@ -37,6 +40,13 @@ pub fn ask(question: Question, sheet: &[u8], lent: &mut Lent) -> Result<usize, R
 /// The length of the code at an ordinal over three names with n of 3, or the refusal.
 pub fn exercise(ordinal: usize, lent: &mut Lent) -> Result<usize, Refusal> {
     skriduhol::exercise(b"A\nB\nC", 3, ordinal, &mut lent.bytes)
+}
+
+/// The length of the sheet with a restated conclusion, or the refusal.
+pub fn restate(sheet: &[u8], given: Given, lent: &mut Lent) -> Result<usize, Refusal> {
+    let slots = lent.numbers.first_chunk_mut().expect("the slots are lent");
+    let given = skriduhol::Given { kind: given.kind, numbers: given.numbers, column: given.column };
+    skriduhol::restate(sheet, given, slots, &mut lent.bytes)
 }
 
 /// The question of each operation on a sheet of so many steps. The comparison is of the first step with the last, and the

@@ -5,6 +5,7 @@ mod library;
 mod lines;
 mod operations;
 mod required;
+mod restatements;
 mod sheets;
 mod stack;
 mod texts;
@@ -20,6 +21,7 @@ use oracle::{
     generate::Named,
 };
 use required::{at_least, verdict, Required};
+use restatements::restatements;
 use sheets::steps;
 use stack::Stack;
 use std::{process::exit, time::Duration};
@@ -70,6 +72,11 @@ const SECTIONS: [(&str, Section); 8] = [
         None
     }),
     ("handouts", |plan, lent| Some(versions(plan, lent))),
+    ("restatements", |plan, lent| {
+        println!("## Restated conclusions\n");
+        restatements(&plan.effort, lent);
+        None
+    }),
     ("exercises", |plan, lent| {
         println!("## Exercises over three names with up to three connectives\n");
         exercises(&plan.effort, lent);
@@ -78,7 +85,7 @@ const SECTIONS: [(&str, Section); 8] = [
 ];
 
 fn usage() -> ! {
-    eprintln!("usage: bench/run short|full [sound|worst|growth|stack|operations|lines|handouts|exercises]...");
+    eprintln!("usage: bench/run short|full [sound|worst|growth|stack|operations|lines|handouts|restatements|exercises]...");
     exit(2)
 }
 

@@ -1,15 +1,16 @@
 //! How much stack an operation uses. It runs on a stack of its own, which is painted before and scanned after.
-use crate::library::{ask, exercise, Lent};
-use oracle::answer::Question;
+use crate::library::{ask, exercise, restate, Lent};
+use oracle::{answer::Question, restate::Given};
 use std::{arch::asm, ffi::c_void};
 
 const STACK_BYTES: usize = 4 << 20;
 const PAINT: u64 = 0x5ca1_ab1e_0ddb_a115;
 
-/// What is asked: nothing, a question about a sheet, or an exercise by its ordinal.
+/// What is asked: nothing, a question about a sheet, a restatement of it, or an exercise by its ordinal.
 enum Asked<'a> {
     Nothing,
     Question(Question, &'a [u8]),
+    Restatement(&'a [u8], Given),
     Exercise(usize),
 }
 
@@ -26,6 +27,7 @@ extern "C" fn run(call: *mut c_void) {
     let _ = match call.asked {
         Asked::Nothing => Ok(0),
         Asked::Question(question, sheet) => ask(question, sheet, call.lent),
+        Asked::Restatement(sheet, given) => restate(sheet, given, call.lent),
         Asked::Exercise(ordinal) => exercise(ordinal, call.lent),
     };
 }
@@ -68,6 +70,11 @@ impl Stack {
     /// The bytes of stack that the answer to a question takes, without those of the call itself.
     pub fn used(&mut self, question: Question, sheet: &[u8], lent: &mut Lent) -> usize {
         self.used_by(Asked::Question(question, sheet), lent)
+    }
+
+    /// The same of a restatement.
+    pub fn used_by_restatement(&mut self, sheet: &[u8], given: Given, lent: &mut Lent) -> usize {
+        self.used_by(Asked::Restatement(sheet, given), lent)
     }
 
     /// The same of an exercise.

@@ -81,6 +81,16 @@ extern "C" {
         value: *mut usize,
         column: *mut usize,
     ) -> u8;
+    fn skriduhol_restate(
+        sheet: *const u8,
+        sheet_length: usize,
+        given: *const u16,
+        slots: *mut u16,
+        out: *mut u8,
+        room: usize,
+        value: *mut usize,
+        column: *mut usize,
+    ) -> u8;
     fn skriduhol_exercise(
         names: *const u8,
         names_length: usize,
@@ -216,6 +226,28 @@ pub fn compare(sheet: &[u8], i: usize, j: usize, value: &mut usize, column: &mut
 
 pub fn board_output(sheet: &[u8], out: &mut [u8; BOARD_ROOM]) -> usize {
     unsafe { skriduhol_board_output(sheet.as_ptr(), sheet.len(), out.as_mut_ptr()) }
+}
+
+pub fn restate(
+    sheet: &[u8],
+    given: &[u16; 5],
+    slots: &mut [u16; 1024],
+    out: &mut [u8],
+    value: &mut usize,
+    column: &mut usize,
+) -> u8 {
+    unsafe {
+        skriduhol_restate(
+            sheet.as_ptr(),
+            sheet.len(),
+            given.as_ptr(),
+            slots.as_mut_ptr(),
+            out.as_mut_ptr(),
+            out.len(),
+            value,
+            column,
+        )
+    }
 }
 
 pub fn exercise(

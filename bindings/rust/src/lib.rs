@@ -1,5 +1,5 @@
 //! The proved library behind proof boards, for Rust: a sheet's text, its lists, its label count, the comparison of two
-//! conclusions, and exercises. Every function answers for any bytes. A refusal leaves the lent memory as it was, save that `board_output` then
+//! conclusions, restated conclusions, and exercises. Every function answers for any bytes. A refusal leaves the lent memory as it was, save that `board_output` then
 //! writes the refusal's line.
 #![deny(unsafe_code)]
 
@@ -100,6 +100,28 @@ pub fn compare(sheet: &[u8], i: usize, j: usize) -> Result<bool, Refusal> {
 /// What the board prints, at the start of `out`: the plain text of version 1, or the refusal's line; its length in bytes.
 pub fn board_output(sheet: &[u8], out: &mut [u8; BOARD_ROOM]) -> usize {
     c::board_output(sheet, out)
+}
+
+/// A conclusion in the numbers of a step record, and a column: kind 0, a proposition, 0 and 0; or kind 1, a name, an id and a
+/// datatype's name.
+#[derive(Clone, Copy, Debug, PartialEq, Eq)]
+pub struct Given {
+    pub kind: u16,
+    pub numbers: [u16; 3],
+    pub column: u16,
+}
+
+/// The sheet with one more step, AlphaEquivalent over its root, at the start of `out`; its length in bytes. Every answer to it is the
+/// old sheet's. The slots become the index of its names, and stay as they were where it is refused.
+pub fn restate(
+    sheet: &[u8],
+    given: Given,
+    slots: &mut [u16; 1024],
+    out: &mut [u8],
+) -> Result<usize, Refusal> {
+    let [first, second, third] = given.numbers;
+    let row = [given.kind, first, second, third, given.column];
+    asked(|value, column| c::restate(sheet, &row, slots, out, value, column))
 }
 
 /// The code of the proposition at an ordinal, from 0, among all of at most `n` binary connectives over ⊤, ⊥ and up to 3 names, `n` up

@@ -1,8 +1,8 @@
 //! The example sheets through the wrapper: answers, refusals, and what becomes of the lent memory.
 use skriduhol::{
     atom_list, board_output, compare, datatype_list, exercise, handout, handout_datatypes,
-    label_count, plain_text, strict_text, Refusal, Style, BOARD_ROOM, LONGEST_EXERCISE,
-    LONGEST_SHEET,
+    label_count, plain_text, restate, strict_text, Given, Refusal, Style, BOARD_ROOM,
+    LONGEST_EXERCISE, LONGEST_SHEET,
 };
 
 const SMALLEST: &[u8] = include_bytes!("../../../examples/sheets/smallest.sheet");
@@ -134,6 +134,43 @@ fn a_number_that_is_no_version_is_refused_first() {
             assert_eq!(handout_datatypes(sheet, version, &mut []), refusal(21, 0));
         }
     }
+}
+
+const BOUND_OBJECT: &[u8] = include_bytes!("../../sheets/bound_object.sheet");
+
+/// What becomes of memory and slots where a sheet is restated in a room of so many bytes.
+fn restate_in(room: usize, given: Given) -> (Result<usize, Refusal>, Vec<u8>, [u16; 1024]) {
+    let (mut out, mut slots) = (vec![UNTOUCHED; room], [7; 1024]);
+    let answer = restate(BOUND_OBJECT, given, &mut slots, &mut out);
+    (answer, out, slots)
+}
+
+#[test]
+fn a_restated_sheet_prints_as_before() {
+    let given = Given {
+        kind: 0,
+        numbers: [1, 0, 0],
+        column: 7,
+    };
+    let length = BOUND_OBJECT.len() + 20;
+    let (answer, out, slots) = restate_in(length + 3, given);
+    assert_eq!(answer, Ok(length));
+    assert_eq!(out[length..], [UNTOUCHED; 3]);
+    assert_eq!(slots.iter().filter(|slot| **slot != 65535).count(), 4);
+    let (mut old, mut new) = (vec![0; 100], vec![0; 100]);
+    assert_eq!(
+        plain_text(&out[..length], &mut new),
+        plain_text(BOUND_OBJECT, &mut old)
+    );
+    assert_eq!(new, old);
+    assert_eq!(compare(&out[..length], 0, 1), Ok(true));
+    let refused = |room, given, number| {
+        let untouched = (refusal(number, 0), vec![UNTOUCHED; room], [7; 1024]);
+        assert_eq!(restate_in(room, given), untouched);
+    };
+    refused(length - 1, given, 16);
+    refused(length, Given { column: 4096, ..given }, 23);
+    refused(length, Given { kind: 1, ..given }, 25);
 }
 
 /// The code of an exercise in a room of so many bytes.
