@@ -24,3 +24,4 @@ pub mod Versions
 pub mod Drawings
 pub mod SoundDrawing
 pub mod Collections
+pub mod GraftDrawings

@@ -14,6 +14,7 @@ pub mod Export
 pub mod Display
 pub mod Text
 pub mod Comparison
+pub mod Equal
 pub mod AlphaEquality
 pub mod IdentifierContext
 pub mod Answers
@@ -28,4 +29,6 @@ pub mod Accuracy
 pub mod Assemble
 pub mod Encode
 pub mod Restate
+pub mod Graft
 pub mod Drawings
+pub mod GraftDrawings

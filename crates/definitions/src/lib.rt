@@ -59,3 +59,10 @@ pub enum Found {
     Nowhere,
     At(usize),
 }
+
+// Whose refusal it is that a graft meets: neither sheet's, the host's or the donor's.
+pub enum Whose {
+    Neither,
+    Host,
+    Donor,
+}
