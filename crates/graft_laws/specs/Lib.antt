@@ -1,0 +1,4 @@
+pub mod Splicing
+pub mod Levels
+pub mod Missing
+pub mod Numbers
