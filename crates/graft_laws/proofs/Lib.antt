@@ -19,5 +19,9 @@ pub mod MergedIndex
 pub mod Equal
 pub mod MergedLevels
 pub mod Answered
+pub mod Weakening
+pub mod Alike
+pub mod GraftDeduced
+pub mod SoundMerged
 pub mod MergedNumbers
 pub mod ByNumbers

@@ -1,4 +1,5 @@
 pub mod Splicing
 pub mod Levels
+pub mod Scope
 pub mod Missing
 pub mod Numbers
