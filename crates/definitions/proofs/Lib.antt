@@ -22,6 +22,7 @@ pub mod Conventions
 pub mod Accuracy
 pub mod Versions
 pub mod Drawings
+pub mod TermDrawings
 pub mod SoundDrawing
 pub mod Collections
 pub mod GraftDrawings

@@ -3,12 +3,12 @@ use Prim.Native.Nat.{ℕ, zero, suc, _-_}
 use mathlib.Core.Bool.{Bool, true, false, _&&_, _||_, not, cond}
 use mathlib.Core.List.{List, [], _∷_, _++_, map}
 use lib.ListN.{length, getD}
-use lib.Dec.{ltb, leb, eqb}
+use lib.Dec.{ltb, leb}
 use Rattle.definitions.specs.Outcome.{Outcome, accepted, _>>=_, refuseIf}
-use Rattle.definitions.specs.Name.{Name, isName, eqName}
+use Rattle.definitions.specs.Name.{Name, eqName}
 use Rattle.definitions.specs.Prop.{Prop, True, False, Binary, Atom, Connective, and, or, impl}
 use Rattle.definitions.specs.Code.{encode}
-use Rattle.definitions.specs.Sheet.{nameLengthLimit}
+use Rattle.definitions.specs.CallerNames.{namesIn, allWellFormed}
 use Rattle.definitions.specs.Text.{occurs}
 use Rattle.definitions.specs.Answers.{inRoom}
 
@@ -57,33 +57,6 @@ module _ (names : ℕ) where
   unfoldable pub exercises : ℕ → List (Prop ℕ)
   exercises zero = ofSize 0
   exercises (suc n) = exercises n ++ ofSize (suc n)
-
--- the byte that divides a caller's names
-unfoldable pub newline : ℕ
-newline = 10
-
--- a byte in front of the first of some pieces
-unfoldable pub inFront : ℕ → List Name → List Name
-inFront b [] = (b ∷ []) ∷ []
-inFront b (a ∷ rest) = (b ∷ a) ∷ rest
-
--- the pieces between newlines
-unfoldable pub pieces : List ℕ → List Name
-pieces [] = [] ∷ []
-pieces (b ∷ s) = cond (eqb b newline) ([] ∷ pieces s) (inFront b (pieces s))
-
--- A caller's names are divided by newlines, and no bytes are no names: so any bytes are a list, and 29 judges its names.
-unfoldable pub namesIn : List ℕ → List Name
-namesIn [] = []
-namesIn (b ∷ s) = pieces (b ∷ s)
-
--- a name of document 01: 1 to 32 bytes, each one that its position allows
-unfoldable pub wellFormed : Name → Bool
-wellFormed a = leb (length a) nameLengthLimit && isName a
-
-unfoldable pub allWellFormed : List Name → Bool
-allWellFormed [] = true
-allWellFormed (a ∷ rest) = wellFormed a && allWellFormed rest
 
 unfoldable pub repeated : List Name → Bool
 repeated [] = false

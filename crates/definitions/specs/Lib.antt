@@ -20,8 +20,11 @@ pub mod IdentifierContext
 pub mod Answers
 pub mod Refusals
 pub mod ComparisonWith18
+pub mod CallerNames
 pub mod Exercises
 pub mod NameIndex
+pub mod TermText
+pub mod TermReader
 pub mod CheckingRules
 pub mod Sound
 pub mod Labels
@@ -32,3 +35,4 @@ pub mod Restate
 pub mod Graft
 pub mod Drawings
 pub mod GraftDrawings
+pub mod TermDrawings

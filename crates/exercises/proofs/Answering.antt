@@ -12,7 +12,8 @@ use Rattle.definitions.specs.Outcome.{Outcome, accepted, refuse, refuseIf, _>>=
 use Rattle.definitions.specs.Prop.{True}
 use Rattle.definitions.specs.Code.{encode}
 use Rattle.definitions.specs.Answers.{inRoom}
-use Rattle.definitions.specs.Exercises.{namesIn, allWellFormed, repeated, exerciseNameLimit, connectiveLimit, badNames, exercises, ofSize, exerciseAnswer}
+use Rattle.definitions.specs.CallerNames.{namesIn, allWellFormed}
+use Rattle.definitions.specs.Exercises.{repeated, exerciseNameLimit, connectiveLimit, badNames, exercises, ofSize, exerciseAnswer}
 use Rattle.output.specs.declared.Written.the-variants.{Refused}
 use Rattle.output.specs.Written.{writtenOf, filled, Fills}
 use Rattle.exercises.specs.Names.{countOf}

@@ -11,7 +11,8 @@ use Rattle.definitions.specs.declared.Found.{Found}
 use Rattle.definitions.specs.declared.Found.the-variants.{Nowhere, At}
 use Rattle.definitions.specs.Name.{Name, eqName}
 use Rattle.definitions.specs.Text.{occurs}
-use Rattle.definitions.specs.Exercises.{pieces, namesIn, wellFormed, allWellFormed, repeated, exerciseNameLimit, badNames}
+use Rattle.definitions.specs.CallerNames.{pieces, namesIn, wellFormed, allWellFormed}
+use Rattle.definitions.specs.Exercises.{repeated, exerciseNameLimit, badNames}
 use Rattle.exercises.specs.Names.{piece, Bounds, after, NameEnd, Two, countOf}
 use Rattle.exercises.proofs.Pieces.{after-last, after-more, names-pieces, no-names, some-piece}
 

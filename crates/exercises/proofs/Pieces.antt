@@ -11,7 +11,7 @@ use lib.Dec.{eqb}
 use borrow.Author.Tests.{eq-eqb, ne-eqb, lt-ltb, le-ltb, le-leb, lt-leb}
 use Rattle.definitions.specs.Name.{Name, isName}
 use Rattle.definitions.specs.Sheet.{nameLengthLimit}
-use Rattle.definitions.specs.Exercises.{newline, inFront, pieces, namesIn, wellFormed}
+use Rattle.definitions.specs.CallerNames.{newline, inFront, pieces, namesIn, wellFormed}
 use Rattle.exercises.specs.Names.{piece, Bounds, after, NameEnd}
 
 -- bytes in front of the first of some pieces

@@ -8,7 +8,8 @@ use lib.Dec.{ltb}
 use Rattle.definitions.specs.declared.Found.{Found}
 use Rattle.definitions.specs.declared.Found.the-variants.{Nowhere, At}
 use Rattle.definitions.specs.Name.{Name, eqName}
-use Rattle.definitions.specs.Exercises.{pieces, namesIn, wellFormed, badNames}
+use Rattle.definitions.specs.CallerNames.{pieces, namesIn, wellFormed}
+use Rattle.definitions.specs.Exercises.{badNames}
 
 -- the bytes from `start` up to `end`
 abbrev pub piece : List ℕ → ℕ → ℕ → Name

@@ -6,7 +6,7 @@ ghost use mathlib.Core.Path.{_≡_};
 ghost use Prim.Native.Nat.{_≤_};
 ghost use lib.ListN.{length};
 ghost use Rattle.definitions.specs.Name.{eqName};
-ghost use Rattle.definitions.specs.Exercises.{namesIn, wellFormed};
+ghost use Rattle.definitions.specs.CallerNames.{namesIn, wellFormed};
 ghost use Rattle.exercises.specs.Names.{piece, NameEnd, Bounds, Two, countOf};
 
 // The byte between two names.

@@ -1,0 +1,13 @@
+pub mod EachLabel
+pub mod WordsRead
+pub mod PropTexts
+pub mod TermTexts
+pub mod TermConventions
+pub mod OneTerm
+pub mod TermAnswer
+pub mod ExportLimits
+pub mod FewNames
+pub mod SheetLimits
+pub mod Restored
+pub mod LabelCode
+pub mod ReadTexts
