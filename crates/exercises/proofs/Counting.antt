@@ -13,8 +13,9 @@ use Rattle.definitions.specs.Name.{Name, eqName}
 use Rattle.definitions.specs.Text.{occurs}
 use Rattle.definitions.specs.CallerNames.{pieces, namesIn, wellFormed, allWellFormed}
 use Rattle.definitions.specs.Exercises.{repeated, exerciseNameLimit, badNames}
-use Rattle.exercises.specs.Names.{piece, Bounds, after, NameEnd, Two, countOf}
-use Rattle.exercises.proofs.Pieces.{after-last, after-more, names-pieces, no-names, some-piece}
+use Rattle.caller_names.specs.Pieces.{piece, Bounds, after, NameEnd}
+use Rattle.caller_names.proofs.Pieces.{after-last, after-more, names-pieces, no-names, some-piece}
+use Rattle.exercises.specs.Names.{Two, countOf}
 
 -- what a call answered, as the test after it tells
 pub fails : {r t : Bool} → r ≡ t → not r ≡ true → t ≡ false

@@ -1,6 +1,5 @@
 pub mod Counted
 pub mod Leaf
 pub mod Unranked
-pub mod Pieces
 pub mod Counting
 pub mod Answering

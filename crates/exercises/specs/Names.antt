@@ -1,32 +1,15 @@
--- A caller's names as pieces of a text.
-use Prim.Native.Nat.{ℕ, _+_, _-_, _≤_, _<_}
+-- How many of a caller's names there are.
+use Prim.Native.Nat.{ℕ, _+_, _<_}
 use mathlib.Core.Path.{_≡_}
 use mathlib.Core.Bool.{true, false, cond}
-use mathlib.Core.List.{List, [], _∷_}
-use lib.ListN.{length, take, drop}
-use lib.Dec.{ltb}
+use mathlib.Core.List.{List, _∷_}
+use lib.ListN.{length, drop}
 use Rattle.definitions.specs.declared.Found.{Found}
 use Rattle.definitions.specs.declared.Found.the-variants.{Nowhere, At}
 use Rattle.definitions.specs.Name.{Name, eqName}
 use Rattle.definitions.specs.CallerNames.{pieces, namesIn, wellFormed}
 use Rattle.definitions.specs.Exercises.{badNames}
-
--- the bytes from `start` up to `end`
-abbrev pub piece : List ℕ → ℕ → ℕ → Name
-piece text start end = take (end - start) (drop start text)
-
-pub record Bounds (text : List ℕ) (start end : ℕ) : Type 0 where
-  pub forward : start ≤ end
-  pub inside : end ≤ length text
-
--- the pieces after a name that ends at `end`: none, if that is the end of the text
-unfoldable pub after : List ℕ → ℕ → List Name
-after text end = cond (ltb end (length text)) (pieces (drop (end + 1) text)) []
-
--- the name that begins at `start` ends at `end`
-pub record NameEnd (text : List ℕ) (start end : ℕ) : Type 0 where
-  pub bounds : Bounds text start end
-  pub is : pieces (drop start text) ≡ piece text start end ∷ after text end
+use Rattle.caller_names.specs.Pieces.{piece, Bounds}
 
 -- the first two are names, they differ, and another follows
 pub record Two (text : List ℕ) (first second : ℕ) : Type 0 where

@@ -1,44 +1,19 @@
 // A caller's names: pieces of some bytes, divided by newlines.
+use caller_names::name_end;
 use definitions::Found;
-use identifier::is_name;
 use identifier::same_name;
 ghost use mathlib.Core.Path.{_≡_};
-ghost use Prim.Native.Nat.{_≤_};
-ghost use lib.ListN.{length};
 ghost use Rattle.definitions.specs.Name.{eqName};
 ghost use Rattle.definitions.specs.CallerNames.{namesIn, wellFormed};
-ghost use Rattle.exercises.specs.Names.{piece, NameEnd, Bounds, Two, countOf};
-
-// The byte between two names.
-const NEWLINE: u8 = 10;
-
-// A name has at most so many bytes.
-const NAME_LENGTH_LIMIT: usize = 32;
-
-// Where the name that begins at `start` ends: at the next newline, or with the text.
-fn name_end(text: &[u8], start: usize) -> usize
-    requires { ⌜ start ≤ length (now text) ⌝ }
-    ensures { λ r. ⌜ NameEnd (now (text .entry)) start r ⌝ }
-{
-    let mut i = start;
-    while i < text.len() {
-        if text[i] == NEWLINE {
-            return i;
-        }
-        i += 1;
-    }
-    i
-}
+ghost use Rattle.caller_names.specs.Pieces.{piece, Bounds};
+ghost use Rattle.exercises.specs.Names.{Two, countOf};
 
 // Whether a piece of the text is a name.
 fn well_formed(text: &[u8], start: usize, end: usize) -> bool
     requires { ⌜ Bounds (now text) start end ⌝ }
     ensures { λ r. ⌜ r ≡ wellFormed (piece (now (text .entry)) start end) ⌝ }
 {
-    if NAME_LENGTH_LIMIT < end - start {
-        return false;
-    }
-    is_name(&text[start..end])
+    caller_names::well_formed(&text[start..end])
 }
 
 // Whether two pieces of the text have the same bytes.

@@ -31,6 +31,10 @@ mayFollow-number digit = refl
 mayFollow-number underscore = refl
 mayFollow-number other = refl
 
+-- a byte is one that some name has, by the number of its class
+pub follows-class : (b : ℕ) {class : ℕ} → class ≡ classNumber (byteClass b) → mayFollow (byteClass b) ≡ not (eqb class 0)
+follows-class b e = rw (e, mayFollow-number)
+
 -- no bytes are no name
 pub isName-empty : (name : List ℕ) → length name ≡ 0 → isName name ≡ false
 unfolding isName

@@ -3,8 +3,8 @@ mod classes;
 
 pub use classes::CLASSES;
 use classes::LETTER;
-use classes::OTHER;
-use classes::class;
+pub use classes::OTHER;
+pub use classes::class;
 use definitions::Found;
 use definitions::Order;
 use number::marked_bytes;

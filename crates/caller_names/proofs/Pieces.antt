@@ -6,13 +6,13 @@ use mathlib.Core.List.{List, [], _∷_, _++_, append-assoc, append-nil}
 use native.Mathlib.Omega.{arith}
 use native.Mathlib.Numerals.{add-one}
 use lib.ListN.{length, take, drop, getD, length-drop, drop-of-length-le}
-use lib.Seq.{take-suc, drop-cons, getD-drop, length-take-le}
+use lib.Seq.{take-suc, drop-cons, getD-drop}
 use lib.Dec.{eqb}
-use borrow.Author.Tests.{eq-eqb, ne-eqb, lt-ltb, le-ltb, le-leb, lt-leb}
-use Rattle.definitions.specs.Name.{Name, isName}
-use Rattle.definitions.specs.Sheet.{nameLengthLimit}
-use Rattle.definitions.specs.CallerNames.{newline, inFront, pieces, namesIn, wellFormed}
-use Rattle.exercises.specs.Names.{piece, Bounds, after, NameEnd}
+use borrow.Author.Tests.{eq-eqb, ne-eqb, lt-ltb, le-ltb}
+use Rattle.definitions.specs.Name.{Name, eqName}
+use Rattle.definitions.specs.Text.{occurs}
+use Rattle.definitions.specs.CallerNames.{newline, inFront, pieces, namesIn}
+use Rattle.caller_names.specs.Pieces.{piece, Bounds, after, NameEnd}
 
 -- bytes in front of the first of some pieces
 unfoldable pub allInFront : Name → List Name → List Name
@@ -102,14 +102,20 @@ some-piece (b ∷ s) = by-byte (eqb b newline) (pieces s)
     by-byte false [] = omega arith
     by-byte false (a ∷ ps) = omega arith
 
-pub piece-length : {text : List ℕ} {start end : ℕ} → Bounds text start end → length (piece text start end) ≡ end - start
-piece-length {text} {start} {end} b = length-take-le (end - start) (drop start text) (omega (arith, length-drop start text, b .inside))
+-- Of bytes that end at a place:
+module _ {list : List ℕ} {at r : ℕ} (end : NameEnd list at r) (x : Name) where
+  -- the first piece is the name
+  pub occurs-here : eqName x (piece list at r) ≡ true → occurs eqName x (pieces (drop at list)) ≡ true
+  unfolding occurs
+  occurs-here e = rw (end .is, e)
 
--- a piece of more than 32 bytes is no name; of any other, its bytes decide
-pub too-long : {text : List ℕ} {start end : ℕ} → Bounds text start end → 32 < end - start → wellFormed (piece text start end) ≡ false
-unfolding wellFormed nameLengthLimit
-too-long {text} {start} {end} b h = rw (piece-length b, lt-leb (end - start) 32 h)
+  -- it is not, and there is no other
+  pub occurs-nowhere : eqName x (piece list at r) ≡ false → r ≡ length list → occurs eqName x (pieces (drop at list)) ≡ false
+  unfolding occurs
+  occurs-nowhere e h = rw (end .is, e, after-last list r (omega arith))
 
-pub short-enough : {text : List ℕ} {start end : ℕ} → Bounds text start end → end - start ≤ 32 → wellFormed (piece text start end) ≡ isName (piece text start end)
-unfolding wellFormed nameLengthLimit
-short-enough {text} {start} {end} b h = rw (piece-length b, le-leb (end - start) 32 h)
+  -- it is not, and there are others
+  pub occurs-later : eqName x (piece list at r) ≡ false → (r ≡ length list → ⊥)
+      → occurs eqName x (pieces (drop at list)) ≡ occurs eqName x (pieces (drop (r + 1) list))
+  unfolding occurs
+  occurs-later e h = rw (end .is, e, after-more list r (omega (arith, end .bounds .inside)))

@@ -3,9 +3,9 @@ use Prim.Native.Nat.{_-_}
 use lib.ListN.{length}
 use native.Mathlib.Omega.{arith}
 use native.Mathlib.Numerals.{add-one}
-use Rattle.exercises.proofs.Pieces.{Passed, at-start, onward, last, more}
-use Rattle.exercises.proofs.names.name_end.Statement.{statement}
-use Rattle.exercises.proofs.names.name_end.Tie as tie
+use Rattle.caller_names.proofs.Pieces.{Passed, at-start, onward, last, more}
+use Rattle.caller_names.proofs.name_end.Statement.{statement}
+use Rattle.caller_names.proofs.name_end.Tie as tie
 
 abbrev Inv-loop : tie.InvT-loop
 Inv-loop text start i₀ i = Passed text start i
