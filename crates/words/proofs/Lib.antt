@@ -1,0 +1,5 @@
+pub mod Runs
+pub mod Lists
+pub mod Words
+pub mod Numbers
+pub mod Added

@@ -1,0 +1,226 @@
+// What stands in front in the text of a term: words, names, expected bytes. Each reader gives the place after what it read, or a
+// place past the end of the text where that does not stand there.
+use caller_names::is_listed;
+use caller_names::well_formed;
+use identifier::CLASSES;
+use identifier::OTHER;
+use identifier::class;
+use identifier::same_name;
+use number::PAIR_SIZE;
+use number::marked_bytes;
+ghost use mathlib.Core.Path.{_≡_};
+ghost use Prim.Native.Nat.{_≤_};
+ghost use lib.ListN.{length, drop};
+ghost use Rattle.definitions.specs.TermText.{isAdmitted, allAdmitted};
+ghost use Rattle.definitions.specs.CallerNames.{namesIn};
+ghost use Rattle.definitions.specs.TermReader.{startOf, argumentFollows};
+ghost use Rattle.words.specs.Places.{between, WordEnds, NameEnds, Expected};
+ghost use Rattle.words.specs.Starts.{asStart};
+ghost use Rattle.words.specs.Table.{Table, NamePlace, FoundName, NumberOf};
+
+// Where the name bytes from `at` on end.
+pub fn word_end(text: &[u8], at: usize) -> usize
+    requires { ⌜ at ≤ length (now text) ⌝ }
+    ensures { λ r. ⌜ WordEnds (now (text .entry)) at r ⌝ }
+{
+    let classes = CLASSES;
+    let mut i = at;
+    while i < text.len() {
+        if class(&classes, text[i]) == OTHER {
+            return i;
+        }
+        i += 1;
+    }
+    i
+}
+
+// Whether these bytes are a name of a term: one of document 01's that is no keyword.
+pub fn is_admitted(name: &[u8]) -> bool
+    ensures { λ r. ⌜ r ≡ isAdmitted (now (name .entry)) ⌝ }
+{
+    if !well_formed(name) {
+        return false;
+    }
+    !is_listed(
+        b"fn\ncase\nof\ninl\ninr\nlet\nin\nfst\nsnd\nabort\nsorry",
+        name,
+    )
+}
+
+// Whether each name of a list is admitted.
+pub fn all_admitted(list: &[u8]) -> bool
+    ensures { λ r. ⌜ r ≡ allAdmitted (namesIn (now (list .entry))) ⌝ }
+{
+    if list.len() == 0 {
+        return true;
+    }
+    let mut at = 0;
+    loop {
+        let end = caller_names::name_end(list, at);
+        if !is_admitted(&list[at..end]) {
+            return false;
+        }
+        if end == list.len() {
+            return true;
+        }
+        at = end + 1;
+    }
+}
+
+// Where the name at `at` ends.
+pub fn name_end(text: &[u8], at: usize) -> usize
+    requires { ⌜ at ≤ length (now text) ⌝ }
+    ensures { λ r. ⌜ NameEnds (now (text .entry)) at r ⌝ }
+{
+    let end = word_end(text, at);
+    if is_admitted(&text[at..end]) {
+        return end;
+    }
+    text.len() + 1
+}
+
+// Where the expected bytes end.
+pub fn expect(text: &[u8], at: usize, what: &[u8]) -> usize
+    requires { ⌜ at ≤ length (now text) ⌝ }
+    ensures { λ r. ⌜ Expected (now (what .entry)) (now (text .entry)) at r ⌝ }
+{
+    if text.len() - at < what.len() {
+        return text.len() + 1;
+    }
+    let mut i = 0;
+    while i < what.len() {
+        if text[at + i] != what[i] {
+            return text.len() + 1;
+        }
+        i += 1;
+    }
+    at + i
+}
+
+// How a term begins, by its first word.
+pub enum Start {
+    Function,
+    Case,
+    Let,
+    Fst,
+    Snd,
+    Inl,
+    Inr,
+    Abort,
+    Sorry,
+    Other,
+}
+
+// The start of a term whose first word these bytes are.
+pub fn start_of(word: &[u8]) -> Start
+    ensures { λ r. ⌜ r ≡ asStart (startOf (now (word .entry))) ⌝ }
+{
+    if same_name(word, b"fn") {
+        return Start::Function;
+    }
+    if same_name(word, b"case") {
+        return Start::Case;
+    }
+    if same_name(word, b"let") {
+        return Start::Let;
+    }
+    if same_name(word, b"fst") {
+        return Start::Fst;
+    }
+    if same_name(word, b"snd") {
+        return Start::Snd;
+    }
+    if same_name(word, b"inl") {
+        return Start::Inl;
+    }
+    if same_name(word, b"inr") {
+        return Start::Inr;
+    }
+    if same_name(word, b"abort") {
+        return Start::Abort;
+    }
+    if same_name(word, b"sorry") {
+        return Start::Sorry;
+    }
+    Start::Other
+}
+
+// Whether an argument follows at `at`: a blank, and then a name, `sorry` or a bracket.
+pub fn argument_follows(text: &[u8], at: usize) -> bool
+    requires { ⌜ at ≤ length (now text) ⌝ }
+    ensures { λ r. ⌜ r ≡ argumentFollows (drop at (now (text .entry))) ⌝ }
+{
+    let start = expect(text, at, b" ");
+    if text.len() < start {
+        return false;
+    }
+    let end = word_end(text, start);
+    let word = &text[start..end];
+    if is_admitted(word) {
+        return true;
+    }
+    if same_name(word, b"sorry") {
+        return true;
+    }
+    let after = expect(text, start, b"(");
+    if text.len() < after {
+        return false;
+    }
+    true
+}
+
+// At most so many different names.
+pub const NAME_LIMIT: usize = 512;
+
+// The number of a name, NAME_LIMIT where there are too many, and how many names there are now.
+pub struct Numbered {
+    pub number: usize,
+    pub count: usize,
+}
+
+// The number of the first of the names that has these bytes, and the count where none has.
+fn find_name(text: &[u8], at: usize, end: usize, names: &[u8], count: usize) -> usize
+    requires { ⌜ Table (now names) (now text) count × (at ≤ end) × (end ≤ length (now text)) ⌝ }
+    ensures { λ r. ⌜ FoundName (between at end (now (text .entry)))
+        (now (text .entry)) (now (names .entry)) count r ⌝ }
+{
+    let mut i = 0;
+    while i < count {
+        if same_name(&text[at..end], marked_bytes(names, text, i)) {
+            return i;
+        }
+        i += 1;
+    }
+    count
+}
+
+// The number of a name: of the pair that marks the same bytes, or else of a new pair.
+pub fn number_of_name(
+    text: &[u8],
+    at: usize,
+    end: usize,
+    names: &mut [u8],
+    count: usize,
+) -> Numbered
+    requires { ⌜ Table (now names) (now text) count × NamePlace (now text) at end ⌝ }
+    ensures { λ r. ⌜ NumberOf (between at end (now (text .entry)))
+        (now (text .entry)) (now (names .entry)) count (now (names .exit)) r ⌝ }
+{
+    let number = find_name(text, at, end, names, count);
+    if number < count {
+        return Numbered { number, count };
+    }
+    if count == NAME_LIMIT {
+        return Numbered { number, count };
+    }
+    let pair = PAIR_SIZE * count;
+    let length = end - at;
+    names[pair] = (at % 256) as u8;
+    names[pair + 1] = (at / 256) as u8;
+    names[pair + 2] = (length % 256) as u8;
+    names[pair + 3] = (length / 256) as u8;
+    Numbered {
+        number,
+        count: count + 1,
+    }
+}
