@@ -16,10 +16,22 @@ ghost use Rattle.prefix_code.specs.Shape.{SomeProposition, ShapeOf};
 // An atom has at most so many parameters.
 pub const PARAMETER_LIMIT: u8 = 8;
 
-// The byte in front of an implication, and that of a ∀.
+// The bytes in front.
+pub const TRUE: u8 = 0;
+
+pub const FALSE: u8 = 1;
+
+pub const AND: u8 = 2;
+
+pub const OR: u8 = 3;
+
 pub const IMPL: u8 = 4;
 
+pub const ATOM: u8 = 5;
+
 pub const FOR_ALL: u8 = 6;
+
+pub const EXISTS: u8 = 7;
 
 // How many propositions follow each head byte.
 const PARTS: [u8; 8] = [0, 0, 2, 2, 2, 0, 1, 1];
