@@ -11,3 +11,11 @@ pub mod SheetLimits
 pub mod Restored
 pub mod LabelCode
 pub mod ReadTexts
+pub mod MachineReads
+pub mod MachineSound
+pub mod Turns
+pub mod Descent
+pub mod MachineAnswer
+pub mod MarksMet
+pub mod Entries
+pub mod OnTheWay

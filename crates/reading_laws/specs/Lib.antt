@@ -1,2 +1,4 @@
 pub mod Coded
 pub mod Restoring
+pub mod TermMachine
+pub mod Marks
