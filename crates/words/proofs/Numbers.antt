@@ -2,12 +2,14 @@
 use Prim.Native.Nat.{ℕ, zero, suc, _+_, _*_, _/_, _%_, _-_, _≤_, _<_}
 use mathlib.Core.Path.{_≡_, refl, sym, ap, _∙_}
 use mathlib.Core.Logic.{⊎-elim}
-use mathlib.Core.Bool.{true, false, _||_, or-true}
+use mathlib.Core.Bool.{Bool, true, false, _||_, or-true, true≢false}
 use mathlib.Core.List.{List, [], _∷_}
 use native.Mathlib.Nat.{eq-or-lt-of-le, le-of-suc-le-suc}
 use native.Mathlib.Omega.{arith}
 use native.Mathlib.Numerals.{add-one}
+use lib.Dec.{ltb}
 use borrow.Author.Count.{below-more}
+use borrow.Author.Tests.{lt-ltb, le-ltb}
 use lib.ListN.{length, getD, set, take, drop, length-set}
 use lib.Seq.{getD-take, getD-set-same, getD-set-other, take-set-le}
 use Rattle.definitions.specs.Name.{Name, eqName}
@@ -15,7 +17,11 @@ use Rattle.definitions.specs.Sheet.{nameLimit, pairSize, numberAt, pairOffset, 
 use Rattle.definitions.specs.Text.{occurs}
 use Rattle.definitions.proofs.Names.{eqName-of-eq, eqName-true}
 use Rattle.words.specs.Places.{between}
-use Rattle.words.specs.Table.{addName, added, numberIn, tableNames, Table, NamePlace, Noted, FoundName, NumberOf}
+use Rattle.words.specs.Table.{addName, added, numberIn, tableNames, Table, NamePlace, Noted, firstNumber, FoundName, NumberOf, PairFits, withPair}
+
+neither : (a b : Bool) → a || b ≡ false → (a ≡ false) × (b ≡ false)
+neither true b e = absurd (true≢false e)
+neither false b e = (refl, e)
 
 module _ (pairs text : List ℕ) where
   pub names-length : (n : ℕ) → length (tableNames pairs text n) ≡ n
@@ -159,10 +165,8 @@ module _ (l : List ℕ) (p a b c d : ℕ) where
         let next : p + 2 + 1 ≡ p + 3 = omega arith in
         rw (next, byte-2, byte-3)
 
--- a new pair
-module _ {pairs text : List ℕ} {count at end i : ℕ} (table : Table pairs text count)
-    (found : FoundName (between at end text) text pairs count i) (h : i < count → ⊥) (e : count ≡ nameLimit → ⊥)
-    (place : NamePlace text at end) where
+-- A pair that is added.
+module _ {pairs text : List ℕ} {count at end : ℕ} (table : Table pairs text count) (e : count ≡ nameLimit → ⊥) (place : NamePlace text at end) where
   abbrev after : List ℕ
   after = four pairs (4 * count) (at % 256) (at / 256) ((end - at) % 256) ((end - at) / 256)
 
@@ -193,25 +197,72 @@ module _ {pairs text : List ℕ} {count at end i : ℕ} (table : Table pairs tex
   ends-after : (j : ℕ) → j < count + 1 → pairEnd after j ≤ length text
   ends-after = below-more (λ j. pairEnd after j ≤ length text) count (λ j l. rw (end-kept pairs after text count pairs-kept j l) (table .ends j l)) new-end
 
-  pub one-more : NumberOf (between at end text) text pairs count after (record { number = i; count = count + 1 })
-  unfolding addName added numberIn tableNames
-  one-more =
+  is-after : withPair pairs count at end ≡ after
+  unfolding withPair pairSize
+  is-after = refl
+
+  pub pair-fits : PairFits pairs count at end
+  unfolding pairSize nameLimit
+  pair-fits = record { room = omega (arith, table .room, table .few, e); some = place .some; few = place .few; near = omega (arith, place .within, place .short) }
+
+  -- the table has it in front
+  pub paired : Table (withPair pairs count at end) text (count + 1)
+  paired =
+      rw is-after (record {
+        room = four-length pairs (4 * count) _ _ _ _ ∙ table .room;
+        few = omega (arith, table .few, e);
+        ends = ends-after;
+      })
+
+  pub paired-names : tableNames (withPair pairs count at end) text (count + 1) ≡ between at end text ∷ tableNames pairs text count
+  unfolding tableNames
+  paired-names = rw (is-after, add-one count, new-marked, names-kept pairs after text count pairs-kept count (omega arith))
+
+  pub paired-kept : take (pairSize * count) (withPair pairs count at end) ≡ take (pairSize * count) pairs
+  paired-kept = rw is-after pairs-kept
+
+  pub one-more : {i : ℕ} → FoundName (between at end text) text pairs count i → (i < count → ⊥)
+      → NumberOf (between at end text) text pairs count (withPair pairs count at end) (record { number = i; count = count + 1 })
+  unfolding addName added numberIn
+  one-more {i} found h =
       let all : i ≡ count = omega (arith, found .within) in
       let new = found .new all in
       let size = names-length pairs text count in
       record {
         full = λ l. absurd (omega (arith, table .few, e, all));
-        noted = λ l. record {
-          table = record {
-            room = four-length pairs (4 * count) _ _ _ _ ∙ table .room;
-            few = omega (arith, table .few, e);
-            ends = ends-after;
-          };
-          names = rw (add-one count, new, new-marked, names-kept pairs after text count pairs-kept count (omega arith));
-          kept = pairs-kept;
-          more = omega arith;
-        };
+        noted = λ l. record { table = paired; names = rw new paired-names; kept = paired-kept; more = omega arith };
         number-is = λ l. rw (new, new) (all ∙ sym size);
         below = λ l. omega arith;
-        marks = λ l. rw all new-marked;
+        marks = λ l. rw (all, is-after) new-marked;
       }
+
+-- What the search gives is the first number, and whether it is a name's says whether the name is there.
+module _ (pairs text : List ℕ) (x : Name) where
+  first-here : (i n : ℕ) → i < n → marked pairs text i ≡ x → occurs eqName x (tableNames pairs text i) ≡ false → firstNumber pairs text n x ≡ i
+  unfolding firstNumber
+  first-here i zero h here first = absurd (omega arith)
+  first-here i (suc n) h here first =
+      ⊎-elim
+      (λ same. rw (← same, first, eqName-of-eq (sym here)))
+      (λ l. rw (among pairs text x i here first n l .0) (first-here i n l here first))
+      (eq-or-lt-of-le (le-of-suc-le-suc h))
+
+  first-none : (n : ℕ) → occurs eqName x (tableNames pairs text n) ≡ false → firstNumber pairs text n x ≡ n
+  unfolding firstNumber tableNames occurs
+  first-none zero e = refl
+  first-none (suc n) e = let p = neither (eqName x (marked pairs text n)) _ e in rw (p .1, p .0)
+
+  module _ {count r : ℕ} (found : FoundName x text pairs count r) where
+    pub found-first : r ≡ firstNumber pairs text count x
+    found-first =
+        ⊎-elim
+        (λ all. all ∙ sym (first-none count (found .new all)))
+        (λ l. sym (first-here r count l (found .marks l) (found .first l)))
+        (eq-or-lt-of-le (found .within))
+
+    pub found-occurs : ltb r count ≡ occurs eqName x (tableNames pairs text count)
+    found-occurs =
+        ⊎-elim
+        (λ all. le-ltb r count (omega arith) ∙ sym (found .new all))
+        (λ l. lt-ltb r count l ∙ sym (among pairs text x r (found .marks l) (found .first l) count l .0))
+        (eq-or-lt-of-le (found .within))

@@ -1,9 +1,9 @@
 -- The names met in a text: a list with the latest in front, and pairs of offset and length in lent memory.
-use Prim.Native.Nat.{ℕ, zero, suc, _+_, _*_, _<_, _≤_}
+use Prim.Native.Nat.{ℕ, zero, suc, _+_, _-_, _*_, _/_, _%_, _<_, _≤_}
 use mathlib.Core.Path.{_≡_}
 use mathlib.Core.Bool.{false, cond}
 use mathlib.Core.List.{List, [], _∷_}
-use lib.ListN.{length, take}
+use lib.ListN.{length, take, set}
 use Rattle.definitions.specs.Name.{Name, eqName}
 use Rattle.definitions.specs.Sheet.{nameLimit, nameLengthLimit, pairSize, pairEnd, marked}
 use Rattle.definitions.specs.Text.{occurs}
@@ -37,6 +37,19 @@ pub record NamePlace (text : List ℕ) (at end : ℕ) : Type 0 where
   pub few : end ≤ at + nameLengthLimit
   pub within : end ≤ length text
 
+-- there is room for a pair of that number, and its numbers fit
+pub record PairFits (pairs : List ℕ) (count at end : ℕ) : Type 0 where
+  pub room : pairSize * (count + 1) ≤ length pairs
+  pub some : at < end
+  pub few : end ≤ at + nameLengthLimit
+  pub near : end ≤ termTextLimit
+
+-- the pairs with that of a name as number `count`: offset and length, low byte first
+unfoldable pub withPair : List ℕ → ℕ → ℕ → ℕ → List ℕ
+withPair pairs count at end =
+    let offset = set (set pairs (pairSize * count) (at % 256)) (pairSize * count + 1) (at / 256) in
+    set (set offset (pairSize * count + 2) ((end - at) % 256)) (pairSize * count + 3) ((end - at) / 256)
+
 -- so many names are in the table
 pub record Table (pairs text : List ℕ) (count : ℕ) : Type 0 where
   pub room : length pairs ≡ pairSize * nameLimit
@@ -49,6 +62,13 @@ pub record Noted (xs : List Name) (text pairs : List ℕ) (count : ℕ) (after :
   pub names : tableNames after text next ≡ added (tableNames pairs text count) xs
   pub kept : take (pairSize * count) after ≡ take (pairSize * count) pairs
   pub more : count ≤ next
+
+-- the number of the first pair that marks x, and the count where none does
+unfoldable pub firstNumber : List ℕ → List ℕ → ℕ → Name → ℕ
+firstNumber pairs text zero x = 0
+firstNumber pairs text (suc n) x =
+    let earlier = firstNumber pairs text n x in
+    cond (occurs eqName x (tableNames pairs text n)) earlier (cond (eqName x (marked pairs text n)) n (suc n))
 
 -- the first pair that marks x, or the count where none does
 pub record FoundName (x : Name) (text pairs : List ℕ) (count r : ℕ) : Type 0 where

@@ -16,7 +16,7 @@ ghost use Rattle.definitions.specs.CallerNames.{namesIn};
 ghost use Rattle.definitions.specs.TermReader.{startOf, argumentFollows};
 ghost use Rattle.words.specs.Places.{between, WordEnds, NameEnds, Expected};
 ghost use Rattle.words.specs.Starts.{asStart};
-ghost use Rattle.words.specs.Table.{Table, NamePlace, FoundName, NumberOf};
+ghost use Rattle.words.specs.Table.{Table, NamePlace, FoundName, NumberOf, PairFits, withPair};
 
 // Where the name bytes from `at` on end.
 pub fn word_end(text: &[u8], at: usize) -> usize
@@ -179,7 +179,7 @@ pub struct Numbered {
 }
 
 // The number of the first of the names that has these bytes, and the count where none has.
-fn find_name(text: &[u8], at: usize, end: usize, names: &[u8], count: usize) -> usize
+pub fn find_name(text: &[u8], at: usize, end: usize, names: &[u8], count: usize) -> usize
     requires { ⌜ Table (now names) (now text) count × (at ≤ end) × (end ≤ length (now text)) ⌝ }
     ensures { λ r. ⌜ FoundName (between at end (now (text .entry)))
         (now (text .entry)) (now (names .entry)) count r ⌝ }
@@ -192,6 +192,19 @@ fn find_name(text: &[u8], at: usize, end: usize, names: &[u8], count: usize) -> 
         i += 1;
     }
     count
+}
+
+// Stores the pair of a name that stands from `at` to `end` as number `count`.
+pub fn put_pair(names: &mut [u8], count: usize, at: usize, end: usize)
+    requires { ⌜ PairFits (now names) count at end ⌝ }
+    ensures { λ r. ⌜ now (names .exit) ≡ withPair (now (names .entry)) count at end ⌝ }
+{
+    let pair = PAIR_SIZE * count;
+    let length = end - at;
+    names[pair] = (at % 256) as u8;
+    names[pair + 1] = (at / 256) as u8;
+    names[pair + 2] = (length % 256) as u8;
+    names[pair + 3] = (length / 256) as u8;
 }
 
 // The number of a name: of the pair that marks the same bytes, or else of a new pair.
@@ -213,12 +226,7 @@ pub fn number_of_name(
     if count == NAME_LIMIT {
         return Numbered { number, count };
     }
-    let pair = PAIR_SIZE * count;
-    let length = end - at;
-    names[pair] = (at % 256) as u8;
-    names[pair + 1] = (at / 256) as u8;
-    names[pair + 2] = (length % 256) as u8;
-    names[pair + 3] = (length / 256) as u8;
+    put_pair(names, count, at, end);
     Numbered {
         number,
         count: count + 1,

@@ -7,13 +7,17 @@ use borrow.Author.Needs.{needs}
 use Rattle.definitions.specs.Sheet.{pairSize, nameLimit, nameLengthLimit}
 use Rattle.definitions.specs.TermText.{termTextLimit}
 use Rattle.words.specs.Table.{Table, NamePlace}
-use Rattle.words.proofs.Numbers.{found-again, none-more, one-more}
+use Rattle.words.proofs.Numbers.{found-again, none-more, pair-fits, one-more}
 use Rattle.words.proofs.number_of_name.Statement.{statement}
 use Rattle.words.proofs.number_of_name.Tie as tie
 
 -- back from where a pair is added to the start
 abbrev start : tie.Else2 → tie.Start
 start c = c .before .before .before .before .before .before
+
+-- and back over the pair that is added
+abbrev tested : tie.After-slice-known2 → tie.Else2
+tested c = c .before .before .before .before
 
 find-name-requires : tie.Need-find-name-requires
 find-name-requires c κs = (c .before .before .before .pre .0, omega (arith, c .before .before .before .pre .1), c .before .before .before .pre .1 .within)
@@ -31,66 +35,23 @@ returns-2 : tie.Need-returns-2
 unfolding nameLimit
 returns-2 c = none-more (c .before .before .before .before .before .before .pre .0) (c .before .before .find-name .ensures) (omega arith) (c .if2 .taken)
 
-mul-pair : tie.Need-mul-pair
-unfolding pairSize nameLimit nameLengthLimit termTextLimit
-mul-pair c = omega (arith, start c .pre .0 .few, start c .pre .0 .room, start c .pre .1)
+put-pair-requires : tie.Need-put-pair-requires
+unfolding nameLimit
+put-pair-requires c κs = pair-fits (start (c .before) .pre .0) (c .before .if2 .left) (start (c .before) .pre .1)
 
-sub-length : tie.Need-sub-length
-unfolding pairSize nameLimit nameLengthLimit termTextLimit
-sub-length c = omega (arith, start c .pre .0 .few, start c .pre .0 .room, start c .pre .1)
-
-cast-names : tie.Need-cast-names
-cast-names c = search needs
-
-slice-write-names : tie.Need-slice-write-names
-unfolding pairSize nameLimit nameLengthLimit termTextLimit
-slice-write-names c = omega (arith, start c .pre .0 .few, start c .pre .0 .room, start c .pre .1)
-
-cast-names-2 : tie.Need-cast-names-2
-unfolding pairSize nameLimit nameLengthLimit termTextLimit
-cast-names-2 c = omega (arith, start c .pre .0 .few, start c .pre .0 .room, start c .pre .1)
-
-add-names : tie.Need-add-names
-unfolding pairSize nameLimit nameLengthLimit termTextLimit
-add-names c = omega (arith, start c .pre .0 .few, start c .pre .0 .room, start c .pre .1)
-
-slice-write-names-2 : tie.Need-slice-write-names-2
-unfolding pairSize nameLimit nameLengthLimit termTextLimit
-slice-write-names-2 c = simp length-set (omega (arith, start c .pre .0 .few, start c .pre .0 .room, start c .pre .1))
-
-cast-names-3 : tie.Need-cast-names-3
-cast-names-3 c = search needs
-
-add-names-2 : tie.Need-add-names-2
-unfolding pairSize nameLimit nameLengthLimit termTextLimit
-add-names-2 c = omega (arith, start c .pre .0 .few, start c .pre .0 .room, start c .pre .1)
-
-slice-write-names-3 : tie.Need-slice-write-names-3
-unfolding pairSize nameLimit nameLengthLimit termTextLimit
-slice-write-names-3 c = simp length-set (omega (arith, start c .pre .0 .few, start c .pre .0 .room, start c .pre .1))
-
-cast-names-4 : tie.Need-cast-names-4
-unfolding pairSize nameLimit nameLengthLimit termTextLimit
-cast-names-4 c = omega (arith, start c .pre .0 .few, start c .pre .0 .room, start c .pre .1)
-
-add-names-3 : tie.Need-add-names-3
-unfolding pairSize nameLimit nameLengthLimit termTextLimit
-add-names-3 c = omega (arith, start c .pre .0 .few, start c .pre .0 .room, start c .pre .1)
-
-slice-write-names-4 : tie.Need-slice-write-names-4
-unfolding pairSize nameLimit nameLengthLimit termTextLimit
-slice-write-names-4 c = simp length-set (omega (arith, start c .pre .0 .few, start c .pre .0 .room, start c .pre .1))
-
-add-t12 : tie.Need-add-t12
-unfolding pairSize nameLimit nameLengthLimit termTextLimit
-add-t12 c = omega (arith, start c .pre .0 .few, start c .pre .0 .room, start c .pre .1)
+add-t13 : tie.Need-add-t13
+unfolding nameLimit
+add-t13 c = let place = tested c in omega (arith, start place .pre .0 .few, place .if2 .left)
 
 same-length-3 : tie.Need-same-length-3
 same-length-3 c = search needs
 
 returns-3 : tie.Need-returns-3
 unfolding nameLimit
-returns-3 c = one-more (start c .pre .0) (c .before .before .find-name .ensures) (omega arith) (c .if2 .left) (start c .pre .1)
+returns-3 c =
+    let place = tested c in
+    rw (c .before .before .put-pair .ensures)
+    (one-more (start place .pre .0) (place .if2 .left) (start place .pre .1) (place .before .before .find-name .ensures) (omega arith))
 
 pub number-of-name-spec : {M : Type 1} → statement M
 number-of-name-spec =
@@ -101,19 +62,7 @@ number-of-name-spec =
     returns
     same-length-2
     returns-2
-    mul-pair
-    sub-length
-    cast-names
-    slice-write-names
-    cast-names-2
-    add-names
-    slice-write-names-2
-    cast-names-3
-    add-names-2
-    slice-write-names-3
-    cast-names-4
-    add-names-3
-    slice-write-names-4
-    add-t12
+    put-pair-requires
+    add-t13
     same-length-3
     returns-3)
