@@ -8,6 +8,7 @@ pub mod generate;
 pub mod index;
 pub mod limits;
 pub mod list;
+pub mod reading;
 pub mod reference;
 pub mod restate;
 pub mod rng;
