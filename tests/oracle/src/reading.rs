@@ -322,8 +322,9 @@ fn labels_fit<'a>(t: &'a ProofTerm, names: &mut HashSet<&'a str>) -> bool {
             names.insert(name);
             true
         }
-        Some(Type::Prop(prop)) => measure(prop, names)
-            .is_some_and(|(nesting, code)| nesting <= PROP_NESTING && code <= CODE),
+        Some(Type::Prop(prop)) => {
+            measure(prop, names).is_some_and(|(nesting, code)| nesting <= PROP_NESTING && code <= CODE)
+        }
     };
     fits && parts.into_iter().all(|part| labels_fit(part, names))
 }
@@ -424,7 +425,9 @@ pub fn restorable(t: &ProofTerm, types: &[String]) -> bool {
 fn plain_prop<'a>(prop: &'a Prop, types: &[String], bound: &mut Vec<&'a str>) -> bool {
     match prop {
         Prop::True | Prop::False => true,
-        Prop::And(l, r) | Prop::Or(l, r) | Prop::Impl(l, r) => plain_prop(l, types, bound) && plain_prop(r, types, bound),
+        Prop::And(l, r) | Prop::Or(l, r) | Prop::Impl(l, r) => {
+            plain_prop(l, types, bound) && plain_prop(r, types, bound)
+        }
         Prop::ForAll { object_ident, object_type_ident, body }
         | Prop::Exists { object_ident, object_type_ident, body } => {
             bound.push(object_ident);

@@ -157,10 +157,7 @@ fn numbered(count: usize) -> Vec<String> {
 fn joined(parts: &[Prop]) -> Prop {
     match parts {
         [one] => one.clone(),
-        _ => Prop::And(
-            Box::new(joined(&parts[..parts.len() / 2])),
-            Box::new(joined(&parts[parts.len() / 2..])),
-        ),
+        _ => Prop::And(Box::new(joined(&parts[..parts.len() / 2])), Box::new(joined(&parts[parts.len() / 2..]))),
     }
 }
 
