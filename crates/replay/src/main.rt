@@ -3,11 +3,13 @@
 use definitions::Located;
 use definitions::Style;
 use libc::STDOUT_FILENO;
+use name_index::FREE;
 use name_index::SLOT_COUNT;
 use number::number_at;
 use restating::Given;
 use skriduhol::Count;
 use skriduhol::Filled;
+use skriduhol::Searched;
 use skriduhol::Verdict;
 ghost use Prim.Native.Nat.{_<_, _≤_};
 ghost use Rattle.io.specs.Counts.{Counts};
@@ -33,6 +35,10 @@ const HANDOUT_DATATYPES: u8 = 9;
 
 const EXERCISE: u8 = 10;
 
+const NAME_INDEX: u8 = 11;
+
+const FIND_NAME: u8 = 12;
+
 const RESTATE: u8 = 13;
 
 // The most bytes or numbers that are lent. Memory is zero before it is lent.
@@ -41,7 +47,7 @@ const ROOM: usize = 65536;
 // The most numbers of an accepted list: its bytes fill the room.
 const NUMBERS: usize = 32768;
 
-// 0 for an accepted answer, its length, its count, or 1 for yes and 0 for no, and 0; or a refusal's number, place and column.
+// 0 for an accepted answer, its length, its count, a name's number, or 1 for yes and 0 for no, and 0; or a refusal's number, place and column.
 struct Result {
     number: usize,
     value: usize,
@@ -164,6 +170,14 @@ fn verdict_result(verdict: Verdict) -> Result {
         Verdict::Yes => accepted(1),
         Verdict::No => accepted(0),
         Verdict::Refused(located) => refused(located),
+    }
+}
+
+fn searched_result(searched: Searched) -> Result {
+    match searched {
+        Searched::At(i) => accepted(i),
+        Searched::Nowhere => accepted(FREE as usize),
+        Searched::Refused(located) => refused(located),
     }
 }
 
@@ -323,6 +337,44 @@ fn exercise_agrees(fd: i32, names: &[u8]) -> bool {
     text_agrees(fd, names, AskedText::Exercise(n, ordinal))
 }
 
+fn same_slots(slots: &[u16; SLOT_COUNT], bytes: &[u8; ROOM]) -> bool {
+    for i in 0..SLOT_COUNT {
+        if wide_number(slots[i]) != number_of(bytes, i) {
+            return false;
+        }
+    }
+    true
+}
+
+fn index_agrees(fd: i32, s: &[u8]) -> bool {
+    let expected = read_result(fd);
+    let bytes = read_bytes(fd, 2 * elements(expected));
+    let mut slots = [0u16; SLOT_COUNT];
+    let answer = filled_result(skriduhol::name_index(s, &mut slots));
+    if !same_result(expected, answer) {
+        return false;
+    }
+    same_slots(&slots, &bytes)
+}
+
+// Fills the memory with a name. It is sought in the sheet's own index, or, where it is refused, in slots that all hold 0.
+fn search_agrees(fd: i32, s: &[u8], name: &mut [u8]) -> bool {
+    io::read_full(fd, name);
+    let expected = read_result(fd);
+    let mut slots = [0u16; SLOT_COUNT];
+    skriduhol::name_index(s, &mut slots);
+    same_result(
+        expected,
+        searched_result(skriduhol::find_name(s, &slots, name)),
+    )
+}
+
+fn name_agrees(fd: i32, s: &[u8]) -> bool {
+    let mut name = io::large_buffer();
+    let length = bytes_within(wide(read_byte(fd)), &name);
+    search_agrees(fd, s, &mut name[..length])
+}
+
 fn read_number(fd: i32) -> u16 {
     read_u16(fd) as u16
 }
@@ -352,6 +404,8 @@ fn agrees(fd: i32, s: &[u8]) -> bool {
         HANDOUT_STRICT => text_agrees(fd, s, AskedText::HandoutStrict(read_u64(fd))),
         HANDOUT_DATATYPES => list_agrees(fd, s, AskedList::HandoutDatatypes(read_u64(fd))),
         EXERCISE => exercise_agrees(fd, s),
+        NAME_INDEX => index_agrees(fd, s),
+        FIND_NAME => name_agrees(fd, s),
         RESTATE => restate_agrees(fd, s),
         _ => board_agrees(fd, s),
     }
