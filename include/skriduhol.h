@@ -42,8 +42,8 @@ extern "C" {
    a name, a proposition or a step, and its reason. Those whose place is a step, 9 to 15, hand back its column too.
 
    Texts and lists use 1 to 16, those of the handout 21 too, the label count 1 to 15, a comparison 1 to 11, 17 and 19, a
-   restatement 1 to 11, 23, 24, 19 or 25, and 16, an exercise 29, 30 and 16. 16 is tried last. It does not say how much room is missing: most answers fit 65,536 elements, but a text can pass 88 million bytes
-   and a list 3 million numbers. */
+   restatement 1 to 11, 23, 24, 19 or 25, and 16, an exercise 29, 30 and 16, an index of names 1 to 11, and a search in one 1 to 3. 16 is tried last. It does not say how much room
+   is missing: most answers fit 65,536 elements, but a text can pass 88 million bytes and a list 3 million numbers. */
 enum skriduhol_refusal {
     /* 0: fewer than 12 bytes came */
     SKRIDUHOL_REFUSED_NO_HEADER = 1,
@@ -106,6 +106,10 @@ enum skriduhol_refusal {
 /* The longest code of an exercise, in bytes: three connectives and four names. */
 #define SKRIDUHOL_LONGEST_EXERCISE 19
 
+/* The slots of an index of names, and what a free one holds; of a name that is not there, the value too. */
+#define SKRIDUHOL_SLOT_COUNT 1024
+#define SKRIDUHOL_FREE 65535
+
 /* The plain text: declarations and then the term, in UTF-8, with no 0 at its end. *value: its length in bytes. */
 uint8_t skriduhol_plain_text(const uint8_t *sheet, size_t sheet_length, uint8_t *out, size_t room, size_t *value,
                              size_t *column);
@@ -158,6 +162,20 @@ uint8_t skriduhol_restate(const uint8_t *sheet, size_t sheet_length, const uint1
    *value: the code's length in bytes, at most SKRIDUHOL_LONGEST_EXERCISE. */
 uint8_t skriduhol_exercise(const uint8_t *names, size_t names_length, size_t n, size_t ordinal, uint8_t *out, size_t room,
                            size_t *value, size_t *column);
+
+/* The index of the sheet's names, by which skriduhol_find_name finds one without comparing all. `slots` has SKRIDUHOL_SLOT_COUNT
+   numbers, of which all that is said of `out` holds: a name's number or SKRIDUHOL_FREE. Names enter from number 0 up, repeats of
+   earlier bytes not at all, each at its start slot or, where that is taken, at the next free one, round the end. The start slot is
+   the remainder by 1,024 of a number, begun at 0, that for each byte becomes 31 times itself plus the byte. *value: 1,024. */
+uint8_t skriduhol_name_index(const uint8_t *sheet, size_t sheet_length, uint16_t *slots, size_t *value, size_t *column);
+
+/* The number of a name by slots beside the sheet. *value: by the sheet's own index the lowest number of these bytes, or
+   SKRIDUHOL_FREE where there is none. Of the sheet no more is tried than refusals 1 to 3, so a search does not look through it. Any
+   slots and any bytes as a name will do: slots that are not the sheet's index answer what they hold, the first number from the
+   start slot on whose bytes are the name's, none at a free slot. `slots` can be read for SKRIDUHOL_SLOT_COUNT numbers, and `name`
+   for `name_length` bytes. */
+uint8_t skriduhol_find_name(const uint8_t *sheet, size_t sheet_length, const uint16_t *slots, const uint8_t *name,
+                            size_t name_length, size_t *value, size_t *column);
 
 /* What the board prints: the plain text of version 1 if 65,536 bytes have room for it, or `refused R at P` and a newline, R the
    number and P the place; for 9 to 15 ` column K` stands before the newline, K the column. `out` has SKRIDUHOL_BOARD_ROOM

@@ -5,7 +5,7 @@
 //! pointer after it returns.
 #![allow(unsafe_code)]
 
-use crate::BOARD_ROOM;
+use crate::{BOARD_ROOM, SLOT_COUNT};
 
 extern "C" {
     fn skriduhol_plain_text(
@@ -98,6 +98,22 @@ extern "C" {
         ordinal: usize,
         out: *mut u8,
         room: usize,
+        value: *mut usize,
+        column: *mut usize,
+    ) -> u8;
+    fn skriduhol_name_index(
+        sheet: *const u8,
+        sheet_length: usize,
+        slots: *mut u16,
+        value: *mut usize,
+        column: *mut usize,
+    ) -> u8;
+    fn skriduhol_find_name(
+        sheet: *const u8,
+        sheet_length: usize,
+        slots: *const u16,
+        name: *const u8,
+        name_length: usize,
         value: *mut usize,
         column: *mut usize,
     ) -> u8;
@@ -266,6 +282,43 @@ pub fn exercise(
             ordinal,
             out.as_mut_ptr(),
             out.len(),
+            value,
+            column,
+        )
+    }
+}
+
+pub fn name_index(
+    sheet: &[u8],
+    slots: &mut [u16; SLOT_COUNT],
+    value: &mut usize,
+    column: &mut usize,
+) -> u8 {
+    unsafe {
+        skriduhol_name_index(
+            sheet.as_ptr(),
+            sheet.len(),
+            slots.as_mut_ptr(),
+            value,
+            column,
+        )
+    }
+}
+
+pub fn find_name(
+    sheet: &[u8],
+    slots: &[u16; SLOT_COUNT],
+    name: &[u8],
+    value: &mut usize,
+    column: &mut usize,
+) -> u8 {
+    unsafe {
+        skriduhol_find_name(
+            sheet.as_ptr(),
+            sheet.len(),
+            slots.as_ptr(),
+            name.as_ptr(),
+            name.len(),
             value,
             column,
         )

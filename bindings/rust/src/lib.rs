@@ -1,5 +1,6 @@
 //! The proved library behind proof boards, for Rust: a sheet's text, its lists, its label count, the comparison of two
-//! conclusions, restated conclusions, and exercises. Every function answers for any bytes. A refusal leaves the lent memory as it was, save that `board_output` then
+//! conclusions, restated conclusions, exercises, and the index of a sheet's names. Every function answers for any bytes. A refusal
+//! leaves the lent memory as it was, save that `board_output` then
 //! writes the refusal's line.
 #![deny(unsafe_code)]
 
@@ -15,6 +16,12 @@ pub const LONGEST_SHEET: usize = 40_972;
 
 /// The longest code of an exercise, in bytes: three connectives and four names.
 pub const LONGEST_EXERCISE: usize = 19;
+
+/// The slots of an index of names.
+pub const SLOT_COUNT: usize = 1024;
+
+/// What a free slot holds.
+pub const FREE: u16 = 65_535;
 
 /// A refusal: its number, its place, and the grid column of the step that 9 to 15 name, for any other 0.
 /// `include/skriduhol.h` lists them.
@@ -129,6 +136,23 @@ pub fn restate(
 /// are numbered as given. `include/skriduhol.h` says their order.
 pub fn exercise(names: &[u8], n: usize, ordinal: usize, out: &mut [u8]) -> Result<usize, Refusal> {
     asked(|value, column| c::exercise(names, n, ordinal, out, value, column))
+}
+
+/// Fills the slots with the index of the sheet's names: a name's number, or `FREE`. Names enter from number 0 up, repeats of earlier
+/// bytes not at all. `include/skriduhol.h` says where each enters.
+pub fn name_index(sheet: &[u8], slots: &mut [u16; SLOT_COUNT]) -> Result<(), Refusal> {
+    asked(|value, column| c::name_index(sheet, slots, value, column)).map(|_| ())
+}
+
+/// The number of a name by slots beside the sheet: by the sheet's own index the lowest of these bytes, if there is one. Only
+/// refusals 1 to 3 are tried; other slots answer what they hold.
+pub fn find_name(
+    sheet: &[u8],
+    slots: &[u16; SLOT_COUNT],
+    name: &[u8],
+) -> Result<Option<usize>, Refusal> {
+    let number = asked(|value, column| c::find_name(sheet, slots, name, value, column))?;
+    Ok((number != FREE as usize).then_some(number))
 }
 
 /// What a C function handed over: a value, or a refusal's number with its place as the value, and its column.

@@ -1,8 +1,8 @@
 //! The example sheets through the wrapper: answers, refusals, and what becomes of the lent memory.
 use skriduhol::{
-    atom_list, board_output, compare, datatype_list, exercise, handout, handout_datatypes,
-    label_count, plain_text, restate, strict_text, Given, Refusal, Style, BOARD_ROOM,
-    LONGEST_EXERCISE, LONGEST_SHEET,
+    atom_list, board_output, compare, datatype_list, exercise, find_name, handout,
+    handout_datatypes, label_count, name_index, plain_text, restate, strict_text, Given, Refusal,
+    Style, BOARD_ROOM, FREE, LONGEST_EXERCISE, LONGEST_SHEET, SLOT_COUNT,
 };
 
 const SMALLEST: &[u8] = include_bytes!("../../../examples/sheets/smallest.sheet");
@@ -233,6 +233,34 @@ fn memory_past_an_exercise_and_under_its_refusal_is_untouched() {
         (refusal(29, 0), vec![UNTOUCHED; 6])
     );
     assert_eq!(exercise_in(0, "", 0, 0), (refusal(16, 0), vec![]));
+}
+
+#[test]
+fn names_are_found_by_their_index() {
+    let mut slots = [7; SLOT_COUNT];
+    assert_eq!(name_index(SECOND, &mut slots), Ok(()));
+    let held: Vec<(usize, u16)> = (0..).zip(slots).filter(|(_, held)| *held != FREE).collect();
+    // the start slot of one byte is that byte
+    assert_eq!(held, [(65, 0), (66, 1), (117, 2)]);
+    let found = |name: &str| find_name(SECOND, &slots, name.as_bytes());
+    assert_eq!(
+        [found("A"), found("B"), found("u")],
+        [0, 1, 2].map(|i| Ok(Some(i)))
+    );
+    assert_eq!([found("AA"), found("C"), found("")], [Ok(None); 3]);
+    assert_eq!(find_name(SECOND, &[1; SLOT_COUNT], b"B"), Ok(Some(1)));
+    assert_eq!(find_name(SECOND, &[1; SLOT_COUNT], b"A"), Ok(None));
+}
+
+#[test]
+fn slots_under_a_refusal_are_untouched() {
+    let mut slots = [7; SLOT_COUNT];
+    assert_eq!(
+        name_index(&SECOND[..SECOND.len() - 1], &mut slots),
+        refusal(3, 0)
+    );
+    assert_eq!(slots, [7; SLOT_COUNT]);
+    assert_eq!(find_name(&SECOND[..11], &slots, b"A"), refusal(1, 0));
 }
 
 #[test]
