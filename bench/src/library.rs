@@ -49,6 +49,16 @@ pub fn restate(sheet: &[u8], given: Given, lent: &mut Lent) -> Result<usize, Ref
     skriduhol::restate(sheet, given, slots, &mut lent.bytes)
 }
 
+/// The slots of the sheet's index, at the start of the lent numbers.
+pub fn name_index(sheet: &[u8], lent: &mut Lent) -> Result<(), Refusal> {
+    skriduhol::name_index(sheet, lent.numbers.first_chunk_mut().expect("the slots are lent"))
+}
+
+/// The number of a name by the slots that stand there.
+pub fn find_name(sheet: &[u8], name: &[u8], lent: &mut Lent) -> Result<Option<usize>, Refusal> {
+    skriduhol::find_name(sheet, lent.numbers.first_chunk().expect("the slots are lent"), name)
+}
+
 /// The question of each operation on a sheet of so many steps. The comparison is of the first step with the last, and the
 /// handout is version 2.
 pub fn question(operation: Operation, steps: usize) -> Question {

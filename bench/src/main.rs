@@ -3,6 +3,7 @@ mod exercises;
 mod handouts;
 mod library;
 mod lines;
+mod names;
 mod operations;
 mod required;
 mod restatements;
@@ -15,6 +16,7 @@ use exercises::exercises;
 use handouts::handouts;
 use library::{ask, question, Lent};
 use lines::lines;
+use names::names;
 use operations::operations;
 use oracle::{
     answer::{Operation, Question},
@@ -57,7 +59,7 @@ const MANY_LABELS: usize = 500;
 /// Prints a table, and gives the figure that is required of it, if there is one.
 type Section = fn(&Plan, &mut Lent) -> Option<Required>;
 
-const SECTIONS: [(&str, Section); 8] = [
+const SECTIONS: [(&str, Section); 10] = [
     ("sound", |plan, lent| Some(sound_sheets(plan, lent))),
     ("worst", |plan, lent| Some(worst_sheets(plan, lent))),
     ("growth", |plan, lent| Some(growth(plan, lent))),
@@ -82,10 +84,18 @@ const SECTIONS: [(&str, Section); 8] = [
         exercises(&plan.effort, lent);
         None
     }),
+    ("names", |plan, lent| {
+        println!("## The index of a sheet's names, and its last name found by it\n");
+        names(&plan.effort, lent);
+        None
+    }),
 ];
 
 fn usage() -> ! {
-    eprintln!("usage: bench/run short|full [sound|worst|growth|stack|operations|lines|handouts|restatements|exercises]...");
+    eprintln!(
+        "usage: bench/run short|full \
+         [sound|worst|growth|stack|operations|lines|handouts|restatements|exercises|names]..."
+    );
     exit(2)
 }
 

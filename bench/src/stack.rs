@@ -1,17 +1,20 @@
 //! How much stack an operation uses. It runs on a stack of its own, which is painted before and scanned after.
-use crate::library::{ask, exercise, restate, Lent};
+use crate::library::{ask, exercise, find_name, name_index, restate, Lent};
 use oracle::{answer::Question, restate::Given};
 use std::{arch::asm, ffi::c_void};
 
 const STACK_BYTES: usize = 4 << 20;
 const PAINT: u64 = 0x5ca1_ab1e_0ddb_a115;
 
-/// What is asked: nothing, a question about a sheet, a restatement of it, or an exercise by its ordinal.
+/// What is asked: nothing, a question about a sheet, a restatement of it, an exercise by its ordinal, the index of a sheet's
+/// names, or a name by it.
 enum Asked<'a> {
     Nothing,
     Question(Question, &'a [u8]),
     Restatement(&'a [u8], Given),
     Exercise(usize),
+    Index(&'a [u8]),
+    Name(&'a [u8], &'a [u8]),
 }
 
 /// What to run on the other stack.
@@ -29,6 +32,8 @@ extern "C" fn run(call: *mut c_void) {
         Asked::Question(question, sheet) => ask(question, sheet, call.lent),
         Asked::Restatement(sheet, given) => restate(sheet, given, call.lent),
         Asked::Exercise(ordinal) => exercise(ordinal, call.lent),
+        Asked::Index(sheet) => name_index(sheet, call.lent).map(|_| 0),
+        Asked::Name(sheet, name) => find_name(sheet, name, call.lent).map(|_| 0),
     };
 }
 
@@ -80,6 +85,15 @@ impl Stack {
     /// The same of an exercise.
     pub fn used_by_exercise(&mut self, ordinal: usize, lent: &mut Lent) -> usize {
         self.used_by(Asked::Exercise(ordinal), lent)
+    }
+
+    /// The same of the index of a sheet's names, and of a name found by it.
+    pub fn used_by_index(&mut self, sheet: &[u8], lent: &mut Lent) -> usize {
+        self.used_by(Asked::Index(sheet), lent)
+    }
+
+    pub fn used_by_name(&mut self, sheet: &[u8], name: &[u8], lent: &mut Lent) -> usize {
+        self.used_by(Asked::Name(sheet, name), lent)
     }
 
     fn used_by(&mut self, asked: Asked, lent: &mut Lent) -> usize {
