@@ -42,8 +42,9 @@ extern "C" {
    a name, a proposition or a step, and its reason. Those whose place is a step, 9 to 15, hand back its column too.
 
    Texts and lists use 1 to 16, those of the handout 21 too, the label count 1 to 15, a comparison 1 to 11, 17 and 19, a
-   restatement 1 to 11, 23, 24, 19 or 25, and 16, an exercise 29, 30 and 16, an index of names 1 to 11, and a search in one 1 to 3. 16 is tried last. It does not say how much room
-   is missing: most answers fit 65,536 elements, but a text can pass 88 million bytes and a list 3 million numbers. */
+   restatement 1 to 11, 23, 24, 19 or 25, and 16, an exercise 29, 30 and 16, an index of names 1 to 11, and a search in one 1 to 3.
+   16 is tried last. It does not say how much room is missing: most answers fit 65,536 elements, but a text can pass 88 million
+   bytes and a list 3 million numbers. */
 enum skriduhol_refusal {
     /* 0: fewer than 12 bytes came */
     SKRIDUHOL_REFUSED_NO_HEADER = 1,
@@ -148,11 +149,11 @@ uint8_t skriduhol_compare(const uint8_t *sheet, size_t sheet_length, size_t i, s
 /* The sheet with one more step, AlphaEquivalent over its root, whose conclusion is equal to the root's up to the names of bound
    objects. `given` are the numbers of a step record's end: the kind, three numbers and the column. Names, propositions and goal are
    kept byte for byte, and every answer to the new sheet is the old one's, in text, lists, labels and refusals. `slots` has
-   1,024 numbers, which become the index of the new sheet's names (skriduhol_name_index) and stay as they were where
-   the answer is a refusal; they overlap nothing else.
+   SKRIDUHOL_SLOT_COUNT numbers, which become the index of the new sheet's names (skriduhol_name_index) and stay as they were
+   where the answer is a refusal; they overlap nothing else.
    *value: the length of the new sheet in bytes, 20 more than the old one's. */
 uint8_t skriduhol_restate(const uint8_t *sheet, size_t sheet_length, const uint16_t given[5],
-                          uint16_t slots[1024], uint8_t *out, size_t room, size_t *value, size_t *column);
+                          uint16_t slots[SKRIDUHOL_SLOT_COUNT], uint8_t *out, size_t room, size_t *value, size_t *column);
 
 /* The code of the proposition at an ordinal, from 0, among all of at most n binary connectives over ⊤, ⊥ and up to 3 names, n up
    to 3. Fewer connectives come first; then by root, ∧ before ∨ before ⊃; then by the left part's size, the left part, the right

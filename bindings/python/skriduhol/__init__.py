@@ -1,4 +1,5 @@
-"""The proved library behind proof boards: a sheet's text, its lists, its label count, the comparison of two conclusions, and exercises.
+"""The proved library behind proof boards: a sheet's text, its lists, its label count, the comparison of two conclusions, restated
+conclusions, exercises, and the index of a sheet's names.
 
 Every function answers for any bytes, and raises `Refused` where the library refuses. A text or list is as long as it has to be;
 given a room, a longer one is refused with 16, as the library does. Functions may be called from several threads at once.
@@ -17,9 +18,9 @@ import pathlib
 from collections.abc import Callable, Sequence
 from typing import Any, Final, NamedTuple
 
-__all__ = ["BOARD_ROOM", "LONGEST_EXERCISE", "LONGEST_SHEET", "REFUSALS", "VERSION", "Atom", "Refused", "Style", "atom_list",
-           "board_output", "compare", "datatype_list", "exercise", "handout", "handout_datatypes", "label_count", "plain_text",
-           "strict_text"]
+__all__ = ["BOARD_ROOM", "FREE", "LONGEST_EXERCISE", "LONGEST_SHEET", "REFUSALS", "SLOT_COUNT", "VERSION", "Atom", "Given",
+           "Refused", "Style", "atom_list", "board_output", "compare", "datatype_list", "exercise", "find_name", "handout",
+           "handout_datatypes", "label_count", "name_index", "plain_text", "restate", "strict_text"]
 
 VERSION: Final = 2
 """The version of include/skriduhol.h that this module is written for."""
@@ -32,6 +33,12 @@ LONGEST_SHEET: Final = 40972
 
 LONGEST_EXERCISE: Final = 19
 """The longest code of an exercise, in bytes."""
+
+SLOT_COUNT: Final = 1024
+"""The slots of an index of names."""
+
+FREE: Final = 65535
+"""What a slot holds that has no name."""
 
 REFUSALS: Final[dict[int, tuple[str, str]]] = {
     1: ("0", "fewer than 12 bytes came"),
@@ -54,6 +61,9 @@ REFUSALS: Final[dict[int, tuple[str, str]]] = {
     18: ("0", "does not occur: two atoms of one name with different parameter counts are a no"),
     19: ("0", "two uninstantiated parameters meet with neither bound on its side"),
     21: ("0", "the version of the handout is outside 1 to 3"),
+    23: ("0", "the given conclusion or column breaks the rules of a step"),
+    24: ("0", "there are already 1,024 steps or 256 levels"),
+    25: ("0", "the root's conclusion and the given one are not alpha equal"),
     29: ("0", "the names of an exercise are too many, repeated or malformed, or its number of connectives passes 3"),
     30: ("0", "the ordinal of an exercise is past the end"),
 }
@@ -83,6 +93,16 @@ class Atom(NamedTuple):
 
     name: int
     parameters: int
+
+class Given(NamedTuple):
+    """A conclusion as a step record has it, a kind and three numbers, and a column. Kind 0 is a proposition by its number; kind 1
+    is a type judgement: the object's name, its id, and the datatype's name."""
+
+    kind: int
+    first: int
+    second: int = 0
+    third: int = 0
+    column: int = 0
 
 def _file() -> str:
     """The shared library's path, or its name where the system is to find it."""
@@ -122,6 +142,10 @@ _handout_datatypes = _function("handout_datatypes", _SIZE, *_LIST)
 _label_count = _function("label_count")
 _compare = _function("compare", _SIZE, _SIZE)
 _exercise = _function("exercise", _SIZE, _SIZE, *_TEXT)
+_SLOTS = ctypes.c_uint16 * SLOT_COUNT
+_name_index = _function("name_index", _SLOTS)
+_find_name = _function("find_name", _SLOTS, *_BYTES)
+_restate = _function("restate", ctypes.c_uint16 * 5, _SLOTS, *_TEXT)
 _board_output = _library.skriduhol_board_output
 _board_output.argtypes, _board_output.restype = _BYTES + [ctypes.POINTER(ctypes.c_uint8)], _SIZE
 
@@ -129,6 +153,11 @@ def _size(what: str, number: int) -> int:
     """A number that C can be handed: ctypes would cut any other one to its low bits."""
     if not 0 <= number < 1 << 8 * ctypes.sizeof(_SIZE):
         raise ValueError(f"{what} is {number}, expected a number from 0 on that a size_t holds")
+    return number
+
+def _u16(what: str, number: int) -> int:
+    if not 0 <= number < 65536:
+        raise ValueError(f"{what} is {number}, expected 0 to 65535")
     return number
 
 def _frozen(content: bytes) -> bytes:
@@ -143,7 +172,7 @@ def _asked(function: Callable[..., int], content: bytes, *arguments: Any) -> int
         raise Refused(number, value.value, column.value)
     return value.value
 
-def _filled(element: Any, function: Callable[..., int], content: bytes, *arguments: int, room: int | None) -> tuple[Any, int]:
+def _filled(element: Any, function: Callable[..., int], content: bytes, *arguments: Any, room: int | None) -> tuple[Any, int]:
     """The memory that a function fills and how much of it: a room of so many elements, or one that grows until it is enough."""
     lent = BOARD_ROOM if room is None else _size("the room", room)
     while True:
@@ -156,7 +185,7 @@ def _filled(element: Any, function: Callable[..., int], content: bytes, *argumen
                 raise
             lent *= 8
 
-def _bytes(function: Callable[..., int], content: bytes, *arguments: int, room: int | None) -> bytes:
+def _bytes(function: Callable[..., int], content: bytes, *arguments: Any, room: int | None) -> bytes:
     return ctypes.string_at(*_filled(ctypes.c_uint8, function, content, *arguments, room=room))
 
 def _numbers(function: Callable[..., int], content: bytes, *arguments: int, room: int | None) -> list[int]:
@@ -205,6 +234,25 @@ def exercise(names: Sequence[str], n: int, ordinal: int, *, room: int | None = N
     # A name with a newline in it would be two, and one of no bytes none: both are malformed, and handed over as such.
     content = "\n".join(name.replace("\n", "?") or "?" for name in names).encode(errors="replace")
     return _bytes(_exercise, content, _size("the number of connectives", n), _size("the ordinal", ordinal), room=room)
+
+def name_index(sheet: bytes) -> list[int]:
+    """The index of the sheet's names, 1,024 slots, by which `find_name` finds one without comparing all."""
+    slots = _SLOTS()
+    _asked(_name_index, sheet, slots)
+    return list(slots)
+
+def find_name(sheet: bytes, slots: Sequence[int], name: bytes) -> int | None:
+    """The number of a name by slots beside the sheet: by its own index the lowest number of these bytes, or None."""
+    if len(slots) != SLOT_COUNT:
+        raise ValueError(f"there are {len(slots)} slots, expected {SLOT_COUNT}")
+    lent, name = _SLOTS(*(_u16("a slot", slot) for slot in slots)), _frozen(name)
+    found = _asked(_find_name, sheet, lent, name, len(name))
+    return None if found == FREE else found
+
+def restate(sheet: bytes, given: Given, *, room: int | None = None) -> tuple[bytes, list[int]]:
+    """The sheet with one more step, AlphaEquivalent over its root, that concludes what is given, and the index of its names."""
+    slots, lent = _SLOTS(), (ctypes.c_uint16 * 5)(*(_u16("a number of what is given", number) for number in given))
+    return _bytes(_restate, sheet, lent, slots, room=room), list(slots)
 
 def board_output(sheet: bytes) -> bytes:
     """What the board prints: the plain text if 65,536 bytes have room for it, or the refusal's line."""

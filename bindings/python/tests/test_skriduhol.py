@@ -10,7 +10,7 @@ import typing
 import unittest
 
 import skriduhol
-from skriduhol import Atom, Refused, Style
+from skriduhol import Atom, Given, Refused, Style
 
 ROOT = pathlib.Path(__file__).resolve().parents[3]
 
@@ -65,6 +65,26 @@ class Examples(unittest.TestCase):
             self.assert_refused(29, 0, 0, skriduhol.exercise, names, 0, 0)
         self.assert_refused(29, 0, 0, skriduhol.exercise, [], 4, 0)
 
+    def test_names(self):
+        slots = skriduhol.name_index(SECOND)
+        self.assertEqual([slot for slot in slots if slot != skriduhol.FREE], [0, 1, 2])
+        self.assertEqual([skriduhol.find_name(SECOND, slots, name) for name in (b"A", b"B", b"u", b"C", b"")], [0, 1, 2, None, None])
+        self.assert_refused(1, 0, 0, skriduhol.name_index, b"")
+        self.assert_refused(1, 0, 0, skriduhol.find_name, b"", slots, b"A")
+        for wrong in (slots[1:], slots[1:] + [65536], slots[1:] + [-1]):
+            with self.assertRaises(ValueError):
+                skriduhol.find_name(SECOND, wrong, b"A")
+
+    def test_restatements(self):
+        sheet = example("bound_object")
+        new, slots = skriduhol.restate(sheet, Given(0, 1, column=7))
+        self.assertEqual((len(new), slots), (len(sheet) + 20, skriduhol.name_index(new)))
+        self.assertEqual(skriduhol.plain_text(new), skriduhol.plain_text(sheet))
+        self.assert_refused(16, 0, 0, skriduhol.restate, sheet, Given(0, 1), room=len(sheet) + 19)
+        self.assert_refused(23, 0, 0, skriduhol.restate, sheet, Given(0, 1, column=4096))
+        with self.assertRaises(ValueError):
+            skriduhol.restate(sheet, Given(0, 65536))
+
     def test_a_refusal_says_what_it_is(self):
         refused = self.assert_refused(14, 1, 3, skriduhol.plain_text, REFUSED)
         self.assertEqual(str(refused), "refused 14 at 1 column 3: a function of ImplIntro needs a label and its conclusion is no "
@@ -115,6 +135,15 @@ def of_many_labels(count):
     steps = sorry + (sorry + pair) * (count - 1) + first
     return struct.pack("<10H", 1, 1, len(code), 1, 2 * count, 0, 0, 1, 0, len(code)) + steps + b"A" + code
 
+def found_number(sheet, name):
+    """By the sheet's own index, or by slots that all hold 0 where it is refused; FREE for none."""
+    try:
+        slots = skriduhol.name_index(sheet)
+    except Refused:
+        slots = [0] * skriduhol.SLOT_COUNT
+    found = skriduhol.find_name(sheet, slots, name)
+    return skriduhol.FREE if found is None else found
+
 class Answers(unittest.TestCase):
     """The stored answers of the oracle, laid out as tests/oracle/README.md says."""
 
@@ -131,9 +160,12 @@ class Answers(unittest.TestCase):
         9: lambda sheet, version, room: skriduhol.handout_datatypes(sheet, version, room=room),
         10: lambda names, n, ordinal, room: skriduhol.exercise(
             names.decode("latin-1").split("\n") if names else [], n, ordinal, room=room),
+        11: skriduhol.name_index,
+        12: lambda sheet, name: found_number(sheet, name),
+        13: lambda sheet, *given: skriduhol.restate(sheet, Given(*given[:5]), room=given[5])[0],
     }
-    ASKED = {**dict.fromkeys(range(4), "<I"), 5: "<2H", **dict.fromkeys(range(7, 10), "<QI"), 10: "<2QI"}
-    LISTS = (2, 3, 9)
+    ASKED = {**dict.fromkeys(range(4), "<I"), 5: "<2H", **dict.fromkeys(range(7, 10), "<QI"), 10: "<2QI", 13: "<5HI"}
+    LISTS = (2, 3, 9, 11)
 
     def read(self):
         data, at = (ROOT / "crates" / "replay" / "data" / "answers").read_bytes(), 0
@@ -147,10 +179,11 @@ class Answers(unittest.TestCase):
             content, = take("<%ds" % take("<I"))
             for _ in range(*take("<B")):
                 kind, = take("<B")
-                asked, (number, value) = take(self.ASKED.get(kind, "<")), take("<BI")
+                asked = take("<%ds" % take("<B") if kind == 12 else self.ASKED.get(kind, "<"))
+                number, value = take("<BI")
                 if number:
                     answer = number, value, *take("<H")
-                elif kind in (4, 5):
+                elif kind in (4, 5, 12):
                     answer = value
                 else:
                     answer = list(take(f"<{value}H")) if kind in self.LISTS else take(f"<{value}s")[0]
