@@ -27,7 +27,7 @@ use restatements::restatements;
 use sheets::steps;
 use stack::Stack;
 use std::{process::exit, time::Duration};
-use texts::{texts, Text};
+use texts::{speed, texts, Text};
 use timing::{grouped, Effort};
 
 /// How much is measured.
@@ -53,41 +53,41 @@ const FULL: Plan = Plan {
     random_sheets: 2_000,
 };
 
-/// A sheet with so many labels or more is a label sheet.
-const MANY_LABELS: usize = 500;
+/// Of every sheet that is timed beside the Rust, at the least.
+const LEAST_RATIO: f64 = 3.0;
 
-/// Prints a table, and gives the figure that is required of it, if there is one.
-type Section = fn(&Plan, &mut Lent) -> Option<Required>;
+/// A sheet that takes the Rust so many nanoseconds is slow.
+const SLOW: f64 = 20e6;
+
+/// Prints a table, and gives the figures that are required of it.
+type Section = fn(&Plan, &mut Lent) -> Vec<Required>;
 
 const SECTIONS: [(&str, Section); 10] = [
-    ("sound", |plan, lent| Some(sound_sheets(plan, lent))),
-    ("worst", |plan, lent| Some(worst_sheets(plan, lent))),
-    ("growth", |plan, lent| Some(growth(plan, lent))),
-    ("stack", |plan, lent| Some(stack_use(plan, lent))),
-    ("operations", |plan, lent| {
-        other_operations(plan, lent);
-        None
-    }),
+    ("sound", |plan, lent| vec![sound_sheets(plan, lent)]),
+    ("worst", worst_sheets),
+    ("growth", growth),
+    ("stack", |plan, lent| vec![stack_use(plan, lent)]),
+    ("operations", |plan, lent| vec![other_operations(plan, lent)]),
     ("lines", |plan, lent| {
         println!("## Lines with a number\n");
         lines(&plan.effort, &sheets::with_numbers(), lent);
-        None
+        vec![]
     }),
-    ("handouts", |plan, lent| Some(versions(plan, lent))),
+    ("handouts", versions),
     ("restatements", |plan, lent| {
         println!("## Restated conclusions\n");
         restatements(&plan.effort, lent);
-        None
+        vec![]
     }),
     ("exercises", |plan, lent| {
         println!("## Exercises over three names with up to three connectives\n");
         exercises(&plan.effort, lent);
-        None
+        vec![]
     }),
     ("names", |plan, lent| {
         println!("## The index of a sheet's names, and its last name found by it\n");
         names(&plan.effort, lent);
-        None
+        vec![]
     }),
 ];
 
@@ -135,25 +135,29 @@ fn sound_sheets(plan: &Plan, lent: &mut Lent) -> Required {
     at_least("sound sheets of about 1,000 steps", 10.0, texts.iter().map(Text::ratio).collect())
 }
 
-fn worst_sheets(plan: &Plan, lent: &mut Lent) -> Required {
+fn worst_sheets(plan: &Plan, lent: &mut Lent) -> Vec<Required> {
     println!("## Worst cases, with texts of at most {} bytes\n", grouped(plan.longest_text));
     let mut all = sheets::worst();
     all.retain(|(_, sheet)| ask(Question::PlainText, sheet, lent).unwrap() <= plan.longest_text);
     let texts = texts(&plan.effort, &all, lent);
-    // the time of the sheet with the most declarations is that of the search for repeats, and not of its labels
-    let declared = sheets::most_declared().0;
-    let label_sheets = texts.iter().filter(|text| text.labels >= MANY_LABELS && text.what != declared);
-    at_least("worst sheets with 500 labels or more", 50.0, label_sheets.map(Text::ratio).collect())
+    let slow = texts.iter().filter(|text| text.rust_time() >= SLOW);
+    vec![
+        at_least("worst sheets that take the Rust 20 ms or more", 50.0, slow.map(Text::ratio).collect()),
+        at_least("every worst sheet", LEAST_RATIO, texts.iter().map(Text::ratio).collect()),
+    ]
 }
 
-fn growth(plan: &Plan, lent: &mut Lent) -> Required {
+fn growth(plan: &Plan, lent: &mut Lent) -> Vec<Required> {
     println!("## Growth: one proposition as the label of more and more functions\n");
     let texts = texts(&plan.effort, &sheets::growth(plan.longest_text), lent);
     let per_byte = texts.iter().map(Text::ours_per_byte);
     let (least, most) = (per_byte.clone().fold(f64::MAX, f64::min), per_byte.fold(0.0, f64::max));
     let measured = format!("{least:.2} to {most:.2} ns: {:.2} times", most / least);
     let bound = "greatest below 2 times the least".into();
-    Required { what: "growth: time for a byte of text", bound, measured, met: most < 2.0 * least }
+    vec![
+        Required { what: "growth: time for a byte of text", bound, measured, met: most < 2.0 * least },
+        at_least("every growing sheet", LEAST_RATIO, texts.iter().map(Text::ratio).collect()),
+    ]
 }
 
 fn stack_use(plan: &Plan, lent: &mut Lent) -> Required {
@@ -172,20 +176,26 @@ fn stack_use(plan: &Plan, lent: &mut Lent) -> Required {
 }
 
 /// Version 2 beside version 1 on more and more labels, and version 3 beside version 2 on the most declarations.
-fn versions(plan: &Plan, lent: &mut Lent) -> Required {
+fn versions(plan: &Plan, lent: &mut Lent) -> Vec<Required> {
     println!("## The versions of the handout\n");
     handouts(&plan.effort, &sheets::quantified(), [1, 2], lent);
     println!();
-    let longest = handouts(&plan.effort, &[sheets::most_declared()], [2, 3], lent);
+    let most = sheets::most_declared();
+    let longest = handouts(&plan.effort, std::slice::from_ref(&most), [2, 3], lent);
     let (bound, measured) = ("at most 1.5 times version 2's time".into(), format!("{longest:.2} times"));
-    Required { what: "version 3 with the most declarations", bound, measured, met: longest <= 1.5 }
+    let ratio = speed(&plan.effort, &most, Question::HandoutPlain(3), lent);
+    vec![
+        Required { what: "version 3 with the most declarations", bound, measured, met: longest <= 1.5 },
+        at_least("version 3 beside the Rust's version 1", LEAST_RATIO, vec![ratio]),
+    ]
 }
 
-/// On two sound sheets and on two of the worst within the board's room.
-fn other_operations(plan: &Plan, lent: &mut Lent) {
+/// On two sound sheets and on two of the worst within the board's room. No figure is required of a comparison: the Rust is
+/// handed two conclusions, and Skriduhol a whole sheet.
+fn other_operations(plan: &Plan, lent: &mut Lent) -> Required {
     println!("## The other operations\n");
     let chosen = ["1,008 labels within the board's room", "one label of 58,000 bytes"];
     let worst = sheets::worst().into_iter().filter(|(what, _)| chosen.contains(&what.as_str()));
     let all: Vec<Named> = sheets::sound(2).into_iter().chain(worst).collect();
-    operations(&plan.effort, &all, lent);
+    at_least("lists and label counts", LEAST_RATIO, operations(&plan.effort, &all, lent))
 }

@@ -41,12 +41,18 @@ struct Asked<'a> {
 }
 
 impl Asked<'_> {
+    /// How many times the Rust's speed, where the Rust has a part in the answer.
+    fn ratio(&self, pair: &Pair) -> Option<f64> {
+        let (rust, ours) = pair.times();
+        self.in_the_rust.then_some(rust.fastest / ours.fastest)
+    }
+
     fn line(&self, pair: &Pair, lent: &mut Lent) -> String {
         let answer = grouped(ask(self.question, self.bytes, lent).unwrap());
         let (rust, ours) = pair.times();
-        let (rust, ratio) = match self.in_the_rust {
-            true => (rust.to_string(), format!("{:.1}", rust.fastest / ours.fastest)),
-            false => Default::default(),
+        let (rust, ratio) = match self.ratio(pair) {
+            Some(ratio) => (rust.to_string(), format!("{ratio:.1}")),
+            None => Default::default(),
         };
         format!("| {} | {} | {answer} | {rust} | {ours} | {ratio} |", self.what, self.question.operation())
     }
@@ -68,12 +74,19 @@ fn of_sheet((what, bytes): &Named) -> Vec<(Asked<'_>, Pair<'_>)> {
     others.map(pair).collect()
 }
 
-/// Each operation on these sheets.
-pub fn operations(effort: &Effort, all: &[Named], lent: &mut Lent) {
+/// Each operation on these sheets; how many times the Rust's speed the lists and the label counts have.
+pub fn operations(effort: &Effort, all: &[Named], lent: &mut Lent) -> Vec<f64> {
     let (asked, mut pairs): (Vec<_>, Vec<_>) = all.iter().flat_map(of_sheet).unzip();
     in_rounds(effort, &mut pairs, lent);
     println!("| sheet | operation | answer | Rust ns | Skriduhol ns | ratio |\n|---|---|--:|--:|--:|--:|");
     for (asked, pair) in asked.iter().zip(&pairs) {
         println!("{}", asked.line(pair, lent));
     }
+    let compared = |asked: &Asked| asked.question.operation() == Operation::Comparison;
+    asked
+        .iter()
+        .zip(&pairs)
+        .filter(|(asked, _)| !compared(asked))
+        .filter_map(|(asked, pair)| asked.ratio(pair))
+        .collect()
 }

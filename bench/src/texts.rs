@@ -9,9 +9,9 @@ use oracle::{answer::Question, generate::Named, sheet::decode};
 use std::{cell::RefCell, rc::Rc};
 
 pub struct Text {
-    pub what: String,
+    what: String,
     steps: usize,
-    pub labels: usize,
+    labels: usize,
     sheet_bytes: usize,
     text_bytes: usize,
     rust: Times,
@@ -26,6 +26,11 @@ impl Text {
         assert!(theirs.as_bytes() == &lent.bytes[..text_bytes], "the texts differ: {what}");
         let (rust, ours) = pair.times();
         Text { what: what.clone(), steps: steps(bytes), labels, sheet_bytes: bytes.len(), text_bytes, rust, ours }
+    }
+
+    /// The Rust's nanoseconds.
+    pub fn rust_time(&self) -> f64 {
+        self.rust.fastest
     }
 
     pub fn ratio(&self) -> f64 {
@@ -53,22 +58,32 @@ const HEAD: &str = "\
 | sheet | steps | labels | sheet bytes | text bytes | Rust ns | batches | Skriduhol ns | batches | ratio | Rust ns/byte | Skriduhol ns/byte |
 |---|--:|--:|--:|--:|--:|--:|--:|--:|--:|--:|--:|";
 
-/// What is timed on a sheet, and where the Rust's text is left. The Rust starts from its tree, Skriduhol from the sheet's bytes.
-fn pair((_, bytes): &Named) -> (Rc<RefCell<String>>, Pair<'_>) {
+/// What is timed on a sheet, and where the Rust's text is left. The Rust starts from its tree, Skriduhol from the sheet's
+/// bytes, with a question.
+fn pair((_, bytes): &Named, question: Question) -> (Rc<RefCell<String>>, Pair<'_>) {
     let sheet = decode(bytes).unwrap();
     let (tree, goal) = (sheet.tree(sheet.root()), sheet.prop(&sheet.props[sheet.goal]));
     let theirs = Rc::new(RefCell::new(String::new()));
     let left = Rc::clone(&theirs);
     let rust = Box::new(move |_: &mut Lent| *left.borrow_mut() = generate_proof_term_from_proof_tree(&tree, &goal));
     let ours = Box::new(move |lent: &mut Lent| {
-        ask(Question::PlainText, bytes, lent).unwrap();
+        ask(question, bytes, lent).unwrap();
     });
     (theirs, Pair::new(rust, ours))
 }
 
+/// How many times the Rust's speed a text has: the Rust's is of version 1, Skriduhol's answers any question.
+pub fn speed(effort: &Effort, named: &Named, question: Question, lent: &mut Lent) -> f64 {
+    let (_, pair) = pair(named, question);
+    let mut pairs = [pair];
+    in_rounds(effort, &mut pairs, lent);
+    let (rust, ours) = pairs[0].times();
+    rust.fastest / ours.fastest
+}
+
 /// The texts of these sheets, a line for each.
 pub fn texts(effort: &Effort, all: &[Named], lent: &mut Lent) -> Vec<Text> {
-    let (theirs, mut pairs): (Vec<_>, Vec<_>) = all.iter().map(pair).unzip();
+    let (theirs, mut pairs): (Vec<_>, Vec<_>) = all.iter().map(|named| pair(named, Question::PlainText)).unzip();
     in_rounds(effort, &mut pairs, lent);
     let sheets = all.iter().zip(theirs).zip(&pairs);
     let texts: Vec<Text> =

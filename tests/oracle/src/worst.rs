@@ -68,13 +68,21 @@ fn sorries(label: Formula) -> Plain {
     concluding(label, wide_names(2, 32), steps)
 }
 
-fn atoms(count: usize) -> impl Iterator<Item = Formula> {
-    (0..NAMES as u16).map(move |n| Formula::Atom(n, vec![Parameter::Uninstantiated(0); count]))
+/// The first so many names as atoms of a parameter count.
+fn atoms(names: usize, count: usize) -> impl Iterator<Item = Formula> {
+    (0..names as u16).map(move |n| Formula::Atom(n, vec![Parameter::Uninstantiated(0); count]))
 }
 
 /// As many different atoms as there are names, with up to three parameter counts.
 fn different() -> Vec<Formula> {
-    (0..3).flat_map(atoms).collect()
+    (0..3).flat_map(|count| atoms(NAMES, count)).collect()
+}
+
+/// A goal of different atoms over these names, as many as fit, and a term without a label, `unit`.
+fn goal_of_different_atoms(names: Vec<Vec<u8>>) -> Plain {
+    let different: Vec<Formula> = (0..=PARAMETERS).flat_map(|count| atoms(names.len(), count)).collect();
+    let props = [&conjunction(&different, CODE - 1), &Formula::True].map(code).to_vec();
+    Plain { names, props, steps: vec![step(rule::TRUE_INTRO, 0, &[], 1)], goal: 0 }
 }
 
 /// So many times an atom with eight parameters.
@@ -106,7 +114,7 @@ pub fn most_declarations() -> Plain {
     Plain { names, props: (0..NAMES).map(|n| code(&uses(n).reduce(and).unwrap())).collect(), steps, goal: 0 }
 }
 
-/// Those that the Rust answers in seconds; the three before the last have labels and stay within the board's room.
+/// Those that the Rust answers in seconds; the sixth to the eighth have labels and stay within the board's room.
 pub fn worst() -> Vec<Named> {
     let ident = step(rule::IDENT, 0, &[1], 0);
     let argument = [ident, step(rule::ALPHA, 1, &[], 0), step(rule::OR_INTRO_FST, 1, &[], 0)];
@@ -130,12 +138,18 @@ pub fn worst() -> Vec<Named> {
         ),
         ("three labels of 1,163 different atoms", three),
         ("1,210 declarations, in 512 labels", most_declarations()),
+        ("a goal of 1,163 different atoms, names of 16 bytes", goal_of_different_atoms(wide_names(NAMES, 16))),
+        ("a goal of 914 different atoms, names of 32 bytes", goal_of_different_atoms(wide_names(NAMES / 2, 32))),
+        (
+            "one label of 1,163 different atoms, names of 16 bytes",
+            concluding(conjunction(&different(), CODE), wide_names(NAMES, 16), one.to_vec()),
+        ),
     ])
 }
 
 /// Those for which the Rust needs a minute and more each.
 pub fn slowest() -> Vec<Named> {
-    let late: Vec<Formula> = atoms(0).chain(vec![atom(NAMES as u16 - 1); 2000]).collect();
+    let late: Vec<Formula> = atoms(NAMES, 0).chain(vec![atom(NAMES as u16 - 1); 2000]).collect();
     let sheet = |leaves: &[Formula], names: Vec<Vec<u8>>| labelled(conjunction(leaves, CODE - 2), names, LABELS);
     named(vec![
         ("1,008 labels of 8,190 bytes, wide atoms", sheet(&wide_atoms(400), wide_names(2, 32))),
