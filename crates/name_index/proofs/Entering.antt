@@ -1,6 +1,6 @@
 -- A name enters the index of the names before it.
-use Prim.Native.Nat.{ℕ, suc, _+_, _<_, _≤_}
-use mathlib.Core.Path.{_≡_, refl, sym, ap, _∙_}
+use Prim.Native.Nat.{ℕ, _+_, _<_, _≤_}
+use mathlib.Core.Path.{_≡_, refl, sym}
 use mathlib.Core.Option.{Option, none, some}
 use mathlib.Core.List.{List}
 use native.Mathlib.Omega.{arith}
@@ -11,7 +11,7 @@ use Rattle.definitions.specs.declared.Found.the-variants.{Nowhere, At}
 use Rattle.definitions.specs.Name.{Name}
 use Rattle.definitions.specs.Sheet.{nameLimit}
 use Rattle.definitions.specs.Admission.{isNone}
-use Rattle.definitions.specs.NameIndex.{slotCount, free, startSlot, freeFrom, plainSearch, find, enter, index}
+use Rattle.definitions.specs.NameIndex.{slotCount, free, startSlot, plainSearch, find, enter, index}
 use Rattle.name_index_laws.proofs.Entering.{indexed}
 use Rattle.name_index_laws.proofs.Agreement.{index-agrees}
 use Rattle.name_index.specs.declared.Probed.the-variants.{Held, Absent}

@@ -1,8 +1,7 @@
 -- How probing goes on from slot to slot.
 use Prim.Native.Nat.{ℕ, zero, suc, _+_, _-_, _%_, _<_, _≤_}
-use mathlib.Core.Path.{_≡_, refl, sym, ap, ap₂, _∙_}
+use mathlib.Core.Path.{_≡_, refl, sym, _∙_}
 use mathlib.Core.Bool.{Bool, true, false, cond}
-use mathlib.Core.Option.{none, some}
 use mathlib.Core.List.{List, [], _∷_}
 use native.Mathlib.Omega.{arith}
 use lib.ListN.{length, getD}
@@ -102,12 +101,14 @@ module _ (name : ℕ → Name) (slots : List ℕ) (x : Name) where
     unfolding findFrom freeFrom
     at-other h taken other =
         let more = slotCount - (counter + 1) in
+        let same = round-twice (at + 1) in
         let over : eqName (name (slotAt slots at)) x ≡ false = rw here other in
         record {
           inside = omega arith;
           below = rest-below (at + 1);
-          finds = rw (w .finds, one-less h, taken-here taken, over) (find-round slots name x more (at + 1) ((at + 1) % slotCount) (round-twice (at + 1)));
-          frees = rw (w .frees, one-less h, taken-here taken) (free-round slots more (at + 1) ((at + 1) % slotCount) (round-twice (at + 1)));
+          finds =
+              rw (w .finds, one-less h, taken-here taken, over) (find-round slots name x more (at + 1) ((at + 1) % slotCount) same);
+          frees = rw (w .frees, one-less h, taken-here taken) (free-round slots more (at + 1) ((at + 1) % slotCount) same);
         }
 
     -- all slots hold other names

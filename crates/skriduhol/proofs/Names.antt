@@ -2,7 +2,7 @@
 use Prim.Native.Nat.{ℕ, _≤_}
 use mathlib.Core.Path.{_≡_, refl, sym, ap, ap₂, _∙_}
 use mathlib.Core.Option.{Option, none, some}
-use mathlib.Core.List.{List, [], _++_, append-nil}
+use mathlib.Core.List.{List, [], append-nil}
 use native.Mathlib.Omega.{arith}
 use lib.ListN.{length, drop}
 use lib.Seq.{drop-length}
@@ -14,7 +14,7 @@ use Rattle.definitions.specs.Name.{Name}
 use Rattle.definitions.specs.Sheet.{nameLimit, names, nameOf}
 use Rattle.definitions.specs.Admission.{headerChecks, admitted}
 use Rattle.definitions.specs.Answers.{located}
-use Rattle.definitions.specs.NameIndex.{slotCount, plainSearch, index, find, indexOf, indexAnswer, findAnswer}
+use Rattle.definitions.specs.NameIndex.{slotCount, index, find, indexOf, indexAnswer, findAnswer}
 use Rattle.name_index_laws.proofs.Agreement.{sheet-agrees}
 use Rattle.name_index_laws.proofs.Entering.{indexed}
 use Rattle.output.specs.Written.{filled}

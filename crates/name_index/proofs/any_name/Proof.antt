@@ -1,5 +1,5 @@
 -- A number past the last marks nothing; any other marks what its pair says, as far as the text goes.
-use mathlib.Core.Path.{_≡_, _∙_}
+use mathlib.Core.Path.{_∙_}
 use borrow.Author.Needs.{needs}
 use Rattle.name_index.proofs.AnyName.{no-name, pair-there, name-cut}
 use Rattle.name_index.proofs.any_name.Statement.{statement}

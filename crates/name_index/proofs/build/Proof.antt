@@ -2,7 +2,6 @@
 use Prim.Native.Nat.{_-_, _≤_}
 use mathlib.Core.Path.{_≡_, sym, _∙_}
 use native.Mathlib.Omega.{arith}
-use Rattle.definitions.specs.Sheet.{nameLimit}
 use Rattle.definitions.specs.NameIndex.{index}
 use Rattle.vocabulary.specs.Vocabulary.{nameIn}
 use Rattle.name_index.proofs.Entering.{index-size, none-entered, all-entered}

@@ -1,10 +1,9 @@
 -- What is left of the search, and of the way to a free slot.
 use Prim.Native.Nat.{_-_}
-use mathlib.Core.Path.{_≡_, sym, ap, _∙_}
+use mathlib.Core.Path.{_≡_}
 use native.Mathlib.Omega.{arith}
 use borrow.Author.Needs.{needs}
 use lib.ListN.{length}
-use Rattle.definitions.specs.Name.{eqName}
 use Rattle.definitions.specs.NameIndex.{slotCount, free}
 use Rattle.vocabulary.specs.Vocabulary.{nameIn}
 use Rattle.name_index.proofs.Probing.{Left, begins, at-free, at-equal, at-other, past-all}

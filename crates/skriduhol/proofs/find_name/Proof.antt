@@ -1,5 +1,5 @@
 -- A header that passes 1 to 3 says where the names lie; a refusal is located.
-use mathlib.Core.Path.{_≡_, sym, ap, _∙_}
+use mathlib.Core.Path.{_≡_, sym, _∙_}
 use native.Mathlib.Omega.{arith}
 use borrow.Author.Needs.{needs}
 use Rattle.definitions.specs.Outcome.{refused, accepted}
