@@ -24,13 +24,13 @@ use Rattle.restating.specs.declared.Given.{Given}
 use Rattle.restating.specs.Step.{givenOf, headerNumbers, sheetWith}
 
 -- the record: its rule and premiss count without identifiers, and then what is given
-pub record-bytes : (g : Given)
+record-bytes : (g : Given)
     → (16 ∷ 1 ∷ 0 ∷ 0 ∷ 0 ∷ 0 ∷ 0 ∷ 0 ∷ 0 ∷ 0 ∷ []) ++ u16s (g .kind ∷ g .first ∷ g .second ∷ g .third ∷ g .column ∷ [])
     ≡ newRecord (givenOf g)
 unfolding newRecord givenOf u16s u16 encodeRule encodeIdentifier noIdentifier ruleNumber
 record-bytes g = refl
 
-pub record-length : (g : restate.Given) → length (newRecord g) ≡ stepSize
+record-length : (g : restate.Given) → length (newRecord g) ≡ stepSize
 unfolding newRecord encodeRule encodeIdentifier u16 stepSize
 record-length g = refl
 
@@ -39,7 +39,7 @@ unfolding stepSize
 has-record g e = rw e (omega (arith, record-length g))
 
 -- a memory that a text fills is the text
-pub whole-memory : {text before after : List ℕ} {next : ℕ} → Wrote text true before 0 after next → length before ≡ length text
+whole-memory : {text before after : List ℕ} {next : ℕ} → Wrote text true before 0 after next → length before ≡ length text
     → after ≡ text
 unfolding puts
 whole-memory {text} {before} w e =
@@ -48,6 +48,14 @@ whole-memory {text} {before} w e =
   where
     none-left : (n : ℕ) → n ≡ length before → drop n before ≡ []
     none-left n same = rw (same, drop-length before)
+
+-- so a memory of a record's size is the record
+pub record-filled : (g : Given) {before after : List ℕ} {next : ℕ}
+    → Wrote
+    ((16 ∷ 1 ∷ 0 ∷ 0 ∷ 0 ∷ 0 ∷ 0 ∷ 0 ∷ 0 ∷ 0 ∷ []) ++ u16s (g .kind ∷ g .first ∷ g .second ∷ g .third ∷ g .column ∷ []))
+    true before 0 after next
+    → length before ≡ stepSize → after ≡ newRecord (givenOf g)
+record-filled g w e = whole-memory (rw (record-bytes g) at w) (e ∙ sym (record-length (givenOf g)))
 
 -- two parts that follow each other
 two-parts : (n m i : ℕ) (s : List ℕ) → take (n + m) (drop i s) ≡ take n (drop i s) ++ take m (drop (i + n) s)

@@ -6,9 +6,9 @@ use Rattle.restating.specs.Step.{headerNumbers}
 use Rattle.restating.proofs.put_header.Statement.{statement}
 use Rattle.restating.proofs.put_header.Tie as tie
 
--- back to the start from the last number that is looked at
-abbrev start : tie.After-struct-known6 → tie.Start
-start c = c .before .before .before .before .before .before .before
+-- back from the last number over three others
+abbrev halfway : tie.After-struct-known6 → tie.After-struct-known3
+halfway c = c .before .before .before
 
 cast-t5 : tie.Need-cast-t5
 unfolding textLimit
@@ -32,7 +32,9 @@ cast-t9 c = omega (arith, c .before .before .before .before .before .before .pre
 
 cast-t10 : tie.Need-cast-t10
 unfolding propositionLimit
-cast-t10 c = omega (arith, c .before .before .before .before .before .before .before .pre .goal, c .before .before .before .before .before .before .before .pre .propositions)
+cast-t10 c =
+    let start = halfway c .before .before .before .before in
+    omega (arith, start .pre .goal, start .pre .propositions)
 
 slice-aggregate-put-u16s : tie.Need-slice-aggregate-put-u16s
 slice-aggregate-put-u16s c = search needs

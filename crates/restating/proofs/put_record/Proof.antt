@@ -1,15 +1,16 @@
 -- The rule's bytes and then the given numbers fill the record.
-use mathlib.Core.Path.{sym, _∙_}
 use borrow.Author.Needs.{needs}
 use Rattle.output.proofs.Writing.{then}
-use Rattle.restating.specs.Step.{givenOf}
-use Rattle.restating.proofs.Bytes.{record-bytes, record-length, whole-memory}
+use Rattle.restating.proofs.Bytes.{record-filled}
 use Rattle.restating.proofs.put_record.Statement.{statement}
 use Rattle.restating.proofs.put_record.Tie as tie
 
 -- back over the given numbers to the rule's bytes, and from there to the start
+abbrev numbered : tie.After-slice-known3 → tie.After-out
+numbered c = c .before .before .before .before .before .before
+
 abbrev rule : tie.After-slice-known3 → tie.After-put-all
-rule c = c .before .before .before .before .before .before .before
+rule c = numbered c .before
 
 abbrev start : tie.After-put-all → tie.Start
 start c = c .before .before .before .before
@@ -31,9 +32,8 @@ same-length c = search needs
 
 returns : tie.Need-returns
 returns c =
-    let given = start (rule c) .args .given in
-    whole-memory (rw (record-bytes given) at (then (rule c .put-all .ensures) (c .before .before .put-u16s .ensures)))
-    (start (rule c) .pre ∙ sym (record-length (givenOf given)))
+    let first = start (rule c) in
+    record-filled (first .args .given) (then (rule c .put-all .ensures) (c .before .before .put-u16s .ensures)) (first .pre)
 
 pub put-record-spec : {M : Type 1} → statement M
 put-record-spec =
