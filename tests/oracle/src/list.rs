@@ -70,7 +70,9 @@ pub fn list(seed: u64) -> Result<List, Finding> {
     for (_, sheet) in sheets() {
         list.add_names(&sheet, &mut rng);
     }
-    for (_, sheet) in crate::restate::sheets() {
+    // Of the longest sheets the one that is refused: it has no long answer.
+    let short = |(what, sheet): &(String, Vec<u8>)| sheet.len() <= LARGE_BYTES || what == "1024 steps";
+    for (_, sheet) in crate::restate::sheets().into_iter().filter(short) {
         list.add_restatements(&sheet, &mut rng);
     }
     let entries = list.sheets + list.names + list.indexed + list.restated;

@@ -121,7 +121,7 @@ pub fn givens(bytes: &[u8], rng: &mut Rng) -> Vec<Given> {
         Given { column: LAST_COLUMN + 1, ..root },
         Given { column: u16::MAX, ..root },
         Given { kind: root.kind ^ 1, ..root },
-        Given { kind: 2 + rng.below(3) as u16 * 32767, ..root },
+        Given { kind: *rng.pick(&[2, 3, 256, u16::MAX]), ..root },
         Given { numbers: [first, second ^ 1, third], ..root },
         Given { numbers: [first, second, third ^ 1], ..root },
         Given { kind: 0, numbers: [props, 0, 0], ..root },
