@@ -108,7 +108,7 @@ fn colliding(count: usize) -> Vec<Vec<u8>> {
 pub fn sheets() -> Vec<(&'static str, Vec<u8>)> {
     let words = |list: &str| list.split(' ').map(|name| name.as_bytes().to_vec()).collect::<Vec<_>>();
     let ending = |count| {
-        let all = numbered(40_000, |number| format!("e{number}")).into_iter();
+        let all = (0..).map(|number: usize| format!("e{number}").into_bytes());
         all.filter(|name| start(name) >= 1020).take(count).collect::<Vec<_>>()
     };
     let twice = |names: Vec<Vec<u8>>| [names.clone(), names].concat();
