@@ -253,7 +253,7 @@ const MORE: usize = 10;
 /// So many of a hundred sheets are asked for the handouts of versions 2 and 3: of those whose declarations version 3
 /// puts into another order, and of all others.
 const SORTED_HANDOUTS: usize = 75;
-const HANDOUTS: usize = 15;
+const HANDOUTS: usize = 12;
 
 /// Questions with their rooms, for those that are lent one: one short, but never more than the board lends; exactly
 /// enough, and at times up to 100 more, for an answer that is not too long; and anything below 100 for a refusal.
