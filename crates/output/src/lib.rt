@@ -44,7 +44,7 @@ pub fn put_number(out: &mut [u16], to: usize, n: u16, write: bool) -> usize
 }
 
 // A number of a sheet: two bytes, the low one first.
-fn put_u16(out: &mut [u8], to: usize, n: u16, write: bool) -> usize
+pub fn put_u16(out: &mut [u8], to: usize, n: u16, write: bool) -> usize
     ensures { λ r. ⌜ Wrote (u16 n) write (now (out .entry)) to (now (out .exit)) r ⌝ }
 {
     let high = put(out, to, (n % 256) as u8, write);

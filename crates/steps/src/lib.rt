@@ -189,7 +189,7 @@ fn bad_column(step_records: &[u8], k: usize) -> bool
 }
 
 // How many identifiers the rule of a byte has.
-fn identifier_count(rule: usize) -> u8
+pub fn identifier_count(rule: usize) -> u8
     requires { ⌜ rule < length rules ⌝ }
     ensures { λ r. ⌜ r ≡ identifierCount (getD rules rule Sorry) ⌝ }
 {
