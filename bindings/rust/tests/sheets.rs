@@ -169,7 +169,14 @@ fn a_restated_sheet_prints_as_before() {
         assert_eq!(restate_in(room, given), untouched);
     };
     refused(length - 1, given, 16);
-    refused(length, Given { column: 4096, ..given }, 23);
+    refused(
+        length,
+        Given {
+            column: 4096,
+            ..given
+        },
+        23,
+    );
     refused(length, Given { kind: 1, ..given }, 25);
 }
 

@@ -60,7 +60,8 @@ impl Library {
     pub fn differs(&self, sheet: &[u8], given: Given, room: usize, salt: u8) -> Option<String> {
         let expected = restate(sheet, given, Some(room));
         let mut lent: Vec<u8> = (0..GUARD + room + GUARD).map(|position| mark(position, salt)).collect();
-        let mut slots: Vec<u16> = (0..GUARD + SLOTS + GUARD).map(|position| 0xa500 + u16::from(mark(position, salt))).collect();
+        let mut slots: Vec<u16> =
+            (0..GUARD + SLOTS + GUARD).map(|position| 0xa500 + u16::from(mark(position, salt))).collect();
         let (mut right, mut right_slots) = (lent.clone(), slots.clone());
         let (mut value, mut column) = (UNSAID, UNSAID);
         let (row, asked) = (given.row(), sheet.to_vec());
@@ -93,7 +94,10 @@ impl Library {
         ];
         let (_, how) = checks.into_iter().find(|(holds, _)| !holds)?;
         let said = (number, value, column);
-        Some(format!("{given:?} in a room of {room}: {how}, said {said:?}, expected {told:?}, a sheet of {} bytes", sheet.len()))
+        Some(format!(
+            "{given:?} in a room of {room}: {how}, said {said:?}, expected {told:?}, a sheet of {} bytes",
+            sheet.len()
+        ))
     }
 }
 

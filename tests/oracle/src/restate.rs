@@ -6,7 +6,8 @@ use crate::{
     reference,
     rng::Rng,
     sheet::{
-        decode, refuse, rule, Refusal, Sheet, Step, HEADER_BYTES, LAST_COLUMN, PAIR_BYTES, STEPS, STEP_BYTES, STEP_NESTING,
+        decode, refuse, rule, Refusal, Sheet, Step, HEADER_BYTES, LAST_COLUMN, PAIR_BYTES, STEPS, STEP_BYTES,
+        STEP_NESTING,
     },
     walk,
 };
@@ -80,7 +81,8 @@ pub fn restate(bytes: &[u8], given: Given, room: Option<usize>) -> Result<Vec<u8
         return refuse(25, 0);
     }
     let record = new.steps[new.root()].bytes();
-    let steps_end = HEADER_BYTES + PAIR_BYTES * (sheet.names.len() + sheet.props.len()) + STEP_BYTES * sheet.steps.len();
+    let steps_end =
+        HEADER_BYTES + PAIR_BYTES * (sheet.names.len() + sheet.props.len()) + STEP_BYTES * sheet.steps.len();
     let mut out = [&bytes[..steps_end], &record, &bytes[steps_end..]].concat();
     out[8..10].copy_from_slice(&(new.steps.len() as u16).to_le_bytes());
     match room {
@@ -137,7 +139,11 @@ pub fn givens(bytes: &[u8], rng: &mut Rng) -> Vec<Given> {
     });
     all.extend(equal.take(4).map(|prop| Given { kind: 0, numbers: [prop, 0, 0], column: rng.below(4096) as u16 }));
     for _ in 0..3 {
-        all.push(Given { kind: 0, numbers: [rng.below(usize::from(props)) as u16, 0, 0], column: rng.below(4096) as u16 });
+        all.push(Given {
+            kind: 0,
+            numbers: [rng.below(usize::from(props)) as u16, 0, 0],
+            column: rng.below(4096) as u16,
+        });
         let name = |rng: &mut Rng| rng.below(usize::from(names.max(1))) as u16;
         all.push(Given { kind: 1, numbers: [name(rng), second, name(rng)], column: rng.below(4096) as u16 });
     }
@@ -179,9 +185,7 @@ fn deep(levels: usize) -> Vec<u8> {
 fn with_gaps(steps: &[Step]) -> Vec<u8> {
     let sheet = renamed(steps);
     let mut layout = crate::sheet::Layout::read(&sheet).expect("the sheet is laid out");
-    for (pairs, bytes, length) in
-        [(&mut layout.names, &mut layout.text, 0), (&mut layout.props, &mut layout.code, 2)]
-    {
+    for (pairs, bytes, length) in [(&mut layout.names, &mut layout.text, 0), (&mut layout.props, &mut layout.code, 2)] {
         for (i, (offset, _)) in pairs.iter_mut().enumerate() {
             bytes.insert(usize::from(*offset) + i, 0xa0 + i as u8);
             *offset += 1 + i as u16;
