@@ -213,3 +213,35 @@ fn the_longest_text() {
         }
     });
 }
+
+/// The texts between quotation marks on a line, with `\n` for a newline.
+fn quoted(line: &str) -> Vec<String> {
+    line.split('"').skip(1).step_by(2).map(|text| text.replace("\\n", "\n")).collect()
+}
+
+/// The definitions' own tables, which their reader is shown to answer: whether each text is read.
+#[test]
+fn the_tables_of_the_definitions() {
+    let crates = concat!(env!("CARGO_MANIFEST_DIR"), "/../../crates");
+    let lines = |file: &str| std::fs::read_to_string(format!("{crates}/{file}")).unwrap();
+    let (mut taken, mut refused) = (0, 0);
+    let mut ask = |list: &str, text: &str, reads: bool| {
+        assert_eq!(read(list.as_bytes(), text.as_bytes()).is_some(), reads, "{text}");
+        *(if reads { &mut taken } else { &mut refused }) += 1;
+    };
+    for line in lines("definitions/specs/TermDrawings.antt").lines() {
+        let row = line.trim_start().trim_start_matches("∷ ");
+        if row.starts_with("readsAs \"") || row.starts_with("isRefused \"") {
+            let quoted = quoted(row);
+            ask(&quoted[0], &quoted[1], row.starts_with("readsAs"));
+        }
+    }
+    for line in lines("reading_laws/proofs/ReadTexts.antt").lines() {
+        let row = line.trim_start().trim_start_matches("∷ ");
+        if let Some((list, rest)) = row.strip_prefix("read (").and_then(|row| row.split_once("[]) ")) {
+            let text = &quoted(rest)[0];
+            ask(&quoted(list).join("\n"), text, rest[text.len() + 2..].starts_with(" (accepted"));
+        }
+    }
+    assert_eq!((taken, refused), (18 + 83, 12 + 45));
+}
