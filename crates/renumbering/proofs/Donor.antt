@@ -1,27 +1,25 @@
 -- With a map that has a donor's merged numbers, what is written is the donor's part of the merged sheet.
 use Prim.Native.Nat.{ℕ, zero, suc, _+_, _≤_, _<_}
-use mathlib.Core.Path.{_≡_, refl, sym, ap, _∙_}
-use mathlib.Core.Bool.{Bool, true, false, not, cond, _||_, true≢false}
+use mathlib.Core.Path.{_≡_, refl, ap}
+use mathlib.Core.Bool.{Bool, true, false, not, cond, true≢false}
 use mathlib.Core.List.{List, [], _∷_, _++_, map}
 use native.Mathlib.Omega.{arith}
-use lib.ListN.{length, getD}
+use lib.ListN.{length}
 use lib.Dec.{eqb, leb}
-use borrow.Author.Tests.{leb-false, eqb-true, not-false, eq-eqb, ne-eqb}
+use borrow.Author.Tests.{leb-false, eqb-true, not-false}
 use Rattle.definitions.specs.Prop.{Prop, renameProp}
 use Rattle.definitions.specs.Code.{u16, encode, Codable}
-use Rattle.definitions.specs.Sheet.{stepNumber, ruleByte, column, names, propositions, steps, stepRecords}
-use Rattle.definitions.specs.Tree.{rules, Sorry, ruleIn, identifierCount}
-use Rattle.definitions.specs.Admission.{noName, notZero, badIdentifier, badPropIsTrue, badTypeJudgement, badConclusion, badStep}
+use Rattle.definitions.specs.Sheet.{stepNumber, column, names, propositions, steps, stepRecords}
+use Rattle.definitions.specs.Tree.{ruleIn, identifierCount}
+use Rattle.definitions.specs.Admission.{notZero, badPropIsTrue, badTypeJudgement, badConclusion, badStep}
 use Rattle.definitions.specs.Encode.{concat}
 use Rattle.definitions.specs.Graft.{upTo, renumbered, donorName, donorRecord, donorRecords}
 use Rattle.definitions.proofs.Either.{neither}
 use Rattle.graft_laws.proofs.MergedSheet.{rename-same}
-use Rattle.graft_laws.proofs.MergedFields.{Tests, tests}
-use Rattle.graft_laws.proofs.MergedSteps.{GoodStep, good-step}
+use Rattle.graft_laws.proofs.MergedFields.{tests}
+use Rattle.graft_laws.proofs.MergedSteps.{good-step}
 use Rattle.output.specs.Numbers.{u16s}
 use Rattle.steps.specs.declared.Conclusion.the-variants.{PropIsTrue, TypeJudgement}
-use Rattle.steps.specs.declared.Judgement.{Judgement}
-use Rattle.steps.specs.Records.{HasStep}
 use Rattle.steps.specs.StepAt.{identifierAt, conclusionAt, stepAt}
 use Rattle.renumbering.specs.Renumbered.{mapped}
 use Rattle.renumbering.proofs.Steps.{map-append}

@@ -1,17 +1,17 @@
 -- What is written for a head: a byte below 5 is one by itself, an atom has a name and parameters, a quantifier two names.
-use Prim.Native.Nat.{ℕ, _+_, _≤_, _<_}
-use mathlib.Core.Path.{_≡_, refl, sym, ap, _∙_}
+use Prim.Native.Nat.{ℕ, _+_, _<_}
+use mathlib.Core.Path.{_≡_, refl}
 use mathlib.Core.Bool.{Bool}
-use mathlib.Core.List.{List, [], _∷_, _++_}
+use mathlib.Core.List.{List, [], _∷_}
 use native.Mathlib.Omega.{arith}
-use lib.ListN.{length, getD, drop, length-map}
+use lib.ListN.{getD, length-map}
 use Rattle.definitions.specs.Sheet.{numberAt}
-use Rattle.definitions.specs.Prop.{PropParameter, Quantifier, connectiveByte, quantifierByte}
-use Rattle.definitions.specs.Code.{u16, encodeParameters}
+use Rattle.definitions.specs.Prop.{PropParameter, Quantifier, connectiveByte}
+use Rattle.definitions.specs.Code.{u16}
 use Rattle.output.specs.Wrote.{Wrote}
 use Rattle.output.proofs.Writing as writing
 use Rattle.prefix_code.specs.Scan.{Stands, parametersCoding}
-use Rattle.prefix_code.specs.Head.{Head, TrueHead, FalseHead, BinaryHead, AtomHead, QuantifiedHead, encodeHead, CodableHead, headCoding}
+use Rattle.prefix_code.specs.Head.{Head, TrueHead, FalseHead, BinaryHead, AtomHead, QuantifiedHead, encodeHead, headCoding}
 use Rattle.prefix_code.proofs.Positions.{byte-at}
 use Rattle.prefix_code.proofs.Heads.{HeadAt, HeadBytes, head-bytes, AtomBytes, atom-bytes, QuantifiedBytes, quantified-bytes, connective-byte, quantifier-byte}
 use Rattle.renumbering.specs.Renumbered.{mapped, renameHead, renameParameters, Standing, Renumbers}

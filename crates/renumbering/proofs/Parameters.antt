@@ -1,12 +1,12 @@
 -- What is written for a parameter, and for parameters one after another.
-use Prim.Native.Nat.{ℕ, zero, suc, _+_, _-_, _≤_, _<_}
-use mathlib.Core.Path.{_≡_, refl, sym, ap, _∙_}
+use Prim.Native.Nat.{ℕ, _+_, _-_, _≤_, _<_}
+use mathlib.Core.Path.{_≡_, refl, sym, _∙_}
 use mathlib.Core.Bool.{Bool}
 use mathlib.Core.List.{List, [], _∷_, _++_, append-assoc}
 use native.Mathlib.Omega.{arith}
 use lib.ListN.{length, getD, drop}
 use Rattle.definitions.specs.Sheet.{numberAt}
-use Rattle.definitions.specs.Prop.{PropParameter, Uninstantiated, Instantiated, renameParameter}
+use Rattle.definitions.specs.Prop.{PropParameter, renameParameter}
 use Rattle.definitions.specs.Code.{u16, encodeParameter, encodeParameters, CodableParameters}
 use Rattle.output.specs.Wrote.{Wrote}
 use Rattle.output.proofs.Writing as writing

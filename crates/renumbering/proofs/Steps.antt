@@ -1,10 +1,10 @@
 -- What is made of a conclusion and a step, and what is written of them, piece by piece.
-use Prim.Native.Nat.{ℕ, _+_, _<_}
+use Prim.Native.Nat.{ℕ, _+_}
 use mathlib.Core.Path.{_≡_, refl, sym, ap, _∙_}
-use mathlib.Core.Bool.{Bool, true, false, cond, true≢false}
+use mathlib.Core.Bool.{Bool, true, false}
 use mathlib.Core.List.{List, [], _∷_, _++_, map, append-assoc, append-nil}
 use native.Mathlib.Numerals.{add-one}
-use lib.ListN.{length, getD}
+use lib.ListN.{getD}
 use lib.Dec.{leb}
 use Rattle.definitions.specs.Tree.{rules, Sorry, identifierCount}
 use Rattle.definitions.specs.Encode.{concat}
@@ -17,7 +17,6 @@ use Rattle.steps.specs.declared.Conclusion.the-variants.{PropIsTrue, TypeJudgem
 use Rattle.steps.specs.declared.Judgement.{Judgement}
 use Rattle.steps.specs.declared.Step.{Step}
 use Rattle.steps.specs.StepAt.{stepAt}
-use Rattle.renumbering.specs.Renumbered.{mapped}
 use Rattle.renumbering.specs.StepOver.{identifiersOf, nameOver, conclusionOver, stepOver, conclusionBytes, stepBytes, stepsOver}
 
 -- a number that is a name's, and one that is not
