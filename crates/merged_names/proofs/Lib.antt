@@ -1,0 +1,2 @@
+pub mod Knowing
+pub mod Storing
