@@ -11,7 +11,7 @@ int main(int argc, char **argv) {
         return 2;
     }
     static uint8_t sheet[SKRIDUHOL_LONGEST_SHEET + 1], new_sheet[SKRIDUHOL_LONGEST_SHEET];
-    static uint16_t slots[1024]; /* the index of the names, for a program that goes on to search them */
+    static uint16_t slots[SKRIDUHOL_SLOT_COUNT]; /* the index of the names, for a program that goes on to search them */
     size_t length = fread(sheet, 1, sizeof sheet, stdin);
     uint16_t given[5] = {0, (uint16_t)strtoul(argv[1], NULL, 10), 0, 0, (uint16_t)strtoul(argv[2], NULL, 10)};
     size_t value, column;
