@@ -1,13 +1,13 @@
 -- What an answer says of the bytes that are handed over and of the slots.
 use Prim.Native.Nat.{ℕ, _≤_}
 use mathlib.Core.Path.{_≡_, refl, sym, ap, ap₂, _∙_}
-use mathlib.Core.List.{List, _++_}
+use mathlib.Core.List.{List}
 use native.Mathlib.Omega.{arith}
 use lib.ListN.{length, take, drop}
 use lib.Seq.{take-at}
 use Rattle.definitions.specs.declared.Refusal.{Refusal}
 use Rattle.definitions.specs.Outcome.{Outcome, refused, accepted, _>>=_}
-use Rattle.definitions.specs.Sheet.{nameLimit, nameOf, names}
+use Rattle.definitions.specs.Sheet.{nameLimit, names}
 use Rattle.definitions.specs.Admission.{admitted}
 use Rattle.definitions.specs.NameIndex.{index, indexOf}
 use Rattle.definitions.specs.Restate.{Given, restated, restateAnswer}

@@ -5,7 +5,7 @@ use mathlib.Core.Bool.{Bool, true}
 use mathlib.Core.List.{List, [], _∷_, _++_, append-assoc, append-nil}
 use native.Mathlib.Omega.{arith}
 use lib.ListN.{length, take, drop}
-use lib.Seq.{sets, sets-eq, drop-length, drop-drop, take-add}
+use lib.Seq.{sets-eq, drop-length, drop-drop, take-add}
 use Rattle.definitions.specs.Code.{u16}
 use Rattle.definitions.specs.Sheet.{headerSize, pairSize, stepSize, stepLimit, names, propositions, steps, textLength, codeLength, namePairsStart, propositionPairsStart, stepsStart, textStart, codeStart, sheetLength, namePairs, propositionPairs, stepRecords, textBytes, codeBytes}
 use Rattle.definitions.specs.Encode.{ruleNumber, encodeIdentifier, noIdentifier, encodeRule}

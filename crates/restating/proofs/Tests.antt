@@ -1,22 +1,21 @@
 -- The tests between refusals 11 and 16, and what they make of the answer.
-use Prim.Native.Nat.{ℕ, _+_, _-_, _≤_, _<_}
-use mathlib.Core.Path.{_≡_, refl, sym, ap, _∙_}
+use Prim.Native.Nat.{ℕ, _-_, _≤_, _<_}
+use mathlib.Core.Path.{_≡_, refl, ap, _∙_}
 use mathlib.Core.Bool.{Bool, true, false, _||_, not}
-use mathlib.Core.List.{List, _++_}
+use mathlib.Core.List.{List}
 use native.Mathlib.Omega.{arith}
-use lib.ListN.{length, getD}
-use lib.Dec.{leb, ltb}
+use lib.ListN.{getD}
+use lib.Dec.{leb}
 use borrow.Author.Tests.{le-leb, lt-leb, leb-false}
 use Rattle.definitions.specs.declared.Refusal.{Refusal}
 use Rattle.definitions.specs.declared.Found.{Found}
 use Rattle.definitions.specs.declared.Found.the-variants.{Nowhere}
-use Rattle.definitions.specs.Outcome.{Outcome, refused, accepted, refuse, _>>=_, refuseIf, lowest, foundAt}
+use Rattle.definitions.specs.Outcome.{Outcome, refused, accepted, refuse, _>>=_, refuseIf, foundAt}
 use Rattle.definitions.specs.Sheet.{stepSize, stepLimit, treeNestingLimit, names, propositions, steps, propositionPairs, codeBytes, stepRecords, nameOf}
-use Rattle.definitions.specs.Tree.{height, treeIn, treeOf, rootOf, renameConclusion}
+use Rattle.definitions.specs.Tree.{height, treeOf, rootOf, renameConclusion}
 use Rattle.definitions.specs.Admission.{admitted, badStep, deepTree}
-use Rattle.definitions.specs.Answers.{inRoom, namedConclusion}
+use Rattle.definitions.specs.Answers.{inRoom}
 use Rattle.definitions.specs.Restate.{Given, newRecord, badGiven, noStepLeft, givenConclusion, restatedSheet, restated, restateAnswer}
-use Rattle.definitions.proofs.Either.{neither}
 use Rattle.writer_laws.proofs.Checks.{admitted-checks}
 use Rattle.writer_laws.proofs.Restating.{new-step-bad}
 use Rattle.output.specs.declared.Written.{Written}
@@ -25,7 +24,6 @@ use Rattle.output.specs.Written.{Fills}
 use Rattle.output.proofs.Filling.{refuses}
 use Rattle.steps.specs.Records.{HasStep, HasSteps}
 use Rattle.steps.specs.Tables.{SizeTable, HeightTable, FilledHeights, passed}
-use Rattle.steps.specs.declared.Conclusion.{Conclusion}
 use Rattle.steps.specs.StepAt.{stepAt}
 use Rattle.steps.proofs.StepAt.{conclusion-is}
 use Rattle.steps.proofs.GoodSteps.{known-conclusion}

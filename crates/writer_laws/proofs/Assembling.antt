@@ -1,9 +1,9 @@
 -- A sheet that is put together has the parts that it was put together from.
-use Prim.Native.Nat.{ℕ, _+_, _*_, _/_, _%_, _≤_, _<_}
-use mathlib.Core.Path.{_≡_, refl, sym, ap, _∙_}
-use mathlib.Core.List.{List, [], _∷_, _++_}
+use Prim.Native.Nat.{ℕ, _+_, _*_}
+use mathlib.Core.Path.{_≡_, refl, _∙_}
+use mathlib.Core.List.{List, _++_}
 use native.Mathlib.Omega.{arith}
-use lib.ListN.{length, getD, take, drop, length-append}
+use lib.ListN.{length, drop, length-append}
 use lib.Seq.{drop-drop, take-at, drop-at, take-length}
 use Rattle.definitions.specs.Code.{u16}
 use Rattle.definitions.specs.Sheet as sheet

@@ -1,14 +1,13 @@
 -- Refusals 1 to 11 taken apart: a sheet is admitted just where each check passes.
-use Prim.Native.Nat.{ℕ, _+_, _-_, _≤_, _<_}
-use mathlib.Core.Path.{_≡_, refl, sym, ap, _∙_}
-use mathlib.Core.Bool.{Bool, true, false, _||_, not, cond}
-use mathlib.Core.Option.{Option, none, some}
-use mathlib.Core.List.{List, [], _∷_}
-use native.Mathlib.Omega.{arith}
+use Prim.Native.Nat.{ℕ, _-_, _≤_, _<_}
+use mathlib.Core.Path.{_≡_}
+use mathlib.Core.Bool.{false, not}
+use mathlib.Core.Option.{none}
+use mathlib.Core.List.{List}
 use lib.ListN.{length}
-use lib.Dec.{ltb, leb, eqb}
+use lib.Dec.{ltb, eqb}
 use borrow.Author.Tests.{ltb-false, leb-false, le-ltb, lt-leb}
-use Rattle.definitions.specs.Outcome.{Outcome, refused, accepted, refuse, _>>=_, refuseIf, refuseAt, refuseLowest, lowest}
+use Rattle.definitions.specs.Outcome.{accepted, _>>=_, refuseIf, refuseAt, refuseLowest, lowest}
 use Rattle.definitions.specs.Sheet as sheet
 use Rattle.definitions.specs.Sheet.{headerSize, textLimit, nameLimit, codeLimit, propositionLimit, stepLimit, textLength, names, codeLength, propositions, steps, goal, headerOutOfRange, sheetLength, namePairs, propositionPairs, stepRecords, textBytes, codeBytes}
 use Rattle.definitions.specs.Tree.{ProofTree, rootOf}

@@ -1,17 +1,13 @@
 -- A step's record has the same fields wherever it stands among records.
 use Prim.Native.Nat.{ℕ, zero, suc, _+_, _*_, _-_, _≤_, _<_}
-use mathlib.Core.Path.{_≡_, refl, sym, ap, _∙_}
-use mathlib.Core.Bool.{Bool, true, false, _||_, cond}
-use mathlib.Core.Option.{Option, none, some}
-use mathlib.Core.List.{List, [], _∷_, _++_}
+use mathlib.Core.Path.{_≡_, refl, _∙_}
+use mathlib.Core.List.{List, _++_}
 use native.Mathlib.Omega.{arith}
-use lib.ListN.{length, getD, drop, List·getD-append}
+use lib.ListN.{length, getD, List·getD-append}
 use lib.Seq.{getD-append-add}
-use lib.Dec.{eqb}
-use Rattle.definitions.specs.Outcome.{lowest, firstOf}
 use Rattle.definitions.specs.Sheet.{stepSize, numberAt, ruleByte, premissCount, stepNumber, column}
-use Rattle.definitions.specs.Tree.{Identifier, ProofTree, ProofTreeConclusion, PropIsTrue, TypeJudgement, Step, ruleIn, propIn, identifierIn, conclusionIn, stepIn, stepOver, treesBefore, treeIn, lastTrees, over}
-use Rattle.definitions.specs.Admission.{noName, notZero, badIdentifier, badPropIsTrue, badTypeJudgement, badConclusion, badColumn, identifiers, badStep, tooFewTrees, deepTree}
+use Rattle.definitions.specs.Tree.{ruleIn, identifierIn, conclusionIn, stepIn, stepOver, treesBefore, treeIn}
+use Rattle.definitions.specs.Admission.{noName, notZero, badIdentifier, badPropIsTrue, badTypeJudgement, badConclusion, badColumn, identifiers, badStep}
 
 -- step k of the one has the bytes of step j of the other
 pub record SameStep (records : List ℕ) (k : ℕ) (others : List ℕ) (j : ℕ) : Type 0 where

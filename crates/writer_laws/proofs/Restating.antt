@@ -1,45 +1,43 @@
 -- Ticket 9: the restated sheet is admitted, and every answer to it is the old sheet's.
 use Prim.Native.Nat.{ℕ, zero, suc, _+_, _*_, _-_, _≤_, _<_}
-use mathlib.Core.Path.{_≡_, refl, sym, ap, ap₂, _∙_}
-use mathlib.Core.Bool.{Bool, true, false, _||_, not, cond}
+use mathlib.Core.Path.{_≡_, refl, ap, ap₂, _∙_}
+use mathlib.Core.Bool.{Bool, true, false}
 use mathlib.Core.Option as option
-use mathlib.Core.Option.{Option}
 use mathlib.Core.List.{List, [], _∷_, _++_}
 use native.Mathlib.Omega.{arith}
 use native.Mathlib.Numerals.{add-one}
-use lib.ListN.{length, getD, take, drop, length-append, length-take, length-drop}
+use lib.ListN.{length, getD, take, drop, length-append, length-drop}
 use lib.Seq.{length-take-le}
-use lib.Dec.{ltb, leb, eqb}
+use lib.Dec.{leb}
 use borrow.Author.Tests.{eqb-true, leb-false, ltb-false, le-ltb, lt-leb, eq-eqb, not-false}
 use Rattle.definitions.specs.declared.Refusal.{Refusal}
 use Rattle.definitions.specs.declared.Style.{Style}
 use Rattle.definitions.specs.declared.Style.the-variants.{Plain}
-use Rattle.definitions.specs.Outcome.{Outcome, refused, accepted, refuse, _>>=_, mapOutcome, refuseIf, lowest}
+use Rattle.definitions.specs.Outcome.{Outcome, refused, accepted, _>>=_, refuseIf, lowest}
 use Rattle.definitions.specs.Code.{u16}
 use Rattle.definitions.specs.Sheet as sheet
-use Rattle.definitions.specs.Sheet.{headerSize, pairSize, stepSize, textLimit, nameLimit, codeLimit, propositionLimit, stepLimit, treeNestingLimit, columnLimit, textLength, codeLength, headerOutOfRange, namePairsStart, propositionPairsStart, stepsStart, textStart, codeStart, sheetLength, textBytes, codeBytes, ruleByte, premissCount, stepNumber, column, nameOf, numberAt, marked}
-use Rattle.definitions.specs.Tree as tree
-use Rattle.definitions.specs.Tree.{ProofTree, Premisses, none, _and_, over, height, heights, count, Step, AlphaEquivalent, rules, ruleIn, identifierCount, stepIn, stepOver, treesBefore, treeIn, lastTrees, propOf, conclusionOf, treeOf, rootOf}
-use Rattle.definitions.specs.Admission.{noName, notZero, badIdentifier, badConclusion, badColumn, identifiers, badStep, tooFewTrees, treesLeft, deepTree, admitted}
+use Rattle.definitions.specs.Sheet.{headerSize, pairSize, stepSize, stepLimit, treeNestingLimit, textLength, codeLength, namePairsStart, propositionPairsStart, stepsStart, textStart, codeStart, sheetLength, textBytes, codeBytes, ruleByte, premissCount, stepNumber, column, nameOf, numberAt, marked}
+use Rattle.definitions.specs.Tree.{ProofTree, none, _and_, over, height, count, Step, AlphaEquivalent, rules, ruleIn, identifierCount, stepIn, stepOver, treesBefore, treeIn, lastTrees, propOf, conclusionOf, treeOf, rootOf}
+use Rattle.definitions.specs.Admission.{notZero, badIdentifier, identifiers, badStep, tooFewTrees, treesLeft, deepTree, admitted}
 use Rattle.definitions.specs.Term.{ProofTerm, Unit}
 use Rattle.definitions.specs.Export.{Place, checking, inferring, admits, rowOf, row, admitsCount, places, ending, ruleTerm, premissTerm, stepTerm, inferringTerm, placedTerm, export, exportAll}
 use Rattle.definitions.specs.Encode.{ruleNumber, encodeIdentifier, noIdentifier, encodeRule}
 use Rattle.definitions.specs.Comparison.{conclusionAlphaEq}
 use Rattle.definitions.specs.Answers.{inRoom, boardRoom, namesStep, columnOf, located, refusalLine, printed, versionOf, sheetTerm, namedTerm, goalProp, sheetText, textAnswer, atomsAnswer, datatypesAnswer, labelCount, namedConclusion, comparison, boardOutput}
-use Rattle.definitions.specs.Assemble.{assemble, partsOf}
+use Rattle.definitions.specs.Assemble.{partsOf}
 use Rattle.definitions.specs.Restate.{Given, newRecord, withStep, noStepLeft, restatedSheet, givenConclusion, badGiven, restated, restateAnswer}
 use Rattle.definitions.specs.NameIndex.{indexOf}
-use Rattle.definitions.specs.Refusals.{Meets, Between, is-accepted}
+use Rattle.definitions.specs.Refusals.{Meets, is-accepted}
 use Rattle.definitions.proofs.Either.{neither}
 use Rattle.definitions.proofs.Outcomes.{each-accepted, test-failed}
 use Rattle.definitions.proofs.Lowest.{same-lowest, lowest-passed}
 use Rattle.definitions.proofs.PrefixCode.{split-number}
 use Rattle.definitions.proofs.Refusals.{OfStep, AllSteps, export-meets, refused-kind, after, changed, tested}
 use Rattle.writer_laws.specs.Fitting.{Fitting}
-use Rattle.writer_laws.specs.Restates.{KeepsParts, SameAnswers, NewRoot, Restates}
+use Rattle.writer_laws.specs.Restates.{KeepsParts, SameAnswers, Restates}
 use Rattle.writer_laws.proofs.Checks.{Checks, checks-admitted, admitted-checks, InRange, in-range, range-in}
 use Rattle.writer_laws.proofs.Assembling.{text-assembled, names-assembled, code-assembled, propositions-assembled, steps-assembled, goal-assembled, whole-assembled, namePairs-assembled, propositionPairs-assembled, stepRecords-assembled, textBytes-assembled, codeBytes-assembled, length-assembled}
-use Rattle.writer_laws.proofs.Records.{SameStep, same-rule-byte, same-rule, same-premiss-count, same-number, same-conclusion, same-bad-step, first-row, second-row, first-trees, first-tree}
+use Rattle.writer_laws.proofs.Records.{SameStep, same-rule, same-premiss-count, same-number, same-conclusion, same-bad-step, first-row, second-row, first-trees, first-tree}
 use Rattle.writer_laws.proofs.Places.{tree-of-first}
 
 -- AlphaEquivalent over one premiss gives its premiss's own outcome, in either place
