@@ -136,7 +136,7 @@ fn a_number_that_is_no_version_is_refused_first() {
     }
 }
 
-const BOUND_OBJECT: &[u8] = include_bytes!("../../sheets/bound_object.sheet");
+const BOUND_OBJECT: &[u8] = include_bytes!("../../../examples/sheets/bound_object.sheet");
 
 /// What becomes of memory and slots where a sheet is restated in a room of so many bytes.
 fn restate_in(room: usize, given: Given) -> (Result<usize, Refusal>, Vec<u8>, [u16; 1024]) {
