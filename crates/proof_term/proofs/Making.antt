@@ -94,6 +94,13 @@ module _
     tallied : Each (λ part. part < used) (partCount kind) a b c → tally ≡ tallyOver before kind (a ∷ b ∷ c ∷ []) → Tallied before used → Tallied after next
     unfolding tallyAt
     tallied h is t = record {
+      parts = λ m l. by-cases (decLt m used)
+          (λ earlier.
+          let same = same-field after before m (fewer after before (recordSize * used) (recordSize * (m + 1)) below (omega arith)) in
+          rw (same 0 (omega arith), same 1 (omega arith), same 2 (omega arith), same 3 (omega arith)) (t .parts m earlier))
+          (λ past.
+          let newest : m ≡ used = omega (arith, p .counted) in
+          rw (newest, field 0 (omega arith), field 1 (omega arith), field 2 (omega arith), field 3 (omega arith)) h);
       cut-counts = λ m l props. by-cases (decLt m used)
           (λ earlier.
           same-field after before m (fewer after before (recordSize * used) (recordSize * (m + 1)) below (omega arith)) 6 (omega arith)

@@ -6,12 +6,17 @@ use mathlib.Core.List.{List}
 use lib.ListN.{getD}
 use Rattle.definitions.specs.Prop.{Prop}
 use Rattle.definitions.specs.Term.{annotationCount}
-use Rattle.proof_term.specs.Records.{fieldAt, partCount, termAt}
+use Rattle.proof_term.specs.Records.{fieldAt, partCount, Each, termAt}
 use Rattle.proof_term.specs.Labels.{hasLabel}
 
 -- the most that a tally says
 abbrev pub tallyLimit : ℕ
 tallyLimit = 65535
+
+-- the parts of record m are earlier records
+abbrev pub PartsEarlier : List ℕ → ℕ → Type 0
+PartsEarlier records m =
+    Each (λ part. part < m) (partCount (fieldAt records m 0)) (fieldAt records m 1) (fieldAt records m 2) (fieldAt records m 3)
 
 -- the tally that record n keeps
 unfoldable pub tallyAt : List ℕ → ℕ → ℕ
@@ -31,8 +36,9 @@ unfoldable pub tallyOver : List ℕ → ℕ → List ℕ → ℕ
 tallyOver records kind numbers =
     min (ownCount kind (getD numbers 2 0) + sumOf (partCount kind) (λ i. tallyAt records (getD numbers i 0))) tallyLimit
 
--- each record below `used` keeps the label count of its term, as far as the limit
+-- each record below `used` has earlier records for parts, and keeps the label count of its term, as far as the limit
 pub record Tallied (records : List ℕ) (used : ℕ) : Type 0 where
+  pub parts : (m : ℕ) → m < used → PartsEarlier records m
   pub cut-counts : (m : ℕ) → m < used → (props : ℕ → Prop ℕ) → tallyAt records m ≡ min (annotationCount (termAt props records m)) tallyLimit
 
 -- a node of the term that record n holds: its own record, or that of a part of a node

@@ -50,9 +50,9 @@ from-first {next = next} low o =
     let all : next - 1 + 1 ≡ next = omega arith in
     record { labels = λ props. rw all (o props .made ∙ sym (o props .whole)) }
 
--- before any record is made, each keeps its tally
+-- before any record is made, each has earlier parts and keeps its tally
 none-made : {terms : List ℕ} → Tallied terms 0
-none-made = record { cut-counts = λ m l. absurd (omega arith) }
+none-made = record { parts = λ m l. absurd (omega arith); cut-counts = λ m l. absurd (omega arith) }
 
 module _ {s : List ℕ} {h : Sheet} (a : AcceptedSheet s h) where
   -- the root's outcome is the sheet's
@@ -102,6 +102,7 @@ module _ {s : List ℕ} {h : Sheet} (a : AcceptedSheet s h) where
             held = omega (arith, t .low, t .high, most, range .steps, range .some-step);
             below = names-below _ (t .holds);
             in-order = ordered;
+            parts = λ m h. t .grown .tallied none-made .parts m (omega (arith, t .low));
             tallied = nodes-tallied (rw (← all) at (t .grown .tallied none-made)) ordered (omega (arith, t .high, most, range .steps));
             labels = λ m h l. record {
               datatype = datatype-below _ ordered (names-below _ (t .holds)) m h l;

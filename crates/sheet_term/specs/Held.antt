@@ -12,7 +12,7 @@ use Rattle.prefix_code.specs.PropAt.{propAt}
 use Rattle.prefix_code.specs.Shape.{ImplicationAt}
 use Rattle.proof_term.specs.Records.{recordSize, termAt}
 use Rattle.proof_term.specs.Labels.{InOrder, LabelsFit}
-use Rattle.proof_term.specs.Tally.{NodesTallied}
+use Rattle.proof_term.specs.Tally.{PartsEarlier, NodesTallied}
 use Rattle.proof_term.specs.Readable.{NamesBelow}
 use Rattle.sheet.specs.declared.header.Sheet.{Sheet}
 use Rattle.sheet.proofs.Admitted.{AcceptedSheet}
@@ -27,14 +27,15 @@ pub record LabelStands (s : List ℕ) (offset : ℕ) : Type 0 where
       let whole = pairOffset (propositionPairs s) number in
       (offset ≡ whole) ⊎ ImplicationAt (codeBytes s) whole offset
 
--- record n of the whole memory holds the sheet's term: its names are the sheet's, its records stand in its order, each node keeps its
--- label count, and the labels fit: a datatype is a name of the sheet, and a proposition stands in the code
+-- record n of the whole memory holds the sheet's term: its names are the sheet's, its records stand in its order over earlier parts,
+-- each node keeps its label count, and the labels fit: a datatype is a name of the sheet, and a proposition stands in the code
 pub record HeldTerm (s terms : List ℕ) (n : ℕ) : Type 0 where
   pub is-term : sheetTerm s ≡ accepted (termAt (propAt (names s) (codeBytes s)) terms n)
   pub room : length terms ≡ 2 * recordSize * stepLimit
   pub held : recordSize * (n + 1) ≤ length terms
   pub below : NamesBelow (names s) (termAt (propAt (names s) (codeBytes s)) terms n)
   pub in-order : InOrder terms n
+  pub parts : (m : ℕ) → m ≤ n → PartsEarlier terms m
   pub tallied : NodesTallied terms n
   pub labels : LabelsFit (names s) (LabelStands s) terms n
 

@@ -1,0 +1,3 @@
+-- Laws of records over other names.
+pub mod Numbers
+pub mod Terms
