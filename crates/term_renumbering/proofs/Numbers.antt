@@ -19,13 +19,13 @@ pub past-kinds : (kind label i : ℕ) → 14 ≤ kind → false ≡ isName kind 
 unfolding isName
 past-kinds kind label i h = rw (List·getD-eq-default marks 0 {n = 6 * kind + i} (omega arith))
 
-pub if-datatype : (kind label i mark : ℕ) → mark ≡ markAt kind i → mark ≡ 2 → eqb label 2 ≡ isName kind label i
+pub if-datatype : (kind label i mark : ℕ) → mark ≡ markAt kind i → mark ≡ 100 → eqb label 2 ≡ isName kind label i
 unfolding isName
-if-datatype kind label i mark is e = rw (eq-eqb (markAt kind i) 2 (sym is ∙ e))
+if-datatype kind label i mark is e = rw (eq-eqb (markAt kind i) 100 (sym is ∙ e))
 
-pub by-mark : (kind label i mark : ℕ) → mark ≡ markAt kind i → (mark ≡ 2 → ⊥) → eqb mark 1 ≡ isName kind label i
+pub by-mark : (kind label i mark : ℕ) → mark ≡ markAt kind i → (mark ≡ 100 → ⊥) → eqb mark 110 ≡ isName kind label i
 unfolding isName
-by-mark kind label i mark is e = rw (ne-eqb (markAt kind i) 2 (λ z. e (is ∙ z)), is)
+by-mark kind label i mark is e = rw (ne-eqb (markAt kind i) 100 (λ z. e (is ∙ z)), is)
 
 -- A number of a record.
 module _ (f : ℕ → ℕ) (kind label i number : ℕ) where

@@ -2,27 +2,24 @@
 use Prim.Native.Nat.{ℕ, _+_, _*_, _≤_, _<_}
 use mathlib.Core.Path.{_≡_}
 use mathlib.Core.Bool.{Bool, cond}
-use mathlib.Core.List.{List, [], _∷_, _++_}
+use mathlib.Core.List.{List}
 use lib.ListN.{length, getD}
 use lib.Dec.{eqb}
+use Rattle.definitions.specs.Utf8.{utf8}
 use Rattle.definitions.specs.Prop.{Prop, renameProp}
 use Rattle.proof_term.specs.Records.{recordSize, fieldAt}
 use Rattle.proof_term.specs.Labels.{Labelled}
 
--- for each kind, which of the first six numbers of its records are names: 1 for a name, 2 for one if the label is a datatype
+-- for each kind, which of the first six numbers of its records are names: `n` for a name, `d` for one if the label is a datatype
 abbrev pub marks : List ℕ
-marks =
-    0 ∷ 1 ∷ 0 ∷ 0 ∷ 0 ∷ 0 ∷ 0 ∷ 0 ∷ 0 ∷ 0 ∷ 0 ∷ 0 ∷ 0 ∷ 0 ∷ 0 ∷ 0 ∷ 0 ∷ 0 ∷ 0 ∷ 0 ∷ 0 ∷ 0 ∷ 0 ∷ 0
-    ∷ 0 ∷ 0 ∷ 1 ∷ 0 ∷ 2 ∷ 0 ∷ 0 ∷ 0 ∷ 0 ∷ 0 ∷ 0 ∷ 0 ∷ 0 ∷ 0 ∷ 0 ∷ 1 ∷ 1 ∷ 0 ∷ 0 ∷ 0 ∷ 0 ∷ 0 ∷ 0 ∷ 0
-    ∷ 0 ∷ 0 ∷ 0 ∷ 0 ∷ 0 ∷ 0 ∷ 0 ∷ 0 ∷ 0 ∷ 0 ∷ 1 ∷ 1 ∷ 0 ∷ 0 ∷ 0 ∷ 0 ∷ 0 ∷ 0 ∷ 0 ∷ 0 ∷ 0 ∷ 0 ∷ 2 ∷ 0
-    ∷ 0 ∷ 0 ∷ 0 ∷ 0 ∷ 0 ∷ 0 ∷ 0 ∷ 0 ∷ 0 ∷ 0 ∷ 0 ∷ 0 ∷ []
+marks = utf8 "-n------------------------n-d----------nn-----------------nn----------d-------------"
 
 abbrev pub markAt : ℕ → ℕ → ℕ
 markAt kind i = getD marks (6 * kind + i) 0
 
 -- whether number i of a record is a name, by its kind and the kind of its label
 unfoldable pub isName : ℕ → ℕ → ℕ → Bool
-isName kind label i = cond (eqb (markAt kind i) 2) (eqb label 2) (eqb (markAt kind i) 1)
+isName kind label i = cond (eqb (markAt kind i) 100) (eqb label 2) (eqb (markAt kind i) 110)
 
 module _ (f : ℕ → ℕ) where
   -- number i of a record: over other names if it is a name, else as it was

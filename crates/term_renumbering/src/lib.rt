@@ -13,94 +13,6 @@ ghost use Rattle.term_renumbering.specs.Over.{isName, numberOver, Record
 // The numbers of a record that may be names: all but its tally.
 const NUMBERS: usize = RECORD_SIZE - 1;
 
-// For each kind, which of its numbers are names: 1 for a name, 2 for one if the label is a datatype.
-const MARKS: [u8; NUMBERS * KINDS] = [
-    0,
-    1,
-    0,
-    0,
-    0,
-    0,
-    0,
-    0,
-    0,
-    0,
-    0,
-    0,
-    0,
-    0,
-    0,
-    0,
-    0,
-    0,
-    0,
-    0,
-    0,
-    0,
-    0,
-    0,
-    0,
-    0,
-    1,
-    0,
-    2,
-    0,
-    0,
-    0,
-    0,
-    0,
-    0,
-    0,
-    0,
-    0,
-    0,
-    1,
-    1,
-    0,
-    0,
-    0,
-    0,
-    0,
-    0,
-    0,
-    0,
-    0,
-    0,
-    0,
-    0,
-    0,
-    0,
-    0,
-    0,
-    0,
-    1,
-    1,
-    0,
-    0,
-    0,
-    0,
-    0,
-    0,
-    0,
-    0,
-    0,
-    0,
-    2,
-    0,
-    0,
-    0,
-    0,
-    0,
-    0,
-    0,
-    0,
-    0,
-    0,
-    0,
-    0,
-    0,
-];
-
 // Whether number `i` of a record is a name, by its kind and the kind of its label.
 fn is_name(kind: usize, label: usize, i: usize) -> bool
     requires { ⌜ i < 6 ⌝ }
@@ -109,11 +21,14 @@ fn is_name(kind: usize, label: usize, i: usize) -> bool
     if KINDS <= kind {
         return false;
     }
-    let mark = MARKS[NUMBERS * kind + i];
-    if mark == 2 {
+    // for each kind the marks of its numbers: `n` for a name, `d` for one if the label is a datatype
+    let marks =
+        b"-n------------------------n-d----------nn-----------------nn----------d-------------";
+    let mark = marks[NUMBERS * kind + i];
+    if mark == b'd' {
         return label == DATATYPE;
     }
-    mark == 1
+    mark == b'n'
 }
 
 // Number `i` of a record: what the map has for it if it is a name, and 0 past its end; else the number itself.

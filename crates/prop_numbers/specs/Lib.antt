@@ -1,0 +1,3 @@
+-- Propositions as numbers, and what the functions over them say.
+pub mod Standing
+pub mod Answering
