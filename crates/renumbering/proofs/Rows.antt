@@ -125,6 +125,11 @@ module _ (names : ℕ) where
         };
       }
 
+-- all of the code is a row of one proposition
+pub whole-row : {names : ℕ} {code : List ℕ} {p : Prop ℕ} → Codable names p → code ≡ encode p → RowAt names code 0 (p ∷ [])
+unfolding CodableRow row
+whole-row {p = p} g e = record { codable = (g, tt); coded = e ∙ sym (append-nil (encode p)) }
+
 -- The propositions that are left decide what is left to write.
 module _ (names : ℕ) (code numbers : List ℕ) (write : Bool) (before : List ℕ) (to : ℕ) where
   pub record Rest (p : Prop ℕ) (mid : List ℕ) (i position : ℕ) : Type 0 where
@@ -143,7 +148,7 @@ module _ {names : ℕ} {code numbers : List ℕ} {write : Bool} {before : List �
     inside = omega arith;
     some = λ p g e. record {
       others = p ∷ [];
-      stands = record { codable = (g, tt); coded = e ∙ sym (append-nil (encode p)) };
+      stands = whole-row g e;
       left = rw append-nil all-left;
     };
   }
