@@ -25,6 +25,7 @@ pub mod Exercises
 pub mod NameIndex
 pub mod TermText
 pub mod TermReader
+pub mod TermMemory
 pub mod CheckingRules
 pub mod Checker
 pub mod Sound

@@ -61,7 +61,7 @@ pub const DATATYPE: usize = 2;
 const PART_COUNTS: [u8; KINDS] = [0, 2, 1, 1, 1, 2, 2, 1, 1, 3, 1, 1, 0, 0];
 
 // Stores record `used` and gives the number of the next one.
-fn push(
+pub fn push(
     records: &mut [u16],
     used: usize,
     kind: u16,

@@ -1,0 +1,5 @@
+pub mod Forms
+pub mod Growing
+pub mod Numbers
+pub mod Standing
+pub mod Using
