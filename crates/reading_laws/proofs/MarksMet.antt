@@ -28,20 +28,20 @@ pub record Begins (ms all : List Mark) : Type 0 where
 pub begins-all : (ms : List Mark) → Begins ms ms
 begins-all ms = record { more = []; is = sym (append-nil ms) }
 
-begins-by : {ms : List Mark} (all more : List Mark) {then : List Mark} → Begins ms all → then ≡ all ++ more → Begins ms then
+pub begins-by : {ms : List Mark} (all more : List Mark) {then : List Mark} → Begins ms all → then ≡ all ++ more → Begins ms then
 begins-by {ms = ms} all more h e = record { more = h .more ++ more; is = let f = h .is in cc (append-assoc ms (h .more) more) }
 
-begins-as : {ms all then : List Mark} → Begins ms all → then ≡ all → Begins ms then
+pub begins-as : {ms all then : List Mark} → Begins ms all → then ≡ all → Begins ms then
 begins-as h e = rw e h
 
 pub begins-then : {a b c : List Mark} → Begins a b → Begins b c → Begins a c
 begins-then {b = b} h k = begins-by b (k .more) h (k .is)
 
-abbrev After : List Mark → State → Type 0
+abbrev pub After : List Mark → State → Type 0
 After ms τ = Begins ms (met τ)
 
 module _ (ms : List Mark) where
-  after-used : (k : List Entry) (p : Purpose) (a : Shown (ProofTerm Name)) (s : List ℕ) → Begins ms (entriesMarks k ++ (purposeMarks p ++ marks (a .shown)))
+  pub after-used : (k : List Entry) (p : Purpose) (a : Shown (ProofTerm Name)) (s : List ℕ) → Begins ms (entriesMarks k ++ (purposeMarks p ++ marks (a .shown)))
       → Next (After ms) (used k p a s)
   unfolding Next used met purposeMarks standing marks
   after-used k asHead a s h = h

@@ -5,3 +5,5 @@ pub mod Coming
 pub mod Grown
 pub mod Used
 pub mod Closes
+pub mod Opened
+pub mod Leaves

@@ -1,24 +1,26 @@
 -- A turn of the machine: what is known within it, and where it ends.
 use Prim.Native.Nat.{ℕ, _+_, _-_, _*_, _<_, _≤_}
 use mathlib.Core.Path.{_≡_}
-use mathlib.Core.Bool.{Bool, _||_}
+use mathlib.Core.Bool.{Bool, false, _||_}
 use mathlib.Core.Option.{Option}
-use mathlib.Core.List.{List, _∷_, _++_}
+use mathlib.Core.List.{List, [], _∷_, _++_}
 use lib.ListN.{length, drop}
 use lib.Dec.{eqb}
 use Rattle.definitions.specs.Outcome.{refuse}
 use Rattle.definitions.specs.Name.{Name}
-use Rattle.definitions.specs.Term.{ProofTerm}
-use Rattle.definitions.specs.TermReader.{Shown, readAnswer}
+use Rattle.definitions.specs.Term.{ProofTerm, annotationCount}
+use Rattle.definitions.specs.TermText.{termNesting}
+use Rattle.definitions.specs.TermReader.{Shown, standing, readAnswer}
 use Rattle.definitions.specs.TermMemory.{seven}
 use Rattle.reading_laws.specs.TermMachine as machine
 use Rattle.reading_laws.specs.TermMachine.{Entry, State, holding, giving, onward, turn, used}
-use Rattle.reading_laws.specs.Marks.{Mark, marks, purposeMarks, entriesMarks}
+use Rattle.reading_laws.specs.Marks.{Mark, node, marks, purposeMarks, entriesMarks}
 use Rattle.reading_laws.proofs.OnTheWay.{Reached}
 use Rattle.words.specs.Table.{tableNames}
 use Rattle.term_stack.specs.declared.Progress.{Progress}
 use Rattle.term_stack.specs.declared.Purpose.{Purpose}
 use Rattle.term_stack.specs.declared.Entry as reader
+use Rattle.term_stack.specs.Forms.{kindOf}
 use Rattle.term_stack.specs.Numbers.{purposeKind, purposeNumber, purposeNesting, purposeTally, recordsAfter, entryNumbers, purposeRecords, stackNumbers, stackRecords}
 use Rattle.term_stack.specs.Standing.{Scene, Extends, Stored, HandOf, Placed, AtReading, Behind, AtTerm}
 
@@ -68,6 +70,26 @@ pub record Using (z : Scene) (work : List ℕ) (s : Progress) (q : Purpose) : Ty
   pub purpose : machine.Purpose
   pub term : Shown (ProofTerm Name)
   pub for : UsedFor entries purpose term z work s q
+
+-- a leaf is to be made, of this kind and with this number, and used for a purpose; its names are met
+pub record Leaf (z : Scene) (work : List ℕ) (s : Progress) (kind a : ℕ) (q : Purpose) : Type 0 where
+  pub entries : List Entry
+  pub purpose : machine.Purpose
+  pub term : ProofTerm Name
+  pub names : List Mark
+  pub comes : Comes (z .types) (z .text) (used entries purpose (standing false term) (drop (s .at) (z .text)))
+  pub placed : Placed z s
+  pub deep : s .depth ≡ length entries
+  pub purpose-is : PurposeOf (entriesMarks entries) purpose q
+  pub stored :
+      Stored (entriesMarks entries ++ (purposeMarks purpose ++ names)) (λ number. stackRecords number entries ++ purposeRecords number (entriesMarks entries) purpose)
+      (λ number. stackNumbers number entries) z work (s .used) (s .depth) (s .count) (s .to)
+  pub marks-are : marks term ≡ names ++ (node ∷ [])
+  pub row-is : (number : Name → ℕ) → Extends number (tableNames (z .names) (z .text) (s .count))
+      → seven kind a 0 0 0 0 0 ≡ recordsAfter number (entriesMarks entries ++ purposeMarks purpose) term
+  pub kind-is : kind ≡ kindOf term
+  pub nest-is : termNesting term ≡ 1
+  pub tally-is : annotationCount term ≡ 0
 
 -- a whole term is in hand, and the numbers of the entry on top are these
 pub record GivesTo (entries : List Entry) (entry : Entry) (term : Shown (ProofTerm Name)) (z : Scene) (work : List ℕ) (s : Progress) (e : reader.Entry) : Type 0 where

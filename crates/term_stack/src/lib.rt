@@ -15,7 +15,7 @@ ghost use Rattle.definitions.specs.TermReader.{same};
 ghost use Rattle.term_stack.specs.Forms.{formTable};
 ghost use Rattle.term_stack.specs.Growing.{Makes, Enters, Tops};
 ghost use Rattle.term_stack.specs.Standing.{Scene, Some};
-ghost use Rattle.term_stack.specs.Using.{Using, Turned, leftAfter, Gives, lastPart, leftGiving};
+ghost use Rattle.term_stack.specs.Using.{Using, Leaf, Turned, leftAfter, Gives, lastPart, leftGiving};
 
 // Where the reading stands: before a term, behind a term to which more may belong, behind a whole term, or nowhere, since the text
 // has no term.
@@ -266,6 +266,26 @@ pub fn use_for(work: &mut [u16], s: Progress, p: Purpose) -> Progress
         e: 0,
     };
     make(work, s, row, nest, tally)
+}
+
+// Makes a leaf, and of it what it was read for.
+pub fn use_leaf(work: &mut [u16], s: Progress, kind: u16, a: u16, p: Purpose) -> Progress
+    requires { ⌜ Some (λ (z : Scene). Leaf z (now work) s kind a p) ⌝ }
+    ensures { λ r. ⌜ ((z : Scene) → Leaf z (now (work .entry)) s kind a p → Turned z (now (work .exit)) (leftAfter z s) r) ⌝ }
+{
+    let row = Row {
+        kind,
+        a,
+        b: 0,
+        c: 0,
+        d: 0,
+        e: 0,
+    };
+    let leaf = make(work, s, row, 1, 0);
+    if leaf.mode == REFUSED {
+        return leaf;
+    }
+    use_for(work, leaf, p)
 }
 
 // The last part of a function, a case or a let is in hand: makes the term of it and of what the entry on top of the stack holds.

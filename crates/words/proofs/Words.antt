@@ -73,7 +73,7 @@ unless-others false false false false false false true h z k = refl
 unless-others false false false false false false false true z k = refl
 unless-others false false false false false false false false z k = k
 
-sorry-word : (w : Name) → eqName w (utf8 "sorry") ≡ true → isSorry (startOf w) ≡ true
+pub sorry-word : (w : Name) → eqName w (utf8 "sorry") ≡ true → isSorry (startOf w) ≡ true
 unfolding isSorry startOf eqName
 sorry-word w e = rw (eqName-true {x = w} {y = utf8 "sorry"} e) refl
 
@@ -81,7 +81,7 @@ last-word : (w : Name) → eqName w (utf8 "sorry") ≡ false → isSorry (cond (
 unfolding isSorry
 last-word w e = rw e refl
 
-other-word : (w : Name) → eqName w (utf8 "sorry") ≡ false → isSorry (startOf w) ≡ false
+pub other-word : (w : Name) → eqName w (utf8 "sorry") ≡ false → isSorry (startOf w) ≡ false
 unfolding startOf
 other-word w e =
     unless-others (eqName w (utf8 "fn")) (eqName w (utf8 "case")) (eqName w (utf8 "let")) (eqName w (utf8 "fst"))
