@@ -38,7 +38,7 @@ const ATOM: u8 = 5;
 const FOR_ALL: u8 = 6;
 
 // How strongly an atom binds, and an implication. An implication of ⊥ is printed as a negation, and binds as strongly as an atom.
-const ATOM_STRENGTH: usize = 999;
+pub const ATOM_STRENGTH: usize = 999;
 
 const IMPL_STRENGTH: usize = 2;
 
@@ -95,7 +95,7 @@ pub fn precedence(code: &[u8], ends: &[u16], at: usize) -> usize
 }
 
 // How strongly a connective's left side must bind to stand without brackets.
-fn left_strength(head: u8) -> usize
+pub fn left_strength(head: u8) -> usize
     requires { ⌜ head < 5 ⌝ }
     ensures { λ r. ⌜ ((c : Connective) (strength : ℕ) → head ≡ connectiveByte c →
         ltb strength r ≡ wrapsLeft c strength) ⌝ }
@@ -108,7 +108,7 @@ fn left_strength(head: u8) -> usize
 }
 
 // The same for its right side.
-fn right_strength(head: u8) -> usize
+pub fn right_strength(head: u8) -> usize
     requires { ⌜ head < 5 ⌝ }
     ensures { λ r. ⌜ ((c : Connective) (strength : ℕ) → head ≡ connectiveByte c →
         ltb strength r ≡ wrapsRight c strength) ⌝ }

@@ -1,0 +1,2 @@
+-- What the functions over lengths say.
+pub mod Length
