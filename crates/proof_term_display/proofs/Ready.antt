@@ -18,13 +18,13 @@ use Rattle.proof_term_display.specs.Printable.{PrintableTerm}
 use Rattle.proof_term_display.specs.Item.{KindAt, LabelReady, ItemReady}
 
 -- a fact of each number below n
-data Every (P : ℕ → Type 0) : ℕ → Type 0 where
-  none : Every P zero
+pub data Every (P : ℕ → Type 0) : ℕ → Type 0 where
+  none-of : Every P zero
   _also_ : {n : ℕ} → Every P n → P n → Every P (suc n)
 
 infixl 10 _also_
-every-at : {P : ℕ → Type 0} {n : ℕ} → Every P n → (k : ℕ) → k < n → P k
-every-at none k h = absurd (omega arith)
+pub every-at : {P : ℕ → Type 0} {n : ℕ} → Every P n → (k : ℕ) → k < n → P k
+every-at none-of k h = absurd (omega arith)
 every-at (_also_ {n = n} ps p) k h = by-cases (decLt k n) (λ l. every-at ps k l) (λ l. let last : k ≡ n = omega arith in rw last p)
 
 module _ (bytes : List ℕ) (v : Vocabulary) (ends records : List ℕ) (n : ℕ) where
@@ -64,7 +64,7 @@ module _ (bytes : List ℕ) (v : Vocabulary) (ends records : List ℕ) (n : ℕ)
   formats-ready : Every FormatReady 14
   unfolding hasLabel NamesBelow itemOf items formats Ready ItemReady
   formats-ready =
-      none
+      none-of
       also (λ h label. (h, tt))
       also (λ h label. (h .0, (h .1, tt)))
       also (λ h label. (h, tt))

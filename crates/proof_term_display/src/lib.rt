@@ -52,7 +52,7 @@ const WITHIN: u8 = 5;
 const FORMAT_SIZE: usize = 32;
 
 // The record's number of each of the parts A to I.
-fn part_field(k: usize) -> usize
+pub fn part_field(k: usize) -> usize
     requires { ⌜ k < 9 ⌝ }
     ensures { λ r. ⌜ r ≡ partField k ⌝ }
 {
@@ -70,7 +70,7 @@ fn part_field(k: usize) -> usize
 }
 
 // The position of each of them.
-fn part_position(k: usize) -> u8
+pub fn part_position(k: usize) -> u8
     requires { ⌜ k < 9 ⌝ }
     ensures { λ r. ⌜ r ≡ partPosition k ⌝ }
 {
@@ -88,7 +88,7 @@ fn part_position(k: usize) -> u8
 }
 
 // The kind of record `n`; an unknown one counts as Unit.
-fn kind_at(records: &[u16], n: usize) -> usize
+pub fn kind_at(records: &[u16], n: usize) -> usize
     requires { ⌜ recordSize * (n + 1) ≤ length (now records) ⌝ }
     ensures { λ r. ⌜ KindAt (now (records .entry)) n r ⌝ }
 {
@@ -149,7 +149,7 @@ fn brackets_of(position: u8, style: Style) -> [bool; 5]
 }
 
 // Whether the term of record `n` is bracketed in a position.
-fn is_bracketed(records: &[u16], n: usize, position: u8, style: Style) -> bool
+pub fn is_bracketed(records: &[u16], n: usize, position: u8, style: Style) -> bool
     requires { ⌜ (recordSize * (n + 1) ≤ length (now records)) × (position < 6) ⌝ }
     ensures { λ r. ⌜ ((f : ℕ → Name) (props : ℕ → Prop ℕ) →
         r ≡ isBracketed (positionOf position) style (formAt f props (now (records .entry)) n)) ⌝ }

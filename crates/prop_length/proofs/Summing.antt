@@ -33,7 +33,7 @@ module _ (f : ℕ → Name) (names : ℕ) (l : List ℕ) (at : ℕ) where
   sums-from h byte {r} name =
       let atom = atom-at names l at (h .rest) (propAt names l at) (h .stands) byte in
       let is : length text ≡ length (f (atom .atom)) + lengths.parameterSum f (atom .parameters)
-              = ap (λ p. length (displayProp (renameProp f p))) (atom .is) ∙ lengths.atom-length f (atom .atom) (atom .parameters) in
+      = ap (λ p. length (displayProp (renameProp f p))) (atom .is) ∙ lengths.atom-length f (atom .atom) (atom .parameters) in
       let named : r ≡ length (f (atom .atom)) = name .is ∙ ap (λ n. length (f n)) (atom .bytes .name) in
       record {
         todo = atom .parameters;
@@ -64,7 +64,7 @@ module _ (f : ℕ → Name) (names : ℕ) (l : List ℕ) (at : ℕ) where
           let here : j ≡ i + length (encodeParameter (next .parameter)) = ends .found (next .parameter) _ (next .first) in
           let named : r ≡ length (f (parameterName (next .parameter))) = name .is ∙ ap (λ n. length (f n)) is-name in
           let split : lengths.parameterSum f (s .todo) ≡ 2 + length (f (parameterName (next .parameter))) + lengths.parameterSum f (next .others)
-                  = ap (lengths.parameterSum f) (next .is) in
+          = ap (lengths.parameterSum f) (next .is) in
           record {
             todo = next .others;
             rest = s .rest;

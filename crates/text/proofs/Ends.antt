@@ -1,11 +1,11 @@
 -- The table of the ends of an accepted sheet's propositions: it can be filled in, and with it the term can be printed.
-use Prim.Native.Nat.{ℕ, _<_}
+use Prim.Native.Nat.{ℕ, _≤_, _<_}
 use mathlib.Core.Path.{_≡_, ap, _∙_}
 use mathlib.Core.List.{List}
 use native.Mathlib.Omega.{arith}
 use lib.ListN.{length}
 use Rattle.definitions.specs.declared.Style.{Style}
-use Rattle.definitions.specs.Sheet.{names, propositions, namePairs, propositionPairs, codeBytes, codeLimit, pairOffset, nameOf, marked}
+use Rattle.definitions.specs.Sheet.{names, propositions, namePairs, propositionPairs, codeBytes, codeLimit, stepLimit, pairOffset, nameOf, marked}
 use Rattle.definitions.specs.Name.{Name}
 use Rattle.definitions.specs.Prop.{Prop}
 use Rattle.definitions.specs.Term.{renameTerm}
@@ -23,6 +23,7 @@ use Rattle.prop.specs.Ends.{Known, AllFillable}
 use Rattle.proof_term.specs.Records.{termAt}
 use Rattle.proof_term.specs.Readable.{NamesBelow}
 use Rattle.proof_term_display.specs.Printable.{PrintableTerm, termText}
+use Rattle.proof_term_length.specs.Measure.{Measurable}
 use Rattle.sheet_term.specs.Held.{HeldTerm}
 use Rattle.text.specs.Declaring.{termOf, EndsKnown}
 use Rattle.text.proofs.Labels.{label-known}
@@ -71,6 +72,12 @@ module _ {s : List ℕ} {h : Sheet} (a : AcceptedSheet s h) where
   props-are = ap (λ count. propAt count (codeIn s (vocabularyOf h))) (count-is (its-header a)) ∙ ap (propAt (names s)) (code-is (its-header a))
 
   module _ {v : Vocabulary} (is : v ≡ vocabularyOf h) where
+    code-short : length (codeIn s v) ≤ 8192
+    unfolding headerOf codeLimit
+    code-short =
+        let same = ap (λ w. length (codeIn s w)) is ∙ ap length (code-is (its-header a)) in
+        omega (arith, lengths s (a .sheet .whole) .code-bytes, a .sheet .in-range .code)
+
     -- with that table the term can be printed
     pub printable : {terms ends : List ℕ} {n : ℕ} → HeldTerm s terms n → EndsKnown s ends → PrintableTerm terms n s v ends
     printable {terms} {n = n} term table =
@@ -87,6 +94,19 @@ module _ {s : List ℕ} {h : Sheet} (a : AcceptedSheet s h) where
           within = within has;
           named = λ i below. names-of a (rw (count-is has) at below);
         })
+
+    -- and be measured
+    pub measurable : {terms ends : List ℕ} {n : ℕ} → HeldTerm s terms n → EndsKnown s ends → Measurable terms n s v ends
+    unfolding stepLimit
+    measurable {terms} {n = n} term table =
+        let p = printable term table in
+        record {
+          held = p .held;
+          few = omega (arith, term .held, term .room);
+          short = code-short;
+          labels = p .labels;
+          names = record { within = p .within; named = p .named };
+        }
 
     pub term-shown : (style : Style) (terms : List ℕ) (n : ℕ) → termText style s v terms n ≡ displayTerm style (termOf s terms n)
     term-shown style terms n = ap (λ w. termText style s w terms n) is ∙ shown-by style terms n names-are props-are

@@ -1,7 +1,7 @@
 -- The heading is what was noted, written in its order; the heading and then the term are the sheet's text, which fills the memory lent
 -- for it or does not fit.
-use Prim.Native.Nat.{ℕ, _≤_, _<_}
-use mathlib.Core.Path.{_≡_, ap, _∙_}
+use Prim.Native.Nat.{ℕ, _+_, _≤_, _<_, min}
+use mathlib.Core.Path.{_≡_, refl, ap, _∙_}
 use mathlib.Core.Bool.{Bool, true, false}
 use mathlib.Core.List.{List, [], _∷_, _++_}
 use native.Mathlib.Omega.{arith}
@@ -21,7 +21,7 @@ use Rattle.definitions.specs.Answers.{inRoom, namedTerm, goalProp, sheetText}
 use Rattle.output.specs.declared.Written.the-variants.{Length, Refused}
 use Rattle.output.specs.Wrote.{Wrote}
 use Rattle.output.specs.Written.{Fills}
-use Rattle.output.proofs.Writing.{then, same-length}
+use Rattle.output.proofs.Writing.{then, same-length, dry-run}
 use Rattle.output.proofs.Filling.{too-long, fills}
 use Rattle.declarations.specs.Declared.{declaredUses, Declared}
 use Rattle.declarations.specs.Lines.{declarationLines}
@@ -31,7 +31,7 @@ use Rattle.vocabulary.specs.Vocabulary.{nameIn}
 use Rattle.sheet.specs.declared.header.Sheet.{Sheet}
 use Rattle.sheet.specs.Header.{vocabularyOf}
 use Rattle.sheet_term.specs.Held.{HeldTerm}
-use Rattle.text.specs.Declaring.{listedUses, termOf, Declares, Arranges}
+use Rattle.text.specs.Declaring.{listedUses, termOf, Declares, Arranges, Skipped}
 
 -- the lines of a list in a version's order are those of the heading
 listed-lines : (v : Version) (list : TermList) (t : ProofTerm Name) (goal : Prop Name)
@@ -110,3 +110,10 @@ module _ {s terms : List ℕ} {n : ℕ} (held : HeldTerm s terms n) where
           → Wrote (displayTerm style (termOf s terms n)) true middle to after next
           → Fills (inRoom (length before) (sheetText s v style)) before after (Length end)
       text-fills within third fourth = rw sheet-text (fills measured (omega (arith, same-length measured)) (text-written third fourth))
+
+-- a text that is measured as far as one past the memory is one that a dry run finds the end of
+pub measured-text : {text before : List ℕ} {to most size next : ℕ} → most ≡ length before + 1 → size ≡ min (length text) most
+    → Skipped most to size next → Wrote text false before to before next
+measured-text {text} {size = size} room is skipped = dry-run refl
+    (λ k. let e : size ≡ length text = omega arith in let there = skipped .below (omega arith) in omega arith)
+    (λ k. let there = skipped .beyond (omega arith) in omega arith)

@@ -1,5 +1,5 @@
 -- The text of a sheet's term in two halves: the declarations, which stand in lent memory before they are written, and the term.
-use Prim.Native.Nat.{ℕ, _<_}
+use Prim.Native.Nat.{ℕ, _+_, _≤_, _<_}
 use mathlib.Core.Path.{_≡_}
 use mathlib.Core.List.{List, _++_, map}
 use Rattle.definitions.specs.declared.Version.{Version}
@@ -46,3 +46,8 @@ module _ (s : List ℕ) where
   -- the table has the ends of each proposition of the sheet
   pub record EndsKnown (ends : List ℕ) : Type 0 where
     pub known : (i : ℕ) → i < propositions s → Known (names s) (codeBytes s) ends (pairOffset (propositionPairs s) i)
+
+-- r is the position so many bytes past another where that is below the cap, and at the cap or past it where that is not
+pub record Skipped (cap to count r : ℕ) : Type 0 where
+  pub below : to + count < cap → r ≡ to + count
+  pub beyond : cap ≤ to + count → cap ≤ r

@@ -13,6 +13,7 @@ use output::Written;
 use output::put;
 use output::put_all;
 use proof_term_display::print_term;
+use proof_term_length::term_length;
 use prop::fill_all_ends;
 use sheet::Sheet;
 use sheet::code_bytes;
@@ -21,6 +22,7 @@ use sheet::proposition_pairs;
 use sheet::text_bytes;
 use sheet::vocabulary;
 ghost use mathlib.Core.Path.{_≡_};
+ghost use Prim.Native.Nat.{_+_, min};
 ghost use lib.ListN.{length};
 ghost use Rattle.definitions.specs.declared.Version.the-variants.{First};
 ghost use Rattle.definitions.specs.Outcome.{accepted};
@@ -35,7 +37,7 @@ ghost use Rattle.declarations.specs.Declared.{Declared};
 ghost use Rattle.sheet.specs.Header.{vocabularyOf};
 ghost use Rattle.sheet.proofs.Admitted.{AcceptedSheet};
 ghost use Rattle.sheet_term.specs.Held.{HeldTerm};
-ghost use Rattle.text.specs.Declaring.{termOf, Declares, Arranges, EndsKnown};
+ghost use Rattle.text.specs.Declaring.{termOf, Declares, Arranges, EndsKnown, Skipped};
 
 // One flag for each name and each count of parameters.
 const FLAGS: usize = Sheet::NAME_LIMIT * (Sheet::PARAMETER_LIMIT + 1);
@@ -182,7 +184,45 @@ fn put_term(
     )
 }
 
-// The text of a sheet's term in a version, in lent memory: measured by a dry run, and then written where it fits.
+// How long the term's text is, as far as a cap.
+fn measure_term(
+    s: &[u8],
+    h: Sheet,
+    terms: &[u16],
+    n: usize,
+    style: Style,
+    ends: &[u16; Sheet::CODE_LIMIT],
+    cap: usize,
+) -> usize
+    requires { ⌜ AcceptedSheet (now s) h ⌝ }
+    requires { ⌜ HeldTerm (now s) (now terms) n ⌝ }
+    requires { ⌜ EndsKnown (now s) (now ends) ⌝ }
+    ensures { λ r. ⌜ r ≡ min (length (displayTerm style (termOf (now (s .entry)) (now (terms .entry)) n))) cap ⌝ }
+{
+    term_length(terms, n, s, sheet::vocabulary(h), ends, style, cap)
+}
+
+// One past the room of a memory: as far as a text is measured.
+fn past_room(out: &[u8]) -> usize
+    ensures { λ r. ⌜ r ≡ length (now (out .entry)) + 1 ⌝ }
+{
+    out.len() + 1
+}
+
+// The position so many bytes past another, as far as a cap.
+fn skip(to: usize, count: usize, cap: usize) -> usize
+    ensures { λ r. ⌜ Skipped cap to count r ⌝ }
+{
+    if cap <= to {
+        return to;
+    }
+    if cap - to <= count {
+        return cap;
+    }
+    to + count
+}
+
+// The text of a sheet's term in a version, in lent memory: measured, and then written where it fits.
 pub fn text(
     s: &[u8],
     h: Sheet,
@@ -216,7 +256,8 @@ pub fn text(
         second_count,
         false,
     );
-    let end = put_term(out, start, s, h, terms, n, style, &ends, false);
+    let cap = past_room(out);
+    let end = skip(start, measure_term(s, h, terms, n, style, &ends, cap), cap);
     if out.len() < end {
         return Written::Refused(Refusal::at(16, 0));
     }

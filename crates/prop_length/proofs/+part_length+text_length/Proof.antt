@@ -196,7 +196,7 @@ module _ (t : ℕ) where
   counted c e =
       let s = entry c in
       let most = text-fits _ _ _ _ (λ k. omega (arith, c .before .before .before .shared-slice-known .given k))
-              (omega (arith, c .before .before .shared-slice-known2 .given (s .args .at))) (s .pre .1 .known) in
+      (omega (arith, c .before .before .shared-slice-known2 .given (s .args .at))) (s .pre .1 .known) in
       record { is = e; small = omega arith }
 
   quantified : (c : Text text-lts.Then3) → let s = entry (quantifier-tests c) .args in

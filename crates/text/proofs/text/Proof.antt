@@ -1,6 +1,6 @@
--- A dry run measures the text; it is refused for want of room, or written.
+-- A dry run measures the heading, and the term's length is counted; the text is refused for want of room, or written.
 use borrow.Author.Needs.{needs}
-use Rattle.text.proofs.Heading.{in-order, noted-of, text-too-long, text-fills}
+use Rattle.text.proofs.Heading.{in-order, noted-of, text-too-long, text-fills, measured-text}
 use Rattle.text.proofs.text.Statement.{statement}
 use Rattle.text.proofs.text.Tie as tie
 
@@ -24,25 +24,28 @@ second-arranged c = c .before .before
 abbrev to-first : tie.After-arrange2 → tie.After-declare
 to-first c = first-arranged (second-noted (second-arranged c))
 
--- back from the heading of the dry run, and from its term
+-- back from the heading of the dry run, from the room and from the term's length
 abbrev heading-measured : tie.After-put-heading → tie.After-arrange2
 heading-measured c = c .before .before .before .before
 
-abbrev term-measured : tie.After-put-term → tie.After-put-heading
-term-measured c = c .before .before .before .before .before
+abbrev room-asked : tie.After-past-room → tie.After-put-heading
+room-asked c = c .before .before .before .before
 
--- where there is no room: back from it to the term of the dry run
-abbrev no-room : tie.Then1 → tie.After-put-term
-no-room c = c .before .before .before
+abbrev term-measured : tie.After-measure-term → tie.After-past-room
+term-measured c = c .before .before
 
--- where there is room: back from it to the term of the dry run, and from the heading and the term that are written
-abbrev room-found : tie.Else1 → tie.After-put-term
-room-found c = c .before .before .before
+-- whether there is room: back to the end of the text
+abbrev no-room : tie.Then1 → tie.After-skip
+no-room c = c .before
 
+abbrev room-found : tie.Else1 → tie.After-skip
+room-found c = c .before
+
+-- back from the heading and the term that are written
 abbrev heading-put : tie.After-put-heading2 → tie.Else1
 heading-put c = c .before .before .before .before
 
-abbrev term-put : tie.After-put-term2 → tie.After-put-heading2
+abbrev term-put : tie.After-put-term → tie.After-put-heading2
 term-put c = c .before .before .before .before .before
 
 fill-sheet-ends-requires : tie.Need-fill-sheet-ends-requires
@@ -79,9 +82,9 @@ put-heading-requires c κs =
       ),
     )
 
-put-term-requires : tie.Need-put-term-requires
-put-term-requires c κs =
-    let here = first-noted (to-first (heading-measured (c .before .before .before .before))) in
+measure-term-requires : tie.Need-measure-term-requires
+measure-term-requires c κs =
+    let here = first-noted (to-first (heading-measured (room-asked (c .before)))) in
     (entry here .pre .0, (entry here .pre .1, here .fill-sheet-ends .ensures))
 
 same-length : tie.Need-same-length
@@ -93,15 +96,16 @@ at-requires c κs = search needs
 returns : tie.Need-returns
 returns c =
     let refused = c .before in
-    let term = no-room refused in
-    let heading = term-measured term in
+    let skipped = no-room refused in
+    let term = skipped .before in
+    let heading = room-asked (term-measured term) in
     let s = entry (first-noted (to-first (heading-measured heading))) in
     rw (c .at .ensures)
-    (text-too-long (s .pre .1) _ _ (heading .put-heading .ensures) (term .put-term .ensures) (refused .if1 .taken))
+    (text-too-long (s .pre .1) _ _ (heading .put-heading .ensures) (measured-text (term-measured term .past-room .ensures) (term .measure-term .ensures) (skipped .skip .ensures)) (refused .if1 .taken))
 
 put-heading-requires-2 : tie.Need-put-heading-requires-2
 put-heading-requires-2 c κs =
-    let second = heading-measured (term-measured (room-found (c .before .before .before))) in
+    let second = heading-measured (room-asked (term-measured (room-found (c .before .before .before) .before))) in
     let lower = second-arranged second in
     let first = second-noted lower in
     let upper = first-arranged first in (
@@ -112,9 +116,9 @@ put-heading-requires-2 c κs =
       ),
     )
 
-put-term-requires-2 : tie.Need-put-term-requires-2
-put-term-requires-2 c κs =
-    let here = first-noted (to-first (heading-measured (term-measured (room-found (heading-put (c .before .before .before .before)))))) in
+put-term-requires : tie.Need-put-term-requires
+put-term-requires c κs =
+    let here = first-noted (to-first (heading-measured (room-asked (term-measured (room-found (heading-put (c .before .before .before .before)) .before))))) in
     (entry here .pre .0, (entry here .pre .1, here .fill-sheet-ends .ensures))
 
 same-length-2 : tie.Need-same-length-2
@@ -125,11 +129,13 @@ returns-2 c =
     let term = c .before .before in
     let heading = term-put term in
     let room = heading-put heading in
-    let measured-term = room-found room in
-    let measured-heading = term-measured measured-term in
+    let skipped = room-found room in
+    let measured-term = skipped .before in
+    let measured-heading = room-asked (term-measured measured-term) in
     let s = entry (first-noted (to-first (heading-measured measured-heading))) in
-    text-fills (s .pre .1) _ _ (measured-heading .put-heading .ensures) (measured-term .put-term .ensures) (room .if1 .left)
-    (heading .put-heading2 .ensures) (term .put-term2 .ensures)
+    text-fills (s .pre .1) _ _ (measured-heading .put-heading .ensures)
+    (measured-text (term-measured measured-term .past-room .ensures) (measured-term .measure-term .ensures) (skipped .skip .ensures)) (room .if1 .left)
+    (heading .put-heading2 .ensures) (term .put-term .ensures)
 
 pub text-spec : {M : Type 1} → statement M
 text-spec =
@@ -143,11 +149,13 @@ text-spec =
     declare-requires-2
     arrange-requires-2
     put-heading-requires
-    put-term-requires
+    (λ c κs. tt)
+    measure-term-requires
+    (λ c κs. tt)
     at-requires
     same-length
     returns
     put-heading-requires-2
-    put-term-requires-2
+    put-term-requires
     same-length-2
     returns-2)

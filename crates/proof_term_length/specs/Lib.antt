@@ -1,0 +1,2 @@
+-- What the measuring of a term says.
+pub mod Measure
