@@ -184,8 +184,8 @@ fn label_length(
     COLON + known_length(bytes, v, ends, label, known)
 }
 
-// The length of record `n`'s text, as far as the cap.
-pub fn term_length(
+// The length of record `n`'s text, as far as the cap, with tables for the lengths of labels and of the records before.
+fn count_length(
     records: &[u16],
     n: usize,
     bytes: &[u8],
@@ -207,4 +207,24 @@ pub fn term_length(
         m += 1;
     }
     lengths[n]
+}
+
+// The length of record `n`'s text, as far as the cap. What counts it is called in two places and so has a frame of its own, which is
+// gone when the term is printed.
+pub fn term_length(
+    records: &[u16],
+    n: usize,
+    bytes: &[u8],
+    v: Vocabulary,
+    ends: &[u16],
+    style: Style,
+    cap: usize,
+) -> usize
+    requires { ⌜ Measurable (now records) n (now bytes) v (now ends) ⌝ }
+    ensures { λ r. ⌜ r ≡ min (termLength (now (bytes .entry)) v (now (records .entry)) style n) cap ⌝ }
+{
+    match style {
+        Style::Plain => count_length(records, n, bytes, v, ends, Style::Plain, cap),
+        Style::Strict => count_length(records, n, bytes, v, ends, Style::Strict, cap),
+    }
 }

@@ -5,7 +5,7 @@ use mathlib.Core.Path.{_≡_, refl, ap, _∙_}
 use mathlib.Core.Bool.{Bool, true, false}
 use mathlib.Core.List.{List, [], _∷_, _++_}
 use native.Mathlib.Omega.{arith}
-use lib.ListN.{length}
+use lib.ListN.{length, length-append}
 use Rattle.definitions.specs.declared.Style.{Style}
 use Rattle.definitions.specs.declared.Version.{Version}
 use Rattle.definitions.specs.declared.Version.the-variants.{First}
@@ -95,6 +95,17 @@ module _ {s terms : List ℕ} {n : ℕ} (held : HeldTerm s terms n) where
     unfolding text
     text-written first second = then (first _ named-term) second
 
+    -- a term alone that is longer than the memory
+    pub term-too-long : {before : List ℕ} {most size : ℕ} → most ≡ length before + 1
+        → size ≡ min (length (displayTerm style (termOf s terms n))) most → most ≤ size
+        → Fills (inRoom (length before) (sheetText s v style)) before before (Refused (record { number = 16; place = 0 }))
+    unfolding text
+    term-too-long {before} room is past =
+        let whole : List ℕ = text v style (termOf s terms n) (goalProp s) in
+        let sum = length-append (heading v (termOf s terms n) (goalProp s)) (displayTerm style (termOf s terms n)) in
+        let dry : Wrote whole false before 0 before (length before + 1) = dry-run refl (λ k. absurd (omega (arith, sum))) (λ k. omega arith) in
+        rw sheet-text (too-long dry (omega arith))
+
     -- Of both in a dry run:
     module _ {before between dry : List ℕ} {start end : ℕ}
         (first : (t : ProofTerm Name) → namedTerm s ≡ accepted t → Wrote (heading v t (goalProp s)) false before 0 between start)
@@ -117,3 +128,7 @@ pub measured-text : {text before : List ℕ} {to most size next : ℕ} → most 
 measured-text {text} {size = size} room is skipped = dry-run refl
     (λ k. let e : size ≡ length text = omega arith in let there = skipped .below (omega arith) in omega arith)
     (λ k. let there = skipped .beyond (omega arith) in omega arith)
+
+-- one past the room is still that after a dry run
+pub same-room : {text before after : List ℕ} {to next most : ℕ} → most ≡ length before + 1 → Wrote text false before to after next → most ≡ length after + 1
+same-room e w = omega (arith, same-length w)

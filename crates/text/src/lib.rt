@@ -222,7 +222,8 @@ fn skip(to: usize, count: usize, cap: usize) -> usize
     to + count
 }
 
-// The text of a sheet's term in a version, in lent memory: measured, and then written where it fits.
+// The text of a sheet's term in a version, in lent memory: measured, and then written where it fits. A term that is too long for the
+// memory is refused before anything is declared.
 pub fn text(
     s: &[u8],
     h: Sheet,
@@ -238,9 +239,14 @@ pub fn text(
         (now (out .entry)) (now (out .exit)) r ⌝ }
 {
     let mut ends = [0u16; Sheet::CODE_LIMIT];
+    fill_sheet_ends(s, h, &mut ends);
+    let cap = past_room(out);
+    let length = measure_term(s, h, terms, n, style, &ends, cap);
+    if cap <= length {
+        return Written::Refused(Refusal::at(16, 0));
+    }
     let mut first = [0u16; DECLARED_NUMBERS];
     let mut second = [0u16; DECLARED_NUMBERS];
-    fill_sheet_ends(s, h, &mut ends);
     let first_count = declare(s, h, terms, n, first_list(version), &mut first);
     arrange(s, h, version, &mut first, first_count);
     let second_count = declare(s, h, terms, n, second_list(version), &mut second);
@@ -256,8 +262,7 @@ pub fn text(
         second_count,
         false,
     );
-    let cap = past_room(out);
-    let end = skip(start, measure_term(s, h, terms, n, style, &ends, cap), cap);
+    let end = skip(start, length, cap);
     if out.len() < end {
         return Written::Refused(Refusal::at(16, 0));
     }
