@@ -27,12 +27,12 @@ pub infers-one : {g : Context} {t : ProofTerm Name} {a b : Prop Name} → Infers
 infers-one d e = let x = infers-complete d 0 .0 in let y = infers-complete e 0 .0 in cc
 
 -- what went on came from something derived
-bound : {A B : Type 0} (o : Judged A) (next : A → Judged B) (b : B) → (o >>= next) ≡ derived b → (a : A) × (o ≡ derived a) × (next a ≡ derived b)
+pub bound : {A B : Type 0} (o : Judged A) (next : A → Judged B) (b : B) → (o >>= next) ≡ derived b → (a : A) × (o ≡ derived a) × (next a ≡ derived b)
 unfolding _>>=_
 bound (derived a) next b e = (a, refl, e)
 bound (stopped n) next b e = absurd (apart e)
 
-ensured : (n : ℕ) (test : Bool) → ensure n test ≡ derived tt → test ≡ true
+pub ensured : (n : ℕ) (test : Bool) → ensure n test ≡ derived tt → test ≡ true
 unfolding ensure
 ensured n true e = refl
 ensured n false e = cc
