@@ -22,3 +22,4 @@ pub mod CheckerNodes
 pub mod MadeUniversal
 pub mod SoundCase
 pub mod SameAnswers
+pub mod KeptJudgements

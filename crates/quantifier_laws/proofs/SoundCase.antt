@@ -64,7 +64,7 @@ parameters-bound [] e = refl
 parameters-bound (Uninstantiated x ∷ ps) e = wrong e
 parameters-bound (Instantiated x i ∷ ps) e = parameters-bound ps e
 
-free-bound : (p : Prop Name) → Free p → holdsUnbound (nameless [] p) ≡ false
+pub free-bound : (p : Prop Name) → Free p → holdsUnbound (nameless [] p) ≡ false
 unfolding isQuantifierFree nameless holdsUnbound
 free-bound prop.True e = refl
 free-bound prop.False e = refl
