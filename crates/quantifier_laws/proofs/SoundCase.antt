@@ -8,16 +8,15 @@ use Rattle.definitions.specs.Name.{Name}
 use Rattle.definitions.specs.Prop as prop
 use Rattle.definitions.specs.Prop.{Prop, PropParameter, Uninstantiated, Instantiated}
 use Rattle.definitions.specs.AlphaEquality.{nameless, object}
-use Rattle.definitions.specs.Sheet.{nameOf, stepNumber, stepRecords}
-use Rattle.definitions.specs.Tree as tree
-use Rattle.definitions.specs.Tree.{Identifier, ProofTreeRule, AndIntro, AndElimFst, AndElimSnd, TrueIntro, ImplIntro, ImplElim, OrIntroFst, OrIntroSnd, OrElim, FalsumElim, ForAllIntro, ForAllElim, ExistsIntro, ExistsElim, AlphaEquivalent, ProofTree, propOf, ruleOf}
+use Rattle.definitions.specs.Sheet.{nameOf}
+use Rattle.definitions.specs.Tree.{Identifier, ProofTree, propOf}
 use Rattle.definitions.specs.Sound as plain
-use Rattle.definitions.specs.Sound.{allInstantiated, isQuantifierFree, isPropositional}
+use Rattle.definitions.specs.Sound.{allInstantiated, isQuantifierFree}
 use Rattle.definitions.specs.CheckAnswers.{namedProp}
 use Rattle.quantifier_laws.specs.Instantiation.{isUnbound, someUnbound, holdsUnbound}
 use Rattle.quantifier_laws.specs.Rules.{proves}
 use Rattle.quantifier_laws.specs.Sound as sound
-use Rattle.quantifier_laws.specs.Sound.{Assumption, Deduction, documented, Fresh, addsObject, quantifies, quantifiesObject, Sound}
+use Rattle.quantifier_laws.specs.Sound.{Assumption, Deduction, documented, Fresh, Sound}
 use Rattle.quantifier_laws.proofs.QuantifierFree.{Free, free-renamed}
 use Rattle.quantifier_laws.proofs.QuantifierFreeCase.{embed, conclude}
 
@@ -74,29 +73,8 @@ free-bound (prop.Binary c p q) e =
 free-bound (prop.Atom a ps) e = parameters-bound ps e
 free-bound (prop.Quantified k x t p) e = wrong e
 
--- a propositional rule adds no object
-no-object : (r : ProofTreeRule) → isPropositional r ≡ true → addsObject r ≡ false
-unfolding isPropositional addsObject
-no-object AndIntro e = refl
-no-object AndElimFst e = refl
-no-object AndElimSnd e = refl
-no-object TrueIntro e = refl
-no-object ImplIntro e = refl
-no-object ImplElim e = refl
-no-object tree.Ident e = refl
-no-object OrIntroFst e = refl
-no-object OrIntroSnd e = refl
-no-object OrElim e = refl
-no-object FalsumElim e = refl
-no-object ForAllIntro e = wrong e
-no-object ForAllElim e = refl
-no-object ExistsIntro e = refl
-no-object ExistsElim e = wrong e
-no-object tree.Sorry e = refl
-no-object AlphaEquivalent e = refl
-
 pub sound-case : (s : List ℕ) → plain.Sound s → Sound s
-unfolding embed namedProp quantifiesObject
+unfolding embed namedProp
 sound-case s d =
     record {
       deduced = record {
@@ -106,5 +84,4 @@ sound-case s d =
         deduction = deduction (d .deduced .deduction);
       };
       bound = λ i l. free-bound (namedProp s i) (free-renamed (nameOf s) (propOf s i) ∙ d .props i l);
-      quantifiers = λ k i l m. rw (no-object (ruleOf s k) (d .rules k l));
     }

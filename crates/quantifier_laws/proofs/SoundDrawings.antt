@@ -1,12 +1,9 @@
 -- The drawings with quantifiers are sound, so that the accuracy statement speaks of sheets with all four rules.
-use Prim.Native.Nat.{ℕ, _<_}
+use Prim.Native.Nat.{ℕ}
 use mathlib.Core.Path.{_≡_, refl}
-use mathlib.Core.Bool.{Bool, true, false}
-use mathlib.Core.Option.{Option, none, some}
 use mathlib.Core.List.{[], _∷_, List·Memᴰ·head, List·Memᴰ·tail}
-use native.Mathlib.Omega.{arith}
 use Rattle.definitions.specs.Utf8.{utf8}
-use Rattle.definitions.specs.Outcome.{accepted, lowest}
+use Rattle.definitions.specs.Outcome.{accepted}
 use Rattle.definitions.specs.declared.Style.the-variants.{Plain}
 use Rattle.definitions.specs.Prop as prop
 use Rattle.definitions.specs.Prop.{Uninstantiated}
@@ -23,28 +20,13 @@ use Rattle.quantifier_laws.specs.Drawings as drawings
 use Rattle.quantifier_laws.specs.Drawings.{universal, existential}
 use Rattle.definitions.proofs.Lowest.{all-fail}
 
-isSome : {A : Type 0} → Option A → Bool
-isSome none = false
-isSome (some a) = true
-
-is-none : {A : Type 0} (o : Option A) → isSome o ≡ false → o ≡ none
-unfolding isSome
-is-none none e = refl
-is-none (some a) e = absurd (let z : _≡_ {A = ℕ} 0 1 = cc in omega arith)
-
--- a test of two numbers that fails at each pair below the counts
-fails-below-both : (test : ℕ → ℕ → Bool) (m n : ℕ) → lowest (λ k. isSome (lowest (test k) n)) m ≡ none
-    → (k i : ℕ) → k < m → i < n → test k i ≡ false
-fails-below-both test m n e k i l j =
-    all-fail (test k) n (is-none (lowest (test k) n) (all-fail (λ k. isSome (lowest (test k) n)) m e k l)) i j
-
 -- what the drawings and the definitions of quantifiers are made of
 all : Unit {0}
-unfolding everything inst.instantiateObject inst.instantiateAt inst.instantiate inst.hasName inst.someHasName inst.stands inst.isUnbound inst.someUnbound inst.holdsUnbound sound.AbsentFact sound.Absent sound.Fresh sound.documented sound.quantifies sound.addsObject answers.namedProp sound.quantifiesObject drawings.seventh drawings.judgement drawings.ofBound drawings.ofObject drawings.universal drawings.existential
+unfolding everything inst.instantiateObject inst.instantiateAt inst.instantiate inst.hasName inst.someHasName inst.stands inst.isUnbound inst.someUnbound inst.holdsUnbound sound.AbsentFact sound.Absent sound.Fresh sound.documented answers.namedProp drawings.seventh drawings.judgement drawings.ofBound drawings.ofObject drawings.universal drawings.existential
 all = tt
 
 pub universal-sound : Sound universal
-unfolding all isSome
+unfolding all
 universal-sound =
     record {
       deduced = record {
@@ -60,11 +42,10 @@ universal-sound =
             (sound.Judgement.ident refl refl refl (List·Memᴰ·head refl) refl)));
       };
       bound = all-fail _ 4 refl;
-      quantifiers = fails-below-both (sound.quantifiesObject universal) 5 4 refl;
     }
 
 pub existential-sound : Sound existential
-unfolding all isSome
+unfolding all
 existential-sound =
     record {
       deduced = record {
@@ -81,7 +62,6 @@ existential-sound =
             (sound.Deduction.ident (record { rule = refl; prop = _; conclusion = refl; form = refl }) (List·Memᴰ·head refl) refl)));
       };
       bound = all-fail _ 4 refl;
-      quantifiers = fails-below-both (sound.quantifiesObject existential) 6 4 refl;
     }
 
 pub universal-text : textAnswer universal 1 Plain 100 ≡ accepted (utf8 "atom P(1);\ndatatype T;\n\nfn u => fn x => u x")

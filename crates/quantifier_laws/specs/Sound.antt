@@ -1,17 +1,16 @@
--- Sound steps with quantifiers. Document 01, "Sound steps and the checking rules", its first paragraph, and ticket 12.
+-- Sound steps with quantifiers. Document 01, "Sound steps and the checking rules", its first paragraph, and document 02, ticket 12.
 -- Propositions are nameless and names are bytes, so that equality up to alpha is plain equality.
 use Prim.Native.Nat.{ℕ, _<_}
 use mathlib.Core.Path.{_≡_}
-use mathlib.Core.Bool.{Bool, true, false, _&&_, _||_}
+use mathlib.Core.Bool.{false}
 use mathlib.Core.Option.{some}
 use mathlib.Core.List.{List, [], _∷_, map, List·Memᴰ}
 use Rattle.definitions.specs.Outcome.{accepted}
 use Rattle.definitions.specs.Name.{Name, eqName}
-use Rattle.definitions.specs.Prop as prop
 use Rattle.definitions.specs.Prop.{Prop}
 use Rattle.definitions.specs.AlphaEquality.{Object, constant, Nameless, True, False, nameless}
-use Rattle.definitions.specs.Sheet.{nameOf, propositions, steps, stepNumber, stepRecords}
-use Rattle.definitions.specs.Tree.{Identifier, ProofTreeRule, AndIntro, AndElimFst, AndElimSnd, TrueIntro, ImplIntro, ImplElim, Ident, OrIntroFst, OrIntroSnd, OrElim, FalsumElim, ForAllIntro, ForAllElim, ExistsIntro, ExistsElim, Sorry, AlphaEquivalent, PropIsTrue, TypeJudgement, Step, ProofTree, over, Premisses, none, _and_, renameTree, ruleOf}
+use Rattle.definitions.specs.Sheet.{nameOf, propositions}
+use Rattle.definitions.specs.Tree.{Identifier, ProofTreeRule, AndIntro, AndElimFst, AndElimSnd, TrueIntro, ImplIntro, ImplElim, Ident, OrIntroFst, OrIntroSnd, OrElim, FalsumElim, ForAllIntro, ForAllElim, ExistsIntro, ExistsElim, Sorry, AlphaEquivalent, PropIsTrue, TypeJudgement, Step, ProofTree, over, Premisses, none, _and_, renameTree}
 use Rattle.definitions.specs.Admission.{admitted}
 use Rattle.definitions.specs.CheckAnswers.{namedProp}
 use Rattle.quantifier_laws.specs.Instantiation.{And, Or, Impl, ForAll, Exists, instantiate, stands, among, holdsUnbound}
@@ -177,46 +176,10 @@ pub record Deduced (v : Convention) (s : List ℕ) : Type 0 where
   pub prop : Prop Name
   pub deduction : Deduction v [] (renameTree (nameOf s) root) (nameless [] prop)
 
--- some quantifier of the proposition has the name
-unfoldable pub quantifies : Name → Prop Name → Bool
-quantifies x prop.True = false
-quantifies x prop.False = false
-quantifies x (prop.Binary c p q) = quantifies x p || quantifies x q
-quantifies x (prop.Atom a ps) = false
-quantifies x (prop.Quantified q y t p) = eqName x y || quantifies x p
-
--- the rules that add an object, by their first identifier
-unfoldable pub addsObject : ProofTreeRule → Bool
-addsObject ForAllIntro = true
-addsObject ExistsElim = true
-addsObject AndIntro = false
-addsObject AndElimFst = false
-addsObject AndElimSnd = false
-addsObject TrueIntro = false
-addsObject ImplIntro = false
-addsObject ImplElim = false
-addsObject Ident = false
-addsObject OrIntroFst = false
-addsObject OrIntroSnd = false
-addsObject OrElim = false
-addsObject FalsumElim = false
-addsObject ForAllElim = false
-addsObject ExistsIntro = false
-addsObject Sorry = false
-addsObject AlphaEquivalent = false
-
--- Of a sheet's bytes:
-module _ (s : List ℕ) where
-  -- step k adds an object whose name a quantifier of proposition i has
-  unfoldable pub quantifiesObject : ℕ → ℕ → Bool
-  quantifiesObject k i = addsObject (ruleOf s k) && quantifies (nameOf s (stepNumber (stepRecords s) k 2)) (namedProp s i)
-
 -- ticket 12's sound sheet. The deduction asks, all by name, that no two objects or hypotheses in one scope share a name and that
 -- a new object stands in no hypothesis in scope, not in its step's conclusion, and not in what ExistsElim's first premiss
--- concludes. The other two premises are not needed for accuracy.
+-- concludes. That no quantifier is named like an object in scope is not asked: the rules need no such premise.
 pub record Sound (s : List ℕ) : Type 0 where
   pub deduced : Deduced documented s
   -- every uninstantiated parameter is bound
   pub bound : (i : ℕ) → i < propositions s → holdsUnbound (nameless [] (namedProp s i)) ≡ false
-  -- no quantifier in any proposition is named like an object
-  pub quantifiers : (k i : ℕ) → k < steps s → i < propositions s → quantifiesObject s k i ≡ false
