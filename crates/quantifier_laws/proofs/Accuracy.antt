@@ -7,7 +7,7 @@ use lib.ListN.{length}
 use borrow.Author.Tests.{le-ltb}
 use Rattle.definitions.specs.Outcome.{Outcome, refused, accepted, _>>=_, mapOutcome, refuseIf}
 use Rattle.definitions.specs.Name.{Name}
-use Rattle.definitions.specs.AlphaEquality.{Nameless, nameless}
+use Rattle.definitions.specs.AlphaEquality.{Nameless}
 use Rattle.definitions.specs.Sheet.{nameOf}
 use Rattle.definitions.specs.Term.{ProofTerm, renameTerm, annotationCount}
 use Rattle.definitions.specs.Export.{checking, export}

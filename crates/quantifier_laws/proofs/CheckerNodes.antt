@@ -1,6 +1,6 @@
 -- The node at which the checker stops is a node of the term.
 use Prim.Native.Nat.{ℕ, _+_, _≤_, _<_}
-use mathlib.Core.Bool.{Bool, true, false, not}
+use mathlib.Core.Bool.{not}
 use mathlib.Core.Option as option
 use mathlib.Core.Option.{Option, some}
 use native.Mathlib.Omega.{arith}
@@ -14,7 +14,7 @@ use Rattle.checker_laws.proofs.CheckerNodes.{wider, then, ensure-within}
 use Rattle.quantifier_laws.specs.Instantiation.{named, instantiate, stands}
 use Rattle.quantifier_laws.specs.Rules.{Fact, proves, objectOf, Context, bind, lookup, reading}
 use Rattle.definitions.specs.TermText.{nodes}
-use Rattle.definitions.specs.Checker.{Judged, derived, stopped, _>>=_, ensure}
+use Rattle.definitions.specs.Checker.{Judged, _>>=_}
 use Rattle.quantifier_laws.specs.Checker.{eqNameless, generalise, isNew, labelIsProposition, labelIsDatatype, isObjectOf, inScope, proposed, ofAnd, ofOr, ofExists, ofPair, ofFunction, compared, noObject, inferNamed, checkNamed, inferApplication, inferAscribed, inferFunction, infer, check, object}
 
 -- Of a node n below `hi`:

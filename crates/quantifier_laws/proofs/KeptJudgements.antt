@@ -1,6 +1,6 @@
 -- Every answer that ticket 5 gives stays: what it does not refuse with 22 holds no quantifier, and there both checkers agree.
 use Prim.Native.Nat.{ℕ}
-use mathlib.Core.Path.{_≡_, refl, ap, sym, _∙_}
+use mathlib.Core.Path.{_≡_, refl, ap, _∙_}
 use mathlib.Core.Bool.{Bool, true, false, _&&_, _||_, not, and-eq-true-iff}
 use mathlib.Core.Option as option
 use mathlib.Core.Option.{Option, some}
@@ -8,10 +8,8 @@ use mathlib.Core.List.{List, [], _∷_}
 use lib.Dec.{leb}
 use native.Mathlib.Omega.{arith}
 use borrow.Author.Tests.{not-false}
-use Rattle.definitions.specs.Outcome.{Outcome, accepted, _>>=_, refuseIf}
+use Rattle.definitions.specs.Outcome.{accepted, _>>=_, refuseIf}
 use Rattle.definitions.specs.Name.{Name}
-use Rattle.definitions.specs.Prop.{Prop}
-use Rattle.definitions.specs.AlphaEquality.{nameless}
 use Rattle.definitions.specs.Sheet.{nameOf, propositions}
 use Rattle.definitions.specs.Admission.{admitted}
 use Rattle.definitions.specs.Term as term
@@ -25,12 +23,9 @@ use Rattle.definitions.specs.Checker as five
 use Rattle.definitions.specs.CheckAnswers as fiveAnswers
 use Rattle.definitions.specs.CheckAnswers.{namedProp, hypothesisOut, isCheckableLabel, isCheckableParameterLabel, isCheckable, allQuantifierFree}
 use Rattle.definitions.proofs.Outcomes.{each-accepted, test-failed}
-use Rattle.quantifier_laws.specs.Instantiation.{holdsUnbound}
-use Rattle.quantifier_laws.specs.Rules.{proves, Context, bind}
-use Rattle.quantifier_laws.specs.Checker as grown
+use Rattle.quantifier_laws.specs.Rules.{Context, bind}
 use Rattle.quantifier_laws.specs.CheckAnswers as answers
 use Rattle.quantifier_laws.specs.CheckAnswers.{unboundLabel, unboundParameter, unboundTerm, unboundFact, unboundContext}
-use Rattle.quantifier_laws.proofs.QuantifierFree.{Free}
 use Rattle.quantifier_laws.proofs.Conservative as conservative
 use Rattle.quantifier_laws.proofs.Conservative.{FreeLabel, FreeParameter, FreeTerm, Same}
 use Rattle.quantifier_laws.proofs.SoundCase.{free-bound}

@@ -1,16 +1,14 @@
 -- A sound sheet of document 01 has a tree of propositional steps, each of which concludes a proposition without quantifiers.
 use Prim.Native.Nat.{ℕ}
 use mathlib.Core.Path.{_≡_, _∙_}
-use mathlib.Core.Bool.{Bool, true, false, cond}
+use mathlib.Core.Bool.{true}
 use mathlib.Core.Option.{none}
 use mathlib.Core.List.{List}
-use lib.Dec.{eqb}
 use native.Mathlib.Omega.{arith}
 use Rattle.definitions.specs.Outcome.{accepted}
-use Rattle.definitions.specs.Prop.{Prop}
 use Rattle.definitions.specs.Sheet.{stepRecords, stepNumber}
 use Rattle.definitions.specs.Tree as tree
-use Rattle.definitions.specs.Tree.{Identifier, ProofTreeConclusion, PropIsTrue, TypeJudgement, Step, ProofTree, over, Premisses, _and_, renameConclusion, renameStep, renameTree, renamePremisses, rules, identifierIn, conclusionIn, stepIn, propOf, ruleOf, conclusionOf}
+use Rattle.definitions.specs.Tree.{ProofTreeConclusion, PropIsTrue, TypeJudgement, Step, ProofTree, over, Premisses, _and_, renameConclusion, renameStep, renameTree, renamePremisses, rules, stepIn, ruleOf, conclusionOf}
 use Rattle.definitions.specs.Admission.{admitted}
 use Rattle.definitions.specs.Sound.{isPropositional, isProposition, Sound}
 use Rattle.checker_laws.proofs.EveryStep.{Every, EveryPremiss, every-step, conclusion-of}

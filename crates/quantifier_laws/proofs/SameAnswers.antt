@@ -2,10 +2,10 @@
 -- at the same node.
 use Prim.Native.Nat.{ℕ, _+_}
 use mathlib.Core.Path.{_≡_, refl, sym, ap, _∙_}
-use mathlib.Core.Bool.{Bool, true, false, cond, and-eq-true-iff}
+use mathlib.Core.Bool.{Bool, true, false, cond}
 use mathlib.Core.Option as option
 use mathlib.Core.Option.{Option, some}
-use mathlib.Core.List.{List, []}
+use mathlib.Core.List.{[]}
 use native.Mathlib.Omega.{arith}
 use Rattle.definitions.specs.Name.{Name, eqName}
 use Rattle.definitions.specs.Prop as prop
@@ -15,10 +15,10 @@ use Rattle.definitions.specs.Sound.{isQuantifierFree}
 use Rattle.definitions.specs.CheckingRules as plain
 use Rattle.definitions.specs.Term as term
 use Rattle.definitions.specs.Term.{Label, proposition, datatype, NamedFunction, fst, snd, inl, inr, abort, ProofTerm, Ident, Pair, Named, Function, Application, LetIn, Case, TypeAscription, Sorry}
-use Rattle.quantifier_laws.specs.Rules.{Fact, proves, objectOf, Context, bind, lookup, reading}
+use Rattle.quantifier_laws.specs.Rules.{Fact, proves, Context, lookup}
 use Rattle.quantifier_laws.specs.Checker as grown
 use Rattle.quantifier_laws.proofs.QuantifierFree.{Free, free-binary, same-prop}
-use Rattle.quantifier_laws.proofs.Conservative.{FreeLabel, FreeParameter, FreeTerm, Same, one, found-too, read-plain, free-left, free-right}
+use Rattle.quantifier_laws.proofs.Conservative.{FreeLabel, FreeParameter, FreeTerm, Same, one, read-plain, free-left, free-right}
 use Rattle.quantifier_laws.proofs.NamelessEquality.{eqNameless-refl, eqNameless-true}
 use Rattle.definitions.specs.Equal.{eqProp}
 use Rattle.definitions.specs.Checker as five

@@ -1,5 +1,4 @@
 -- The drawings with quantifiers are sound, so that the accuracy statement speaks of sheets with all four rules.
-use Prim.Native.Nat.{ℕ}
 use mathlib.Core.Path.{_≡_, refl}
 use mathlib.Core.List.{[], _∷_, List·Memᴰ·head, List·Memᴰ·tail}
 use Rattle.definitions.specs.Utf8.{utf8}

@@ -2,20 +2,19 @@
 -- hypotheses; and refusal 22 does not come before, since every uninstantiated parameter is bound.
 use Prim.Native.Nat.{ℕ, zero, suc, _<_}
 use mathlib.Core.Path.{_≡_, refl}
-use mathlib.Core.Bool.{Bool, true, false, _||_, cond}
+use mathlib.Core.Bool.{Bool, false, _||_}
 use mathlib.Core.Option as option
 use mathlib.Core.Option.{Option, some}
 use mathlib.Core.List.{List, [], _∷_}
-use lib.Dec.{eqb}
 use borrow.Author.Tests.{lt-leb}
 use Rattle.definitions.specs.Outcome.{accepted, _>>=_, refuseIf}
 use Rattle.definitions.specs.Name.{Name}
 use Rattle.definitions.specs.Prop as prop
-use Rattle.definitions.specs.Prop.{Prop, renameProp}
+use Rattle.definitions.specs.Prop.{Prop}
 use Rattle.definitions.specs.AlphaEquality.{nameless}
-use Rattle.definitions.specs.Sheet.{nameOf, names, propositions, propositionPairs, codeBytes, stepRecords, stepNumber}
+use Rattle.definitions.specs.Sheet.{nameOf, propositions, stepRecords, stepNumber}
 use Rattle.definitions.specs.Tree as tree
-use Rattle.definitions.specs.Tree.{Identifier, ProofTreeRule, AndIntro, AndElimFst, AndElimSnd, TrueIntro, ImplIntro, ImplElim, OrIntroFst, OrIntroSnd, OrElim, FalsumElim, ForAllIntro, ForAllElim, ExistsIntro, ExistsElim, AlphaEquivalent, ProofTreeConclusion, PropIsTrue, TypeJudgement, Step, ProofTree, over, Premisses, _and_, renameConclusion, renameStep, renameTree, renamePremisses, identifierIn, conclusionIn, stepIn, propOf}
+use Rattle.definitions.specs.Tree.{ProofTreeRule, AndIntro, AndElimFst, AndElimSnd, TrueIntro, ImplIntro, ImplElim, OrIntroFst, OrIntroSnd, OrElim, FalsumElim, ForAllIntro, ForAllElim, ExistsIntro, ExistsElim, AlphaEquivalent, ProofTreeConclusion, PropIsTrue, TypeJudgement, Step, ProofTree, over, Premisses, _and_, renameConclusion, renameStep, renameTree, renamePremisses, stepIn}
 use Rattle.definitions.specs.Admission.{admitted}
 use Rattle.definitions.specs.Term.{Label, proposition, datatype, ProofTerm}
 use Rattle.definitions.specs.Export.{Place, ruleTerm, premissTerm, stepTerm}

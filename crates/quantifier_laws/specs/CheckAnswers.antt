@@ -1,7 +1,7 @@
 -- The answer to the question whether a term checks against a proposition of a sheet, for every sequence of bytes.
 -- Document 02, tickets 5 and 12. The proposition and the hypotheses are numbers of the sheet; the term is the sheet's or one read beside it.
 use Prim.Native.Nat.{ℕ}
-use mathlib.Core.Bool.{Bool, true, false, _||_}
+use mathlib.Core.Bool.{Bool, false, _||_}
 use mathlib.Core.Option as option
 use mathlib.Core.Option.{Option, some}
 use mathlib.Core.List.{List, [], _∷_}
