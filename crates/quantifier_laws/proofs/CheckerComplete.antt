@@ -78,7 +78,7 @@ mutual
   infers-complete (infer-let {g = g} {h = h} {x = x} d new out far s e) n =
       let y = infers-complete d (n + 1) in
       let z = infers-complete e (n + 1 + nodes h) in
-      (rw (new-complete x g new, y .0, out, s, z .0, far), rw (new-complete x g new, far, y .0, out, s, z .1))
+      (rw (new-complete x g new, y .0, out, s) (simp (z .0, far)), rw (new-complete x g new, far, y .0, out, s, z .1))
 
   pub checks-complete : {g : Context} {t : ProofTerm Name} {a : Nameless} → Checks g t a → (n : ℕ) → check t g n a ≡ derived tt
   checks-complete (check-function {g = g} {l = l} {a = a} e d) n = rw (label-proposition g l a e, checks-complete d (n + 1))

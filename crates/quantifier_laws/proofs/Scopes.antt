@@ -28,7 +28,7 @@ objects-same xs (e ∷ g) = rw (objects-same xs g) (before-same xs (e .name) (e 
 -- a label's proposition is read as the scope's are
 pub reading-scope : (hs : Scope) (p : Prop Name) {a : Nameless} → nameless [] p ≡ a → reading (context hs) p ≡ among (objectsOf hs) a
 unfolding reading context
-reading-scope hs p e = rw (objects-same (objectsOf hs) (entries hs), e)
+reading-scope hs p e = ap (λ xs. among xs (nameless [] p)) (objects-same (objectsOf hs) (entries hs)) ∙ ap (among (objectsOf hs)) e
 
 -- a hypothesis in front
 pub context-hypothesis : (x : Identifier Name) (a : Nameless) (hs : Scope)
