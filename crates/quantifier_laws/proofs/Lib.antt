@@ -23,3 +23,4 @@ pub mod MadeUniversal
 pub mod SoundCase
 pub mod SameAnswers
 pub mod KeptJudgements
+pub mod Uses
