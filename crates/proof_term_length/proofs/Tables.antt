@@ -1,5 +1,5 @@
 -- What the tables hold while the records are measured.
-use Prim.Native.Nat.{ℕ, _+_, _≤_, _<_, min}
+use Prim.Native.Nat.{ℕ, _+_, _*_, _/_, _%_, _≤_, _<_, min}
 use mathlib.Core.Path.{_≡_, refl, sym, ap, _∙_}
 use mathlib.Core.Logic.{by-cases}
 use mathlib.Core.List.{List}
@@ -23,12 +23,13 @@ module _ (bytes : List ℕ) (v : Vocabulary) where
   none-known n i h = absurd (h (zero-at n i))
 
   -- one more length is known
-  pub one-known : (known : List ℕ) (at : ℕ) {r : ℕ} → Known bytes v known → r ≡ length (propText bytes v at) → Known bytes v (set known at r)
-  one-known known at {r} k is i h = by-cases (ℕ-discrete i at)
-      (λ e. by-cases (decLt at (length known))
-      (λ inside. rw e (getD-set-same known at r 0 inside ∙ is))
-      (λ outside. absurd (h (rw e (List·getD-eq-default (set known at r) 0 {n = at} (omega (arith, length-set known at r)))))))
-      (λ other. let same = getD-set-other known at i r 0 other in same ∙ k i (λ z. h (same ∙ z)))
+  pub one-known : (known : List ℕ) (slot x : ℕ) → Known bytes v known → x / 2 ≡ length (propText bytes v (slot + 4096 * (x % 2)))
+      → Known bytes v (set known slot x)
+  one-known known slot x k is i h = by-cases (ℕ-discrete i slot)
+      (λ e. by-cases (decLt slot (length known))
+      (λ inside. rw (e, getD-set-same known slot x 0 inside) is)
+      (λ outside. absurd (h (rw e (List·getD-eq-default (set known slot x) 0 {n = slot} (omega (arith, length-set known slot x)))))))
+      (λ other. let same = getD-set-other known slot i x 0 other in rw same (k i (λ z. h (same ∙ z))))
 
   module _ (records : List ℕ) (s : Style) (cap : ℕ) where
     -- one more record is measured

@@ -1,5 +1,5 @@
 -- The length of a term's text by the records, what it takes to count it, and what is known on the way.
-use Prim.Native.Nat.{ℕ, zero, suc, _+_, _*_, _≤_, _<_, min}
+use Prim.Native.Nat.{ℕ, zero, suc, _+_, _*_, _/_, _%_, _≤_, _<_, min}
 use mathlib.Core.Path.{_≡_}
 use mathlib.Core.Bool.{cond}
 use mathlib.Core.List.{List, [], _∷_}
@@ -67,9 +67,10 @@ module _ (bytes : List ℕ) (v : Vocabulary) where
     pub within : Within bytes v
     pub named : (n : ℕ) → n < v .«name_count» → Names bytes v n
 
-  -- an entry of the table that is not 0 is the length of the text of the proposition there
+  -- an entry of the table that is not 0 is twice the length of the text of a proposition, and one more if that stands in the upper
+  -- half of the code: 4,096 bytes past the entry's own place
   abbrev pub Known : List ℕ → Type 0
-  Known known = (i : ℕ) → (getD known i 0 ≡ 0 → ⊥) → getD known i 0 ≡ length (propText bytes v i)
+  Known known = (i : ℕ) → (getD known i 0 ≡ 0 → ⊥) → getD known i 0 / 2 ≡ length (propText bytes v (i + 4096 * (getD known i 0 % 2)))
 
 -- the memory holds record n, the tables have room, and the labels of the records up to n fit: a proposition stands at its number
 pub record Measurable (records : List ℕ) (n : ℕ) (bytes : List ℕ) (v : Vocabulary) (ends : List ℕ) : Type 0 where

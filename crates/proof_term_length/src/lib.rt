@@ -19,8 +19,8 @@ ghost use Rattle.prop.specs.Printing.{propText, Printable};
 ghost use Rattle.prop_length.specs.Length.{TextLength};
 ghost use Rattle.proof_term_length.specs.Measure.{rowOf, nameSize, partSize, termLength, ownLabelLength, Agrees, Measurable, AllNamed, MeasuredBelow, Known};
 
-// As many as a sheet's code has bytes, and a term of a sheet records.
-const CODE_LIMIT: usize = 8192;
+// Half as many as a sheet's code has bytes, and as many as a term of a sheet has records.
+const KNOWN_LIMIT: usize = 4096;
 
 const RECORD_LIMIT: usize = 2048;
 
@@ -138,24 +138,29 @@ fn bare_length(
     sum(own + name + other_name, sum(both, third, cap), cap)
 }
 
-// The length of the text of the proposition at `at`, which is found out once.
+// The length of the text of the proposition at `at`, which is found out once, unless there is a label 4,096 bytes before it or after.
+// An entry is twice a length, and one more for an offset in the upper half of the code.
 fn known_length(
     bytes: &[u8],
     v: Vocabulary,
     ends: &[u16],
     at: usize,
-    known: &mut [u32; CODE_LIMIT],
+    known: &mut [u32; KNOWN_LIMIT],
 ) -> usize
     requires { ⌜ Printable (now bytes) v (now ends) at × (at < 8192) ⌝ }
     requires { ⌜ Known (now bytes) v (now known) ⌝ }
     ensures { λ r. ⌜ TextLength (propText (now (bytes .entry)) v at) r × Known (now (bytes .entry)) v (now (known .exit)) ⌝ }
 {
-    let before = known[at];
+    let slot = at % KNOWN_LIMIT;
+    let upper = at / KNOWN_LIMIT;
+    let before = known[slot];
     if before != 0 {
-        return before as usize;
+        if before % 2 == upper as u32 {
+            return (before / 2) as usize;
+        }
     }
     let length = text_length(bytes, v, ends, at);
-    known[at] = length as u32;
+    known[slot] = (2 * length + upper) as u32;
     length
 }
 
@@ -166,7 +171,7 @@ fn label_length(
     bytes: &[u8],
     v: Vocabulary,
     ends: &[u16],
-    known: &mut [u32; CODE_LIMIT],
+    known: &mut [u32; KNOWN_LIMIT],
 ) -> usize
     requires { ⌜ Measurable (now records) n (now bytes) v (now ends) ⌝ }
     requires { ⌜ Known (now bytes) v (now known) ⌝ }
@@ -184,33 +189,7 @@ fn label_length(
     COLON + known_length(bytes, v, ends, label, known)
 }
 
-// The length of record `n`'s text, as far as the cap, with tables for the lengths of labels and of the records before.
-fn count_length(
-    records: &[u16],
-    n: usize,
-    bytes: &[u8],
-    v: Vocabulary,
-    ends: &[u16],
-    style: Style,
-    cap: usize,
-) -> usize
-    requires { ⌜ Measurable (now records) n (now bytes) v (now ends) ⌝ }
-    ensures { λ r. ⌜ r ≡ min (termLength (now (bytes .entry)) v (now (records .entry)) style n) cap ⌝ }
-{
-    let mut known = [0u32; CODE_LIMIT];
-    let mut lengths = [0usize; RECORD_LIMIT];
-    let mut m = 0;
-    while m <= n {
-        let bare = bare_length(records, m, bytes, v, &lengths, style, cap);
-        let label = label_length(records, m, bytes, v, ends, &mut known);
-        lengths[m] = sum(bare, label, cap);
-        m += 1;
-    }
-    lengths[n]
-}
-
-// The length of record `n`'s text, as far as the cap. What counts it is called in two places and so has a frame of its own, which is
-// gone when the term is printed.
+// The length of record `n`'s text, as far as the cap.
 pub fn term_length(
     records: &[u16],
     n: usize,
@@ -223,8 +202,14 @@ pub fn term_length(
     requires { ⌜ Measurable (now records) n (now bytes) v (now ends) ⌝ }
     ensures { λ r. ⌜ r ≡ min (termLength (now (bytes .entry)) v (now (records .entry)) style n) cap ⌝ }
 {
-    match style {
-        Style::Plain => count_length(records, n, bytes, v, ends, Style::Plain, cap),
-        Style::Strict => count_length(records, n, bytes, v, ends, Style::Strict, cap),
+    let mut known = [0u32; KNOWN_LIMIT];
+    let mut lengths = [0usize; RECORD_LIMIT];
+    let mut m = 0;
+    while m <= n {
+        let bare = bare_length(records, m, bytes, v, &lengths, style, cap);
+        let label = label_length(records, m, bytes, v, ends, &mut known);
+        lengths[m] = sum(bare, label, cap);
+        m += 1;
     }
+    lengths[n]
 }
