@@ -1,0 +1,3 @@
+-- Laws of propositions written where they stood.
+pub mod Sizes
+pub mod Places
