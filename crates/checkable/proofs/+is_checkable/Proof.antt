@@ -48,6 +48,13 @@ module _ (t : ℕ) where
     reads.Post,
   )
 
+  -- back from the loop's head over the count of parts to the record's own test, and from there to the start
+  abbrev tested : lts.At-loop claims here reads.Post Inv-loop μ-loop → lts.Else1 claims here reads.Post Inv-loop μ-loop
+  tested c = c .before .before .before
+
+  abbrev start : lts.Else1 claims here reads.Post Inv-loop μ-loop → lts.Start claims here reads.Post Inv-loop μ-loop
+  start c = c .before .before .before .before
+
   is-plain-record-requires : lts.Need-is-plain-record-requires claims here reads.Post Inv-loop μ-loop
   is-plain-record-requires c κs = c .before .before .pre .1
 
@@ -64,10 +71,10 @@ module _ (t : ℕ) where
   loop-holds c = (c .part-count .ensures ∙ ap partCount (c .before .field .ensures .0), omega arith, checked-none _ _ _ _ (c .before .before .before .is-plain-record .ensures) (not-false _ (c .before .before .if1 .left)))
 
   add-field : lts.Need-add-field claims here reads.Post Inv-loop μ-loop
-  add-field c = omega (arith, c .before .loop .inv .0, few-parts (fieldAt (c .before .before .before .before .before .before .before .before .args .records .now) (c .before .before .before .before .before .before .before .before .args .n) 0))
+  add-field c = omega (arith, c .before .loop .inv .0, few-parts (fieldAt (start (tested (c .before)) .args .records .now) (start (tested (c .before)) .args .n) 0))
 
   field-requires-2 : lts.Need-field-requires-2 claims here reads.Post Inv-loop μ-loop
-  field-requires-2 c κs = (c .before .before .before .before .before .before .before .before .pre .1 .0, omega (arith, c .before .loop .inv .0, few-parts (fieldAt (c .before .before .before .before .before .before .before .before .args .records .now) (c .before .before .before .before .before .before .before .before .args .n) 0)))
+  field-requires-2 c κs = (start (tested (c .before)) .pre .1 .0, omega (arith, c .before .loop .inv .0, few-parts (fieldAt (start (tested (c .before)) .args .records .now) (start (tested (c .before)) .args .n) 0)))
 
   add-i : lts.Need-add-i claims here reads.Post Inv-loop μ-loop
   add-i c = omega arith
@@ -79,7 +86,7 @@ module _ (t : ℕ) where
   loop-again c = (c .before .before .before .loop .inv .0, omega arith, checked-unit _ _ _ _ _ (c .before .field2 .ensures .0) (c .before .before .before .loop .inv .2) (c .if2 .taken))
 
   is-checkable-requires : lts.Need-is-checkable-requires claims here reads.Post Inv-loop μ-loop
-  is-checkable-requires c κs = (omega arith, (omega arith, labels-below (c .before .before .before .before .before .before .before .before .before .before .pre .1 .1) _ (omega arith)))
+  is-checkable-requires c κs = (omega arith, (omega arith, labels-below (start (tested (c .before .before .before)) .pre .1 .1) _ (omega arith)))
 
   returns-2 : lts.Need-returns-2 claims here reads.Post Inv-loop μ-loop
   returns-2 c =

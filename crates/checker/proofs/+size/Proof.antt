@@ -45,6 +45,13 @@ module _ (t : ℕ) where
     reads.Post,
   )
 
+  -- back from a part to the loop's head, and from there to the start
+  abbrev head : lts.After-field2 claims here reads.Post Inv-loop μ-loop → lts.At-loop claims here reads.Post Inv-loop μ-loop
+  head c = c .before .before
+
+  abbrev start : lts.At-loop claims here reads.Post Inv-loop μ-loop → lts.Start claims here reads.Post Inv-loop μ-loop
+  start c = c .before .before .before .before
+
   field-requires : lts.Need-field-requires claims here reads.Post Inv-loop μ-loop
   field-requires c κs = omega (arith, c .before .pre .1 .held)
 
@@ -62,7 +69,7 @@ module _ (t : ℕ) where
 
   size-requires : lts.Need-size-requires claims here reads.Post Inv-loop μ-loop
   size-requires c κs =
-      let few = c .before .before .before .before .before .before .before .pre .1 in
+      let few = start (head (c .before)) .pre .1 in
       let is = c .before .field2 .ensures .0 in
       let more = sized-part (few .props) _ _ _ is (c .if1 .taken) in
       let all = sized-few (few .props) _ _ _ is (omega arith) in
@@ -70,7 +77,7 @@ module _ (t : ℕ) where
 
   add-count : lts.Need-add-count claims here reads.Post Inv-loop μ-loop
   add-count c =
-      let few = c .before .before .before .before .before .before .before .before .pre .1 in
+      let few = start (head (c .before .before)) .pre .1 in
       let is = c .before .before .field2 .ensures .0 in
       let more = sized-part (few .props) _ _ _ is (c .before .if1 .taken) in
       let all = sized-few (few .props) _ _ _ is (omega arith) in
@@ -78,7 +85,7 @@ module _ (t : ℕ) where
 
   add-count-2 : lts.Need-add-count-2 claims here reads.Post Inv-loop μ-loop
   add-count-2 c =
-      let few = c .before .before .before .before .before .before .before .pre .1 in
+      let few = start (head (c .before)) .pre .1 in
       let is = c .before .field2 .ensures .0 in
       let more = sized-unit (few .props) _ _ _ is (c .if1 .left) in
       let all = sized-few (few .props) _ _ _ is (omega arith) in
