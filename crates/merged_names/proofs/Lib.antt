@@ -1,2 +1,3 @@
 pub mod Knowing
 pub mod Storing
+pub mod Lowest

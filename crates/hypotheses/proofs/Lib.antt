@@ -1,0 +1,2 @@
+-- Laws of hypotheses as pairs.
+pub mod Walking

@@ -1,0 +1,2 @@
+-- Hypotheses as pairs of numbers.
+pub mod Pairs
