@@ -7,8 +7,8 @@
  * What a caller owes
  *   - Each pointer is aligned for its type and not null, also where its length is 0: a function takes it for a reference,
  *     and nothing is promised of a null one. An empty std::vector may have a null pointer: lend the address of any element then.
- *   - `sheet` can be read for `sheet_length` bytes, and so can the `names` of an exercise, of which all that is said of the sheet
- *     holds; `out` can be written for `room` elements, and all of them have a value (clear the memory once); `value` and
+ *   - `sheet` can be read for `sheet_length` bytes, and so can the `names` of an exercise and the two sheets of a graft, of which
+ *     all that is said of the sheet holds; the two may be one; `out` can be written for `room` elements, and all of them have a value (clear the memory once); `value` and
  *     `column` can be written.
  *   - `out`, `value` and `column` overlap neither each other nor the sheet, and no other thread touches the four during the
  *     call.
@@ -42,7 +42,8 @@ extern "C" {
    a name, a proposition or a step, and its reason. Those whose place is a step, 9 to 15, hand back its column too.
 
    Texts and lists use 1 to 16, those of the handout 21 too, the label count 1 to 15, a comparison 1 to 11, 17 and 19, a
-   restatement 1 to 11, 23, 24, 19 or 25, and 16, an exercise 29, 30 and 16, an index of names 1 to 11, and a search in one 1 to 3.
+   restatement 1 to 11, 23, 24, 19 or 25, and 16, a graft the host's 1 to 11, the donor's 1 to 11, 26, 27, 28 and 16, an exercise
+   29, 30 and 16, an index of names 1 to 11, and a search in one 1 to 3.
    16 is tried last. It does not say how much room is missing: most answers fit 65,536 elements, but a text can pass 88 million
    bytes and a list 3 million numbers. */
 enum skriduhol_refusal {
@@ -92,11 +93,20 @@ enum skriduhol_refusal {
     SKRIDUHOL_REFUSED_NO_STEP_LEFT = 24,
     /* 0: the root's conclusion and the given one are not alpha equal */
     SKRIDUHOL_REFUSED_NOT_ALPHA_EQUAL = 25,
+    /* 0: the host step is no Sorry without premisses */
+    SKRIDUHOL_REFUSED_NO_OPEN_STEP = 26,
+    /* 0: the conclusions of the host step and of the donor's root differ, names taken by bytes */
+    SKRIDUHOL_REFUSED_CONCLUSIONS_DIFFER = 27,
+    /* 0: the merged sheet passes a limit of the sheet */
+    SKRIDUHOL_REFUSED_MERGED_LIMIT = 28,
     /* 0: the names of an exercise are too many, repeated or malformed, or its number of connectives passes 3 */
     SKRIDUHOL_REFUSED_EXERCISE = 29,
     /* 0: the ordinal of an exercise is past the end */
     SKRIDUHOL_REFUSED_ORDINAL = 30
 };
+
+/* Whose sheet a refusal of a graft speaks of. */
+enum skriduhol_whose { SKRIDUHOL_NEITHER = 0, SKRIDUHOL_HOST = 1, SKRIDUHOL_DONOR = 2 };
 
 /* The bytes that skriduhol_board_output writes into. */
 #define SKRIDUHOL_BOARD_ROOM 65536
@@ -154,6 +164,19 @@ uint8_t skriduhol_compare(const uint8_t *sheet, size_t sheet_length, size_t i, s
    *value: the length of the new sheet in bytes, 20 more than the old one's. */
 uint8_t skriduhol_restate(const uint8_t *sheet, size_t sheet_length, const uint16_t given[5],
                           uint16_t slots[SKRIDUHOL_SLOT_COUNT], uint8_t *out, size_t room, size_t *value, size_t *column);
+
+/* The host with the donor's steps in the place of one of its own, a Sorry without premisses that concludes what the donor's root
+   does: the same shape, name bytes and ids. The host's names, propositions, text, code, goal and other steps are kept byte for byte.
+   After its own stand the donor's names that it has not, each once, and all of the donor's propositions, in their order and without
+   gaps. The donor's steps call each name by the lowest number of equal bytes; their ids and columns are kept. Where the walk reaches
+   the sorry and host and merged sheet both have a text, the merged term without labels is the host's with the donor's in the sorry's
+   position, and its labels are the host's, less that sorry's own, plus the donor's as that place needs them. `slots` are as in
+   skriduhol_restate. *value: the length of the merged sheet in bytes, at most SKRIDUHOL_LONGEST_SHEET. *whose, always set: of
+   refusals 1 to 11 the sheet that they speak of, whose step and column they name (enum skriduhol_whose), and 0 in every other case.
+   It is written as *value and *column are. */
+uint8_t skriduhol_graft(const uint8_t *host, size_t host_length, size_t step, const uint8_t *donor, size_t donor_length,
+                        uint16_t slots[SKRIDUHOL_SLOT_COUNT], uint8_t *out, size_t room, size_t *value, size_t *column,
+                        size_t *whose);
 
 /* The code of the proposition at an ordinal, from 0, among all of at most n binary connectives over ⊤, ⊥ and up to 3 names, n up
    to 3. Fewer connectives come first; then by root, ∧ before ∨ before ⊃; then by the left part's size, the left part, the right

@@ -249,8 +249,8 @@ fn print_sound(dir: &str) -> i32 {
 fn write_list(seed: u64, file: &str) -> i32 {
     match list(seed) {
         Ok(list) => {
-            let List { sheets, names, indexed, restated, questions, bytes } = list;
-            println!("{sheets} sheets, {names} lists of names, {indexed} sheets with an index, {restated} with restatements, {questions} questions, {} bytes", bytes.len());
+            let List { sheets, names, indexed, restated, grafted, questions, bytes } = list;
+            println!("{sheets} sheets, {names} lists of names, {indexed} sheets with an index, {restated} with restatements, {grafted} pairs for grafts, {questions} questions, {} bytes", bytes.len());
             fs::write(file, bytes).unwrap();
             0
         }

@@ -115,14 +115,14 @@ fn conclusions(list: &mut List) {
     let words = [["P", "T", "x", "y", "PP"], ["y", "PP", "x", "T", "P"]];
     let sheets = words.map(|words| {
         let name = |word: &str| words.iter().position(|other| *other == word).expect("it is a name") as u16;
-        let props = different(name);
+        let alone = |prop: Formula, step: Step| plain(&words, &[prop], &[step]).bytes();
         let judged = [("x", 0, "T"), ("x", 1, "T"), ("y", 0, "T"), ("x", 0, "P"), ("T", 0, "x")].map(|(x, id, t)| {
             let mut step = judging(sorry(0), name(x), name(t));
             step.conclusion[1] = id;
             step
         });
-        let steps: Vec<Step> = (0..props.len() as u16).map(sorry).chain(judged).collect();
-        steps.into_iter().map(|step| plain(&words, &props, &[step]).bytes()).collect::<Vec<_>>()
+        let props = different(name).into_iter().map(|prop| alone(prop, sorry(0)));
+        props.chain(judged.map(|step| alone(Formula::True, step))).collect::<Vec<_>>()
     });
     for (i, host) in sheets[0].iter().enumerate() {
         for (j, donor) in sheets[1].iter().enumerate() {
