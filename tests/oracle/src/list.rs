@@ -119,6 +119,20 @@ fn grafts(seed: u64) -> Vec<Graft> {
     all
 }
 
+/// Grafts alone, in the list's form: those by hand, and of each random kind so many pairs of sheets that are not long, each once
+/// with enough room.
+pub fn list_grafts(seed: u64, count: usize) -> List {
+    let mut list = List::default();
+    let kinds = [Kind::Sound, Kind::Random, Kind::Quantified, Kind::Damaged];
+    let generated = kinds.into_iter().flat_map(|kind| (0..count).flat_map(move |index| random(kind, seed, index)));
+    let short = |asked: &Graft| asked.host.len().max(asked.donor.len()) <= LARGE_BYTES;
+    for asked in fixed().into_iter().chain(generated).filter(short) {
+        list.add_pair(&asked, &[(asked.host.len(), asked.donor.len(), asked.step, BOARD_ROOM)]);
+    }
+    list.bytes.splice(0..0, (list.grafted as u32).to_le_bytes());
+    list
+}
+
 /// The donor of a question: so many of the bytes behind so many.
 fn donor_of(asked: &Graft, own: usize, theirs: usize) -> Vec<u8> {
     [&asked.host[..], &asked.donor].concat()[own..][..theirs].to_vec()
@@ -288,12 +302,19 @@ impl List {
                 Err(_) => all.push((own, theirs, step, rng.below(1000))),
             }
         }
+        self.add_pair(asked, &all);
+    }
+
+    /// Adds a host and behind it a donor, with questions: how many of the bytes are the host, how many behind them the donor, the
+    /// step and the room.
+    fn add_pair(&mut self, asked: &Graft, all: &[(usize, usize, usize, usize)]) {
+        let Graft { host, donor, .. } = asked;
         self.grafted += 1;
         self.questions += all.len();
         self.bytes.extend(((host.len() + donor.len()) as u32).to_le_bytes());
         self.bytes.extend(host.iter().chain(donor));
         self.bytes.push(all.len() as u8);
-        for (own, theirs, step, room) in all {
+        for (own, theirs, step, room) in all.iter().copied() {
             self.bytes.push(GRAFT);
             self.bytes.extend([own, theirs].map(|length| (length as u32).to_le_bytes()).concat());
             self.bytes.extend((step as u64).to_le_bytes());
