@@ -8,7 +8,16 @@ use oracle::{
     rng::Rng,
     splice::{spliced, Spliced},
 };
-use std::{collections::BTreeMap, fmt};
+use std::{
+    collections::BTreeMap,
+    fmt,
+    ops::AddAssign,
+    sync::{
+        atomic::{AtomicUsize, Ordering::SeqCst},
+        Mutex,
+    },
+    thread,
+};
 
 pub type OfTwo = unsafe extern "C" fn(
     host: *const u8,
@@ -52,6 +61,18 @@ impl fmt::Display for Asked {
             write!(f, " {number}{}: {count},", ["", " of the host", " of the donor"][*whose])?;
         }
         write!(f, " terms {terms:?}, and {of_merged} questions of {merged} merged sheets")
+    }
+}
+
+impl AddAssign<&Asked> for Asked {
+    fn add_assign(&mut self, other: &Asked) {
+        self.grafts += other.grafts;
+        self.questions += other.questions;
+        self.accepted += other.accepted;
+        self.merged += other.merged;
+        self.of_merged += other.of_merged;
+        other.refused.iter().for_each(|(key, count)| *self.refused.entry(*key).or_default() += count);
+        other.terms.iter().for_each(|(key, count)| *self.terms.entry(*key).or_default() += count);
     }
 }
 
@@ -190,14 +211,58 @@ impl Asker<'_> {
     }
 }
 
-/// What was asked, or the first difference: so many pairs of sheets of every random kind, and those by hand.
-pub fn compare(library: &Library, seed: u64, count: usize) -> Result<Asked, String> {
-    let mut asker = Asker { library, rng: Rng::new(seed, 11), asked: Asked::default() };
-    asker.ask_all(&grafts::fixed())?;
-    for kind in [Kind::Sound, Kind::Random, Kind::Quantified, Kind::Damaged] {
-        for index in 0..count {
-            asker.ask_all(&grafts::random(kind, seed, index))?;
+/// The pairs that are asked: those by hand one by one, and then so many of every random kind.
+struct Pairs {
+    by_hand: Vec<Graft>,
+    seed: u64,
+    count: usize,
+}
+
+const KINDS: [Kind; 4] = [Kind::Sound, Kind::Random, Kind::Quantified, Kind::Damaged];
+
+impl Pairs {
+    fn get(&self, index: usize) -> Option<Vec<Graft>> {
+        match index.checked_sub(self.by_hand.len()) {
+            None => Some(vec![self.by_hand[index].clone()]),
+            Some(index) if index < KINDS.len() * self.count => {
+                Some(grafts::random(KINDS[index % KINDS.len()], self.seed, index / KINDS.len()))
+            }
+            Some(_) => None,
         }
     }
-    Ok(asker.asked)
+}
+
+/// The oracle recurses into deep code before refusal 8 is tried.
+const STACK: usize = 1 << 28;
+
+/// What was asked, or the first difference: the pairs by hand and so many of every random kind, on several threads. What is
+/// asked and found does not depend on how many.
+pub fn compare(library: &Library, seed: u64, count: usize, threads: usize) -> Result<Asked, String> {
+    let pairs = Pairs { by_hand: grafts::fixed(), seed, count };
+    let (next, found) = (AtomicUsize::new(0), Mutex::new(BTreeMap::new()));
+    let work = || {
+        let mut sum = Asked::default();
+        loop {
+            let index = next.fetch_add(1, SeqCst);
+            let Some(all) = pairs.get(index) else { return sum };
+            let mut asker = Asker { library, rng: Rng::new(!seed, index as u64), asked: Asked::default() };
+            let difference = asker.ask_all(&all);
+            sum += &asker.asked;
+            if let Err(how) = difference {
+                found.lock().unwrap().insert(index, how);
+                // Those before this one are taken already.
+                next.store(usize::MAX / 2, SeqCst);
+            }
+        }
+    };
+    let mut sum = Asked::default();
+    thread::scope(|scope| {
+        let started: Vec<_> =
+            (0..threads).map(|_| thread::Builder::new().stack_size(STACK).spawn_scoped(scope, work).unwrap()).collect();
+        started.into_iter().for_each(|thread| sum += &thread.join().unwrap());
+    });
+    match found.into_inner().unwrap().pop_first() {
+        Some((_, how)) => Err(how),
+        None => Ok(sum),
+    }
 }

@@ -224,7 +224,7 @@ fn main() {
             exit(1)
         });
         println!("{asked}");
-        let asked = grafts::compare(&GRAFTING, seed, count).unwrap_or_else(|difference| {
+        let asked = grafts::compare(&GRAFTING, seed, count, threads).unwrap_or_else(|difference| {
             println!("DIFFERENCE in a graft: {difference}");
             exit(1)
         });

@@ -440,10 +440,10 @@ unsafe extern "C" fn grafting(
 #[test]
 fn every_fault_is_found() {
     let library = Library { graft: grafting, asked: None };
-    let asked = compare(&library, 1, 60).unwrap_or_else(|difference| panic!("no fault, and yet {difference}"));
+    let asked = compare(&library, 1, 60, 1).unwrap_or_else(|difference| panic!("no fault, and yet {difference}"));
     assert!([16, 26, 27, 28].iter().all(|number| asked.refused[&(*number, 0)] > 0), "{asked}");
     for (number, fault) in FAULTS.iter().chain(&OF_MEMORY).enumerate() {
         FAULT.store(number, SeqCst);
-        assert!(compare(&library, 1, 60).is_err(), "not found: {fault}");
+        assert!(compare(&library, 1, 60, 1).is_err(), "not found: {fault}");
     }
 }

@@ -74,6 +74,11 @@ fn few(list: &mut List) {
     let judged = plain(&["x", "T"], &[Formula::True], &judged);
     let object = plain(&["T", "x"], &[Formula::True], &[judging(step(rule::IDENT, 0, &[1], 0), 1, 0)]);
     list.add("a judgement under fst", judged.bytes(), 0, object.bytes());
+    // The same numbers of another kind.
+    let kinds = [sorry(0), judging(sorry(0), 0, 0)].map(|step| plain(&["A"], &[atom(0)], &[step]));
+    for (i, j) in [(0, 1), (1, 0), (1, 1)] {
+        list.add(format!("kinds {i} and {j}"), kinds[i].bytes(), 0, kinds[j].bytes());
+    }
 }
 
 /// Propositions of which no two are the same, over these names.
