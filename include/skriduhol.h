@@ -8,8 +8,8 @@
  *   - Each pointer is aligned for its type and not null, also where its length is 0: a function takes it for a reference,
  *     and nothing is promised of a null one. An empty std::vector may have a null pointer: lend the address of any element then.
  *   - `sheet` can be read for `sheet_length` bytes, and so can the `names` of an exercise and the two sheets of a graft, of which
- *     all that is said of the sheet holds; the two may be one; `out` can be written for `room` elements, and all of them have a value (clear the memory once); `value` and
- *     `column` can be written.
+ *     all that is said of the sheet holds, and which may be one; `out` can be written for `room` elements, and all of them have a
+ *     value (clear the memory once); `value` and `column` can be written.
  *   - `out`, `value` and `column` overlap neither each other nor the sheet, and no other thread touches the four during the
  *     call.
  *
@@ -166,14 +166,14 @@ uint8_t skriduhol_restate(const uint8_t *sheet, size_t sheet_length, const uint1
                           uint16_t slots[SKRIDUHOL_SLOT_COUNT], uint8_t *out, size_t room, size_t *value, size_t *column);
 
 /* The host with the donor's steps in the place of one of its own, a Sorry without premisses that concludes what the donor's root
-   does: the same shape, name bytes and ids. The host's names, propositions, text, code, goal and other steps are kept byte for byte.
-   After its own stand the donor's names that it has not, each once, and all of the donor's propositions, in their order and without
-   gaps. The donor's steps call each name by the lowest number of equal bytes; their ids and columns are kept. Where the walk reaches
-   the sorry and host and merged sheet both have a text, the merged term without labels is the host's with the donor's in the sorry's
-   position, and its labels are the host's, less that sorry's own, plus the donor's as that place needs them. `slots` are as in
-   skriduhol_restate. *value: the length of the merged sheet in bytes, at most SKRIDUHOL_LONGEST_SHEET. *whose, always set: of
-   refusals 1 to 11 the sheet that they speak of, whose step and column they name (enum skriduhol_whose), and 0 in every other case.
-   It is written as *value and *column are. */
+   does: the same shape, name bytes and ids. The host's names, propositions, text, code, goal and other steps are kept byte for
+   byte. After its own stand the donor's names that it has not, each once, and all of the donor's propositions, in their order and
+   without gaps. The donor's propositions and steps call each name by the lowest number of equal bytes; ids and columns are kept.
+   Where the walk reaches the sorry and both host and merged sheet have a text, the merged term without labels is the host's with
+   the donor's in the sorry's position, and its labels are the host's, less that sorry's own, plus the donor's as that place needs
+   them. `slots` are those of skriduhol_restate, for the merged sheet's names.
+   *value: the length of the merged sheet in bytes, at most SKRIDUHOL_LONGEST_SHEET. *whose, which is lent and always set as *value
+   is: whose sheet refusals 1 to 11 speak of (enum skriduhol_whose), the place and the column being that sheet's; else 0. */
 uint8_t skriduhol_graft(const uint8_t *host, size_t host_length, size_t step, const uint8_t *donor, size_t donor_length,
                         uint16_t slots[SKRIDUHOL_SLOT_COUNT], uint8_t *out, size_t room, size_t *value, size_t *column,
                         size_t *whose);

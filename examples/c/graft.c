@@ -27,7 +27,8 @@ int main(int argc, char **argv) {
     }
     size_t host_length = read_file(argv[1], host, sizeof host), donor_length = read_file(argv[3], donor, sizeof donor);
     size_t step = strtoull(argv[2], NULL, 10), value, column, whose;
-    uint8_t number = skriduhol_graft(host, host_length, step, donor, donor_length, slots, merged, sizeof merged, &value, &column, &whose);
+    uint8_t number = skriduhol_graft(host, host_length, step, donor, donor_length, slots, merged, sizeof merged, &value, &column,
+                                     &whose);
     if (number != 0) {
         static const char *const of[] = {"", " of the host", " of the donor"};
         fprintf(stderr, "refused %u at %zu%s\n", (unsigned)number, value, of[whose]);
