@@ -5,7 +5,8 @@ use crate::{
     draw::{and, atom, code, exists, forall, implies, in_column, judging, or, plain, second, smallest, step},
     formula::{Formula, Parameter},
     generate::{Kind, Sheets},
-    sheet::{rule, Layout, Plain, Step, CODE, NAMES, PROPS, STEPS, STEP_NESTING, TEXT},
+    index,
+    sheet::{decode, rule, Layout, Plain, Step, CODE, NAMES, PROPS, STEPS, STEP_NESTING, TEXT},
 };
 
 #[derive(Default)]
@@ -24,6 +25,7 @@ pub fn fixed() -> Vec<Graft> {
     conclusions(&mut list);
     steps(&mut list);
     names(&mut list);
+    indexed(&mut list);
     text(&mut list);
     name_count(&mut list);
     code_length(&mut list);
@@ -180,6 +182,18 @@ fn names(list: &mut List) {
     let object = [judging(step(rule::IDENT, 0, &[2], 0), 2, 0)];
     let object = plain(&["T", "y", "x"], &[Formula::True], &object);
     list.add("a judgement", judged.bytes(), 0, object.bytes());
+}
+
+/// Names that start alike, at the last slots or repeated, in the host, in the donor and in both.
+fn indexed(list: &mut List) {
+    let sheets: Vec<(&str, Vec<u8>)> = index::sheets().into_iter().filter(|(_, sheet)| decode(sheet).is_ok()).collect();
+    for (what, host) in &sheets {
+        let mut host = Layout::read(host).expect("it is a sheet");
+        host.steps[0].rule = rule::SORRY;
+        for (theirs, donor) in &sheets {
+            list.add(format!("{theirs} into {what}"), host.bytes(), 0, donor.clone());
+        }
+    }
 }
 
 /// The host with its text and its code made so long by unread bytes at their ends.
@@ -382,7 +396,7 @@ fn order(list: &mut List) {
 /// The sheets of the limits that 1 to 11 refuse, as host and as donor.
 fn refused(list: &mut List) {
     for (what, sheet) in Sheets::new(Kind::Limits, 0, 0).iter() {
-        if crate::sheet::decode(&sheet).is_err() {
+        if decode(&sheet).is_err() {
             list.add(format!("{what}, as host"), sheet.clone(), 0, donor().bytes());
             list.add(format!("{what}, as donor"), host().bytes(), 0, sheet);
         }
