@@ -45,6 +45,26 @@ module _ (h d : List ℕ) where
   unfolding hostNumber
   host-right i l = name-right (nameOf h i) i (omega (arith, length-merged h d)) (host-at h d i l)
 
+  -- a number of a name's bytes with none before it is the name's
+  number-lowest : (x : Name) (j : ℕ) → j < count → merged-at j ≡ x → ((i : ℕ) → i < j → merged-at i ≡ x → ⊥) → mergedNumber h d x ≡ j
+  unfolding mergedNumber
+  number-lowest x j l same earlier = go (plainSearch merged-at count x) refl (plain-search-lowest merged-at count x)
+    where
+      go : (o : Option ℕ) → plainSearch merged-at count x ≡ o → LowestNumber merged-at count x o → mergedNumber h d x ≡ j
+      go none is (there-is-none absent) = absurd (absent j l same)
+      go (some i) is (is-lowest within here before) =
+          let a : i < j → ⊥ = λ b. earlier i b here in
+          let b : j < i → ⊥ = λ c. before j c same in
+          let e : i ≡ j = omega arith in
+          rw (is, e)
+
+  -- so a host name's number is the lowest among the host's own
+  host-lowest : (i j : ℕ) → LowestNumber (nameOf h) (sheet.names h) (nameOf h i) (some j) → hostNumber h d i ≡ j
+  unfolding hostNumber
+  host-lowest i j (is-lowest within here before) =
+      number-lowest (nameOf h i) j (omega (arith, length-merged h d)) (host-at h d j within ∙ here)
+      (λ m l same. before m l (sym (host-at h d m (omega arith)) ∙ same))
+
   module _ (p q : Prop ℕ) (p-coded : Codable (sheet.names h) p) (q-coded : Codable (sheet.names d) q) where
     abbrev left : List ℕ
     left = encode (renameProp (hostNumber h d) p)
@@ -82,3 +102,12 @@ module _ (h d : List ℕ) where
             let same = names-same (eqName-true f) in
             absurd (true≢false (sym (eqProp-refl (renameProp (nameOf h) p)) ∙ (ap (eqProp (renameProp (nameOf h) p)) same ∙ e)))
         go false e false f = refl
+
+-- whatever is grafted, so that the numbers of a host grafted into itself serve
+pub host-renumbered : (h d : List ℕ) (i : ℕ) → i < sheet.names h → renumbered h h i ≡ hostNumber h d i
+unfolding renumbered hostNumber mergedNumber
+host-renumbered h d i l = go (plainSearch (nameOf h) (sheet.names h) (nameOf h i)) (plain-search-lowest (nameOf h) (sheet.names h) (nameOf h i))
+  where
+    go : (o : Option ℕ) → LowestNumber (nameOf h) (sheet.names h) (nameOf h i) o → hostNumber h h i ≡ hostNumber h d i
+    go none (there-is-none absent) = absurd (absent i l refl)
+    go (some j) lowest = host-lowest h h i j lowest ∙ sym (host-lowest h d i j lowest)

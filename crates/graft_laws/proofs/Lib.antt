@@ -25,3 +25,6 @@ pub mod GraftDeduced
 pub mod SoundMerged
 pub mod MergedNumbers
 pub mod ByNumbers
+pub mod Lengths
+pub mod Above
+pub mod AnswerMerges

@@ -19,7 +19,7 @@ use Rattle.definitions.specs.Graft.{upTo, namesOf, missing, mergedNames, renumb
 use Rattle.definitions.proofs.Names.{eqName-true}
 use Rattle.name_index_laws.specs.Answered.{LowestNumber, is-lowest, there-is-none}
 use Rattle.name_index_laws.proofs.PlainSearch.{plain-search-lowest}
-use Rattle.graft_laws.specs.Missing.{missingBelow}
+use Rattle.graft_laws.specs.Missing.{missingBelow, Numbering, given-before, given-next}
 use Rattle.graft_laws.proofs.MergedNames.{at-occurs, occurs-at, from-list, each, row-length, number-right, renumbered-right, length-merged}
 
 map-append : {A B : Type 0} (f : A → B) (xs ys : List A) → map f (xs ++ ys) ≡ map f xs ++ map f ys
@@ -248,3 +248,41 @@ module _ (h d : List ℕ) where
             let j = i - sheet.names h in
             let z : sheet.names h + j ≡ i = omega arith in
             earlier-new j (omega arith) (sym (new-at j) ∙ (ap (λ (k : ℕ). getD (mergedNames h d) k []) z ∙ same))
+
+  -- so each donor name has a number that was given before, or the next
+  module _ (n : ℕ) (below : n < sheet.names d) where
+    new-below : (m : ℕ) → m < n → plainSearch (nameOf h) (sheet.names h) (nameOf d m) ≡ none
+        → ((i : ℕ) → i < m → nameOf d i ≡ nameOf d m → ⊥) → renumbered h d m < sheet.names h + length (missingBelow h d n)
+    new-below m l absent new =
+        let (rest, e) = begins-more (m + 1) (n - (m + 1)) in
+        let z : m + 1 + (n - (m + 1)) ≡ n = omega arith in
+        let long : length (missingBelow h d n) ≡ length (missingBelow h d (m + 1)) + length rest =
+        ap (λ (i : ℕ). length (missingBelow h d i)) (sym z) ∙ (ap length e ∙ length-append (missingBelow h d (m + 1)) rest) in
+        let more = ap length (new-missing m (omega arith) absent new) ∙ length-append (missingBelow h d m) (nameOf d m ∷ []) in
+        omega (arith, new-number m (omega arith) absent new)
+
+    absent-too : (m : ℕ) → nameOf d m ≡ nameOf d n → plainSearch (nameOf h) (sheet.names h) (nameOf d n) ≡ none
+        → plainSearch (nameOf h) (sheet.names h) (nameOf d m) ≡ none
+    absent-too m e f = ap (plainSearch (nameOf h) (sheet.names h)) e ∙ f
+
+    unheld : plainSearch (nameOf h) (sheet.names h) (nameOf d n) ≡ none → (o : Option ℕ) → LowestNumber (nameOf d) (sheet.names d) (nameOf d n) o
+        → Numbering h d n
+    unheld absent none (there-is-none f) = absurd (f n below refl)
+    unheld absent (some m) (is-lowest within here before) = go (decLt m n)
+      where
+        go : Dec (m < n) → Numbering h d n
+        go (yes l) =
+            let first = new-below m l (absent-too m here absent) (λ i b same. before i b (same ∙ here)) in
+            given-before (rw (← (earlier-number m n here)) first) (earlier-missing m n l here)
+        go (no l) =
+            let new : (i : ℕ) → i < n → nameOf d i ≡ nameOf d n → ⊥ = λ i b same. before i (omega arith) same in
+            given-next (new-number n below absent new) (new-missing n below absent new)
+
+    pub numbering : Numbering h d n
+    numbering = go (plainSearch (nameOf h) (sheet.names h) (nameOf d n)) refl
+      where
+        go : (o : Option ℕ) → plainSearch (nameOf h) (sheet.names h) (nameOf d n) ≡ o → Numbering h d n
+        go (some i) found =
+            let (l, e, f) = is-lowest-there n i found in
+            given-before (omega (arith, held-number n i found)) (held-missing n i found)
+        go none absent = unheld absent (plainSearch (nameOf d) (sheet.names d) (nameOf d n)) (plain-search-lowest (nameOf d) (sheet.names d) (nameOf d n))

@@ -1,6 +1,7 @@
 -- How many steps stand above a step of a tree: what the program adds to the donor's levels to try refusal 28.
 use Prim.Native.Nat.{ℕ, _+_}
 use mathlib.Core.Bool.{cond}
+use mathlib.Core.List.{List, [], _∷_}
 use lib.Dec.{eqb}
 use Rattle.definitions.specs.Tree.{Step, ProofTree, over, Premisses, none, _and_}
 
@@ -26,3 +27,9 @@ module _ {N : Type 0} (k : ℕ) where
     pub aboveAmong : Premisses N → ℕ
     aboveAmong none = 0
     aboveAmong (t and ps) = cond (eqb (occurrences k t) 0) (aboveAmong ps) (above t)
+
+-- the same of the trees of a list, of which one has the step
+module _ {N : Type 0} (k : ℕ) where
+  unfoldable pub aboveIn : List (ProofTree N) → ℕ
+  aboveIn [] = 0
+  aboveIn (t ∷ ts) = cond (eqb (occurrences k t) 0) (aboveIn ts) (above k t)

@@ -3,3 +3,4 @@ pub mod Levels
 pub mod Scope
 pub mod Missing
 pub mod Numbers
+pub mod Merges

@@ -1,0 +1,2 @@
+-- What the functions that append ask and promise.
+pub mod Appended

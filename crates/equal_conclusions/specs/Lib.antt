@@ -1,0 +1,2 @@
+-- What the functions that compare conclusions ask and promise.
+pub mod Equality

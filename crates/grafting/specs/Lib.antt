@@ -1,0 +1,2 @@
+-- What the functions of grafting ask and promise.
+pub mod Answered

@@ -1,0 +1,3 @@
+-- What the writer of merged sheets asks and promises.
+pub mod Parts
+pub mod Merging
