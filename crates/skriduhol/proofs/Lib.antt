@@ -6,3 +6,4 @@ pub mod Lists
 pub mod Accuracy
 pub mod Board
 pub mod Drawings
+pub mod Grafts

@@ -4,3 +4,4 @@ pub mod Lists
 pub mod Asked
 pub mod Board
 pub mod Searched
+pub mod Grafts

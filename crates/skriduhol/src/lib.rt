@@ -7,6 +7,8 @@ use definitions::Refusal;
 use definitions::Style;
 use definitions::TermList;
 use definitions::Version;
+use definitions::Whose;
+use grafting::Merged;
 use located::locate;
 use located::put_refusal;
 use name_index::SLOT_COUNT;
@@ -30,19 +32,24 @@ ghost use Rattle.definitions.specs.Outcome.{Outcome};
 ghost use Rattle.definitions.specs.declared.Style.the-variants.{Plain, Strict};
 ghost use Rattle.definitions.specs.Answers.{inRoom, sheetText, versionOf, textAnswer, atomsAnswer, datatypesAnswer, labelCount, comparison, boardOutput};
 ghost use Rattle.definitions.specs.Restate.{restateAnswer};
+ghost use Rattle.definitions.specs.declared.Whose.the-variants.{Host, Donor};
+ghost use Rattle.definitions.specs.Graft.{graftAnswer, locatedBy};
 ghost use Rattle.definitions.specs.Exercises.{exerciseAnswer};
 ghost use Rattle.definitions.specs.NameIndex.{indexOf, indexAnswer, findAnswer};
 ghost use Rattle.output.specs.Written.{writtenOf, Fills};
 ghost use Rattle.sheet.proofs.Admitted.{AcceptedSheet};
 ghost use Rattle.sheet_term.specs.Held.{HeldTerm};
 ghost use Rattle.writer_laws.specs.Restates.{Restates};
+ghost use Rattle.graft_laws.specs.Merges.{Merges};
 ghost use Rattle.restating.specs.Step.{givenOf};
 ghost use Rattle.restating.specs.Slots.{slotsAfter};
+ghost use Rattle.grafting.specs.Answered.{slotsBy};
 ghost use Rattle.located.specs.AfterHeader.{AfterHeader};
 ghost use Rattle.skriduhol.specs.Accurate.{AccurateText, AccurateCount};
 ghost use Rattle.skriduhol.specs.Lists.{listAnswer};
 ghost use Rattle.skriduhol.specs.Asked.{askedOf};
 ghost use Rattle.skriduhol.specs.Located.{filledOf, FillsOf, countOf, verdictOf};
+ghost use Rattle.skriduhol.specs.Grafts.{GraftsOf};
 ghost use Rattle.skriduhol.specs.Board.{Prints};
 ghost use Rattle.skriduhol.specs.Searched.{searchedOf, plainAnswer};
 
@@ -70,6 +77,12 @@ pub enum Searched {
     At(usize),
     Nowhere,
     Refused(Located),
+}
+
+// The length of a merged sheet in lent memory, or a refusal with its column and whose it is.
+pub enum Grafted {
+    Length(usize),
+    Refused(Whose, Located),
 }
 
 // An answer in lent memory as it is handed back.
@@ -238,6 +251,43 @@ pub fn restate(s: &[u8], given: Given, slots: &mut [u16; SLOT_COUNT], out: &mut 
 {
     let written = restating::restate(s, given, slots, out);
     locate_written(s, written)
+}
+
+// A refusal of a graft, with the column of the step that it names in the sheet whose it is.
+fn locate_by(host: &[u8], donor: &[u8], whose: Whose, refusal: Refusal) -> Located
+    requires { ⌜ (whose ≡ Host → AfterHeader (now host) refusal) × (whose ≡ Donor → AfterHeader (now donor) refusal) ⌝ }
+    ensures { λ r. ⌜ r ≡ locatedBy (now (host .entry)) (now (donor .entry)) whose refusal ⌝ }
+{
+    match whose {
+        Whose::Neither => Located { refusal, column: 0 },
+        Whose::Host => locate(host, refusal),
+        Whose::Donor => locate(donor, refusal),
+    }
+}
+
+// The donor's steps in place of step k of the host, a Sorry without premisses. The slots are the index of the merged sheet's names.
+// The bytes handed over are a sheet that merges the two.
+pub fn graft<'a>(
+    host: &'a [u8],
+    k: usize,
+    donor: &'a [u8],
+    slots: &mut [u16; SLOT_COUNT],
+    out: &mut [u8],
+) -> Grafted
+    ensures { λ r. ⌜ GraftsOf (now (host .entry)) (now (donor .entry))
+        (graftAnswer (now (host .entry)) (now (donor .entry)) k (length (now (out .entry)))) (now (out .entry)) (now (out .exit)) r ⌝ }
+    ensures { λ _. ⌜ now (slots .exit) ≡ slotsBy
+        (graftAnswer (now (host .entry)) (now (donor .entry)) k (length (now (out .entry)))) (now (slots .entry)) ⌝ }
+    ensures { λ r. ⌜ ((n : ℕ) → r ≡ Grafted.Length n
+        → Merges (now (host .entry)) (now (donor .entry)) k (take n (now (out .exit)))) ⌝ }
+{
+    let merged = grafting::graft(host, k, donor, slots, out);
+    match merged {
+        Merged::Length(length) => Grafted::Length(length),
+        Merged::Refused(whose, refusal) => {
+            Grafted::Refused(whose, locate_by(host, donor, whose, refusal))
+        }
+    }
 }
 
 // The bytes that the board program lends.
