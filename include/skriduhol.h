@@ -7,11 +7,12 @@
  * What a caller owes
  *   - Each pointer is aligned for its type and not null, also where its length is 0: a function takes it for a reference,
  *     and nothing is promised of a null one. An empty std::vector may have a null pointer: lend the address of any element then.
- *   - `sheet` can be read for `sheet_length` bytes, and so can the `names` of an exercise and the two sheets of a graft, of which
- *     all that is said of the sheet holds, and which may be one; `out` can be written for `room` elements, and all of them have a
- *     value (clear the memory once); `value` and `column` can be written.
- *   - `out`, `value` and `column` overlap neither each other nor the sheet, and no other thread touches the four during the
- *     call.
+ *   - `sheet` can be read for `sheet_length` bytes, and so can the `names` of an exercise, of which all that is said of the sheet
+ *     holds; so can the `host` and the `donor` of a graft, which may be the same memory; `out` can be written for `room`
+ *     elements, and all of them have a value (clear the memory once); `value` and `column`, and `whose` of a graft, can be
+ *     written.
+ *   - `out`, `value`, `column` and `whose` overlap neither each other nor a sheet, and no other thread touches them or a sheet
+ *     during the call.
  *
  * What a caller gets
  *   - Each call returns. Nothing is allocated, no file is touched, no pointer is kept, and there is no state between calls, so
@@ -19,7 +20,7 @@
  *   - Each function but skriduhol_board_output returns 0 for an accepted answer, and then *value is what the function's comment
  *     says; or it returns the number of a refusal (enum skriduhol_refusal), and then *value is its place. *column is for
  *     refusals 9 to 15 the grid column of the step that they name, its two bytes as they stand, and 0 in every other case.
- *     *value and *column are always set.
+ *     *value and *column are always set, and so is *whose of a graft.
  *   - An accepted answer fills the first elements of `out` and nothing after them. A refusal leaves all of `out` as it was;
  *     skriduhol_board_output alone writes a line for it, and nothing after that line.
  *   - A call takes at most 256 KiB of stack: measured on the deepest sheets, not proved (docs/PERFORMANCE.md).
@@ -42,8 +43,8 @@ extern "C" {
    a name, a proposition or a step, and its reason. Those whose place is a step, 9 to 15, hand back its column too.
 
    Texts and lists use 1 to 16, those of the handout 21 too, the label count 1 to 15, a comparison 1 to 11, 17 and 19, a
-   restatement 1 to 11, 23, 24, 19 or 25, and 16, a graft the host's 1 to 11, the donor's 1 to 11, 26, 27, 28 and 16, an exercise
-   29, 30 and 16, an index of names 1 to 11, and a search in one 1 to 3.
+   restatement 1 to 11, 23, 24, 19 or 25, and 16, a graft the host's 1 to 11, the donor's, 26, 27, 28 and 16, an exercise 29, 30
+   and 16, an index of names 1 to 11, and a search in one 1 to 3.
    16 is tried last. It does not say how much room is missing: most answers fit 65,536 elements, but a text can pass 88 million
    bytes and a list 3 million numbers. */
 enum skriduhol_refusal {
@@ -105,8 +106,12 @@ enum skriduhol_refusal {
     SKRIDUHOL_REFUSED_ORDINAL = 30
 };
 
-/* Whose sheet a refusal of a graft speaks of. */
-enum skriduhol_whose { SKRIDUHOL_NEITHER = 0, SKRIDUHOL_HOST = 1, SKRIDUHOL_DONOR = 2 };
+/* Whose a refusal of a graft is. */
+enum skriduhol_whose {
+    SKRIDUHOL_NEITHER = 0,
+    SKRIDUHOL_HOST = 1,
+    SKRIDUHOL_DONOR = 2
+};
 
 /* The bytes that skriduhol_board_output writes into. */
 #define SKRIDUHOL_BOARD_ROOM 65536
@@ -165,15 +170,16 @@ uint8_t skriduhol_compare(const uint8_t *sheet, size_t sheet_length, size_t i, s
 uint8_t skriduhol_restate(const uint8_t *sheet, size_t sheet_length, const uint16_t given[5],
                           uint16_t slots[SKRIDUHOL_SLOT_COUNT], uint8_t *out, size_t room, size_t *value, size_t *column);
 
-/* The host with the donor's steps in the place of one of its own, a Sorry without premisses that concludes what the donor's root
-   does: the same shape, name bytes and ids. The host's names, propositions, text, code, goal and other steps are kept byte for
-   byte. After its own stand the donor's names that it has not, each once, and all of the donor's propositions, in their order and
-   without gaps. The donor's propositions and steps call each name by the lowest number of equal bytes; ids and columns are kept.
-   Where the walk reaches the sorry and both host and merged sheet have a text, the merged term without labels is the host's with
-   the donor's in the sorry's position, and its labels are the host's, less that sorry's own, plus the donor's as that place needs
-   them. `slots` are those of skriduhol_restate, for the merged sheet's names.
-   *value: the length of the merged sheet in bytes, at most SKRIDUHOL_LONGEST_SHEET. *whose, which is lent and always set as *value
-   is: whose sheet refusals 1 to 11 speak of (enum skriduhol_whose), the place and the column being that sheet's; else 0. */
+/* The host with the donor's steps in place of `step`, a Sorry step without premisses whose conclusion is the donor root's: the same
+   shape, name bytes and ids. The host's names, propositions, text, code and goal are kept byte for byte; the donor's names that are
+   missing by bytes, each once, and all its propositions follow in their order without gaps, names renumbered to the lowest of equal
+   bytes; ids and columns are kept. Where the walk reaches that step and both host and merged sheet have a text, the merged term
+   without labels is the host's with the donor's in the sorry's position, and its labels are the host's, less that sorry's own, plus
+   the donor's as that place needs them. `slots` has SKRIDUHOL_SLOT_COUNT numbers, which become the index of the merged sheet's names
+   (skriduhol_name_index) and stay as they were where the answer is a refusal; they overlap nothing else.
+   *value: the length of the merged sheet in bytes, at most SKRIDUHOL_LONGEST_SHEET. *whose, which is always set: for the host's
+   refusals 1 to 11 SKRIDUHOL_HOST, for the donor's, which are tried after them, SKRIDUHOL_DONOR, and in every other case
+   SKRIDUHOL_NEITHER; *value and *column are the place and the column of the step in that sheet. */
 uint8_t skriduhol_graft(const uint8_t *host, size_t host_length, size_t step, const uint8_t *donor, size_t donor_length,
                         uint16_t slots[SKRIDUHOL_SLOT_COUNT], uint8_t *out, size_t room, size_t *value, size_t *column,
                         size_t *whose);

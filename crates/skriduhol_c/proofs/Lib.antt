@@ -1,2 +1,3 @@
 mod Handing
 pub mod Numbers
+pub mod Grafts

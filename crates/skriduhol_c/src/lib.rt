@@ -3,12 +3,14 @@
 // that of the step that refusals 9 to 15 name, else 0.
 use definitions::Located;
 use definitions::Style;
+use definitions::Whose;
 use name_index::FREE;
 use name_index::SLOT_COUNT;
 use restating::Given;
 use skriduhol::BOARD_ROOM;
 use skriduhol::Count;
 use skriduhol::Filled;
+use skriduhol::Grafted;
 use skriduhol::Searched;
 use skriduhol::Verdict;
 ghost use mathlib.Core.Path.{_≡_};
@@ -18,14 +20,17 @@ ghost use lib.ListN.{length};
 ghost use Rattle.definitions.specs.Outcome.{Outcome};
 ghost use Rattle.definitions.specs.Answers.{textAnswer, atomsAnswer, datatypesAnswer, labelCount, comparison, boardOutput};
 ghost use Rattle.definitions.specs.Restate.{restateAnswer};
+ghost use Rattle.definitions.specs.Graft.{graftAnswer};
 ghost use Rattle.definitions.specs.Exercises.{exerciseAnswer};
 ghost use Rattle.definitions.specs.NameIndex.{indexOf, indexAnswer, findAnswer};
 ghost use Rattle.definitions.specs.declared.Style.the-variants.{Plain, Strict};
 ghost use Rattle.restating.specs.Slots.{slotsAfter};
+ghost use Rattle.grafting.specs.Answered.{slotsBy};
 ghost use Rattle.skriduhol.specs.Located.{filledOf};
 ghost use Rattle.skriduhol.specs.Board.{Prints};
 ghost use Rattle.skriduhol.specs.Searched.{plainAnswer};
 ghost use Rattle.skriduhol_c.specs.Handed.{Hands, HandsFilled, HandsRefusal, yesOrNo, numberOrFree, givenIn};
+ghost use Rattle.skriduhol_c.specs.Grafts.{whoseNumber, HandsGrafted};
 
 // A refusal's place is the value, and its column the column.
 fn hand_refusal(located: Located, value: &mut usize, column: &mut usize) -> u8
@@ -240,6 +245,49 @@ pub extern "C" fn skriduhol_restate(
         value,
         column,
     )
+}
+
+// Whose a refusal is, as a number: 0 neither sheet's, 1 the host's, 2 the donor's.
+fn whose_number(whose: Whose) -> usize
+    ensures { λ r. ⌜ r ≡ whoseNumber whose ⌝ }
+{
+    match whose {
+        Whose::Neither => 0,
+        Whose::Host => 1,
+        Whose::Donor => 2,
+    }
+}
+
+// The donor's steps in place of a step of the host; the slots are the index of the merged sheet's names.
+#[no_mangle]
+pub extern "C" fn skriduhol_graft<'a>(
+    host: &'a [u8],
+    step: usize,
+    donor: &'a [u8],
+    slots: &mut [u16; SLOT_COUNT],
+    out: &mut [u8],
+    value: &mut usize,
+    column: &mut usize,
+    whose: &mut usize,
+) -> u8
+    ensures { λ r. ⌜ HandsGrafted (now (host .entry)) (now (donor .entry)) step (now (out .entry)) (now (out .exit))
+        (now (value .exit)) (now (column .exit)) (now (whose .exit)) r ⌝ }
+    ensures { λ _. ⌜ now (slots .exit) ≡ slotsBy
+        (graftAnswer (now (host .entry)) (now (donor .entry)) step (length (now (out .entry)))) (now (slots .entry)) ⌝ }
+{
+    let grafted = skriduhol::graft(host, step, donor, slots, out);
+    match grafted {
+        Grafted::Length(length) => {
+            *value = length;
+            *column = 0;
+            *whose = 0;
+            return 0;
+        }
+        Grafted::Refused(by, located) => {
+            *whose = whose_number(by);
+            return hand_refusal(located, value, column);
+        }
+    }
 }
 
 // What the board program prints, and how many bytes it is.
