@@ -170,14 +170,16 @@ uint8_t skriduhol_compare(const uint8_t *sheet, size_t sheet_length, size_t i, s
 uint8_t skriduhol_restate(const uint8_t *sheet, size_t sheet_length, const uint16_t given[5],
                           uint16_t slots[SKRIDUHOL_SLOT_COUNT], uint8_t *out, size_t room, size_t *value, size_t *column);
 
-/* The host with the donor's steps in place of `step`, a Sorry step without premisses whose conclusion is the donor root's, the same
+/* The host with the donor's steps in place of `step`, a Sorry step without premisses whose conclusion is the donor root's: the same
    shape, name bytes and ids. The host's names, propositions, text, code and goal are kept byte for byte; the donor's names that are
    missing by bytes, each once, and all its propositions follow in their order without gaps, names renumbered to the lowest of equal
-   bytes; ids and columns are kept. Where the term reaches that step, the merged sheet's term is the host's with the donor's in its
-   place. `slots` has SKRIDUHOL_SLOT_COUNT numbers, which become the index of the merged sheet's names (skriduhol_name_index) and
-   stay as they were where the answer is a refusal; they overlap nothing else.
-   *value: the length of the merged sheet in bytes. *whose: for the host's refusals 1 to 11 SKRIDUHOL_HOST, for the donor's, which
-   are tried after them, SKRIDUHOL_DONOR, and in every other case SKRIDUHOL_NEITHER; *column is that of the step of that sheet. */
+   bytes; ids and columns are kept. Where the walk reaches that step and both host and merged sheet have a text, the merged term
+   without labels is the host's with the donor's in the sorry's position, and its labels are the host's, less that sorry's own, plus
+   the donor's as that place needs them. `slots` has SKRIDUHOL_SLOT_COUNT numbers, which become the index of the merged sheet's names
+   (skriduhol_name_index) and stay as they were where the answer is a refusal; they overlap nothing else.
+   *value: the length of the merged sheet in bytes, at most SKRIDUHOL_LONGEST_SHEET. *whose, which is always set: for the host's
+   refusals 1 to 11 SKRIDUHOL_HOST, for the donor's, which are tried after them, SKRIDUHOL_DONOR, and in every other case
+   SKRIDUHOL_NEITHER; *value and *column are the place and the column of the step in that sheet. */
 uint8_t skriduhol_graft(const uint8_t *host, size_t host_length, size_t step, const uint8_t *donor, size_t donor_length,
                         uint16_t slots[SKRIDUHOL_SLOT_COUNT], uint8_t *out, size_t room, size_t *value, size_t *column,
                         size_t *whose);

@@ -1,9 +1,10 @@
 //! Skriduhol through the wrapper in bindings/rust.
 use oracle::{
     answer::{Operation, Question},
+    grafts::Graft,
     restate::Given,
 };
-use skriduhol::{Refusal, Style};
+use skriduhol::{GraftRefusal, Refusal, Style};
 
 /// The memory that is lent for answers.
 pub struct Lent {
@@ -47,6 +48,12 @@ pub fn restate(sheet: &[u8], given: Given, lent: &mut Lent) -> Result<usize, Ref
     let slots = lent.numbers.first_chunk_mut().expect("the slots are lent");
     let given = skriduhol::Given { kind: given.kind, numbers: given.numbers, column: given.column };
     skriduhol::restate(sheet, given, slots, &mut lent.bytes)
+}
+
+/// The length of the merged sheet, or the refusal.
+pub fn graft(asked: &Graft, lent: &mut Lent) -> Result<usize, GraftRefusal> {
+    let slots = lent.numbers.first_chunk_mut().expect("the slots are lent");
+    skriduhol::graft(&asked.host, asked.step, &asked.donor, slots, &mut lent.bytes)
 }
 
 /// The slots of the sheet's index, at the start of the lent numbers.

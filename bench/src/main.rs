@@ -1,5 +1,6 @@
 //! Times the Rust and Skriduhol on the same sheets, and measures Skriduhol's stack. docs/PERFORMANCE.md says how.
 mod exercises;
+mod grafts;
 mod handouts;
 mod library;
 mod lines;
@@ -13,6 +14,7 @@ mod texts;
 mod timing;
 
 use exercises::exercises;
+use grafts::grafts;
 use handouts::handouts;
 use library::{ask, question, Lent};
 use lines::lines;
@@ -62,7 +64,7 @@ const SLOW: f64 = 20e6;
 /// Prints a table, and gives the figures that are required of it.
 type Section = fn(&Plan, &mut Lent) -> Vec<Required>;
 
-const SECTIONS: [(&str, Section); 10] = [
+const SECTIONS: [(&str, Section); 11] = [
     ("sound", |plan, lent| vec![sound_sheets(plan, lent)]),
     ("worst", worst_sheets),
     ("growth", growth),
@@ -79,6 +81,10 @@ const SECTIONS: [(&str, Section); 10] = [
         restatements(&plan.effort, lent);
         vec![]
     }),
+    ("grafts", |plan, lent| {
+        println!("## Grafts of one sheet into another\n");
+        grafts(&plan.effort, lent)
+    }),
     ("exercises", |plan, lent| {
         println!("## Exercises over three names with up to three connectives\n");
         exercises(&plan.effort, lent);
@@ -94,7 +100,7 @@ const SECTIONS: [(&str, Section); 10] = [
 fn usage() -> ! {
     eprintln!(
         "usage: bench/run short|full \
-         [sound|worst|growth|stack|operations|lines|handouts|restatements|exercises|names]..."
+         [sound|worst|growth|stack|operations|lines|handouts|restatements|grafts|exercises|names]..."
     );
     exit(2)
 }

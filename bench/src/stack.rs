@@ -1,17 +1,18 @@
 //! How much stack an operation uses. It runs on a stack of its own, which is painted before and scanned after.
-use crate::library::{ask, exercise, find_name, name_index, restate, Lent};
-use oracle::{answer::Question, restate::Given};
+use crate::library::{ask, exercise, find_name, graft, name_index, restate, Lent};
+use oracle::{answer::Question, grafts::Graft, restate::Given};
 use std::{arch::asm, ffi::c_void};
 
 const STACK_BYTES: usize = 4 << 20;
 const PAINT: u64 = 0x5ca1_ab1e_0ddb_a115;
 
-/// What is asked: nothing, a question about a sheet, a restatement of it, an exercise by its ordinal, the index of a sheet's
-/// names, or a name by it.
+/// What is asked: nothing, a question about a sheet, a restatement of it, a graft, an exercise by its ordinal, the index of a
+/// sheet's names, or a name by it.
 enum Asked<'a> {
     Nothing,
     Question(Question, &'a [u8]),
     Restatement(&'a [u8], Given),
+    Graft(&'a Graft),
     Exercise(usize),
     Index(&'a [u8]),
     Name(&'a [u8], &'a [u8]),
@@ -31,6 +32,7 @@ extern "C" fn run(call: *mut c_void) {
         Asked::Nothing => Ok(0),
         Asked::Question(question, sheet) => ask(question, sheet, call.lent),
         Asked::Restatement(sheet, given) => restate(sheet, given, call.lent),
+        Asked::Graft(asked) => graft(asked, call.lent).map_err(|refused| refused.refusal),
         Asked::Exercise(ordinal) => exercise(ordinal, call.lent),
         Asked::Index(sheet) => name_index(sheet, call.lent).map(|_| 0),
         Asked::Name(sheet, name) => find_name(sheet, name, call.lent).map(|_| 0),
@@ -80,6 +82,11 @@ impl Stack {
     /// The same of a restatement.
     pub fn used_by_restatement(&mut self, sheet: &[u8], given: Given, lent: &mut Lent) -> usize {
         self.used_by(Asked::Restatement(sheet, given), lent)
+    }
+
+    /// The same of a graft.
+    pub fn used_by_graft(&mut self, asked: &Graft, lent: &mut Lent) -> usize {
+        self.used_by(Asked::Graft(asked), lent)
     }
 
     /// The same of an exercise.

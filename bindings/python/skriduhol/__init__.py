@@ -1,5 +1,5 @@
 """The proved library behind proof boards: a sheet's text, its lists, its label count, the comparison of two conclusions, restated
-conclusions, exercises, and the index of a sheet's names.
+conclusions, grafts of one sheet into another, exercises, and the index of a sheet's names.
 
 Every function answers for any bytes, and raises `Refused` where the library refuses. A text or list is as long as it has to be;
 given a room, a longer one is refused with 16, as the library does. Functions may be called from several threads at once.
@@ -19,8 +19,8 @@ from collections.abc import Callable, Sequence
 from typing import Any, Final, NamedTuple
 
 __all__ = ["BOARD_ROOM", "FREE", "LONGEST_EXERCISE", "LONGEST_SHEET", "REFUSALS", "SLOT_COUNT", "VERSION", "Atom", "Given",
-           "Refused", "Style", "atom_list", "board_output", "compare", "datatype_list", "exercise", "find_name", "handout",
-           "handout_datatypes", "label_count", "name_index", "plain_text", "restate", "strict_text"]
+           "Refused", "Style", "Whose", "atom_list", "board_output", "compare", "datatype_list", "exercise", "find_name", "graft",
+           "handout", "handout_datatypes", "label_count", "name_index", "plain_text", "restate", "strict_text"]
 
 VERSION: Final = 2
 """The version of include/skriduhol.h that this module is written for."""
@@ -64,23 +64,34 @@ REFUSALS: Final[dict[int, tuple[str, str]]] = {
     23: ("0", "the given conclusion or column breaks the rules of a step"),
     24: ("0", "there are already 1,024 steps or 256 levels"),
     25: ("0", "the root's conclusion and the given one are not alpha equal"),
+    26: ("0", "the host step is no Sorry without premisses"),
+    27: ("0", "the conclusions of the host step and of the donor's root differ, names taken by bytes"),
+    28: ("0", "the merged sheet passes a limit of the sheet"),
     29: ("0", "the names of an exercise are too many, repeated or malformed, or its number of connectives passes 3"),
     30: ("0", "the ordinal of an exercise is past the end"),
 }
 """Of each refusal what its place counts (0 for nothing) and its reason."""
 
+class Whose(enum.Enum):
+    """Whose sheet a refusal of a graft speaks of."""
+
+    NEITHER = 0
+    HOST = 1
+    DONOR = 2
+
 class Refused(Exception):
     """A refusal: its number; its place, which is 0 or the number of a name, a proposition or a step; the grid column of the step
-    that 9 to 15 name, for any other 0; and its reason in words."""
+    that 9 to 15 name, for any other 0; of a graft, whose sheet it speaks of; and its reason in words."""
 
-    def __init__(self, number: int, place: int, column: int) -> None:
-        super().__init__(number, place, column)
-        self.number, self.place, self.column = number, place, column
+    def __init__(self, number: int, place: int, column: int, whose: Whose = Whose.NEITHER) -> None:
+        super().__init__(number, place, column, whose)
+        self.number, self.place, self.column, self.whose = number, place, column, whose
         self.words: str = REFUSALS[number][1] if number in REFUSALS else "unknown to this module"
 
     def __str__(self) -> str:
         where = f"{self.place} column {self.column}" if 9 <= self.number <= 15 else f"{self.place}"
-        return f"refused {self.number} at {where}: {self.words}"
+        of = "" if self.whose is Whose.NEITHER else f" of the {self.whose.name.lower()}"
+        return f"refused {self.number} at {where}{of}: {self.words}"
 
 class Style(enum.Enum):
     """How a text is asked for."""
@@ -125,10 +136,10 @@ _SIZE = ctypes.c_size_t
 _RESULT: list[Any] = [ctypes.POINTER(_SIZE)] * 2
 _BYTES: list[Any] = [ctypes.c_char_p, _SIZE]
 
-def _function(name: str, *arguments: Any) -> Callable[..., int]:
+def _function(name: str, *arguments: Any, result: list[Any] = _RESULT) -> Callable[..., int]:
     """A function of the library that takes bytes, the arguments, and where its value and column go."""
     function = getattr(_library, f"skriduhol_{name}")
-    function.argtypes, function.restype = _BYTES + list(arguments) + _RESULT, ctypes.c_uint8
+    function.argtypes, function.restype = _BYTES + list(arguments) + result, ctypes.c_uint8
     return function  # type: ignore[no-any-return]
 
 _TEXT = [ctypes.POINTER(ctypes.c_uint8), _SIZE]
@@ -146,6 +157,7 @@ _SLOTS = ctypes.c_uint16 * SLOT_COUNT
 _name_index = _function("name_index", _SLOTS)
 _find_name = _function("find_name", _SLOTS, *_BYTES)
 _restate = _function("restate", ctypes.c_uint16 * 5, _SLOTS, *_TEXT)
+_graft = _function("graft", _SIZE, *_BYTES, _SLOTS, *_TEXT, result=_RESULT + [ctypes.POINTER(_SIZE)])
 _board_output = _library.skriduhol_board_output
 _board_output.argtypes, _board_output.restype = _BYTES + [ctypes.POINTER(ctypes.c_uint8)], _SIZE
 
@@ -253,6 +265,19 @@ def restate(sheet: bytes, given: Given, *, room: int | None = None) -> tuple[byt
     """The sheet with one more step, AlphaEquivalent over its root, that concludes what is given, and the index of its names."""
     slots, lent = _SLOTS(), (ctypes.c_uint16 * 5)(*(_u16("a number of what is given", number) for number in given))
     return _bytes(_restate, sheet, lent, slots, room=room), list(slots)
+
+def graft(host: bytes, step: int, donor: bytes, *, room: int | None = None) -> tuple[bytes, list[int]]:
+    """The host with the donor's steps in the place of one of its own, a Sorry without premisses that concludes what the donor's root
+    does, and the index of the merged names."""
+    slots, whose, other = _SLOTS(), _SIZE(), _frozen(donor)
+
+    def grafted(*arguments: Any) -> int:
+        return _graft(*arguments, ctypes.byref(whose))
+
+    try:
+        return _bytes(grafted, host, _size("the step", step), other, len(other), slots, room=room), list(slots)
+    except Refused as refused:
+        raise Refused(refused.number, refused.place, refused.column, Whose(whose.value)) from None
 
 def board_output(sheet: bytes) -> bytes:
     """What the board prints: the plain text if 65,536 bytes have room for it, or the refusal's line."""

@@ -10,7 +10,7 @@ import typing
 import unittest
 
 import skriduhol
-from skriduhol import Atom, Given, Refused, Style
+from skriduhol import Atom, Given, Refused, Style, Whose
 
 ROOT = pathlib.Path(__file__).resolve().parents[3]
 
@@ -84,6 +84,30 @@ class Examples(unittest.TestCase):
         self.assert_refused(23, 0, 0, skriduhol.restate, sheet, Given(0, 1, column=4096))
         with self.assertRaises(ValueError):
             skriduhol.restate(sheet, Given(0, 65536))
+
+    def test_grafts(self):
+        host, donor = example("open_step"), example("disjunction_swapped")
+        new, slots = skriduhol.graft(host, 0, donor)
+        self.assertEqual(slots, skriduhol.name_index(new))
+        self.assertTrue(skriduhol.plain_text(new).endswith("\nfn h => (fn u: A ∨ B => case u of inl a => inr a: B ∨ A, "
+                                                           "inr b => inl b: B ∨ A) (fst h)"))
+        self.assertEqual(skriduhol.graft(bytearray(host), 0, memoryview(donor), room=len(new)), (new, slots))
+        # The column of step 4 behind 12 bytes, 4 names and 5 propositions is made 4098.
+        wide = host[:147] + b"\x10" + host[148:]
+        for refusal, whose, *asked in (
+                ((16, 0, 0), Whose.NEITHER, host, 0, donor), ((26, 0, 0), Whose.NEITHER, host, 1, donor),
+                ((26, 0, 0), Whose.NEITHER, host, 2 ** 64 - 1, donor), ((27, 0, 0), Whose.NEITHER, host, 0, SECOND),
+                ((9, 4, 4098), Whose.HOST, wide, 0, b""), ((9, 4, 4098), Whose.DONOR, host, 9, wide),
+                ((1, 0, 0), Whose.HOST, b"", 0, b""), ((1, 0, 0), Whose.DONOR, host, 0, b"")):
+            refused = self.assert_refused(*refusal, skriduhol.graft, *asked, room=len(new) - 1)
+            self.assertIs(refused.whose, whose)
+        said = str(self.assert_refused(9, 4, 4098, skriduhol.graft, host, 0, wide))
+        self.assertTrue(said.startswith("refused 9 at 4 column 4098 of the donor: a rule, kind, "), said)
+        for step in (-1, 2 ** 64):
+            with self.assertRaises(ValueError):
+                skriduhol.graft(host, step, donor)
+        with self.assertRaises(TypeError):
+            skriduhol.graft(host, 0, "text")
 
     def test_a_refusal_says_what_it_is(self):
         refused = self.assert_refused(14, 1, 3, skriduhol.plain_text, REFUSED)
@@ -163,8 +187,10 @@ class Answers(unittest.TestCase):
         11: skriduhol.name_index,
         12: lambda sheet, name: found_number(sheet, name),
         13: lambda sheet, *given: skriduhol.restate(sheet, Given(*given[:5]), room=given[5])[0],
+        14: lambda both, own, theirs, step, room: skriduhol.graft(both[:own], step, both[own:own + theirs], room=room)[0],
     }
-    ASKED = {**dict.fromkeys(range(4), "<I"), 5: "<2H", **dict.fromkeys(range(7, 10), "<QI"), 10: "<2QI", 13: "<5HI"}
+    ASKED = {**dict.fromkeys(range(4), "<I"), 5: "<2H", **dict.fromkeys(range(7, 10), "<QI"), 10: "<2QI", 13: "<5HI",
+             14: "<2IQI"}
     LISTS = (2, 3, 9, 11)
 
     def read(self):
@@ -182,7 +208,7 @@ class Answers(unittest.TestCase):
                 asked = take("<%ds" % take("<B") if kind == 12 else self.ASKED.get(kind, "<"))
                 number, value = take("<BI")
                 if number:
-                    answer = number, value, *take("<H")
+                    answer = number, value, *take("<HB" if kind == 14 else "<H")
                 elif kind in (4, 5, 12):
                     answer = value
                 else:
@@ -195,7 +221,7 @@ class Answers(unittest.TestCase):
             try:
                 found = self.QUESTIONS[kind](content, *asked)
             except Refused as refused:
-                found = refused.number, refused.place, refused.column
+                found = refused.number, refused.place, refused.column, *([refused.whose.value] if kind == 14 else [])
                 met.add(refused.number)
             self.assertEqual(found, answer, (entry, kind, asked))
         self.assertEqual(met, set(skriduhol.REFUSALS) - {18})

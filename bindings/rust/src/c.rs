@@ -91,6 +91,19 @@ extern "C" {
         value: *mut usize,
         column: *mut usize,
     ) -> u8;
+    fn skriduhol_graft(
+        host: *const u8,
+        host_length: usize,
+        step: usize,
+        donor: *const u8,
+        donor_length: usize,
+        slots: *mut u16,
+        out: *mut u8,
+        room: usize,
+        value: *mut usize,
+        column: *mut usize,
+        whose: *mut usize,
+    ) -> u8;
     fn skriduhol_exercise(
         names: *const u8,
         names_length: usize,
@@ -262,6 +275,38 @@ pub fn restate(
             out.len(),
             value,
             column,
+        )
+    }
+}
+
+/// A host, one of its steps, and a donor.
+pub struct Two<'a> {
+    pub host: &'a [u8],
+    pub step: usize,
+    pub donor: &'a [u8],
+}
+
+pub fn graft(
+    two: Two,
+    slots: &mut [u16; SLOT_COUNT],
+    out: &mut [u8],
+    value: &mut usize,
+    column: &mut usize,
+    whose: &mut usize,
+) -> u8 {
+    unsafe {
+        skriduhol_graft(
+            two.host.as_ptr(),
+            two.host.len(),
+            two.step,
+            two.donor.as_ptr(),
+            two.donor.len(),
+            slots.as_mut_ptr(),
+            out.as_mut_ptr(),
+            out.len(),
+            value,
+            column,
+            whose,
         )
     }
 }

@@ -1,7 +1,6 @@
 //! The proved library behind proof boards, for Rust: a sheet's text, its lists, its label count, the comparison of two
-//! conclusions, restated conclusions, exercises, and the index of a sheet's names. Every function answers for any bytes. A refusal
-//! leaves the lent memory as it was, save that `board_output` then
-//! writes the refusal's line.
+//! conclusions, restated conclusions, grafts of one sheet into another, exercises, and the index of a sheet's names. Every function
+//! answers for any bytes. A refusal leaves the lent memory as it was, save that `board_output` then writes the refusal's line.
 #![deny(unsafe_code)]
 
 mod c;
@@ -129,6 +128,58 @@ pub fn restate(
     let [first, second, third] = given.numbers;
     let row = [given.kind, first, second, third, given.column];
     asked(|value, column| c::restate(sheet, &row, slots, out, value, column))
+}
+
+/// Whose sheet a refusal of a graft speaks of.
+#[derive(Clone, Copy, Debug, PartialEq, Eq)]
+pub enum Whose {
+    Neither,
+    Host,
+    Donor,
+}
+
+/// A refusal of a graft. Where it is the host's or the donor's, its place and its column are those of that sheet.
+#[derive(Clone, Copy, Debug, PartialEq, Eq)]
+pub struct GraftRefusal {
+    pub whose: Whose,
+    pub refusal: Refusal,
+}
+
+impl fmt::Display for GraftRefusal {
+    fn fmt(&self, f: &mut fmt::Formatter) -> fmt::Result {
+        let of = match self.whose {
+            Whose::Neither => "",
+            Whose::Host => " of the host",
+            Whose::Donor => " of the donor",
+        };
+        write!(f, "{}{of}", self.refusal)
+    }
+}
+
+impl std::error::Error for GraftRefusal {}
+
+/// The host with the donor's steps in the place of one of its own, a Sorry without premisses that concludes what the donor's root
+/// does, at the start of `out`; its length in bytes, at most `LONGEST_SHEET`. The host's parts are kept byte for byte; the donor's
+/// names that it has not, and all of the donor's propositions, follow its own. The slots become the index of the merged names, and
+/// stay as they were where it is refused.
+pub fn graft(
+    host: &[u8],
+    step: usize,
+    donor: &[u8],
+    slots: &mut [u16; SLOT_COUNT],
+    out: &mut [u8],
+) -> Result<usize, GraftRefusal> {
+    let mut whose = 0;
+    let two = c::Two { host, step, donor };
+    let answer = asked(|value, column| c::graft(two, slots, out, value, column, &mut whose));
+    answer.map_err(|refusal| GraftRefusal {
+        whose: match whose {
+            1 => Whose::Host,
+            2 => Whose::Donor,
+            _ => Whose::Neither,
+        },
+        refusal,
+    })
 }
 
 /// The code of the proposition at an ordinal, from 0, among all of at most `n` binary connectives over ⊤, ⊥ and up to 3 names, `n` up

@@ -1,8 +1,9 @@
 //! The example sheets through the wrapper: answers, refusals, and what becomes of the lent memory.
 use skriduhol::{
-    atom_list, board_output, compare, datatype_list, exercise, find_name, handout,
-    handout_datatypes, label_count, name_index, plain_text, restate, strict_text, Given, Refusal,
-    Style, BOARD_ROOM, FREE, LONGEST_EXERCISE, LONGEST_SHEET, SLOT_COUNT,
+    atom_list, board_output, compare, datatype_list, exercise, find_name, graft, handout,
+    handout_datatypes, label_count, name_index, plain_text, restate, strict_text, Given,
+    GraftRefusal, Refusal, Style, Whose, BOARD_ROOM, FREE, LONGEST_EXERCISE, LONGEST_SHEET,
+    SLOT_COUNT,
 };
 
 const SMALLEST: &[u8] = include_bytes!("../../../examples/sheets/smallest.sheet");
@@ -178,6 +179,102 @@ fn a_restated_sheet_prints_as_before() {
         23,
     );
     refused(length, Given { kind: 1, ..given }, 25);
+}
+
+const OPEN_STEP: &[u8] = include_bytes!("../../../examples/sheets/open_step.sheet");
+const SWAPPED: &[u8] = include_bytes!("../../../examples/sheets/disjunction_swapped.sheet");
+
+/// What becomes of memory and slots where a donor is grafted in a room of so many bytes.
+fn graft_in(
+    room: usize,
+    host: &[u8],
+    step: usize,
+    donor: &[u8],
+) -> (Result<usize, GraftRefusal>, Vec<u8>, [u16; SLOT_COUNT]) {
+    let (mut out, mut slots) = (vec![UNTOUCHED; room], [7; SLOT_COUNT]);
+    let answer = graft(host, step, donor, &mut slots, &mut out);
+    (answer, out, slots)
+}
+
+#[test]
+fn a_donor_replaces_a_sorry() {
+    assert_eq!(
+        text_of(OPEN_STEP),
+        Ok("atom A;\natom B;\natom C;\n\n\nfn h => (sorry: A ∨ B ⊃ B ∨ A) (fst h)".into())
+    );
+    let (answer, out, slots) = graft_in(LONGEST_SHEET, OPEN_STEP, 0, SWAPPED);
+    let length = answer.expect("it is grafted");
+    let (merged, rest) = out.split_at(length);
+    assert!(rest.iter().all(|byte| *byte == UNTOUCHED));
+    assert_eq!(
+        text_of(merged),
+        Ok("atom A;\natom B;\natom C;\n\n\nfn h => (fn u: A ∨ B => \
+            case u of inl a => inr a: B ∨ A, inr b => inl b: B ∨ A) (fst h)"
+            .into())
+    );
+    let mut own = [0; SLOT_COUNT];
+    assert_eq!(name_index(merged, &mut own), Ok(()));
+    assert_eq!(slots, own);
+    // A, B, C and h are the host's, and u, a and b the donor's
+    let found =
+        ["A", "B", "C", "h", "u", "a", "b"].map(|name| find_name(merged, &slots, name.as_bytes()));
+    assert_eq!(found, [0, 1, 2, 3, 4, 5, 6].map(|number| Ok(Some(number))));
+    assert_eq!(graft_in(length, OPEN_STEP, 0, SWAPPED).0, Ok(length));
+}
+
+#[test]
+fn a_refused_graft_says_whose_it_is_and_leaves_the_memory() {
+    let refused = |room, host: &[u8], step, donor: &[u8], whose, refusal| {
+        let untouched = (
+            Err(GraftRefusal { whose, refusal }),
+            vec![UNTOUCHED; room],
+            [7; SLOT_COUNT],
+        );
+        assert_eq!(graft_in(room, host, step, donor), untouched);
+    };
+    let of = |number, place, column| Refusal {
+        number,
+        place,
+        column,
+    };
+    let length = graft_in(LONGEST_SHEET, OPEN_STEP, 0, SWAPPED)
+        .0
+        .expect("it is grafted");
+    refused(
+        length - 1,
+        OPEN_STEP,
+        0,
+        SWAPPED,
+        Whose::Neither,
+        of(16, 0, 0),
+    );
+    refused(9, OPEN_STEP, 1, SWAPPED, Whose::Neither, of(26, 0, 0));
+    refused(
+        9,
+        OPEN_STEP,
+        usize::MAX,
+        SWAPPED,
+        Whose::Neither,
+        of(26, 0, 0),
+    );
+    refused(9, OPEN_STEP, 0, SECOND, Whose::Neither, of(27, 0, 0));
+    let mut wide = OPEN_STEP.to_vec();
+    // the last byte of step 4's column, behind 12 bytes, 4 names and 5 propositions
+    wide[12 + 4 * 9 + 20 * 5 - 1] = 16;
+    refused(9, &wide, 0, &[], Whose::Host, of(9, 4, 4098));
+    refused(9, OPEN_STEP, 9, &wide, Whose::Donor, of(9, 4, 4098));
+    refused(0, &[], 0, &[], Whose::Host, of(1, 0, 0));
+    refused(0, OPEN_STEP, 0, &[], Whose::Donor, of(1, 0, 0));
+    let said = |whose| {
+        let refusal = of(9, 4, 4098);
+        GraftRefusal { whose, refusal }.to_string()
+    };
+    assert_eq!(
+        said(Whose::Donor),
+        "refused 9 at 4 column 4098 of the donor"
+    );
+    assert_eq!(said(Whose::Host), "refused 9 at 4 column 4098 of the host");
+    assert_eq!(said(Whose::Neither), "refused 9 at 4 column 4098");
 }
 
 /// The code of an exercise in a room of so many bytes.

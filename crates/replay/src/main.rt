@@ -2,6 +2,7 @@
 // list holds: the Rust's, and those of documents 01 and 02 where the Rust has none. tests/oracle/README.md has the form of the list, and README.md says how it is made.
 use definitions::Located;
 use definitions::Style;
+use definitions::Whose;
 use libc::STDOUT_FILENO;
 use name_index::FREE;
 use name_index::SLOT_COUNT;
@@ -9,6 +10,7 @@ use number::number_at;
 use restating::Given;
 use skriduhol::Count;
 use skriduhol::Filled;
+use skriduhol::Grafted;
 use skriduhol::Searched;
 use skriduhol::Verdict;
 ghost use Prim.Native.Nat.{_<_, _≤_};
@@ -40,6 +42,8 @@ const NAME_INDEX: u8 = 11;
 const FIND_NAME: u8 = 12;
 
 const RESTATE: u8 = 13;
+
+const GRAFT: u8 = 14;
 
 // The most bytes or numbers that are lent. Memory is zero before it is lent.
 const ROOM: usize = 65536;
@@ -391,6 +395,76 @@ fn restate_agrees(fd: i32, s: &[u8]) -> bool {
     text_agrees(fd, s, AskedText::Restate(given))
 }
 
+// What a graft answers, and whose a refusal is: 0 neither's, 1 the host's, 2 the donor's.
+struct GraftResult {
+    result: Result,
+    whose: usize,
+}
+
+fn whose_number(whose: Whose) -> usize {
+    match whose {
+        Whose::Neither => 0,
+        Whose::Host => 1,
+        Whose::Donor => 2,
+    }
+}
+
+fn grafted_result(grafted: Grafted) -> GraftResult {
+    match grafted {
+        Grafted::Length(length) => GraftResult {
+            result: accepted(length),
+            whose: 0,
+        },
+        Grafted::Refused(whose, located) => GraftResult {
+            result: refused(located),
+            whose: whose_number(whose),
+        },
+    }
+}
+
+// Only a refusal is somebody's.
+fn read_whose(fd: i32, number: usize) -> usize {
+    if number == 0 {
+        return 0;
+    }
+    wide(read_byte(fd))
+}
+
+fn graft(host: &[u8], step: usize, donor: &[u8], room: usize, out: &mut [u8]) -> GraftResult {
+    let lent = bytes_within(room, out);
+    let mut slots = [0u16; SLOT_COUNT];
+    grafted_result(skriduhol::graft(host, step, donor, &mut slots, &mut out[..lent]))
+}
+
+fn pair_agrees(fd: i32, host: &[u8], donor: &[u8]) -> bool {
+    let step = read_u64(fd);
+    let room = read_u32(fd);
+    let expected = read_result(fd);
+    let whose = read_whose(fd, expected.number);
+    let bytes = read_bytes(fd, elements(expected));
+    let mut out = io::large_buffer();
+    let answer = graft(host, step, donor, room, &mut out);
+    if !same_result(expected, answer.result) {
+        return false;
+    }
+    if whose != answer.whose {
+        return false;
+    }
+    same_bytes(&out, &bytes)
+}
+
+// The donor is the first of the bytes behind the host.
+fn donor_agrees(fd: i32, host: &[u8], behind: &[u8]) -> bool {
+    let theirs = bytes_within(read_u32(fd), behind);
+    pair_agrees(fd, host, &behind[..theirs])
+}
+
+// The host is the first of the entry's bytes.
+fn graft_agrees(fd: i32, both: &[u8]) -> bool {
+    let own = bytes_within(read_u32(fd), both);
+    donor_agrees(fd, &both[..own], &both[own..both.len()])
+}
+
 // Whether the answer to the next question agrees.
 fn agrees(fd: i32, s: &[u8]) -> bool {
     match read_byte(fd) {
@@ -407,6 +481,7 @@ fn agrees(fd: i32, s: &[u8]) -> bool {
         NAME_INDEX => index_agrees(fd, s),
         FIND_NAME => name_agrees(fd, s),
         RESTATE => restate_agrees(fd, s),
+        GRAFT => graft_agrees(fd, s),
         _ => board_agrees(fd, s),
     }
 }

@@ -1,5 +1,5 @@
 //! The command line: `run` beside this folder builds the library and starts it.
-use against_rust::{call::Library, exercises, kinds, names, restatements, tally::Table};
+use against_rust::{call::Library, exercises, grafts, kinds, names, restatements, tally::Table};
 use oracle::{exercise::Exercises, generate::Kind};
 use std::{process::exit, str::FromStr, thread, time::Instant};
 
@@ -110,7 +110,22 @@ extern "C" {
         value: *mut usize,
         column: *mut usize,
     ) -> u8;
+    fn skriduhol_graft(
+        host: *const u8,
+        host_length: usize,
+        step: usize,
+        donor: *const u8,
+        donor_length: usize,
+        slots: *mut u16,
+        out: *mut u8,
+        room: usize,
+        value: *mut usize,
+        column: *mut usize,
+        whose: *mut usize,
+    ) -> u8;
 }
+
+const GRAFTING: grafts::Library = grafts::Library { graft: skriduhol_graft, asked: Some(LIBRARY) };
 
 const RESTATING: restatements::Library = restatements::Library { restate: skriduhol_restate, asked: Some(LIBRARY) };
 
@@ -206,6 +221,11 @@ fn main() {
         println!("{asked}");
         let asked = restatements::compare(&RESTATING, seed, count).unwrap_or_else(|difference| {
             println!("DIFFERENCE in a restatement: {difference}");
+            exit(1)
+        });
+        println!("{asked}");
+        let asked = grafts::compare(&GRAFTING, seed, count, threads).unwrap_or_else(|difference| {
+            println!("DIFFERENCE in a graft: {difference}");
             exit(1)
         });
         println!("{asked}");

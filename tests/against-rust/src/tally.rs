@@ -32,6 +32,11 @@ impl Tally {
         }
     }
 
+    /// How often anything was asked.
+    pub fn questions(&self) -> usize {
+        self.asked.iter().sum()
+    }
+
     /// The refusals that did not occur.
     pub fn missing(&self) -> Vec<usize> {
         REFUSALS.into_iter().filter(|number| self.refused[*number] == 0).collect()

@@ -99,7 +99,7 @@ fn numbered(count: usize, name: impl Fn(usize) -> String) -> Vec<Vec<u8>> {
 }
 
 /// So many different names that start at one slot: `Aa` and `BB` add up alike.
-fn colliding(count: usize) -> Vec<Vec<u8>> {
+pub fn colliding(count: usize) -> Vec<Vec<u8>> {
     let bits = usize::BITS - (count - 1).leading_zeros();
     numbered(count, |number| (0..bits).map(|bit| if number >> bit & 1 == 0 { "Aa" } else { "BB" }).collect())
 }

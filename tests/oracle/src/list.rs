@@ -4,6 +4,8 @@ use crate::{
     answer::{examine, Answer, Examined, Finding, Question, VERSIONS},
     exercise::{bad_names, count_names, good_names, Exercise, Exercises, CONNECTIVES, TOO_MANY},
     generate::{Kind, Sheets},
+    graft::{graft, Refused},
+    grafts::{fixed, random, Graft},
     index::{find_name, name_index, searches, sheets, FREE, SLOTS},
     restate::{givens, restate, Given},
     rng::Rng,
@@ -31,6 +33,8 @@ pub const NAME_INDEX: u8 = 11;
 pub const FIND_NAME: u8 = 12;
 /// The kind of a question on a restatement.
 pub const RESTATE: u8 = 13;
+/// The kind of a question on a graft.
+pub const GRAFT: u8 = 14;
 /// So many of a sheet's names are asked for.
 const FOUND: usize = 12;
 
@@ -44,6 +48,8 @@ pub struct List {
     pub indexed: usize,
     /// Entries whose conclusion is restated.
     pub restated: usize,
+    /// Entries of a host and a donor.
+    pub grafted: usize,
     pub questions: usize,
 }
 
@@ -75,9 +81,61 @@ pub fn list(seed: u64) -> Result<List, Finding> {
     for (_, sheet) in crate::restate::sheets().into_iter().filter(short) {
         list.add_restatements(&sheet, &mut rng);
     }
-    let entries = list.sheets + list.names + list.indexed + list.restated;
+    for asked in grafts(seed) {
+        list.add_grafts(&asked, &mut rng);
+    }
+    let entries = list.sheets + list.names + list.indexed + list.restated + list.grafted;
     list.bytes.splice(0..0, (entries as u32).to_le_bytes());
     Ok(list)
+}
+
+/// Two sheets of at most so many bytes, so many pairs of each random kind, and some of those by hand.
+const PAIR: usize = 260;
+const PAIRS: usize = 2;
+const BY_HAND: [&str; 12] = [
+    "the second drawing",
+    "a pair under fst",
+    "a premiss of a Sorry",
+    "a judgement under fst",
+    "conclusions 17 and 17",
+    "conclusions 16 and 17",
+    "conclusions 27 and 28",
+    "names 5 into names 2",
+    "step 1 in column 4096, as host",
+    "step 2 of 3 with 2 premisses, as donor",
+    "512 and 1 propositions",
+    "511 and 1 propositions",
+];
+
+/// Pairs for grafts: some by hand, and the first of the random kinds that are short and accepted.
+fn grafts(seed: u64) -> Vec<Graft> {
+    let mut all: Vec<Graft> = fixed().into_iter().filter(|asked| BY_HAND.contains(&asked.what.as_str())).collect();
+    for kind in [Kind::Sound, Kind::Random, Kind::Quantified] {
+        let pairs = (0..).flat_map(|index| random(kind, seed, index));
+        let short = |asked: &Graft| asked.host.len() + asked.donor.len() <= PAIR;
+        let accepted = |asked: &Graft| short(asked) && graft(&asked.host, asked.step, &asked.donor, None).is_ok();
+        all.extend(pairs.filter(accepted).take(PAIRS));
+    }
+    all
+}
+
+/// Grafts alone, in the list's form: those by hand, and of each random kind so many pairs of sheets that are not long, each once
+/// with enough room.
+pub fn list_grafts(seed: u64, count: usize) -> List {
+    let mut list = List::default();
+    let kinds = [Kind::Sound, Kind::Random, Kind::Quantified, Kind::Damaged];
+    let generated = kinds.into_iter().flat_map(|kind| (0..count).flat_map(move |index| random(kind, seed, index)));
+    let short = |asked: &Graft| asked.host.len().max(asked.donor.len()) <= LARGE_BYTES;
+    for asked in fixed().into_iter().chain(generated).filter(short) {
+        list.add_pair(&asked, &[(asked.host.len(), asked.donor.len(), asked.step, BOARD_ROOM)]);
+    }
+    list.bytes.splice(0..0, (list.grafted as u32).to_le_bytes());
+    list
+}
+
+/// The donor of a question: so many of the bytes behind so many.
+fn donor_of(asked: &Graft, own: usize, theirs: usize) -> Vec<u8> {
+    [&asked.host[..], &asked.donor].concat()[own..][..theirs].to_vec()
 }
 
 /// Has the sheet a label, and does the board print its text?
@@ -221,6 +279,53 @@ impl List {
             self.bytes.extend(given.row().map(u16::to_le_bytes).concat());
             self.bytes.extend((room as u32).to_le_bytes());
             self.add_answer(&restate(sheet, given, Some(room)).map(Answer::Code));
+        }
+    }
+
+    /// Adds a host and behind it a donor, with grafts at the step that is meant and at others, and of fewer bytes of either.
+    /// An answer is asked for in exactly enough room and in one byte less, a long one in the latter only.
+    fn add_grafts(&mut self, asked: &Graft, rng: &mut Rng) {
+        let Graft { host, step, donor, .. } = asked;
+        let (own, theirs) = (host.len(), donor.len());
+        let steps = decode(host).map_or(1, |sheet| sheet.steps.len());
+        let past = *rng.pick(&[steps, (1 << 32) + *step, usize::MAX]);
+        let other = (0..steps).filter(|other| other != step).take(2);
+        let mut questions: Vec<(usize, usize, usize)> =
+            [*step, past].into_iter().chain(other).map(|at| (own, theirs, at)).collect();
+        questions.extend([(own - 1, theirs, *step), (own, theirs - 1, past)]);
+        questions.push((own, rng.below(12), *step));
+        let mut all = vec![];
+        for (own, theirs, step) in questions {
+            match graft(&host[..own], step, &donor_of(asked, own, theirs), None) {
+                Ok(new) if new.len() > SMALL_BYTES => all.push((own, theirs, step, new.len() - 1)),
+                Ok(new) => all.extend([new.len(), new.len() - 1].map(|room| (own, theirs, step, room))),
+                Err(_) => all.push((own, theirs, step, rng.below(1000))),
+            }
+        }
+        self.add_pair(asked, &all);
+    }
+
+    /// Adds a host and behind it a donor, with questions: how many of the bytes are the host, how many behind them the donor, the
+    /// step and the room.
+    fn add_pair(&mut self, asked: &Graft, all: &[(usize, usize, usize, usize)]) {
+        let Graft { host, donor, .. } = asked;
+        self.grafted += 1;
+        self.questions += all.len();
+        self.bytes.extend(((host.len() + donor.len()) as u32).to_le_bytes());
+        self.bytes.extend(host.iter().chain(donor));
+        self.bytes.push(all.len() as u8);
+        for (own, theirs, step, room) in all.iter().copied() {
+            self.bytes.push(GRAFT);
+            self.bytes.extend([own, theirs].map(|length| (length as u32).to_le_bytes()).concat());
+            self.bytes.extend((step as u64).to_le_bytes());
+            self.bytes.extend((room as u32).to_le_bytes());
+            match graft(&host[..own], step, &donor_of(asked, own, theirs), Some(room)) {
+                Ok(new) => self.add_answer(&Ok(Answer::Code(new))),
+                Err(Refused { whose, refusal }) => {
+                    self.add_answer(&Err(refusal));
+                    self.bytes.push(whose as u8);
+                }
+            }
         }
     }
 

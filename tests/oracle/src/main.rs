@@ -4,7 +4,7 @@ use oracle::{
     context,
     exercise::{count_names, Exercises, CONNECTIVES},
     generate::{Kind, Sheets},
-    list::{list, List},
+    list::{list, list_grafts, List},
     rng::Rng,
     sheet::{decode, Refusal},
     sound,
@@ -21,6 +21,7 @@ const USAGE: &str = "usage:
   oracle accuracy --seed N --count M
   oracle sound DIR
   oracle list --seed N --out FILE
+  oracle grafts --seed N --count M --out FILE
   oracle contexts --seed N --out FILE
 KIND: sound random quantified damaged limits worst slowest";
 
@@ -82,6 +83,12 @@ fn run() -> i32 {
         ["accuracy", ref rest @ ..] => accuracy(&random_sheets(Kind::Sound, rest)),
         ["sound", dir] => print_sound(dir),
         ["list", ref rest @ ..] => write_list(number(option(rest, "--seed")), option(rest, "--out")),
+        ["grafts", ref rest @ ..] => {
+            let list = list_grafts(number(option(rest, "--seed")), number(option(rest, "--count")));
+            println!("{} grafts, {} bytes", list.grafted, list.bytes.len());
+            fs::write(option(rest, "--out"), list.bytes).unwrap();
+            0
+        }
         ["contexts", ref rest @ ..] => write_contexts(number(option(rest, "--seed")), option(rest, "--out")),
         _ => usage(),
     }
@@ -249,8 +256,8 @@ fn print_sound(dir: &str) -> i32 {
 fn write_list(seed: u64, file: &str) -> i32 {
     match list(seed) {
         Ok(list) => {
-            let List { sheets, names, indexed, restated, questions, bytes } = list;
-            println!("{sheets} sheets, {names} lists of names, {indexed} sheets with an index, {restated} with restatements, {questions} questions, {} bytes", bytes.len());
+            let List { sheets, names, indexed, restated, grafted, questions, bytes } = list;
+            println!("{sheets} sheets, {names} lists of names, {indexed} sheets with an index, {restated} with restatements, {grafted} pairs for grafts, {questions} questions, {} bytes", bytes.len());
             fs::write(file, bytes).unwrap();
             0
         }

@@ -200,6 +200,19 @@ impl Layout {
         rest.is_empty().then_some(layout)
     }
 
+    /// Names, codes, steps and goal, without the gaps.
+    pub fn plain(self) -> Plain {
+        let cut = |pairs: &[(u16, u16)], all: &[u8]| -> Vec<Vec<u8>> {
+            pairs.iter().map(|(offset, length)| all[*offset as usize..][..*length as usize].to_vec()).collect()
+        };
+        Plain {
+            names: cut(&self.names, &self.text),
+            props: cut(&self.props, &self.code),
+            steps: self.steps,
+            goal: self.header[5],
+        }
+    }
+
     pub fn bytes(&self) -> Vec<u8> {
         let pairs = self.names.iter().chain(&self.props).flat_map(|(o, l)| [*o, *l]);
         let numbers = self.header.into_iter().chain(pairs);

@@ -2,8 +2,9 @@
 use oracle::{
     answer::{examine, Answer, Operation, Question},
     exercise::{Exercise, Exercises},
+    graft::{graft, Refused, Whose},
     index::{find_name, name_index, FREE, SLOTS},
-    list::{list, EXERCISE, FIND_NAME, NAME_INDEX, RESTATE},
+    list::{list, EXERCISE, FIND_NAME, GRAFT, NAME_INDEX, RESTATE},
     restate::{restate, Given},
     sheet::Refusal,
     text::Version,
@@ -68,7 +69,7 @@ fn the_list_reads_back() {
     let mut reader = Reader(&list.bytes);
     let (mut asked, mut refused, mut exact, mut short, mut more) = ([0; Operation::ALL.len()], [0; 31], 0, 0, 0);
     let (mut strict, mut second, mut third, mut strict_third) = (0, 0, 0, 0);
-    assert_eq!(reader.number(4), list.sheets + list.names + list.indexed + list.restated);
+    assert_eq!(reader.number(4), list.sheets + list.names + list.indexed + list.restated + list.grafted);
     for _ in 0..list.sheets {
         let length = reader.number(4);
         let examined = examine(&reader.bytes(length)).unwrap();
@@ -145,10 +146,31 @@ fn the_list_reads_back() {
         }
     }
     assert!(sheets > 50, "{sheets}");
+    let (mut merged, mut whose) = (0, [0; 3]);
+    for _ in 0..list.grafted {
+        let length = reader.number(4);
+        let both = reader.bytes(length);
+        for _ in 0..reader.number(1) {
+            assert_eq!(reader.number(1), GRAFT as usize);
+            let (own, theirs, step, room) = (reader.number(4), reader.number(4), reader.number(8), reader.number(4));
+            let answer = match reader.value() {
+                Ok(length) => Ok(reader.bytes(length)),
+                Err(refusal) => {
+                    let its = [Whose::Neither, Whose::Host, Whose::Donor][reader.number(1)];
+                    whose[its as usize] += 1;
+                    refused[refusal.number as usize] += 1;
+                    Err(Refused { whose: its, refusal })
+                }
+            };
+            assert_eq!(answer, graft(&both[..own], step, &both[own..][..theirs], Some(room)));
+            merged += answer.is_ok() as usize;
+        }
+    }
+    assert!(merged > 10 && whose.iter().all(|count| *count > 10), "{merged} {whose:?}");
     assert!(reader.0.is_empty());
     assert!(asked.iter().all(|count| *count > 0), "{asked:?}");
-    // every refusal but 18; there is none with the number 20 or 22, nor from 26 to 28
-    let none = |number| [18, 20, 22].contains(&number) || (26..29).contains(&number);
+    // every refusal but 18; there is none with the number 20 or 22
+    let none = |number| [18, 20, 22].contains(&number);
     assert!((0..31).all(|number| (refused[number] > 0) != none(number)), "{refused:?}");
     assert!(exact > 1000 && short > 1000, "{exact} {short}");
     assert!(more > 100 && strict > 100 && second > 50, "{more} {strict} {second}");

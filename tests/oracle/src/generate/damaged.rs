@@ -16,7 +16,7 @@ pub fn damaged(mut rng: Rng) -> Vec<u8> {
     if rng.chance(50) {
         damaged_bytes(rng, bytes, regions(&layout))
     } else {
-        damaged_parts(rng, parts(layout))
+        damaged_parts(rng, layout.plain())
     }
 }
 
@@ -29,19 +29,6 @@ fn regions(layout: &Layout) -> [(usize, usize); 6] {
         from += size;
         (from - size, from)
     })
-}
-
-/// Names, codes and steps.
-fn parts(layout: Layout) -> Plain {
-    let cut = |pairs: &[(u16, u16)], all: &[u8]| -> Vec<Vec<u8>> {
-        pairs.iter().map(|(offset, length)| all[*offset as usize..][..*length as usize].to_vec()).collect()
-    };
-    Plain {
-        names: cut(&layout.names, &layout.text),
-        props: cut(&layout.props, &layout.code),
-        steps: layout.steps,
-        goal: layout.header[5],
-    }
 }
 
 /// Faults in single parts, all else consistent: most reach refusals 4 to 11, and two of them ask which comes first.
