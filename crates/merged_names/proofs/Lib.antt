@@ -1,3 +1,4 @@
 pub mod Knowing
 pub mod Storing
 pub mod Lowest
+pub mod Naming
