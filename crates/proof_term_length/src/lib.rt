@@ -138,7 +138,7 @@ fn bare_length(
     sum(own + name + other_name, sum(both, third, cap), cap)
 }
 
-// The length of the text of the proposition at `at`, which is found out once, unless there is a label 4,096 bytes before it or after.
+// The length of the text of the proposition at `at`, which is found out once, unless a label 4,096 bytes away takes turns with it.
 // An entry is twice a length, and one more for an offset in the upper half of the code.
 fn known_length(
     bytes: &[u8],
@@ -149,7 +149,8 @@ fn known_length(
 ) -> usize
     requires { ⌜ Printable (now bytes) v (now ends) at × (at < 8192) ⌝ }
     requires { ⌜ Known (now bytes) v (now known) ⌝ }
-    ensures { λ r. ⌜ TextLength (propText (now (bytes .entry)) v at) r × Known (now (bytes .entry)) v (now (known .exit)) ⌝ }
+    ensures { λ r. ⌜ TextLength (propText (now (bytes .entry)) v at) r
+        × Known (now (bytes .entry)) v (now (known .exit)) ⌝ }
 {
     let slot = at % KNOWN_LIMIT;
     let upper = at / KNOWN_LIMIT;
