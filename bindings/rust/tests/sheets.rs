@@ -208,7 +208,7 @@ fn a_donor_replaces_a_sorry() {
     assert!(rest.iter().all(|byte| *byte == UNTOUCHED));
     assert_eq!(
         text_of(merged),
-        Ok("atom A;\natom B;\natom C;\n\n\nfn h => (fn u: A ∨ B => \
+        Ok("atom B;\natom A;\natom C;\n\n\nfn h => (fn u: A ∨ B => \
             case u of inl a => inr a: B ∨ A, inr b => inl b: B ∨ A) (fst h)"
             .into())
     );

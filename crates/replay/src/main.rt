@@ -430,13 +430,19 @@ fn read_whose(fd: i32, number: usize) -> usize {
     wide(read_byte(fd))
 }
 
-fn graft(host: &[u8], step: usize, donor: &[u8], room: usize, out: &mut [u8]) -> GraftResult {
+fn graft<'a>(
+    host: &'a [u8],
+    step: usize,
+    donor: &'a [u8],
+    room: usize,
+    out: &mut [u8],
+) -> GraftResult {
     let lent = bytes_within(room, out);
     let mut slots = [0u16; SLOT_COUNT];
     grafted_result(skriduhol::graft(host, step, donor, &mut slots, &mut out[..lent]))
 }
 
-fn pair_agrees(fd: i32, host: &[u8], donor: &[u8]) -> bool {
+fn pair_agrees<'a>(fd: i32, host: &'a [u8], donor: &'a [u8]) -> bool {
     let step = read_u64(fd);
     let room = read_u32(fd);
     let expected = read_result(fd);
@@ -454,7 +460,7 @@ fn pair_agrees(fd: i32, host: &[u8], donor: &[u8]) -> bool {
 }
 
 // The donor is the first of the bytes behind the host.
-fn donor_agrees(fd: i32, host: &[u8], behind: &[u8]) -> bool {
+fn donor_agrees<'a>(fd: i32, host: &'a [u8], behind: &'a [u8]) -> bool {
     let theirs = bytes_within(read_u32(fd), behind);
     pair_agrees(fd, host, &behind[..theirs])
 }
