@@ -2,6 +2,7 @@
 mod arbitrary;
 mod damaged;
 mod draft;
+pub mod judgements;
 mod sound;
 mod variant;
 

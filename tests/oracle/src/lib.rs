@@ -1,11 +1,13 @@
 //! An oracle for proof boards: document 01 beside the original Rust.
 pub mod answer;
 pub mod context;
+pub mod derivations;
 pub mod draw;
 pub mod exercise;
 pub mod formula;
 pub mod generate;
 pub mod index;
+pub mod judging;
 pub mod limits;
 pub mod list;
 pub mod reading;
@@ -14,6 +16,7 @@ pub mod restate;
 pub mod rng;
 pub mod sheet;
 pub mod sound;
+pub mod terms;
 pub mod text;
 pub mod tree;
 pub mod walk;

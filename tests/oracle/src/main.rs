@@ -1,13 +1,20 @@
 //! The command line. `README.md` says how each command is used.
+use alice::kernel::{proof_term::ProofTerm, prop::Prop};
 use oracle::{
     answer::{examine, Answer, Examined, Question},
     context,
+    derivations::agrees,
     exercise::{count_names, Exercises, CONNECTIVES},
-    generate::{Kind, Sheets},
+    generate::{
+        judgements::{every_small, judgement, small_props, small_scopes, Judgement},
+        Kind, Sheets,
+    },
+    judging::Hypothesis,
     list::{list, List},
     rng::Rng,
     sheet::{decode, Refusal},
     sound,
+    text::{strict, term as term_text},
 };
 use std::{collections::BTreeMap, fs, io::Write, process::exit, str::FromStr, thread};
 
@@ -19,6 +26,7 @@ const USAGE: &str = "usage:
   oracle generate --kind KIND [--seed N --count M] --out DIR
   oracle compare --kind KIND [--seed N --count M]
   oracle accuracy --seed N --count M
+  oracle judgements --seed N --count M --nodes K
   oracle sound DIR
   oracle list --seed N --out FILE
   oracle contexts --seed N --out FILE
@@ -80,6 +88,10 @@ fn run() -> i32 {
         ["generate", ref rest @ ..] => generate(&sheets(rest), option(rest, "--out")),
         ["compare", ref rest @ ..] => compare(&sheets(rest)),
         ["accuracy", ref rest @ ..] => accuracy(&random_sheets(Kind::Sound, rest)),
+        ["judgements", ref rest @ ..] => {
+            let [seed, count, nodes] = ["--seed", "--count", "--nodes"].map(|name| option(rest, name));
+            judgements(number(seed), number(count), number(nodes))
+        }
         ["sound", dir] => print_sound(dir),
         ["list", ref rest @ ..] => write_list(number(option(rest, "--seed")), option(rest, "--out")),
         ["contexts", ref rest @ ..] => write_contexts(number(option(rest, "--seed")), option(rest, "--out")),
@@ -231,6 +243,35 @@ fn accuracy(sheets: &Sheets) -> i32 {
     }
     println!("{} sound sheets of {steps} steps with {labels} labels", sheets.count());
     findings.code()
+}
+
+/// The checker beside a search over the rules, on every term of at most so many nodes and on so many random judgements.
+fn judgements(seed: u64, count: u64, nodes: usize) -> i32 {
+    let (mut derived, mut others, mut findings) = (0usize, 0usize, 0);
+    let mut ask = |scope: &[Hypothesis], term: &ProofTerm, wanted: Option<&Prop>| match agrees(scope, term, wanted) {
+        Ok(true) => derived += 1,
+        Ok(false) => others += 1,
+        Err(finding) => {
+            findings += 1;
+            println!("FINDING: {scope:?} |- {} : {wanted:?}: {finding}", term_text(term, strict));
+        }
+    };
+    let (scopes, props) = (small_scopes(), small_props());
+    for size in 1..=nodes {
+        every_small(size, &mut |term| {
+            for scope in &scopes {
+                [None].into_iter().chain(props.iter().map(Some)).for_each(|wanted| ask(scope, &term, wanted));
+            }
+        });
+    }
+    for index in 0..count {
+        let mut rng = Rng::new(seed, index);
+        let (budget, changes) = (rng.range(1, 24), rng.below(4));
+        let Judgement { hypotheses, term, prop } = judgement(rng, budget, changes);
+        ask(&hypotheses, &term, Some(&prop));
+    }
+    println!("{derived:9} derived\n{others:9} not derived\n{findings:9} findings");
+    (findings > 0) as i32 * 3
 }
 
 /// Of each sheet in a folder, by name, whether it is sound.
