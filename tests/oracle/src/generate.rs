@@ -4,6 +4,7 @@ mod damaged;
 mod draft;
 pub mod judgements;
 mod sound;
+pub mod texts;
 mod variant;
 
 use crate::{limits, rng::Rng, sheet::Layout, worst};

@@ -10,6 +10,7 @@ pub mod index;
 pub mod judging;
 pub mod limits;
 pub mod list;
+pub mod memory;
 pub mod reading;
 pub mod reference;
 pub mod restate;

@@ -7,10 +7,12 @@ use oracle::{
     exercise::{count_names, Exercises, CONNECTIVES},
     generate::{
         judgements::{every_small, judgement, small_props, small_scopes, Judgement},
+        texts::{texts, TextKind},
         Kind, Sheets,
     },
     judging::Hypothesis,
     list::{list, List},
+    memory::holds,
     rng::Rng,
     sheet::{decode, Refusal},
     sound,
@@ -27,6 +29,7 @@ const USAGE: &str = "usage:
   oracle compare --kind KIND [--seed N --count M]
   oracle accuracy --seed N --count M
   oracle judgements --seed N --count M --nodes K
+  oracle texts --seed N --count M --nodes K
   oracle sound DIR
   oracle list --seed N --out FILE
   oracle contexts --seed N --out FILE
@@ -91,6 +94,10 @@ fn run() -> i32 {
         ["judgements", ref rest @ ..] => {
             let [seed, count, nodes] = ["--seed", "--count", "--nodes"].map(|name| option(rest, name));
             judgements(number(seed), number(count), number(nodes))
+        }
+        ["texts", ref rest @ ..] => {
+            let [seed, count, nodes] = ["--seed", "--count", "--nodes"].map(|name| option(rest, name));
+            read_texts(number(seed), number(count), number(nodes))
         }
         ["sound", dir] => print_sound(dir),
         ["list", ref rest @ ..] => write_list(number(option(rest, "--seed")), option(rest, "--out")),
@@ -271,6 +278,23 @@ fn judgements(seed: u64, count: u64, nodes: usize) -> i32 {
         ask(&hypotheses, &term, Some(&prop));
     }
     println!("{derived:9} derived\n{others:9} not derived\n{findings:9} findings");
+    (findings > 0) as i32 * 3
+}
+
+/// Reads texts of every kind, and counts those of each that are read and refused.
+fn read_texts(seed: u64, count: usize, nodes: usize) -> i32 {
+    let (mut outcomes, mut findings) = (BTreeMap::<TextKind, [usize; 2]>::new(), 0);
+    texts(seed, count, nodes, &mut |kind, text| match holds(&text.list, &text.text) {
+        Ok(read) => outcomes.entry(kind).or_default()[read as usize] += 1,
+        Err(finding) => {
+            findings += 1;
+            println!("FINDING: {finding}");
+        }
+    });
+    for (kind, [refused, read]) in &outcomes {
+        println!("{read:9} read {refused:9} refused {kind:?}");
+    }
+    println!("{findings:9} findings");
     (findings > 0) as i32 * 3
 }
 

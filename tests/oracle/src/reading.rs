@@ -2,6 +2,7 @@
 //! read is printed again: it is the term of that text where the two agree byte for byte, and no other text is taken.
 use crate::{
     sheet::{admitted as formed, CODE, NAMES, NAME_BYTES, PARAMETERS, PROP_NESTING},
+    terms::{label, nesting, nodes, parts},
     text::{strict, term},
 };
 use alice::kernel::{
@@ -16,7 +17,7 @@ pub const NODES: usize = 2048;
 pub const NESTING: usize = 512;
 
 /// "Names are those of document 01 except" these.
-const WORDS: [&str; 11] = ["fn", "case", "of", "inl", "inr", "let", "in", "fst", "snd", "abort", "sorry"];
+pub const WORDS: [&str; 11] = ["fn", "case", "of", "inl", "inr", "let", "in", "fst", "snd", "abort", "sorry"];
 
 /// A term within the limits takes fewer levels of brackets, functions, cases and lets than this.
 const LEVELS: usize = 4096;
@@ -279,22 +280,14 @@ impl Reader<'_> {
     }
 }
 
-/// The parts of a term, its own names in the text's order, and its label.
-fn taken_apart(t: &ProofTerm) -> (Vec<&ProofTerm>, Vec<&str>, Option<&Type>) {
+/// The names that a term has itself, without its parts' and its label's.
+fn own_names(t: &ProofTerm) -> Vec<&str> {
     match t {
-        ProofTerm::Sorry(_) | ProofTerm::Unit(_) => (vec![], vec![], None),
-        ProofTerm::Ident(Ident(name, _)) => (vec![], vec![name], None),
-        ProofTerm::Pair(Pair(fst, snd, _)) => (vec![fst, snd], vec![], None),
-        ProofTerm::Function(f) => (vec![&f.body], vec![&f.param_ident], f.param_type.as_ref()),
-        ProofTerm::Application(a) => (vec![&a.function, &a.applicant], vec![], None),
-        ProofTerm::LetIn(l) => (vec![&l.head, &l.body], vec![&l.fst_ident, &l.snd_ident], None),
-        ProofTerm::Case(c) => (vec![&c.head, &c.fst_term, &c.snd_term], vec![&c.fst_ident, &c.snd_ident], None),
-        ProofTerm::TypeAscription(a) => (vec![&a.proof_term], vec![], Some(&a.ascription)),
-        ProofTerm::ProjectFst(ProjectFst(body, _))
-        | ProofTerm::ProjectSnd(ProjectSnd(body, _))
-        | ProofTerm::OrLeft(OrLeft(body, _))
-        | ProofTerm::OrRight(OrRight(body, _))
-        | ProofTerm::Abort(Abort(body, _)) => (vec![body], vec![], None),
+        ProofTerm::Ident(Ident(name, _)) => vec![name],
+        ProofTerm::Function(f) => vec![&f.param_ident],
+        ProofTerm::LetIn(l) => vec![&l.fst_ident, &l.snd_ident],
+        ProofTerm::Case(c) => vec![&c.fst_ident, &c.snd_ident],
+        _ => vec![],
     }
 }
 
@@ -303,20 +296,10 @@ fn within_limits(t: &ProofTerm) -> bool {
     nodes(t) <= NODES && nesting(t) <= NESTING && labels_fit(t, &mut names) && names.len() <= NAMES
 }
 
-pub fn nodes(t: &ProofTerm) -> usize {
-    1 + taken_apart(t).0.into_iter().map(nodes).sum::<usize>()
-}
-
-/// "A leaf nests 1."
-pub fn nesting(t: &ProofTerm) -> usize {
-    1 + taken_apart(t).0.into_iter().map(nesting).max().unwrap_or(0)
-}
-
 /// Each label's proposition "nested at most 64 in at most 8,192 code bytes"; collects the names of term and labels.
 fn labels_fit<'a>(t: &'a ProofTerm, names: &mut HashSet<&'a str>) -> bool {
-    let (parts, own, label) = taken_apart(t);
-    names.extend(own);
-    let fits = match label {
+    names.extend(own_names(t));
+    let fits = match label(t) {
         None => true,
         Some(Type::Datatype(name)) => {
             names.insert(name);
@@ -326,7 +309,7 @@ fn labels_fit<'a>(t: &'a ProofTerm, names: &mut HashSet<&'a str>) -> bool {
             measure(prop, names).is_some_and(|(nesting, code)| nesting <= PROP_NESTING && code <= CODE)
         }
     };
-    fits && parts.into_iter().all(|part| labels_fit(part, names))
+    fits && parts(t).into_iter().all(|part| labels_fit(part, names))
 }
 
 /// Nesting and bytes of code; none where an atom has more parameters than code can have.
@@ -413,13 +396,12 @@ fn clear_prop(prop: &mut Prop) {
 /// and its datatype labels are listed, uninstantiated parameters are bound, and no instantiated one stands under a
 /// quantifier of its name". The text's length is asked by itself.
 pub fn restorable(t: &ProofTerm, types: &[String]) -> bool {
-    let (parts, own, label) = taken_apart(t);
-    own.into_iter().all(admitted)
-        && label.map_or(true, |label| match label {
+    own_names(t).into_iter().all(admitted)
+        && label(t).map_or(true, |label| match label {
             Type::Datatype(name) => admitted(name) && types.contains(name),
             Type::Prop(prop) => plain_prop(prop, types, &mut Vec::new()),
         })
-        && parts.into_iter().all(|part| restorable(part, types))
+        && parts(t).into_iter().all(|part| restorable(part, types))
 }
 
 fn plain_prop<'a>(prop: &'a Prop, types: &[String], bound: &mut Vec<&'a str>) -> bool {
