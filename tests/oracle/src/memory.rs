@@ -26,8 +26,9 @@ pub struct Memory {
     pub records: Vec<u16>,
     /// Offset and length in the text of each name where it is first met, low byte first.
     pub names: Vec<u8>,
-    /// The code of the labels in the text's order.
-    pub code: Vec<u8>,
+    /// The code of the labels in the text's order, each at an even offset. A byte between two of them, or behind the last, is left
+    /// as it was.
+    pub code: Vec<Option<u8>>,
 }
 
 /// How much is lent for each.
@@ -84,9 +85,11 @@ fn stored(term: &ProofTerm, text: &[u8]) -> Memory {
     }
     let mut offsets = vec![];
     for label in labels(term) {
-        memory.code.resize(memory.code.len().next_multiple_of(EVEN), 0);
         offsets.push(memory.code.len());
-        formula(label, &numbers).code(&mut |name| name, &mut memory.code);
+        let mut code = vec![];
+        formula(label, &numbers).code(&mut |name| name, &mut code);
+        memory.code.extend(code.into_iter().map(Some));
+        memory.code.resize(memory.code.len().next_multiple_of(EVEN), None);
     }
     Storing { numbers, offsets: offsets.into_iter(), records: &mut memory.records }.term(term);
     memory
@@ -267,8 +270,9 @@ pub fn restored(memory: &Memory, text: &[u8]) -> Option<ProofTerm> {
 }
 
 /// The proposition whose code stands in front.
-fn proposition(code: &[u8], names: &[String]) -> Option<Prop> {
-    front(&mut { code }, names)
+fn proposition(code: &[Option<u8>], names: &[String]) -> Option<Prop> {
+    let code: Vec<u8> = code.iter().map_while(|byte| *byte).collect();
+    front(&mut &code[..], names)
 }
 
 fn front(code: &mut &[u8], names: &[String]) -> Option<Prop> {
