@@ -84,6 +84,8 @@ enum skriduhol_refusal {
     SKRIDUHOL_REFUSED_PARAMETER_COUNT = 18,
     /* 0: two uninstantiated parameters meet with neither bound on its side */
     SKRIDUHOL_REFUSED_UNBOUND_PARAMETER = 19,
+    /* 0: no term within the limits, or more than one, has the text as its strict text, or a listed datatype is no admitted name */
+    SKRIDUHOL_REFUSED_TEXT = 20,
     /* 0: the version of the handout is outside 1 to 3 */
     SKRIDUHOL_REFUSED_VERSION = 21,
     /* 0: the given conclusion or column breaks the rules of a step */
