@@ -88,6 +88,8 @@ enum skriduhol_refusal {
     SKRIDUHOL_REFUSED_TEXT = 20,
     /* 0: the version of the handout is outside 1 to 3 */
     SKRIDUHOL_REFUSED_VERSION = 21,
+    /* 0: the term, a hypothesis or the proposition holds a quantifier, an uninstantiated parameter, a let or a datatype label */
+    SKRIDUHOL_REFUSED_UNCHECKABLE = 22,
     /* 0: the given conclusion or column breaks the rules of a step */
     SKRIDUHOL_REFUSED_GIVEN = 23,
     /* 0: there are already 1,024 steps or 256 levels */
@@ -97,7 +99,9 @@ enum skriduhol_refusal {
     /* 0: the names of an exercise are too many, repeated or malformed, or its number of connectives passes 3 */
     SKRIDUHOL_REFUSED_EXERCISE = 29,
     /* 0: the ordinal of an exercise is past the end */
-    SKRIDUHOL_REFUSED_ORDINAL = 30
+    SKRIDUHOL_REFUSED_ORDINAL = 30,
+    /* 0: a number of the hypotheses or of the proposition is not the sheet's, or a last name has no proposition */
+    SKRIDUHOL_REFUSED_JUDGED_NUMBER = 31
 };
 
 /* The bytes that skriduhol_board_output writes into. */

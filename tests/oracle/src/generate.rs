@@ -1,5 +1,6 @@
 //! Sheets by kind. Four kinds are random, one sheet for each seed and index; the others are fixed lists.
 mod arbitrary;
+pub mod asked;
 mod damaged;
 mod draft;
 pub mod judgements;

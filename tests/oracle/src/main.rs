@@ -6,16 +6,19 @@ use oracle::{
     derivations::agrees,
     exercise::{count_names, Exercises, CONNECTIVES},
     generate::{
+        asked::{asked, Asked},
         judgements::{every_small, judgement, small_props, small_scopes, Judgement},
-        texts::{texts, TextKind},
+        texts::{texts, Text, TextKind},
         Kind, Sheets,
     },
-    judging::Hypothesis,
+    judging::{judge, Hypothesis, Verdict},
     list::{list, List},
     memory::holds,
+    reading,
     rng::Rng,
     sheet::{decode, Refusal},
     sound,
+    terms::nodes,
     text::{strict, term as term_text},
 };
 use std::{collections::BTreeMap, fs, io::Write, process::exit, str::FromStr, thread};
@@ -30,6 +33,7 @@ const USAGE: &str = "usage:
   oracle accuracy --seed N --count M
   oracle judgements --seed N --count M --nodes K
   oracle texts --seed N --count M --nodes K
+  oracle questions --seed N --count M
   oracle sound DIR
   oracle list --seed N --out FILE
   oracle contexts --seed N --out FILE
@@ -98,6 +102,9 @@ fn run() -> i32 {
         ["texts", ref rest @ ..] => {
             let [seed, count, nodes] = ["--seed", "--count", "--nodes"].map(|name| option(rest, name));
             read_texts(number(seed), number(count), number(nodes))
+        }
+        ["questions", ref rest @ ..] => {
+            print_questions(number(option(rest, "--seed")), number(option(rest, "--count")))
         }
         ["sound", dir] => print_sound(dir),
         ["list", ref rest @ ..] => write_list(number(option(rest, "--seed")), option(rest, "--out")),
@@ -296,6 +303,29 @@ fn read_texts(seed: u64, count: usize, nodes: usize) -> i32 {
     }
     println!("{findings:9} findings");
     (findings > 0) as i32 * 3
+}
+
+/// Texts and judgements with their answers, a line each, as `tests/terms` reads them.
+fn print_questions(seed: u64, count: usize) -> i32 {
+    let mut out = std::io::BufWriter::new(std::io::stdout());
+    let hex = |bytes: &[u8]| bytes.iter().map(|byte| format!("{byte:02x}")).collect::<String>();
+    texts(seed, count, 3, &mut |_, Text { list, text }| {
+        let answer = reading::read(&list, &text).map_or("refused 20 at 0".into(), |t| format!("{} nodes", nodes(&t)));
+        writeln!(out, "text,{},{},{answer}", hex(&list), hex(&text)).unwrap();
+    });
+    asked(seed, count / 4, &mut |question| {
+        let Asked { sheet, read, hypotheses, prop } = &question;
+        let answer = match judge(sheet, question.judged(), hypotheses, *prop) {
+            Ok(Verdict::Yes) => "yes".into(),
+            Ok(Verdict::No(node)) => format!("no at {node}"),
+            Err(refusal) => refusal.to_string(),
+        };
+        let (list, text) = read.as_ref().map_or(("own".into(), String::new()), |t| (hex(&t.list), hex(&t.text)));
+        let numbers: Vec<String> = hypotheses.iter().map(u16::to_string).collect();
+        writeln!(out, "judge,{},{list},{text},{prop},{},{answer}", hex(sheet), numbers.join(" ")).unwrap();
+    });
+    out.flush().unwrap();
+    0
 }
 
 /// Of each sheet in a folder, by name, whether it is sound.
