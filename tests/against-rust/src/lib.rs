@@ -5,6 +5,7 @@ pub mod exercises;
 pub mod kinds;
 pub mod names;
 pub mod questions;
+pub mod readings;
 pub mod restatements;
 pub mod shrink;
 pub mod tally;

@@ -290,42 +290,44 @@ fn judgements(seed: u64, count: u64, nodes: usize) -> i32 {
 
 /// Reads texts of every kind, and counts those of each that are read and refused.
 fn read_texts(seed: u64, count: usize, nodes: usize) -> i32 {
-    let (mut outcomes, mut findings) = (BTreeMap::<TextKind, [usize; 2]>::new(), 0);
-    texts(seed, count, nodes, &mut |kind, text| match holds(&text.list, &text.text) {
-        Ok(read) => outcomes.entry(kind).or_default()[read as usize] += 1,
-        Err(finding) => {
-            findings += 1;
-            println!("FINDING: {finding}");
-        }
+    let mut outcomes = BTreeMap::<TextKind, [usize; 2]>::new();
+    let found = texts(seed, count, nodes, &mut |kind, text| {
+        holds(&text.list, &text.text).map(|read| outcomes.entry(kind).or_default()[read as usize] += 1)
     });
     for (kind, [refused, read]) in &outcomes {
         println!("{read:9} read {refused:9} refused {kind:?}");
     }
-    println!("{findings:9} findings");
-    (findings > 0) as i32 * 3
+    match found {
+        Ok(()) => 0,
+        Err(finding) => {
+            println!("FINDING: {finding}");
+            3
+        }
+    }
 }
 
 /// Texts and judgements with their answers, a line each, as `tests/terms` reads them.
 fn print_questions(seed: u64, count: usize) -> i32 {
     let mut out = std::io::BufWriter::new(std::io::stdout());
     let hex = |bytes: &[u8]| bytes.iter().map(|byte| format!("{byte:02x}")).collect::<String>();
-    texts(seed, count, 3, &mut |_, Text { list, text }| {
+    let printed = texts(seed, count, 3, &mut |_, Text { list, text }| {
         let answer = reading::read(&list, &text).map_or("refused 20 at 0".into(), |t| format!("{} nodes", nodes(&t)));
-        writeln!(out, "text,{},{},{answer}", hex(&list), hex(&text)).unwrap();
+        writeln!(out, "text,{},{},{answer}", hex(&list), hex(&text))
     });
-    asked(seed, count / 4, &mut |question| {
-        let Asked { sheet, read, hypotheses, prop } = &question;
-        let answer = match judge(sheet, question.judged(), hypotheses, *prop) {
-            Ok(Verdict::Yes) => "yes".into(),
-            Ok(Verdict::No(node)) => format!("no at {node}"),
-            Err(refusal) => refusal.to_string(),
-        };
-        let (list, text) = read.as_ref().map_or(("own".into(), String::new()), |t| (hex(&t.list), hex(&t.text)));
-        let numbers: Vec<String> = hypotheses.iter().map(u16::to_string).collect();
-        writeln!(out, "judge,{},{list},{text},{prop},{},{answer}", hex(sheet), numbers.join(" ")).unwrap();
+    let printed = printed.and_then(|()| {
+        asked(seed, count / 4, &mut |question| {
+            let Asked { sheet, read, hypotheses, prop } = &question;
+            let answer = match judge(sheet, question.judged(), hypotheses, *prop) {
+                Ok(Verdict::Yes) => "yes".into(),
+                Ok(Verdict::No(node)) => format!("no at {node}"),
+                Err(refusal) => refusal.to_string(),
+            };
+            let (list, text) = read.as_ref().map_or(("own".into(), String::new()), |t| (hex(&t.list), hex(&t.text)));
+            let numbers: Vec<String> = hypotheses.iter().map(u16::to_string).collect();
+            writeln!(out, "judge,{},{list},{text},{prop},{},{answer}", hex(sheet), numbers.join(" "))
+        })
     });
-    out.flush().unwrap();
-    0
+    printed.and_then(|()| out.flush()).is_err() as i32
 }
 
 /// Of each sheet in a folder, by name, whether it is sound.

@@ -74,7 +74,8 @@ fn words(text: &str) -> Vec<(usize, &str)> {
     all
 }
 
-fn stored(term: &ProofTerm, text: &[u8]) -> Memory {
+/// Where a term stands that was read from a text.
+pub fn stored(term: &ProofTerm, text: &[u8]) -> Memory {
     let text = std::str::from_utf8(text).expect("a text that was read is UTF-8");
     let (mut memory, mut numbers) = (Memory::default(), HashMap::new());
     for (offset, name) in words(text) {

@@ -35,15 +35,39 @@ pub fn datatypes(list: &[u8]) -> Option<Vec<String>> {
     names.map(|name| name.map(String::from)).collect()
 }
 
+/// "At most 2,048 nodes, nested at most 512 deep, with at most 512 different names and each label's proposition nested at most 64 in
+/// at most 8,192 code bytes", of "up to 65,536 bytes".
+#[derive(Clone, Copy, PartialEq, Eq, Debug)]
+pub struct Limits {
+    pub text: usize,
+    pub nodes: usize,
+    pub nesting: usize,
+    pub names: usize,
+    pub label_nesting: usize,
+    pub label_code: usize,
+}
+
+impl Default for Limits {
+    fn default() -> Self {
+        let (text, nodes, nesting) = (TEXT_BYTES, NODES, NESTING);
+        Limits { text, nodes, nesting, names: NAMES, label_nesting: PROP_NESTING, label_code: CODE }
+    }
+}
+
 /// The term, or none for 20.
 pub fn read(list: &[u8], text: &[u8]) -> Option<ProofTerm> {
-    if text.len() > TEXT_BYTES {
+    read_within(list, text, &Limits::default())
+}
+
+/// The term within some limits, or none.
+pub fn read_within(list: &[u8], text: &[u8], limits: &Limits) -> Option<ProofTerm> {
+    if text.len() > limits.text {
         return None;
     }
     let types = datatypes(list)?;
     let mut reader = Reader { rest: std::str::from_utf8(text).ok()?, types: &types, levels: LEVELS, bound: Vec::new() };
     let read = reader.term()?;
-    let again = reader.rest.is_empty() && within_limits(&read) && term(&read, strict).as_bytes() == text;
+    let again = reader.rest.is_empty() && is_within(&read, limits) && term(&read, strict).as_bytes() == text;
     again.then_some(read)
 }
 
@@ -291,13 +315,16 @@ fn own_names(t: &ProofTerm) -> Vec<&str> {
     }
 }
 
-fn within_limits(t: &ProofTerm) -> bool {
+fn is_within(t: &ProofTerm, limits: &Limits) -> bool {
     let mut names = HashSet::new();
-    nodes(t) <= NODES && nesting(t) <= NESTING && labels_fit(t, &mut names) && names.len() <= NAMES
+    nodes(t) <= limits.nodes
+        && nesting(t) <= limits.nesting
+        && labels_fit(t, limits, &mut names)
+        && names.len() <= limits.names
 }
 
 /// Each label's proposition "nested at most 64 in at most 8,192 code bytes"; collects the names of term and labels.
-fn labels_fit<'a>(t: &'a ProofTerm, names: &mut HashSet<&'a str>) -> bool {
+fn labels_fit<'a>(t: &'a ProofTerm, limits: &Limits, names: &mut HashSet<&'a str>) -> bool {
     names.extend(own_names(t));
     let fits = match label(t) {
         None => true,
@@ -305,11 +332,10 @@ fn labels_fit<'a>(t: &'a ProofTerm, names: &mut HashSet<&'a str>) -> bool {
             names.insert(name);
             true
         }
-        Some(Type::Prop(prop)) => {
-            measure(prop, names).is_some_and(|(nesting, code)| nesting <= PROP_NESTING && code <= CODE)
-        }
+        Some(Type::Prop(prop)) => measure(prop, names)
+            .is_some_and(|(nesting, code)| nesting <= limits.label_nesting && code <= limits.label_code),
     };
-    fits && parts(t).into_iter().all(|part| labels_fit(part, names))
+    fits && parts(t).into_iter().all(|part| labels_fit(part, limits, names))
 }
 
 /// Nesting and bytes of code; none where an atom has more parameters than code can have.

@@ -273,9 +273,9 @@ fn texts_of_every_kind() {
     deep(|| {
         let mut outcomes = BTreeMap::<TextKind, [usize; 2]>::new();
         texts(2, 15_000, 4, &mut |kind, text| {
-            let read = holds(&text.list, &text.text).unwrap();
-            outcomes.entry(kind).or_default()[read as usize] += 1;
-        });
+            holds(&text.list, &text.text).map(|read| outcomes.entry(kind).or_default()[read as usize] += 1)
+        })
+        .unwrap();
         println!("{outcomes:?}");
         let read = |kind: TextKind| outcomes[&kind][1];
         assert!(read(TextKind::Valid) > 14_000 && read(TextKind::Near) > 1000 && read(TextKind::Tokens) > 100);
@@ -297,7 +297,7 @@ fn the_limits_by_their_names() {
                 Some(count) if what.ends_with("parameters") => count <= 8,
                 Some(length) if what.contains("name of") || what.contains("atom of") => length <= 32,
                 Some(bytes) if what.ends_with(" bytes") => bytes <= TEXT_BYTES,
-                _ => !["again and again", "more bytes of code", "a bad name"].iter().any(|bad| what.contains(bad)),
+                _ => !["again and again", "a bad name"].iter().any(|bad| what.contains(bad)),
             };
             assert_eq!(read(&text.list, &text.text).is_some(), fits, "{what}");
         }

@@ -207,22 +207,23 @@ pub fn questions(bytes: &[u8], rng: &mut Rng) -> Vec<Asked> {
     all
 }
 
-/// Hands over questions of every kind: on sound sheets, such as are nearly sound, and others, and on judgements beside a sheet.
-pub fn asked(seed: u64, count: usize, see: &mut impl FnMut(Asked)) {
+/// Hands over questions of every kind, as long as that goes well: on judgements beside a sheet, on sheets that are nearly sound or
+/// sound, and on others, of those at the limits on every fifth.
+pub fn asked<E>(seed: u64, count: usize, see: &mut impl FnMut(Asked) -> Result<(), E>) -> Result<(), E> {
     let mut rng = Rng::new(seed, 5);
     for index in 0..count {
-        beside_and_near(seed, index, &mut rng, see);
+        (0..8).try_for_each(|_| see(beside(&mut rng)))?;
+        questions(&nearly_sound(seed, index), &mut rng).into_iter().try_for_each(&mut *see)?;
     }
     let kinds =
         [(Kind::Sound, count), (Kind::Random, count / 2), (Kind::Quantified, count / 4), (Kind::Damaged, count / 8)];
-    for (kind, count) in kinds.into_iter().chain([(Kind::Limits, 0)]) {
+    for (kind, count) in kinds {
         for (_, sheet) in Sheets::new(kind, seed, count).iter() {
-            questions(&sheet, &mut rng).into_iter().for_each(&mut *see);
+            questions(&sheet, &mut rng).into_iter().try_for_each(&mut *see)?;
         }
     }
-}
-
-fn beside_and_near(seed: u64, index: usize, rng: &mut Rng, see: &mut impl FnMut(Asked)) {
-    (0..8).for_each(|_| see(beside(rng)));
-    questions(&nearly_sound(seed, index), rng).into_iter().for_each(see);
+    for (_, sheet) in Sheets::new(Kind::Limits, seed, 0).iter().step_by(5) {
+        questions(&sheet, &mut rng).into_iter().try_for_each(&mut *see)?;
+    }
+    Ok(())
 }

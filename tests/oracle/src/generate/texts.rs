@@ -4,7 +4,7 @@ use crate::{
     reading::{TEXT_BYTES, WORDS},
     rng::Rng,
     sheet::{decode, NAME_BYTES, PARAMETERS},
-    terms::{every, Form},
+    terms::{every, nodes, part_at, replaced, Form},
     text::{strict, term},
     walk::export,
 };
@@ -177,12 +177,17 @@ fn scale(rng: &mut Rng) -> usize {
     rng.range(low, high)
 }
 
-/// The strict text of a random term. It is read unless it passes a limit.
-pub fn valid(rng: Rng) -> Text {
+/// A random term, and its datatypes.
+fn drawn(rng: Rng) -> (ProofTerm, Vec<u8>) {
     let mut drawing = Drawing::new(rng);
     let size = scale(&mut drawing.rng);
-    let text = term(&drawing.term(size), strict).into_bytes();
-    Text { list: drawing.list(), text }
+    (drawing.term(size), drawing.list())
+}
+
+/// The strict text of a random term. It is read unless it passes a limit.
+pub fn valid(rng: Rng) -> Text {
+    let (t, list) = drawn(rng);
+    Text { list, text: term(&t, strict).into_bytes() }
 }
 
 /// What is put into a text, or takes the place of a part of it.
@@ -296,25 +301,44 @@ const BAD_LISTS: [&[u8]; 14] = [
     b"m23456789012345678901234567890123",
 ];
 
+/// A name that no drawing has.
+const ELSEWHERE: &str = "Z0";
+
+/// The strict text of a term but for one part, which stands in brackets, or without those that it needs.
+fn misbracketed(t: &ProofTerm, rng: &mut Rng) -> String {
+    let node = rng.below(nodes(t));
+    let part = term(part_at(t, node), strict);
+    let around = term(&replaced(t, node, &Form::Ident(ELSEWHERE.into()).over(vec![])), strict);
+    let shown = if rng.chance(50) { format!("({part})") } else { part };
+    around.replacen(ELSEWHERE, &shown, 1)
+}
+
 /// A text that is near to one that is read, or a good text with a list that is none.
 pub fn mutated(mut rng: Rng) -> Text {
-    let mut text = valid(rng.fork());
-    while text.text.len() > 2000 {
-        text = valid(rng.fork());
+    let (mut t, mut list) = drawn(rng.fork());
+    while nodes(&t) > LARGE {
+        (t, list) = drawn(rng.fork());
     }
-    if rng.chance(4) {
-        text.list = rng.pick(&BAD_LISTS).to_vec();
-        return text;
+    if rng.chance(25) {
+        return Text { list, text: misbracketed(&t, &mut rng).into() };
     }
-    if rng.chance(10) {
+    let mut text = term(&t, strict).into_bytes();
+    match rng.below(40) {
+        0 | 1 => return Text { list: rng.pick(&BAD_LISTS).to_vec(), text },
+        2 => return Text { list, text: [b"(", &text[..], b")"].concat() },
+        3 => return Text { list, text: [&text[..], *rng.pick(&[&b" "[..], b"\n", b"\0", b"x"])].concat() },
         // Listed names are labels too: a lone name changes its meaning with the list.
-        text.list = [text.list, b"A".to_vec()].join(&b'\n').strip_prefix(b"\n").unwrap_or(b"A").to_vec();
+        4..=7 => list = [list, b"A".to_vec()].join(&b'\n').strip_prefix(b"\n").unwrap_or(b"A").to_vec(),
+        _ => {}
     }
     for _ in 0..rng.range(1, 3) {
-        change(&mut text.text, &mut rng);
+        change(&mut text, &mut rng);
     }
-    text
+    Text { list, text }
 }
+
+/// Terms of more nodes are as telling, and slower to read.
+const LARGE: usize = 100;
 
 /// Tokens in any order.
 pub fn soup(mut rng: Rng) -> Text {
@@ -359,8 +383,8 @@ fn small_forms() -> Vec<Form> {
 }
 
 /// Hands over every small term of so many nodes with its text.
-pub fn every_small(nodes: usize, see: &mut impl FnMut(ProofTerm, Text)) {
-    every(&small_forms(), nodes, &mut |t| {
+pub fn every_small(size: usize, see: &mut impl FnMut(ProofTerm, Text)) {
+    every(&small_forms(), size, &mut |t| {
         let text = Text::new("T", term(&t, strict));
         see(t, text);
     });
@@ -467,14 +491,11 @@ pub fn limits() -> Vec<(String, Text)> {
         add(&of("quantifiers"), "", format!("x: {}P(y)", "∀y:T. ".repeat(levels - 1)));
         add(&of("of a function"), "T", format!("fn x: {}T => x", "¬".repeat(levels - 1)));
     }
-    // 44 bytes of code for each wide atom, one for each ⊤ and each ∧; with 181 atoms 8,144 and 2 for each ⊤.
-    for tops in [23, 24] {
-        let leaves = [vec![wide(8); 181], vec!["⊤".into(); tops]].concat();
-        add(&format!("{} bytes of code", 8144 + 2 * tops), "", format!("x: {}", conjunction(&leaves)));
+    // 44 bytes of code for each wide atom, one for each ⊤ and each ∧.
+    for (atoms, tops) in [(181, 23), (180, 46), (181, 24), (180, 47), (181, 25)] {
+        let leaves = [vec![wide(8); atoms], vec!["⊤".into(); tops]].concat();
+        add(&format!("{} bytes of code", 45 * atoms + 2 * tops - 1), "", format!("x: {}", conjunction(&leaves)));
     }
-    let odd = |more: usize| [vec![wide(8); 181], vec!["¬⊤".into(); 1], vec!["⊤".into(); 22 + more]].concat();
-    add("code of an odd number of bytes", "", format!("x: {}", conjunction(&odd(0))));
-    add("more bytes of code than there may be", "", format!("x: {}", conjunction(&odd(1))));
     add("8 parameters", "", format!("x: {}", wide(8)));
     add("9 parameters", "", format!("x: {}", wide(9)));
     for length in [31, 32, 33] {
@@ -527,20 +548,34 @@ pub enum TextKind {
     Exported,
 }
 
-/// Hands over texts of every kind: those at the limits, every small one of at most `nodes` nodes, `count` each of valid texts, of
-/// near ones and of tokens in any order, and the terms of some sheets.
-pub fn texts(seed: u64, count: usize, nodes: usize, see: &mut impl FnMut(TextKind, Text)) {
-    limits().into_iter().for_each(|(_, text)| see(TextKind::Limit, text));
-    (1..=nodes).for_each(|size| every_small(size, &mut |_, text| see(TextKind::Small, text)));
+/// Hands over texts of every kind, as long as that goes well: those at the limits, every small one of at most `most` nodes, `count`
+/// each of valid texts, of near ones and of tokens in any order, and the terms of some sheets.
+pub fn texts<E>(
+    seed: u64,
+    count: usize,
+    most: usize,
+    see: &mut impl FnMut(TextKind, Text) -> Result<(), E>,
+) -> Result<(), E> {
+    limits().into_iter().try_for_each(|(_, text)| see(TextKind::Limit, text))?;
+    for size in 1..=most {
+        let mut seen = Ok(());
+        every_small(size, &mut |_, text| {
+            if seen.is_ok() {
+                seen = see(TextKind::Small, text);
+            }
+        });
+        seen?;
+    }
     for index in 0..count as u64 {
-        see(TextKind::Valid, valid(Rng::new(seed, index)));
-        see(TextKind::Near, mutated(Rng::new(!seed, index)));
-        see(TextKind::Tokens, soup(Rng::new(seed, index)));
+        see(TextKind::Valid, valid(Rng::new(seed, index)))?;
+        see(TextKind::Near, mutated(Rng::new(!seed, index)))?;
+        see(TextKind::Tokens, soup(Rng::new(seed, index)))?;
     }
     let kinds = [(Kind::Sound, count / 8), (Kind::Random, count / 4), (Kind::Quantified, count / 4), (Kind::Limits, 0)];
     for (kind, count) in kinds {
         for (_, sheet) in Sheets::new(kind, seed, count).iter() {
-            exported(&sheet).into_iter().for_each(|text| see(TextKind::Exported, text));
+            exported(&sheet).map_or(Ok(()), |text| see(TextKind::Exported, text))?;
         }
     }
+    Ok(())
 }
