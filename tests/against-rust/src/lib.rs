@@ -2,6 +2,7 @@
 pub mod call;
 pub mod difference;
 pub mod exercises;
+pub mod judgements;
 pub mod kinds;
 pub mod names;
 pub mod questions;
