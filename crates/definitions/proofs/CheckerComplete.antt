@@ -6,7 +6,7 @@ use mathlib.Core.Option.{Option, some}
 use Rattle.definitions.specs.Name.{Name}
 use Rattle.definitions.specs.Prop.{Prop, True, eqConnective, connectiveByte, asBinary}
 use Rattle.definitions.specs.Equal.{eqProp}
-use Rattle.definitions.specs.Term.{Label, ProofTerm}
+use Rattle.definitions.specs.Term.{Label, proposition, ProofTerm}
 use Rattle.definitions.specs.TermText.{nodes}
 use Rattle.definitions.specs.CheckingRules.{Context, LabelIs, Infers, Checks, infer-name, infer-unit, infer-fst, infer-snd, infer-application, infer-ascribed, infer-function, infer-pair, infer-case, check-function, check-pair, check-inl, check-inr, check-case, check-abort, check-sorry, check-inferred}
 use Rattle.definitions.specs.Checker.{Judged, derived, _>>=_, ensure, inScope, sidesIn, sides, labelled, labelIs, compared, inferNamed, checkNamed, inferApplication, inferAscribed, infer, check}
@@ -16,11 +16,11 @@ use Rattle.definitions.proofs.Equal.{eqProp-refl}
 label-same : (n : ℕ) (l : Option (Label Name)) (a : Prop Name) → LabelIs l a → labelIs n l a ≡ derived tt
 unfolding LabelIs labelIs ensure
 label-same n option.none a e = refl
-label-same n (some l) a e = rw (e, eqProp-refl a)
+label-same n (some l) a e = simp (e, eqProp-refl a)
 
 -- Whatever infers a proposition is found to infer it, and passes its own checked rule for it.
 mutual
-  unfolding infer check _>>=_ ensure inScope sides sidesIn asBinary eqConnective connectiveByte labelled labelIs compared inferNamed checkNamed inferApplication inferAscribed
+  unfolding infer check _>>=_ ensure inScope sides sidesIn asBinary eqConnective connectiveByte labelled LabelIs compared inferNamed checkNamed inferApplication inferAscribed
 
   pub infers-complete : {g : Context} {t : ProofTerm Name} {a : Prop Name} → Infers g t a
       → (n : ℕ) → (infer t g n ≡ derived a) × (check t g n a ≡ derived tt)
@@ -41,24 +41,24 @@ mutual
       (rw y, rw (y, eqProp-refl a))
   infers-complete (infer-function {a = a} d) n =
       let x = infers-complete d (n + 1) in
-      (rw (x .0), rw (eqProp-refl a, x .1))
+      (rw (x .0), rw (label-same n (some (proposition a)) a refl) (x .1))
   infers-complete (infer-pair {s = s} d e) n =
       let x = infers-complete d (n + 1) in
       let y = infers-complete e (n + 1 + nodes s) in
-      (rw (x .0, y .0), rw (x .1, y .1))
+      (rw (x .0, y .0), rw (x .1) (y .1))
   infers-complete (infer-case {h = h} {s = s} {c = c} d e f) n =
       let x = infers-complete d (n + 1) in
       let y = infers-complete e (n + 1 + nodes h) in
       let z = infers-complete f (n + 1 + nodes h + nodes s) in
-      (rw (x .0, y .0, z .0, eqProp-refl c), rw (x .0, y .1, z .1))
+      (rw (x .0, y .0, z .0, eqProp-refl c), rw (x .0, y .1) (z .1))
 
   pub checks-complete : {g : Context} {t : ProofTerm Name} {a : Prop Name} → Checks g t a → (n : ℕ) → check t g n a ≡ derived tt
-  checks-complete (check-function {l = l} {a = a} e d) n = rw (label-same n l a e, checks-complete d (n + 1))
-  checks-complete (check-pair {s = s} d e) n = rw (checks-complete d (n + 1), checks-complete e (n + 1 + nodes s))
-  checks-complete (check-inl d) n = rw (checks-complete d (n + 1))
-  checks-complete (check-inr d) n = rw (checks-complete d (n + 1))
+  checks-complete (check-function {l = l} {a = a} e d) n = rw (label-same n l a e) (checks-complete d (n + 1))
+  checks-complete (check-pair {s = s} d e) n = rw (checks-complete d (n + 1)) (checks-complete e (n + 1 + nodes s))
+  checks-complete (check-inl d) n = checks-complete d (n + 1)
+  checks-complete (check-inr d) n = checks-complete d (n + 1)
   checks-complete (check-case {h = h} {s = s} d e f) n =
-      rw (infers-complete d (n + 1) .0, checks-complete e (n + 1 + nodes h), checks-complete f (n + 1 + nodes h + nodes s))
-  checks-complete (check-abort d) n = rw (checks-complete d (n + 1))
+      rw (infers-complete d (n + 1) .0, checks-complete e (n + 1 + nodes h)) (checks-complete f (n + 1 + nodes h + nodes s))
+  checks-complete (check-abort d) n = checks-complete d (n + 1)
   checks-complete check-sorry n = refl
   checks-complete (check-inferred d) n = infers-complete d n .1
