@@ -1,18 +1,18 @@
 -- The node at which the rules stop is a node of the term.
 use Prim.Native.Nat.{ℕ, _+_, _≤_, _<_}
 use mathlib.Core.Bool.{Bool, true, false}
-use mathlib.Core.Path.{_≡_, refl}
+use mathlib.Core.Path.{_≡_}
 use mathlib.Core.Option as option
 use mathlib.Core.Option.{Option, some}
 use native.Mathlib.Omega.{arith}
 use Rattle.definitions.specs.Name.{Name}
-use Rattle.definitions.specs.Prop.{Prop, True, False, And, Impl, Connective, and, or, impl, eqConnective, Sides, asBinary}
+use Rattle.definitions.specs.Prop.{Prop, False, Connective, and, or, impl, eqConnective, Sides, asBinary}
 use Rattle.definitions.specs.Equal.{eqProp}
 use Rattle.definitions.specs.Term as term
 use Rattle.definitions.specs.Term.{Label, proposition, datatype, NamedFunction, fst, snd, inl, inr, abort, ProofTerm, Ident, Pair, Named, Function, Application, LetIn, Case, TypeAscription, Sorry}
 use Rattle.definitions.specs.TermText.{nodes}
 use Rattle.definitions.specs.CheckingRules.{Context, bind, lookup}
-use Rattle.definitions.specs.Checker.{Judged, derived, stopped, _>>=_, ensure, inScope, sidesIn, sides, labelled, labelIs, compared, inferNamed, checkNamed, inferApplication, inferAscribed, infer, check}
+use Rattle.definitions.specs.Checker.{Judged, _>>=_, ensure, inScope, sidesIn, sides, labelled, labelIs, compared, inferNamed, checkNamed, inferApplication, inferAscribed, infer, check}
 use Rattle.checker_laws.specs.Judgements.{Within, goes, stops}
 
 module _ {low high : ℕ} where

@@ -6,7 +6,7 @@ use mathlib.Core.Bool.{Bool, true, false, true≢false}
 use mathlib.Core.Option as option
 use mathlib.Core.Option.{Option, some}
 use Rattle.definitions.specs.Name.{Name}
-use Rattle.definitions.specs.Prop.{Prop, True, False, Binary, And, Or, Impl, Connective, and, or, impl, eqConnective, Sides, asBinary}
+use Rattle.definitions.specs.Prop.{Prop, True, False, Binary, And, Impl, Connective, and, or, impl, eqConnective, Sides, asBinary}
 use Rattle.definitions.specs.Equal.{eqProp}
 use Rattle.definitions.specs.Term as term
 use Rattle.definitions.specs.Term.{Label, proposition, datatype, NamedFunction, fst, snd, inl, inr, abort, ProofTerm, Ident, Pair, Named, Function, Application, LetIn, Case, TypeAscription, Sorry}

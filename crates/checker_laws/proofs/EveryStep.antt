@@ -8,14 +8,13 @@ use lib.ListN.{length, drop}
 use lib.Dec.{leb, eqb}
 use borrow.Author.Tests.{leb-false}
 use Rattle.definitions.specs.Outcome.{accepted}
-use Rattle.definitions.specs.Prop.{Prop}
 use Rattle.definitions.specs.Sheet.{ruleByte, names, steps, propositions, propositionPairs, codeBytes, stepRecords, stepNumber, premissCount}
 use Rattle.definitions.specs.Tree as tree
 use Rattle.definitions.specs.Tree.{ProofTreeConclusion, PropIsTrue, TypeJudgement, Step, ProofTree, over, Premisses, _and_, rules, lastTrees, propIn, identifierIn, conclusionIn, stepIn, stepOver, treesBefore, treeIn, propOf, treeOf, rootOf}
 use Rattle.definitions.specs.Admission.{notZero, badPropIsTrue, badTypeJudgement, identifiers, badConclusion, badColumn, badIdentifier, badStep, admitted}
 use Rattle.definitions.proofs.Either.{neither}
 use Rattle.definitions.proofs.Lowest.{all-fail}
-use Rattle.writer_laws.proofs.Checks.{Checks, admitted-checks, in-range}
+use Rattle.writer_laws.proofs.Checks.{admitted-checks, in-range}
 
 -- every step of a tree
 abbrev mutual

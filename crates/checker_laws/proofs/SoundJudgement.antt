@@ -1,20 +1,18 @@
 -- On a sound sheet the checker answers yes to the sheet's own term against each number of the root's proposition, from no hypotheses.
 use Prim.Native.Nat.{ℕ, _-_, _<_}
 use native.Mathlib.Omega.{arith}
-use mathlib.Core.Path.{_≡_, refl, sym, ap, _∙_}
-use mathlib.Core.Bool.{Bool, true, false, _&&_, cond, true≢false, and-eq-true-iff}
-use mathlib.Core.Option as option
-use mathlib.Core.Option.{Option, some}
+use mathlib.Core.Path.{_≡_, sym, ap, _∙_}
+use mathlib.Core.Bool.{Bool, true, false, cond, true≢false, and-eq-true-iff}
 use mathlib.Core.List.{List, []}
 use borrow.Author.Tests.{lt-leb}
-use Rattle.definitions.specs.Outcome.{Outcome, accepted, refuse, _>>=_, mapOutcome, refuseIf}
+use Rattle.definitions.specs.Outcome.{accepted, refuse, _>>=_, refuseIf}
 use Rattle.definitions.specs.Name.{Name}
-use Rattle.definitions.specs.Prop.{Prop, True, False, Binary, Atom, Quantified, impl, eqConnective, forAll, eqQuantifier, asBinary, asQuantified, renameProp}
-use Rattle.definitions.specs.Sheet.{names, propositions, steps, propositionPairs, codeBytes, stepRecords, stepNumber, nameOf}
+use Rattle.definitions.specs.Prop.{Prop, True, False, Binary, Atom, Quantified, impl, eqConnective, asBinary, asQuantified}
+use Rattle.definitions.specs.Sheet.{propositions, steps, stepRecords, stepNumber, nameOf}
 use Rattle.definitions.specs.Tree as tree
-use Rattle.definitions.specs.Tree.{ProofTreeConclusion, PropIsTrue, TypeJudgement, Step, ProofTree, over, Premisses, _and_, renameConclusion, renameStep, renameTree, renamePremisses, conclusionIn, stepIn, stepOver, treeIn, treeOf, rootOf, propOf}
+use Rattle.definitions.specs.Tree.{ProofTreeConclusion, PropIsTrue, TypeJudgement, Step, ProofTree, over, Premisses, _and_, renameConclusion, renameStep, renameTree, renamePremisses, stepIn, stepOver, treeIn, treeOf, rootOf, propOf}
 use Rattle.definitions.specs.Admission.{admitted}
-use Rattle.definitions.specs.Term.{Label, proposition, ProofTerm, renameTerm}
+use Rattle.definitions.specs.Term.{Label, proposition, ProofTerm}
 use Rattle.definitions.specs.Export.{checking, export, leftLabel, implicationLabel, datatypeLabel, universalLabel, ascriptionLabel}
 use Rattle.definitions.specs.Answers.{sheetTerm, namedTerm}
 use Rattle.definitions.specs.Checker.{derived}

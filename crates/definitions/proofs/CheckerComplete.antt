@@ -5,11 +5,10 @@ use mathlib.Core.Option as option
 use mathlib.Core.Option.{Option, some}
 use Rattle.definitions.specs.Name.{Name}
 use Rattle.definitions.specs.Prop.{Prop, True, eqConnective, connectiveByte, asBinary}
-use Rattle.definitions.specs.Equal.{eqProp}
 use Rattle.definitions.specs.Term.{Label, proposition, ProofTerm}
 use Rattle.definitions.specs.TermText.{nodes}
 use Rattle.definitions.specs.CheckingRules.{Context, LabelIs, Infers, Checks, infer-name, infer-unit, infer-fst, infer-snd, infer-application, infer-ascribed, infer-function, infer-pair, infer-case, check-function, check-pair, check-inl, check-inr, check-case, check-abort, check-sorry, check-inferred}
-use Rattle.definitions.specs.Checker.{Judged, derived, _>>=_, ensure, inScope, sidesIn, sides, labelled, labelIs, compared, inferNamed, checkNamed, inferApplication, inferAscribed, infer, check}
+use Rattle.definitions.specs.Checker.{derived, _>>=_, ensure, inScope, sidesIn, sides, labelled, labelIs, compared, inferNamed, checkNamed, inferApplication, inferAscribed, infer, check}
 use Rattle.definitions.proofs.Equal.{eqProp-refl}
 
 -- a label that equals the proposition

@@ -4,10 +4,9 @@ use mathlib.Core.Bool.{Bool, true, false, _&&_, true≢false, and-eq-true-iff}
 use lib.Dec.{eqb}
 use borrow.Author.Tests.{eqb-true, eq-eqb}
 use Rattle.definitions.specs.Name.{Name, eqName}
-use Rattle.definitions.specs.Prop.{Prop}
 use Rattle.definitions.specs.Tree.{Identifier, ProofTreeConclusion, PropIsTrue, TypeJudgement}
 use Rattle.definitions.specs.Comparison.{eqIdentifier}
-use Rattle.definitions.specs.Equal.{eqProp, eqConclusion}
+use Rattle.definitions.specs.Equal.{eqConclusion}
 use Rattle.definitions.proofs.Names.{eqName-refl, eqName-true}
 use Rattle.definitions.proofs.Equal.{eqProp-true, eqProp-refl}
 
