@@ -1,5 +1,6 @@
 pub mod CheckerSound
 pub mod CheckerNodes
+pub mod Answered
 pub mod EveryStep
 pub mod Checkable
 pub mod SoundJudgement
