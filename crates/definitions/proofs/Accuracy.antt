@@ -18,6 +18,7 @@ use Rattle.definitions.specs.Accuracy.{Accurate}
 use Rattle.definitions.proofs.Renaming.{export-same, annotationCount-same, inferringTally-same}
 use Rattle.definitions.proofs.Labelling.{labels-counted}
 use Rattle.definitions.proofs.Exporting.{exports, check}
+use Rattle.definitions.proofs.CheckerComplete.{checks-complete}
 use Rattle.definitions.proofs.Conventions.{deduced-shadowing}
 
 -- an outcome whose changed value is accepted was accepted
@@ -46,6 +47,7 @@ accuracy s d =
       heading = λ v. heading v (x .term) (goalProp s);
       texts = λ version v e style room h. rw e (in-room room (sheetText s v style) _ (rw (d .isAdmitted, isTerm)) h);
       isAccepted = check (x .accepts);
+      judged = checks-complete (check (x .accepts)) 0;
       labels = x .result .labelled;
       count =
           rw (d .isAdmitted, numbered .1)

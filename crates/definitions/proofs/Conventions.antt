@@ -55,6 +55,11 @@ deduced-shadowing s d =
       deduction = widen nothing (d .deduction);
     }
 
+-- it is of the same proposition
+pub same-prop : (s : List ℕ) (d : Deduced documented s) → d .prop ≡ deduced-shadowing s d .prop
+unfolding deduced-shadowing
+same-prop s d = refl
+
 -- a deduction is of its root's own conclusion
 pub concludes : {v : Convention} {hs : Hypotheses} {z : Step Name} {ps : Premisses Name} {a : Prop Name}
     → Deduction v hs (over z ps) a → z .conclusion ≡ PropIsTrue a

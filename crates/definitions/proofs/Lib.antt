@@ -9,6 +9,7 @@ pub mod Names
 pub mod NameOrder
 pub mod Connectives
 pub mod Views
+pub mod Equal
 pub mod Readings
 pub mod PrefixCode
 pub mod Verdicts
@@ -19,6 +20,7 @@ pub mod Renaming
 pub mod Labelling
 pub mod Exporting
 pub mod Conventions
+pub mod CheckerComplete
 pub mod Accuracy
 pub mod Versions
 pub mod Drawings
@@ -26,3 +28,4 @@ pub mod TermDrawings
 pub mod SoundDrawing
 pub mod Collections
 pub mod GraftDrawings
+pub mod CheckerDrawings

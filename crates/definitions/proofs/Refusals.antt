@@ -42,7 +42,7 @@ module _ {Kind : Refusal → Type 0} {A B : Type 0} where
   changed f is-accepted = is-accepted
 
 module _ {Kind : Refusal → Type 0} where
-  refusal : {A : Type 0} (number place : ℕ) → Kind (record { number = number; place = place }) → Meets Kind {A = A} (refuse number place)
+  pub refusal : {A : Type 0} (number place : ℕ) → Kind (record { number = number; place = place }) → Meets Kind {A = A} (refuse number place)
   unfolding refuse
   refusal number place h = is-refused h
 
@@ -71,7 +71,7 @@ pub refused-kind : {Kind : Refusal → Type 0} {A : Type 0} {o : Outcome A} {r :
 refused-kind is-accepted e = let no : _≡_ {A = ℕ} 0 1 = cc in absurd (omega arith)
 refused-kind {r = r} (is-refused {r = x} h) e = let same : x ≡ r = cc in rw same at h
 
-widened : {Kind Wide : ℕ → Type 0} → ((number : ℕ) → Kind number → Wide number) → {A : Type 0} {o : Outcome A} → Uses Kind o → Uses Wide o
+pub widened : {Kind Wide : ℕ → Type 0} → ((number : ℕ) → Kind number → Wide number) → {A : Type 0} {o : Outcome A} → Uses Kind o → Uses Wide o
 widened wide (is-refused {r = r} h) = is-refused (wide (r .number) h)
 widened wide is-accepted = is-accepted
 

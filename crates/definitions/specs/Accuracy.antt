@@ -14,6 +14,7 @@ use Rattle.definitions.specs.Export.{checking}
 use Rattle.definitions.specs.Display.{displayTerm}
 use Rattle.definitions.specs.Answers.{namedTerm, versionOf, textAnswer, labelCount}
 use Rattle.definitions.specs.CheckingRules.{Checks}
+use Rattle.definitions.specs.Checker.{derived, check}
 use Rattle.definitions.specs.Labels.{Labelled, inferringTally, total}
 use Rattle.definitions.specs.Sound.{Deduced, shadowing}
 
@@ -28,6 +29,8 @@ pub record Accurate (s : List ℕ) (d : Deduced shadowing s) : Type 0 where
       → textAnswer s version style room ≡ accepted (heading v ++ displayTerm style term)
   -- the checking rules accept the term for the root's proposition, from no hypotheses
   pub isAccepted : Checks [] term (d .prop)
+  -- and the checker answers yes (document 02, ticket 5)
+  pub judged : check term [] 0 (d .prop) ≡ derived tt
   -- it has exactly one label for each injection, abort, sorry and function in an inferring place, none elsewhere
   pub labels : Labelled checking (renameTree (nameOf s) (d .root)) term
   -- the label count is injections + aborts + sorries + functions over the steps in inferring places

@@ -26,7 +26,9 @@ pub mod NameIndex
 pub mod TermText
 pub mod TermReader
 pub mod CheckingRules
+pub mod Checker
 pub mod Sound
+pub mod CheckAnswers
 pub mod Labels
 pub mod Accuracy
 pub mod Assemble
@@ -36,3 +38,4 @@ pub mod Graft
 pub mod Drawings
 pub mod GraftDrawings
 pub mod TermDrawings
+pub mod CheckerDrawings

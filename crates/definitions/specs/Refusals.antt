@@ -1,5 +1,5 @@
 -- Which refusals a question can meet. Document 01, "Refusals in checking order"; document 02, ticket 7, for 18, ticket 3, for
--- 21, ticket 9, for 23 to 25, and ticket 13, for 29 and 30.
+-- 21, ticket 9, for 23 to 25, ticket 13, for 29 and 30, and ticket 5, for 22 and 31.
 use Prim.Native.Nat.{ℕ, _≤_}
 use mathlib.Core.Path.{_≡_}
 use mathlib.Core.Logic.{_⊎_}
@@ -34,3 +34,11 @@ OfRestatement number = Between 1 11 number ⊎ (number ≡ 16 ⊎ (number ≡ 19
 -- an exercise uses 16, 29 and 30 only
 abbrev pub OfExercise : ℕ → Type 0
 OfExercise number = number ≡ 16 ⊎ (number ≡ 29 ⊎ number ≡ 30)
+
+-- the judgement of a sheet's own term uses 1 to 15, 22 and 31 only
+abbrev pub OfSheetJudgement : ℕ → Type 0
+OfSheetJudgement number = Between 1 15 number ⊎ (number ≡ 22 ⊎ number ≡ 31)
+
+-- that of a term read beside a sheet uses 1 to 11, 16, 20, 22 and 31 only
+abbrev pub OfBesideJudgement : ℕ → Type 0
+OfBesideJudgement number = Between 1 11 number ⊎ (number ≡ 16 ⊎ (number ≡ 20 ⊎ (number ≡ 22 ⊎ number ≡ 31)))

@@ -101,7 +101,7 @@ nodeLimit = 2048
 unfoldable pub termNestingLimit : ℕ
 termNestingLimit = 512
 
-unfoldable pub nodes : ProofTerm Name → ℕ
+unfoldable pub nodes : {N : Type 0} → ProofTerm N → ℕ
 nodes (Ident x) = 1
 nodes (Pair a b) = 1 + (nodes a + nodes b)
 nodes (Named f a) = 1 + nodes a

@@ -19,7 +19,7 @@ use Rattle.definitions.proofs.PrefixCode.{encode-injective}
 use Rattle.name_index_laws.specs.Answered.{LowestNumber, is-lowest, there-is-none}
 use Rattle.name_index_laws.proofs.PlainSearch.{plain-search-lowest}
 use Rattle.graft_laws.specs.Numbers.{mergedNumber, hostNumber}
-use Rattle.graft_laws.proofs.Equal.{eqProp-true, eqProp-refl}
+use Rattle.definitions.proofs.Equal.{eqProp-true, eqProp-refl}
 use Rattle.graft_laws.proofs.MergedNames.{length-merged, renumbered-right}
 use Rattle.graft_laws.proofs.MergedNumbers.{host-at}
 use Rattle.graft_laws.proofs.MergedSheet.{rename-twice, codable-renamed}
