@@ -339,3 +339,159 @@ fn nodes_are_counted_before_their_parts() {
     }
     assert_eq!(nodes(&term), 10);
 }
+
+/// An expression of the definitions' tables: a word or a text, applied to others.
+#[derive(Clone, Debug)]
+struct Expression {
+    word: String,
+    over: Vec<Expression>,
+}
+
+/// The expressions of a row, one for each of its arguments.
+fn expressions(row: &str) -> Vec<Expression> {
+    let (mut stack, mut chars) = (vec![vec![]], row.chars().peekable());
+    while let Some(c) = chars.next() {
+        let word: String = match c {
+            ' ' => continue,
+            '(' => {
+                stack.push(vec![]);
+                continue;
+            }
+            ')' => {
+                let mut group: Vec<Expression> = stack.pop().unwrap();
+                let mut head = group.remove(0);
+                head.over.extend(group);
+                stack.last_mut().unwrap().push(head);
+                continue;
+            }
+            '"' => chars.by_ref().take_while(|c| *c != '"').collect(),
+            _ => {
+                let mut word = String::from(c);
+                while let Some(more) = chars.next_if(|c| !" ()".contains(*c)) {
+                    word.push(more);
+                }
+                word
+            }
+        };
+        stack.last_mut().unwrap().push(Expression { word, over: vec![] });
+    }
+    stack.pop().unwrap()
+}
+
+impl Expression {
+    fn prop(&self) -> Prop {
+        let part = |k: usize| self.over[k].prop().boxed();
+        match self.word.as_str() {
+            "True" => Prop::True,
+            "And" => Prop::And(part(0), part(1)),
+            "Or" => Prop::Or(part(0), part(1)),
+            "Impl" => Prop::Impl(part(0), part(1)),
+            name @ ("A" | "B") => Prop::Atom(name.into(), vec![]),
+            other => panic!("a proposition {other}"),
+        }
+    }
+
+    /// `fn`, `fnOf` and `caseOf` bind u, and u and z.
+    fn term(&self) -> ProofTerm {
+        let label = |over: &Expression| match over.word.as_str() {
+            "proposition" => Type::Prop(over.over[0].prop()),
+            _ => Type::Prop(over.prop()),
+        };
+        let (u, z) = (String::from("u"), String::from("z"));
+        let (form, parts) = match (self.word.as_str(), &self.over[..]) {
+            ("Sorry", []) => (Form::Sorry, vec![]),
+            ("term.Unit", []) => (Form::Unit, vec![]),
+            ("u" | "z", []) => (Form::Ident(self.word.clone()), vec![]),
+            ("fn", [body]) => (Form::Function(u, None), vec![body]),
+            ("fnOf", [prop, body]) => (Form::Function(u, Some(label(prop))), vec![body]),
+            ("OrLeft", [body]) => (Form::Inl, vec![body]),
+            ("ProjectFst", [body]) => (Form::Fst, vec![body]),
+            ("Abort", [body]) => (Form::Abort, vec![body]),
+            ("Pair", [fst, snd]) => (Form::Pair, vec![fst, snd]),
+            ("Application", [function, argument]) => (Form::Application, vec![function, argument]),
+            ("TypeAscription", [body, prop]) => (Form::Ascription(label(prop)), vec![body]),
+            ("caseOf", [left, right]) => {
+                let head = Expression { word: "u".into(), over: vec![] };
+                let parts = vec![head.term(), left.term(), right.term()];
+                return Form::Case(u, z).over(parts);
+            }
+            (other, _) => panic!("a term {other}"),
+        };
+        form.over(parts.into_iter().map(Expression::term).collect())
+    }
+
+    /// `yes`, or `no` at a node.
+    fn verdict(&self) -> Verdict {
+        match (self.word.as_str(), &self.over[..]) {
+            ("yes", []) => Yes,
+            ("no", [node]) => No(node.word.parse().unwrap()),
+            (other, _) => panic!("a verdict {other}"),
+        }
+    }
+}
+
+/// The definitions' own tables, which their checker is shown to answer: judgements, and questions about sheets.
+#[test]
+fn the_tables_of_the_definitions() {
+    let table = concat!(env!("CARGO_MANIFEST_DIR"), "/../../crates/definitions/specs/CheckerDrawings.antt");
+    let table = std::fs::read_to_string(table).unwrap();
+    let rows = || table.lines().map(|line| line.trim_start().trim_start_matches("∷ "));
+    let (mut judgings, mut askings) = (0, 0);
+    for row in
+        rows().filter_map(|row| row.strip_prefix("judging ")).filter(|row| row.contains(' ') && !row.contains('='))
+    {
+        let [term, scope, wanted, answer] = &expressions(row)[..] else { panic!("{row}") };
+        let scope = scope.over.first().map(|prop| ("u".to_string(), prop.prop()));
+        assert_eq!(check(&Vec::from_iter(scope), &term.term(), &wanted.prop()), answer.verdict(), "{row}");
+        judgings += 1;
+    }
+    for row in rows().filter_map(|row| row.strip_prefix("asking ")).filter(|row| !row.contains(" = record")) {
+        let sheet = asked_sheet(row.split(' ').next().unwrap());
+        let texts: Vec<&str> = row.split('"').skip(1).step_by(2).collect();
+        let (judged, short) = match texts[..] {
+            [list, text] => (Judged::Read { list: list.as_bytes(), text: text.as_bytes() }, row.contains("\" true)")),
+            _ => (Judged::Own, false),
+        };
+        let after = row.rsplit_once('"').map_or(row, |(_, after)| after.split_once(')').unwrap().1);
+        let after = after.strip_prefix(row.split(' ').next().unwrap()).unwrap_or(after).trim_start();
+        let numbers = |text: &str| -> Vec<usize> {
+            text.split(|c: char| !c.is_ascii_digit()).filter_map(|number| number.parse().ok()).collect()
+        };
+        let (hypotheses, rest) = after.split_once("[]").unwrap();
+        let hypotheses: Vec<u16> = numbers(hypotheses).into_iter().map(|number| number as u16).collect();
+        let rest = numbers(rest);
+        let expected = match (row.contains("(refuse "), &rest[..]) {
+            (true, [_, number, place]) => refuse(*number as u8, *place),
+            (false, [_]) => Ok(Yes),
+            (false, [_, node]) => Ok(No(*node)),
+            _ => panic!("{row}"),
+        };
+        let said = judge(&sheet, judged, &hypotheses, rest[0]);
+        let said = if short && said.is_ok() { refuse(16, 0) } else { said };
+        assert_eq!(said, expected, "{row}");
+        askings += 1;
+    }
+    assert_eq!((judgings, askings), (20, 26));
+}
+
+/// A sheet that the table asks, by its name.
+fn asked_sheet(name: &str) -> Vec<u8> {
+    let bound = Formula::Atom(2, vec![Parameter::Uninstantiated(3)]);
+    let identified = Formula::Atom(0, vec![Parameter::Instantiated(1, 1)]);
+    match name {
+        "second" => oracle::draw::second().bytes(),
+        "named" => {
+            let names = ["A", "B", "P", "x", "u", "u", "T"];
+            let props = [atom(0), atom(1), forall(3, 6, bound)];
+            plain(&names, &props, &[step(rule::IDENT, 0, &[4], 0)]).bytes()
+        }
+        "identified" => {
+            let props = [identified.clone(), and(identified, Formula::True)];
+            let steps = [step(rule::SORRY, 0, &[], 1), step(rule::AND_ELIM_FST, 1, &[], 0)];
+            plain(&["P", "x"], &props, &steps).bytes()
+        }
+        "alphaEquivalentAlone" => plain(&[], &[Formula::True], &[step(rule::ALPHA, 0, &[], 0)]).bytes(),
+        "[]" => vec![],
+        other => panic!("a sheet {other}"),
+    }
+}
