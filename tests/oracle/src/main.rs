@@ -35,7 +35,7 @@ const USAGE: &str = "usage:
   oracle texts --seed N --count M --nodes K
   oracle questions --seed N --count M
   oracle sound DIR
-  oracle list --seed N --out FILE
+  oracle list --seed N --out FILE [--terms]
   oracle contexts --seed N --out FILE
 KIND: sound random quantified damaged limits worst slowest";
 
@@ -107,7 +107,9 @@ fn run() -> i32 {
             print_questions(number(option(rest, "--seed")), number(option(rest, "--count")))
         }
         ["sound", dir] => print_sound(dir),
-        ["list", ref rest @ ..] => write_list(number(option(rest, "--seed")), option(rest, "--out")),
+        ["list", ref rest @ ..] => {
+            write_list(number(option(rest, "--seed")), rest.contains(&"--terms"), option(rest, "--out"))
+        }
         ["contexts", ref rest @ ..] => write_contexts(number(option(rest, "--seed")), option(rest, "--out")),
         _ => usage(),
     }
@@ -343,11 +345,11 @@ fn print_sound(dir: &str) -> i32 {
     0
 }
 
-fn write_list(seed: u64, file: &str) -> i32 {
-    match list(seed) {
+fn write_list(seed: u64, terms: bool, file: &str) -> i32 {
+    match list(seed, terms) {
         Ok(list) => {
-            let List { sheets, names, indexed, restated, questions, bytes } = list;
-            println!("{sheets} sheets, {names} lists of names, {indexed} sheets with an index, {restated} with restatements, {questions} questions, {} bytes", bytes.len());
+            let List { sheets, names, indexed, restated, texts, judged, questions, bytes } = list;
+            println!("{sheets} sheets, {names} lists of names, {indexed} sheets with an index, {restated} with restatements, {texts} texts, {judged} sheets with judgements, {questions} questions, {} bytes", bytes.len());
             fs::write(file, bytes).unwrap();
             0
         }
