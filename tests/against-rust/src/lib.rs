@@ -10,3 +10,4 @@ pub mod readings;
 pub mod restatements;
 pub mod shrink;
 pub mod tally;
+pub mod terms;
