@@ -85,7 +85,7 @@ enum skriduhol_refusal {
     /* 0: two uninstantiated parameters meet with neither bound on its side */
     SKRIDUHOL_REFUSED_UNBOUND_PARAMETER = 19,
     /* 0: no term within the limits, or more than one, has the text as its strict text, or a listed datatype is no admitted name */
-    SKRIDUHOL_REFUSED_TEXT = 20,
+    SKRIDUHOL_REFUSED_NO_TERM = 20,
     /* 0: the version of the handout is outside 1 to 3 */
     SKRIDUHOL_REFUSED_VERSION = 21,
     /* 0: the term, a hypothesis or the proposition holds a quantifier, an uninstantiated parameter, a let or a datatype label */

@@ -83,20 +83,20 @@ pub mod reading {
 
     extern "C" {
         fn skriduhol_read_term(
-            datatypes: *const u8,
-            datatypes_length: usize,
             text: *const u8,
             text_length: usize,
+            types: *const u8,
+            types_length: usize,
             records: *mut u16,
-            record_room: usize,
+            records_room: usize,
             names: *mut u8,
-            name_room: usize,
+            names_room: usize,
             code: *mut u8,
             code_room: usize,
             value: *mut usize,
+            column: *mut usize,
             name_count: *mut usize,
             code_length: *mut usize,
-            column: *mut usize,
         ) -> u8;
     }
 
@@ -108,10 +108,10 @@ pub mod reading {
         let (mut values, mut column) = ([UNSAID; 3], UNSAID);
         let [nodes, name_count, code_length] = &mut values;
         let number = skriduhol_read_term(
-            list.as_ptr(),
-            list.len(),
             text.as_ptr(),
             text.len(),
+            list.as_ptr(),
+            list.len(),
             records,
             room.records,
             names,
@@ -119,9 +119,9 @@ pub mod reading {
             code,
             room.code,
             nodes,
+            &mut column,
             name_count,
             code_length,
-            &mut column,
         );
         Told { number, values, column }
     }
