@@ -26,10 +26,12 @@ impl Told {
     }
 }
 
-/// The checker that is asked: of a question, and of the room for the term that is read, if one is.
+/// The checker that is asked.
 #[derive(Clone, Copy)]
 pub struct Library {
     pub judge: fn(&Question) -> Told,
+    /// Whether it also checks terms that are read beside a sheet.
+    pub beside: bool,
 }
 
 #[derive(Clone, Default, PartialEq, Eq, Debug)]
@@ -69,6 +71,9 @@ impl Library {
 pub fn compare(library: &Library, seed: u64, count: usize) -> Result<Asked, String> {
     let mut all = Asked::default();
     asked(seed, count, &mut |question| {
+        if question.read.is_some() && !library.beside {
+            return Ok(());
+        }
         all.questions += 1;
         match judge(&question.sheet, question.judged(), &question.hypotheses, question.prop) {
             Ok(Verdict::Yes) => all.yes += 1,

@@ -15,6 +15,7 @@ pub mod judging {
             node: *mut usize,
             column: *mut usize,
         ) -> u8;
+        #[cfg(feature = "judge_text")]
         fn skriduhol_judge_text(
             sheet: *const u8,
             sheet_length: usize,
@@ -37,19 +38,14 @@ pub mod judging {
     fn judge(asked: &Asked) -> Told {
         let Asked { sheet, read, hypotheses, prop } = asked;
         let (mut value, mut node, mut column) = (UNSAID, UNSAID, UNSAID);
+        let (hypotheses, count) = (hypotheses.as_ptr(), hypotheses.len());
+        let told: [*mut usize; 3] = [&mut value, &mut node, &mut column];
+        let [said, stopped, drawn] = told;
         // SAFETY: all that is given and the three numbers outlive the calls.
         let number = unsafe {
             match read {
-                None => skriduhol_judge(
-                    sheet.as_ptr(),
-                    sheet.len(),
-                    hypotheses.as_ptr(),
-                    hypotheses.len(),
-                    *prop,
-                    &mut value,
-                    &mut node,
-                    &mut column,
-                ),
+                None => skriduhol_judge(sheet.as_ptr(), sheet.len(), hypotheses, count, *prop, said, stopped, drawn),
+                #[cfg(feature = "judge_text")]
                 Some(beside) => skriduhol_judge_text(
                     sheet.as_ptr(),
                     sheet.len(),
@@ -57,13 +53,15 @@ pub mod judging {
                     beside.list.len(),
                     beside.text.as_ptr(),
                     beside.text.len(),
-                    hypotheses.as_ptr(),
-                    hypotheses.len(),
+                    hypotheses,
+                    count,
                     *prop,
-                    &mut value,
-                    &mut node,
-                    &mut column,
+                    said,
+                    stopped,
+                    drawn,
                 ),
+                #[cfg(not(feature = "judge_text"))]
+                Some(_) => unreachable!("no term beside a sheet is asked for"),
             }
         };
         let verdict = match (number, value, node) {
@@ -71,10 +69,16 @@ pub mod judging {
             (0, 0, node) => Some(Verdict::No(node)),
             _ => None,
         };
-        Told { number, verdict, place: if number == 0 { 0 } else { value }, column }
+        // A refusal has no node: another number in its place is no place either.
+        let place = match (number, node) {
+            (0, _) => 0,
+            (_, 0) => value,
+            _ => UNSAID,
+        };
+        Told { number, verdict, place, column }
     }
 
-    pub const LIBRARY: Library = Library { judge };
+    pub const LIBRARY: Library = Library { judge, beside: cfg!(feature = "judge_text") };
 }
 
 #[cfg(feature = "read_term")]

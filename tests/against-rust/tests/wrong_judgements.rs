@@ -342,7 +342,7 @@ fn wrong(question: &Question) -> Result<Verdict, Refusal> {
     })
 }
 
-const LIBRARY: Library = Library { judge: |question| Told::of(&wrong(question)) };
+const LIBRARY: Library = Library { judge: |question| Told::of(&wrong(question)), beside: true };
 
 #[test]
 fn every_wrong_checker_is_found() {
