@@ -44,7 +44,7 @@ extern "C" {
 
    Texts and lists use 1 to 16, those of the handout 21 too, the label count 1 to 15, a comparison 1 to 11, 17 and 19, a
    restatement 1 to 11, 23, 24, 19 or 25, and 16, a graft the host's 1 to 11, the donor's, 26, 27, 28 and 16, an exercise 29, 30
-   and 16, an index of names 1 to 11, and a search in one 1 to 3.
+   and 16, an index of names 1 to 11, and a search in one 1 to 3. No function gives 20, 22 or 31 yet.
    16 is tried last. It does not say how much room is missing: most answers fit 65,536 elements, but a text can pass 88 million
    bytes and a list 3 million numbers. */
 enum skriduhol_refusal {
@@ -86,8 +86,12 @@ enum skriduhol_refusal {
     SKRIDUHOL_REFUSED_PARAMETER_COUNT = 18,
     /* 0: two uninstantiated parameters meet with neither bound on its side */
     SKRIDUHOL_REFUSED_UNBOUND_PARAMETER = 19,
+    /* 0: no term within the limits, or more than one, has the text as its strict text, or a listed datatype is no admitted name */
+    SKRIDUHOL_REFUSED_NO_TERM = 20,
     /* 0: the version of the handout is outside 1 to 3 */
     SKRIDUHOL_REFUSED_VERSION = 21,
+    /* 0: the term, a hypothesis or the proposition holds a quantifier, an uninstantiated parameter, a let or a datatype label */
+    SKRIDUHOL_REFUSED_UNCHECKABLE = 22,
     /* 0: the given conclusion or column breaks the rules of a step */
     SKRIDUHOL_REFUSED_GIVEN = 23,
     /* 0: there are already 1,024 steps or 256 levels */
@@ -103,7 +107,9 @@ enum skriduhol_refusal {
     /* 0: the names of an exercise are too many, repeated or malformed, or its number of connectives passes 3 */
     SKRIDUHOL_REFUSED_EXERCISE = 29,
     /* 0: the ordinal of an exercise is past the end */
-    SKRIDUHOL_REFUSED_ORDINAL = 30
+    SKRIDUHOL_REFUSED_ORDINAL = 30,
+    /* 0: a number of the hypotheses or of the proposition is not the sheet's, or a last name has no proposition */
+    SKRIDUHOL_REFUSED_JUDGED_NUMBER = 31
 };
 
 /* Whose a refusal of a graft is. */

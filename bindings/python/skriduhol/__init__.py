@@ -60,7 +60,9 @@ REFUSALS: Final[dict[int, tuple[str, str]]] = {
     17: ("0", "a comparison names a step that the sheet has not"),
     18: ("0", "does not occur: two atoms of one name with different parameter counts are a no"),
     19: ("0", "two uninstantiated parameters meet with neither bound on its side"),
+    20: ("0", "no term within the limits, or more than one, has the text as its strict text, or a listed datatype is no admitted name"),
     21: ("0", "the version of the handout is outside 1 to 3"),
+    22: ("0", "the term, a hypothesis or the proposition holds a quantifier, an uninstantiated parameter, a let or a datatype label"),
     23: ("0", "the given conclusion or column breaks the rules of a step"),
     24: ("0", "there are already 1,024 steps or 256 levels"),
     25: ("0", "the root's conclusion and the given one are not alpha equal"),
@@ -69,6 +71,7 @@ REFUSALS: Final[dict[int, tuple[str, str]]] = {
     28: ("0", "the merged sheet passes a limit of the sheet"),
     29: ("0", "the names of an exercise are too many, repeated or malformed, or its number of connectives passes 3"),
     30: ("0", "the ordinal of an exercise is past the end"),
+    31: ("0", "a number of the hypotheses or of the proposition is not the sheet's, or a last name has no proposition"),
 }
 """Of each refusal what its place counts (0 for nothing) and its reason."""
 

@@ -82,6 +82,6 @@ pub fn compare(library: &Library, kind: Kind, seed: u64, count: usize, threads: 
 }
 
 /// Runs on a deep stack.
-fn deep<T: Send>(run: impl FnOnce() -> T + Send) -> T {
+pub fn deep<T: Send>(run: impl FnOnce() -> T + Send) -> T {
     thread::scope(|scope| thread::Builder::new().stack_size(STACK).spawn_scoped(scope, run).unwrap().join().unwrap())
 }

@@ -1,7 +1,7 @@
 //! The command line: `run` beside this folder builds the library and starts it.
 use against_rust::{call::Library, exercises, grafts, kinds, names, restatements, tally::Table};
 use oracle::{exercise::Exercises, generate::Kind};
-use std::{process::exit, str::FromStr, thread, time::Instant};
+use std::{fmt, process::exit, str::FromStr, thread, time::Instant};
 
 #[link(name = "skriduhol_c", kind = "static")]
 extern "C" {
@@ -188,6 +188,17 @@ fn arguments() -> Arguments {
     arguments
 }
 
+/// Says what was asked, or what differs and ends.
+fn report<T: fmt::Display + Send>(what: &str, compare: impl FnOnce() -> Result<T, String> + Send) {
+    match kinds::deep(compare) {
+        Ok(asked) => println!("{asked}"),
+        Err(difference) => {
+            println!("DIFFERENCE in {what}{difference}");
+            exit(1)
+        }
+    }
+}
+
 fn main() {
     let Arguments { seed, count, kind: only, threads } = arguments();
     let mut tallies = Vec::new();
@@ -209,26 +220,14 @@ fn main() {
         false => println!("Refusals that did not occur: {missing:?}"),
     }
     if only.is_none() {
-        let asked = exercises::compare(&LIBRARY, &Exercises::default(), seed).unwrap_or_else(|difference| {
-            println!("DIFFERENCE in an {difference}");
-            exit(1)
-        });
-        println!("{asked}");
-        let asked = names::compare(&NAMES, seed, count).unwrap_or_else(|difference| {
-            println!("DIFFERENCE in {difference}");
-            exit(1)
-        });
-        println!("{asked}");
-        let asked = restatements::compare(&RESTATING, seed, count).unwrap_or_else(|difference| {
-            println!("DIFFERENCE in a restatement: {difference}");
-            exit(1)
-        });
-        println!("{asked}");
-        let asked = grafts::compare(&GRAFTING, seed, count, threads).unwrap_or_else(|difference| {
-            println!("DIFFERENCE in a graft: {difference}");
-            exit(1)
-        });
-        println!("{asked}");
+        report("an ", || exercises::compare(&LIBRARY, &Exercises::default(), seed));
+        report("", || names::compare(&NAMES, seed, count));
+        #[cfg(feature = "read_term")]
+        report("", || against_rust::readings::compare(&against_rust::terms::reading::LIBRARY, seed, count, 5));
+        #[cfg(feature = "judge")]
+        report("", || against_rust::judgements::compare(&against_rust::terms::judging::LIBRARY, seed, count / 4));
+        report("a restatement: ", || restatements::compare(&RESTATING, seed, count));
+        report("a graft: ", || grafts::compare(&GRAFTING, seed, count, threads));
     }
     println!("No difference.");
     if only.is_none() && count >= COUNT && !missing.is_empty() {

@@ -1,8 +1,11 @@
 //! Sheets by kind. Four kinds are random, one sheet for each seed and index; the others are fixed lists.
 mod arbitrary;
+pub mod asked;
 mod damaged;
 mod draft;
+pub mod judgements;
 mod sound;
+pub mod texts;
 mod variant;
 
 use crate::{limits, rng::Rng, sheet::Layout, worst};

@@ -1,6 +1,7 @@
 //! An oracle for proof boards: document 01 beside the original Rust.
 pub mod answer;
 pub mod context;
+pub mod derivations;
 pub mod draw;
 pub mod exercise;
 pub mod formula;
@@ -8,8 +9,10 @@ pub mod generate;
 pub mod graft;
 pub mod grafts;
 pub mod index;
+pub mod judging;
 pub mod limits;
 pub mod list;
+pub mod memory;
 pub mod reading;
 pub mod reference;
 pub mod restate;
@@ -17,6 +20,7 @@ pub mod rng;
 pub mod sheet;
 pub mod sound;
 pub mod splice;
+pub mod terms;
 pub mod text;
 pub mod tree;
 pub mod walk;

@@ -3,10 +3,16 @@
 use crate::{
     answer::{examine, Answer, Examined, Finding, Question, VERSIONS},
     exercise::{bad_names, count_names, good_names, Exercise, Exercises, CONNECTIVES, TOO_MANY},
-    generate::{Kind, Sheets},
+    generate::{
+        asked::{self, Asked},
+        texts::{self, Text},
+        Kind, Sheets,
+    },
     graft::{graft, Refused},
     grafts::{fixed, random, Graft},
     index::{find_name, name_index, searches, sheets, FREE, SLOTS},
+    judging::{judge, Verdict},
+    memory::{read_into, Room, RECORD},
     restate::{givens, restate, Given},
     rng::Rng,
     sheet::{decode, Refusal, BOARD_ROOM, CODE, HEADER_BYTES, NAMES, PAIR_BYTES, PROPS, STEPS, STEP_BYTES, TEXT},
@@ -35,8 +41,20 @@ pub const FIND_NAME: u8 = 12;
 pub const RESTATE: u8 = 13;
 /// The kind of a question on a graft.
 pub const GRAFT: u8 = 14;
+/// The kinds of questions on a text that is read, on a sheet's own term that is judged, and on one that is read beside it.
+pub const READ_TERM: u8 = 15;
+pub const JUDGE: u8 = 16;
+pub const JUDGE_BESIDE: u8 = 17;
+/// What stands for a yes where a no has its node.
+pub const YES: usize = 65_535;
 /// So many of a sheet's names are asked for.
 const FOUND: usize = 12;
+/// So many texts of each random kind, judgements beside a sheet, and sheets of each kind that are judged.
+const TEXTS: usize = 60;
+const JUDGED_BESIDE: usize = 120;
+const JUDGED: usize = 40;
+/// The longest text that is read or judged.
+const TEXT_BYTES: usize = 400;
 
 #[derive(Default)]
 pub struct List {
@@ -50,11 +68,14 @@ pub struct List {
     pub restated: usize,
     /// Entries of a host and a donor.
     pub grafted: usize,
+    /// Entries that are texts, and entries that are judged.
+    pub texts: usize,
+    pub judged: usize,
     pub questions: usize,
 }
 
-/// The list, which depends on the seed alone.
-pub fn list(seed: u64) -> Result<List, Finding> {
+/// The list, which depends on the seed alone, and on whether texts and judgements of terms are in it.
+pub fn list(seed: u64, terms: bool) -> Result<List, Finding> {
     let mut list = List::default();
     let mut rng = Rng::new(seed, 0);
     for (_, sheet) in Sheets::new(Kind::Limits, 0, 0).iter().filter(|(_, sheet)| sheet.len() <= LONGEST_SHEET) {
@@ -84,7 +105,10 @@ pub fn list(seed: u64) -> Result<List, Finding> {
     for asked in grafts(seed) {
         list.add_grafts(&asked, &mut rng);
     }
-    let entries = list.sheets + list.names + list.indexed + list.restated + list.grafted;
+    if terms {
+        list.add_terms(seed, &mut rng);
+    }
+    let entries = list.sheets + list.names + list.indexed + list.restated + list.grafted + list.texts + list.judged;
     list.bytes.splice(0..0, (entries as u32).to_le_bytes());
     Ok(list)
 }
@@ -327,6 +351,100 @@ impl List {
                 }
             }
         }
+    }
+
+    /// Adds texts, and then judgements.
+    fn add_terms(&mut self, seed: u64, rng: &mut Rng) {
+        let small = |text: &Text| text.text.len() <= TEXT_BYTES && text.list.len() <= TEXT_BYTES;
+        let drawn = (0..TEXTS as u64).flat_map(|index| {
+            let of = |offset: u64| Rng::new(seed, 1000 * offset + index);
+            [texts::valid(of(1)), texts::mutated(of(2)), texts::soup(of(3))]
+        });
+        let fixed = texts::limits().into_iter().map(|(_, text)| text);
+        for text in fixed.chain(drawn).filter(small) {
+            self.add_text(&text, rng);
+        }
+        for _ in 0..JUDGED_BESIDE {
+            let asked = asked::beside(rng);
+            self.add_judgements(&asked.sheet.clone(), &[asked]);
+        }
+        for index in 0..JUDGED {
+            let of = |kind: Kind| Sheets::new(kind, seed, index + 1).get(index).1;
+            for sheet in [of(Kind::Sound), asked::nearly_sound(seed, index), of(Kind::Quantified)] {
+                let fits = |asked: &Asked| asked.read.as_ref().is_none_or(small) && asked.hypotheses.len() < 256;
+                let all: Vec<Asked> = asked::questions(&sheet, rng).into_iter().filter(fits).collect();
+                if sheet.len() <= SMALL_BYTES {
+                    self.add_judgements(&sheet, &all);
+                }
+            }
+        }
+    }
+
+    /// Adds a text that is read in exactly enough room, in one part too little of it, and in more.
+    fn add_text(&mut self, Text { list, text }: &Text, rng: &mut Rng) {
+        let mut rooms = vec![Room { records: rng.below(40), names: rng.below(40), code: rng.below(40) }];
+        if let Ok(memory) = read_into(list, text, None) {
+            let room = memory.room();
+            let Room { records, names, code } = room;
+            rooms = vec![room, Room { records: records + 7, names: names + 4, code: code + 3 }];
+            rooms.push(match rng.below(3) {
+                0 if code > 0 => Room { code: code - 1, ..room },
+                1 if names > 0 => Room { names: names - 1, ..room },
+                _ => Room { records: records - 1, ..room },
+            });
+        }
+        self.texts += 1;
+        self.add_entry(text, rooms.len());
+        for room in rooms {
+            self.bytes.push(READ_TERM);
+            self.bytes.extend((list.len() as u16).to_le_bytes());
+            self.bytes.extend(list);
+            self.bytes.extend([room.records, room.names, room.code].map(|lent| (lent as u32).to_le_bytes()).concat());
+            match read_into(list, text, Some(room)) {
+                Err(refusal) => self.add_answer(&Err(refusal)),
+                Ok(memory) => {
+                    self.add_answer(&Ok(Answer::Count(memory.records.len() / RECORD)));
+                    self.bytes.extend((memory.names.len() as u16 / 4).to_le_bytes());
+                    self.bytes.extend((memory.code.len() as u32).to_le_bytes());
+                    self.bytes.extend(memory.records.iter().flat_map(|number| number.to_le_bytes()));
+                    self.bytes.extend(memory.names);
+                    self.bytes.extend(memory.code.iter().map(|byte| byte.unwrap_or(0)));
+                }
+            }
+        }
+    }
+
+    /// Adds a sheet with judgements.
+    fn add_judgements(&mut self, sheet: &[u8], all: &[Asked]) {
+        self.judged += 1;
+        self.add_entry(sheet, all.len());
+        for asked in all {
+            match &asked.read {
+                None => self.bytes.push(JUDGE),
+                Some(Text { list, text }) => {
+                    self.bytes.push(JUDGE_BESIDE);
+                    for part in [list, text] {
+                        self.bytes.extend((part.len() as u16).to_le_bytes());
+                        self.bytes.extend(part);
+                    }
+                }
+            }
+            self.bytes.push(asked.hypotheses.len() as u8);
+            self.bytes.extend(asked.hypotheses.iter().flat_map(|number| number.to_le_bytes()));
+            self.bytes.extend((asked.prop as u64).to_le_bytes());
+            let judged = judge(sheet, asked.judged(), &asked.hypotheses, asked.prop);
+            self.add_answer(&judged.map(|verdict| match verdict {
+                Verdict::Yes => Answer::Count(YES),
+                Verdict::No(node) => Answer::Count(node),
+            }));
+        }
+    }
+
+    fn add_entry(&mut self, bytes: &[u8], questions: usize) {
+        self.questions += questions;
+        self.bytes.extend((bytes.len() as u32).to_le_bytes());
+        self.bytes.extend(bytes);
+        self.bytes.push(questions as u8);
     }
 
     fn add_answer(&mut self, answer: &Result<Answer, Refusal>) {

@@ -1,13 +1,25 @@
 //! The command line. `README.md` says how each command is used.
+use alice::kernel::{proof_term::ProofTerm, prop::Prop};
 use oracle::{
     answer::{examine, Answer, Examined, Question},
     context,
+    derivations::agrees,
     exercise::{count_names, Exercises, CONNECTIVES},
-    generate::{Kind, Sheets},
+    generate::{
+        asked::{asked, Asked},
+        judgements::{every_small, judgement, small_props, small_scopes, Judgement},
+        texts::{texts, Text, TextKind},
+        Kind, Sheets,
+    },
+    judging::{judge, Hypothesis, Verdict},
     list::{list, list_grafts, List},
+    memory::holds,
+    reading,
     rng::Rng,
     sheet::{decode, Refusal},
     sound,
+    terms::nodes,
+    text::{strict, term as term_text},
 };
 use std::{collections::BTreeMap, fs, io::Write, process::exit, str::FromStr, thread};
 
@@ -19,8 +31,11 @@ const USAGE: &str = "usage:
   oracle generate --kind KIND [--seed N --count M] --out DIR
   oracle compare --kind KIND [--seed N --count M]
   oracle accuracy --seed N --count M
+  oracle judgements --seed N --count M --nodes K
+  oracle texts --seed N --count M --nodes K
+  oracle questions --seed N --count M
   oracle sound DIR
-  oracle list --seed N --out FILE
+  oracle list --seed N --out FILE [--terms]
   oracle grafts --seed N --count M --out FILE
   oracle contexts --seed N --out FILE
 KIND: sound random quantified damaged limits worst slowest";
@@ -81,8 +96,21 @@ fn run() -> i32 {
         ["generate", ref rest @ ..] => generate(&sheets(rest), option(rest, "--out")),
         ["compare", ref rest @ ..] => compare(&sheets(rest)),
         ["accuracy", ref rest @ ..] => accuracy(&random_sheets(Kind::Sound, rest)),
+        ["judgements", ref rest @ ..] => {
+            let [seed, count, nodes] = ["--seed", "--count", "--nodes"].map(|name| option(rest, name));
+            judgements(number(seed), number(count), number(nodes))
+        }
+        ["texts", ref rest @ ..] => {
+            let [seed, count, nodes] = ["--seed", "--count", "--nodes"].map(|name| option(rest, name));
+            read_texts(number(seed), number(count), number(nodes))
+        }
+        ["questions", ref rest @ ..] => {
+            print_questions(number(option(rest, "--seed")), number(option(rest, "--count")))
+        }
         ["sound", dir] => print_sound(dir),
-        ["list", ref rest @ ..] => write_list(number(option(rest, "--seed")), option(rest, "--out")),
+        ["list", ref rest @ ..] => {
+            write_list(number(option(rest, "--seed")), rest.contains(&"--terms"), option(rest, "--out"))
+        }
         ["grafts", ref rest @ ..] => {
             let list = list_grafts(number(option(rest, "--seed")), number(option(rest, "--count")));
             println!("{} grafts, {} bytes", list.grafted, list.bytes.len());
@@ -240,6 +268,77 @@ fn accuracy(sheets: &Sheets) -> i32 {
     findings.code()
 }
 
+/// The checker beside a search over the rules, on every term of at most so many nodes and on so many random judgements.
+fn judgements(seed: u64, count: u64, nodes: usize) -> i32 {
+    let (mut derived, mut others, mut findings) = (0usize, 0usize, 0);
+    let mut ask = |scope: &[Hypothesis], term: &ProofTerm, wanted: Option<&Prop>| match agrees(scope, term, wanted) {
+        Ok(true) => derived += 1,
+        Ok(false) => others += 1,
+        Err(finding) => {
+            findings += 1;
+            println!("FINDING: {scope:?} |- {} : {wanted:?}: {finding}", term_text(term, strict));
+        }
+    };
+    let (scopes, props) = (small_scopes(), small_props());
+    for size in 1..=nodes {
+        every_small(size, &mut |term| {
+            for scope in &scopes {
+                [None].into_iter().chain(props.iter().map(Some)).for_each(|wanted| ask(scope, &term, wanted));
+            }
+        });
+    }
+    for index in 0..count {
+        let mut rng = Rng::new(seed, index);
+        let (budget, changes) = (rng.range(1, 24), rng.below(4));
+        let Judgement { hypotheses, term, prop } = judgement(rng, budget, changes);
+        ask(&hypotheses, &term, Some(&prop));
+    }
+    println!("{derived:9} derived\n{others:9} not derived\n{findings:9} findings");
+    (findings > 0) as i32 * 3
+}
+
+/// Reads texts of every kind, and counts those of each that are read and refused.
+fn read_texts(seed: u64, count: usize, nodes: usize) -> i32 {
+    let mut outcomes = BTreeMap::<TextKind, [usize; 2]>::new();
+    let found = texts(seed, count, nodes, &mut |kind, text| {
+        holds(&text.list, &text.text).map(|read| outcomes.entry(kind).or_default()[read as usize] += 1)
+    });
+    for (kind, [refused, read]) in &outcomes {
+        println!("{read:9} read {refused:9} refused {kind:?}");
+    }
+    match found {
+        Ok(()) => 0,
+        Err(finding) => {
+            println!("FINDING: {finding}");
+            3
+        }
+    }
+}
+
+/// Texts and judgements with their answers, a line each, as `tests/terms` reads them.
+fn print_questions(seed: u64, count: usize) -> i32 {
+    let mut out = std::io::BufWriter::new(std::io::stdout());
+    let hex = |bytes: &[u8]| bytes.iter().map(|byte| format!("{byte:02x}")).collect::<String>();
+    let printed = texts(seed, count, 3, &mut |_, Text { list, text }| {
+        let answer = reading::read(&list, &text).map_or("refused 20 at 0".into(), |t| format!("{} nodes", nodes(&t)));
+        writeln!(out, "text,{},{},{answer}", hex(&list), hex(&text))
+    });
+    let printed = printed.and_then(|()| {
+        asked(seed, count / 4, &mut |question| {
+            let Asked { sheet, read, hypotheses, prop } = &question;
+            let answer = match judge(sheet, question.judged(), hypotheses, *prop) {
+                Ok(Verdict::Yes) => "yes".into(),
+                Ok(Verdict::No(node)) => format!("no at {node}"),
+                Err(refusal) => refusal.to_string(),
+            };
+            let (list, text) = read.as_ref().map_or(("own".into(), String::new()), |t| (hex(&t.list), hex(&t.text)));
+            let numbers: Vec<String> = hypotheses.iter().map(u16::to_string).collect();
+            writeln!(out, "judge,{},{list},{text},{prop},{},{answer}", hex(sheet), numbers.join(" "))
+        })
+    });
+    printed.and_then(|()| out.flush()).is_err() as i32
+}
+
 /// Of each sheet in a folder, by name, whether it is sound.
 fn print_sound(dir: &str) -> i32 {
     let mut files: Vec<_> =
@@ -253,11 +352,11 @@ fn print_sound(dir: &str) -> i32 {
     0
 }
 
-fn write_list(seed: u64, file: &str) -> i32 {
-    match list(seed) {
+fn write_list(seed: u64, terms: bool, file: &str) -> i32 {
+    match list(seed, terms) {
         Ok(list) => {
-            let List { sheets, names, indexed, restated, grafted, questions, bytes } = list;
-            println!("{sheets} sheets, {names} lists of names, {indexed} sheets with an index, {restated} with restatements, {grafted} pairs for grafts, {questions} questions, {} bytes", bytes.len());
+            let List { sheets, names, indexed, restated, grafted, texts, judged, questions, bytes } = list;
+            println!("{sheets} sheets, {names} lists of names, {indexed} sheets with an index, {restated} with restatements, {grafted} pairs for grafts, {texts} texts, {judged} sheets with judgements, {questions} questions, {} bytes", bytes.len());
             fs::write(file, bytes).unwrap();
             0
         }

@@ -2,6 +2,7 @@
 //! read is printed again: it is the term of that text where the two agree byte for byte, and no other text is taken.
 use crate::{
     sheet::{admitted as formed, CODE, NAMES, NAME_BYTES, PARAMETERS, PROP_NESTING},
+    terms::{label, nesting, nodes, parts},
     text::{strict, term},
 };
 use alice::kernel::{
@@ -16,7 +17,7 @@ pub const NODES: usize = 2048;
 pub const NESTING: usize = 512;
 
 /// "Names are those of document 01 except" these.
-const WORDS: [&str; 11] = ["fn", "case", "of", "inl", "inr", "let", "in", "fst", "snd", "abort", "sorry"];
+pub const WORDS: [&str; 11] = ["fn", "case", "of", "inl", "inr", "let", "in", "fst", "snd", "abort", "sorry"];
 
 /// A term within the limits takes fewer levels of brackets, functions, cases and lets than this.
 const LEVELS: usize = 4096;
@@ -34,15 +35,39 @@ pub fn datatypes(list: &[u8]) -> Option<Vec<String>> {
     names.map(|name| name.map(String::from)).collect()
 }
 
+/// "At most 2,048 nodes, nested at most 512 deep, with at most 512 different names and each label's proposition nested at most 64 in
+/// at most 8,192 code bytes", of "up to 65,536 bytes".
+#[derive(Clone, Copy, PartialEq, Eq, Debug)]
+pub struct Limits {
+    pub text: usize,
+    pub nodes: usize,
+    pub nesting: usize,
+    pub names: usize,
+    pub label_nesting: usize,
+    pub label_code: usize,
+}
+
+impl Default for Limits {
+    fn default() -> Self {
+        let (text, nodes, nesting) = (TEXT_BYTES, NODES, NESTING);
+        Limits { text, nodes, nesting, names: NAMES, label_nesting: PROP_NESTING, label_code: CODE }
+    }
+}
+
 /// The term, or none for 20.
 pub fn read(list: &[u8], text: &[u8]) -> Option<ProofTerm> {
-    if text.len() > TEXT_BYTES {
+    read_within(list, text, &Limits::default())
+}
+
+/// The term within some limits, or none.
+pub fn read_within(list: &[u8], text: &[u8], limits: &Limits) -> Option<ProofTerm> {
+    if text.len() > limits.text {
         return None;
     }
     let types = datatypes(list)?;
     let mut reader = Reader { rest: std::str::from_utf8(text).ok()?, types: &types, levels: LEVELS, bound: Vec::new() };
     let read = reader.term()?;
-    let again = reader.rest.is_empty() && within_limits(&read) && term(&read, strict).as_bytes() == text;
+    let again = reader.rest.is_empty() && is_within(&read, limits) && term(&read, strict).as_bytes() == text;
     again.then_some(read)
 }
 
@@ -279,54 +304,38 @@ impl Reader<'_> {
     }
 }
 
-/// The parts of a term, its own names in the text's order, and its label.
-fn taken_apart(t: &ProofTerm) -> (Vec<&ProofTerm>, Vec<&str>, Option<&Type>) {
+/// The names that a term has itself, without its parts' and its label's.
+fn own_names(t: &ProofTerm) -> Vec<&str> {
     match t {
-        ProofTerm::Sorry(_) | ProofTerm::Unit(_) => (vec![], vec![], None),
-        ProofTerm::Ident(Ident(name, _)) => (vec![], vec![name], None),
-        ProofTerm::Pair(Pair(fst, snd, _)) => (vec![fst, snd], vec![], None),
-        ProofTerm::Function(f) => (vec![&f.body], vec![&f.param_ident], f.param_type.as_ref()),
-        ProofTerm::Application(a) => (vec![&a.function, &a.applicant], vec![], None),
-        ProofTerm::LetIn(l) => (vec![&l.head, &l.body], vec![&l.fst_ident, &l.snd_ident], None),
-        ProofTerm::Case(c) => (vec![&c.head, &c.fst_term, &c.snd_term], vec![&c.fst_ident, &c.snd_ident], None),
-        ProofTerm::TypeAscription(a) => (vec![&a.proof_term], vec![], Some(&a.ascription)),
-        ProofTerm::ProjectFst(ProjectFst(body, _))
-        | ProofTerm::ProjectSnd(ProjectSnd(body, _))
-        | ProofTerm::OrLeft(OrLeft(body, _))
-        | ProofTerm::OrRight(OrRight(body, _))
-        | ProofTerm::Abort(Abort(body, _)) => (vec![body], vec![], None),
+        ProofTerm::Ident(Ident(name, _)) => vec![name],
+        ProofTerm::Function(f) => vec![&f.param_ident],
+        ProofTerm::LetIn(l) => vec![&l.fst_ident, &l.snd_ident],
+        ProofTerm::Case(c) => vec![&c.fst_ident, &c.snd_ident],
+        _ => vec![],
     }
 }
 
-fn within_limits(t: &ProofTerm) -> bool {
+fn is_within(t: &ProofTerm, limits: &Limits) -> bool {
     let mut names = HashSet::new();
-    nodes(t) <= NODES && nesting(t) <= NESTING && labels_fit(t, &mut names) && names.len() <= NAMES
-}
-
-pub fn nodes(t: &ProofTerm) -> usize {
-    1 + taken_apart(t).0.into_iter().map(nodes).sum::<usize>()
-}
-
-/// "A leaf nests 1."
-pub fn nesting(t: &ProofTerm) -> usize {
-    1 + taken_apart(t).0.into_iter().map(nesting).max().unwrap_or(0)
+    nodes(t) <= limits.nodes
+        && nesting(t) <= limits.nesting
+        && labels_fit(t, limits, &mut names)
+        && names.len() <= limits.names
 }
 
 /// Each label's proposition "nested at most 64 in at most 8,192 code bytes"; collects the names of term and labels.
-fn labels_fit<'a>(t: &'a ProofTerm, names: &mut HashSet<&'a str>) -> bool {
-    let (parts, own, label) = taken_apart(t);
-    names.extend(own);
-    let fits = match label {
+fn labels_fit<'a>(t: &'a ProofTerm, limits: &Limits, names: &mut HashSet<&'a str>) -> bool {
+    names.extend(own_names(t));
+    let fits = match label(t) {
         None => true,
         Some(Type::Datatype(name)) => {
             names.insert(name);
             true
         }
-        Some(Type::Prop(prop)) => {
-            measure(prop, names).is_some_and(|(nesting, code)| nesting <= PROP_NESTING && code <= CODE)
-        }
+        Some(Type::Prop(prop)) => measure(prop, names)
+            .is_some_and(|(nesting, code)| nesting <= limits.label_nesting && code <= limits.label_code),
     };
-    fits && parts.into_iter().all(|part| labels_fit(part, names))
+    fits && parts(t).into_iter().all(|part| labels_fit(part, limits, names))
 }
 
 /// Nesting and bytes of code; none where an atom has more parameters than code can have.
@@ -413,13 +422,12 @@ fn clear_prop(prop: &mut Prop) {
 /// and its datatype labels are listed, uninstantiated parameters are bound, and no instantiated one stands under a
 /// quantifier of its name". The text's length is asked by itself.
 pub fn restorable(t: &ProofTerm, types: &[String]) -> bool {
-    let (parts, own, label) = taken_apart(t);
-    own.into_iter().all(admitted)
-        && label.map_or(true, |label| match label {
+    own_names(t).into_iter().all(admitted)
+        && label(t).map_or(true, |label| match label {
             Type::Datatype(name) => admitted(name) && types.contains(name),
             Type::Prop(prop) => plain_prop(prop, types, &mut Vec::new()),
         })
-        && parts.into_iter().all(|part| restorable(part, types))
+        && parts(t).into_iter().all(|part| restorable(part, types))
 }
 
 fn plain_prop<'a>(prop: &'a Prop, types: &[String], bound: &mut Vec<&'a str>) -> bool {

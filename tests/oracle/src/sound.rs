@@ -1,5 +1,6 @@
-//! Demand 3 on sound sheets: document 01's "Sound", its checking rules, and where labels sit.
+//! Demand 3 on sound sheets: document 01's "Sound", and where labels sit. That the term is accepted is `judging`'s answer.
 use crate::{
+    judging::{check, Verdict},
     sheet::{rule, Sheet, Step},
     walk::{place, row, Export, Label, Place},
 };
@@ -77,83 +78,6 @@ fn sound_step(sheet: &Sheet, props: &[Prop], i: usize, scope: &mut Scope) -> Res
     Ok(())
 }
 
-/// Hypotheses of a judgement, the latest last.
-type Context<'a> = Vec<(&'a str, Prop)>;
-
-fn under<'a, T>(context: &mut Context<'a>, name: &'a str, prop: &Prop, run: impl FnOnce(&mut Context<'a>) -> T) -> T {
-    context.push((name, prop.clone()));
-    let result = run(context);
-    context.pop();
-    result
-}
-
-pub fn infer<'a>(context: &mut Context<'a>, term: &'a ProofTerm) -> Option<Prop> {
-    match term {
-        ProofTerm::Ident(Ident(name, _)) => context.iter().rev().find(|(n, _)| n == name).map(|(_, p)| p.clone()),
-        ProofTerm::Unit(_) => Some(Prop::True),
-        ProofTerm::ProjectFst(ProjectFst(body, _)) => match infer(context, body)? {
-            Prop::And(l, _) => Some(*l),
-            _ => None,
-        },
-        ProofTerm::ProjectSnd(ProjectSnd(body, _)) => match infer(context, body)? {
-            Prop::And(_, r) => Some(*r),
-            _ => None,
-        },
-        ProofTerm::Application(Application { function, applicant, .. }) => match infer(context, function)? {
-            Prop::Impl(l, r) => check(context, applicant, &l).then_some(*r),
-            _ => None,
-        },
-        ProofTerm::TypeAscription(TypeAscription { proof_term, ascription: Type::Prop(prop), .. }) => {
-            check(context, proof_term, prop).then(|| prop.clone())
-        }
-        ProofTerm::Function(Function { param_ident, param_type: Some(Type::Prop(left)), body, .. }) => {
-            let right = under(context, param_ident, left, |context| infer(context, body))?;
-            Some(Prop::Impl(left.boxed(), right.boxed()))
-        }
-        ProofTerm::Pair(Pair(fst, snd, _)) => {
-            Some(Prop::And(infer(context, fst)?.boxed(), infer(context, snd)?.boxed()))
-        }
-        ProofTerm::Case(Case { head, fst_ident, fst_term, snd_ident, snd_term, .. }) => match infer(context, head)? {
-            Prop::Or(l, r) => {
-                let fst = under(context, fst_ident, &l, |context| infer(context, fst_term))?;
-                let snd = under(context, snd_ident, &r, |context| infer(context, snd_term))?;
-                (fst == snd).then_some(fst)
-            }
-            _ => None,
-        },
-        _ => None,
-    }
-}
-
-/// A form with a checked rule of its own needs no second try by inference: whatever infers also
-/// checks part by part.
-pub fn check<'a>(context: &mut Context<'a>, term: &'a ProofTerm, prop: &Prop) -> bool {
-    match (term, prop) {
-        (ProofTerm::Function(Function { param_ident, param_type, body, .. }), Prop::Impl(l, r)) => {
-            let label = match param_type {
-                None => true,
-                Some(Type::Prop(label)) => *label == **l,
-                Some(Type::Datatype(_)) => false,
-            };
-            label && under(context, param_ident, l, |context| check(context, body, r))
-        }
-        (ProofTerm::Pair(Pair(fst, snd, _)), Prop::And(l, r)) => check(context, fst, l) && check(context, snd, r),
-        (ProofTerm::OrLeft(OrLeft(body, _)), Prop::Or(l, _)) => check(context, body, l),
-        (ProofTerm::OrRight(OrRight(body, _)), Prop::Or(_, r)) => check(context, body, r),
-        (ProofTerm::Case(Case { head, fst_ident, fst_term, snd_ident, snd_term, .. }), _) => match infer(context, head)
-        {
-            Some(Prop::Or(l, r)) => {
-                under(context, fst_ident, &l, |context| check(context, fst_term, prop))
-                    && under(context, snd_ident, &r, |context| check(context, snd_term, prop))
-            }
-            _ => false,
-        },
-        (ProofTerm::Abort(Abort(body, _)), _) => check(context, body, &Prop::False),
-        (ProofTerm::Sorry(_), _) => true,
-        _ => infer(context, term).is_some_and(|inferred| inferred == *prop),
-    }
-}
-
 /// Walks steps and term side by side: a label must sit on the term of a step exactly when the
 /// step is an injection, an abort, a sorry or a function in an inferring place. Gives their sum.
 fn labels(sheet: &Sheet, i: usize, own: Place, term: &ProofTerm) -> Result<usize, String> {
@@ -203,8 +127,8 @@ fn labels(sheet: &Sheet, i: usize, own: Place, term: &ProofTerm) -> Result<usize
 /// Demand 3 for one sound sheet and what was exported of it.
 pub fn accurate(sheet: &Sheet, export: &Export) -> Result<(), String> {
     let root = sheet.prop(sheet.concluded(sheet.root()).unwrap());
-    if !check(&mut vec![], &export.term, &root) {
-        return Err("the term is not accepted for the root's proposition".into());
+    if let Verdict::No(node) = check(&[], &export.term, &root) {
+        return Err(format!("the term is not accepted for the root's proposition: the rules stop at node {node}"));
     }
     let sum = labels(sheet, sheet.root(), Place::Checking, &export.term)?;
     if sum != export.labels {

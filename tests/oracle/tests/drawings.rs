@@ -4,6 +4,7 @@ use oracle::{
     draw::*,
     formula::{Formula, Formula::*, Parameter},
     generate::{Kind, Sheets},
+    judging::{check, Verdict},
     limits::limits,
     rng::Rng,
     sheet::{decode, rule::*, Layout, Plain, Refusal, Step, BOARD_ROOM, LAST_COLUMN},
@@ -565,7 +566,7 @@ fn the_checker_says_no() {
             if export.labels > 0 {
                 tried += 1;
                 let root = sheet.prop(sheet.concluded(sheet.root()).unwrap());
-                unlabelled += sound::check(&mut vec![], &stripped(&export.term), &root) as usize;
+                unlabelled += (check(&[], &stripped(&export.term), &root) == Verdict::Yes) as usize;
             }
         }
         assert!(tried > 200 && unlabelled == 0, "{unlabelled} of {tried} accepted without labels");

@@ -4,7 +4,9 @@ use oracle::{
     exercise::{Exercise, Exercises},
     graft::{graft, Refused, Whose},
     index::{find_name, name_index, FREE, SLOTS},
-    list::{list, EXERCISE, FIND_NAME, GRAFT, NAME_INDEX, RESTATE},
+    judging::{judge, Judged, Verdict},
+    list::{list, EXERCISE, FIND_NAME, GRAFT, JUDGE, JUDGE_BESIDE, NAME_INDEX, READ_TERM, RESTATE, YES},
+    memory::{read_into, Room, RECORD},
     restate::{restate, Given},
     sheet::Refusal,
     text::Version,
@@ -64,12 +66,13 @@ impl Reader<'_> {
 
 #[test]
 fn the_list_reads_back() {
-    let list = list(1).unwrap();
-    assert!(list.sheets >= 1500 && list.bytes.len() <= 2_200_000);
+    let list = list(1, true).unwrap();
+    assert!(list.sheets >= 1500 && list.bytes.len() <= 2_500_000);
     let mut reader = Reader(&list.bytes);
-    let (mut asked, mut refused, mut exact, mut short, mut more) = ([0; Operation::ALL.len()], [0; 31], 0, 0, 0);
+    let (mut asked, mut refused, mut exact, mut short, mut more) = ([0; Operation::ALL.len()], [0; 32], 0, 0, 0);
     let (mut strict, mut second, mut third, mut strict_third) = (0, 0, 0, 0);
-    assert_eq!(reader.number(4), list.sheets + list.names + list.indexed + list.restated + list.grafted);
+    let entries = list.sheets + list.names + list.indexed + list.restated + list.grafted + list.texts + list.judged;
+    assert_eq!(reader.number(4), entries);
     for _ in 0..list.sheets {
         let length = reader.number(4);
         let examined = examine(&reader.bytes(length)).unwrap();
@@ -167,11 +170,59 @@ fn the_list_reads_back() {
         }
     }
     assert!(merged > 10 && whose.iter().all(|count| *count > 10), "{merged} {whose:?}");
+    let mut terms = 0;
+    for _ in 0..list.texts {
+        let length = reader.number(4);
+        let text = reader.bytes(length);
+        for _ in 0..reader.number(1) {
+            assert_eq!(reader.number(1), READ_TERM as usize);
+            let length = reader.number(2);
+            let types = reader.bytes(length);
+            let [records, names, code] = [0; 3].map(|_| reader.number(4));
+            let expected = read_into(&types, &text, Some(Room { records, names, code }));
+            let answer = reader.value().map(|nodes| {
+                let (names, code) = (reader.number(2), reader.number(4));
+                let records: Vec<u16> = (0..RECORD * nodes).map(|_| reader.number(2) as u16).collect();
+                (records, reader.bytes(4 * names), reader.bytes(code))
+            });
+            let gaps = |code: Vec<Option<u8>>| code.into_iter().map(|byte| byte.unwrap_or(0)).collect();
+            assert_eq!(answer, expected.map(|memory| (memory.records, memory.names, gaps(memory.code))));
+            terms += answer.is_ok() as usize;
+            refused[answer.map_or_else(|refusal| refusal.number as usize, |_| 0)] += 1;
+        }
+    }
+    assert!(terms > 100, "{terms}");
+    let (mut yes, mut no) = (0, 0);
+    for _ in 0..list.judged {
+        let length = reader.number(4);
+        let sheet = reader.bytes(length);
+        for _ in 0..reader.number(1) {
+            let kind = reader.number(1);
+            assert!([JUDGE, JUDGE_BESIDE].contains(&(kind as u8)));
+            let mut part = || {
+                let length = reader.number(2);
+                reader.bytes(length)
+            };
+            let (types, text) = if kind == JUDGE as usize { (vec![], vec![]) } else { (part(), part()) };
+            let judged = match kind == JUDGE as usize {
+                true => Judged::Own,
+                false => Judged::Read { list: &types, text: &text },
+            };
+            let hypotheses: Vec<u16> = (0..reader.number(1)).map(|_| reader.number(2) as u16).collect();
+            let prop = reader.number(8);
+            let answer = reader.value();
+            let expected = judge(&sheet, judged, &hypotheses, prop);
+            assert_eq!(answer, expected.map(|verdict| if let Verdict::No(node) = verdict { node } else { YES }));
+            yes += (answer == Ok(YES)) as usize;
+            no += answer.is_ok_and(|node| node != YES) as usize;
+            refused[answer.map_or_else(|refusal| refusal.number as usize, |_| 0)] += 1;
+        }
+    }
+    assert!(yes > 100 && no > 100, "{yes} {no}");
     assert!(reader.0.is_empty());
     assert!(asked.iter().all(|count| *count > 0), "{asked:?}");
-    // every refusal but 18; there is none with the number 20 or 22
-    let none = |number| [18, 20, 22].contains(&number);
-    assert!((0..31).all(|number| (refused[number] > 0) != none(number)), "{refused:?}");
+    // every refusal but 18
+    assert!((0..32).all(|number| (refused[number] > 0) != (number == 18)), "{refused:?}");
     assert!(exact > 1000 && short > 1000, "{exact} {short}");
     assert!(more > 100 && strict > 100 && second > 50, "{more} {strict} {second}");
     assert!(third > 50 && strict_third > 50, "{third} {strict_third}");
@@ -179,6 +230,8 @@ fn the_list_reads_back() {
 
 #[test]
 fn the_list_depends_on_the_seed_alone() {
-    assert!(list(5).unwrap().bytes == list(5).unwrap().bytes);
-    assert!(list(5).unwrap().bytes != list(6).unwrap().bytes);
+    for terms in [false, true] {
+        assert!(list(5, terms).unwrap().bytes == list(5, terms).unwrap().bytes);
+        assert!(list(5, terms).unwrap().bytes != list(6, terms).unwrap().bytes);
+    }
 }

@@ -6,11 +6,17 @@ use alice::kernel::{
 };
 use oracle::{
     answer::examine,
+    generate::texts::{every_small, limits, texts, TextKind},
     generate::{Kind, Sheets},
-    reading::{datatypes, nesting, nodes, read, restorable, without_ids, NESTING, NODES, TEXT_BYTES},
+    memory::{holds, read_into, restored},
+    reading::{datatypes, read, restorable, without_ids, NESTING, NODES, TEXT_BYTES},
+    terms::{nesting, nodes},
     text::{strict, term},
 };
-use std::thread;
+use std::{
+    collections::{BTreeMap, HashSet},
+    thread,
+};
 
 /// Deep terms are printed, measured and dropped by recursion.
 fn deep(test: fn()) {
@@ -244,4 +250,67 @@ fn the_tables_of_the_definitions() {
         }
     }
     assert_eq!((taken, refused), (18 + 83, 12 + 45));
+}
+
+/// Every term of at most five nodes has a text of its own, from which it is read, and stands in memory.
+#[test]
+fn every_small_term_is_read() {
+    let mut seen = HashSet::new();
+    for size in 1..=5 {
+        every_small(size, &mut |t, text| {
+            assert!(seen.insert(text.text.clone()), "{text:?}");
+            assert_eq!(read(&text.list, &text.text).as_ref(), Some(&t));
+            let memory = read_into(&text.list, &text.text, None).unwrap();
+            assert_eq!(restored(&memory, &text.text), Some(t));
+        });
+    }
+    assert_eq!(seen.len(), 4 + 36 + 372 + 4276 + 53_028);
+}
+
+/// Texts of every kind: what is read is printed as it stood, and stands in memory.
+#[test]
+fn texts_of_every_kind() {
+    deep(|| {
+        let mut outcomes = BTreeMap::<TextKind, [usize; 2]>::new();
+        texts(2, 15_000, 4, &mut |kind, text| {
+            holds(&text.list, &text.text).map(|read| outcomes.entry(kind).or_default()[read as usize] += 1)
+        })
+        .unwrap();
+        println!("{outcomes:?}");
+        let read = |kind: TextKind| outcomes[&kind][1];
+        assert!(read(TextKind::Valid) > 14_000 && read(TextKind::Near) > 1000 && read(TextKind::Tokens) > 100);
+    });
+}
+
+/// Which of the texts at the limits are read.
+#[test]
+fn the_limits_by_their_names() {
+    deep(|| {
+        for (what, text) in limits() {
+            let number = |text: &str| text.split(' ').find_map(|word| word.parse::<usize>().ok());
+            let fits = match number(&what) {
+                Some(nodes @ 2047..=2050) => nodes <= 2048,
+                Some(levels) if what.contains("levels of") => levels <= 512,
+                Some(count) if what.contains("names") && !what.contains("listed") => count <= 512,
+                Some(levels) if what.starts_with("a label of") => levels <= 64,
+                Some(bytes) if what.ends_with("bytes of code") => bytes <= 8192,
+                Some(count) if what.ends_with("parameters") => count <= 8,
+                Some(length) if what.contains("name of") || what.contains("atom of") => length <= 32,
+                Some(bytes) if what.ends_with(" bytes") => bytes <= TEXT_BYTES,
+                _ => !["again and again", "a bad name"].iter().any(|bad| what.contains(bad)),
+            };
+            assert_eq!(read(&text.list, &text.text).is_some(), fits, "{what}");
+        }
+    });
+}
+
+/// The code of many labels passes what a number can say; half its offset does not.
+#[test]
+fn labels_far_behind() {
+    deep(|| {
+        let (_, text) = limits().into_iter().find(|(what, _)| what == "13 long labels").unwrap();
+        let memory = read_into(&text.list, &text.text, None).unwrap();
+        assert!(memory.code.len() > 65_536, "{} bytes of code", memory.code.len());
+        assert_eq!(restored(&memory, &text.text), read(&text.list, &text.text));
+    });
 }
