@@ -277,8 +277,8 @@ pub extern "C" fn skriduhol_graft<'a>(
 {
     let grafted = skriduhol::graft(host, step, donor, slots, out);
     match grafted {
-        Grafted::Length(length) => {
-            *value = length;
+        Grafted::Length(merged) => {
+            *value = merged;
             *column = 0;
             *whose = 0;
             return 0;
