@@ -25,6 +25,7 @@ module _ {text : List ℕ} {at end : ℕ} (ends : NameEnds text at end) where
   no-name h = record {
     fails = λ l x e. absurd (Option·none-ne-some x (sym (ends .ends .fails h) ∙ e));
     gives = λ l. absurd (omega arith);
+    from = λ l. absurd (omega arith);
     noted = λ l. absurd (omega arith);
     number-is = λ l. absurd (omega arith);
     below = λ l. absurd (omega arith);
@@ -42,6 +43,7 @@ module _ {text : List ℕ} {at end : ℕ} (ends : NameEnds text at end) where
         fails = λ l x e.
             rw (← (ap (λ (w : Read Name). w .value) (Option·some-injective _ x (sym (ends .ends .gives h) ∙ e)))) (number .full f);
         gives = λ l. absurd (omega arith);
+        from = λ l. absurd (omega arith);
         noted = λ l. absurd (omega arith);
         number-is = λ l. absurd (omega arith);
         below = λ l. absurd (omega arith);
@@ -52,6 +54,7 @@ module _ {text : List ℕ} {at end : ℕ} (ends : NameEnds text at end) where
       named f = record {
         fails = λ l x e. absurd (omega arith);
         gives = λ l. ends .ends .gives h;
+        from = λ l. ends .from h;
         noted = λ l. number .noted f;
         number-is = λ l. number .number-is f;
         below = λ l. number .below f;

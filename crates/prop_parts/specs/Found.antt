@@ -47,6 +47,7 @@ pub data SignAt (text : List ℕ) (at : ℕ) : ℕ → Type 0 where
 pub record NameGiven (text : List ℕ) (at : ℕ) (pairs : List ℕ) (count : ℕ) (after : List ℕ) (r : NameRead) : Type 0 where
   pub fails : length text < r .end → (x : Read Name) → name (drop at text) ≡ some x → nameLimit < length (addName (tableNames pairs text count) (x .value))
   pub gives : r .end ≤ length text → name (drop at text) ≡ given (between at (r .end) text) (drop (r .end) text)
+  pub from : r .end ≤ length text → at < r .end
   pub noted : r .end ≤ length text → Noted (between at (r .end) text ∷ []) text pairs count after (r .count)
   pub number-is : r .end ≤ length text → r .number ≡ numberIn (addName (tableNames pairs text count) (between at (r .end) text)) (between at (r .end) text)
   pub below : r .end ≤ length text → r .number < r .count

@@ -1,0 +1,2 @@
+pub mod Scope
+pub mod Reading

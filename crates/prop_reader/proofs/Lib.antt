@@ -1,0 +1,4 @@
+pub mod Units
+pub mod Chains
+pub mod Lone
+pub mod Labels
