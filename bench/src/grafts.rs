@@ -1,13 +1,13 @@
-//! What a graft costs, by the two sheets, beside the oracle's, which is plain Rust over a map of names, and the stack that it takes.
+//! What a graft costs, by the two sheets, beside the oracle's with an index of names, which is plain Rust, and the stack that it takes.
 use crate::{
     library::{graft, Lent},
-    required::{at_least, Required},
+    plain,
+    required::{at_least, Required, LEAST_RATIO},
     stack::Stack,
     timing::{grouped, in_rounds, Effort, Pair},
 };
 use oracle::{
     draw::{and, atom, code, step},
-    graft::graft as plain_graft,
     grafts::{fixed, Graft},
     index::colliding,
     sheet::{rule, Plain},
@@ -58,7 +58,7 @@ pub fn grafts(effort: &Effort, lent: &mut Lent) -> Vec<Required> {
         let (ours, theirs) = (asked.clone(), asked.clone());
         Pair::new(
             Box::new(move |_| {
-                let _ = black_box(plain_graft(black_box(&theirs.host), theirs.step, &theirs.donor, None));
+                black_box(plain::graft(black_box(&theirs)));
             }),
             Box::new(move |lent: &mut Lent| {
                 let _ = black_box(graft(black_box(&ours), lent));
@@ -67,7 +67,7 @@ pub fn grafts(effort: &Effort, lent: &mut Lent) -> Vec<Required> {
     };
     let mut pairs: Vec<Pair> = asked.iter().map(pair).collect();
     in_rounds(effort, &mut pairs, lent);
-    println!("| two sheets | bytes | Rust ns | Skriduhol ns | Rust / Skriduhol | batches | stack bytes |");
+    println!("| two sheets | bytes | plain Rust ns | Skriduhol ns | ratio | batches | stack bytes |");
     println!("|---|--:|--:|--:|--:|--:|--:|");
     let (mut ratios, mut most) = (vec![], 0);
     for (asked, pair) in asked.iter().zip(&pairs) {
@@ -86,7 +86,7 @@ pub fn grafts(effort: &Effort, lent: &mut Lent) -> Vec<Required> {
     }
     let (bound, measured) = ("below 262,144 bytes".into(), format!("{} bytes", grouped(most)));
     vec![
-        at_least("grafts beside plain Rust", 1.0, ratios),
+        at_least("grafts, beside plain Rust", LEAST_RATIO, ratios),
         Required { what: "stack of a graft", bound, measured, met: most < 256 << 10 },
     ]
 }

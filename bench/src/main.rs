@@ -6,6 +6,7 @@ mod library;
 mod lines;
 mod names;
 mod operations;
+mod plain;
 mod required;
 mod restatements;
 mod sheets;
@@ -24,7 +25,7 @@ use oracle::{
     answer::{Operation, Question},
     generate::Named,
 };
-use required::{at_least, verdict, Required};
+use required::{at_least, verdict, Required, LEAST_RATIO};
 use restatements::restatements;
 use sheets::steps;
 use stack::Stack;
@@ -55,9 +56,6 @@ const FULL: Plan = Plan {
     random_sheets: 2_000,
 };
 
-/// Of every sheet that is timed beside the Rust, at the least.
-const LEAST_RATIO: f64 = 3.0;
-
 /// A sheet that takes the Rust so many nanoseconds is slow.
 const SLOW: f64 = 20e6;
 
@@ -78,8 +76,7 @@ const SECTIONS: [(&str, Section); 11] = [
     ("handouts", versions),
     ("restatements", |plan, lent| {
         println!("## Restated conclusions\n");
-        restatements(&plan.effort, lent);
-        vec![]
+        restatements(&plan.effort, lent)
     }),
     ("grafts", |plan, lent| {
         println!("## Grafts of one sheet into another\n");
@@ -92,8 +89,7 @@ const SECTIONS: [(&str, Section); 11] = [
     }),
     ("names", |plan, lent| {
         println!("## The index of a sheet's names, and its last name found by it\n");
-        names(&plan.effort, lent);
-        vec![]
+        names(&plan.effort, lent)
     }),
 ];
 
@@ -196,12 +192,11 @@ fn versions(plan: &Plan, lent: &mut Lent) -> Vec<Required> {
     ]
 }
 
-/// On two sound sheets and on two of the worst within the board's room. No figure is required of a comparison: the Rust is
-/// handed two conclusions, and Skriduhol a whole sheet.
+/// On two sound sheets and on two of the worst within the board's room.
 fn other_operations(plan: &Plan, lent: &mut Lent) -> Required {
     println!("## The other operations\n");
     let chosen = ["1,008 labels within the board's room", "one label of 58,000 bytes"];
     let worst = sheets::worst().into_iter().filter(|(what, _)| chosen.contains(&what.as_str()));
     let all: Vec<Named> = sheets::sound(2).into_iter().chain(worst).collect();
-    at_least("lists and label counts", LEAST_RATIO, operations(&plan.effort, &all, lent))
+    at_least("lists, label counts and comparisons", LEAST_RATIO, operations(&plan.effort, &all, lent))
 }

@@ -12,8 +12,9 @@ use oracle::{
 };
 use std::hint::black_box;
 
-/// The Rust's part in an answer, where it has one: the whole export for the lists and the count.
-fn rust_part(question: Question, sheet: &Sheet) -> Option<Run<'static>> {
+/// The Rust's part in an answer, where it has one: the whole export for the lists and the count. A comparison is asked of a sheet's
+/// bytes and two steps, so the oracle's reading of the sheet stands before the Rust's comparison.
+fn rust_part(question: Question, bytes: &[u8], sheet: &Sheet) -> Option<Run<'static>> {
     let tree = sheet.tree(sheet.root());
     Some(match question {
         Question::AtomList | Question::DatatypeList => Box::new(move |_: &mut Lent| {
@@ -23,9 +24,10 @@ fn rust_part(question: Question, sheet: &Sheet) -> Option<Run<'static>> {
             black_box(tree.as_proof().proof_term.annotation_count());
         }),
         Question::Comparison(i, j) => {
-            let (one, other) = (sheet.conclusion(i), sheet.conclusion(j));
+            let bytes = bytes.to_vec();
             Box::new(move |_: &mut Lent| {
-                black_box(proof_tree_conclusion_alpha_eq(one.clone(), other.clone()));
+                let sheet = decode(black_box(&bytes)).expect("the sheet is one");
+                black_box(proof_tree_conclusion_alpha_eq(sheet.conclusion(i), sheet.conclusion(j)));
             })
         }
         _ => return None,
@@ -64,7 +66,7 @@ fn of_sheet((what, bytes): &Named) -> Vec<(Asked<'_>, Pair<'_>)> {
     let others = Operation::ALL.into_iter().filter(|operation| *operation != Operation::PlainText);
     let pair = |operation| {
         let question = question(operation, steps(bytes));
-        let rust = rust_part(question, &sheet);
+        let rust = rust_part(question, bytes, &sheet);
         let ours = Box::new(move |lent: &mut Lent| {
             black_box(ask(question, bytes, lent).unwrap());
         });
@@ -74,7 +76,7 @@ fn of_sheet((what, bytes): &Named) -> Vec<(Asked<'_>, Pair<'_>)> {
     others.map(pair).collect()
 }
 
-/// Each operation on these sheets; how many times the Rust's speed the lists and the label counts have.
+/// Each operation on these sheets; how many times the Rust's speed those have in which the Rust has a part.
 pub fn operations(effort: &Effort, all: &[Named], lent: &mut Lent) -> Vec<f64> {
     let (asked, mut pairs): (Vec<_>, Vec<_>) = all.iter().flat_map(of_sheet).unzip();
     in_rounds(effort, &mut pairs, lent);
@@ -82,11 +84,5 @@ pub fn operations(effort: &Effort, all: &[Named], lent: &mut Lent) -> Vec<f64> {
     for (asked, pair) in asked.iter().zip(&pairs) {
         println!("{}", asked.line(pair, lent));
     }
-    let compared = |asked: &Asked| asked.question.operation() == Operation::Comparison;
-    asked
-        .iter()
-        .zip(&pairs)
-        .filter(|(asked, _)| !compared(asked))
-        .filter_map(|(asked, pair)| asked.ratio(pair))
-        .collect()
+    asked.iter().zip(&pairs).filter_map(|(asked, pair)| asked.ratio(pair)).collect()
 }

@@ -1,5 +1,8 @@
 //! The figures that are required.
 
+/// Of every row that is timed beside Rust, at the least.
+pub const LEAST_RATIO: f64 = 3.0;
+
 pub struct Required {
     pub what: &'static str,
     pub bound: String,

@@ -1,6 +1,8 @@
-//! What a restatement costs, by the sheet, and the stack that it takes.
+//! What a restatement costs, by the sheet, beside the oracle's with an index of names, which is plain Rust, and the stack that it takes.
 use crate::{
     library::{restate, Lent},
+    plain,
+    required::{at_least, Required, LEAST_RATIO},
     stack::Stack,
     timing::{grouped, in_rounds, Effort, Pair},
 };
@@ -24,22 +26,30 @@ fn asked() -> Vec<(String, Vec<u8>, Given)> {
     chosen.map(with_given).collect()
 }
 
-pub fn restatements(effort: &Effort, lent: &mut Lent) {
+pub fn restatements(effort: &Effort, lent: &mut Lent) -> Vec<Required> {
     let asked = asked();
     let pair = |(_, sheet, given): &(String, Vec<u8>, Given)| {
-        let (sheet, given) = (sheet.clone(), *given);
-        let ours = Box::new(move |lent: &mut Lent| {
-            let _ = black_box(restate(&sheet, given, lent));
-        });
-        Pair::new(Box::new(|_| ()), ours)
+        let (ours, theirs, given) = (sheet.clone(), sheet.clone(), *given);
+        Pair::new(
+            Box::new(move |_| {
+                black_box(plain::restate(black_box(&theirs), given));
+            }),
+            Box::new(move |lent: &mut Lent| {
+                let _ = black_box(restate(black_box(&ours), given, lent));
+            }),
+        )
     };
     let mut pairs: Vec<Pair> = asked.iter().map(pair).collect();
     in_rounds(effort, &mut pairs, lent);
-    println!("| sheet | bytes | Skriduhol ns | batches | stack bytes |\n|---|--:|--:|--:|--:|");
+    println!("| sheet | bytes | plain Rust ns | Skriduhol ns | ratio | batches | stack bytes |\n|---|--:|--:|--:|--:|--:|--:|");
+    let mut ratios = vec![];
     for ((name, sheet, given), pair) in asked.iter().zip(&pairs) {
-        let (_, ours) = pair.times();
+        let (rust, ours) = pair.times();
+        let ratio = rust.fastest / ours.fastest;
         let bytes = restate(sheet, *given, lent).map_or_else(|refusal| refusal.to_string(), grouped);
         let stack = Stack::new().used_by_restatement(sheet, *given, lent);
-        println!("| {name} | {bytes} | {ours} | {} | {} |", ours.spread(), grouped(stack));
+        println!("| {name} | {bytes} | {rust} | {ours} | {ratio:.1} | {} | {} |", ours.spread(), grouped(stack));
+        ratios.push(ratio);
     }
+    vec![at_least("restatements, beside plain Rust", LEAST_RATIO, ratios)]
 }
