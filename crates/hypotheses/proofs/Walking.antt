@@ -2,7 +2,7 @@
 use Prim.Native.Nat.{ℕ, suc, _+_, _-_, _≤_, _<_}
 use mathlib.Core.Path.{_≡_, refl, sym, ap, _∙_}
 use mathlib.Core.Logic.{by-cases}
-use mathlib.Core.Bool.{Bool, true, false, _||_}
+use mathlib.Core.Bool.{Bool, true, false, _||_, true≢false}
 use mathlib.Core.List.{List, [], _∷_}
 use native.Mathlib.Omega.{arith}
 use native.Mathlib.Decide.{decLt}
@@ -10,9 +10,10 @@ use native.Mathlib.Numerals.{add-one}
 use lib.ListN.{length, getD, drop, length-drop}
 use lib.Seq.{drop-cons}
 use lib.Dec.{leb}
-use borrow.Author.Tests.{le-leb, lt-leb}
+use borrow.Author.Tests.{le-leb, lt-leb, leb-false}
 use Rattle.definitions.specs.Sheet.{names, propositions}
 use Rattle.definitions.specs.CheckAnswers.{hypothesisOut}
+use Rattle.definitions.proofs.Either.{neither}
 use Rattle.hypotheses.specs.Pairs.{outOf}
 
 -- by a sheet's counts this is the definitions' own test
@@ -24,10 +25,10 @@ out-is s (x ∷ p ∷ hs) = rw (out-is s hs)
 
 -- the next name, and the next proposition if there is one
 module _ (hs : List ℕ) (i : ℕ) where
-  one-ahead : i < length hs → drop i hs ≡ getD hs i 0 ∷ drop (i + 1) hs
+  pub one-ahead : i < length hs → drop i hs ≡ getD hs i 0 ∷ drop (i + 1) hs
   one-ahead h = rw (add-one, drop-cons hs i 0)
 
-  two-ahead : i + 1 < length hs → drop i hs ≡ getD hs i 0 ∷ getD hs (i + 1) 0 ∷ drop (i + 2) hs
+  pub two-ahead : i + 1 < length hs → drop i hs ≡ getD hs i 0 ∷ getD hs (i + 1) 0 ∷ drop (i + 2) hs
   two-ahead h =
       let low : i < length hs = omega arith in
       let next : drop (i + 1) hs ≡ getD hs (i + 1) 0 ∷ drop (i + 2) hs = second h in
@@ -38,7 +39,7 @@ module _ (hs : List ℕ) (i : ℕ) where
           let last : i + 2 ≡ suc (i + 1) = omega arith in
           rw (last, drop-cons hs (i + 1) 0)
 
-  none-ahead : length hs ≤ i → drop i hs ≡ []
+  pub none-ahead : length hs ≤ i → drop i hs ≡ []
   none-ahead h = empty (drop i hs) (omega (arith, length-drop i hs))
     where
       empty : (l : List ℕ) → length l ≡ 0 → l ≡ []
@@ -82,3 +83,27 @@ module _ (n p : ℕ) (hs : List ℕ) where
     pub all-in : length hs ≤ i → false ≡ outOf n p hs
     unfolding outOf
     all-in h = sym (d .same ∙ rw (none-ahead hs i h))
+
+  -- Where none that is left is out, the next is a name and a proposition that are in, and none after them is out.
+  pub record Next (i : ℕ) : Type 0 where
+    pub paired : i + 1 < length hs
+    pub name : getD hs i 0 < n
+    pub proposition : getD hs (i + 1) 0 < p
+    pub rest : outOf n p (drop (i + 2) hs) ≡ false
+    pub ahead : drop i hs ≡ getD hs i 0 ∷ getD hs (i + 1) 0 ∷ drop (i + 2) hs
+
+  pub next : {i : ℕ} → outOf n p (drop i hs) ≡ false → i < length hs → Next i
+  unfolding outOf
+  next {i} e l = by-cases (decLt (i + 1) (length hs))
+      (λ more.
+      let ahead = two-ahead hs i more in
+      let (name, after) = neither _ _ (rw ahead at e) in
+      let (proposition, rest) = neither _ _ after in
+      record {
+        paired = more;
+        name = leb-false n (getD hs i 0) name;
+        proposition = leb-false p (getD hs (i + 1) 0) proposition;
+        rest = rest;
+        ahead = ahead;
+      })
+      (λ last. absurd (true≢false (rw (one-ahead hs i l, none-ahead hs (i + 1) (omega arith)) at e)))

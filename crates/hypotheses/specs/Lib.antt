@@ -1,2 +1,3 @@
--- Hypotheses as pairs of numbers.
+-- Hypotheses as pairs of numbers, and the scope that they fill.
 pub mod Pairs
+pub mod Entered
