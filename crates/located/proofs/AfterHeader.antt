@@ -15,6 +15,7 @@ use Rattle.definitions.specs.Admission.{headerChecks, admitted}
 use Rattle.definitions.specs.Term.{ProofTerm}
 use Rattle.definitions.specs.Answers.{namesStep, inRoom, versionOf, sheetTerm, namedTerm, sheetText, labelCount, comparison}
 use Rattle.definitions.specs.Restate.{Given, restated, restateAnswer}
+use Rattle.definitions.specs.CheckAnswers.{sheetJudgement}
 use Rattle.sheet.specs.Header.{headerOf, HasHeader}
 use Rattle.sheet.proofs.Order.{in-stages, header-given}
 use Rattle.located.specs.AfterHeader.{AfterHeader}
@@ -105,3 +106,7 @@ module _ (s : List ℕ) where
   pub restatement-after-header : (g : Given) (room : ℕ) {r : Refusal} → restateAnswer s g room ≡ refused r → AfterHeader s r
   unfolding restateAnswer inRoom restated _>>=_
   restatement-after-header g room e = after-header (λ x a. same-refusal (rw a at e))
+
+  pub judgement-after-header : (hs : List ℕ) (k : ℕ) {r : Refusal} → sheetJudgement s hs k ≡ refused r → AfterHeader s r
+  unfolding sheetJudgement namedTerm sheetTerm mapOutcome _>>=_
+  judgement-after-header hs k e = after-header (λ x a. same-refusal (rw a at e))

@@ -1,3 +1,4 @@
 mod Handing
 pub mod Numbers
 pub mod Grafts
+pub mod Judged

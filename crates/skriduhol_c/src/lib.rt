@@ -13,6 +13,7 @@ use skriduhol::Filled;
 use skriduhol::Grafted;
 use skriduhol::Searched;
 use skriduhol::Verdict;
+use skriduhol_terms::Judged;
 ghost use mathlib.Core.Path.{_≡_};
 ghost use mathlib.Core.List.{List, []};
 ghost use Prim.Native.Nat.{ℕ};
@@ -31,6 +32,7 @@ ghost use Rattle.skriduhol.specs.Board.{Prints};
 ghost use Rattle.skriduhol.specs.Searched.{plainAnswer};
 ghost use Rattle.skriduhol_c.specs.Handed.{Hands, HandsFilled, HandsRefusal, yesOrNo, numberOrFree, givenIn};
 ghost use Rattle.skriduhol_c.specs.Grafts.{whoseNumber, HandsGrafted};
+ghost use Rattle.skriduhol_c.specs.Judged.{HandsJudged};
 
 // A refusal's place is the value, and its column the column.
 fn hand_refusal(located: Located, value: &mut usize, column: &mut usize) -> u8
@@ -356,6 +358,41 @@ pub extern "C" fn skriduhol_find_name(
             return 0;
         }
         Searched::Refused(located) => {
+            return hand_refusal(located, value, column);
+        }
+    }
+}
+
+// The judgement that the sheet's own term checks against a proposition, from hypotheses given as a name's number and a proposition's
+// number each: 1 for yes, and 0 for no with the node at which the rules stop.
+#[no_mangle]
+pub extern "C" fn skriduhol_judge(
+    sheet: &[u8],
+    hypotheses: &[u16],
+    proposition: usize,
+    value: &mut usize,
+    column: &mut usize,
+    node: &mut usize,
+) -> u8
+    ensures { λ r. ⌜ HandsJudged (now (sheet .entry)) (now (hypotheses .entry)) proposition (now (value .exit))
+        (now (column .exit)) (now (node .exit)) r ⌝ }
+{
+    let judged = skriduhol_terms::judge(sheet, hypotheses, proposition);
+    match judged {
+        Judged::Yes => {
+            *value = 1;
+            *column = 0;
+            *node = 0;
+            return 0;
+        }
+        Judged::No(at) => {
+            *value = 0;
+            *column = 0;
+            *node = at;
+            return 0;
+        }
+        Judged::Refused(located) => {
+            *node = 0;
             return hand_refusal(located, value, column);
         }
     }
