@@ -39,14 +39,21 @@ extern "C" {
    two its column, and each function that takes `value` takes `column` after it. */
 #define SKRIDUHOL_VERSION 2
 
-/* Refusals, in the order in which they are tried, save that 21 is tried first: before each its place, which is 0 or the number of
-   a name, a proposition or a step, and its reason. Those whose place is a step, 9 to 15, hand back its column too.
+/* Refusals: before each its place, which is 0 or the number of a name, a proposition or a step, and its reason. Those whose place is
+   a step, 9 to 15, hand back its column too. Each question tries these, in this order:
 
-   Texts and lists use 1 to 16, those of the handout 21 too, the label count 1 to 15, a comparison 1 to 11, 17 and 19, a
-   restatement 1 to 11, 23, 24, 19 or 25, and 16, a graft the host's 1 to 11, the donor's, 26, 27, 28 and 16, an exercise 29, 30
-   and 16, an index of names 1 to 11, and a search in one 1 to 3. No function gives 20, 22 or 31 yet.
-   16 is tried last. It does not say how much room is missing: most answers fit 65,536 elements, but a text can pass 88 million
-   bytes and a list 3 million numbers. */
+     texts and lists       1 to 16, those of the handout 21 before them
+     the label count       1 to 15
+     a comparison          1 to 11, 17, 19
+     a restatement         1 to 11, 23, 24, 19 or 25, 16
+     a graft               the host's 1 to 11, the donor's, 26, 27, 28, 16
+     an exercise           29, 30, 16
+     an index of names     1 to 11
+     a search in one       1 to 3
+
+   No function gives a number that stands in none of these lines.
+   16 does not say how much room is missing: most answers fit 65,536 elements, but a text can pass 88 million bytes and a list 3
+   million numbers. */
 enum skriduhol_refusal {
     /* 0: fewer than 12 bytes came */
     SKRIDUHOL_REFUSED_NO_HEADER = 1,
