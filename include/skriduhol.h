@@ -45,6 +45,7 @@ extern "C" {
      texts and lists       1 to 16, those of the handout 21 before them
      the label count       1 to 15
      a comparison          1 to 11, 17, 19
+     a judgement           1 to 15, 31, 22
      a restatement         1 to 11, 23, 24, 19 or 25, 16
      a graft               the host's 1 to 11, the donor's, 26, 27, 28, 16
      an exercise           29, 30, 16
@@ -173,6 +174,15 @@ uint8_t skriduhol_label_count(const uint8_t *sheet, size_t sheet_length, size_t 
 
 /* Whether the conclusions of steps i and j are equal up to the names of their bound objects. *value: 1 for yes, 0 for no. */
 uint8_t skriduhol_compare(const uint8_t *sheet, size_t sheet_length, size_t i, size_t j, size_t *value, size_t *column);
+
+/* Whether the sheet's term checks against one of the sheet's propositions from the hypotheses given: yes precisely when the checking
+   rules derive that. `hypotheses` can be read for `hypothesis_numbers` numbers: for each hypothesis a name and a proposition of the
+   sheet, one after another; a later one hides earlier ones whose names have its name's bytes. Of a sound sheet without quantifiers,
+   against the root's proposition from no hypotheses, the answer is yes. *value: 1 for yes, 0 for no. *node, which is always set and
+   overlaps nothing else: for a no the node at which the rules stop, and in every other case 0. Nodes are counted from 0, a node
+   before its parts, these from left to right; a label is no node. */
+uint8_t skriduhol_judge(const uint8_t *sheet, size_t sheet_length, const uint16_t *hypotheses, size_t hypothesis_numbers,
+                        size_t proposition, size_t *value, size_t *column, size_t *node);
 
 /* The sheet with one more step, AlphaEquivalent over its root, whose conclusion is equal to the root's up to the names of bound
    objects. `given` are the numbers of a step record's end: the kind, three numbers and the column. Names, propositions and goal are
