@@ -39,14 +39,22 @@ extern "C" {
    two its column, and each function that takes `value` takes `column` after it. */
 #define SKRIDUHOL_VERSION 2
 
-/* Refusals, in the order in which they are tried, save that 21 is tried first: before each its place, which is 0 or the number of
-   a name, a proposition or a step, and its reason. Those whose place is a step, 9 to 15, hand back its column too.
+/* Refusals: before each its place, which is 0 or the number of a name, a proposition or a step, and its reason. Those whose place is
+   a step, 9 to 15, hand back its column too. Each question tries these, in this order:
 
-   Texts and lists use 1 to 16, those of the handout 21 too, the label count 1 to 15, a comparison 1 to 11, 17 and 19, a
-   restatement 1 to 11, 23, 24, 19 or 25, and 16, a graft the host's 1 to 11, the donor's, 26, 27, 28 and 16, an exercise 29, 30
-   and 16, an index of names 1 to 11, and a search in one 1 to 3. No function gives 20, 22 or 31 yet.
-   16 is tried last. It does not say how much room is missing: most answers fit 65,536 elements, but a text can pass 88 million
-   bytes and a list 3 million numbers. */
+     texts and lists       1 to 16, those of the handout 21 before them
+     the label count       1 to 15
+     a comparison          1 to 11, 17, 19
+     a judgement           1 to 15, 31, 22
+     a restatement         1 to 11, 23, 24, 19 or 25, 16
+     a graft               the host's 1 to 11, the donor's, 26, 27, 28, 16
+     an exercise           29, 30, 16
+     an index of names     1 to 11
+     a search in one       1 to 3
+
+   No function gives a number that stands in none of these lines.
+   16 does not say how much room is missing: most answers fit 65,536 elements, but a text can pass 88 million bytes and a list 3
+   million numbers. */
 enum skriduhol_refusal {
     /* 0: fewer than 12 bytes came */
     SKRIDUHOL_REFUSED_NO_HEADER = 1,
@@ -166,6 +174,15 @@ uint8_t skriduhol_label_count(const uint8_t *sheet, size_t sheet_length, size_t 
 
 /* Whether the conclusions of steps i and j are equal up to the names of their bound objects. *value: 1 for yes, 0 for no. */
 uint8_t skriduhol_compare(const uint8_t *sheet, size_t sheet_length, size_t i, size_t j, size_t *value, size_t *column);
+
+/* Whether the sheet's term checks against one of the sheet's propositions from the hypotheses given: yes precisely when the checking
+   rules derive that. `hypotheses` can be read for `hypothesis_numbers` numbers: for each hypothesis a name and a proposition of the
+   sheet, one after another; a later one hides earlier ones whose names have its name's bytes. Of a sound sheet without quantifiers,
+   against the root's proposition from no hypotheses, the answer is yes. *value: 1 for yes, 0 for no. *node, which is always set and
+   overlaps nothing else: for a no the node at which the rules stop, and in every other case 0. Nodes are counted from 0, a node
+   before its parts, these from left to right; a label is no node. */
+uint8_t skriduhol_judge(const uint8_t *sheet, size_t sheet_length, const uint16_t *hypotheses, size_t hypothesis_numbers,
+                        size_t proposition, size_t *value, size_t *column, size_t *node);
 
 /* The sheet with one more step, AlphaEquivalent over its root, whose conclusion is equal to the root's up to the names of bound
    objects. `given` are the numbers of a step record's end: the kind, three numbers and the column. Names, propositions and goal are

@@ -4,7 +4,7 @@ use oracle::{
     grafts::Graft,
     restate::Given,
 };
-use skriduhol::{GraftRefusal, Refusal, Style};
+use skriduhol::{GraftRefusal, Judged, Refusal, Style};
 
 /// The memory that is lent for answers.
 pub struct Lent {
@@ -41,6 +41,11 @@ pub fn ask(question: Question, sheet: &[u8], lent: &mut Lent) -> Result<usize, R
 /// The length of the code at an ordinal over three names with n of 3, or the refusal.
 pub fn exercise(ordinal: usize, lent: &mut Lent) -> Result<usize, Refusal> {
     skriduhol::exercise(b"A\nB\nC", 3, ordinal, &mut lent.bytes)
+}
+
+/// Whether the sheet's term checks against a proposition from no hypotheses, or the refusal.
+pub fn judge(sheet: &[u8], proposition: usize) -> Result<Judged, Refusal> {
+    skriduhol::judge(sheet, &[], proposition)
 }
 
 /// The length of the sheet with a restated conclusion, or the refusal.

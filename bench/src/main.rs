@@ -11,6 +11,7 @@ mod required;
 mod restatements;
 mod sheets;
 mod stack;
+mod terms;
 mod texts;
 mod timing;
 
@@ -30,6 +31,7 @@ use restatements::restatements;
 use sheets::steps;
 use stack::Stack;
 use std::{process::exit, time::Duration};
+use terms::judgements;
 use texts::{speed, texts, Text};
 use timing::{grouped, Effort};
 
@@ -62,7 +64,7 @@ const SLOW: f64 = 20e6;
 /// Prints a table, and gives the figures that are required of it.
 type Section = fn(&Plan, &mut Lent) -> Vec<Required>;
 
-const SECTIONS: [(&str, Section); 11] = [
+const SECTIONS: [(&str, Section); 12] = [
     ("sound", |plan, lent| vec![sound_sheets(plan, lent)]),
     ("worst", worst_sheets),
     ("growth", growth),
@@ -91,12 +93,13 @@ const SECTIONS: [(&str, Section); 11] = [
         println!("## The index of a sheet's names, and its last name found by it\n");
         names(&plan.effort, lent)
     }),
+    ("terms", |plan, lent| judgements(&plan.effort, plan.random_sheets, lent)),
 ];
 
 fn usage() -> ! {
     eprintln!(
         "usage: bench/run short|full \
-         [sound|worst|growth|stack|operations|lines|handouts|restatements|grafts|exercises|names]..."
+         [sound|worst|growth|stack|operations|lines|handouts|restatements|grafts|exercises|names|terms]..."
     );
     exit(2)
 }

@@ -1,5 +1,5 @@
-"""The proved library behind proof boards: a sheet's text, its lists, its label count, the comparison of two conclusions, restated
-conclusions, grafts of one sheet into another, exercises, and the index of a sheet's names.
+"""The proved library behind proof boards: a sheet's text, its lists, its label count, the comparison of two conclusions, the judgement
+of its term, restated conclusions, grafts of one sheet into another, exercises, and the index of a sheet's names.
 
 Every function answers for any bytes, and raises `Refused` where the library refuses. A text or list is as long as it has to be;
 given a room, a longer one is refused with 16, as the library does. Functions may be called from several threads at once.
@@ -19,8 +19,9 @@ from collections.abc import Callable, Sequence
 from typing import Any, Final, NamedTuple
 
 __all__ = ["BOARD_ROOM", "FREE", "LONGEST_EXERCISE", "LONGEST_SHEET", "REFUSALS", "SLOT_COUNT", "VERSION", "Atom", "Given",
-           "Refused", "Style", "Whose", "atom_list", "board_output", "compare", "datatype_list", "exercise", "find_name", "graft",
-           "handout", "handout_datatypes", "label_count", "name_index", "plain_text", "restate", "strict_text"]
+           "Hypothesis", "Judged", "Refused", "Style", "Whose", "atom_list", "board_output", "compare", "datatype_list", "exercise",
+           "find_name", "graft", "handout", "handout_datatypes", "judge", "label_count", "name_index", "plain_text", "restate",
+           "strict_text"]
 
 VERSION: Final = 2
 """The version of include/skriduhol.h that this module is written for."""
@@ -108,6 +109,22 @@ class Atom(NamedTuple):
     name: int
     parameters: int
 
+class Hypothesis(NamedTuple):
+    """A hypothesis of a judgement, by numbers of the sheet: its name and its proposition."""
+
+    name: int
+    proposition: int
+
+class Judged(NamedTuple):
+    """Whether the checking rules derive a judgement, which is also its truth value, and if not, the node of the term at which they
+    stop: nodes are counted from 0, a node before its parts, these from left to right."""
+
+    derived: bool
+    node: int | None
+
+    def __bool__(self) -> bool:
+        return self.derived
+
 class Given(NamedTuple):
     """A conclusion as a step record has it, a kind and three numbers, and a column. Kind 0 is a proposition by its number; kind 1
     is a type judgement: the object's name, its id, and the datatype's name."""
@@ -155,6 +172,7 @@ _handout = {Style.PLAIN: _function("handout_plain", _SIZE, *_TEXT), Style.STRICT
 _handout_datatypes = _function("handout_datatypes", _SIZE, *_LIST)
 _label_count = _function("label_count")
 _compare = _function("compare", _SIZE, _SIZE)
+_judge = _function("judge", *_LIST, _SIZE, result=_RESULT + [ctypes.POINTER(_SIZE)])
 _exercise = _function("exercise", _SIZE, _SIZE, *_TEXT)
 _SLOTS = ctypes.c_uint16 * SLOT_COUNT
 _name_index = _function("name_index", _SLOTS)
@@ -242,6 +260,19 @@ def label_count(sheet: bytes) -> int:
 def compare(sheet: bytes, i: int, j: int) -> bool:
     """Whether the conclusions of steps i and j are equal up to the names of their bound objects."""
     return _asked(_compare, sheet, _size("a step", i), _size("a step", j)) == 1
+
+def judge(sheet: bytes, hypotheses: Sequence[tuple[int, int]], proposition: int) -> Judged:
+    """Whether the sheet's term checks against one of the sheet's propositions from the hypotheses given, each a `Hypothesis` or such a
+    pair of numbers. A later one hides earlier ones of its name."""
+    numbers = [_u16("a number of a hypothesis", number) for hypothesis in hypotheses for number in hypothesis]
+    # One number at least: the library takes no null address, even of no hypotheses.
+    lent, node = (ctypes.c_uint16 * max(len(numbers), 1))(*numbers), _SIZE()
+
+    def judged(*arguments: Any) -> int:
+        return _judge(*arguments, ctypes.byref(node))
+
+    derived = _asked(judged, sheet, lent, len(numbers), _size("the proposition", proposition)) == 1
+    return Judged(derived, None if derived else node.value)
 
 def exercise(names: Sequence[str], n: int, ordinal: int, *, room: int | None = None) -> bytes:
     """The code of the proposition at an ordinal, from 0, among all of at most n binary connectives over ⊤, ⊥ and up to 3 names, n

@@ -10,7 +10,7 @@ import typing
 import unittest
 
 import skriduhol
-from skriduhol import Atom, Given, Refused, Style, Whose
+from skriduhol import Atom, Given, Hypothesis, Judged, Refused, Style, Whose
 
 ROOT = pathlib.Path(__file__).resolve().parents[3]
 
@@ -51,6 +51,23 @@ class Examples(unittest.TestCase):
         self.assertIs(skriduhol.compare(example("labelled_function"), 0, 2), True)
         self.assertIs(skriduhol.compare(example("labelled_function"), 0, 1), False)
         self.assert_refused(17, 0, 0, skriduhol.compare, SECOND, 0, 2 ** 64 - 1)
+
+    def test_judgements(self):
+        labelled, bound = example("labelled_function"), example("bound_object")
+        self.assertEqual(skriduhol.judge(SECOND, [], 0), Judged(True, None))
+        self.assertEqual(skriduhol.judge(SECOND, (), 1), Judged(False, 0))
+        # (fn u: A => u) v: the names are A, u and v, the propositions A and A ⊃ A
+        for hypotheses, node in (((), 3), ([Hypothesis(2, 0)], None), ([(2, 1), (2, 0)], None), ([(2, 0), (2, 1)], 3)):
+            judged = skriduhol.judge(labelled, hypotheses, 0)
+            self.assertEqual((judged, bool(judged)), ((node is None, node), node is None))
+        self.assert_refused(1, 0, 0, skriduhol.judge, b"", [], 0)
+        self.assert_refused(14, 1, 3, skriduhol.judge, REFUSED, [(9, 9)], 9)
+        for hypotheses, proposition in (([], 2), ([], 2 ** 64 - 1), ([(0, 2)], 0), ([(4, 0)], 0), ([(0, 0), (0,)], 0)):
+            self.assert_refused(31, 0, 0, skriduhol.judge, bound, hypotheses, proposition)
+        self.assert_refused(22, 0, 0, skriduhol.judge, bound, [(3, 1)], 0)
+        for hypotheses, proposition in (([(65536, 0)], 0), ([(0, -1)], 0), ([], -1), ([], 2 ** 64)):
+            with self.assertRaises(ValueError):
+                skriduhol.judge(SECOND, hypotheses, proposition)
 
     def test_the_board(self):
         self.assertEqual(skriduhol.board_output(SECOND), b"atom A;\natom B;\n\n\nfn u => inl u")
@@ -168,6 +185,11 @@ def found_number(sheet, name):
     found = skriduhol.find_name(sheet, slots, name)
     return skriduhol.FREE if found is None else found
 
+def judged_number(sheet, numbers, proposition):
+    """The node of a no, or 65,535 for yes; a last number may stand alone."""
+    judged = skriduhol.judge(sheet, [numbers[at:at + 2] for at in range(0, len(numbers), 2)], proposition)
+    return 65535 if judged else judged.node
+
 class Answers(unittest.TestCase):
     """The stored answers of the oracle, laid out as tests/oracle/README.md says."""
 
@@ -188,6 +210,7 @@ class Answers(unittest.TestCase):
         12: lambda sheet, name: found_number(sheet, name),
         13: lambda sheet, *given: skriduhol.restate(sheet, Given(*given[:5]), room=given[5])[0],
         14: lambda both, own, theirs, step, room: skriduhol.graft(both[:own], step, both[own:own + theirs], room=room)[0],
+        16: lambda sheet, numbers, proposition: judged_number(sheet, numbers, proposition),
     }
     ASKED = {**dict.fromkeys(range(4), "<I"), 5: "<2H", **dict.fromkeys(range(7, 10), "<QI"), 10: "<2QI", 13: "<5HI",
              14: "<2IQI"}
@@ -201,31 +224,38 @@ class Answers(unittest.TestCase):
             at += struct.calcsize(layout)
             return struct.unpack_from(layout, data, at - struct.calcsize(layout))
 
+        def asked_of(kind):
+            if kind == 16:
+                return take("<%dH" % take("<B")), *take("<Q")
+            return take("<%ds" % take("<B") if kind == 12 else self.ASKED.get(kind, "<"))
+
         for entry in range(*take("<I")):
             content, = take("<%ds" % take("<I"))
             for _ in range(*take("<B")):
                 kind, = take("<B")
-                asked = take("<%ds" % take("<B") if kind == 12 else self.ASKED.get(kind, "<"))
+                asked = asked_of(kind)
                 number, value = take("<BI")
                 if number:
                     answer = number, value, *take("<HB" if kind == 14 else "<H")
-                elif kind in (4, 5, 12):
+                elif kind in (4, 5, 12, 16):
                     answer = value
                 else:
                     answer = list(take(f"<{value}H")) if kind in self.LISTS else take(f"<{value}s")[0]
                 yield entry, content, kind, asked, answer
 
     def test_every_stored_answer(self):
-        met = set()
+        met, kinds = set(), set()
         for entry, content, kind, asked, answer in self.read():
+            kinds.add(kind)
             try:
                 found = self.QUESTIONS[kind](content, *asked)
             except Refused as refused:
                 found = refused.number, refused.place, refused.column, *([refused.whose.value] if kind == 14 else [])
                 met.add(refused.number)
             self.assertEqual(found, answer, (entry, kind, asked))
-        # 18 does not occur; 20, 22 and 31 are of terms that are read and judged, which the stored answers have not yet.
-        self.assertEqual(met, set(skriduhol.REFUSALS) - {18, 20, 22, 31})
+        # 18 does not occur; 20 is of a text that is read, and 22 and 31 of a judgement, where the stored answers have such.
+        of_kinds = {15: {20}, 16: {22, 31}}
+        self.assertEqual(met, set(skriduhol.REFUSALS) - {18}.union(*(of_kinds[kind] for kind in of_kinds.keys() - kinds)))
 
 class Module(unittest.TestCase):
     def test_every_function_of_the_header_is_called(self):

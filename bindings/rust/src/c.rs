@@ -5,7 +5,7 @@
 //! pointer after it returns.
 #![allow(unsafe_code)]
 
-use crate::{BOARD_ROOM, SLOT_COUNT};
+use crate::{Hypothesis, BOARD_ROOM, SLOT_COUNT};
 
 extern "C" {
     fn skriduhol_plain_text(
@@ -80,6 +80,16 @@ extern "C" {
         j: usize,
         value: *mut usize,
         column: *mut usize,
+    ) -> u8;
+    fn skriduhol_judge(
+        sheet: *const u8,
+        sheet_length: usize,
+        hypotheses: *const u16,
+        hypothesis_numbers: usize,
+        proposition: usize,
+        value: *mut usize,
+        column: *mut usize,
+        node: *mut usize,
     ) -> u8;
     fn skriduhol_restate(
         sheet: *const u8,
@@ -251,6 +261,29 @@ pub fn label_count(sheet: &[u8], value: &mut usize, column: &mut usize) -> u8 {
 
 pub fn compare(sheet: &[u8], i: usize, j: usize, value: &mut usize, column: &mut usize) -> u8 {
     unsafe { skriduhol_compare(sheet.as_ptr(), sheet.len(), i, j, value, column) }
+}
+
+/// A hypothesis is two numbers in the order of C, so that its slice is one of twice as many numbers.
+pub fn judge(
+    sheet: &[u8],
+    hypotheses: &[Hypothesis],
+    proposition: usize,
+    value: &mut usize,
+    column: &mut usize,
+    node: &mut usize,
+) -> u8 {
+    unsafe {
+        skriduhol_judge(
+            sheet.as_ptr(),
+            sheet.len(),
+            hypotheses.as_ptr().cast(),
+            2 * hypotheses.len(),
+            proposition,
+            value,
+            column,
+            node,
+        )
+    }
 }
 
 pub fn board_output(sheet: &[u8], out: &mut [u8; BOARD_ROOM]) -> usize {

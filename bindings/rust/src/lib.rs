@@ -1,6 +1,7 @@
 //! The proved library behind proof boards, for Rust: a sheet's text, its lists, its label count, the comparison of two
-//! conclusions, restated conclusions, grafts of one sheet into another, exercises, and the index of a sheet's names. Every function
-//! answers for any bytes. A refusal leaves the lent memory as it was, save that `board_output` then writes the refusal's line.
+//! conclusions, the judgement of its term, restated conclusions, grafts of one sheet into another, exercises, and the index of a
+//! sheet's names. Every function answers for any bytes. A refusal leaves the lent memory as it was, save that `board_output` then
+//! writes the refusal's line.
 #![deny(unsafe_code)]
 
 mod c;
@@ -101,6 +102,39 @@ pub fn label_count(sheet: &[u8]) -> Result<usize, Refusal> {
 /// Whether the conclusions of steps `i` and `j` are equal up to the names of their bound objects.
 pub fn compare(sheet: &[u8], i: usize, j: usize) -> Result<bool, Refusal> {
     asked(|value, column| c::compare(sheet, i, j, value, column)).map(|value| value == 1)
+}
+
+/// A hypothesis by numbers of the sheet: its name and its proposition.
+#[derive(Clone, Copy, Debug, PartialEq, Eq)]
+#[repr(C)]
+pub struct Hypothesis {
+    pub name: u16,
+    pub proposition: u16,
+}
+
+/// Whether the checking rules derive a judgement. A no has the node of the term at which they stop: nodes are counted from 0, a node
+/// before its parts, these from left to right.
+#[derive(Clone, Copy, Debug, PartialEq, Eq)]
+pub enum Judged {
+    Yes,
+    No { node: usize },
+}
+
+/// Whether the sheet's term checks against one of the sheet's propositions from the hypotheses given, a later one hiding earlier ones
+/// of its name.
+pub fn judge(
+    sheet: &[u8],
+    hypotheses: &[Hypothesis],
+    proposition: usize,
+) -> Result<Judged, Refusal> {
+    let mut node = 0;
+    let question = |value: &mut usize, column: &mut usize| {
+        c::judge(sheet, hypotheses, proposition, value, column, &mut node)
+    };
+    Ok(match asked(question)? {
+        1 => Judged::Yes,
+        _ => Judged::No { node },
+    })
 }
 
 /// What the board prints, at the start of `out`: the plain text of version 1, or the refusal's line; its length in bytes.

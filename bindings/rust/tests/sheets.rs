@@ -1,9 +1,9 @@
 //! The example sheets through the wrapper: answers, refusals, and what becomes of the lent memory.
 use skriduhol::{
     atom_list, board_output, compare, datatype_list, exercise, find_name, graft, handout,
-    handout_datatypes, label_count, name_index, plain_text, restate, strict_text, Given,
-    GraftRefusal, Refusal, Style, Whose, BOARD_ROOM, FREE, LONGEST_EXERCISE, LONGEST_SHEET,
-    SLOT_COUNT,
+    handout_datatypes, judge, label_count, name_index, plain_text, restate, strict_text, Given,
+    GraftRefusal, Hypothesis, Judged, Refusal, Style, Whose, BOARD_ROOM, FREE, LONGEST_EXERCISE,
+    LONGEST_SHEET, SLOT_COUNT,
 };
 
 const SMALLEST: &[u8] = include_bytes!("../../../examples/sheets/smallest.sheet");
@@ -135,6 +135,37 @@ fn a_number_that_is_no_version_is_refused_first() {
             assert_eq!(handout_datatypes(sheet, version, &mut []), refusal(21, 0));
         }
     }
+}
+
+#[test]
+fn the_terms_of_sheets_are_judged() {
+    let [yes, no] = [Ok(Judged::Yes), Ok(Judged::No { node: 0 })];
+    assert_eq!(judge(SECOND, &[], 0), yes);
+    // fn u => inl u against A
+    assert_eq!(judge(SECOND, &[], 1), no);
+    assert_eq!(judge(SMALLEST, &Vec::new(), 0), yes);
+    // (fn u: A => u) v: the names are A, u and v, the propositions A and A ⊃ A
+    let of = |name, proposition| Hypothesis { name, proposition };
+    assert_eq!(judge(LABELLED, &[], 0), Ok(Judged::No { node: 3 }));
+    assert_eq!(judge(LABELLED, &[of(2, 0)], 0), yes);
+    assert_eq!(judge(LABELLED, &[of(2, 0)], 1), no);
+    assert_eq!(judge(LABELLED, &[of(2, 1), of(2, 0)], 0), yes);
+    assert_eq!(
+        judge(LABELLED, &[of(2, 0), of(2, 1)], 0),
+        Ok(Judged::No { node: 3 })
+    );
+}
+
+#[test]
+fn what_is_not_judged_is_refused() {
+    let of = |name, proposition| Hypothesis { name, proposition };
+    assert_eq!(judge(&[], &[], 0), refusal(1, 0));
+    assert_eq!(judge(REFUSED, &[of(9, 9)], 9), refusal_of_step(14, 1, 3));
+    assert_eq!(judge(BOUND_OBJECT, &[], 2), refusal(31, 0));
+    assert_eq!(judge(BOUND_OBJECT, &[], usize::MAX), refusal(31, 0));
+    assert_eq!(judge(BOUND_OBJECT, &[of(0, 2)], 0), refusal(31, 0));
+    assert_eq!(judge(BOUND_OBJECT, &[of(4, 0)], 0), refusal(31, 0));
+    assert_eq!(judge(BOUND_OBJECT, &[of(3, 1)], 0), refusal(22, 0));
 }
 
 const BOUND_OBJECT: &[u8] = include_bytes!("../../../examples/sheets/bound_object.sheet");

@@ -12,8 +12,8 @@ pub mod judging {
             hypothesis_numbers: usize,
             proposition: usize,
             value: *mut usize,
-            node: *mut usize,
             column: *mut usize,
+            node: *mut usize,
         ) -> u8;
         #[cfg(feature = "judge_text")]
         fn skriduhol_judge_text(
@@ -27,24 +27,24 @@ pub mod judging {
             hypothesis_numbers: usize,
             proposition: usize,
             value: *mut usize,
-            node: *mut usize,
             column: *mut usize,
+            node: *mut usize,
         ) -> u8;
     }
 
-    /// A value, node or column that no call can mean, to see that it is overwritten.
+    /// A value, column or node that no call can mean, to see that it is overwritten.
     const UNSAID: usize = usize::MAX / 3;
 
     fn judge(asked: &Asked) -> Told {
         let Asked { sheet, read, hypotheses, prop } = asked;
-        let (mut value, mut node, mut column) = (UNSAID, UNSAID, UNSAID);
+        let (mut value, mut column, mut node) = (UNSAID, UNSAID, UNSAID);
         let (hypotheses, count) = (hypotheses.as_ptr(), hypotheses.len());
-        let told: [*mut usize; 3] = [&mut value, &mut node, &mut column];
-        let [said, stopped, drawn] = told;
+        let told: [*mut usize; 3] = [&mut value, &mut column, &mut node];
+        let [said, drawn, stopped] = told;
         // SAFETY: all that is given and the three numbers outlive the calls.
         let number = unsafe {
             match read {
-                None => skriduhol_judge(sheet.as_ptr(), sheet.len(), hypotheses, count, *prop, said, stopped, drawn),
+                None => skriduhol_judge(sheet.as_ptr(), sheet.len(), hypotheses, count, *prop, said, drawn, stopped),
                 #[cfg(feature = "judge_text")]
                 Some(beside) => skriduhol_judge_text(
                     sheet.as_ptr(),
@@ -57,8 +57,8 @@ pub mod judging {
                     count,
                     *prop,
                     said,
-                    stopped,
                     drawn,
+                    stopped,
                 ),
                 #[cfg(not(feature = "judge_text"))]
                 Some(_) => unreachable!("no term beside a sheet is asked for"),

@@ -74,8 +74,20 @@ pub struct List {
     pub questions: usize,
 }
 
-/// The list, which depends on the seed alone, and on whether texts and judgements of terms are in it.
-pub fn list(seed: u64, terms: bool) -> Result<List, Finding> {
+/// Which questions on terms are in the list: texts that are read, judgements of a sheet's own term, and of one read beside it.
+#[derive(Clone, Copy, Default)]
+pub struct Terms {
+    pub read_term: bool,
+    pub judge: bool,
+    pub judge_text: bool,
+}
+
+impl Terms {
+    pub const ALL: Terms = Terms { read_term: true, judge: true, judge_text: true };
+}
+
+/// The list, which depends on the seed alone, and on which questions on terms are in it; each sort of these on neither of the others.
+pub fn list(seed: u64, terms: Terms) -> Result<List, Finding> {
     let mut list = List::default();
     let mut rng = Rng::new(seed, 0);
     for (_, sheet) in Sheets::new(Kind::Limits, 0, 0).iter().filter(|(_, sheet)| sheet.len() <= LONGEST_SHEET) {
@@ -105,8 +117,15 @@ pub fn list(seed: u64, terms: bool) -> Result<List, Finding> {
     for asked in grafts(seed) {
         list.add_grafts(&asked, &mut rng);
     }
-    if terms {
-        list.add_terms(seed, &mut rng);
+    if terms.read_term {
+        list.add_texts(seed);
+    }
+    if terms.judge {
+        list.add_judged(seed, &|asked| asked.read.is_none());
+    }
+    if terms.judge_text {
+        list.add_beside(seed);
+        list.add_judged(seed, &|asked| asked.read.as_ref().is_some_and(is_short));
     }
     let entries = list.sheets + list.names + list.indexed + list.restated + list.grafted + list.texts + list.judged;
     list.bytes.splice(0..0, (entries as u32).to_le_bytes());
@@ -160,6 +179,10 @@ pub fn list_grafts(seed: u64, count: usize) -> List {
 /// The donor of a question: so many of the bytes behind so many.
 fn donor_of(asked: &Graft, own: usize, theirs: usize) -> Vec<u8> {
     [&asked.host[..], &asked.donor].concat()[own..][..theirs].to_vec()
+}
+
+fn is_short(Text { list, text }: &Text) -> bool {
+    text.len() <= TEXT_BYTES && list.len() <= TEXT_BYTES
 }
 
 /// Has the sheet a label, and does the board print its text?
@@ -353,26 +376,36 @@ impl List {
         }
     }
 
-    /// Adds texts, and then judgements.
-    fn add_terms(&mut self, seed: u64, rng: &mut Rng) {
-        let small = |text: &Text| text.text.len() <= TEXT_BYTES && text.list.len() <= TEXT_BYTES;
+    /// Adds texts that are read.
+    fn add_texts(&mut self, seed: u64) {
+        let mut rng = Rng::new(seed, READ_TERM.into());
         let drawn = (0..TEXTS as u64).flat_map(|index| {
             let of = |offset: u64| Rng::new(seed, 1000 * offset + index);
             [texts::valid(of(1)), texts::mutated(of(2)), texts::soup(of(3))]
         });
         let fixed = texts::limits().into_iter().map(|(_, text)| text);
-        for text in fixed.chain(drawn).filter(small) {
-            self.add_text(&text, rng);
+        for text in fixed.chain(drawn).filter(is_short) {
+            self.add_text(&text, &mut rng);
         }
+    }
+
+    /// Adds judgements of terms that are drawn beside a sheet.
+    fn add_beside(&mut self, seed: u64) {
+        let mut rng = Rng::new(seed, JUDGE_BESIDE.into());
         for _ in 0..JUDGED_BESIDE {
-            let asked = asked::beside(rng);
+            let asked = asked::beside(&mut rng);
             self.add_judgements(&asked.sheet.clone(), &[asked]);
         }
+    }
+
+    /// Adds short sheets with some of the judgements that are asked of each.
+    fn add_judged(&mut self, seed: u64, some: &dyn Fn(&Asked) -> bool) {
+        let mut rng = Rng::new(seed, JUDGE.into());
         for index in 0..JUDGED {
             let of = |kind: Kind| Sheets::new(kind, seed, index + 1).get(index).1;
             for sheet in [of(Kind::Sound), asked::nearly_sound(seed, index), of(Kind::Quantified)] {
-                let fits = |asked: &Asked| asked.read.as_ref().is_none_or(small) && asked.hypotheses.len() < 256;
-                let all: Vec<Asked> = asked::questions(&sheet, rng).into_iter().filter(fits).collect();
+                let fits = |asked: &Asked| some(asked) && asked.hypotheses.len() < 256;
+                let all: Vec<Asked> = asked::questions(&sheet, &mut rng).into_iter().filter(fits).collect();
                 if sheet.len() <= SMALL_BYTES {
                     self.add_judgements(&sheet, &all);
                 }

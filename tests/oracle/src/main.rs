@@ -12,7 +12,7 @@ use oracle::{
         Kind, Sheets,
     },
     judging::{judge, Hypothesis, Verdict},
-    list::{list, list_grafts, List},
+    list::{list, list_grafts, List, Terms},
     memory::holds,
     reading,
     rng::Rng,
@@ -35,7 +35,7 @@ const USAGE: &str = "usage:
   oracle texts --seed N --count M --nodes K
   oracle questions --seed N --count M
   oracle sound DIR
-  oracle list --seed N --out FILE [--terms]
+  oracle list --seed N --out FILE [--read-term] [--judge] [--judge-text]
   oracle grafts --seed N --count M --out FILE
   oracle contexts --seed N --out FILE
 KIND: sound random quantified damaged limits worst slowest";
@@ -109,7 +109,10 @@ fn run() -> i32 {
         }
         ["sound", dir] => print_sound(dir),
         ["list", ref rest @ ..] => {
-            write_list(number(option(rest, "--seed")), rest.contains(&"--terms"), option(rest, "--out"))
+            let [read_term, judge, judge_text] =
+                ["--read-term", "--judge", "--judge-text"].map(|name| rest.contains(&name));
+            let terms = Terms { read_term, judge, judge_text };
+            write_list(number(option(rest, "--seed")), terms, option(rest, "--out"))
         }
         ["grafts", ref rest @ ..] => {
             let list = list_grafts(number(option(rest, "--seed")), number(option(rest, "--count")));
@@ -352,7 +355,7 @@ fn print_sound(dir: &str) -> i32 {
     0
 }
 
-fn write_list(seed: u64, terms: bool, file: &str) -> i32 {
+fn write_list(seed: u64, terms: Terms, file: &str) -> i32 {
     match list(seed, terms) {
         Ok(list) => {
             let List { sheets, names, indexed, restated, grafted, texts, judged, questions, bytes } = list;

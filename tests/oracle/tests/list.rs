@@ -5,7 +5,7 @@ use oracle::{
     graft::{graft, Refused, Whose},
     index::{find_name, name_index, FREE, SLOTS},
     judging::{judge, Judged, Verdict},
-    list::{list, EXERCISE, FIND_NAME, GRAFT, JUDGE, JUDGE_BESIDE, NAME_INDEX, READ_TERM, RESTATE, YES},
+    list::{list, Terms, EXERCISE, FIND_NAME, GRAFT, JUDGE, JUDGE_BESIDE, NAME_INDEX, READ_TERM, RESTATE, YES},
     memory::{read_into, Room, RECORD},
     restate::{restate, Given},
     sheet::Refusal,
@@ -66,7 +66,7 @@ impl Reader<'_> {
 
 #[test]
 fn the_list_reads_back() {
-    let list = list(1, true).unwrap();
+    let list = list(1, Terms::ALL).unwrap();
     assert!(list.sheets >= 1500 && list.bytes.len() <= 2_500_000);
     let mut reader = Reader(&list.bytes);
     let (mut asked, mut refused, mut exact, mut short, mut more) = ([0; Operation::ALL.len()], [0; 32], 0, 0, 0);
@@ -230,7 +230,7 @@ fn the_list_reads_back() {
 
 #[test]
 fn the_list_depends_on_the_seed_alone() {
-    for terms in [false, true] {
+    for terms in [Terms::default(), Terms::ALL] {
         assert!(list(5, terms).unwrap().bytes == list(5, terms).unwrap().bytes);
         assert!(list(5, terms).unwrap().bytes != list(6, terms).unwrap().bytes);
     }
