@@ -1,18 +1,17 @@
 -- The answer by its refusals: 31, then 22, then what the rules say.
-use Prim.Native.Nat.{ℕ, _+_, _-_, _≤_, _<_}
+use Prim.Native.Nat.{ℕ, _-_, _≤_, _<_}
 use mathlib.Core.Path.{_≡_, refl, sym, ap, _∙_}
-use mathlib.Core.Bool.{Bool, true, false, _&&_, _||_, not}
+use mathlib.Core.Bool.{Bool, true, false, _||_, not}
 use mathlib.Core.List.{List, []}
 use native.Mathlib.Omega.{arith}
 use lib.Dec.{leb}
 use borrow.Author.Tests.{le-leb, lt-leb, leb-false}
 use Rattle.definitions.specs.declared.Refusal.{Refusal}
 use Rattle.definitions.specs.Outcome.{accepted, refused, refuse, refuseIf, mapOutcome, _>>=_}
-use Rattle.definitions.specs.Sheet.{nameOf, names, propositions, propositionPairs, codeBytes}
-use Rattle.definitions.specs.Term.{renameTerm}
+use Rattle.definitions.specs.Sheet.{nameOf, names, propositions, codeBytes}
 use Rattle.definitions.specs.Answers.{sheetTerm, namedTerm}
 use Rattle.definitions.specs.Checker.{Judged, derived, stopped}
-use Rattle.definitions.specs.Sound.{isQuantifierFree, Sound}
+use Rattle.definitions.specs.Sound.{isQuantifierFree}
 use Rattle.definitions.specs.CheckAnswers.{isCheckable, allQuantifierFree, namedProp, hypothesisOut, assumed, judgement, sheetJudgement}
 use Rattle.definitions.proofs.PrefixCode.{Bytes}
 use Rattle.definitions.proofs.Either.{neither}
@@ -58,7 +57,8 @@ module _ {s : List ℕ} {h : Sheet} (a : AcceptedSheet s h) (k : ℕ) (hs : List
   pub known : out ≡ false → Known s hs k
   known e = let (low, none) = neither _ _ (sym same-test ∙ e) in record { proposition = leb-false _ _ low; hypotheses = none }
 
-  pub refused-31 : out ≡ true → {terms : List ℕ} {n : ℕ} → HeldTerm s terms n → Refused (record { number = 31; place = 0 }) ≡ judgementOf (judgement s (heldTerm s terms n) hs k)
+  pub refused-31 : out ≡ true → {terms : List ℕ} {n : ℕ} → HeldTerm s terms n
+      → Refused (record { number = 31; place = 0 }) ≡ judgementOf (judgement s (heldTerm s terms n) hs k)
   unfolding judgement refuseIf _>>=_ refuse judgementOf
   refused-31 e t = rw (← same-test, e)
 
@@ -88,12 +88,14 @@ module _ {s : List ℕ} {h : Sheet} (a : AcceptedSheet s h) (bytes : Bytes s) {t
       unfolding mayCheck
       hypotheses-decide e all = rw (← is, also, ← free, e) all
 
-module _ {s hs : List ℕ} {k : ℕ} (known : Known s hs k) {terms : List ℕ} {n : ℕ} (t : HeldTerm s terms n) {free : Bool} (is : free ≡ mayCheck s terms n hs k) where
+module _ {s hs : List ℕ} {k : ℕ} (known : Known s hs k) {terms : List ℕ} {n : ℕ} (t : HeldTerm s terms n)
+    {free : Bool} (is : free ≡ mayCheck s terms n hs k) where
   pub refused-22 : free ≡ false → Refused (record { number = 22; place = 0 }) ≡ judgementOf (judgement s (heldTerm s terms n) hs k)
   unfolding judgement refuseIf _>>=_ refuse judgementOf mayCheck
   refused-22 e = rw (lt-leb (propositions s) k (known .proposition), known .hypotheses, ← is, e)
 
-  pub answered : free ≡ true → {x : Judgement} → x ≡ judgementOf (accepted (ruled s terms n hs k)) → x ≡ judgementOf (judgement s (heldTerm s terms n) hs k)
+  pub answered : free ≡ true → {x : Judgement} → x ≡ judgementOf (accepted (ruled s terms n hs k))
+      → x ≡ judgementOf (judgement s (heldTerm s terms n) hs k)
   unfolding judgement refuseIf _>>=_ ruled mayCheck
   answered e same = rw (lt-leb (propositions s) k (known .proposition), known .hypotheses, ← is, e) same
 

@@ -1,8 +1,8 @@
 -- What the checker asks of the term and the scope, and what its answer says of the sheet's term.
-use Prim.Native.Nat.{ℕ, _+_, _*_, _≤_, _<_}
-use mathlib.Core.Path.{_≡_, refl, sym, ap, _∙_, subst}
+use Prim.Native.Nat.{ℕ, _*_, _≤_, _<_}
+use mathlib.Core.Path.{_≡_, sym, ap, _∙_}
 use mathlib.Core.Logic.{by-cases}
-use mathlib.Core.Bool.{true, false}
+use mathlib.Core.Bool.{false}
 use mathlib.Core.Option.{none}
 use mathlib.Core.List.{List, []}
 use native.Mathlib.Omega.{arith}
@@ -10,8 +10,6 @@ use native.Mathlib.Decide.{decLt}
 use lib.ListN.{length, getD, replicate, length-replicate, getD-replicate, List·getD-eq-default}
 use borrow.Author.Tests.{ne-eqb}
 use Rattle.definitions.specs.Name.{Name}
-use Rattle.definitions.specs.Prop.{Prop}
-use Rattle.definitions.specs.Sheet as sheet
 use Rattle.definitions.specs.Sheet.{nameOf, names, propositions, propositionPairs, codeBytes, pairOffset}
 use Rattle.definitions.specs.Outcome.{accepted, mapOutcome}
 use Rattle.definitions.specs.Term.{renameTerm}
@@ -19,7 +17,7 @@ use Rattle.definitions.specs.TermText.{nodes}
 use Rattle.definitions.specs.TermText as limits
 use Rattle.definitions.specs.Answers.{namedTerm}
 use Rattle.definitions.specs.CheckingRules.{lookup}
-use Rattle.definitions.specs.Checker.{Judged, check}
+use Rattle.definitions.specs.Checker.{check}
 use Rattle.definitions.specs.CheckAnswers.{namedProp, hypothesisOut, assumed}
 use Rattle.definitions.proofs.PrefixCode.{Bytes}
 use Rattle.reading_laws.proofs.SheetLimits.{sheet-limited}
@@ -31,7 +29,7 @@ use Rattle.renumbering.specs.Renumbered.{mapped}
 use Rattle.term_renumbering.specs.Over.{RecordsOver, LabelOver}
 use Rattle.term_renumbering.proofs.Terms.{same-parts, ident-over, function-over, left-over, right-over, same-label, terms-over}
 use Rattle.standing_code.specs.Over.{CodeStands}
-use Rattle.prop_numbers.specs.Standing.{standing, nodeLimit, madeNumbers, nameSpace, Stood}
+use Rattle.prop_numbers.specs.Standing.{nodeLimit, madeNumbers, nameSpace, Stood}
 use Rattle.checker.specs.Scope.{Entries, Scoped, entryProp}
 use Rattle.checker.specs.Asking.{labelProp, termOf, Well, Judgeable}
 use Rattle.checker.specs.Judging.{Decides, Checks, Checked}
@@ -41,7 +39,7 @@ use Rattle.hypotheses.specs.Pairs.{outOf}
 use Rattle.hypotheses.specs.Entered.{entered, Enterable}
 use Rattle.hypotheses.proofs.Walking.{out-is}
 use Rattle.hypotheses.proofs.Entering.{Assumed, scope-assumed}
-use Rattle.sheet_term.specs.Held.{LabelStands, HeldTerm}
+use Rattle.sheet_term.specs.Held.{HeldTerm}
 use Rattle.sheet_term.proofs.Held.{label-present}
 use Rattle.judgement.specs.Asked.{heldTerm, ruled, LowestNumbers}
 use Rattle.judgement.proofs.Renaming.{nodes-same, Coded, term-coded, term-twice}

@@ -1,6 +1,6 @@
 -- A term over other names has as many nodes; over numbers and then over names, it is the term over the names at once.
 use Prim.Native.Nat.{ℕ, zero, suc, _+_, _≤_, _<_}
-use mathlib.Core.Path.{_≡_, refl, sym, ap, subst}
+use mathlib.Core.Path.{_≡_, refl, ap, subst}
 use mathlib.Core.Bool.{Bool, true, false, cond}
 use mathlib.Core.Option as option
 use mathlib.Core.Option.{Option, some}

@@ -1,28 +1,30 @@
 -- Over the numbers of the names each proposition of the sheet stands where it stood, and so does each label of its term.
-use Prim.Native.Nat.{ℕ, suc, _+_, _-_, _*_, _≤_, _<_}
-use mathlib.Core.Path.{_≡_, refl, sym, ap, _∙_, subst}
+use Prim.Native.Nat.{ℕ, zero, suc, _+_, _-_, _≤_, _<_}
+use mathlib.Core.Path.{_≡_, refl, ap, _∙_, subst}
 use mathlib.Core.Logic.{by-cases, ⊎-elim}
-use mathlib.Core.List.{List, _∷_, _++_}
+use mathlib.Core.Bool.{false}
+use mathlib.Core.List.{List}
 use native.Mathlib.Omega.{arith}
 use native.Mathlib.Decide.{decLt}
-use lib.ListN.{length, getD, drop}
+use lib.ListN.{length, drop}
 use lib.Seq.{drop-cons}
 use Rattle.definitions.specs.Prop.{Prop, True, False, renameProp}
 use Rattle.definitions.specs.Code.{encode, Codable}
-use Rattle.definitions.specs.Sheet.{nameOf, names, propositions, propositionPairs, codeBytes, codeLimit, nameLimit, pairSize, pairOffset, pairEnd, lastEnd, marked}
+use Rattle.definitions.specs.Sheet.{nameOf, names, propositions, propositionPairs, codeBytes, codeLimit, nameLimit, pairOffset, pairEnd, lastEnd}
 use Rattle.definitions.specs.Tree.{propOf}
 use Rattle.definitions.specs.Admission.{badCode}
 use Rattle.definitions.specs.CheckAnswers.{namedProp}
 use Rattle.definitions.proofs.PrefixCode.{Bytes}
 use Rattle.graft_laws.proofs.MergedSheet.{rename-twice}
-use Rattle.prefix_code.specs.PropAt.{propAt, Present}
+use Rattle.prefix_code.specs.PropAt.{propAt}
 use Rattle.prefix_code.specs.Scan.{Stands}
+use Rattle.prefix_code.specs.Shape.{ImplicationAt}
 use Rattle.prefix_code.proofs.Forms.{binary-at}
 use Rattle.prefix_code.proofs.Reading.{inside, present-in, prop-in, prop-at}
 use Rattle.renumbering.specs.Renumbered.{mapped}
 use Rattle.standing_code.specs.Over.{codeSpace, Codes, CodeStands}
 use Rattle.standing_code.proofs.Standing.{Over, over-at, whole-over, left-over}
-use Rattle.prop_numbers.specs.Standing.{standing, nameSpace, Stood}
+use Rattle.prop_numbers.specs.Standing.{nameSpace, Stood}
 use Rattle.checker.specs.Asking.{Ends}
 use Rattle.sheet.specs.declared.header.Sheet.{Sheet}
 use Rattle.sheet.specs.Header.{headerOf}
@@ -42,7 +44,7 @@ module _ {s : List ℕ} {h : Sheet} (a : AcceptedSheet s h) where
   -- no two pairs overlap
   apart : (i k : ℕ) → i < k → k < propositions s → pairEnd (propositionPairs s) i ≤ pairOffset (propositionPairs s) k
   unfolding lastEnd pairEnd
-  apart i Prim.Native.Nat.zero l m = absurd (omega arith)
+  apart i zero l m = absurd (omega arith)
   apart i (suc k) l m = by-cases (decLt i k)
       (λ g. omega (arith, apart i k g (omega arith), a .sheet .proposition-pair (suc k) m .sorted))
       (λ g. let same : i ≡ k = omega arith in rw same (a .sheet .proposition-pair (suc k) m .sorted))
@@ -113,22 +115,36 @@ module _ {s : List ℕ} {h : Sheet} (a : AcceptedSheet s h) (bytes : Bytes s) {n
       ap (renameProp (l .naming)) (prop-over k below .is)
       ∙ rename-twice (names s) (l .naming) (mapped numbers) (nameOf s) (l .named) (propOf s k) (codable a bytes k below)
 
-  -- so does each label, over the numbers
+  -- so does each label, over the numbers: a whole proposition, or the left side of one
+  module _ (k : ℕ) (below : k < propositions s) where
+    abbrev whole : ℕ
+    whole = pairOffset (propositionPairs s) k
+
+    decoded : badCode (names s) (propositionPairs s) (codeBytes s) k ≡ false
+    decoded = has-codes (a .sheet) .decoded k below
+
+    is-there : propOf s k ≡ propAt (names s) (codeBytes s) whole
+    unfolding badCode propOf
+    is-there = prop-in (names s) (propositionPairs s) (codeBytes s) k (code-of-bytes s bytes) decoded
+
+    whole-label : Over nameSpace code whole (renameProp (mapped numbers) (propAt (names s) (codeBytes s) whole))
+    whole-label = subst (λ (p : Prop ℕ). Over nameSpace code whole (renameProp (mapped numbers) p)) is-there (prop-over k below)
+
+    left-label : {offset : ℕ} → ImplicationAt (codeBytes s) whole offset → Over nameSpace code offset (renameProp (mapped numbers) (propAt (names s) (codeBytes s) offset))
+    unfolding badCode
+    left-label (byte, after) =
+        let there = present-in (names s) (propositionPairs s) (codeBytes s) k (code-of-bytes s bytes) decoded in
+        let b = binary-at (names s) (codeBytes s) whole (there .rest) _ (there .stands) (omega arith) (omega arith) in
+        let side = prop-at (names s) (codeBytes s) (whole + 1) (b .left) _ (b .left-at) in
+        rw (after, side)
+        (left-over c nameSpace low below (propOf s k) (codable a bytes k below) (its-code a bytes below refl)
+        (b .connective) (b .left) (b .right) (is-there ∙ b .is))
+
   pub label-over : {offset : ℕ} → LabelStands s offset → Over nameSpace code offset (renameProp (mapped numbers) (propAt (names s) (codeBytes s) offset))
-  unfolding badCode propOf
-  label-over {offset} label =
+  label-over label =
       let k = label .number in
       let below = label .below in
-      let decoded = has-codes (a .sheet) .decoded k below in
-      let is : propOf s k ≡ propAt (names s) (codeBytes s) (pairOffset (propositionPairs s) k) = prop-in (names s) (propositionPairs s) (codeBytes s) k (code-of-bytes s bytes) decoded in
-      let there = present-in (names s) (propositionPairs s) (codeBytes s) k (code-of-bytes s bytes) decoded in
-      ⊎-elim
-      (λ whole. rw whole (subst (λ (p : Prop ℕ). Over nameSpace code (pairOffset (propositionPairs s) k) (renameProp (mapped numbers) p)) is (prop-over k below)))
-      (λ left.
-      let b = binary-at (names s) (codeBytes s) (pairOffset (propositionPairs s) k) (there .rest) _ (there .stands) (omega arith) (omega arith) in
-      let side = prop-at (names s) (codeBytes s) (pairOffset (propositionPairs s) k + 1) (b .left) _ (b .left-at) in
-      rw (left .1, side) (left-over c nameSpace low below (propOf s k) (codable a bytes k below) (its-code a bytes below refl) (b .connective) (b .left) (b .right) (is ∙ b .is)))
-      (label .stands)
+      ⊎-elim (λ is. rw is (whole-label k below)) (λ is. left-label k below is) (label .stands)
 
   pub label-stood : {offset : ℕ} → LabelStands s offset → Stood code offset
   label-stood label = stood (label-over label)

@@ -1,5 +1,4 @@
 -- With its index beside it, the sheet merged into itself has its own lowest numbers.
-use native.Mathlib.Omega.{arith}
 use borrow.Author.Needs.{needs}
 use Rattle.definitions.specs.NameIndex.{slotCount}
 use Rattle.sheet.proofs.Admitted.{its-header}

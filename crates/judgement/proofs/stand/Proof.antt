@@ -1,6 +1,8 @@
 -- The sheet's propositions stand behind one another within its code.
 use native.Mathlib.Omega.{arith}
+use denote.Ref.{now}
 use borrow.Author.Needs.{needs}
+use Rattle.definitions.proofs.PrefixCode.{Bytes}
 use Rattle.sheet.proofs.Admitted.{its-header}
 use Rattle.judgement.proofs.Standing.{codes, stands-so}
 use Rattle.judgement.proofs.stand.Statement.{statement}
@@ -13,11 +15,14 @@ start c = c .before .before .before .before .before
 abbrev written : tie.After-put-code → tie.After-code-bytes
 written c = c .before .before
 
+bytes : (c : tie.After-code-bytes) → Bytes (now (start c .args .s))
+bytes c = λ i. omega (arith, c .before .before .before .before .shared-slice-known .given i)
+
 put-code-requires : tie.Need-put-code-requires
 put-code-requires c κs =
     let here = c .before in
     let ((sheet, room), long) = start here .pre in
-    codes sheet (λ i. omega (arith, here .before .before .before .before .shared-slice-known .given i)) (here .before .proposition-pairs .ensures) (here .code-bytes .ensures) room long
+    codes sheet (bytes here) (here .before .proposition-pairs .ensures) (here .code-bytes .ensures) room long
 
 returns : tie.Need-returns
 returns c =
