@@ -13,6 +13,7 @@ use skriduhol::Filled;
 use skriduhol::Grafted;
 use skriduhol::Searched;
 use skriduhol::Verdict;
+use skriduhol_terms::Judged;
 ghost use Prim.Native.Nat.{_<_, _≤_};
 ghost use Rattle.io.specs.Counts.{Counts};
 
@@ -45,13 +46,22 @@ const RESTATE: u8 = 13;
 
 const GRAFT: u8 = 14;
 
+const JUDGE: u8 = 16;
+
 // The most bytes or numbers that are lent. Memory is zero before it is lent.
 const ROOM: usize = 65536;
 
 // The most numbers of an accepted list: its bytes fill the room.
 const NUMBERS: usize = 32768;
 
-// 0 for an accepted answer, its length, its count, a name's number, or 1 for yes and 0 for no, and 0; or a refusal's number, place and column.
+// The most numbers of the hypotheses of a judgement.
+const HYPOTHESES: usize = 256;
+
+// What stands for a yes where a no has the node of a term.
+const YES: usize = 65535;
+
+// 0 for an accepted answer, its length, its count, a name's number, 1 for yes and 0 for no, or of a judgement the node of a no, and 0;
+// or a refusal's number, place and column.
 struct Result {
     number: usize,
     value: usize,
@@ -182,6 +192,14 @@ fn searched_result(searched: Searched) -> Result {
         Searched::At(i) => accepted(i),
         Searched::Nowhere => accepted(FREE as usize),
         Searched::Refused(located) => refused(located),
+    }
+}
+
+fn judged_result(judged: Judged) -> Result {
+    match judged {
+        Judged::Yes => accepted(YES),
+        Judged::No(node) => accepted(node),
+        Judged::Refused(located) => refused(located),
     }
 }
 
@@ -395,6 +413,31 @@ fn restate_agrees(fd: i32, s: &[u8]) -> bool {
     text_agrees(fd, s, AskedText::Restate(given))
 }
 
+// So many numbers of the list, and zeros past them.
+fn read_numbers(fd: i32, count: usize) -> [u16; HYPOTHESES]
+    requires { ⌜ count < 256 ⌝ }
+{
+    let mut numbers = [0u16; HYPOTHESES];
+    for i in 0..count {
+        numbers[i] = read_number(fd);
+    }
+    numbers
+}
+
+fn judgement_agrees(fd: i32, s: &[u8], hypotheses: &[u16]) -> bool {
+    let proposition = read_u64(fd);
+    let expected = read_result(fd);
+    let judged = skriduhol_terms::judge(s, hypotheses, proposition);
+    same_result(expected, judged_result(judged))
+}
+
+fn judge_agrees(fd: i32, s: &[u8]) -> bool {
+    let count = wide(read_byte(fd));
+    let numbers = read_numbers(fd, count);
+    let given = numbers_within(count, &numbers);
+    judgement_agrees(fd, s, &numbers[..given])
+}
+
 // What a graft answers, and whose a refusal is: 0 neither's, 1 the host's, 2 the donor's.
 struct GraftResult {
     result: Result,
@@ -488,6 +531,7 @@ fn agrees(fd: i32, s: &[u8]) -> bool {
         FIND_NAME => name_agrees(fd, s),
         RESTATE => restate_agrees(fd, s),
         GRAFT => graft_agrees(fd, s),
+        JUDGE => judge_agrees(fd, s),
         _ => board_agrees(fd, s),
     }
 }
