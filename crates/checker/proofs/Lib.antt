@@ -6,7 +6,6 @@ pub mod Inferring
 pub mod Checking
 pub mod Forms
 pub mod Fallback
-pub mod Sizes
 pub mod Steps
 pub mod Labels
 pub mod Cases

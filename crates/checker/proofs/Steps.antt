@@ -47,7 +47,7 @@ module _ {records code : List ℕ} {stride : ℕ} {scope mades : List ℕ} {m n 
 
   -- the nodes of a part have slots
   pub few : {a : ℕ} (n′ : ℕ) → a < m → n′ + nodes (termOf code stride records a) ≤ nodeLimit → Few records a n′
-  few n′ l room = record { held = omega (arith, j .held); props = labelProp code stride; few = room }
+  few {a} n′ l room = record { held = omega (arith, j .held); size = j .well a (omega arith) .size; props = labelProp code stride; few = room }
 
 -- the node itself has a slot
 some-node : {A : Type 0} (t : ProofTerm A) → 0 < nodes t

@@ -9,6 +9,7 @@ use Rattle.definitions.specs.TermText.{nodes}
 use Rattle.prefix_code.specs.PropAt.{propAt}
 use Rattle.proof_term.specs.Records.{recordSize, fieldAt, termAt}
 use Rattle.proof_term.specs.Tally.{PartsEarlier}
+use Rattle.term_sizes.specs.Sizes.{Sized}
 use Rattle.prop_numbers.specs.Standing.{standing, nodeLimit, madeNumbers, nameSpace, Stood}
 use Rattle.checker.specs.Scope.{Entries}
 
@@ -20,9 +21,10 @@ labelProp code stride label = propAt nameSpace code (stride * label)
 abbrev pub termOf : List ℕ → ℕ → List ℕ → ℕ → ProofTerm ℕ
 termOf code stride records m = termAt (labelProp code stride) records m
 
--- the nodes of the term of record m, numbered from `node` on, have slots
+-- the nodes of the term of record m, numbered from `node` on, have slots, and their count is kept
 pub record Few (records : List ℕ) (m node : ℕ) : Type 0 where
   pub held : recordSize * (m + 1) ≤ length records
+  pub size : Sized records m
   pub props : ℕ → Prop ℕ
   pub few : node + nodes (termAt props records m) ≤ nodeLimit
 
@@ -38,9 +40,10 @@ pub record LabelHeld (records code : List ℕ) (stride k : ℕ) : Type 0 where
   pub parameter : fieldAt records k 0 ≡ 4 → (fieldAt records k 3 ≡ 0 → ⊥) → (fieldAt records k 3 ≡ 2 → ⊥) → Stood code (stride * fieldAt records k 4)
   pub ascribed : fieldAt records k 0 ≡ 11 → (fieldAt records k 3 ≡ 2 → ⊥) → Stood code (stride * fieldAt records k 4)
 
--- record k: its parts are earlier records, its names are numbers of the space, its label stands
+-- record k: its parts are earlier records, its node count is kept, its names are numbers of the space, its label stands
 pub record Well (records code : List ℕ) (stride k : ℕ) : Type 0 where
   pub parts : PartsEarlier records k
+  pub size : Sized records k
   pub ident : fieldAt records k 0 ≡ 0 → fieldAt records k 1 < nameSpace
   pub parameter : fieldAt records k 0 ≡ 4 → fieldAt records k 2 < nameSpace
   pub left : fieldAt records k 0 ≡ 9 → fieldAt records k 4 < nameSpace

@@ -18,7 +18,6 @@ use proof_term::PROJECT_SND;
 use proof_term::SORRY;
 use proof_term::TYPE_ASCRIPTION;
 use proof_term::field;
-use proof_term::part_count;
 use prop_numbers::MADE_NUMBERS;
 use prop_numbers::NAMES;
 use prop_numbers::STOPS;
@@ -30,6 +29,7 @@ use prop_numbers::project;
 use prop_numbers::right;
 use prop_numbers::same_code;
 use prop_numbers::side_of;
+use term_sizes::SIZE;
 ghost use mathlib.Core.Path.{_≡_};
 ghost use Prim.Native.Nat.{ℕ, _+_, _*_, _≤_, _<_};
 ghost use lib.ListN.{length, getD, set};
@@ -47,32 +47,12 @@ const OR: usize = prefix_code::OR as usize;
 
 const IMPL: usize = prefix_code::IMPL as usize;
 
-// How many nodes the term of record m has.
-pub fn size(records: &[u16], m: usize) -> usize
-    requires { ⌜ Few (now records) m 0 ⌝ }
-    ensures { λ r. ⌜ ((props : ℕ → Prop ℕ) → r ≡ nodes (termAt props (now (records .entry)) m)) ⌝ }
-{
-    let parts = part_count(field(records, m, 0));
-    let mut count = 1;
-    let mut i = 0;
-    while i < parts {
-        let part = field(records, m, 1 + i);
-        if part < m {
-            count += size(records, part);
-        } else {
-            count += 1;
-        }
-        i += 1;
-    }
-    count
-}
-
 // The node after those of the term of record m, whose own is `node`.
 fn after(records: &[u16], m: usize, node: usize) -> usize
     requires { ⌜ Few (now records) m node ⌝ }
     ensures { λ r. ⌜ ((props : ℕ → Prop ℕ) → r ≡ node + nodes (termAt props (now (records .entry)) m)) ⌝ }
 {
-    node + size(records, m)
+    node + field(records, m, SIZE)
 }
 
 // The right side of the implication at p, if it is one and has the label of the function of record m, if that has one, for its left
