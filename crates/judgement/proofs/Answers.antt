@@ -16,7 +16,7 @@ use Rattle.definitions.specs.CheckAnswers.{isCheckable, allQuantifierFree, name
 use Rattle.definitions.proofs.PrefixCode.{Bytes}
 use Rattle.definitions.proofs.Either.{neither}
 use Rattle.checker_laws.proofs.Checkable.{checkable-same}
-use Rattle.checker_laws.proofs.SoundJudgement.{sound-judgement}
+use Rattle.checker_laws.proofs.SoundJudgement.{sound-judgement, sound-yes}
 use Rattle.prefix_code.specs.PropAt.{propAt}
 use Rattle.proof_term.specs.Records.{termAt}
 use Rattle.checkable.specs.Terms.{LabelsPresent}
@@ -31,7 +31,7 @@ use Rattle.sheet_term.specs.Held.{HeldTerm}
 use Rattle.sheet_term.proofs.Held.{label-present}
 use Rattle.judgement.specs.declared.Judgement.{Judgement}
 use Rattle.judgement.specs.declared.Judgement.the-variants.{Yes, No, Refused}
-use Rattle.judgement.specs.Asked.{heldTerm, mayCheck, ruled}
+use Rattle.judgement.specs.Asked.{Known, heldTerm, mayCheck, ruled}
 use Rattle.judgement.specs.Answered.{judgementOf, Judges}
 use Rattle.judgement.proofs.Asking.{held-named}
 
@@ -42,11 +42,6 @@ module _ (n p k : ℕ) (hs : List ℕ) where
 
   pub not-past : k < p → {r : Bool} → r ≡ outOf n p hs → r ≡ (leb p k || outOf n p hs)
   not-past l e = rw (lt-leb p k l) e
-
--- the numbers are the sheet's
-pub record Known (s hs : List ℕ) (k : ℕ) : Type 0 where
-  pub proposition : k < propositions s
-  pub hypotheses : hypothesisOut s hs ≡ false
 
 module _ {s : List ℕ} {h : Sheet} (a : AcceptedSheet s h) (k : ℕ) (hs : List ℕ) {out : Bool}
     (is : out ≡ (leb (h .propositions) k || outOf (h .names) (h .propositions) hs)) where
@@ -121,12 +116,14 @@ module _ (s hs : List ℕ) (k : ℕ) where
   judged e = record {
     answer = e;
     sound = λ d none below same. e ∙ rw (none, sound-judgement s d k below same);
+    root = λ d none is. e ∙ rw (none, is, sound-yes s d);
   }
 
   pub no-term : {x : Refusal} → sheetTerm s ≡ refused x → Judges s hs k (Refused x)
   unfolding sheetJudgement namedTerm mapOutcome _>>=_ judgementOf
   no-term e = judged (rw e)
 
-  pub of-the-term : {terms : List ℕ} {n : ℕ} {r : Judgement} → HeldTerm s terms n → r ≡ judgementOf (judgement s (heldTerm s terms n) hs k) → Judges s hs k r
+  pub of-the-term : {terms : List ℕ} {n : ℕ} {r : Judgement} → HeldTerm s terms n
+      → r ≡ judgementOf (judgement s (heldTerm s terms n) hs k) → Judges s hs k r
   unfolding sheetJudgement _>>=_
   of-the-term t e = judged (rw (held-named t) e)

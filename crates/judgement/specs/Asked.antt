@@ -1,18 +1,23 @@
--- The term of a sheet as records hold it, what the rules say of it, and numbers under which equal names are equal.
+-- The question, the term of a sheet as records hold it, what the rules say of it, and numbers under which equal names are equal.
 use Prim.Native.Nat.{ℕ, _<_}
 use mathlib.Core.Path.{_≡_}
-use mathlib.Core.Bool.{Bool, _&&_}
+use mathlib.Core.Bool.{Bool, false, _&&_}
 use mathlib.Core.List.{List, []}
 use lib.ListN.{length, getD}
 use Rattle.definitions.specs.Name.{Name}
-use Rattle.definitions.specs.Sheet.{nameOf, names, codeBytes}
+use Rattle.definitions.specs.Sheet.{nameOf, names, propositions, codeBytes}
 use Rattle.definitions.specs.Term.{ProofTerm, renameTerm}
 use Rattle.definitions.specs.Checker.{Judged, check}
 use Rattle.definitions.specs.Sound.{isQuantifierFree}
-use Rattle.definitions.specs.CheckAnswers.{isCheckable, allQuantifierFree, namedProp, assumed}
+use Rattle.definitions.specs.CheckAnswers.{isCheckable, allQuantifierFree, namedProp, hypothesisOut, assumed}
 use Rattle.prefix_code.specs.PropAt.{propAt}
 use Rattle.proof_term.specs.Records.{termAt}
 use Rattle.prop_numbers.specs.Standing.{Distinct}
+
+-- 31 does not occur: the numbers of the question are the sheet's
+pub record Known (s hs : List ℕ) (k : ℕ) : Type 0 where
+  pub proposition : k < propositions s
+  pub hypotheses : hypothesisOut s hs ≡ false
 
 -- the term of record n, with names as bytes
 unfoldable pub heldTerm : List ℕ → List ℕ → ℕ → ProofTerm Name

@@ -25,14 +25,14 @@ use standing_code::CODE_SIZE;
 use standing_code::put_code;
 use term_renumbering::renumber_records;
 ghost use mathlib.Core.Path.{_≡_};
-ghost use mathlib.Core.Bool.{false, _||_};
-ghost use Prim.Native.Nat.{_+_, _≤_, _<_};
+ghost use mathlib.Core.Bool.{_||_};
+ghost use Prim.Native.Nat.{_+_, _≤_};
 ghost use lib.ListN.{length, take};
 ghost use lib.Dec.{leb};
 ghost use Rattle.definitions.specs.Outcome.{accepted};
 ghost use Rattle.definitions.specs.Sheet.{nameLimit, names, propositions, propositionPairs, codeBytes};
 ghost use Rattle.definitions.specs.Checker.{Judged};
-ghost use Rattle.definitions.specs.CheckAnswers.{hypothesisOut, judgement};
+ghost use Rattle.definitions.specs.CheckAnswers.{judgement};
 ghost use Rattle.merged_names.specs.Numbered.{Numbered};
 ghost use Rattle.standing_code.specs.Over.{codeSpace, CodeStands};
 ghost use Rattle.checker.specs.Judging.{Checks};
@@ -40,7 +40,7 @@ ghost use Rattle.hypotheses.specs.Pairs.{outOf};
 ghost use Rattle.sheet.proofs.Admitted.{AcceptedSheet};
 ghost use Rattle.sheet_term.specs.Held.{HeldTerm};
 ghost use Rattle.judgement.specs.Answered.{judgementOf, Decided, Judges};
-ghost use Rattle.judgement.specs.Asked.{heldTerm, mayCheck, ruled, LowestNumbers};
+ghost use Rattle.judgement.specs.Asked.{Known, heldTerm, mayCheck, ruled, LowestNumbers};
 
 // The rules derive the judgement, or they stop at a node of the term; or the first of refusals 1 to 15, 31 and 22.
 pub enum Judgement {
@@ -81,7 +81,7 @@ fn is_outside(h: Sheet, hypotheses: &[u16], k: usize) -> bool
 // 22 of the term, the proposition and the hypotheses: whether the rules speak of them.
 fn may_check(s: &[u8], h: Sheet, terms: &[u16], n: usize, hypotheses: &[u16], k: usize) -> bool
     requires { ⌜ AcceptedSheet (now s) h × HeldTerm (now s) (now terms) n ⌝ }
-    requires { ⌜ (k < propositions (now s)) × (hypothesisOut (now s) (now hypotheses) ≡ false) ⌝ }
+    requires { ⌜ Known (now s) (now hypotheses) k ⌝ }
     ensures { λ r. ⌜ r ≡ mayCheck (now (s .entry)) (now (terms .entry)) n (now (hypotheses .entry)) k ⌝ }
 {
     if !is_checkable(terms, n, code_bytes(s, h), h.names) {
@@ -121,7 +121,7 @@ fn decide(
     numbers: &[u16],
 ) -> usize
     requires { ⌜ AcceptedSheet (now s) h × HeldTerm (now s) (now terms) n × LowestNumbers (now s) (now numbers) ⌝ }
-    requires { ⌜ (k < propositions (now s)) × (hypothesisOut (now s) (now hypotheses) ≡ false) ⌝ }
+    requires { ⌜ Known (now s) (now hypotheses) k ⌝ }
     ensures { λ r. ⌜ Checks (ruled (now (s .entry)) (now (terms .entry)) n (now (hypotheses .entry)) k) r ⌝ }
 {
     let pairs = proposition_pairs(s, h);

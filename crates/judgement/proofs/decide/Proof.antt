@@ -37,15 +37,15 @@ assume-requires : tie.Need-assume-requires
 assume-requires c κs =
     let code = renumbered (c .before) in
     let here = stood code in
-    let ((sheet, _, numbers), (_, known)) = start here .pre in
-    enterable sheet (bytes here) numbers _ known (code .stand .ensures) (here .proposition-pairs .ensures) (search needs)
+    let ((sheet, _, numbers), known) = start here .pre in
+    enterable sheet (bytes here) numbers _ (known .hypotheses) (code .stand .ensures) (here .proposition-pairs .ensures) (search needs)
 
 pair-offset-requires : tie.Need-pair-offset-requires
 unfolding pairSize
 pair-offset-requires c κs =
     let here = stood (renumbered (entered c)) in
-    let ((sheet, _, _), (below, _)) = start here .pre in
-    rw (here .proposition-pairs .ensures) (omega (arith, below, has-codes (sheet .sheet) .pairs-within .present))
+    let ((sheet, _, _), known) = start here .pre in
+    rw (here .proposition-pairs .ensures) (omega (arith, known .proposition, has-codes (sheet .sheet) .pairs-within .present))
 
 -- where the proposition stands
 found : (c : tie.After-pair-offset) → let given = start (stood (renumbered (entered (placed c)))) .args in
@@ -61,10 +61,10 @@ check-requires c κs =
     let records = entered scope in
     let code = renumbered records in
     let here = stood code in
-    let ((sheet, term, numbers), (below, known)) = start here .pre in
-    let names = in-scope sheet (bytes here) numbers _ known (code .stand .ensures) (here .proposition-pairs .ensures) refl (scope .assume .ensures) in (
+    let ((sheet, term, numbers), known) = start here .pre in
+    let names = in-scope sheet (bytes here) numbers _ (known .hypotheses) (code .stand .ensures) (here .proposition-pairs .ensures) refl (scope .assume .ensures) in (
       judgeable sheet (bytes here) numbers (code .stand .ensures) term (records .renumber-records .ensures) (search needs) (names .entries) (search needs),
-      stood-at sheet (bytes here) numbers (code .stand .ensures) below (found place),
+      stood-at sheet (bytes here) numbers (code .stand .ensures) (known .proposition) (found place),
     )
 
 returns : tie.Need-returns
@@ -74,9 +74,9 @@ returns c =
     let records = entered scope in
     let code = renumbered records in
     let here = stood code in
-    let ((sheet, term, numbers), (below, known)) = start here .pre in
-    rules-say sheet (bytes here) numbers (code .stand .ensures) term (records .renumber-records .ensures) below (found place)
-    (in-scope sheet (bytes here) numbers _ known (code .stand .ensures) (here .proposition-pairs .ensures) refl (scope .assume .ensures)) (c .check .ensures)
+    let ((sheet, term, numbers), known) = start here .pre in
+    rules-say sheet (bytes here) numbers (code .stand .ensures) term (records .renumber-records .ensures) (known .proposition) (found place)
+    (in-scope sheet (bytes here) numbers _ (known .hypotheses) (code .stand .ensures) (here .proposition-pairs .ensures) refl (scope .assume .ensures)) (c .check .ensures)
 
 pub decide-spec : {M : Type 1} → statement M
 decide-spec =

@@ -8,8 +8,9 @@ use Rattle.definitions.specs.Sheet.{nameLimit}
 use Rattle.definitions.proofs.PrefixCode.{Bytes}
 use Rattle.sheet.proofs.Admitted.{its-header}
 use Rattle.judgement.specs.declared.Judgement.the-variants.{Refused}
+use Rattle.judgement.specs.Asked.{Known}
 use Rattle.judgement.proofs.Numbering.{lowest-numbers}
-use Rattle.judgement.proofs.Answers.{Known, known, refused-31, refused-22, answered}
+use Rattle.judgement.proofs.Answers.{known, refused-31, refused-22, answered}
 use Rattle.judgement.proofs.judge_held.Statement.{statement}
 use Rattle.judgement.proofs.judge_held.Tie as tie
 
@@ -43,10 +44,7 @@ returns c =
     ap Refused (c .at .ensures) ∙ refused-31 sheet _ _ (asked .is-outside .ensures) (c .before .if1 .taken) term
 
 may-check-requires : tie.Need-may-check-requires
-may-check-requires c κs =
-    let here = c .before .before in
-    let k = are-known here in
-    (start (here .before) .pre, (k .proposition, k .hypotheses))
+may-check-requires c κs = let here = c .before .before in (start (here .before) .pre, are-known here)
 
 returns-2 : tie.Need-returns-2
 returns-2 c =
@@ -70,8 +68,7 @@ decide-requires c κs =
     let numbers = numbered c in
     let here = inside (spoken-of numbers .before) in
     let (sheet, term) = start (here .before) .pre in
-    let k = are-known here in
-    ((sheet, term, lowest-numbers sheet (bytes (here .before)) (numbers .number-names .ensures) (c .first .ensures)), (k .proposition, k .hypotheses))
+    ((sheet, term, lowest-numbers sheet (bytes (here .before)) (numbers .number-names .ensures) (c .first .ensures)), are-known here)
 
 returns-3 : tie.Need-returns-3
 returns-3 c =
