@@ -28,6 +28,8 @@ use Rattle.proof_term.specs.Labels.{hasLabel, Labelled, termLabels}
 use Rattle.renumbering.specs.Renumbered.{mapped}
 use Rattle.term_renumbering.specs.Over.{RecordsOver, LabelOver}
 use Rattle.term_renumbering.proofs.Terms.{same-parts, ident-over, function-over, left-over, right-over, same-label, terms-over}
+use Rattle.term_sizes.specs.Sizes.{SizesFilled}
+use Rattle.term_sizes.proofs.Kept.{terms-same}
 use Rattle.standing_code.specs.Over.{CodeStands}
 use Rattle.prop_numbers.specs.Standing.{nodeLimit, madeNumbers, nameSpace, Stood}
 use Rattle.checker.specs.Scope.{Entries, Scoped, entryProp}
@@ -114,21 +116,6 @@ module _ {s : List ℕ} {h : Sheet} (a : AcceptedSheet s h) (bytes : Bytes s) {n
       let number : 1 * fieldAt after m 4 ≡ fieldAt terms m 4 = omega (arith, same .number no-datatype) in
       rw number (label-stood a bytes l c (t .labels m up (same .labelled) .proposition no-datatype))
 
-  well : (m : ℕ) → m ≤ n → Well after code 1 m
-  unfolding hasLabel
-  well m up = record {
-    parts = same-parts (mapped numbers) r (λ part. part < m) m up (t .parts m up);
-    ident = λ e. rw (ident-over (mapped numbers) r m up e) (in-space _);
-    parameter = λ e. rw (function-over (mapped numbers) r m up e) (in-space _);
-    left = λ e. rw (left-over (mapped numbers) r m up e) (in-space _);
-    right = λ e. rw (right-over (mapped numbers) r m up e) (in-space _);
-    label = record {
-      short = omega arith;
-      parameter = λ e some other. labelled-so m up (rw (e, ne-eqb (fieldAt after m 3) 0 some)) other;
-      ascribed = λ e other. labelled-so m up (rw e) other;
-    };
-  }
-
   -- with names as bytes it is the sheet's term
   label-is : (m : ℕ) → m ≤ n → LabelOver (mapped numbers) (propAt (names s) (codeBytes s)) (labelProp code 1) terms m
   label-is m up = record {
@@ -155,24 +142,58 @@ module _ {s : List ℕ} {h : Sheet} (a : AcceptedSheet s h) (bytes : Bytes s) {n
       let few = sheet-limited s bytes (heldTerm s terms n) (held-named t) .0 .few-nodes in
       omega (arith, same, few, ap nodes is-held)
 
-  pub judgeable : {scope made : List ℕ} → length after ≡ length terms → Entries code scope → length made ≡ madeNumbers
-      → Judgeable after code 1 scope made n 0
-  judgeable long entries slots = record {
-    held = omega (arith, t .held);
-    well = well;
-    room = omega (arith, few-nodes);
-    slots = slots;
-    ends = ends c;
-    entries = entries;
-  }
+  -- With the node counts in the records:
+  module _ {sized : List ℕ} (z : SizesFilled after n sized) where
+    kept : (m i : ℕ) → i < 6 → fieldAt sized m i ≡ fieldAt after m i
+    kept = z .kept
 
-  -- what the checker answers is what the rules say of it
-  pub rules-say : {k : ℕ} → k < propositions s → {at : ℕ} → at ≡ pairOffset (propositionPairs s) k
-      → {hs scope made scope′ made′ : List ℕ} {x : ℕ} → InScope s hs code scope (l .naming)
-      → Checked after code 1 scope made n 0 at scope′ made′ x → Checks (ruled s terms n hs k) x
-  unfolding ruled Decides
-  rules-say {k} below is {hs} i checked =
-      let means = checked .answer .means (l .naming) (assumed s hs []) (l .apart) (i .scoped) in
-      let says : check (heldTerm s terms n) (assumed s hs []) 0 (namedProp s k) ≡ checked .answer .outcome =
-      rw (← is-held, ← (prop-named a bytes l c k below), ← is) means in
-      rw says (checked .answer .shown)
+    same-term : termOf code 1 sized n ≡ termOf code 1 after n
+    same-term = terms-same (labelProp code 1) sized after kept n
+
+    well : (m : ℕ) → m ≤ n → Well sized code 1 m
+    unfolding hasLabel
+    well m up =
+        let kind = kept m 0 (omega arith) in
+        let label = kept m 3 (omega arith) in
+        let number = kept m 4 (omega arith) in
+        record {
+          parts = rw (kind, kept m 1 (omega arith), kept m 2 (omega arith), label) (same-parts (mapped numbers) r (λ part. part < m) m up (t .parts m up));
+          size = z .sized m up;
+          ident = λ e. rw (kept m 1 (omega arith), ident-over (mapped numbers) r m up (sym kind ∙ e)) (in-space _);
+          parameter = λ e. rw (kept m 2 (omega arith), function-over (mapped numbers) r m up (sym kind ∙ e)) (in-space _);
+          left = λ e. rw (number, left-over (mapped numbers) r m up (sym kind ∙ e)) (in-space _);
+          right = λ e. rw (kept m 5 (omega arith), right-over (mapped numbers) r m up (sym kind ∙ e)) (in-space _);
+          label = record {
+            short = omega arith;
+            parameter = λ e some other.
+                let was : fieldAt after m 0 ≡ 4 = sym kind ∙ e in
+                let any = ne-eqb (fieldAt after m 3) 0 (λ x. some (label ∙ x)) in
+                rw number (labelled-so m up (rw (was, any)) (λ x. other (label ∙ x)));
+            ascribed = λ e other.
+                let was : fieldAt after m 0 ≡ 11 = sym kind ∙ e in
+                rw number (labelled-so m up (rw was) (λ x. other (label ∙ x)));
+          };
+        }
+
+    pub judgeable : {scope made : List ℕ} → length after ≡ length terms → Entries code scope → length made ≡ madeNumbers
+        → Judgeable sized code 1 scope made n 0
+    judgeable long entries slots = record {
+      held = omega (arith, t .held, z .long);
+      well = well;
+      room = omega (arith, few-nodes, ap nodes same-term);
+      slots = slots;
+      ends = ends c;
+      entries = entries;
+    }
+
+    -- what the checker answers is what the rules say of it
+    pub rules-say : {k : ℕ} → k < propositions s → {at : ℕ} → at ≡ pairOffset (propositionPairs s) k
+        → {hs scope made scope′ made′ : List ℕ} {x : ℕ} → InScope s hs code scope (l .naming)
+        → Checked sized code 1 scope made n 0 at scope′ made′ x → Checks (ruled s terms n hs k) x
+    unfolding ruled Decides
+    rules-say {k} below is {hs} i checked =
+        let means = checked .answer .means (l .naming) (assumed s hs []) (l .apart) (i .scoped) in
+        let held = ap (renameTerm (l .naming)) same-term ∙ is-held in
+        let says : check (heldTerm s terms n) (assumed s hs []) 0 (namedProp s k) ≡ checked .answer .outcome =
+        rw (← held, ← (prop-named a bytes l c k below), ← is) means in
+        rw says (checked .answer .shown)

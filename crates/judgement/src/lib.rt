@@ -24,6 +24,7 @@ use sheet_term::sheet_term;
 use standing_code::CODE_SIZE;
 use standing_code::put_code;
 use term_renumbering::renumber_records;
+use term_sizes::fill_sizes;
 ghost use mathlib.Core.Path.{_≡_};
 ghost use mathlib.Core.Bool.{_||_};
 ghost use Prim.Native.Nat.{_+_, _≤_};
@@ -128,6 +129,7 @@ fn decide(
     let mut code = [0u8; CODE_SIZE];
     stand(s, h, numbers, &mut code);
     renumber_records(terms, n, numbers);
+    fill_sizes(terms, n);
     let mut scope = [0u32; NAMES];
     assume(hypotheses, numbers, pairs, &mut scope);
     let mut made = [0u32; MADE_NUMBERS];
