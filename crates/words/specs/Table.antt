@@ -1,13 +1,16 @@
--- The names met in a text: a list with the latest in front, and pairs of offset and length in lent memory.
+-- The names met in a text: a list with the latest in front, and in lent memory their pairs of offset and length, and their index.
 use Prim.Native.Nat.{ℕ, zero, suc, _+_, _-_, _*_, _/_, _%_, _<_, _≤_}
 use mathlib.Core.Path.{_≡_}
-use mathlib.Core.Bool.{false, cond}
+use mathlib.Core.Bool.{cond}
 use mathlib.Core.List.{List, [], _∷_}
-use lib.ListN.{length, take, set}
+use lib.ListN.{length, getD, take, set}
 use Rattle.definitions.specs.Name.{Name, eqName}
-use Rattle.definitions.specs.Sheet.{nameLimit, nameLengthLimit, pairSize, pairEnd, marked}
+use Rattle.definitions.specs.Sheet.{nameLimit, nameLengthLimit, pairSize, numberAt, pairEnd, marked}
+use Rattle.definitions.specs.NameIndex.{slotCount, index}
 use Rattle.definitions.specs.Text.{occurs}
 use Rattle.definitions.specs.TermText.{termTextLimit}
+use Rattle.name_index.specs.declared.Probed.{Probed}
+use Rattle.name_index.specs.Probed.{probed}
 use Rattle.words.specs.declared.Numbered.{Numbered}
 
 -- a name is added where it is new
@@ -44,17 +47,45 @@ pub record PairFits (pairs : List ℕ) (count at end : ℕ) : Type 0 where
   pub few : end ≤ at + nameLengthLimit
   pub near : end ≤ termTextLimit
 
--- the pairs with that of a name as number `count`: offset and length, low byte first
-unfoldable pub withPair : List ℕ → ℕ → ℕ → ℕ → List ℕ
-withPair pairs count at end =
-    let offset = set (set pairs (pairSize * count) (at % 256)) (pairSize * count + 1) (at / 256) in
-    set (set offset (pairSize * count + 2) ((end - at) % 256)) (pairSize * count + 3) ((end - at) / 256)
+-- the slots of the index lie behind the pairs of all names, and each holds a number
+unfoldable pub slotSize : ℕ
+slotSize = 2
 
--- so many names are in the table
+unfoldable pub slotOffset : ℕ → ℕ
+slotOffset slot = pairSize * nameLimit + slotSize * slot
+
+unfoldable pub tableSize : ℕ
+tableSize = slotOffset slotCount
+
+-- there is such a slot, and a name may have that number
+pub record SlotFits (pairs : List ℕ) (slot n : ℕ) : Type 0 where
+  pub room : length pairs ≡ tableSize
+  pub inside : slot < slotCount
+  pub few : n < nameLimit
+
+-- a number stored at an offset, low byte first
+unfoldable pub withNumber : List ℕ → ℕ → ℕ → List ℕ
+withNumber memory at n = set (set memory at (n % 256)) (at + 1) (n / 256)
+
+-- the pair of a name stored as number `count`: offset and length
+unfoldable pub withPair : List ℕ → ℕ → ℕ → ℕ → List ℕ
+withPair pairs count at end = withNumber (withNumber pairs (pairSize * count) at) (pairSize * count + 2) (end - at)
+
+-- the number of a name stored in a slot
+unfoldable pub withSlot : List ℕ → ℕ → ℕ → List ℕ
+withSlot pairs slot n = withNumber pairs (slotOffset slot) n
+
+-- so many names are in the table, and its slots are their index
 pub record Table (pairs text : List ℕ) (count : ℕ) : Type 0 where
-  pub room : length pairs ≡ pairSize * nameLimit
+  pub room : length pairs ≡ tableSize
   pub few : count ≤ nameLimit
   pub ends : (j : ℕ) → j < count → pairEnd pairs j ≤ length text
+  pub indexed : (slot : ℕ) → slot < slotCount
+      → numberAt pairs (slotOffset slot) ≡ getD (index (marked pairs text) count) slot 0
+
+-- what probing for a name in the index of the names comes to
+unfoldable pub searched : List ℕ → List ℕ → ℕ → Name → Probed
+searched pairs text count x = probed (marked pairs text) (index (marked pairs text) count) x
 
 -- the names xs were looked up, and are in the table now
 pub record Noted (xs : List Name) (text pairs : List ℕ) (count : ℕ) (after : List ℕ) (next : ℕ) : Type 0 where
@@ -62,20 +93,6 @@ pub record Noted (xs : List Name) (text pairs : List ℕ) (count : ℕ) (after :
   pub names : tableNames after text next ≡ added (tableNames pairs text count) xs
   pub kept : take (pairSize * count) after ≡ take (pairSize * count) pairs
   pub more : count ≤ next
-
--- the number of the first pair that marks x, and the count where none does
-unfoldable pub firstNumber : List ℕ → List ℕ → ℕ → Name → ℕ
-firstNumber pairs text zero x = 0
-firstNumber pairs text (suc n) x =
-    let earlier = firstNumber pairs text n x in
-    cond (occurs eqName x (tableNames pairs text n)) earlier (cond (eqName x (marked pairs text n)) n (suc n))
-
--- the first pair that marks x, or the count where none does
-pub record FoundName (x : Name) (text pairs : List ℕ) (count r : ℕ) : Type 0 where
-  pub within : r ≤ count
-  pub marks : r < count → marked pairs text r ≡ x
-  pub first : r < count → occurs eqName x (tableNames pairs text r) ≡ false
-  pub new : r ≡ count → occurs eqName x (tableNames pairs text count) ≡ false
 
 -- the name x has the number that is given, unless the table is full and x is new
 pub record NumberOf (x : Name) (text pairs : List ℕ) (count : ℕ) (after : List ℕ) (r : Numbered) : Type 0 where

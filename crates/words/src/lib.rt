@@ -6,17 +6,22 @@ use identifier::CLASSES;
 use identifier::OTHER;
 use identifier::class;
 use identifier::same_name;
+use name_index::Probed;
+use name_index::SLOT_COUNT;
+use name_index::start_slot;
 use number::PAIR_SIZE;
 use number::marked_bytes;
+use number::number_at;
 ghost use mathlib.Core.Path.{_≡_};
-ghost use Prim.Native.Nat.{_≤_};
+ghost use Prim.Native.Nat.{_+_, _≤_, _<_};
 ghost use lib.ListN.{length, drop};
 ghost use Rattle.definitions.specs.TermText.{isAdmitted, allAdmitted};
 ghost use Rattle.definitions.specs.CallerNames.{namesIn};
 ghost use Rattle.definitions.specs.TermReader.{startOf, argumentFollows};
 ghost use Rattle.words.specs.Places.{between, WordEnds, NameEnds, Expected};
 ghost use Rattle.words.specs.Starts.{asStart};
-ghost use Rattle.words.specs.Table.{Table, NamePlace, FoundName, NumberOf, PairFits, withPair};
+ghost use Rattle.words.specs.Table.{Table, NamePlace, NumberOf, PairFits, SlotFits};
+ghost use Rattle.words.specs.Table.{searched, withNumber, withPair, withSlot};
 
 // Where the name bytes from `at` on end.
 pub fn word_end(text: &[u8], at: usize) -> usize
@@ -172,26 +177,47 @@ pub fn argument_follows(text: &[u8], at: usize) -> bool
 // At most so many different names.
 pub const NAME_LIMIT: usize = 512;
 
+// Where the slots of the index begin: behind the pairs of all names.
+const SLOTS: usize = PAIR_SIZE * NAME_LIMIT;
+
+// The bytes of a slot, which holds a number.
+const SLOT_SIZE: usize = 2;
+
 // The number of a name, NAME_LIMIT where there are too many, and how many names there are now.
 pub struct Numbered {
     pub number: usize,
     pub count: usize,
 }
 
-// The number of the first of the names that has these bytes, and the count where none has.
-pub fn find_name(text: &[u8], at: usize, end: usize, names: &[u8], count: usize) -> usize
+// The number of the name with these bytes, or the slot that it would enter. Taken slots are stepped over from its start slot on,
+// round the end, up to its equal or a free slot, which holds more than the number of any name.
+pub fn find_name(text: &[u8], at: usize, end: usize, names: &[u8], count: usize) -> Probed
     requires { ⌜ Table (now names) (now text) count × (at ≤ end) × (end ≤ length (now text)) ⌝ }
-    ensures { λ r. ⌜ FoundName (between at end (now (text .entry)))
-        (now (text .entry)) (now (names .entry)) count r ⌝ }
+    ensures { λ r. ⌜ r ≡ searched (now (names .entry)) (now (text .entry)) count
+        (between at end (now (text .entry))) ⌝ }
 {
-    let mut i = 0;
-    while i < count {
-        if same_name(&text[at..end], marked_bytes(names, text, i)) {
-            return i;
+    let name = &text[at..end];
+    let mut slot = start_slot(name);
+    for _ in 0..SLOT_COUNT {
+        let number = number_at(names, SLOTS + SLOT_SIZE * slot);
+        if count <= number {
+            return Probed::Absent(slot);
         }
-        i += 1;
+        if same_name(marked_bytes(names, text, number), name) {
+            return Probed::Held(number);
+        }
+        slot = (slot + 1) % SLOT_COUNT;
     }
-    count
+    Probed::Absent(slot)
+}
+
+// Stores a number at an offset, low byte first.
+fn put_number(names: &mut [u8], at: usize, number: usize)
+    requires { ⌜ (at + 1 < length (now names)) × (number < 65536) ⌝ }
+    ensures { λ _. ⌜ now (names .exit) ≡ withNumber (now (names .entry)) at number ⌝ }
+{
+    names[at] = (number % 256) as u8;
+    names[at + 1] = (number / 256) as u8;
 }
 
 // Stores the pair of a name that stands from `at` to `end` as number `count`.
@@ -199,15 +225,19 @@ pub fn put_pair(names: &mut [u8], count: usize, at: usize, end: usize)
     requires { ⌜ PairFits (now names) count at end ⌝ }
     ensures { λ r. ⌜ now (names .exit) ≡ withPair (now (names .entry)) count at end ⌝ }
 {
-    let pair = PAIR_SIZE * count;
-    let length = end - at;
-    names[pair] = (at % 256) as u8;
-    names[pair + 1] = (at / 256) as u8;
-    names[pair + 2] = (length % 256) as u8;
-    names[pair + 3] = (length / 256) as u8;
+    put_number(names, PAIR_SIZE * count, at);
+    put_number(names, PAIR_SIZE * count + 2, end - at);
 }
 
-// The number of a name: of the pair that marks the same bytes, or else of a new pair.
+// Stores the number of a name in a slot of the index.
+fn put_slot(names: &mut [u8], slot: usize, number: usize)
+    requires { ⌜ SlotFits (now names) slot number ⌝ }
+    ensures { λ _. ⌜ now (names .exit) ≡ withSlot (now (names .entry)) slot number ⌝ }
+{
+    put_number(names, SLOTS + SLOT_SIZE * slot, number);
+}
+
+// The number of a name: of the pair that marks the same bytes, or else of a new pair, which enters the index.
 pub fn number_of_name(
     text: &[u8],
     at: usize,
@@ -219,16 +249,21 @@ pub fn number_of_name(
     ensures { λ r. ⌜ NumberOf (between at end (now (text .entry)))
         (now (text .entry)) (now (names .entry)) count (now (names .exit)) r ⌝ }
 {
-    let number = find_name(text, at, end, names, count);
-    if number < count {
-        return Numbered { number, count };
-    }
-    if count == NAME_LIMIT {
-        return Numbered { number, count };
-    }
-    put_pair(names, count, at, end);
-    Numbered {
-        number,
-        count: count + 1,
+    match find_name(text, at, end, names, count) {
+        Probed::Held(number) => Numbered { number, count },
+        Probed::Absent(slot) => {
+            if count == NAME_LIMIT {
+                return Numbered {
+                    number: count,
+                    count,
+                };
+            }
+            put_pair(names, count, at, end);
+            put_slot(names, slot, count);
+            Numbered {
+                number: count,
+                count: count + 1,
+            }
+        }
     }
 }

@@ -1,47 +1,90 @@
--- The name is found, there are too many, or a pair is added.
-use Prim.Native.Nat.{_+_, _*_, _≤_, _<_}
-use mathlib.Core.Path.{_≡_, refl}
+-- The name is held, there are too many, or it is added.
+use mathlib.Core.Path.{_≡_, sym, _∙_}
 use native.Mathlib.Omega.{arith}
-use lib.ListN.{length, length-set}
 use borrow.Author.Needs.{needs}
-use Rattle.definitions.specs.Sheet.{pairSize, nameLimit, nameLengthLimit}
-use Rattle.definitions.specs.TermText.{termTextLimit}
-use Rattle.words.specs.Table.{Table, NamePlace}
-use Rattle.words.proofs.Numbers.{found-again, none-more, pair-fits, one-more}
+use Rattle.definitions.specs.Sheet.{nameLimit}
+use Rattle.definitions.specs.NameIndex.{slotCount}
+use Rattle.name_index.specs.declared.Probed.the-variants.{Held, Absent}
+use Rattle.words.specs.Places.{between}
+use Rattle.words.specs.Table.{searched}
+use Rattle.words.proofs.Indexing.{slot-inside}
+use Rattle.words.proofs.Numbers.{found-again, none-more}
+use Rattle.words.proofs.NewName.{pair-fits, paired-length, one-more}
 use Rattle.words.proofs.number_of_name.Statement.{statement}
 use Rattle.words.proofs.number_of_name.Tie as tie
 
--- back from where a pair is added to the start
-abbrev start : tie.Else2 → tie.Start
-start c = c .before .before .before .before .before .before
+-- back from the search to the start, from the slot that it gives to the search, and from the stored pair to where there was room
+abbrev start : tie.After-find-name → tie.Start
+start c = c .before .before .before .before
 
--- and back over the pair that is added
-abbrev tested : tie.After-slice-known2 → tie.Else2
-tested c = c .before .before .before .before
+abbrev search-made : tie.After-known-told2 → tie.After-find-name
+search-made c = c .before .before .before
+
+abbrev tested : tie.After-put-pair → tie.Else1
+tested c = c .before .before
+
+abbrev pair-stored : tie.After-put-slot → tie.After-put-pair
+pair-stored c = c .before .before .before .before
+
+-- the name has this number
+held : (c : tie.After-known-told) →
+    let a = start (c .before .before .before) .args in
+    searched (a .names .now) (a .text .now) (a .count) (between (a .at) (a .end) (a .text .now)) ≡ Held (c .before .number .given .0 .0)
+held c = sym (c .before .before .before .find-name .ensures) ∙ c .before .number .given .1
+
+-- the name is absent, and would enter this slot
+absent : (c : tie.After-known-told2) →
+    let a = start (search-made c) .args in
+    searched (a .names .now) (a .text .now) (a .count) (between (a .at) (a .end) (a .text .now)) ≡ Absent (c .before .slot .given .0 .0)
+absent c = sym (search-made c .find-name .ensures) ∙ c .before .slot .given .1
 
 find-name-requires : tie.Need-find-name-requires
-find-name-requires c κs = (c .before .before .before .pre .0, omega (arith, c .before .before .before .pre .1), c .before .before .before .pre .1 .within)
+find-name-requires c κs =
+    let pre = c .before .before .before .pre in
+    (pre .0, omega (arith, pre .1), pre .1 .within)
+
+enum-known-number : tie.Need-enum-known-number
+enum-known-number c = search needs
+
+enum-known-slot : tie.Need-enum-known-slot
+enum-known-slot c = search needs
 
 same-length : tie.Need-same-length
 same-length c = search needs
 
 returns : tie.Need-returns
-returns c = found-again (c .before .before .before .before .before .pre .0) (c .before .find-name .ensures) (c .if1 .taken)
+unfolding nameLimit
+returns c = none-more (start (search-made (c .before)) .pre .0) _ (absent (c .before)) (c .if1 .taken)
+
+put-pair-requires : tie.Need-put-pair-requires
+unfolding nameLimit
+put-pair-requires c κs =
+    let pre = start (search-made (c .before .before)) .pre in
+    pair-fits (pre .0) (c .before .if1 .left) (pre .1)
+
+put-slot-requires : tie.Need-put-slot-requires
+unfolding nameLimit slotCount
+put-slot-requires c κs =
+    let pair = c .before .before .before in
+    let room = tested pair in
+    let pre = start (search-made (room .before)) .pre in
+    record {
+      room = rw (pair .put-pair .ensures) (paired-length (pre .0) (room .if1 .left) (pre .1));
+      inside = omega (arith, slot-inside (pre .0) _ (absent (room .before)));
+      few = omega (arith, pre .0 .few, room .if1 .left);
+    }
+
+add-t18 : tie.Need-add-t18
+unfolding nameLimit
+add-t18 c =
+    let room = tested (pair-stored (c .before .before)) in
+    omega (arith, start (search-made (room .before)) .pre .0 .few)
 
 same-length-2 : tie.Need-same-length-2
 same-length-2 c = search needs
 
 returns-2 : tie.Need-returns-2
-unfolding nameLimit
-returns-2 c = none-more (c .before .before .before .before .before .before .pre .0) (c .before .before .find-name .ensures) (omega arith) (c .if2 .taken)
-
-put-pair-requires : tie.Need-put-pair-requires
-unfolding nameLimit
-put-pair-requires c κs = pair-fits (start (c .before) .pre .0) (c .before .if2 .left) (start (c .before) .pre .1)
-
-add-t13 : tie.Need-add-t13
-unfolding nameLimit
-add-t13 c = let place = tested c in omega (arith, start place .pre .0 .few, place .if2 .left)
+returns-2 c = found-again (start (c .before .before .before) .pre .0) _ (held c)
 
 same-length-3 : tie.Need-same-length-3
 same-length-3 c = search needs
@@ -49,20 +92,25 @@ same-length-3 c = search needs
 returns-3 : tie.Need-returns-3
 unfolding nameLimit
 returns-3 c =
-    let place = tested c in
-    rw (c .before .before .put-pair .ensures)
-    (one-more (start place .pre .0) (place .if2 .left) (start place .pre .1) (place .before .before .find-name .ensures) (omega arith))
+    let slot = c .before .before in
+    let pair = pair-stored slot in
+    let room = tested pair in
+    let pre = start (search-made (room .before)) .pre in
+    rw (slot .put-slot .ensures, pair .put-pair .ensures) (one-more (pre .0) (room .if1 .left) (pre .1) (absent (room .before)))
 
 pub number-of-name-spec : {M : Type 1} → statement M
 number-of-name-spec =
     tie.close
     (tie.spec
     find-name-requires
+    enum-known-number
+    enum-known-slot
     same-length
     returns
+    put-pair-requires
+    put-slot-requires
+    add-t18
     same-length-2
     returns-2
-    put-pair-requires
-    add-t13
     same-length-3
     returns-3)

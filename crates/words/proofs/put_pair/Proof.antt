@@ -1,87 +1,64 @@
--- Each byte of the pair in its place.
-use Prim.Native.Nat.{_*_, _≤_, _<_}
-use mathlib.Core.Path.{_≡_, refl}
+-- The offset, and then the length.
+use mathlib.Core.Path.{refl}
 use native.Mathlib.Omega.{arith}
-use lib.ListN.{length, length-set}
 use borrow.Author.Needs.{needs}
 use Rattle.definitions.specs.Sheet.{pairSize, nameLengthLimit}
 use Rattle.definitions.specs.TermText.{termTextLimit}
 use Rattle.words.specs.Table.{withPair}
+use Rattle.words.proofs.Stored.{stored-length}
 use Rattle.words.proofs.put_pair.Statement.{statement}
 use Rattle.words.proofs.put_pair.Tie as tie
 
-mul-pair : tie.Need-mul-pair
-unfolding pairSize nameLengthLimit termTextLimit
-mul-pair c = omega (arith, c .pre .room, c .pre .some, c .pre .few, c .pre .near)
+-- back from the second number to the first, and from there to the start
+abbrev first : tie.After-put-number-arg2 → tie.After-put-number
+first c = c .before .before .before
 
-sub-length : tie.Need-sub-length
-sub-length c = search needs
+abbrev start : tie.After-put-number → tie.Start
+start c = c .before .before .before
 
-cast-names : tie.Need-cast-names
-cast-names c = search needs
+mul-put-number : tie.Need-mul-put-number
+unfolding pairSize
+mul-put-number c = search needs
 
-slice-write-names : tie.Need-slice-write-names
-unfolding pairSize nameLengthLimit termTextLimit
-slice-write-names c = omega (arith, c .pre .room, c .pre .some, c .pre .few, c .pre .near)
+put-number-requires : tie.Need-put-number-requires
+unfolding pairSize termTextLimit
+put-number-requires c κs = search needs
 
-cast-names-2 : tie.Need-cast-names-2
-unfolding pairSize nameLengthLimit termTextLimit
-cast-names-2 c = omega (arith, c .pre .room, c .pre .some, c .pre .few, c .pre .near)
+mul-put-number-2 : tie.Need-mul-put-number-2
+unfolding pairSize
+mul-put-number-2 c = omega (arith, start (first c) .pre .room)
 
-add-names : tie.Need-add-names
-unfolding pairSize nameLengthLimit termTextLimit
-add-names c = omega (arith, c .pre .room, c .pre .some, c .pre .few, c .pre .near)
+add-put-number : tie.Need-add-put-number
+unfolding pairSize
+add-put-number c = omega (arith, start (first c) .pre .room)
 
-slice-write-names-2 : tie.Need-slice-write-names-2
-unfolding pairSize nameLengthLimit termTextLimit
-slice-write-names-2 c = simp length-set (omega (arith, c .pre .room))
+sub-put-number : tie.Need-sub-put-number
+sub-put-number c = search needs
 
-cast-names-3 : tie.Need-cast-names-3
-cast-names-3 c = search needs
-
-add-names-2 : tie.Need-add-names-2
-unfolding pairSize nameLengthLimit termTextLimit
-add-names-2 c = omega (arith, c .pre .room, c .pre .some, c .pre .few, c .pre .near)
-
-slice-write-names-3 : tie.Need-slice-write-names-3
-unfolding pairSize nameLengthLimit termTextLimit
-slice-write-names-3 c = simp length-set (omega (arith, c .pre .room))
-
-cast-names-4 : tie.Need-cast-names-4
-unfolding pairSize nameLengthLimit termTextLimit
-cast-names-4 c = omega (arith, c .pre .room, c .pre .some, c .pre .few, c .pre .near)
-
-add-names-3 : tie.Need-add-names-3
-unfolding pairSize nameLengthLimit termTextLimit
-add-names-3 c = omega (arith, c .pre .room, c .pre .some, c .pre .few, c .pre .near)
-
-slice-write-names-4 : tie.Need-slice-write-names-4
-unfolding pairSize nameLengthLimit termTextLimit
-slice-write-names-4 c = simp length-set (omega (arith, c .pre .room))
+put-number-requires-2 : tie.Need-put-number-requires-2
+unfolding pairSize nameLengthLimit
+put-number-requires-2 c κs =
+    let pre = start (first c) .pre in
+    (rw (first c .put-number .ensures, stored-length) (omega (arith, pre .room)), omega (arith, pre .few))
 
 same-length : tie.Need-same-length
 same-length c = search needs
 
 returns : tie.Need-returns
 unfolding withPair pairSize
-returns c = refl
+returns c =
+    let second = c .before .before in
+    rw (second .put-number2 .ensures, first (second .before) .put-number .ensures) refl
 
 pub put-pair-spec : {M : Type 1} → statement M
 put-pair-spec =
     tie.close
     (tie.spec
-    mul-pair
-    sub-length
-    cast-names
-    slice-write-names
-    cast-names-2
-    add-names
-    slice-write-names-2
-    cast-names-3
-    add-names-2
-    slice-write-names-3
-    cast-names-4
-    add-names-3
-    slice-write-names-4
+    mul-put-number
+    put-number-requires
+    mul-put-number-2
+    add-put-number
+    sub-put-number
+    put-number-requires-2
     same-length
     returns)
