@@ -13,6 +13,7 @@ use Rattle.definitions.specs.Term.{ProofTerm, annotationCount}
 use Rattle.definitions.specs.TermText.{nodes}
 use Rattle.definitions.specs.TermMemory.{differentNames, place, textLabels, labelsSize, recordsOf, storeLabels, recordNumbers, TermRoom, termAnswer}
 use Rattle.term_stack.specs.declared.Progress.{Progress}
+use Rattle.term_stack.specs.Standing.{Some}
 use Rattle.term_reader.specs.Whole.{CountsOf, Measured}
 use Rattle.term_reader.specs.declared.TermSize.{TermSize}
 use Rattle.term_reader.specs.declared.TermRead.{TermRead}
@@ -65,6 +66,17 @@ pub record Fitting (t : ProofTerm Name) (list text pairs work records names code
   pub measured : Measured t list text pairs work (s .to)
   pub counts : CountsOf t s
   pub fits : shortFor (length records) (length names) (length code) s ≡ false
+
+unfoldable pub HasRoom : List ℕ → List ℕ → List ℕ → List ℕ → List ℕ → List ℕ → List ℕ → Progress → Type 0
+HasRoom list text pairs work records names code s =
+    Some (λ (t : ProofTerm Name). Fitting t list text pairs work records names code s)
+
+-- and then it is handed over
+unfoldable pub HandsOver
+    : List ℕ → List ℕ → List ℕ → List ℕ → List ℕ → List ℕ → List ℕ → Progress → List ℕ → List ℕ → List ℕ → TermRead → Type 0
+HandsOver list text pairs work records names code s records′ names′ code′ r =
+    (t : ProofTerm Name) → Fitting t list text pairs work records names code s
+    → Answers (accepted t) text records names code records′ names′ code′ r
 
 unfoldable pub roomOf : List ℕ → List ℕ → List ℕ → TermRoom
 roomOf records names code = record { records = length records; names = length names; code = length code }

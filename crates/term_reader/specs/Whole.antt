@@ -61,6 +61,9 @@ pub record Measured (t : ProofTerm Name) (list text names work : List ℕ) (size
   pub whole : WholeTerm t (sceneOf list text names [] []) work
   pub size-is : size ≡ labelsSize (textLabels t)
 
+unfoldable pub HasRead : List ℕ → List ℕ → List ℕ → List ℕ → ℕ → Type 0
+HasRead list text names work size = Some (λ (t : ProofTerm Name). Measured t list text names work size)
+
 -- the second pass has read the same term, and its labels' code is stored
 unfoldable pub Rereads : List ℕ → List ℕ → List ℕ → List ℕ → List ℕ → ℕ → List ℕ → List ℕ → List ℕ → Type 0
 Rereads list text names code work size names′ code′ work′ =

@@ -7,12 +7,16 @@ use Rattle.output.specs.Wrote.{puts}
 use Rattle.term_reader.proofs.copy_out.Statement.{statement}
 use Rattle.term_reader.proofs.copy_out.Tie as tie
 
+-- back over the lent memory to the start
+abbrev entry : tie.After-shared-slice-known2 → tie.Start
+entry c = c .before .before .before .before
+
 returns : tie.Need-returns
 unfolding puts
 returns c =
     let put = c .before .before in
     let copied = put .before .before .before .before .before .before in
-    let s = copied .before .before .before .before .before .before .before .args .s in
+    let s = entry (copied .before .before .before) .args .s in
     let all : 4 * s .count - 0 ≡ 4 * s .count = omega arith in
     (copied .copy-records .ensures, rw all at (put .put-all .ensures .stored))
 
