@@ -1,0 +1,4 @@
+pub mod Tops
+pub mod Enclosed
+pub mod Paired
+pub mod Bodies
