@@ -2,3 +2,4 @@ pub mod Tops
 pub mod Enclosed
 pub mod Paired
 pub mod Bodies
+pub mod Branches

@@ -1,6 +1,7 @@
 -- The entry on top of the stack, by its numbers in memory, and which it is by its kind.
 use Prim.Native.Nat.{ℕ, _+_, _-_, _*_, _<_, _≤_}
 use mathlib.Core.Path.{_≡_, refl, ap, _∙_}
+use mathlib.Core.Bool.{true}
 use mathlib.Core.List.{List, [], _∷_}
 use native.Mathlib.Omega.{arith}
 use lib.ListN.{getD}
@@ -16,9 +17,9 @@ use Rattle.term_stack.specs.declared.Entry as reader
 use Rattle.term_stack.specs.Growing.{Tops}
 use Rattle.term_stack.specs.Numbers.{purposeKind, entryNumbers, stackNumbers}
 use Rattle.term_stack.specs.Standing.{Scene, Extends, Behind, AtTerm}
-use Rattle.term_stack.specs.Using.{GivesTo, Gives}
+use Rattle.term_stack.specs.Using.{GivesTo, Gives, lastPart}
 use Rattle.term_stack.proofs.Stores.{top-number}
-use Rattle.term_stack.proofs.Closes.{entryKind, entry-numbers}
+use Rattle.term_stack.proofs.Closes.{entryKind, entry-numbers, kind-of}
 
 -- an entry has no numbers but its seven
 itself : (number : Name → ℕ) (ms : List Mark) (e : Entry)
@@ -80,11 +81,9 @@ pub data Bracket : Entry → Type 0 where
 pub data Half : Entry → Type 0 where
   of-half : (p : Purpose) (b : ProofTerm Name) → Half (second p b)
 
-pub data Head : Entry → Type 0 where
-  of-head : Head caseHead
-
-pub data First : Entry → Type 0 where
-  of-first : (b : ProofTerm Name) (x : Name) → First (caseFirst b x)
+pub data Branch : Entry → Type 0 where
+  of-head : Branch caseHead
+  of-first : (b : ProofTerm Name) (x : Name) → Branch (caseFirst b x)
 
 pub data Bound : Entry → Type 0 where
   of-bound : (x y : Name) → Bound (letHead x y)
@@ -111,27 +110,16 @@ half-of (caseSecond b x c y) h k = absurd (omega (arith, k))
 half-of (letHead x y) h k = absurd (omega (arith, k))
 half-of (letBody x y b) h k = absurd (omega (arith, k))
 
-pub head-of : (entry : Entry) → entryKind entry ≡ 7 → Head entry
+pub branch-of : (entry : Entry) → 7 ≤ entryKind entry → entryKind entry < 9 → Branch entry
 unfolding entryKind
-head-of (inBracket p) h = let b = purpose-below p in absurd (omega (arith, h, b))
-head-of (second p b) h = let b = purpose-below p in absurd (omega (arith, h, b))
-head-of (functionBody x l) h = absurd (omega (arith, h))
-head-of caseHead h = of-head
-head-of (caseFirst b x) h = absurd (omega (arith, h))
-head-of (caseSecond b x c y) h = absurd (omega (arith, h))
-head-of (letHead x y) h = absurd (omega (arith, h))
-head-of (letBody x y b) h = absurd (omega (arith, h))
-
-pub first-of : (entry : Entry) → entryKind entry ≡ 8 → First entry
-unfolding entryKind
-first-of (inBracket p) h = let b = purpose-below p in absurd (omega (arith, h, b))
-first-of (second p b) h = let b = purpose-below p in absurd (omega (arith, h, b))
-first-of (functionBody x l) h = absurd (omega (arith, h))
-first-of caseHead h = absurd (omega (arith, h))
-first-of (caseFirst b x) h = of-first b x
-first-of (caseSecond b x c y) h = absurd (omega (arith, h))
-first-of (letHead x y) h = absurd (omega (arith, h))
-first-of (letBody x y b) h = absurd (omega (arith, h))
+branch-of (inBracket p) h k = let b = purpose-below p in absurd (omega (arith, h, b))
+branch-of (second p b) h k = let b = purpose-below p in absurd (omega (arith, h, b))
+branch-of (functionBody x l) h k = absurd (omega (arith, h))
+branch-of caseHead h k = of-head
+branch-of (caseFirst b x) h k = of-first b x
+branch-of (caseSecond b x c y) h k = absurd (omega (arith, k))
+branch-of (letHead x y) h k = absurd (omega (arith, k))
+branch-of (letBody x y b) h k = absurd (omega (arith, k))
 
 pub bound-of : (entry : Entry) → entryKind entry ≡ 10 → Bound entry
 unfolding entryKind
@@ -143,3 +131,22 @@ bound-of (caseFirst b x) h = absurd (omega (arith, h))
 bound-of (caseSecond b x c y) h = absurd (omega (arith, h))
 bound-of (letHead x y) h = of-bound x y
 bound-of (letBody x y b) h = absurd (omega (arith, h))
+
+-- what waits for the last part of a function, a case or a let
+pub last-six : {kind : ℕ} → kind ≡ 6 → lastPart kind ≡ true
+unfolding lastPart
+last-six e = rw e refl
+
+last-entry : (entry : Entry) → 9 ≤ entryKind entry → (entryKind entry ≡ 10 → ⊥) → lastPart (entryKind entry) ≡ true
+unfolding entryKind lastPart
+last-entry (inBracket p) h k = let b = purpose-below p in absurd (omega (arith, h, b))
+last-entry (second p b) h k = let b = purpose-below p in absurd (omega (arith, h, b))
+last-entry (functionBody x l) h k = absurd (omega (arith, h))
+last-entry caseHead h k = absurd (omega (arith, h))
+last-entry (caseFirst b x) h k = absurd (omega (arith, h))
+last-entry (caseSecond b x c y) h k = refl
+last-entry (letHead x y) h k = absurd (k refl)
+last-entry (letBody x y b) h k = refl
+
+pub last-kind : {z : Scene} {work : List ℕ} {s : Progress} {e : reader.Entry} → Gives z work s e → 9 ≤ e .kind → (e .kind ≡ 10 → ⊥) → lastPart (e .kind) ≡ true
+last-kind g h k = let i = kind-of (g .to) in rw i (last-entry (g .entry) (rw i at h) (λ j. k (i ∙ j)))
