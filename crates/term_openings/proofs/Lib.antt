@@ -1,2 +1,3 @@
 pub mod Noting
 pub mod ClosedTerms
+pub mod FirstWords
