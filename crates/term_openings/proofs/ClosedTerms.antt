@@ -19,13 +19,14 @@ use Rattle.reading_laws.specs.TermMachine as machine
 use Rattle.reading_laws.specs.TermMachine.{Entry, inBracket, State, reading, andThen, used, closedFor}
 use Rattle.reading_laws.specs.Marks.{Mark, called, node, marks, purposeMarks, entryMarks, entriesMarks, namesMet}
 use Rattle.reading_laws.proofs.MarksMet.{begins-by, begins-all, after-used}
-use Rattle.reading_laws.proofs.OnTheWay.{names-both}
 use Rattle.words.specs.declared.Numbered.{Numbered}
 use Rattle.words.specs.Places.{between, WordEnds, NameEnds, Expected}
 use Rattle.words.specs.Table.{addName, added, numberIn, tableNames, NamePlace, NumberOf}
+use Rattle.words.proofs.Added.{met-added}
 use Rattle.words.proofs.Words.{between-length, sorry-word, other-word}
 use Rattle.atom_reader.specs.Scope.{Crowded}
 use Rattle.atom_reader.proofs.Scopes.{added-one-meets}
+use Rattle.atom_reader.proofs.Atoms.{number-later}
 use Rattle.term_stack.specs.declared.Progress.{Progress}
 use Rattle.term_stack.specs.declared.Purpose.{Purpose}
 use Rattle.term_stack.specs.Forms.{kindOf}
@@ -89,13 +90,12 @@ module _ {text : List ℕ} {at end : ℕ} (ends : WordEnds text at end) where
 unfoldable opening : List Entry → machine.Purpose → Prim.Unit {0} → List ℕ → Option State
 opening k p u t = ifRead (expect (utf8 ")") t) (λ u v. used k p (standing false Unit) v) (some (reading (inBracket p ∷ k) t))
 
--- the number of a name that was noted
-pub number-noted : (x : Name) (seen now : List Name) (number : Name → ℕ) {n : ℕ} → now ≡ added seen (x ∷ []) → n ≡ numberIn (addName seen x) x
-    → Extends number now → n ≡ number x
-unfolding added
-number-noted x seen now number names is e =
-    let there : occurs eqName x now ≡ true = rw names (added-one-meets seen x) in
-    is ∙ sym (e x there ∙ ap (λ l. numberIn l x) names)
+-- the number of a name that was noted, and then others
+pub number-noted : (x : Name) (seen others now : List Name) (number : Name → ℕ) {n : ℕ} → now ≡ added (added seen (x ∷ [])) others
+    → n ≡ numberIn (addName seen x) x → Extends number now → n ≡ number x
+number-noted x seen others now number names is e =
+    let there : occurs eqName x now ≡ true = rw names (met-added x (added seen (x ∷ [])) others (added-one-meets seen x) .0) in
+    number-later x seen others is ∙ sym (e x there ∙ ap (λ l. numberIn l x) names)
 
 module _ {z : Scene} {work : List ℕ} {s : Progress} {q : Purpose} (c : Closed z work s q) where
   abbrev before : List Mark
@@ -120,14 +120,13 @@ module _ {z : Scene} {work : List ℕ} {s : Progress} {q : Purpose} (c : Closed 
     name-full h =
         let x = between (s .at) end (z .text) in
         let ms = before ++ (called x ∷ []) in
-        let crowded : Crowded [] (namesMet ms) = rw (names-both before (called x ∷ [])) (crowded-met (x ∷ []) (c .for .stored) (number .full h)) in
         unfit name-comes
-        (many-names ms _ crowded
+        (many-names ms _ (crowded-met (called x ∷ []) (c .for .stored) (number .full h))
         (after-used ms (c .entries) (c .purpose) (standing false (Ident x)) (drop end (z .text))
         (begins-by ms (node ∷ []) (begins-all ms) (simp append-assoc))))
 
     pub name-leaf : n .number < nameLimit → Leaf (noting z after (z .code)) work (further s end (n .count) (s .to)) 0 (n .number) q
-    unfolding noting standing marks recordsAfter kindOf termNesting annotationCount seven
+    unfolding noting standing marks recordsAfter added kindOf termNesting annotationCount seven
     name-leaf h =
         let x = between (s .at) end (z .text) in
         record {
@@ -141,7 +140,7 @@ module _ {z : Scene} {work : List ℕ} {s : Progress} {q : Purpose} (c : Closed 
           purpose-is = c .for .purpose-is;
           stored = stored-as (stored-name x (c .for .stored) (number .noted h)) (append-assoc (entriesMarks (c .entries)) (purposeMarks (c .purpose)) (called x ∷ [])) (λ numbers. refl);
           marks-are = refl;
-          row-is = λ numbers e. let is = number-noted x (tableNames (z .names) (z .text) (s .count)) _ numbers (number .noted h .names) (number .number-is h) e in rw is refl;
+          row-is = λ numbers e. let is = number-noted x (tableNames (z .names) (z .text) (s .count)) [] _ numbers (number .noted h .names) (number .number-is h) e in rw is refl;
           kind-is = refl;
           nest-is = refl;
           tally-is = refl;

@@ -71,9 +71,9 @@ module _ {ms : List Mark} {records stack : (Name → ℕ) → List ℕ} {z : Sce
   stored-name x st noted = stored-met (called x ∷ []) st noted refl refl (omega arith) (λ number e. refl)
 
   -- with these names there are too many
-  pub crowded-met : (xs : List Name) → Stored ms records stack z work used depth count to → Crowded (tableNames (z .names) (z .text) count) xs
-      → Crowded [] (namesMet ms ++ xs)
-  crowded-met xs st h = crowded-second [] (namesMet ms) xs (rw (st .names-are) at h)
+  pub crowded-met : (more : List Mark) → Stored ms records stack z work used depth count to → Crowded (tableNames (z .names) (z .text) count) (namesMet more)
+      → Crowded [] (namesMet (ms ++ more))
+  crowded-met more st h = rw (names-both ms more) (crowded-second [] (namesMet ms) (namesMet more) (rw (st .names-are) at h))
 
 -- where too many names were met, nothing that goes on from there is within the limits
 pub too-many-names : (ms : List Mark) (τ : State) → Crowded [] (namesMet ms) → After ms τ → Fits τ → ⊥
