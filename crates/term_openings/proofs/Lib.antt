@@ -1,0 +1,4 @@
+pub mod Noting
+pub mod ClosedTerms
+pub mod FirstWords
+pub mod StoredLabels
