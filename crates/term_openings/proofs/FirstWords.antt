@@ -117,12 +117,12 @@ module _ {what text pairs after : List ℕ} {at count : ℕ} where
 -- the machine goes on behind the name, or there are too many names
 module _ {what text pairs after : List ℕ} {at count : ℕ} {r : reader.NameRead} {types : List Name} (next : Name → List ℕ → Option State)
     (comes : Comes types text (andThen (expect what (drop at text)) (λ u t. andThen (name t) next))) where
-  name-on : {x : Name} → NameThere what text at pairs count after r x → Comes types text (next x (drop (r .end) text))
+  pub name-on : {x : Name} → NameThere what text at pairs count after r x → Comes types text (next x (drop (r .end) text))
   name-on {x} there =
       goes-on (name (drop (at + length what) text)) next x (drop (r .end) text)
       (goes-on (expect what (drop at text)) (λ u t. andThen (name t) next) tt (drop (at + length what) text) comes (there .expected)) (there .reads)
 
-  name-not : NameAfter what text at pairs count after r → length text < r .end
+  pub name-not : NameAfter what text at pairs count after r → length text < r .end
       → ((x : Name) (rest : List ℕ) → Crowded (tableNames pairs text count) (x ∷ []) → Next (λ τ. Fits τ → ⊥) (next x rest))
       → readAnswer types text ≡ refuse 20 0
   unfolding added
@@ -134,7 +134,7 @@ module _ {what text pairs after : List ℕ} {at count : ℕ} {r : reader.NameRea
       too-many x rest (not-there .fails h t x rest front there))
 
 -- an entry with too many names
-entry-crowded : {ms : List Mark} {records stack : (Name → ℕ) → List ℕ} {z : Scene} {work : List ℕ} {used depth count to : ℕ}
+pub entry-crowded : {ms : List Mark} {records stack : (Name → ℕ) → List ℕ} {z : Scene} {work : List ℕ} {used depth count to : ℕ}
     → Stored ms records stack z work used depth count to → (more others : List Mark) → Crowded (tableNames (z .names) (z .text) count) (namesMet more)
     → (k : List Entry) (entry : Entry) (rest : List ℕ) → entriesMarks (entry ∷ k) ≡ (ms ++ more) ++ others → Fits (reading (entry ∷ k) rest) → ⊥
 unfolding met
