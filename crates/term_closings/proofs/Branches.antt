@@ -20,7 +20,7 @@ use Rattle.definitions.specs.TermMemory.{seven}
 use Rattle.reading_laws.specs.TermMachine.{Entry, caseHead, caseFirst, caseSecond, State, reading, andThen, ifDue, give}
 use Rattle.reading_laws.specs.Marks.{called, marks, entryMarks, entriesMarks, met, namesMet}
 use Rattle.reading_laws.proofs.MarksMet.{begins-all, begins-as}
-use Rattle.reading_laws.proofs.OnTheWay.{Fits, names-both}
+use Rattle.reading_laws.proofs.OnTheWay.{Fits}
 use Rattle.reading_laws.proofs.TermConventions.{gives-yield, gives-none, gives-then}
 use Rattle.reading_laws.proofs.Turns.{Next, next-then}
 use Rattle.words.specs.Places.{between, Expected}
@@ -171,15 +171,16 @@ module _ {z : Scene} {work : List ℕ} {s : Progress} {e : reader.Entry} {waitin
         unfit comes-due
         (next-then (λ τ. Fits τ → ⊥) (λ x t. Crowded (tableNames (z .names) (z .text) (s .count)) (x ∷ [])) (branch (branchWord (e .kind)) (drop (s .at) (z .text))) _ (answer .fails past) λ x t crowded.
         too-many-names (ms ++ (called x ∷ [])) (reading (waiting x ∷ k) t)
-        (rw (names-both ms (called x ∷ [])) (crowded-met (x ∷ []) (stored-under g) crowded))
+        (crowded-met (called x ∷ []) (stored-under g) crowded)
         (begins-as (begins-all _) (sym (b .marks-are x))))
 
     module _ (there : r .end ≤ length (z .text)) {x : Name} (given : BranchGiven (branchWord (e .kind)) (z .text) (s .at) (z .names) (s .count) after r x) where
       -- the numbers of the names are those of the names before
       number-then : (number : Name → ℕ) → Extends number (tableNames after (z .text) (r .count)) → Extends number (tableNames (z .names) (z .text) (s .count)) × (r .number ≡ number x)
+      unfolding added
       number-then number extends =
           let seen = tableNames (z .names) (z .text) (s .count) in
-          (extends-fewer seen (x ∷ []) (rw (given .noted .names) at extends), number-noted x seen _ number (given .noted .names) (given .number-is) extends)
+          (extends-fewer seen (x ∷ []) (rw (given .noted .names) at extends), number-noted x seen [] _ number (given .noted .names) (given .number-is) extends)
 
       module _ (last most : ℕ) (is : last ≡ s .used - 1) (most-is : most ≡ max (e .nest) (s .nest)) where
         opens : Opens k (waiting x) (noting z after (z .code)) work (under s (r .end) (r .count) (s .own)) (branchRow e last (r .number) most) (e .tally + s .tally)

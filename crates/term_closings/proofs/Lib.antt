@@ -3,3 +3,5 @@ pub mod Enclosed
 pub mod Paired
 pub mod Bodies
 pub mod Branches
+pub mod Ascribed
+pub mod Chained

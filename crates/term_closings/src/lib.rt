@@ -1,15 +1,21 @@
 // What a turn behind a term does: an argument, a label, or what the entry on top of the stack waits for.
 use proof_term::PAIR;
+use proof_term::TYPE_ASCRIPTION;
 use prop_parts::NameRead;
 use prop_parts::read_name;
+use prop_reader::read_label;
+use term_openings::closed_for;
+use term_stack::AS_ARGUMENT;
 use term_stack::CASE_FIRST;
 use term_stack::CASE_HEAD;
 use term_stack::CASE_SECOND;
 use term_stack::Entry;
 use term_stack::FUNCTION_BODY;
+use term_stack::GIVING;
 use term_stack::LET_BODY;
 use term_stack::LET_HEAD;
 use term_stack::NO_ASCRIPTION;
+use term_stack::NO_FUNCTION;
 use term_stack::PAIRS;
 use term_stack::Progress;
 use term_stack::Purpose;
@@ -23,15 +29,20 @@ use term_stack::make;
 use term_stack::refused;
 use term_stack::top;
 use term_stack::use_for;
+use words::argument_follows;
 use words::expect;
+ghost use mathlib.Core.Bool.{true, false};
 ghost use mathlib.Core.Path.{_≡_};
 ghost use Prim.Native.Nat.{_<_, _≤_};
-ghost use lib.ListN.{length};
+ghost use lib.ListN.{length, drop};
+ghost use Rattle.definitions.specs.Utf8.{utf8};
+ghost use Rattle.definitions.specs.TermReader.{argumentFollows};
 ghost use Rattle.definitions.specs.TermText.{termTextLimit};
-ghost use Rattle.reading_laws.specs.TermMachine.{giving};
+ghost use Rattle.reading_laws.specs.TermMachine.{holding, giving};
 ghost use Rattle.words.specs.Places.{Expected};
 ghost use Rattle.words.specs.Table.{Table};
 ghost use Rattle.term_stack.specs.Standing.{AtTerm};
+ghost use Rattle.term_stack.specs.Turning.{TurnBegins, TurnEnds};
 ghost use Rattle.term_openings.specs.Beginning.{TextBegins, TextEnds, NamesBegin, NamesEnd};
 ghost use Rattle.term_closings.specs.Branching.{branchWord, branchRow, BranchAnswer};
 ghost use Rattle.term_closings.specs.Giving.{AtEntry};
@@ -248,4 +259,100 @@ pub fn give(text: &[u8], names: &mut [u8], work: &mut [u16], s: Progress) -> Pro
         return give_let(text, work, s, e);
     }
     close_within(work, s, e)
+}
+
+// A label follows at `at`, behind a colon: the term in hand is ascribed by it.
+fn ascribe(
+    text: &[u8],
+    types: &[u8],
+    names: &mut [u8],
+    code: &mut [u8],
+    work: &mut [u16],
+    s: Progress,
+    at: usize,
+) -> Progress
+    requires { ⌜ TurnBegins (AtTerm holding) (now types) (now text) (now names) (now code) (now work) s
+        × (argumentFollows (drop (s .at) (now text)) ≡ false)
+        × Expected (utf8 ": ") (now text) (s .at) at × (at ≤ length (now text)) ⌝ }
+    ensures { λ r. ⌜ TurnEnds (AtTerm holding) 1 (now (types .entry)) (now (text .entry))
+        (now (names .entry)) (now (code .entry)) (now (work .entry)) s
+        (now (names .exit)) (now (code .exit)) (now (work .exit)) r ⌝ }
+{
+    if !is_as_due(s.own, s.kind, NO_FUNCTION) {
+        return refused(s);
+    }
+    let label = read_label(text, at, types, names, s.count, code, s.to, true);
+    let end = label.end;
+    if text.len() < end {
+        return refused(s);
+    }
+    let row = Row {
+        kind: TYPE_ASCRIPTION as u16,
+        a: (s.used - 1) as u16,
+        b: 0,
+        c: label.kind as u16,
+        d: label.number as u16,
+        e: 0,
+    };
+    let mut behind = s;
+    behind.at = end;
+    behind.count = label.count;
+    behind.to = label.to;
+    let mut r = make(work, behind, row, s.nest + 1, s.tally + 1);
+    if r.mode == REFUSED {
+        return r;
+    }
+    r.mode = GIVING;
+    r
+}
+
+// An argument follows: a closed term, to which the term in hand is applied.
+fn argument(text: &[u8], names: &mut [u8], work: &mut [u16], s: Progress) -> Progress
+    requires { ⌜ NamesBegin (AtTerm holding) (now text) (now names) (now work) s
+        × (argumentFollows (drop (s .at) (now text)) ≡ true) ⌝ }
+    ensures { λ r. ⌜ NamesEnd (AtTerm holding) (now (text .entry)) (now (names .entry)) (now (work .entry)) s
+        (now (names .exit)) (now (work .exit)) r ⌝ }
+{
+    if !is_as_due(s.own, s.kind, NO_FUNCTION) {
+        return refused(s);
+    }
+    let start = expect(text, s.at, b" ");
+    if text.len() < start {
+        return refused(s);
+    }
+    let mut behind = s;
+    behind.at = start;
+    let p = Purpose {
+        kind: AS_ARGUMENT,
+        value: (s.used - 1) as u16,
+        nest: s.nest as u16,
+        tally: s.tally as u16,
+    };
+    closed_for(text, names, work, behind, p)
+}
+
+// A term is in hand to which more may belong: an argument, a label, or neither.
+pub fn chain(
+    text: &[u8],
+    types: &[u8],
+    names: &mut [u8],
+    code: &mut [u8],
+    work: &mut [u16],
+    s: Progress,
+) -> Progress
+    requires { ⌜ TurnBegins (AtTerm holding) (now types) (now text) (now names) (now code) (now work) s ⌝ }
+    ensures { λ r. ⌜ TurnEnds (AtTerm holding) 1 (now (types .entry)) (now (text .entry))
+        (now (names .entry)) (now (code .entry)) (now (work .entry)) s
+        (now (names .exit)) (now (code .exit)) (now (work .exit)) r ⌝ }
+{
+    if argument_follows(text, s.at) {
+        return argument(text, names, work, s);
+    }
+    let label = expect(text, s.at, b": ");
+    if label <= text.len() {
+        return ascribe(text, types, names, code, work, s, label);
+    }
+    let mut r = s;
+    r.mode = GIVING;
+    r
 }
