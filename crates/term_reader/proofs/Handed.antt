@@ -8,21 +8,26 @@ use lib.ListN.{length, take, drop}
 use lib.Seq.{sets, paste, sets-eq, length-sets, length-take-le, take-at, drop-at}
 use lib.Dec.{ltb, leb}
 use borrow.Author.Tests.{ltb-false, lt-leb}
+use Rattle.definitions.specs.declared.Style.the-variants.{Strict}
 use Rattle.definitions.specs.Outcome.{Outcome, accepted, refuse, refuseIf, _>>=_}
 use Rattle.definitions.specs.Name.{Name}
 use Rattle.definitions.specs.Sheet.{nameLimit, pairSize}
 use Rattle.definitions.specs.Term.{ProofTerm}
 use Rattle.definitions.specs.CallerNames.{namesIn}
-use Rattle.definitions.specs.TermText.{nodes, termTextLimit, allAdmitted}
+use Rattle.definitions.specs.Display.{displayTerm}
+use Rattle.definitions.specs.TermText.{nodes, termTextLimit, allAdmitted, withoutIds}
 use Rattle.definitions.specs.TermReader.{readAnswer}
 use Rattle.definitions.specs.TermMemory.{differentNames, place, recordNumbers, TermRoom, tooShort, termAnswer}
+use Rattle.reading_laws.specs.Restoring.{Restores}
+use Rattle.reading_laws.proofs.Restored.{restored}
 use Rattle.words.proofs.Numbers.{end-kept, marked-kept}
 use Rattle.term_stack.specs.declared.Progress.{Progress}
 use Rattle.term_stack.specs.Standing.{Scene}
 use Rattle.term_stack.specs.Turning.{sceneOf}
+use Rattle.term_reader.specs.declared.TermRead.{TermRead}
 use Rattle.term_reader.specs.declared.TermRead.the-variants.{Accepted, Refused}
 use Rattle.term_reader.specs.Whole.{WholeTerm, CountsOf, Read}
-use Rattle.term_reader.specs.Answered.{sizeOf, answerOf, recordsBy, codeBy, PairsOf, NamesBy, Answers, Copyable, shortFor, Fitting, roomOf}
+use Rattle.term_reader.specs.Answered.{sizeOf, answerOf, recordsBy, codeBy, PairsOf, NamesBy, Answers, Copyable, shortFor, Fitting, roomOf, ReadsTerm, RestoresTerm}
 
 -- The definitions' answer, step by step.
 module _ (room : TermRoom) (types : List Name) (text : List ℕ) where
@@ -170,3 +175,23 @@ long-refused types text h = rw (lt-leb (length text) termTextLimit h)
 pub unlisted-refused : (types : List Name) (text : List ℕ) → allAdmitted types ≡ false → readAnswer types text ≡ refuse 20 0
 unfolding readAnswer
 unlisted-refused types text e = rw (e, and-false (leb (length text) termTextLimit))
+
+-- the ticket's sentence, of every answer
+pub restores : (list text records names code : List ℕ) {records′ names′ code′ : List ℕ} {r : TermRead}
+    → ReadsTerm list text records names code records′ names′ code′ r → RestoresTerm list text records names code records′ names′ code′ r
+unfolding RestoresTerm Restores
+restores list text records names code answers s t bytes exports shown short listed restorable enough =
+    let types = namesIn list in
+    let long : length (displayTerm Strict t) ≤ termTextLimit = rw shown short in
+    let read : readAnswer types text ≡ accepted (withoutIds t) = rw shown at (restored s types bytes t exports restorable long listed) in
+    rw (answers-term (roomOf records names code) types text read enough) at answers
+
+-- and where there is no term
+pub no-term : (list text records names code : List ℕ) {r : TermRead} → readAnswer (namesIn list) text ≡ refuse 20 0
+    → r ≡ Refused (record { number = 20; place = 0 })
+    → ReadsTerm list text records names code records names code r × RestoresTerm list text records names code records names code r
+no-term list text records names code none e =
+    let lent = roomOf records names code in
+    let answers : ReadsTerm list text records names code records names code (Refused (record { number = 20; place = 0 })) =
+    refused-all text records names code (answers-20 lent (namesIn list) text none) in
+    rw e (answers, restores list text records names code answers)

@@ -1,17 +1,21 @@
 -- What is answered of a text, and what becomes of every number and byte of the lent memory.
 use Prim.Native.Nat.{ℕ, _+_, _*_, _<_, _≤_}
 use mathlib.Core.Path.{_≡_}
-use mathlib.Core.Bool.{Bool, false, _||_}
+use mathlib.Core.Bool.{Bool, true, false, _||_}
 use mathlib.Core.List.{List, [], _++_}
 use lib.ListN.{length, getD, drop}
 use lib.Dec.{ltb}
+use Rattle.definitions.specs.declared.Style.the-variants.{Strict}
 use Rattle.definitions.specs.Outcome.{Outcome, accepted, refused}
 use Rattle.definitions.specs.Name.{Name}
 use Rattle.definitions.specs.CallerNames.{namesIn}
 use Rattle.definitions.specs.Sheet.{pairSize, pairEnd, marked}
 use Rattle.definitions.specs.Term.{ProofTerm, annotationCount}
-use Rattle.definitions.specs.TermText.{nodes}
-use Rattle.definitions.specs.TermMemory.{differentNames, place, textLabels, labelsSize, recordsOf, storeLabels, recordNumbers, TermRoom, termAnswer}
+use Rattle.definitions.specs.Display.{displayTerm}
+use Rattle.definitions.specs.Answers.{namedTerm}
+use Rattle.definitions.specs.TermText.{nodes, termTextLimit, allAdmitted, withoutIds, Restorable}
+use Rattle.definitions.specs.TermMemory.{differentNames, place, textLabels, labelsSize, recordsOf, storeLabels, recordNumbers, TermRoom, tooShort, termAnswer}
+use Rattle.definitions.proofs.PrefixCode.{Bytes}
 use Rattle.term_stack.specs.declared.Progress.{Progress}
 use Rattle.term_stack.specs.Standing.{Some}
 use Rattle.term_reader.specs.Whole.{CountsOf, Measured}
@@ -85,3 +89,11 @@ roomOf records names code = record { records = length records; names = length na
 abbrev pub ReadsTerm : List ℕ → List ℕ → List ℕ → List ℕ → List ℕ → List ℕ → List ℕ → List ℕ → TermRead → Type 0
 ReadsTerm list text records names code records′ names′ code′ r =
     Answers (termAnswer (roomOf records names code) (namesIn list) text) text records names code records′ names′ code′ r
+
+-- Given room, the strict text of a sheet's term, no longer than is read, is read as that term with its ids set to 0, provided that the
+-- listed names are admitted and the term is restorable.
+unfoldable pub RestoresTerm : List ℕ → List ℕ → List ℕ → List ℕ → List ℕ → List ℕ → List ℕ → List ℕ → TermRead → Type 0
+RestoresTerm list text records names code records′ names′ code′ r =
+    (s : List ℕ) (t : ProofTerm Name) → Bytes s → namedTerm s ≡ accepted t → displayTerm Strict t ≡ text → length text ≤ termTextLimit
+    → allAdmitted (namesIn list) ≡ true → Restorable (namesIn list) t → tooShort (roomOf records names code) (withoutIds t) ≡ false
+    → Answers (accepted (withoutIds t)) text records names code records′ names′ code′ r
