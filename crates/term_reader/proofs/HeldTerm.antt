@@ -4,18 +4,16 @@ use mathlib.Core.Path.{_≡_, refl, ap, _∙_}
 use mathlib.Core.Option.{Option, none, some}
 use mathlib.Core.List.{List, [], _∷_, _++_, append-assoc}
 use native.Mathlib.Omega.{arith}
-use lib.ListN.{length, getD, drop, length-append, take-append-drop, List·getD-append}
+use lib.ListN.{length, getD, length-append, List·getD-append}
 use lib.Seq.{getD-append-add}
 use Rattle.definitions.specs.Name.{Name}
 use Rattle.definitions.specs.Prop.{Prop, renameProp}
 use Rattle.definitions.specs.Term.{Label, proposition, datatype, NamedFunction, fst, snd, inl, inr, abort, ProofTerm, Ident, Pair, Named, Function, Application, LetIn, Case, TypeAscription, Unit, Sorry, renameLabel, renameParameterLabel, renameTerm}
 use Rattle.definitions.specs.TermText.{nodes}
-use Rattle.definitions.specs.TermMemory.{differentNames, place, parameterLabels, textLabels, labelSize, labelsSize, functionKind, labelKind, parameterLabelKind, seven, labelNumber, parameterLabelNumber, recordsOf}
+use Rattle.definitions.specs.TermMemory.{parameterLabels, textLabels, labelSize, labelsSize, functionKind, labelKind, parameterLabelKind, seven, labelNumber, parameterLabelNumber, recordsOf}
 use Rattle.proof_term.specs.Records.{fieldAt, labelOf, parameterLabel, recordTerm, termAt, partAt}
 use Rattle.proof_term.proofs.Records.{termAt-kind, part-below}
-use Rattle.term_stack.specs.Standing.{Scene}
 use Rattle.term_stack.proofs.Marked.{few-labels}
-use Rattle.term_reader.specs.Whole.{WholeTerm}
 
 some-node : (t : ProofTerm Name) → 1 ≤ nodes t
 some-node t = omega (arith, few-labels t)
@@ -192,16 +190,3 @@ module _ (number : Name → ℕ) (props : ℕ → Prop ℕ) where
         rw e (own 11 _ 0 _ _ 0 _ (behind to a _ f) ∙ cc (last-part used a, label-held l (stand-second (l ∷ []) to (textLabels a) st)))
     held used to Unit f st = let e : used + 1 - 1 ≡ used = omega arith in rw e (own 12 0 0 0 0 0 0 f)
     held used to Sorry f st = let e : used + 1 - 1 ≡ used = omega arith in rw e (own 13 0 0 0 0 0 0 f)
-
--- the records of a whole term in memory hold it
-pub whole-held : {t : ProofTerm Name} {z : Scene} {work : List ℕ} (props : ℕ → Prop ℕ) → WholeTerm t z work
-    → Stand (place (differentNames t)) props 0 (textLabels t)
-    → termAt props work (nodes t - 1) ≡ renameTerm (place (differentNames t)) t
-whole-held {t} {z} {work} props w st =
-    let number = place (differentNames t) in
-    let all = take-append-drop (7 * nodes t) work in
-    let records = w .records-are in
-    let from : From number props work 0 (recordsOf number 0 0 t) =
-    record { front = []; rest = drop (7 * nodes t) work; is = cc; long = refl } in
-    let e : 0 + nodes t - 1 ≡ nodes t - 1 = omega arith in
-    rw e at (held number props work 0 0 t from st)

@@ -5,3 +5,4 @@ pub mod Ends
 pub mod Passes
 pub mod Handed
 pub mod HeldTerm
+pub mod ReadBack
