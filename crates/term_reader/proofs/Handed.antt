@@ -12,6 +12,7 @@ use Rattle.definitions.specs.declared.Style.the-variants.{Strict}
 use Rattle.definitions.specs.Outcome.{Outcome, accepted, refuse, refuseIf, _>>=_}
 use Rattle.definitions.specs.Name.{Name}
 use Rattle.definitions.specs.Sheet.{nameLimit, pairSize}
+use Rattle.definitions.specs.NameIndex.{slotCount}
 use Rattle.definitions.specs.Term.{ProofTerm}
 use Rattle.definitions.specs.CallerNames.{namesIn}
 use Rattle.definitions.specs.Display.{displayTerm}
@@ -21,6 +22,7 @@ use Rattle.definitions.specs.TermMemory.{differentNames, place, recordNumbers, 
 use Rattle.reading_laws.specs.Restoring.{Restores}
 use Rattle.reading_laws.proofs.Restored.{restored}
 use Rattle.words.proofs.Numbers.{end-kept, marked-kept}
+use Rattle.words.specs.Table.{slotSize, slotOffset, tableSize}
 use Rattle.term_stack.specs.declared.Progress.{Progress}
 use Rattle.term_stack.specs.Standing.{Scene}
 use Rattle.term_stack.specs.Turning.{sceneOf}
@@ -89,7 +91,7 @@ module _ {t : ProofTerm Name} {z : Scene} {work : List ℕ} (w : WholeTerm t z w
     pairs = take (4 * count) (z .names)
 
     pairs-long : length pairs ≡ 4 * count
-    unfolding pairSize nameLimit
+    unfolding tableSize slotOffset slotSize slotCount pairSize nameLimit
     pairs-long = let room = w .table .room in let few = w .table .few in length-take-le (4 * count) (z .names) (omega (arith, room, few))
 
     stored : sets names 0 pairs ≡ pairs ++ drop (4 * count) names
@@ -111,7 +113,7 @@ module _ {t : ProofTerm Name} {z : Scene} {work : List ℕ} (w : WholeTerm t z w
 -- the memory of the reading holds its records and pairs
 pub held : {t : ProofTerm Name} {s : Progress} (names : List ℕ) {work : List ℕ} {z : Scene} → WholeTerm t z work → CountsOf t s
     → z .names ≡ names → Copyable (length work) (length names) s
-unfolding pairSize nameLimit
+unfolding tableSize slotOffset slotSize slotCount pairSize nameLimit
 held names w counts e =
     let room = w .room in
     let few = w .few in

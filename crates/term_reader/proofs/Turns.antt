@@ -11,7 +11,7 @@ use borrow.Author.Tests.{ltb-true, ltb-false, lt-ltb, le-ltb, ne-eqb}
 use Rattle.definitions.specs.TermMemory.{labelsSize, storeLabels}
 use Rattle.reading_laws.specs.Marks.{entriesMarks, nodesMet, namesMet, limitedMet}
 use Rattle.reading_laws.proofs.OnTheWay.{reached-first}
-use Rattle.words.specs.Table.{added, tableNames}
+use Rattle.words.specs.Table.{added, tableNames, Table}
 use Rattle.term_stack.specs.declared.Progress.{Progress}
 use Rattle.term_stack.specs.Numbers.{labelsMet, codeMet, stackNumbers, stackRecords}
 use Rattle.term_stack.specs.Standing.{Scene}
@@ -109,10 +109,10 @@ no-turn s known over = at-mode (s .mode) refl known
 unfoldable pub atStart : Progress
 atStart = record { mode = 0; at = 0; depth = 0; used = 0; count = 0; to = 0; kind = 0; own = false; nest = 0; tally = 0 }
 
-pub begun : {list text names work : List ℕ} → ReadBegins list text names work → (code : List ℕ)
-    → AtTurn (sceneOf list text names code code) work atStart
+pub begun : {list text names cleared work : List ℕ} → ReadBegins list text names work → Table cleared text 0 → (code : List ℕ)
+    → AtTurn (sceneOf list text cleared code code) work atStart
 unfolding sceneOf atStart entriesMarks nodesMet codeMet labelsMet labelsSize limitedMet namesMet added tableNames stackRecords stackNumbers storeLabels
-begun b code = record {
+begun b table code = record {
   known = omega arith;
   refused = λ e. absurd (omega (arith, e));
   reading = λ e. record {
@@ -128,7 +128,7 @@ begun b code = record {
         used-is = refl;
         to-is = refl;
         limited = refl;
-        table = record { room = b .pairs; few = omega arith; ends = λ j h. absurd (omega (arith, h)) };
+        table = table;
         names-are = refl;
         lies = λ number e. record { records-are = refl; stack-is = refl; code-is = refl };
       };

@@ -5,10 +5,10 @@ use mathlib.Core.Bool.{Bool, true, _||_, _&&_, cond}
 use mathlib.Core.List.{List}
 use lib.ListN.{length}
 use lib.Dec.{eqb, ltb}
-use Rattle.definitions.specs.Sheet.{nameLimit, pairSize}
 use Rattle.definitions.specs.CallerNames.{namesIn}
 use Rattle.definitions.specs.TermText.{termTextLimit, allAdmitted}
 use Rattle.reading_laws.specs.TermMachine.{holding, giving}
+use Rattle.words.specs.Table.{tableSize}
 use Rattle.term_stack.specs.declared.Progress.{Progress}
 use Rattle.term_stack.specs.Standing.{Scene, AtReading, AtTerm}
 use Rattle.term_stack.specs.Using.{Refuses}
@@ -43,5 +43,5 @@ GoesOn list text names code work s names′ code′ work′ r =
 pub record ReadBegins (list text names work : List ℕ) : Type 0 where
   pub short : length text ≤ termTextLimit
   pub listed : allAdmitted (namesIn list) ≡ true
-  pub pairs : length names ≡ pairSize * nameLimit
+  pub pairs : length names ≡ tableSize
   pub room : length work ≡ 19705

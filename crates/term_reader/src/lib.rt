@@ -13,8 +13,9 @@ use term_stack::READING;
 use term_stack::REFUSED;
 use term_stack::WORK_SIZE;
 use term_stack::refused;
-use words::NAME_LIMIT;
+use words::TABLE_SIZE;
 use words::all_admitted;
+use words::clear;
 ghost use mathlib.Core.Path.{_≡_};
 ghost use mathlib.Core.Bool.{true, false};
 ghost use mathlib.Core.List.{[]};
@@ -30,9 +31,6 @@ ghost use Rattle.term_reader.specs.Answered.{Copyable, shortFor, HasRoom
 
 // At most so many bytes.
 const TEXT_LIMIT: usize = 65536;
-
-// The bytes of all pairs.
-const NAMES_SIZE: usize = PAIR_SIZE * NAME_LIMIT;
 
 // Whether another turn follows: there is a term still, and it is not whole.
 fn goes_on(s: Progress) -> bool
@@ -88,6 +86,7 @@ fn read(text: &[u8], types: &[u8], names: &mut [u8], code: &mut [u8], work: &mut
     ensures { λ r. ⌜ ReadEnds (sceneOf (now (types .entry)) (now (text .entry)) (now (names .exit)) (now (code .entry))
         (now (code .exit))) (now (work .exit)) r ⌝ }
 {
+    clear(names);
     let mut s = Progress {
         mode: READING,
         at: 0,
@@ -233,7 +232,7 @@ fn read_admitted(
         (now (records .exit)) (now (names .exit)) (now (code .exit)) r ⌝ }
 {
     let mut work = [0u16; WORK_SIZE];
-    let mut pairs = [0u8; NAMES_SIZE];
+    let mut pairs = [0u8; TABLE_SIZE];
     let s = measure(text, types, &mut pairs, &mut work);
     if s.mode == REFUSED {
         return TermRead::Refused(Refusal::at(20, 0));

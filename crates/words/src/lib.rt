@@ -13,7 +13,8 @@ use number::PAIR_SIZE;
 use number::marked_bytes;
 use number::number_at;
 ghost use mathlib.Core.Path.{_≡_};
-ghost use Prim.Native.Nat.{_+_, _≤_, _<_};
+ghost use mathlib.Core.List.{List};
+ghost use Prim.Native.Nat.{ℕ, _+_, _≤_, _<_};
 ghost use lib.ListN.{length, drop};
 ghost use Rattle.definitions.specs.TermText.{isAdmitted, allAdmitted};
 ghost use Rattle.definitions.specs.CallerNames.{namesIn};
@@ -21,7 +22,7 @@ ghost use Rattle.definitions.specs.TermReader.{startOf, argumentFollows};
 ghost use Rattle.words.specs.Places.{between, WordEnds, NameEnds, Expected};
 ghost use Rattle.words.specs.Starts.{asStart};
 ghost use Rattle.words.specs.Table.{Table, NamePlace, NumberOf, PairFits, SlotFits};
-ghost use Rattle.words.specs.Table.{searched, withNumber, withPair, withSlot};
+ghost use Rattle.words.specs.Table.{tableSize, searched, withNumber, withPair, withSlot};
 
 // Where the name bytes from `at` on end.
 pub fn word_end(text: &[u8], at: usize) -> usize
@@ -182,6 +183,19 @@ const SLOTS: usize = PAIR_SIZE * NAME_LIMIT;
 
 // The bytes of a slot, which holds a number.
 const SLOT_SIZE: usize = 2;
+
+// The bytes of a table: the pairs of all names, and behind them the slots of their index.
+pub const TABLE_SIZE: usize = SLOTS + SLOT_SIZE * SLOT_COUNT;
+
+// The table without names: every slot is free, and no pair is looked at.
+pub fn clear(names: &mut [u8])
+    requires { ⌜ length (now names) ≡ tableSize ⌝ }
+    ensures { λ _. ⌜ ((text : List ℕ) → Table (now (names .exit)) text 0) ⌝ }
+{
+    for at in 0..TABLE_SIZE {
+        names[at] = 255;
+    }
+}
 
 // The number of a name, NAME_LIMIT where there are too many, and how many names there are now.
 pub struct Numbered {

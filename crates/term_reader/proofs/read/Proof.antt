@@ -15,20 +15,30 @@ Inv-loop text types names₀ code₀ work₀ s₀ names code work s = Looping ty
 abbrev μ-loop : tie.MeasureT-loop
 μ-loop text types names₀ code₀ work₀ s₀ names code work s = leftOf text s
 
--- back from the test of a turn to the loop, and over a turn to its test
+-- back over the lent memory to the start, and there from the cleared table; from the test of a turn to the loop, and over a turn to
+-- its test
+abbrev entry : tie.After-slice-known3 Inv-loop μ-loop → tie.Start Inv-loop μ-loop
+entry c = c .before .before .before .before .before
+
+abbrev start : tie.After-clear Inv-loop μ-loop → tie.Start Inv-loop μ-loop
+start c = entry (c .before .before)
+
 abbrev loop : tie.Then1 Inv-loop μ-loop → tie.At-loop Inv-loop μ-loop
 loop c = c .before .before
 
-abbrev turned : tie.After-slice-known6 Inv-loop μ-loop → tie.After-turn Inv-loop μ-loop
+abbrev turned : tie.After-slice-known7 Inv-loop μ-loop → tie.After-turn Inv-loop μ-loop
 turned c = c .before .before .before .before .before .before
 
 abbrev tested : tie.After-turn Inv-loop μ-loop → tie.Then1 Inv-loop μ-loop
 tested c = c .before .before .before .before
 
+clear-requires : tie.Need-clear-requires Inv-loop μ-loop
+clear-requires c κs = entry (c .before) .pre .pairs
+
 loop-holds : tie.Need-loop-holds Inv-loop μ-loop
 unfolding atStart
 loop-holds c = record {
-  there = begun (c .before .before .before .before .before .pre) _;
+  there = begun (start (c .before .before) .pre) (c .before .before .clear .ensures _) _;
   names-size = refl;
   code-size = refl;
   work-size = refl;
@@ -59,7 +69,7 @@ loop-again c =
     }
 
 same-length : tie.Need-same-length Inv-loop μ-loop
-same-length c = c .before .before .before .loop .inv .names-size
+same-length c = omega (arith, c .before .before .before .loop .inv .names-size)
 
 same-length-2 : tie.Need-same-length-2 Inv-loop μ-loop
 same-length-2 c = c .before .before .before .loop .inv .code-size
@@ -79,6 +89,7 @@ read-spec =
     (tie.spec
     Inv-loop
     μ-loop
+    clear-requires
     loop-holds
     (λ c κs. search needs)
     turn-requires

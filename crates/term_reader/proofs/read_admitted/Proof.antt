@@ -4,7 +4,9 @@ use mathlib.Core.Path.{sym, _∙_}
 use lib.ListN.{length-replicate}
 use borrow.Author.Needs.{needs}
 use Rattle.definitions.specs.Sheet.{nameLimit, pairSize}
+use Rattle.definitions.specs.NameIndex.{slotCount}
 use Rattle.definitions.specs.CallerNames.{namesIn}
+use Rattle.words.specs.Table.{slotSize, slotOffset, tableSize}
 use Rattle.term_stack.specs.Turning.{sceneOf}
 use Rattle.term_reader.specs.Answered.{HasRoom, HandsOver, roomOf}
 use Rattle.term_reader.proofs.Handed.{answers-20, answers-16, answers-term, refused-all, short-for, counted, fitting}
@@ -22,10 +24,10 @@ abbrev given-back : tie.After-slice-known6 → tie.After-work4
 given-back c = c .before .before .before .before .before .before
 
 measure-requires : tie.Need-measure-requires
-unfolding pairSize nameLimit
+unfolding tableSize slotOffset slotSize slotCount pairSize nameLimit
 measure-requires c κs =
     let (short, listed) = entry (c .before .before) .pre in
-    record { short = short; listed = listed; pairs = length-replicate {A = ℕ} 2048 0; room = length-replicate {A = ℕ} 19705 0 }
+    record { short = short; listed = listed; pairs = length-replicate {A = ℕ} 4096 0; room = length-replicate {A = ℕ} 19705 0 }
 
 returns : tie.Need-returns
 unfolding sceneOf
