@@ -1,0 +1,7 @@
+-- The laws of the memory of a term that was read.
+pub mod Rows
+pub mod Laid
+pub mod Offsets
+pub mod Meaning
+pub mod Names
+pub mod Codes
