@@ -5,3 +5,4 @@ pub mod Offsets
 pub mod Meaning
 pub mod Names
 pub mod Codes
+pub mod ReadTerm

@@ -3,6 +3,8 @@ use Prim.Native.Nat.{ℕ, _+_, _*_, _/_, _%_}
 use mathlib.Core.Path.{_≡_, refl}
 use mathlib.Core.List.{List, [], _∷_, _++_}
 use native.Mathlib.Omega.{arith}
+use Rattle.definitions.specs.Collection.{In, here}
+use Rattle.definitions.specs.Collection as collection
 use Rattle.definitions.specs.Name.{Name}
 use Rattle.definitions.specs.Prop.{Prop}
 use Rattle.definitions.specs.Term.{Label, proposition, datatype}
@@ -20,6 +22,10 @@ module _ {p : Prop Name} {at : ℕ} where
   begins-back {to} (l ∷ a) h =
       let sum : to + (labelSize l + labelsSize a) ≡ to + labelSize l + labelsSize a = omega arith in
       later (begins-back a (rw sum at h))
+
+pub begins-in : {p : Prop Name} {at to : ℕ} {ls : List (Label Name)} → BeginsAt p at to ls → In (proposition p) ls
+begins-in first = here refl
+begins-in (later h) = collection.later (begins-in h)
 
 even-size : (l : Label Name) → labelSize l % 2 ≡ 0
 unfolding labelSize
