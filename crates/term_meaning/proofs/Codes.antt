@@ -14,7 +14,6 @@ use Rattle.definitions.specs.TermMemory.{labelSize, labelsSize, storeLabel, sto
 use Rattle.prefix_code.specs.Scan.{Stands, At}
 use Rattle.prefix_code.specs.PropAt.{propAt, Present}
 use Rattle.prefix_code.proofs.Reading.{prop-at, present}
-use Rattle.proof_term.proofs.Records.{fewer}
 use Rattle.term_meaning.specs.Offsets.{BeginsAt, first, later}
 
 -- Two numberings give codes of one length.

@@ -1,13 +1,13 @@
 -- Records in a row: the labels that they have one after the other, and what is good of each. A node behind its parts makes them a term's.
-use Prim.Native.Nat.{ℕ, _+_, _-_, _≤_, _<_}
-use mathlib.Core.Path.{_≡_, refl, sym, ap, _∙_}
+use Prim.Native.Nat.{ℕ, _+_, _≤_, _<_}
+use mathlib.Core.Path.{_≡_, sym, ap, _∙_}
 use mathlib.Core.Bool.{true, false, true≢false}
 use mathlib.Core.Logic.{by-cases}
-use mathlib.Core.List.{List, [], _∷_, _++_, append-assoc, append-nil}
+use mathlib.Core.List.{List, [], _++_, append-assoc, append-nil}
 use native.Mathlib.Omega.{arith}
 use native.Mathlib.Decide.{decLt}
 use Rattle.definitions.specs.Prop.{Prop}
-use Rattle.definitions.specs.Term.{Label, ProofTerm, annotationCount}
+use Rattle.definitions.specs.Term.{Label, annotationCount}
 use Rattle.proof_term.specs.Records.{fieldAt, recordTerm, termAt}
 use Rattle.proof_term.specs.Labels.{hasLabel, Labelled, ofOwnLabel, single, termLabels, recordLabels}
 use Rattle.proof_term.specs.Tally.{PartsEarlier, tallyAt}

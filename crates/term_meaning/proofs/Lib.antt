@@ -4,5 +4,7 @@ pub mod Laid
 pub mod Offsets
 pub mod Meaning
 pub mod Names
+pub mod Places
 pub mod Codes
 pub mod ReadTerm
+pub mod Drawn

@@ -1,16 +1,16 @@
 -- The records of a term hold that term, by induction on the term: its parts' records stand first, and its own over them.
-use Prim.Native.Nat.{ℕ, _+_, _-_, _*_, _/_, _≤_, _<_}
+use Prim.Native.Nat.{ℕ, _+_, _-_, _*_, _/_, _<_}
 use mathlib.Core.Path.{_≡_, refl, sym, ap, _∙_}
 use mathlib.Core.Bool.{true, false, true≢false}
 use mathlib.Core.Option.{Option, none, some}
-use mathlib.Core.List.{List, [], _∷_, _++_, append-assoc, append-nil}
+use mathlib.Core.List.{List, [], _∷_, _++_}
 use native.Mathlib.Omega.{arith}
 use lib.ListN.{length, drop, length-append}
 use Rattle.definitions.specs.Name.{Name}
 use Rattle.definitions.specs.Prop.{Prop, renameProp}
 use Rattle.definitions.specs.Term.{Label, proposition, datatype, NamedFunction, fst, snd, inl, inr, abort, ProofTerm, Ident, Pair, Named, Function, Application, LetIn, Case, TypeAscription, Unit, Sorry, ofLabel, ofLabels, isLabelled, annotationCount, renameLabel, renameParameterLabel, renameTerm}
 use Rattle.definitions.specs.TermText.{nodes}
-use Rattle.definitions.specs.TermMemory.{parameterLabels, textLabels, labelSize, labelsSize, functionKind, labelKind, parameterLabelKind, seven, labelNumber, parameterLabelNumber, recordsOf}
+use Rattle.definitions.specs.TermMemory.{parameterLabels, textLabels, labelsSize, functionKind, labelKind, parameterLabelKind, seven, labelNumber, parameterLabelNumber, recordsOf}
 use Rattle.proof_term.specs.Records.{recordSize, labelOf, parameterLabel, recordTerm, partCount, Each, termAt}
 use Rattle.proof_term.specs.Labels.{hasLabel, ofOwnLabel, single, termLabels}
 use Rattle.term_meaning.specs.Offsets.{BeginsAt, first}

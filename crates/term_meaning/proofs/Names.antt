@@ -1,17 +1,17 @@
 -- What holds of each name of a term: over numbers below a count the term's names are below it, and over numbers that lead back to the
 -- names the term is restored.
-use Prim.Native.Nat.{ℕ, _<_, _≤_}
+use Prim.Native.Nat.{ℕ, _<_}
 use mathlib.Core.Path.{_≡_, refl, ap}
 use mathlib.Core.Bool.{Bool, true, false, cond}
 use mathlib.Core.Logic.{⊎-elim}
 use mathlib.Core.Option.{Option, none, some}
 use mathlib.Core.List.{List, [], _∷_, _++_, map}
 use native.Mathlib.Omega.{arith}
-use lib.ListN.{length, length-map}
+use lib.ListN.{length-map}
 use Rattle.definitions.specs.Collection.{In, here, later}
 use Rattle.definitions.specs.Name.{Name, eqName}
 use Rattle.definitions.specs.Prop.{Prop, True, False, Binary, Atom, Quantified, PropParameter, Uninstantiated, Instantiated, parameterName, renameParameter, renameProp}
-use Rattle.definitions.specs.Code.{parameterLimit, CodableParameter, CodableParameters, Codable}
+use Rattle.definitions.specs.Code.{CodableParameter, CodableParameters, Codable}
 use Rattle.definitions.specs.Term.{Label, proposition, datatype, ProofTerm, Ident, Pair, Named, Function, Application, LetIn, Case, TypeAscription, Unit, Sorry, renameLabel, renameParameterLabel, renameTerm}
 use Rattle.definitions.specs.Text.{occurs}
 use Rattle.definitions.specs.TermText.{parameterNamed, ConventionalParameters, ConventionalProp, OfParameterLabel, Each, propNames, labelNames, parameterLabelNames, termNames}

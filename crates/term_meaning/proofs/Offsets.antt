@@ -1,5 +1,5 @@
 -- Labels keep their offsets where others stand before or after them, and every code begins at an even one.
-use Prim.Native.Nat.{ℕ, _+_, _*_, _/_, _%_}
+use Prim.Native.Nat.{ℕ, _+_, _/_, _%_}
 use mathlib.Core.Path.{_≡_, refl}
 use mathlib.Core.List.{List, [], _∷_, _++_}
 use native.Mathlib.Omega.{arith}
@@ -10,6 +10,7 @@ use Rattle.definitions.specs.Prop.{Prop}
 use Rattle.definitions.specs.Term.{Label, proposition, datatype}
 use Rattle.definitions.specs.TermMemory.{labelSize, labelsSize}
 use Rattle.term_meaning.specs.Offsets.{BeginsAt, first, later}
+use Rattle.term_meaning.specs.Memory.{labelOffset}
 
 module _ {p : Prop Name} {at : ℕ} where
   pub begins-front : {to : ℕ} {a : List (Label Name)} (b : List (Label Name)) → BeginsAt p at to a → BeginsAt p at to (a ++ b)
@@ -32,6 +33,8 @@ unfolding labelSize
 even-size (proposition p) = omega arith
 even-size (datatype t) = refl
 
-pub begins-even : {p : Prop Name} {at to : ℕ} {ls : List (Label Name)} → BeginsAt p at to ls → to % 2 ≡ 0 → 2 * (at / 2) ≡ at
+-- half an offset stands for the offset
+pub begins-even : {p : Prop Name} {at to : ℕ} {ls : List (Label Name)} → BeginsAt p at to ls → to % 2 ≡ 0 → labelOffset (at / 2) ≡ at
+unfolding labelOffset
 begins-even first e = omega arith
 begins-even (later {l = l} h) e = begins-even h (omega (arith, even-size l))

@@ -1,8 +1,8 @@
 -- The memory of a term that was read: what stands in it, the term that it means, and what its readers may know of it.
 use Prim.Native.Nat.{ℕ, _+_, _*_, _≤_, _<_}
 use mathlib.Core.Path.{_≡_}
-use mathlib.Core.List.{List}
-use lib.ListN.{length, take}
+use mathlib.Core.List.{List, []}
+use lib.ListN.{length, getD, take}
 use Rattle.definitions.specs.declared.Style.the-variants.{Strict}
 use Rattle.definitions.specs.Outcome.{accepted}
 use Rattle.definitions.specs.Collection.{In}
@@ -47,14 +47,23 @@ termIn m n = termAt (propIn m) (m .records) n
 abbrev pub meantTerm : Memory → ℕ → ProofTerm Name
 meantTerm m n = renameTerm (nameIn m) (termIn m n)
 
--- the term is stored under these numbers of its names, over the code that stood before
+-- the term's records and its labels' code are stored under these numbers of its names, the code over what stood there before
 pub record Stored (t : ProofTerm Name) (number : Name → ℕ) (before : List ℕ) (m : Memory) : Type 0 where
   pub records-are : take (recordSize * nodes t) (m .records) ≡ recordsOf number 0 0 t
   pub code-is : m .code ≡ storeLabels number 0 (textLabels t) before
   pub room : labelsSize (textLabels t) ≤ length before
+
+-- each name of the term has the number of a pair that marks it
+pub record Numbered (t : ProofTerm Name) (number : Name → ℕ) (m : Memory) : Type 0 where
   pub below : (x : Name) → In x (termNames t) → number x < m .count
   pub named : (x : Name) → In x (termNames t) → nameIn m (number x) ≡ x
   pub within : (i : ℕ) → i < m .count → NameWithin (m .pairs) (m .text) i
+
+-- the pairs mark these names, one after the other
+pub record MarksAll (names : List Name) (m : Memory) : Type 0 where
+  pub counted : m .count ≡ length names
+  pub marks : (i : ℕ) → i < length names → nameIn m i ≡ getD names i []
+  pub within : (i : ℕ) → i < length names → NameWithin (m .pairs) (m .text) i
 
 -- record n of the memory holds the term that was read with these datatype names: its strict text is the text, its names are numbers of
 -- pairs within the text, its records stand in its order over earlier parts, each node keeps its label count, and the labels fit
