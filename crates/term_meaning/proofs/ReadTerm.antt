@@ -44,6 +44,7 @@ module _ (types : List Name) (text : List ℕ) where
   pub text-again : (t : ProofTerm Name) → readAnswer types text ≡ accepted t → displayTerm Strict t ≡ text
   text-again t e = read-term t e .shown
 
+-- a node of a term has no later record than the term
 node-before : {records : List ℕ} {n k : ℕ} → Node records n k → k ≤ n
 node-before tally.root = omega arith
 node-before (part-of node h l) = omega (arith, node-before node)
@@ -73,7 +74,7 @@ module _ {t : ProofTerm Name} {number : Name → ℕ} {before : List ℕ} {m : M
   root : 0 + nodes t - 1 ≡ nodes t - 1
   root = omega arith
 
-  -- the law: over the numbers of the names it is the term's own record, and with the names it is the term
+  -- the law: the last record of the term holds it over the numbers of its names, and under the names themselves it is the term
   pub term-numbered : termIn m (nodes t - 1) ≡ renameTerm number t
   term-numbered = rw root at (meaning .term)
 
