@@ -1,0 +1,3 @@
+-- What the laws of a read term's memory speak of.
+pub mod Offsets
+pub mod Memory
