@@ -1,5 +1,6 @@
-// Asks each question of a fixed list of sheets and of names for exercises, and says how many of the answers agree with those that the
-// list holds: the Rust's, and those of documents 01 and 02 where the Rust has none. tests/oracle/README.md has the form of the list, and README.md says how it is made.
+// Asks each question of a fixed list of sheets, of names for exercises and of texts of terms, and says how many of the answers agree
+// with those that the list holds: the Rust's, and those of documents 01 and 02 where the Rust has none. tests/oracle/README.md has the
+// form of the list, and README.md says how it is made.
 use definitions::Located;
 use definitions::Style;
 use definitions::Whose;
