@@ -70,7 +70,7 @@ fn heading(n: usize) -> Named {
     (format!("{n} cases, each in the head of the last"), drawn(named(&["A", "h", "x", "y"]), &props, steps))
 }
 
-/// So many functions with one label of some 2,700 bytes of code, applied one to the other.
+/// So many functions with one label of 2,559 bytes of code, applied one to the other.
 fn labelling(n: usize) -> Named {
     let label = (0..9).fold(atom(0), |side, _| and(side.clone(), side));
     let mut steps = [step(rule::IDENT, 0, &[1], 1), step(rule::IMPL_INTRO, 1, &[1], 0)].repeat(n);
