@@ -48,6 +48,7 @@ extern "C" {
      a judgement           1 to 15, 31, 22
      a restatement         1 to 11, 23, 24, 19 or 25, 16
      a graft               the host's 1 to 11, the donor's, 26, 27, 28, 16
+     a text that is read   20, 16
      an exercise           29, 30, 16
      an index of names     1 to 11
      a search in one       1 to 3
@@ -136,6 +137,16 @@ enum skriduhol_whose {
 /* The longest code of an exercise, in bytes: three connectives and four names. */
 #define SKRIDUHOL_LONGEST_EXERCISE 19
 
+/* The longest text of a term that is read, in bytes. */
+#define SKRIDUHOL_LONGEST_TERM 65536
+
+/* The numbers in the record of a node, and how many numbers of records, bytes of names and bytes of code are enough for every term that
+   is read: it has at most 2,048 nodes and 512 names of 4 bytes each, and fewer bytes of code than this. */
+#define SKRIDUHOL_RECORD_NUMBERS 7
+#define SKRIDUHOL_RECORD_ROOM 14336
+#define SKRIDUHOL_NAME_ROOM 2048
+#define SKRIDUHOL_CODE_ROOM 131072
+
 /* The slots of an index of names, and what a free one holds; of a name that is not there, the value too. */
 #define SKRIDUHOL_SLOT_COUNT 1024
 #define SKRIDUHOL_FREE 65535
@@ -215,6 +226,36 @@ uint8_t skriduhol_graft(const uint8_t *host, size_t host_length, size_t step, co
    *value: the code's length in bytes, at most SKRIDUHOL_LONGEST_EXERCISE. */
 uint8_t skriduhol_exercise(const uint8_t *names, size_t names_length, size_t n, size_t ordinal, uint8_t *out, size_t room,
                            size_t *value, size_t *column);
+
+/* The term of which these bytes are the strict text: what skriduhol_strict_text prints behind the declarations, with just those
+   brackets. A label that is a lone name is a datatype if it is listed and otherwise an atom; a parameter that a quantifier of its
+   proposition binds is uninstantiated, any other instantiated with id 0. Names are those of a sheet but for fn, case, of, inl, inr,
+   let, in, fst, snd, abort and sorry. A term has at most 2,048 nodes nested at most 512 deep, and 512 different names; the proposition
+   of a label is nested at most 64 deep in at most 8,192 bytes of code. Reading the strict text of a sheet's term restores it with its
+   ids set to 0, provided that the text is not too long, its names obey that rule, its datatype labels are listed, no listed name is
+   also an atom without parameters, and just those of its parameters are uninstantiated that a quantifier over them binds.
+   `datatypes` are names divided by newlines: no bytes are no names, and a newline at the end makes an empty name, which is refused.
+   `text` and `datatypes` can be read for their lengths. Of `records`, `names` and `code` all that is said of `out` holds, each with its
+   own room, and all are as they were where the answer is a refusal:
+     records   seven numbers for each node: its kind, five numbers, and how many labels stand in it and in its parts. Parts come before
+               the whole, from left to right, so that the last record is the term's own; a part is the number of its record, counted
+               from 0, and a name its number. Those of the five that a kind does not use are 0:
+                 0 name: the name                                7 inl, 8 inr: the part
+                 1 pair: both parts                              9 case: head, two branches, the names that these bind
+                 2 fst, 3 snd: the part                         10 abort: the part
+                 4 function: body, the name it binds, label     11 ascription: the part, 0, label
+                 5 application: function, argument              12 ()
+                 6 let: head, body, the two names it binds      13 sorry
+               A label is two numbers: 0 and 0 for none; 1 and half the offset of its proposition's code; 2 and a datatype's name.
+     names     4 bytes for each different name, in the order in which the text meets them: the offset in the text at which it first
+               stands, and its length, each low byte first, as in a sheet
+     code      the propositions of the labels in the order of the text, in the form of a sheet's, each from an even offset on; what lies
+               between two of them, and one byte behind the last of an odd length, stays as it was
+   *value: how many nodes there are. *name_count and *code_length, which are always set: how many names, and how many bytes of code, up
+   to an even offset; for a refusal 0. These four overlap nothing else. */
+uint8_t skriduhol_read_term(const uint8_t *text, size_t text_length, const uint8_t *datatypes, size_t datatypes_length,
+                            uint16_t *records, size_t records_room, uint8_t *names, size_t names_room, uint8_t *code,
+                            size_t code_room, size_t *value, size_t *column, size_t *name_count, size_t *code_length);
 
 /* The index of the sheet's names, by which skriduhol_find_name finds one without comparing all. `slots` has SKRIDUHOL_SLOT_COUNT
    numbers, of which all that is said of `out` holds: a name's number or SKRIDUHOL_FREE. Names enter from number 0 up, repeats of

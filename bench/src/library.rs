@@ -1,10 +1,11 @@
 //! Skriduhol through the wrapper in bindings/rust.
 use oracle::{
     answer::{Operation, Question},
+    generate::texts::Text,
     grafts::Graft,
     restate::Given,
 };
-use skriduhol::{GraftRefusal, Judged, Refusal, Style};
+use skriduhol::{GraftRefusal, Judged, ReadTerm, Refusal, Style, TermMemory, CODE_ROOM, NAME_ROOM, RECORD_ROOM};
 
 /// The memory that is lent for answers.
 pub struct Lent {
@@ -46,6 +47,14 @@ pub fn exercise(ordinal: usize, lent: &mut Lent) -> Result<usize, Refusal> {
 /// Whether the sheet's term checks against a proposition from no hypotheses, or the refusal.
 pub fn judge(sheet: &[u8], proposition: usize) -> Result<Judged, Refusal> {
     skriduhol::judge(sheet, &[], proposition)
+}
+
+/// How much of the lent memory the term of a text takes, or the refusal: its records are the first of the numbers, and its names and then
+/// its code the first of the bytes.
+pub fn read_term(Text { list, text }: &Text, lent: &mut Lent) -> Result<ReadTerm, Refusal> {
+    let (names, code) = lent.bytes.split_at_mut(NAME_ROOM);
+    let memory = TermMemory { records: &mut lent.numbers[..RECORD_ROOM], names, code: &mut code[..CODE_ROOM] };
+    skriduhol::read_term(text, list, memory)
 }
 
 /// The length of the sheet with a restated conclusion, or the refusal.

@@ -31,7 +31,7 @@ use restatements::restatements;
 use sheets::steps;
 use stack::Stack;
 use std::{process::exit, time::Duration};
-use terms::judgements;
+use terms::{judgements, readings};
 use texts::{speed, texts, Text};
 use timing::{grouped, Effort};
 
@@ -93,7 +93,12 @@ const SECTIONS: [(&str, Section); 12] = [
         println!("## The index of a sheet's names, and its last name found by it\n");
         names(&plan.effort, lent)
     }),
-    ("terms", |plan, lent| judgements(&plan.effort, plan.random_sheets, lent)),
+    ("terms", |plan, lent| {
+        let mut required = judgements(&plan.effort, plan.random_sheets, lent);
+        println!();
+        required.extend(readings(&plan.effort, lent));
+        required
+    }),
 ];
 
 fn usage() -> ! {

@@ -1,18 +1,19 @@
 //! How much stack an operation uses. It runs on a stack of its own, which is painted before and scanned after.
-use crate::library::{ask, exercise, find_name, graft, judge, name_index, restate, Lent};
-use oracle::{answer::Question, grafts::Graft, restate::Given};
+use crate::library::{ask, exercise, find_name, graft, judge, name_index, read_term, restate, Lent};
+use oracle::{answer::Question, generate::texts::Text, grafts::Graft, restate::Given};
 use std::{arch::asm, ffi::c_void};
 
 const STACK_BYTES: usize = 4 << 20;
 const PAINT: u64 = 0x5ca1_ab1e_0ddb_a115;
 
-/// What is asked: nothing, a question about a sheet, a judgement or a restatement of it, a graft, an exercise by its ordinal, the index
-/// of a sheet's names, or a name by it.
+/// What is asked: nothing, a question about a sheet, a judgement or a restatement of it, the term of a text, a graft, an exercise by its
+/// ordinal, the index of a sheet's names, or a name by it.
 enum Asked<'a> {
     Nothing,
     Question(Question, &'a [u8]),
     Judgement(&'a [u8], usize),
     Restatement(&'a [u8], Given),
+    Reading(&'a Text),
     Graft(&'a Graft),
     Exercise(usize),
     Index(&'a [u8]),
@@ -34,6 +35,7 @@ extern "C" fn run(call: *mut c_void) {
         Asked::Question(question, sheet) => ask(question, sheet, call.lent),
         Asked::Judgement(sheet, proposition) => judge(sheet, proposition).map(|_| 0),
         Asked::Restatement(sheet, given) => restate(sheet, given, call.lent),
+        Asked::Reading(asked) => read_term(asked, call.lent).map(|_| 0),
         Asked::Graft(asked) => graft(asked, call.lent).map_err(|refused| refused.refusal),
         Asked::Exercise(ordinal) => exercise(ordinal, call.lent),
         Asked::Index(sheet) => name_index(sheet, call.lent).map(|_| 0),
@@ -89,6 +91,11 @@ impl Stack {
     /// The same of a restatement.
     pub fn used_by_restatement(&mut self, sheet: &[u8], given: Given, lent: &mut Lent) -> usize {
         self.used_by(Asked::Restatement(sheet, given), lent)
+    }
+
+    /// The same of a reading.
+    pub fn used_by_reading(&mut self, asked: &Text, lent: &mut Lent) -> usize {
+        self.used_by(Asked::Reading(asked), lent)
     }
 
     /// The same of a graft.

@@ -1,5 +1,6 @@
 """The proved library behind proof boards: a sheet's text, its lists, its label count, the comparison of two conclusions, the judgement
-of its term, restated conclusions, grafts of one sheet into another, exercises, and the index of a sheet's names.
+of its term, restated conclusions, grafts of one sheet into another, terms that are read from their strict text, exercises, and the
+index of a sheet's names.
 
 Every function answers for any bytes, and raises `Refused` where the library refuses. A text or list is as long as it has to be;
 given a room, a longer one is refused with 16, as the library does. Functions may be called from several threads at once.
@@ -15,13 +16,14 @@ import ctypes.util
 import enum
 import os
 import pathlib
+import struct
 from collections.abc import Callable, Sequence
 from typing import Any, Final, NamedTuple
 
-__all__ = ["BOARD_ROOM", "FREE", "LONGEST_EXERCISE", "LONGEST_SHEET", "REFUSALS", "SLOT_COUNT", "VERSION", "Atom", "Given",
-           "Hypothesis", "Judged", "Refused", "Style", "Whose", "atom_list", "board_output", "compare", "datatype_list", "exercise",
-           "find_name", "graft", "handout", "handout_datatypes", "judge", "label_count", "name_index", "plain_text", "restate",
-           "strict_text"]
+__all__ = ["BOARD_ROOM", "CODE_ROOM", "FREE", "LONGEST_EXERCISE", "LONGEST_SHEET", "LONGEST_TERM", "NAME_ROOM", "RECORD_NUMBERS",
+           "RECORD_ROOM", "REFUSALS", "SLOT_COUNT", "VERSION", "Atom", "Given", "Hypothesis", "Judged", "Node", "ReadTerm", "Refused",
+           "Style", "Whose", "atom_list", "board_output", "compare", "datatype_list", "exercise", "find_name", "graft", "handout",
+           "handout_datatypes", "judge", "label_count", "name_index", "plain_text", "read_term", "restate", "strict_text"]
 
 VERSION: Final = 2
 """The version of include/skriduhol.h that this module is written for."""
@@ -34,6 +36,21 @@ LONGEST_SHEET: Final = 40972
 
 LONGEST_EXERCISE: Final = 19
 """The longest code of an exercise, in bytes."""
+
+LONGEST_TERM: Final = 65536
+"""The longest text of a term that is read, in bytes."""
+
+RECORD_NUMBERS: Final = 7
+"""The numbers in the record of a node."""
+
+RECORD_ROOM: Final = 14336
+"""The numbers of records that are enough for every term that is read."""
+
+NAME_ROOM: Final = 2048
+"""The bytes of names that are enough for every term that is read."""
+
+CODE_ROOM: Final = 131072
+"""The bytes of code that are enough for every term that is read."""
 
 SLOT_COUNT: Final = 1024
 """The slots of an index of names."""
@@ -125,6 +142,26 @@ class Judged(NamedTuple):
     def __bool__(self) -> bool:
         return self.derived
 
+class Node(NamedTuple):
+    """A node of a term that was read: its kind, five numbers that `include/skriduhol.h` says for each kind, and how many labels stand in
+    it and in its parts."""
+
+    kind: int
+    first: int
+    second: int
+    third: int
+    fourth: int
+    fifth: int
+    labels: int
+
+class ReadTerm(NamedTuple):
+    """A term that was read: its nodes, parts before the whole, so that the last is the term's own; its names by their numbers; and the
+    code of its labels' propositions, each from an even offset on, half of which is its number."""
+
+    nodes: list[Node]
+    names: list[str]
+    code: bytes
+
 class Given(NamedTuple):
     """A conclusion as a step record has it, a kind and three numbers, and a column. Kind 0 is a proposition by its number; kind 1
     is a type judgement: the object's name, its id, and the datatype's name."""
@@ -173,6 +210,7 @@ _handout_datatypes = _function("handout_datatypes", _SIZE, *_LIST)
 _label_count = _function("label_count")
 _compare = _function("compare", _SIZE, _SIZE)
 _judge = _function("judge", *_LIST, _SIZE, result=_RESULT + [ctypes.POINTER(_SIZE)])
+_read_term = _function("read_term", *_BYTES, *_LIST, *_TEXT, *_TEXT, result=_RESULT + [ctypes.POINTER(_SIZE)] * 2)
 _exercise = _function("exercise", _SIZE, _SIZE, *_TEXT)
 _SLOTS = ctypes.c_uint16 * SLOT_COUNT
 _name_index = _function("name_index", _SLOTS)
@@ -196,6 +234,11 @@ def _u16(what: str, number: int) -> int:
 def _frozen(content: bytes) -> bytes:
     """The bytes themselves, or a copy of other memory, which no other thread can then change. Empty ones have an address too."""
     return content if isinstance(content, bytes) else bytes(memoryview(content))
+
+def _divided(names: Sequence[str]) -> bytes:
+    """Names divided by newlines. One with a newline in it would be two, and one of no bytes none: both are malformed, and handed over
+    as such."""
+    return "\n".join(name.replace("\n", "?") or "?" for name in names).encode(errors="replace")
 
 def _asked(function: Callable[..., int], content: bytes, *arguments: Any) -> int:
     """The value that a function hands back, or its refusal."""
@@ -274,12 +317,29 @@ def judge(sheet: bytes, hypotheses: Sequence[tuple[int, int]], proposition: int)
     derived = _asked(judged, sheet, lent, len(numbers), _size("the proposition", proposition)) == 1
     return Judged(derived, None if derived else node.value)
 
+def read_term(text: str | bytes, datatypes: Sequence[str] = (), *, room: tuple[int, int, int] | None = None) -> ReadTerm:
+    """The term that a strict text has. A label that is a lone name is a datatype if it is listed and otherwise an atom. A room is
+    counted in numbers of records, bytes of names and bytes of code."""
+    content, types = text.encode(errors="replace") if isinstance(text, str) else _frozen(text), _divided(datatypes)
+    rooms = [_size("a room", lent) for lent in room or (RECORD_ROOM, NAME_ROOM, CODE_ROOM)]
+    # One element at least: the library takes no null address, even of no room.
+    elements = zip((ctypes.c_uint16, ctypes.c_uint8, ctypes.c_uint8), rooms)
+    records, names, code = ((element * max(lent, 1))() for element, lent in elements)
+    name_count, code_length = _SIZE(), _SIZE()
+
+    def read(*arguments: Any) -> int:
+        return _read_term(*arguments, ctypes.byref(name_count), ctypes.byref(code_length))
+
+    count = _asked(read, content, types, len(types), records, rooms[0], names, rooms[1], code, rooms[2])
+    nodes = [Node(*records[at:at + RECORD_NUMBERS]) for at in range(0, RECORD_NUMBERS * count, RECORD_NUMBERS)]
+    pairs = struct.iter_unpack("<2H", ctypes.string_at(names, 4 * name_count.value))
+    return ReadTerm(nodes, [content[offset:offset + length].decode() for offset, length in pairs],
+                    ctypes.string_at(code, code_length.value))
+
 def exercise(names: Sequence[str], n: int, ordinal: int, *, room: int | None = None) -> bytes:
     """The code of the proposition at an ordinal, from 0, among all of at most n binary connectives over ⊤, ⊥ and up to 3 names, n
     up to 3. In the code the names are numbered as given. `include/skriduhol.h` says their order."""
-    # A name with a newline in it would be two, and one of no bytes none: both are malformed, and handed over as such.
-    content = "\n".join(name.replace("\n", "?") or "?" for name in names).encode(errors="replace")
-    return _bytes(_exercise, content, _size("the number of connectives", n), _size("the ordinal", ordinal), room=room)
+    return _bytes(_exercise, _divided(names), _size("the number of connectives", n), _size("the ordinal", ordinal), room=room)
 
 def name_index(sheet: bytes) -> list[int]:
     """The index of the sheet's names, 1,024 slots, by which `find_name` finds one without comparing all."""

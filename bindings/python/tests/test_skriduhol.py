@@ -10,7 +10,7 @@ import typing
 import unittest
 
 import skriduhol
-from skriduhol import Atom, Given, Hypothesis, Judged, Refused, Style, Whose
+from skriduhol import Atom, Given, Hypothesis, Judged, ReadTerm, Refused, Style, Whose
 
 ROOT = pathlib.Path(__file__).resolve().parents[3]
 
@@ -68,6 +68,30 @@ class Examples(unittest.TestCase):
         for hypotheses, proposition in (([(65536, 0)], 0), ([(0, -1)], 0), ([], -1), ([], 2 ** 64)):
             with self.assertRaises(ValueError):
                 skriduhol.judge(SECOND, hypotheses, proposition)
+
+    def test_texts_are_read(self):
+        text = "fn x: T => (x: A)"
+        nodes = [(0, 0, 0, 0, 0, 0, 0), (11, 0, 0, 1, 0, 0, 1), (4, 1, 0, 2, 1, 0, 2)]
+        self.assertEqual(skriduhol.read_term(text, ["U", "T"]), ReadTerm(nodes, ["x", "T", "A"], b"\x05\x02\x00\x00"))
+        read = skriduhol.read_term(text.encode(), room=(21, 12, 8))
+        self.assertEqual((read.nodes[-1], read.code), ((4, 1, 0, 1, 0, 0, 2), b"\x05\x01\x00\x00\x05\x02\x00\x00"))
+        self.assertEqual(skriduhol.read_term(bytearray(b"()")), ReadTerm([(12, 0, 0, 0, 0, 0, 0)], [], b""))
+        for room in ((20, 12, 4), (21, 11, 4), (21, 12, 3), (0, 0, 0)):
+            self.assert_refused(16, 0, 0, skriduhol.read_term, text, ["T"], room=room)
+        for wrong in ("", "in", "f (a)", "fn x => x: A", "x: A ⊃ ⊥", "é", "\udc80", b"\xff", "x" * (skriduhol.LONGEST_TERM + 1)):
+            self.assert_refused(20, 0, 0, skriduhol.read_term, wrong)
+        for datatypes in ([""], ["T", ""], ["in"], ["T\nU"], ["é"], ["T" * 33]):
+            self.assert_refused(20, 0, 0, skriduhol.read_term, "x", datatypes)
+        for room in ((-1, 12, 4), (21, 2 ** 64, 4)):
+            with self.assertRaises(ValueError):
+                skriduhol.read_term("x", room=room)
+
+    def test_the_texts_of_sheets_are_read_back(self):
+        for name, count in (("smallest", 1), ("second_drawing", 3), ("labelled_function", 4), ("case_as_an_argument", 8),
+                            ("second_handout", 6), ("disjunction_swapped", 7)):
+            term = skriduhol.strict_text(example(name)).rpartition("\n")[2]
+            read = skriduhol.read_term(term, ["T"])
+            self.assertEqual((len(read.nodes), read.nodes[-1].labels), (count, skriduhol.label_count(example(name))), name)
 
     def test_the_board(self):
         self.assertEqual(skriduhol.board_output(SECOND), b"atom A;\natom B;\n\n\nfn u => inl u")
@@ -185,6 +209,10 @@ def found_number(sheet, name):
     found = skriduhol.find_name(sheet, slots, name)
     return skriduhol.FREE if found is None else found
 
+def read_numbers(read):
+    """The numbers of the nodes, the names and the code."""
+    return [number for node in read.nodes for number in node], read.names, read.code
+
 def judged_number(sheet, numbers, proposition):
     """The node of a no, or 65,535 for yes; a last number may stand alone."""
     judged = skriduhol.judge(sheet, [numbers[at:at + 2] for at in range(0, len(numbers), 2)], proposition)
@@ -210,6 +238,8 @@ class Answers(unittest.TestCase):
         12: lambda sheet, name: found_number(sheet, name),
         13: lambda sheet, *given: skriduhol.restate(sheet, Given(*given[:5]), room=given[5])[0],
         14: lambda both, own, theirs, step, room: skriduhol.graft(both[:own], step, both[own:own + theirs], room=room)[0],
+        15: lambda text, names, *room: read_numbers(skriduhol.read_term(
+            text, names.decode("latin-1").split("\n") if names else [], room=room)),
         16: lambda sheet, numbers, proposition: judged_number(sheet, numbers, proposition),
     }
     ASKED = {**dict.fromkeys(range(4), "<I"), 5: "<2H", **dict.fromkeys(range(7, 10), "<QI"), 10: "<2QI", 13: "<5HI",
@@ -225,6 +255,8 @@ class Answers(unittest.TestCase):
             return struct.unpack_from(layout, data, at - struct.calcsize(layout))
 
         def asked_of(kind):
+            if kind == 15:
+                return take("<%ds" % take("<H")) + take("<3I")
             if kind == 16:
                 return take("<%dH" % take("<B")), *take("<Q")
             return take("<%ds" % take("<B") if kind == 12 else self.ASKED.get(kind, "<"))
@@ -239,6 +271,11 @@ class Answers(unittest.TestCase):
                     answer = number, value, *take("<HB" if kind == 14 else "<H")
                 elif kind in (4, 5, 12, 16):
                     answer = value
+                elif kind == 15:
+                    names, code = take("<HI")
+                    numbers, pairs = list(take(f"<{7 * value}H")), take(f"<{2 * names}H")
+                    words = [content[at:at + length].decode() for at, length in zip(pairs[::2], pairs[1::2])]
+                    answer = numbers, words, *take(f"<{code}s")
                 else:
                     answer = list(take(f"<{value}H")) if kind in self.LISTS else take(f"<{value}s")[0]
                 yield entry, content, kind, asked, answer

@@ -5,7 +5,7 @@
 //! pointer after it returns.
 #![allow(unsafe_code)]
 
-use crate::{Hypothesis, BOARD_ROOM, SLOT_COUNT};
+use crate::{Hypothesis, TermMemory, BOARD_ROOM, SLOT_COUNT};
 
 extern "C" {
     fn skriduhol_plain_text(
@@ -113,6 +113,22 @@ extern "C" {
         value: *mut usize,
         column: *mut usize,
         whose: *mut usize,
+    ) -> u8;
+    fn skriduhol_read_term(
+        text: *const u8,
+        text_length: usize,
+        datatypes: *const u8,
+        datatypes_length: usize,
+        records: *mut u16,
+        records_room: usize,
+        names: *mut u8,
+        names_room: usize,
+        code: *mut u8,
+        code_room: usize,
+        value: *mut usize,
+        column: *mut usize,
+        name_count: *mut usize,
+        code_length: *mut usize,
     ) -> u8;
     fn skriduhol_exercise(
         names: *const u8,
@@ -340,6 +356,41 @@ pub fn graft(
             value,
             column,
             whose,
+        )
+    }
+}
+
+/// How many names, and how many bytes of code, a term that was read has.
+#[derive(Default)]
+pub struct Counts {
+    pub names: usize,
+    pub code: usize,
+}
+
+pub fn read_term(
+    text: &[u8],
+    datatypes: &[u8],
+    memory: TermMemory,
+    value: &mut usize,
+    column: &mut usize,
+    counts: &mut Counts,
+) -> u8 {
+    unsafe {
+        skriduhol_read_term(
+            text.as_ptr(),
+            text.len(),
+            datatypes.as_ptr(),
+            datatypes.len(),
+            memory.records.as_mut_ptr(),
+            memory.records.len(),
+            memory.names.as_mut_ptr(),
+            memory.names.len(),
+            memory.code.as_mut_ptr(),
+            memory.code.len(),
+            value,
+            column,
+            &mut counts.names,
+            &mut counts.code,
         )
     }
 }

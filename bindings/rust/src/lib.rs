@@ -1,7 +1,7 @@
 //! The proved library behind proof boards, for Rust: a sheet's text, its lists, its label count, the comparison of two
-//! conclusions, the judgement of its term, restated conclusions, grafts of one sheet into another, exercises, and the index of a
-//! sheet's names. Every function answers for any bytes. A refusal leaves the lent memory as it was, save that `board_output` then
-//! writes the refusal's line.
+//! conclusions, the judgement of its term, restated conclusions, grafts of one sheet into another, terms that are read from their
+//! strict text, exercises, and the index of a sheet's names. Every function answers for any bytes. A refusal leaves the lent memory
+//! as it was, save that `board_output` then writes the refusal's line.
 #![deny(unsafe_code)]
 
 mod c;
@@ -16,6 +16,17 @@ pub const LONGEST_SHEET: usize = 40_972;
 
 /// The longest code of an exercise, in bytes: three connectives and four names.
 pub const LONGEST_EXERCISE: usize = 19;
+
+/// The longest text of a term that is read, in bytes.
+pub const LONGEST_TERM: usize = 65_536;
+
+/// The numbers in the record of a node.
+pub const RECORD_NUMBERS: usize = 7;
+
+/// How many numbers of records, bytes of names and bytes of code are enough for every term that is read.
+pub const RECORD_ROOM: usize = 14_336;
+pub const NAME_ROOM: usize = 2048;
+pub const CODE_ROOM: usize = 131_072;
 
 /// The slots of an index of names.
 pub const SLOT_COUNT: usize = 1024;
@@ -213,6 +224,39 @@ pub fn graft(
             _ => Whose::Neither,
         },
         refusal,
+    })
+}
+
+/// The memory that is lent for a term: `include/skriduhol.h` says how a term stands in it.
+pub struct TermMemory<'a> {
+    /// `RECORD_NUMBERS` for each node, parts before the whole.
+    pub records: &'a mut [u16],
+    /// The offset and the length in the text of each different name, low byte first.
+    pub names: &'a mut [u8],
+    /// The propositions of the labels, each from an even offset on.
+    pub code: &'a mut [u8],
+}
+
+/// How much of the lent memory a term takes: so many nodes and names, and bytes of code.
+#[derive(Clone, Copy, Debug, PartialEq, Eq)]
+pub struct ReadTerm {
+    pub nodes: usize,
+    pub names: usize,
+    pub code: usize,
+}
+
+/// The term that a strict text has, at the start of each part of the memory. The datatypes are names divided by newlines, and no bytes
+/// are no names: a label that is a lone name is a datatype if it is listed and otherwise an atom.
+pub fn read_term(text: &[u8], datatypes: &[u8], memory: TermMemory) -> Result<ReadTerm, Refusal> {
+    let mut counts = c::Counts::default();
+    let question = |value: &mut usize, column: &mut usize| {
+        c::read_term(text, datatypes, memory, value, column, &mut counts)
+    };
+    let nodes = asked(question)?;
+    Ok(ReadTerm {
+        nodes,
+        names: counts.names,
+        code: counts.code,
     })
 }
 

@@ -1,9 +1,10 @@
 //! The example sheets through the wrapper: answers, refusals, and what becomes of the lent memory.
 use skriduhol::{
     atom_list, board_output, compare, datatype_list, exercise, find_name, graft, handout,
-    handout_datatypes, judge, label_count, name_index, plain_text, restate, strict_text, Given,
-    GraftRefusal, Hypothesis, Judged, Refusal, Style, Whose, BOARD_ROOM, FREE, LONGEST_EXERCISE,
-    LONGEST_SHEET, SLOT_COUNT,
+    handout_datatypes, judge, label_count, name_index, plain_text, read_term, restate, strict_text,
+    Given, GraftRefusal, Hypothesis, Judged, ReadTerm, Refusal, Style, TermMemory, Whose,
+    BOARD_ROOM, CODE_ROOM, FREE, LONGEST_EXERCISE, LONGEST_SHEET, LONGEST_TERM, NAME_ROOM,
+    RECORD_NUMBERS, RECORD_ROOM, SLOT_COUNT,
 };
 
 const SMALLEST: &[u8] = include_bytes!("../../../examples/sheets/smallest.sheet");
@@ -306,6 +307,92 @@ fn a_refused_graft_says_whose_it_is_and_leaves_the_memory() {
     );
     assert_eq!(said(Whose::Host), "refused 9 at 4 column 4098 of the host");
     assert_eq!(said(Whose::Neither), "refused 9 at 4 column 4098");
+}
+
+/// What becomes of the memory where a text is read in a room of so many numbers of records, bytes of names and bytes of code.
+struct Read {
+    answer: Result<ReadTerm, Refusal>,
+    records: Vec<u16>,
+    names: Vec<u8>,
+    code: Vec<u8>,
+}
+
+fn read_in(room: [usize; 3], text: &str, datatypes: &str) -> Read {
+    let mut records = vec![7; room[0]];
+    let [mut names, mut code] = [room[1], room[2]].map(|room| vec![UNTOUCHED; room]);
+    let memory = TermMemory {
+        records: &mut records,
+        names: &mut names,
+        code: &mut code,
+    };
+    let answer = read_term(text.as_bytes(), datatypes.as_bytes(), memory);
+    Read {
+        answer,
+        records,
+        names,
+        code,
+    }
+}
+
+#[test]
+fn a_text_is_read() {
+    let read = read_in([21, 12, 4], "fn x: T => (x: A)", "U\nT");
+    let (nodes, names, code) = (3, 3, 4);
+    assert_eq!(read.answer, Ok(ReadTerm { nodes, names, code }));
+    // x, then x: A, whose label stands at offset 0, then the function that binds x, with the datatype T for a label
+    let (name, ascription) = ([0; 7], [11, 0, 0, 1, 0, 0, 1]);
+    let function = [4, 1, 0, 2, 1, 0, 2];
+    assert_eq!(read.records, [name, ascription, function].concat());
+    assert_eq!(read.names, [3, 0, 1, 0, 6, 0, 1, 0, 15, 0, 1, 0]);
+    assert_eq!(read.code, [5, 2, 0, 0]);
+}
+
+#[test]
+fn a_byte_between_two_labels_is_untouched() {
+    let read = read_in([50, 20, 12], "(x: ⊤, y: A)", "");
+    let (nodes, names, code) = (5, 3, 6);
+    assert_eq!(read.answer, Ok(ReadTerm { nodes, names, code }));
+    assert_eq!(read.code[..6], [0, UNTOUCHED, 5, 2, 0, 0]);
+    assert_eq!(read.code[6..], [UNTOUCHED; 6]);
+    assert_eq!(read.records[28..35], [1, 1, 3, 0, 0, 0, 2]);
+    assert_eq!(read.records[35..], [7; 15]);
+}
+
+#[test]
+fn a_text_that_is_not_read_leaves_the_memory() {
+    let untouched = |room: [usize; 3], text: &str, datatypes: &str, number| {
+        let read = read_in(room, text, datatypes);
+        assert_eq!(read.answer, refusal(number, 0), "{text}");
+        assert_eq!(read.records, vec![7; room[0]]);
+        assert_eq!(read.names, vec![UNTOUCHED; room[1]]);
+        assert_eq!(read.code, vec![UNTOUCHED; room[2]]);
+    };
+    let enough = [RECORD_ROOM, NAME_ROOM, CODE_ROOM];
+    for text in ["", "in", "f (a)", "fn x => x: A", "(x,y)", "x: A ⊃ ⊥"] {
+        untouched(enough, text, "", 20);
+    }
+    untouched(enough, &"x".repeat(LONGEST_TERM + 1), "", 20);
+    for datatypes in ["T\n", "in", "1", "T U"] {
+        untouched(enough, "x", datatypes, 20);
+    }
+    let text = "fn x: T => (x: A)";
+    for room in [[20, 12, 4], [21, 11, 4], [21, 12, 3], [0, 0, 0]] {
+        untouched(room, text, "T", 16);
+    }
+    assert!(read_in([RECORD_NUMBERS, 4, 0], "x", "").answer.is_ok());
+}
+
+#[test]
+fn the_strict_text_of_a_sheet_is_read_back() {
+    let text = strict_text_of(SECOND_HANDOUT).expect("the sheet has a text");
+    let (_, term) = text
+        .rsplit_once('\n')
+        .expect("declarations stand before the term");
+    let enough = [RECORD_ROOM, NAME_ROOM, CODE_ROOM];
+    let read = read_in(enough, term, "T");
+    // fn, an application, fn, the ascription, sorry and a
+    assert_eq!(read.answer.map(|read| read.nodes), Ok(6));
+    assert_eq!(read.records[5 * RECORD_NUMBERS..][..2], [4, 4]);
 }
 
 /// The code of an exercise in a room of so many bytes.

@@ -1,5 +1,6 @@
-// Asks each question of a fixed list of sheets and of names for exercises, and says how many of the answers agree with those that the
-// list holds: the Rust's, and those of documents 01 and 02 where the Rust has none. tests/oracle/README.md has the form of the list, and README.md says how it is made.
+// Asks each question of a fixed list of sheets, of names for exercises and of texts of terms, and says how many of the answers agree
+// with those that the list holds: the Rust's, and those of documents 01 and 02 where the Rust has none. tests/oracle/README.md has the
+// form of the list, and README.md says how it is made.
 use definitions::Located;
 use definitions::Style;
 use definitions::Whose;
@@ -14,6 +15,7 @@ use skriduhol::Grafted;
 use skriduhol::Searched;
 use skriduhol::Verdict;
 use skriduhol_terms::Judged;
+use skriduhol_terms::Reading;
 ghost use Prim.Native.Nat.{_<_, _≤_};
 ghost use Rattle.io.specs.Counts.{Counts};
 
@@ -45,6 +47,8 @@ const FIND_NAME: u8 = 12;
 const RESTATE: u8 = 13;
 
 const GRAFT: u8 = 14;
+
+const READ_TERM: u8 = 15;
 
 const JUDGE: u8 = 16;
 
@@ -438,6 +442,127 @@ fn judge_agrees(fd: i32, s: &[u8]) -> bool {
     judgement_agrees(fd, s, &numbers[..given])
 }
 
+// What a text answers: its nodes or a refusal, and of a term also its names and its bytes of code.
+struct TermResult {
+    result: Result,
+    names: usize,
+    code: usize,
+}
+
+fn term_result(reading: Reading) -> TermResult {
+    match reading {
+        Reading::Read(term) => TermResult {
+            result: accepted(term.nodes),
+            names: term.names,
+            code: term.code,
+        },
+        Reading::Refused(located) => TermResult {
+            result: refused(located),
+            names: 0,
+            code: 0,
+        },
+    }
+}
+
+// Only a term has names and code.
+fn read_term_result(fd: i32) -> TermResult {
+    let result = read_result(fd);
+    if result.number != 0 {
+        return TermResult {
+            result: result,
+            names: 0,
+            code: 0,
+        };
+    }
+    let names = read_u16(fd);
+    TermResult {
+        result: result,
+        names: names,
+        code: read_u32(fd),
+    }
+}
+
+fn same_term_result(a: TermResult, b: TermResult) -> bool {
+    if !same_result(a.result, b.result) {
+        return false;
+    }
+    if a.names != b.names {
+        return false;
+    }
+    a.code == b.code
+}
+
+// How much is lent for a term: numbers of records, bytes of names and of code.
+struct TermRoom {
+    records: usize,
+    names: usize,
+    code: usize,
+}
+
+fn read_room(fd: i32) -> TermRoom {
+    TermRoom {
+        records: read_u32(fd),
+        names: read_u32(fd),
+        code: read_u32(fd),
+    }
+}
+
+fn read_term(
+    text: &[u8],
+    datatypes: &[u8],
+    room: TermRoom,
+    records: &mut [u16],
+    names: &mut [u8],
+    code: &mut [u8],
+) -> TermResult {
+    let of_records = numbers_within(room.records, records);
+    let of_names = bytes_within(room.names, names);
+    let of_code = bytes_within(room.code, code);
+    term_result(skriduhol_terms::read_term(
+        text,
+        datatypes,
+        &mut records[..of_records],
+        &mut names[..of_names],
+        &mut code[..of_code],
+    ))
+}
+
+// A record has seven numbers of two bytes, and a name four bytes.
+fn term_agrees(fd: i32, text: &[u8], datatypes: &[u8]) -> bool {
+    let room = read_room(fd);
+    let expected = read_term_result(fd);
+    let numbers = read_bytes(fd, 14 * elements(expected.result));
+    let pairs = read_bytes(fd, 4 * least(expected.names, ROOM));
+    let labels = read_bytes(fd, expected.code);
+    let mut records = [0u16; ROOM];
+    let mut names = io::large_buffer();
+    let mut code = io::large_buffer();
+    let answer = read_term(text, datatypes, room, &mut records, &mut names, &mut code);
+    if !same_term_result(expected, answer) {
+        return false;
+    }
+    if !same_numbers(&records, &numbers) {
+        return false;
+    }
+    if !same_bytes(&names, &pairs) {
+        return false;
+    }
+    same_bytes(&code, &labels)
+}
+
+// Fills the memory with a list of datatypes.
+fn listed_agrees(fd: i32, text: &[u8], datatypes: &mut [u8]) -> bool {
+    io::read_full(fd, datatypes);
+    term_agrees(fd, text, datatypes)
+}
+
+// The text stands where other questions have a sheet.
+fn reading_agrees(fd: i32, text: &[u8]) -> bool {
+    let mut datatypes = io::large_buffer();
+    let length = bytes_within(read_u16(fd), &datatypes);
+    listed_agrees(fd, text, &mut datatypes[..length])
+}
+
 // What a graft answers, and whose a refusal is: 0 neither's, 1 the host's, 2 the donor's.
 struct GraftResult {
     result: Result,
@@ -531,6 +656,7 @@ fn agrees(fd: i32, s: &[u8]) -> bool {
         FIND_NAME => name_agrees(fd, s),
         RESTATE => restate_agrees(fd, s),
         GRAFT => graft_agrees(fd, s),
+        READ_TERM => reading_agrees(fd, s),
         JUDGE => judge_agrees(fd, s),
         _ => board_agrees(fd, s),
     }

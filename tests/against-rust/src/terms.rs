@@ -89,8 +89,8 @@ pub mod reading {
         fn skriduhol_read_term(
             text: *const u8,
             text_length: usize,
-            types: *const u8,
-            types_length: usize,
+            datatypes: *const u8,
+            datatypes_length: usize,
             records: *mut u16,
             records_room: usize,
             names: *mut u8,
