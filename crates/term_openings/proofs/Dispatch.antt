@@ -1,15 +1,15 @@
 -- By the first word the machine goes on behind it, or reads a closed term as the head of the term.
-use Prim.Native.Nat.{ℕ, _+_, _*_, _<_, _≤_}
+use Prim.Native.Nat.{ℕ, _≤_}
 use mathlib.Core.Path.{_≡_, refl, sym, ap, _∙_}
-use mathlib.Core.List.{List, [], _∷_, _++_, append-nil}
+use mathlib.Core.List.{List, [], _∷_, append-nil}
 use mathlib.Core.Logic.{_⊎_, ⊎-elim}
 use native.Mathlib.Omega.{arith}
-use lib.ListN.{length, drop}
+use lib.ListN.{drop}
 use types.Run.{OneOf}
 use denote.Enum.Declared.{tagOf}
 use Rattle.definitions.specs.Name.{Name}
 use Rattle.definitions.specs.Term.{NamedFunction, fst, snd, inl, inr, abort}
-use Rattle.definitions.specs.TermReader.{word, fnWord, caseWord, letWord, sorryWord, noWord, callWord, startOf}
+use Rattle.definitions.specs.TermReader.{fnWord, caseWord, letWord, sorryWord, noWord, callWord, startOf}
 use Rattle.definitions.specs.TermReader as reader
 use Rattle.reading_laws.specs.TermMachine.{Entry, asHead, reading, closedFor, onward, start, turn}
 use Rattle.reading_laws.specs.Marks.{purposeMarks, entriesMarks}

@@ -1,33 +1,28 @@
 -- What follows the first word of a term, piece by piece: the machine goes on to an entry or to a closed term, or there is no term.
-use Prim.Native.Nat.{ℕ, _+_, _*_, _<_, _≤_}
+use Prim.Native.Nat.{ℕ, _+_, _<_, _≤_}
 use mathlib.Core.Path.{_≡_, refl, sym, ap, _∙_}
-use mathlib.Core.Option.{Option, none, some, Option·none-ne-some, Option·some-injective}
+use mathlib.Core.Option.{Option, some, Option·none-ne-some, Option·some-injective}
 use mathlib.Core.List.{List, [], _∷_, _++_, append-assoc, append-nil}
 use native.Mathlib.Omega.{arith}
 use lib.ListN.{length, drop}
 use Rattle.definitions.specs.Utf8.{utf8}
 use Rattle.definitions.specs.Outcome.{refuse}
-use Rattle.definitions.specs.Name.{Name, eqName}
-use Rattle.definitions.specs.Text.{occurs}
+use Rattle.definitions.specs.Name.{Name}
 use Rattle.definitions.specs.Code.{Read}
-use Rattle.definitions.specs.TermReader.{caseWord, letWord, callWord, name, expect, readAnswer}
+use Rattle.definitions.specs.TermReader.{caseWord, letWord, name, expect, readAnswer}
 use Rattle.definitions.proofs.Readings.{given}
 use Rattle.definitions.specs.TermMemory.{seven}
 use Rattle.reading_laws.specs.TermMachine.{asBody, Entry, caseHead, letHead, State, reading, andThen, start}
 use Rattle.reading_laws.specs.Marks.{Mark, called, purposeMarks, entryMarks, entriesMarks, met, namesMet}
-use Rattle.reading_laws.proofs.MarksMet.{After, begins-all, begins-by}
-use Rattle.reading_laws.proofs.OnTheWay.{Fits, names-both}
-use Rattle.reading_laws.proofs.TermConventions.{Gives}
+use Rattle.reading_laws.proofs.OnTheWay.{Fits}
 use Rattle.reading_laws.proofs.Turns.{Next, next-then, next-after}
 use Rattle.words.specs.Places.{between, Expected}
-use Rattle.words.specs.Table.{added, numberIn, tableNames}
+use Rattle.words.specs.Table.{added, tableNames}
 use Rattle.prop_parts.specs.declared.NameRead as reader
 use Rattle.prop_parts.specs.Found.{NameGiven}
 use Rattle.atom_reader.specs.Scope.{Crowded}
 use Rattle.atom_reader.proofs.Readings.{gives-any, gives-from}
-use Rattle.atom_reader.proofs.Atoms.{number-later}
 use Rattle.term_stack.specs.declared.Progress.{Progress}
-use Rattle.term_stack.specs.declared.Purpose.{Purpose}
 use Rattle.term_stack.specs.Growing.{rowNumbers}
 use Rattle.term_stack.specs.Numbers.{purposeKind, purposeNumber, purposeNesting, purposeTally, purposeRecords, entryNumbers, entryRecords, stackNumbers, stackRecords}
 use Rattle.term_stack.specs.Standing.{Scene, Stored}

@@ -1,5 +1,5 @@
 -- A function: its parameter, the label of it, and then an entry for the body.
-use Prim.Native.Nat.{ℕ, _+_, _*_, _<_, _≤_}
+use Prim.Native.Nat.{ℕ, _+_, _<_, _≤_}
 use mathlib.Core.Path.{_≡_, refl, sym, ap, _∙_}
 use mathlib.Core.Bool.{true, false, true≢false}
 use mathlib.Core.Option.{Option, none, some}
@@ -10,8 +10,8 @@ use Rattle.definitions.specs.Utf8.{utf8}
 use Rattle.definitions.specs.Name.{Name}
 use Rattle.definitions.specs.Term.{Label, proposition, datatype, isLabelled}
 use Rattle.definitions.specs.TermText.{labelNames, parameterLabelNames}
-use Rattle.definitions.specs.TermReader.{fnWord, name, expect, parameterLabel, propLevels, isLimitedLabel, isLimitedParameterLabel}
-use Rattle.definitions.specs.TermMemory.{parameterLabels, labelsSize, labelKind, parameterLabelKind, parameterLabelNumber, storeLabels, seven}
+use Rattle.definitions.specs.TermReader.{fnWord, name, expect, parameterLabel, propLevels, isLimitedParameterLabel}
+use Rattle.definitions.specs.TermMemory.{parameterLabels, labelKind, parameterLabelKind, parameterLabelNumber, seven}
 use Rattle.definitions.proofs.Readings.{given}
 use Rattle.reading_laws.specs.TermMachine.{Entry, functionBody, State, reading, andThen, start}
 use Rattle.reading_laws.specs.Marks.{Mark, called, labelled, labelMarks, entryMarks, entriesMarks, met, nodesMet, namesMet, limitedMet}
@@ -19,7 +19,7 @@ use Rattle.reading_laws.proofs.OnTheWay.{Fits}
 use Rattle.reading_laws.proofs.TermAnswer.{both}
 use Rattle.reading_laws.proofs.Turns.{Next, next-then, next-after}
 use Rattle.words.specs.Places.{Expected}
-use Rattle.words.specs.Table.{added, tableNames, Noted}
+use Rattle.words.specs.Table.{added, tableNames}
 use Rattle.prop_parts.specs.declared.NameRead.{NameRead}
 use Rattle.atom_reader.proofs.Readings.{gives-any, gives-from}
 use Rattle.prop_reader.specs.declared.LabelRead.{LabelRead}
@@ -27,7 +27,7 @@ use Rattle.prop_reader.specs.Answer.{LabelBegins}
 use Rattle.term_stack.specs.declared.Progress.{Progress}
 use Rattle.term_stack.specs.Growing.{rowNumbers}
 use Rattle.term_stack.specs.Numbers.{labelsMet, codeMet, entryNumbers, entryRecords, stackNumbers, stackRecords}
-use Rattle.term_stack.specs.Standing.{Scene, Extends, Stored}
+use Rattle.term_stack.specs.Standing.{Scene, Stored}
 use Rattle.term_stack.specs.Using.{Comes, Refuses}
 use Rattle.term_stack.proofs.Coming.{unfit, goes-on, ends-here}
 use Rattle.term_stack.proofs.Marked.{code-called, even-labels}
@@ -56,10 +56,10 @@ unfolding labelMarks labelsMet parameterLabels
 label-marks none = refl
 label-marks (some l) = refl
 
-label-small : (l : Option (Label Name)) → isLimitedParameterLabel l ≡ true → limitedMet (labelMarks l) ≡ true
+marks-limited : (l : Option (Label Name)) → isLimitedParameterLabel l ≡ true → limitedMet (labelMarks l) ≡ true
 unfolding labelMarks limitedMet isLimitedParameterLabel
-label-small none h = refl
-label-small (some l) h = both h refl
+marks-limited none h = refl
+marks-limited (some l) h = both h refl
 
 pub label-kinds : (l : Option (Label Name)) → parameterLabelKind l ≤ 2
 unfolding parameterLabelKind labelKind
@@ -74,7 +74,7 @@ stored-label : {ms : List Mark} {records stack : (Name → ℕ) → List ℕ} {z
     → Stored (ms ++ labelMarks l) records stack (noting z after code) work used depth (r .count) (r .to)
 unfolding codeMet
 stored-label {l = l} st g =
-    stored-met (labelMarks l) st (rw (label-names l) (g .noted)) (label-nodes l) (label-small l (g .limited)) (rw (label-marks l) (g .to-is))
+    stored-met (labelMarks l) st (rw (label-names l) (g .noted)) (label-nodes l) (marks-limited l (g .limited)) (rw (label-marks l) (g .to-is))
     (λ number e. rw (label-marks l) (g .stored number e))
 
 -- a parameter whose label passes the limits

@@ -1,9 +1,9 @@
 -- The label of a parameter: none where no colon follows, and else the label behind it.
-use Prim.Native.Nat.{ℕ, _+_, _*_, _<_, _≤_}
-use mathlib.Core.Path.{_≡_, refl, sym, ap, _∙_}
-use mathlib.Core.Bool.{Bool, true, false}
+use Prim.Native.Nat.{ℕ, _<_, _≤_}
+use mathlib.Core.Path.{_≡_, refl, ap}
+use mathlib.Core.Bool.{true, false}
 use mathlib.Core.Option.{Option, none, some, Option·none-ne-some, Option·some-injective}
-use mathlib.Core.List.{List, [], _∷_, _++_}
+use mathlib.Core.List.{List}
 use native.Mathlib.Omega.{arith}
 use lib.ListN.{length, drop}
 use Rattle.definitions.specs.Utf8.{utf8}
@@ -11,16 +11,15 @@ use Rattle.definitions.specs.Name.{Name}
 use Rattle.definitions.specs.Code.{Read, yield, followedBy, _>>=_}
 use Rattle.definitions.specs.Term.{Label}
 use Rattle.definitions.specs.TermText.{parameterLabelNames}
-use Rattle.definitions.specs.TermReader.{expect, ifRead, label, parameterLabel, propLevels, isLimitedParameterLabel}
+use Rattle.definitions.specs.TermReader.{ifRead, label, parameterLabel, propLevels, isLimitedParameterLabel}
 use Rattle.definitions.specs.TermMemory.{parameterLabels, labelsSize, parameterLabelKind, parameterLabelNumber, storeLabels}
 use Rattle.definitions.proofs.Readings.{given}
 use Rattle.words.specs.Places.{Expected}
-use Rattle.words.specs.Table.{tableNames, Table}
+use Rattle.words.specs.Table.{tableNames}
 use Rattle.atom_reader.proofs.Atoms.{noted-none}
 use Rattle.prop_reader.specs.declared.LabelRead.{LabelRead}
-use Rattle.prop_reader.specs.Limits.{fitsLabel}
 use Rattle.prop_reader.specs.Answer.{LabelBegins, LabelAnswer}
-use Rattle.term_openings.specs.Parameters.{fitsParameter, ParameterGiven, ParameterAnswer}
+use Rattle.term_openings.specs.Parameters.{fitsParameter, ParameterAnswer}
 use Rattle.term_openings.proofs.StoredLabels.{label-limited, label-kind, label-to, label-small, label-number, label-stored}
 
 -- what is read behind the colon

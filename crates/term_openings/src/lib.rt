@@ -300,7 +300,7 @@ fn start_function(
     enter(work, behind, row, label_count(kind))
 }
 
-// The kind of the records of the named function that this word calls.
+// The kind of the records of the named function that this word calls; of a word that calls none nothing is said.
 fn called(first: Start) -> u16
     ensures { λ r. ⌜ ((f : NamedFunction) → first ≡ asCall f → r ≡ functionKind f) ⌝ }
 {
