@@ -1,7 +1,7 @@
 -- A closed term where it begins: a name, sorry and unit are leaves, and any other bracket opens an entry.
-use Prim.Native.Nat.{ℕ, _+_, _*_, _<_, _≤_}
+use Prim.Native.Nat.{ℕ, _+_, _<_, _≤_}
 use mathlib.Core.Path.{_≡_, refl, sym, ap, _∙_}
-use mathlib.Core.Bool.{Bool, true, false, cond}
+use mathlib.Core.Bool.{true, false}
 use mathlib.Core.Option.{Option, none, some}
 use mathlib.Core.List.{List, [], _∷_, _++_, append-assoc, append-nil}
 use native.Mathlib.Omega.{arith}
@@ -24,7 +24,6 @@ use Rattle.words.specs.Places.{between, WordEnds, NameEnds, Expected}
 use Rattle.words.specs.Table.{addName, added, numberIn, tableNames, NamePlace, NumberOf}
 use Rattle.words.proofs.Added.{met-added}
 use Rattle.words.proofs.Words.{between-length, sorry-word, other-word}
-use Rattle.atom_reader.specs.Scope.{Crowded}
 use Rattle.atom_reader.proofs.Scopes.{added-one-meets}
 use Rattle.atom_reader.proofs.Atoms.{number-later}
 use Rattle.term_stack.specs.declared.Progress.{Progress}
@@ -32,7 +31,7 @@ use Rattle.term_stack.specs.declared.Purpose.{Purpose}
 use Rattle.term_stack.specs.Forms.{kindOf}
 use Rattle.term_stack.specs.Growing.{rowNumbers}
 use Rattle.term_stack.specs.Numbers.{recordsAfter, entryNumbers, entryRecords, purposeRecords, stackRecords}
-use Rattle.term_stack.specs.Standing.{Scene, Extends, Stored, Placed}
+use Rattle.term_stack.specs.Standing.{Scene, Extends, Placed}
 use Rattle.term_stack.specs.Turning.{leftAt}
 use Rattle.term_stack.specs.Using.{Comes, Refuses, Turned, leftAfter, Leaf}
 use Rattle.term_stack.proofs.Coming.{comes-as, unfit, goes-on, ends-here, reads-on, reads-else}

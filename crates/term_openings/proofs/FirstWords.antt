@@ -1,33 +1,28 @@
 -- What follows the first word of a term, piece by piece: the machine goes on to an entry or to a closed term, or there is no term.
-use Prim.Native.Nat.{ℕ, _+_, _*_, _<_, _≤_}
+use Prim.Native.Nat.{ℕ, _+_, _<_, _≤_}
 use mathlib.Core.Path.{_≡_, refl, sym, ap, _∙_}
-use mathlib.Core.Option.{Option, none, some, Option·none-ne-some, Option·some-injective}
+use mathlib.Core.Option.{Option, some, Option·none-ne-some, Option·some-injective}
 use mathlib.Core.List.{List, [], _∷_, _++_, append-assoc, append-nil}
 use native.Mathlib.Omega.{arith}
 use lib.ListN.{length, drop}
 use Rattle.definitions.specs.Utf8.{utf8}
 use Rattle.definitions.specs.Outcome.{refuse}
-use Rattle.definitions.specs.Name.{Name, eqName}
-use Rattle.definitions.specs.Text.{occurs}
+use Rattle.definitions.specs.Name.{Name}
 use Rattle.definitions.specs.Code.{Read}
-use Rattle.definitions.specs.TermReader.{caseWord, letWord, callWord, name, expect, readAnswer}
+use Rattle.definitions.specs.TermReader.{caseWord, letWord, name, expect, readAnswer}
 use Rattle.definitions.proofs.Readings.{given}
 use Rattle.definitions.specs.TermMemory.{seven}
 use Rattle.reading_laws.specs.TermMachine.{asBody, Entry, caseHead, letHead, State, reading, andThen, start}
 use Rattle.reading_laws.specs.Marks.{Mark, called, purposeMarks, entryMarks, entriesMarks, met, namesMet}
-use Rattle.reading_laws.proofs.MarksMet.{After, begins-all, begins-by}
-use Rattle.reading_laws.proofs.OnTheWay.{Fits, names-both}
-use Rattle.reading_laws.proofs.TermConventions.{Gives}
+use Rattle.reading_laws.proofs.OnTheWay.{Fits}
 use Rattle.reading_laws.proofs.Turns.{Next, next-then, next-after}
 use Rattle.words.specs.Places.{between, Expected}
-use Rattle.words.specs.Table.{added, numberIn, tableNames}
+use Rattle.words.specs.Table.{added, tableNames}
 use Rattle.prop_parts.specs.declared.NameRead as reader
 use Rattle.prop_parts.specs.Found.{NameGiven}
 use Rattle.atom_reader.specs.Scope.{Crowded}
 use Rattle.atom_reader.proofs.Readings.{gives-any, gives-from}
-use Rattle.atom_reader.proofs.Atoms.{number-later}
 use Rattle.term_stack.specs.declared.Progress.{Progress}
-use Rattle.term_stack.specs.declared.Purpose.{Purpose}
 use Rattle.term_stack.specs.Growing.{rowNumbers}
 use Rattle.term_stack.specs.Numbers.{purposeKind, purposeNumber, purposeNesting, purposeTally, purposeRecords, entryNumbers, entryRecords, stackNumbers, stackRecords}
 use Rattle.term_stack.specs.Standing.{Scene, Stored}
@@ -117,12 +112,12 @@ module _ {what text pairs after : List ℕ} {at count : ℕ} where
 -- the machine goes on behind the name, or there are too many names
 module _ {what text pairs after : List ℕ} {at count : ℕ} {r : reader.NameRead} {types : List Name} (next : Name → List ℕ → Option State)
     (comes : Comes types text (andThen (expect what (drop at text)) (λ u t. andThen (name t) next))) where
-  name-on : {x : Name} → NameThere what text at pairs count after r x → Comes types text (next x (drop (r .end) text))
+  pub name-on : {x : Name} → NameThere what text at pairs count after r x → Comes types text (next x (drop (r .end) text))
   name-on {x} there =
       goes-on (name (drop (at + length what) text)) next x (drop (r .end) text)
       (goes-on (expect what (drop at text)) (λ u t. andThen (name t) next) tt (drop (at + length what) text) comes (there .expected)) (there .reads)
 
-  name-not : NameAfter what text at pairs count after r → length text < r .end
+  pub name-not : NameAfter what text at pairs count after r → length text < r .end
       → ((x : Name) (rest : List ℕ) → Crowded (tableNames pairs text count) (x ∷ []) → Next (λ τ. Fits τ → ⊥) (next x rest))
       → readAnswer types text ≡ refuse 20 0
   unfolding added
@@ -134,7 +129,7 @@ module _ {what text pairs after : List ℕ} {at count : ℕ} {r : reader.NameRea
       too-many x rest (not-there .fails h t x rest front there))
 
 -- an entry with too many names
-entry-crowded : {ms : List Mark} {records stack : (Name → ℕ) → List ℕ} {z : Scene} {work : List ℕ} {used depth count to : ℕ}
+pub entry-crowded : {ms : List Mark} {records stack : (Name → ℕ) → List ℕ} {z : Scene} {work : List ℕ} {used depth count to : ℕ}
     → Stored ms records stack z work used depth count to → (more others : List Mark) → Crowded (tableNames (z .names) (z .text) count) (namesMet more)
     → (k : List Entry) (entry : Entry) (rest : List ℕ) → entriesMarks (entry ∷ k) ≡ (ms ++ more) ++ others → Fits (reading (entry ∷ k) rest) → ⊥
 unfolding met

@@ -1,6 +1,6 @@
 -- What is noted in the table of names or stored in the labels' code adds to what stands in memory; and with too many names there is no
 -- term within the limits.
-use Prim.Native.Nat.{ℕ, _+_, _<_, _≤_}
+use Prim.Native.Nat.{ℕ, _+_}
 use mathlib.Core.Path.{_≡_, refl, sym, ap, _∙_}
 use mathlib.Core.Bool.{true}
 use mathlib.Core.Option.{Option, none, some}
@@ -8,7 +8,6 @@ use mathlib.Core.List.{List, [], _∷_, _++_}
 use native.Mathlib.Omega.{arith}
 use lib.ListN.{length}
 use Rattle.definitions.specs.Name.{Name}
-use Rattle.definitions.specs.Sheet.{nameLimit}
 use Rattle.definitions.specs.TermMemory.{labelsSize, storeLabels}
 use Rattle.reading_laws.specs.TermMachine.{State}
 use Rattle.reading_laws.specs.Marks.{Mark, called, met, nodesMet, namesMet, limitedMet}

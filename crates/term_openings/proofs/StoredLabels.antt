@@ -1,5 +1,5 @@
 -- A label that was read is stored as the memory asks; and with a label past the limits there is no term.
-use Prim.Native.Nat.{ℕ, zero, suc, _+_, _*_, _/_, _%_, _<_, _≤_}
+use Prim.Native.Nat.{ℕ, suc, _+_, _<_, _≤_}
 use mathlib.Core.Path.{_≡_, refl, sym, ap, _∙_}
 use mathlib.Core.Bool.{Bool, true, false, _&&_, cond, true≢false, and-eq-true-iff}
 use mathlib.Core.List.{List, [], _∷_, _++_, map, append-nil}
@@ -18,13 +18,13 @@ use Rattle.definitions.specs.TermText.{termTextLimit, propNames, labelNames}
 use Rattle.definitions.specs.TermReader.{isLimitedLabel}
 use Rattle.definitions.specs.TermMemory.{labelSize, labelsSize, labelKind, labelNumber, storeLabel, storeLabels}
 use Rattle.reading_laws.specs.TermMachine.{State}
-use Rattle.reading_laws.specs.Marks.{Mark, called, labelled, node, met, namesMet, limitedMet}
+use Rattle.reading_laws.specs.Marks.{Mark, called, labelled, node, namesMet, limitedMet}
 use Rattle.reading_laws.proofs.MarksMet.{After}
 use Rattle.reading_laws.proofs.OnTheWay.{Fits, limited-first}
 use Rattle.output.specs.Wrote.{puts}
 use Rattle.words.specs.Table.{added, numberIn, tableNames}
 use Rattle.words.proofs.Numbers.{names-length}
-use Rattle.atom_reader.specs.Scope.{Met, Crowded}
+use Rattle.atom_reader.specs.Scope.{Met}
 use Rattle.atom_reader.specs.Reading.{codeOver}
 use Rattle.atom_reader.proofs.Scopes.{met-append, added-meets}
 use Rattle.prop_reader.specs.declared.LabelRead.{LabelRead}

@@ -1,12 +1,22 @@
 // What a turn of the reader of terms does before a term: a word, a name, a bracket that opens.
 use identifier::same_name;
+use proof_term::ABORT;
 use proof_term::IDENT;
+use proof_term::NO_LABEL;
+use proof_term::OR_LEFT;
+use proof_term::OR_RIGHT;
+use proof_term::PROJECT_FST;
+use proof_term::PROJECT_SND;
 use proof_term::SORRY;
 use proof_term::UNIT;
 use prop_parts::NameRead;
 use prop_parts::read_name;
+use prop_reader::LabelRead;
+use prop_reader::read_label;
 use term_stack::AS_BODY;
+use term_stack::AS_HEAD;
 use term_stack::CASE_HEAD;
+use term_stack::FUNCTION_BODY;
 use term_stack::LET_HEAD;
 use term_stack::Progress;
 use term_stack::Purpose;
@@ -15,18 +25,30 @@ use term_stack::enter;
 use term_stack::refused;
 use term_stack::use_leaf;
 use words::NAME_LIMIT;
+use words::Start;
 use words::expect;
 use words::name_end;
 use words::number_of_name;
+use words::start_of;
 use words::word_end;
 ghost use mathlib.Core.Path.{_≡_};
+ghost use mathlib.Core.Option.{Option};
 ghost use Prim.Native.Nat.{_≤_};
 ghost use lib.ListN.{length};
-ghost use Rattle.definitions.specs.TermReader.{caseWord, letWord};
+ghost use Rattle.definitions.specs.CallerNames.{namesIn};
+ghost use Rattle.definitions.specs.Name.{Name};
+ghost use Rattle.definitions.specs.Term.{Label, NamedFunction, isLabelled};
+ghost use Rattle.definitions.specs.TermReader.{fnWord, caseWord, letWord};
 ghost use Rattle.definitions.specs.TermText.{termTextLimit};
+ghost use Rattle.definitions.specs.TermMemory.{functionKind, parameterLabelKind};
 ghost use Rattle.words.specs.Places.{NameEnds};
+ghost use Rattle.words.specs.Starts.{asCall};
 ghost use Rattle.words.specs.Table.{Table};
+ghost use Rattle.prop_reader.specs.Answer.{LabelBegins};
+ghost use Rattle.term_stack.specs.Standing.{AtReading};
+ghost use Rattle.term_stack.specs.Turning.{TurnBegins, TurnEnds};
 ghost use Rattle.term_openings.specs.Beginning.{AtClosed, Wordless, Started, AtCall, NameAfter, TextBegins, TextEnds, NamesBegin, NamesEnd};
+ghost use Rattle.term_openings.specs.Parameters.{ParameterAnswer};
 
 // A name as a closed term, from `s.at` to `end`, read for a purpose.
 fn name_for(
@@ -198,4 +220,130 @@ fn start_let(text: &[u8], names: &mut [u8], work: &mut [u16], s: Progress) -> Pr
     behind.count = second.count;
     let row = entry(LET_HEAD, first.number as u16, second.number as u16, 0);
     enter(work, behind, row, 0)
+}
+
+// The label of a parameter whose name ends at `at`, if one follows it.
+fn parameter_label(
+    text: &[u8],
+    at: usize,
+    types: &[u8],
+    names: &mut [u8],
+    count: usize,
+    code: &mut [u8],
+    to: usize,
+) -> LabelRead
+    requires { ⌜ LabelBegins (now text) at (now names) count to ⌝ }
+    ensures { λ r. ⌜ ParameterAnswer (now (text .entry)) at (namesIn (now (types .entry))) (now (names .entry)) count
+        (now (code .entry)) to (now (names .exit)) (now (code .exit)) r ⌝ }
+{
+    let label = expect(text, at, b": ");
+    if text.len() < label {
+        return LabelRead {
+            end: at,
+            kind: NO_LABEL,
+            number: 0,
+            count,
+            to,
+        };
+    }
+    read_label(text, label, types, names, count, code, to, true)
+}
+
+// How many labels a parameter has whose label is of this kind.
+fn label_count(kind: usize) -> u16
+    ensures { λ r. ⌜ ((l : Option (Label Name)) → kind ≡ parameterLabelKind l → r ≡ isLabelled l) ⌝ }
+{
+    if kind == NO_LABEL {
+        return 0;
+    }
+    1
+}
+
+// After `fn`: the parameter with its label, if it has one, and then the body.
+fn start_function(
+    text: &[u8],
+    types: &[u8],
+    names: &mut [u8],
+    code: &mut [u8],
+    work: &mut [u16],
+    s: Progress,
+) -> Progress
+    requires { ⌜ TurnBegins (Started fnWord) (now types) (now text) (now names) (now code) (now work) s ⌝ }
+    ensures { λ r. ⌜ TurnEnds (Started fnWord) 0 (now (types .entry)) (now (text .entry)) (now (names .entry))
+        (now (code .entry)) (now (work .entry)) s (now (names .exit)) (now (code .exit)) (now (work .exit)) r ⌝ }
+{
+    let name = name_after(text, s.at, b" ", names, s.count);
+    let name_end = name.end;
+    if text.len() < name_end {
+        return refused(s);
+    }
+    let label = parameter_label(text, name_end, types, names, name.count, code, s.to);
+    let label_end = label.end;
+    if text.len() < label_end {
+        return refused(s);
+    }
+    let body = expect(text, label_end, b" => ");
+    if text.len() < body {
+        return refused(s);
+    }
+    let mut behind = s;
+    behind.at = body;
+    behind.count = label.count;
+    behind.to = label.to;
+    let kind = label.kind;
+    let row = entry(
+        FUNCTION_BODY,
+        name.number as u16,
+        kind as u16,
+        label.number as u16,
+    );
+    enter(work, behind, row, label_count(kind))
+}
+
+// The kind of the records of the named function that this word calls; of a word that calls none nothing is said.
+fn called(first: Start) -> u16
+    ensures { λ r. ⌜ ((f : NamedFunction) → first ≡ asCall f → r ≡ functionKind f) ⌝ }
+{
+    match first {
+        Start::Fst => PROJECT_FST as u16,
+        Start::Snd => PROJECT_SND as u16,
+        Start::Inl => OR_LEFT as u16,
+        Start::Inr => OR_RIGHT as u16,
+        _ => ABORT as u16,
+    }
+}
+
+// A term begins at `s.at`: goes on by its first word.
+pub fn start(
+    text: &[u8],
+    types: &[u8],
+    names: &mut [u8],
+    code: &mut [u8],
+    work: &mut [u16],
+    s: Progress,
+) -> Progress
+    requires { ⌜ TurnBegins AtReading (now types) (now text) (now names) (now code) (now work) s ⌝ }
+    ensures { λ r. ⌜ TurnEnds AtReading 0 (now (types .entry)) (now (text .entry)) (now (names .entry))
+        (now (code .entry)) (now (work .entry)) s (now (names .exit)) (now (code .exit)) (now (work .exit)) r ⌝ }
+{
+    let at = s.at;
+    let end = word_end(text, at);
+    let first = start_of(&text[at..end]);
+    let mut behind = s;
+    behind.at = end;
+    match first {
+        Start::Function => return start_function(text, types, names, code, work, behind),
+        Start::Case => return start_case(text, work, behind),
+        Start::Let => return start_let(text, names, work, behind),
+        Start::Sorry | Start::Other => {
+            let p = Purpose {
+                kind: AS_HEAD,
+                value: 0,
+                nest: 0,
+                tally: 0,
+            };
+            return closed_for(text, names, work, s, p);
+        }
+        _ => return call(text, names, work, behind, called(first)),
+    }
 }

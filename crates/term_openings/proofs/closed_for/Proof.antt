@@ -1,6 +1,5 @@
 -- A name, sorry, or a bracket.
 use mathlib.Core.Path.{refl, sym, _∙_}
-use native.Mathlib.Omega.{arith}
 use borrow.Author.Needs.{needs}
 use Rattle.words.specs.Places.{between}
 use Rattle.term_openings.specs.Beginning.{withText, withNames, TextBegins, TextEnds, NamesBegin, NamesEnd}

@@ -1,4 +1,5 @@
 -- Two names, each behind its bytes, and then an entry for the head.
+use Prim.Native.Nat.{_<_}
 use mathlib.Core.Path.{sym, _∙_}
 use native.Mathlib.Omega.{arith}
 use borrow.Author.Needs.{needs}
@@ -67,19 +68,20 @@ returns-3 c z started =
     (let-not started (first one .name-after .ensures) (one .if1 .left) (second two .name-after2 .ensures) (two .if2 .left) (c .before .before .expect .ensures) (c .before .if3 .taken))
 
 -- the numbers of the names are small
-cast-entry : tie.Need-cast-entry
+names-small : (c : tie.Else3) → (first (once (second (twice (c .before)))) .name-after .result .number < 512) × (second (twice (c .before)) .name-after2 .result .number < 512)
 unfolding nameLimit
-cast-entry c =
-    let one = once (second (twice (c .before .before))) in
-    let there = first one .name-after .ensures .gives (one .if1 .left) .holds in
-    omega (arith, there .below, there .noted .table .few)
+names-small c =
+    let two = twice (c .before) in
+    let one = once (second two) in
+    let x = first one .name-after .ensures .gives (one .if1 .left) .holds in
+    let y = second two .name-after2 .ensures .gives (two .if2 .left) .holds in
+    (omega (arith, x .below, x .noted .table .few), omega (arith, y .below, y .noted .table .few))
+
+cast-entry : tie.Need-cast-entry
+cast-entry c = omega (arith, names-small (c .before))
 
 cast-entry-2 : tie.Need-cast-entry-2
-unfolding nameLimit
-cast-entry-2 c =
-    let two = twice (c .before .before .before) in
-    let there = second two .name-after2 .ensures .gives (two .if2 .left) .holds in
-    omega (arith, there .below, there .noted .table .few)
+cast-entry-2 c = omega (arith, names-small (c .before .before))
 
 enter-requires : tie.Need-enter-requires
 unfolding NamesBegin withNames
