@@ -2,3 +2,4 @@ mod Handing
 pub mod Numbers
 pub mod Grafts
 pub mod Judged
+pub mod TermsRead

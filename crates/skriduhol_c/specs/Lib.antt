@@ -1,3 +1,4 @@
 pub mod Handed
 pub mod Grafts
 pub mod Judged
+pub mod TermsRead

@@ -14,6 +14,7 @@ use skriduhol::Grafted;
 use skriduhol::Searched;
 use skriduhol::Verdict;
 use skriduhol_terms::Judged;
+use skriduhol_terms::Reading;
 ghost use mathlib.Core.Path.{_≡_};
 ghost use mathlib.Core.List.{List, []};
 ghost use Prim.Native.Nat.{ℕ};
@@ -33,6 +34,7 @@ ghost use Rattle.skriduhol.specs.Searched.{plainAnswer};
 ghost use Rattle.skriduhol_c.specs.Handed.{Hands, HandsFilled, HandsRefusal, yesOrNo, numberOrFree, givenIn};
 ghost use Rattle.skriduhol_c.specs.Grafts.{whoseNumber, HandsGrafted};
 ghost use Rattle.skriduhol_c.specs.Judged.{HandsJudged};
+ghost use Rattle.skriduhol_c.specs.TermsRead.{HandsRead};
 
 // A refusal's place is the value, and its column the column.
 fn hand_refusal(located: Located, value: &mut usize, column: &mut usize) -> u8
@@ -393,6 +395,42 @@ pub extern "C" fn skriduhol_judge(
         }
         Judged::Refused(located) => {
             *node = 0;
+            return hand_refusal(located, value, column);
+        }
+    }
+}
+
+// The term whose strict text these bytes are: the value is how many nodes it has, and behind two pointers of their own are its names
+// and the bytes of its labels' code. A refusal has 0 for both.
+#[no_mangle]
+pub extern "C" fn skriduhol_read_term(
+    text: &[u8],
+    datatypes: &[u8],
+    records: &mut [u16],
+    names: &mut [u8],
+    code: &mut [u8],
+    value: &mut usize,
+    column: &mut usize,
+    name_count: &mut usize,
+    code_length: &mut usize,
+) -> u8
+    ensures { λ r. ⌜ HandsRead (now (datatypes .entry)) (now (text .entry))
+        (now (records .entry)) (now (names .entry)) (now (code .entry))
+        (now (records .exit)) (now (names .exit)) (now (code .exit)) (now (value .exit)) (now (column .exit))
+        (now («name_count» .exit)) (now («code_length» .exit)) r ⌝ }
+{
+    let reading = skriduhol_terms::read_term(text, datatypes, records, names, code);
+    match reading {
+        Reading::Read(size) => {
+            *value = size.nodes;
+            *column = 0;
+            *name_count = size.names;
+            *code_length = size.code;
+            return 0;
+        }
+        Reading::Refused(located) => {
+            *name_count = 0;
+            *code_length = 0;
             return hand_refusal(located, value, column);
         }
     }

@@ -41,7 +41,7 @@ module _ (s hs : List ℕ) (k : ℕ) {j : Judgement} (answered : Judges s hs k j
   refused-is e = judgement-refused (sheetJudgement s hs k) (sym e ∙ answered .answer)
 
   pub yes-back : j ≡ judgement.Yes → JudgesOf s hs k Yes
-  yes-back e = record { answer = yes-is (sheetJudgement s hs k) (sym e ∙ answered .answer); sound = λ d none below is. refl }
+  yes-back e = record { answer = yes-is (sheetJudgement s hs k) (sym e ∙ answered .answer); sound = λ d none below is. refl; root = λ d none is. refl }
 
   -- where a sheet is sound the answer below is yes, so that no other is handed back
   pub no-back : {n : ℕ} → j ≡ judgement.No n → JudgesOf s hs k (No n)
@@ -49,6 +49,7 @@ module _ (s hs : List ℕ) (k : ℕ) {j : Judgement} (answered : Judges s hs k j
       record {
         answer = no-is (sheetJudgement s hs k) (sym e ∙ answered .answer);
         sound = λ d none below is. let yes = answered .sound d none below is in cc;
+        root = λ d none is. let yes = answered .root d none is in cc;
       }
 
   pub refusal-back : {r : Refusal} {l : Located} → j ≡ judgement.Refused r → l ≡ located s r → JudgesOf s hs k (Refused l)
@@ -57,4 +58,5 @@ module _ (s hs : List ℕ) (k : ℕ) {j : Judgement} (answered : Judges s hs k j
       record {
         answer = rw (refused-is e, at);
         sound = λ d none below is. let yes = answered .sound d none below is in cc;
+        root = λ d none is. let yes = answered .root d none is in cc;
       }

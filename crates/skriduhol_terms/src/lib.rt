@@ -2,7 +2,10 @@
 use definitions::Located;
 use judgement::Judgement;
 use located::locate;
+use term_reader::TermRead;
+use term_reader::TermSize;
 ghost use Rattle.skriduhol_terms.specs.Judged.{JudgesOf};
+ghost use Rattle.skriduhol_terms.specs.Reading.{ReadsOf, RestoresOf};
 
 // The rules derive the judgement, or they stop at a node of the term; or a refusal with its column.
 pub enum Judged {
@@ -21,5 +24,34 @@ pub fn judge(s: &[u8], hypotheses: &[u16], k: usize) -> Judged
         Judgement::Yes => Judged::Yes,
         Judgement::No(node) => Judged::No(node),
         Judgement::Refused(refusal) => Judged::Refused(locate(s, refusal)),
+    }
+}
+
+// How many nodes, names, bytes of code and labels the term that was read has; or a refusal, which names no step and has no column.
+pub enum Reading {
+    Read(TermSize),
+    Refused(Located),
+}
+
+// The term whose strict text these bytes are, without declarations; the datatypes are listed with newlines between their names. Its
+// records, the pairs of its names, which mark them in the text, and its labels' code stand at the start of the lent memory.
+pub fn read_term(
+    text: &[u8],
+    types: &[u8],
+    records: &mut [u16],
+    names: &mut [u8],
+    code: &mut [u8],
+) -> Reading
+    ensures { λ r. ⌜ ReadsOf (now (types .entry)) (now (text .entry))
+        (now (records .entry)) (now (names .entry)) (now (code .entry))
+        (now (records .exit)) (now (names .exit)) (now (code .exit)) r ⌝ }
+    ensures { λ r. ⌜ RestoresOf (now (types .entry)) (now (text .entry))
+        (now (records .entry)) (now (names .entry)) (now (code .entry))
+        (now (records .exit)) (now (names .exit)) (now (code .exit)) r ⌝ }
+{
+    let read = term_reader::read_term(text, types, records, names, code);
+    match read {
+        TermRead::Accepted(size) => Reading::Read(size),
+        TermRead::Refused(refusal) => Reading::Refused(Located { refusal, column: 0 }),
     }
 }
