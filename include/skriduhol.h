@@ -42,11 +42,12 @@ extern "C" {
 /* Refusals, in the order in which they are tried, save that 21 is tried first: before each its place, which is 0 or the number of
    a name, a proposition or a step, and its reason. Those whose place is a step, 9 to 15, hand back its column too.
 
-   Texts and lists use 1 to 16, those of the handout 21 too, the label count 1 to 15, a comparison 1 to 11, 17 and 19, a
+   Texts and lists use 1 to 16, those of the handout 21 too, their lengths the same without 16, the label count 1 to 15, a comparison 1 to 11, 17 and 19, a
    restatement 1 to 11, 23, 24, 19 or 25, and 16, a graft the host's 1 to 11, the donor's, 26, 27, 28 and 16, an exercise 29, 30
    and 16, an index of names 1 to 11, and a search in one 1 to 3. No function gives 20, 22 or 31 yet.
    16 is tried last. It does not say how much room is missing: most answers fit 65,536 elements, but a text can pass 88 million
-   bytes and a list 3 million numbers. */
+   bytes and a list 3 million numbers. The length of an answer is asked for by its own function, skriduhol_plain_text_length and
+   its like, which gives the answer's other refusals and never 16. */
 enum skriduhol_refusal {
     /* 0: fewer than 12 bytes came */
     SKRIDUHOL_REFUSED_NO_HEADER = 1,
@@ -160,6 +161,29 @@ uint8_t skriduhol_handout_strict(const uint8_t *sheet, size_t sheet_length, size
                                  size_t *value, size_t *column);
 uint8_t skriduhol_handout_datatypes(const uint8_t *sheet, size_t sheet_length, size_t version, uint16_t *out, size_t room,
                                     size_t *value, size_t *column);
+
+/* How long each of these answers is, found out without writing it. *value: what the function without `_length` hands over in enough
+   room, in bytes of a text and in numbers of a list; a refusal is that function's own, and never 16. So an answer of any length
+   takes two calls:
+
+       size_t value, column;
+       uint8_t number = skriduhol_plain_text_length(sheet, sheet_length, &value, &column);
+       if (number != 0) return refused(number, value, column);
+       size_t room = value;
+       uint8_t *text = calloc(room, 1);
+       if (text == NULL) return out_of_memory();
+       skriduhol_plain_text(sheet, sheet_length, text, room, &value, &column);
+
+   Over the same bytes the second call is not refused, and fills all of the room. A text has some bytes; a list may have none, and
+   an allocation of no bytes may be null: allocate one element more for it. */
+uint8_t skriduhol_plain_text_length(const uint8_t *sheet, size_t sheet_length, size_t *value, size_t *column);
+uint8_t skriduhol_strict_text_length(const uint8_t *sheet, size_t sheet_length, size_t *value, size_t *column);
+uint8_t skriduhol_atom_list_length(const uint8_t *sheet, size_t sheet_length, size_t *value, size_t *column);
+uint8_t skriduhol_datatype_list_length(const uint8_t *sheet, size_t sheet_length, size_t *value, size_t *column);
+uint8_t skriduhol_handout_plain_length(const uint8_t *sheet, size_t sheet_length, size_t version, size_t *value, size_t *column);
+uint8_t skriduhol_handout_strict_length(const uint8_t *sheet, size_t sheet_length, size_t version, size_t *value, size_t *column);
+uint8_t skriduhol_handout_datatypes_length(const uint8_t *sheet, size_t sheet_length, size_t version, size_t *value,
+                                           size_t *column);
 
 /* The label count. *value: how many ascriptions and labelled functions the term has. */
 uint8_t skriduhol_label_count(const uint8_t *sheet, size_t sheet_length, size_t *value, size_t *column);

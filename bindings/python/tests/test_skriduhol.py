@@ -45,6 +45,24 @@ class Examples(unittest.TestCase):
             self.assert_refused(21, 0, 0, skriduhol.handout, HANDOUT, version)
             self.assert_refused(21, 0, 0, skriduhol.handout_datatypes, b"", version)
 
+    def test_lengths(self):
+        for sheet in (SECOND, HANDOUT, example("smallest"), example("labelled_function"), example("case_as_an_argument")):
+            self.assertEqual(skriduhol.plain_text_length(sheet), len(skriduhol.plain_text(sheet).encode()))
+            self.assertEqual(skriduhol.strict_text_length(sheet), len(skriduhol.strict_text(sheet).encode()))
+            self.assertEqual(skriduhol.atom_list_length(sheet), 2 * len(skriduhol.atom_list(sheet)))
+            self.assertEqual(skriduhol.datatype_list_length(sheet), len(skriduhol.datatype_list(sheet)))
+            for version in (1, 2, 3):
+                self.assertEqual(skriduhol.handout_datatypes_length(sheet, version), len(skriduhol.handout_datatypes(sheet, version)))
+                for style in Style:
+                    length = skriduhol.handout_length(sheet, version, style)
+                    self.assertEqual(length, len(skriduhol.handout(sheet, version, style).encode()))
+                    self.assertEqual(len(skriduhol.handout(sheet, version, style, room=length).encode()), length)
+                    self.assert_refused(16, 0, 0, skriduhol.handout, sheet, version, style, room=length - 1)
+        self.assert_refused(14, 1, 3, skriduhol.plain_text_length, REFUSED)
+        self.assert_refused(21, 0, 0, skriduhol.handout_length, REFUSED, 0)
+        self.assert_refused(21, 0, 0, skriduhol.handout_datatypes_length, b"", 4)
+        self.assert_refused(1, 0, 0, skriduhol.atom_list_length, b"")
+
     def test_lists_counts_and_comparisons(self):
         self.assertEqual(skriduhol.atom_list(example("labelled_function")), [Atom(name=0, parameters=0)])
         self.assertEqual(skriduhol.label_count(example("labelled_function")), 1)

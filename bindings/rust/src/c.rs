@@ -67,6 +67,51 @@ extern "C" {
         value: *mut usize,
         column: *mut usize,
     ) -> u8;
+    fn skriduhol_plain_text_length(
+        sheet: *const u8,
+        sheet_length: usize,
+        value: *mut usize,
+        column: *mut usize,
+    ) -> u8;
+    fn skriduhol_strict_text_length(
+        sheet: *const u8,
+        sheet_length: usize,
+        value: *mut usize,
+        column: *mut usize,
+    ) -> u8;
+    fn skriduhol_atom_list_length(
+        sheet: *const u8,
+        sheet_length: usize,
+        value: *mut usize,
+        column: *mut usize,
+    ) -> u8;
+    fn skriduhol_datatype_list_length(
+        sheet: *const u8,
+        sheet_length: usize,
+        value: *mut usize,
+        column: *mut usize,
+    ) -> u8;
+    fn skriduhol_handout_plain_length(
+        sheet: *const u8,
+        sheet_length: usize,
+        version: usize,
+        value: *mut usize,
+        column: *mut usize,
+    ) -> u8;
+    fn skriduhol_handout_strict_length(
+        sheet: *const u8,
+        sheet_length: usize,
+        version: usize,
+        value: *mut usize,
+        column: *mut usize,
+    ) -> u8;
+    fn skriduhol_handout_datatypes_length(
+        sheet: *const u8,
+        sheet_length: usize,
+        version: usize,
+        value: *mut usize,
+        column: *mut usize,
+    ) -> u8;
     fn skriduhol_label_count(
         sheet: *const u8,
         sheet_length: usize,
@@ -242,6 +287,51 @@ pub fn handout_datatypes(
             value,
             column,
         )
+    }
+}
+
+pub fn plain_text_length(sheet: &[u8], value: &mut usize, column: &mut usize) -> u8 {
+    unsafe { skriduhol_plain_text_length(sheet.as_ptr(), sheet.len(), value, column) }
+}
+
+pub fn strict_text_length(sheet: &[u8], value: &mut usize, column: &mut usize) -> u8 {
+    unsafe { skriduhol_strict_text_length(sheet.as_ptr(), sheet.len(), value, column) }
+}
+
+pub fn atom_list_length(sheet: &[u8], value: &mut usize, column: &mut usize) -> u8 {
+    unsafe { skriduhol_atom_list_length(sheet.as_ptr(), sheet.len(), value, column) }
+}
+
+pub fn datatype_list_length(sheet: &[u8], value: &mut usize, column: &mut usize) -> u8 {
+    unsafe { skriduhol_datatype_list_length(sheet.as_ptr(), sheet.len(), value, column) }
+}
+
+pub fn handout_plain_length(
+    sheet: &[u8],
+    version: usize,
+    value: &mut usize,
+    column: &mut usize,
+) -> u8 {
+    unsafe { skriduhol_handout_plain_length(sheet.as_ptr(), sheet.len(), version, value, column) }
+}
+
+pub fn handout_strict_length(
+    sheet: &[u8],
+    version: usize,
+    value: &mut usize,
+    column: &mut usize,
+) -> u8 {
+    unsafe { skriduhol_handout_strict_length(sheet.as_ptr(), sheet.len(), version, value, column) }
+}
+
+pub fn handout_datatypes_length(
+    sheet: &[u8],
+    version: usize,
+    value: &mut usize,
+    column: &mut usize,
+) -> u8 {
+    unsafe {
+        skriduhol_handout_datatypes_length(sheet.as_ptr(), sheet.len(), version, value, column)
     }
 }
 

@@ -1,4 +1,4 @@
-//! The proved library behind proof boards, for Rust: a sheet's text, its lists, its label count, the comparison of two
+//! The proved library behind proof boards, for Rust: a sheet's text, its lists, their lengths, its label count, the comparison of two
 //! conclusions, restated conclusions, grafts of one sheet into another, exercises, and the index of a sheet's names. Every function
 //! answers for any bytes. A refusal leaves the lent memory as it was, save that `board_output` then writes the refusal's line.
 #![deny(unsafe_code)]
@@ -91,6 +91,40 @@ pub fn handout(
 /// Version 2 has every datatype of every label, those within a proposition too, and version 3 the same.
 pub fn handout_datatypes(sheet: &[u8], version: usize, out: &mut [u16]) -> Result<usize, Refusal> {
     asked(|value, column| c::handout_datatypes(sheet, version, out, value, column))
+}
+
+/// How long the plain text is, in bytes: the room that `plain_text` needs. It is not written for that, and 16 is no answer.
+pub fn plain_text_length(sheet: &[u8]) -> Result<usize, Refusal> {
+    asked(|value, column| c::plain_text_length(sheet, value, column))
+}
+
+/// How long the strict text is, in bytes.
+pub fn strict_text_length(sheet: &[u8]) -> Result<usize, Refusal> {
+    asked(|value, column| c::strict_text_length(sheet, value, column))
+}
+
+/// How long the atom list is, in numbers: two for each atom.
+pub fn atom_list_length(sheet: &[u8]) -> Result<usize, Refusal> {
+    asked(|value, column| c::atom_list_length(sheet, value, column))
+}
+
+/// How long the datatype list is, in numbers.
+pub fn datatype_list_length(sheet: &[u8]) -> Result<usize, Refusal> {
+    asked(|value, column| c::datatype_list_length(sheet, value, column))
+}
+
+/// How long the text of a version of the handout is, in bytes.
+pub fn handout_length(sheet: &[u8], version: usize, style: Style) -> Result<usize, Refusal> {
+    let of_style = match style {
+        Style::Plain => c::handout_plain_length,
+        Style::Strict => c::handout_strict_length,
+    };
+    asked(|value, column| of_style(sheet, version, value, column))
+}
+
+/// How long the datatype list of a version of the handout is, in numbers.
+pub fn handout_datatypes_length(sheet: &[u8], version: usize) -> Result<usize, Refusal> {
+    asked(|value, column| c::handout_datatypes_length(sheet, version, value, column))
 }
 
 /// How many ascriptions and labelled functions the sheet's term has.

@@ -1,9 +1,10 @@
 //! The example sheets through the wrapper: answers, refusals, and what becomes of the lent memory.
 use skriduhol::{
-    atom_list, board_output, compare, datatype_list, exercise, find_name, graft, handout,
-    handout_datatypes, label_count, name_index, plain_text, restate, strict_text, Given,
-    GraftRefusal, Refusal, Style, Whose, BOARD_ROOM, FREE, LONGEST_EXERCISE, LONGEST_SHEET,
-    SLOT_COUNT,
+    atom_list, atom_list_length, board_output, compare, datatype_list, datatype_list_length,
+    exercise, find_name, graft, handout, handout_datatypes, handout_datatypes_length,
+    handout_length, label_count, name_index, plain_text, plain_text_length, restate, strict_text,
+    strict_text_length, Given, GraftRefusal, Refusal, Style, Whose, BOARD_ROOM, FREE,
+    LONGEST_EXERCISE, LONGEST_SHEET, SLOT_COUNT,
 };
 
 const SMALLEST: &[u8] = include_bytes!("../../../examples/sheets/smallest.sheet");
@@ -77,6 +78,62 @@ fn strict_text_tells_apart_what_plain_text_does_not() {
         strict_text_of(CASE_WITH_AN_APPLIED_BRANCH),
         Ok("\n\n\nf (case h of inl x => a, inr y => b c)".into())
     );
+}
+
+#[test]
+fn lengths_are_those_of_the_answers() {
+    for sheet in [
+        SMALLEST,
+        SECOND,
+        LABELLED,
+        CASE_AS_AN_ARGUMENT,
+        SECOND_HANDOUT,
+        REFUSED,
+        &[],
+    ] {
+        assert_eq!(
+            plain_text_length(sheet),
+            text_of(sheet).map(|text| text.len())
+        );
+        assert_eq!(
+            strict_text_length(sheet),
+            strict_text_of(sheet).map(|text| text.len())
+        );
+        assert_eq!(atom_list_length(sheet), atom_list(sheet, &mut [0; 64]));
+        assert_eq!(
+            datatype_list_length(sheet),
+            datatype_list(sheet, &mut [0; 64])
+        );
+        for version in 0..5 {
+            for style in [Style::Plain, Style::Strict] {
+                let text = handout_of(sheet, version, style);
+                assert_eq!(
+                    handout_length(sheet, version, style),
+                    text.map(|text| text.len())
+                );
+            }
+            let list = datatypes_of(sheet, version);
+            assert_eq!(
+                handout_datatypes_length(sheet, version),
+                list.map(|list| list.len())
+            );
+        }
+    }
+    assert_eq!(plain_text_length(SECOND), Ok(SECOND_TEXT.len()));
+    assert_eq!(plain_text_length(REFUSED), refusal_of_step(14, 1, 3));
+    assert_eq!(handout_length(REFUSED, 4, Style::Plain), refusal(21, 0));
+}
+
+/// In the room that the length asks for the answer is not refused, and in one element less it is.
+#[test]
+fn the_length_is_the_least_room() {
+    let length = plain_text_length(SECOND).expect("a sheet");
+    assert_eq!(text_in(length, SECOND).0, Ok(length));
+    assert_eq!(text_in(length - 1, SECOND).0, refusal(16, 0));
+    let length = handout_datatypes_length(SECOND_HANDOUT, 2).expect("a sheet");
+    let list = |room| handout_datatypes(SECOND_HANDOUT, 2, &mut vec![0; room]);
+    assert_eq!(list(length), Ok(length));
+    assert_eq!(list(length - 1), refusal(16, 0));
 }
 
 fn handout_of(sheet: &[u8], version: usize, style: Style) -> Result<String, Refusal> {

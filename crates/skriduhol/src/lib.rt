@@ -9,6 +9,7 @@ use definitions::TermList;
 use definitions::Version;
 use definitions::Whose;
 use grafting::Merged;
+use list_length::list_length;
 use located::locate;
 use located::put_refusal;
 use name_index::SLOT_COUNT;
@@ -23,6 +24,7 @@ use sheet_term::Counted;
 use sheet_term::SheetTerm;
 use sheet_term::TERM_NUMBERS;
 use sheet_term::sheet_term;
+use text::sheet_text_length;
 use text::text;
 ghost use mathlib.Core.Path.{_≡_};
 ghost use mathlib.Core.List.{List, []};
@@ -49,11 +51,12 @@ ghost use Rattle.skriduhol.specs.Accurate.{AccurateText, AccurateCount};
 ghost use Rattle.skriduhol.specs.Lists.{listAnswer};
 ghost use Rattle.skriduhol.specs.Asked.{askedOf};
 ghost use Rattle.skriduhol.specs.Located.{filledOf, FillsOf, countOf, verdictOf};
+ghost use Rattle.skriduhol.specs.Lengths.{wholeText, wholeAtoms, wholeDatatypes, Measures};
 ghost use Rattle.skriduhol.specs.Grafts.{GraftsOf};
 ghost use Rattle.skriduhol.specs.Board.{Prints};
 ghost use Rattle.skriduhol.specs.Searched.{searchedOf, plainAnswer};
 
-// The length of an answer in lent memory, or a refusal with its column.
+// The length of an answer, in lent memory or not, or a refusal with its column.
 pub enum Filled {
     Length(usize),
     Refused(Located),
@@ -160,6 +163,21 @@ pub fn strict_text(s: &[u8], out: &mut [u8]) -> Filled
     handout(s, 1, Style::Strict, out)
 }
 
+// How long the text of a version of the handout is, in a style.
+pub fn handout_length(s: &[u8], version: usize, style: Style) -> Filled
+    ensures { λ r. ⌜ Measures (now (s .entry)) (textAnswer (now (s .entry)) version style)
+        (wholeText (now (s .entry)) version style) r ⌝ }
+{
+    let asked = asked_version(version);
+    match asked {
+        Asked::Refused(refusal) => Filled::Refused(locate(s, refusal)),
+        Asked::Of(v) => {
+            let written = sheet_text_length(s, v, style);
+            locate_written(s, written)
+        }
+    }
+}
+
 // A list of the sheet's term in lent memory: measured by a dry run, and then written where it fits.
 fn list(s: &[u8], h: Sheet, terms: &[u16], n: usize, which: TermList, out: &mut [u16]) -> Written
     requires { ⌜ AcceptedSheet (now s) h × HeldTerm (now s) (now terms) n ⌝ }
@@ -213,6 +231,29 @@ pub fn datatype_list(s: &[u8], out: &mut [u16]) -> Filled
     ensures { λ r. ⌜ FillsOf (now (s .entry)) (datatypesAnswer (now (s .entry)) 1 (length (now (out .entry)))) (now (out .entry)) (now (out .exit)) r ⌝ }
 {
     handout_datatypes(s, 1, out)
+}
+
+// How many numbers the atom list has.
+pub fn atom_list_length(s: &[u8]) -> Filled
+    ensures { λ r. ⌜ Measures (now (s .entry)) (atomsAnswer (now (s .entry))) (wholeAtoms (now (s .entry))) r ⌝ }
+{
+    let written = list_length(s, TermList::Atoms);
+    locate_written(s, written)
+}
+
+// How many numbers the datatype list of a version of the handout has.
+pub fn handout_datatypes_length(s: &[u8], version: usize) -> Filled
+    ensures { λ r. ⌜ Measures (now (s .entry)) (datatypesAnswer (now (s .entry)) version)
+        (wholeDatatypes (now (s .entry)) version) r ⌝ }
+{
+    let asked = asked_version(version);
+    match asked {
+        Asked::Refused(refusal) => Filled::Refused(locate(s, refusal)),
+        Asked::Of(v) => {
+            let written = list_length(s, TermList::Datatypes(v));
+            locate_written(s, written)
+        }
+    }
 }
 
 // The label count.

@@ -27,9 +27,10 @@ ghost use Rattle.definitions.specs.declared.Style.the-variants.{Plain, Strict};
 ghost use Rattle.restating.specs.Slots.{slotsAfter};
 ghost use Rattle.grafting.specs.Answered.{slotsBy};
 ghost use Rattle.skriduhol.specs.Located.{filledOf};
+ghost use Rattle.skriduhol.specs.Lengths.{wholeText, wholeAtoms, wholeDatatypes};
 ghost use Rattle.skriduhol.specs.Board.{Prints};
 ghost use Rattle.skriduhol.specs.Searched.{plainAnswer};
-ghost use Rattle.skriduhol_c.specs.Handed.{Hands, HandsFilled, HandsRefusal, yesOrNo, numberOrFree, givenIn};
+ghost use Rattle.skriduhol_c.specs.Handed.{Hands, HandsFilled, HandsLength, HandsRefusal, yesOrNo, numberOrFree, givenIn};
 ghost use Rattle.skriduhol_c.specs.Grafts.{whoseNumber, HandsGrafted};
 
 // A refusal's place is the value, and its column the column.
@@ -165,6 +166,120 @@ pub extern "C" fn skriduhol_handout_datatypes(
 {
     hand_filled(
         skriduhol::handout_datatypes(sheet, version, out),
+        value,
+        column,
+    )
+}
+
+// How long the plain text is.
+#[no_mangle]
+pub extern "C" fn skriduhol_plain_text_length(
+    sheet: &[u8],
+    value: &mut usize,
+    column: &mut usize,
+) -> u8
+    ensures { λ r. ⌜ HandsLength (λ s. textAnswer s 1 Plain) (λ s. wholeText s 1 Plain) (now (sheet .entry))
+        (now (value .exit)) (now (column .exit)) r ⌝ }
+{
+    hand_filled(
+        skriduhol::handout_length(sheet, 1, Style::Plain),
+        value,
+        column,
+    )
+}
+
+// How long the strict text is.
+#[no_mangle]
+pub extern "C" fn skriduhol_strict_text_length(
+    sheet: &[u8],
+    value: &mut usize,
+    column: &mut usize,
+) -> u8
+    ensures { λ r. ⌜ HandsLength (λ s. textAnswer s 1 Strict) (λ s. wholeText s 1 Strict) (now (sheet .entry))
+        (now (value .exit)) (now (column .exit)) r ⌝ }
+{
+    hand_filled(
+        skriduhol::handout_length(sheet, 1, Style::Strict),
+        value,
+        column,
+    )
+}
+
+// How many numbers the atom list has.
+#[no_mangle]
+pub extern "C" fn skriduhol_atom_list_length(
+    sheet: &[u8],
+    value: &mut usize,
+    column: &mut usize,
+) -> u8
+    ensures { λ r. ⌜ HandsLength atomsAnswer wholeAtoms (now (sheet .entry))
+        (now (value .exit)) (now (column .exit)) r ⌝ }
+{
+    hand_filled(skriduhol::atom_list_length(sheet), value, column)
+}
+
+// How many numbers the datatype list has.
+#[no_mangle]
+pub extern "C" fn skriduhol_datatype_list_length(
+    sheet: &[u8],
+    value: &mut usize,
+    column: &mut usize,
+) -> u8
+    ensures { λ r. ⌜ HandsLength (λ s. datatypesAnswer s 1) (λ s. wholeDatatypes s 1) (now (sheet .entry))
+        (now (value .exit)) (now (column .exit)) r ⌝ }
+{
+    hand_filled(skriduhol::handout_datatypes_length(sheet, 1), value, column)
+}
+
+// How long the plain text of a version of the handout is.
+#[no_mangle]
+pub extern "C" fn skriduhol_handout_plain_length(
+    sheet: &[u8],
+    version: usize,
+    value: &mut usize,
+    column: &mut usize,
+) -> u8
+    ensures { λ r. ⌜ HandsLength (λ s. textAnswer s version Plain) (λ s. wholeText s version Plain) (now (sheet .entry))
+        (now (value .exit)) (now (column .exit)) r ⌝ }
+{
+    hand_filled(
+        skriduhol::handout_length(sheet, version, Style::Plain),
+        value,
+        column,
+    )
+}
+
+// How long the strict text of a version of the handout is.
+#[no_mangle]
+pub extern "C" fn skriduhol_handout_strict_length(
+    sheet: &[u8],
+    version: usize,
+    value: &mut usize,
+    column: &mut usize,
+) -> u8
+    ensures { λ r. ⌜ HandsLength (λ s. textAnswer s version Strict) (λ s. wholeText s version Strict) (now (sheet .entry))
+        (now (value .exit)) (now (column .exit)) r ⌝ }
+{
+    hand_filled(
+        skriduhol::handout_length(sheet, version, Style::Strict),
+        value,
+        column,
+    )
+}
+
+// How many numbers the datatype list of a version of the handout has.
+#[no_mangle]
+pub extern "C" fn skriduhol_handout_datatypes_length(
+    sheet: &[u8],
+    version: usize,
+    value: &mut usize,
+    column: &mut usize,
+) -> u8
+    ensures { λ r. ⌜ HandsLength (λ s. datatypesAnswer s version) (λ s. wholeDatatypes s version) (now (sheet .entry))
+        (now (value .exit)) (now (column .exit)) r ⌝ }
+{
+    hand_filled(
+        skriduhol::handout_datatypes_length(sheet, version),
         value,
         column,
     )
