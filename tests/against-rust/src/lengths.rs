@@ -108,11 +108,14 @@ impl Library {
     }
 }
 
-/// What was asked, or the first difference: sheets of each kind, so many of the random ones.
-pub fn compare(library: &Library, seed: u64, count: usize) -> Result<Asked, String> {
+/// The kinds of sheets whose lengths are asked for: all but the slowest.
+pub const KINDS: [Kind; 6] = [Kind::Limits, Kind::Worst, Kind::Sound, Kind::Random, Kind::Quantified, Kind::Damaged];
+
+/// What was asked, or the first difference: sheets of these kinds, so many of the random ones.
+pub fn compare(library: &Library, kinds: &[Kind], seed: u64, count: usize) -> Result<Asked, String> {
     let mut asked = Asked::default();
-    for kind in [Kind::Limits, Kind::Worst, Kind::Sound, Kind::Random, Kind::Quantified, Kind::Damaged] {
-        for (what, sheet) in Sheets::new(kind, seed, count).iter() {
+    for kind in kinds {
+        for (what, sheet) in Sheets::new(*kind, seed, count).iter() {
             let shown = || sheet.iter().map(|byte| format!("{byte:02x}")).collect::<String>();
             library.ask(&sheet, &mut asked).map_err(|how| format!("{what}: {how}\n{}", shown()))?;
         }

@@ -256,7 +256,7 @@ fn main() {
     }
     if only.is_none() {
         report("an ", || exercises::compare(&LIBRARY, &Exercises::default(), seed));
-        report("", || lengths::compare(&LENGTHS, seed, count));
+        report("", || lengths::compare(&LENGTHS, &lengths::KINDS, seed, count));
         report("", || names::compare(&NAMES, seed, count));
         #[cfg(feature = "read_term")]
         report("", || against_rust::readings::compare(&against_rust::terms::reading::LIBRARY, seed, count, 5));
