@@ -42,12 +42,12 @@ extern "C" {
 /* Refusals, in the order in which they are tried, save that 21 is tried first: before each its place, which is 0 or the number of
    a name, a proposition or a step, and its reason. Those whose place is a step, 9 to 15, hand back its column too.
 
-   Texts and lists use 1 to 16, those of the handout 21 too, their lengths the same without 16, the label count 1 to 15, a comparison 1 to 11, 17 and 19, a
+   Texts and lists use 1 to 16, those of the handout 21 too, the label count 1 to 15, a comparison 1 to 11, 17 and 19, a
    restatement 1 to 11, 23, 24, 19 or 25, and 16, a graft the host's 1 to 11, the donor's, 26, 27, 28 and 16, an exercise 29, 30
    and 16, an index of names 1 to 11, and a search in one 1 to 3. No function gives 20, 22 or 31 yet.
    16 is tried last. It does not say how much room is missing: most answers fit 65,536 elements, but a text can pass 88 million
-   bytes and a list 3 million numbers. The length of an answer is asked for by its own function, skriduhol_plain_text_length and
-   its like, which gives the answer's other refusals and never 16. */
+   bytes and a list 3 million numbers. The length of an answer is asked for by a function of its own, skriduhol_plain_text_length
+   and its like, which uses the answer's other refusals and never 16. */
 enum skriduhol_refusal {
     /* 0: fewer than 12 bytes came */
     SKRIDUHOL_REFUSED_NO_HEADER = 1,
@@ -200,6 +200,10 @@ uint8_t skriduhol_compare(const uint8_t *sheet, size_t sheet_length, size_t i, s
 uint8_t skriduhol_restate(const uint8_t *sheet, size_t sheet_length, const uint16_t given[5],
                           uint16_t slots[SKRIDUHOL_SLOT_COUNT], uint8_t *out, size_t room, size_t *value, size_t *column);
 
+/* How long the new sheet is, with no memory lent for it; never 16. *value: as above. */
+uint8_t skriduhol_restate_length(const uint8_t *sheet, size_t sheet_length, const uint16_t given[5], size_t *value,
+                                 size_t *column);
+
 /* The host with the donor's steps in place of `step`, a Sorry step without premisses whose conclusion is the donor root's: the same
    shape, name bytes and ids. The host's names, propositions, text, code and goal are kept byte for byte; the donor's names that are
    missing by bytes, each once, and all its propositions follow in their order without gaps, names renumbered to the lowest of equal
@@ -214,6 +218,10 @@ uint8_t skriduhol_graft(const uint8_t *host, size_t host_length, size_t step, co
                         uint16_t slots[SKRIDUHOL_SLOT_COUNT], uint8_t *out, size_t room, size_t *value, size_t *column,
                         size_t *whose);
 
+/* How long the merged sheet is, or whose the refusal is; never 16. *value, *column and *whose: as above. */
+uint8_t skriduhol_graft_length(const uint8_t *host, size_t host_length, size_t step, const uint8_t *donor, size_t donor_length,
+                               size_t *value, size_t *column, size_t *whose);
+
 /* The code of the proposition at an ordinal, from 0, among all of at most n binary connectives over ⊤, ⊥ and up to 3 names, n up
    to 3. Fewer connectives come first; then by root, ∧ before ∨ before ⊃; then by the left part's size, the left part, the right
    part; leaves are ⊤, ⊥, then the names as given, by which they are numbered in the code. Three names and n of 3 give 86,705.
@@ -222,6 +230,10 @@ uint8_t skriduhol_graft(const uint8_t *host, size_t host_length, size_t step, co
    *value: the code's length in bytes, at most SKRIDUHOL_LONGEST_EXERCISE. */
 uint8_t skriduhol_exercise(const uint8_t *names, size_t names_length, size_t n, size_t ordinal, uint8_t *out, size_t room,
                            size_t *value, size_t *column);
+
+/* How long the code is; never 16. *value: as above. */
+uint8_t skriduhol_exercise_length(const uint8_t *names, size_t names_length, size_t n, size_t ordinal, size_t *value,
+                                  size_t *column);
 
 /* The index of the sheet's names, by which skriduhol_find_name finds one without comparing all. `slots` has SKRIDUHOL_SLOT_COUNT
    numbers, of which all that is said of `out` holds: a name's number or SKRIDUHOL_FREE. Names enter from number 0 up, repeats of

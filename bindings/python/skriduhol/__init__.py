@@ -16,13 +16,13 @@ import enum
 import os
 import pathlib
 from collections.abc import Callable, Sequence
-from typing import Any, Final, NamedTuple
+from typing import Any, Final, NamedTuple, TypeVar
 
 __all__ = ["BOARD_ROOM", "FREE", "LONGEST_EXERCISE", "LONGEST_SHEET", "REFUSALS", "SLOT_COUNT", "VERSION", "Atom", "Given",
            "Refused", "Style", "Whose", "atom_list", "atom_list_length", "board_output", "compare", "datatype_list",
-           "datatype_list_length", "exercise", "find_name", "graft", "handout", "handout_datatypes", "handout_datatypes_length",
-           "handout_length", "label_count", "name_index", "plain_text", "plain_text_length", "restate", "strict_text",
-           "strict_text_length"]
+           "datatype_list_length", "exercise", "exercise_length", "find_name", "graft", "graft_length", "handout",
+           "handout_datatypes", "handout_datatypes_length", "handout_length", "label_count", "name_index", "plain_text",
+           "plain_text_length", "restate", "restate_length", "strict_text", "strict_text_length"]
 
 VERSION: Final = 2
 """The version of include/skriduhol.h that this module is written for."""
@@ -169,6 +169,9 @@ _name_index = _function("name_index", _SLOTS)
 _find_name = _function("find_name", _SLOTS, *_BYTES)
 _restate = _function("restate", ctypes.c_uint16 * 5, _SLOTS, *_TEXT)
 _graft = _function("graft", _SIZE, *_BYTES, _SLOTS, *_TEXT, result=_RESULT + [ctypes.POINTER(_SIZE)])
+_restate_length = _function("restate_length", ctypes.c_uint16 * 5)
+_graft_length = _function("graft_length", _SIZE, *_BYTES, result=_RESULT + [ctypes.POINTER(_SIZE)])
+_exercise_length = _function("exercise_length", _SIZE, _SIZE)
 _board_output = _library.skriduhol_board_output
 _board_output.argtypes, _board_output.restype = _BYTES + [ctypes.POINTER(ctypes.c_uint8)], _SIZE
 
@@ -275,13 +278,20 @@ def compare(sheet: bytes, i: int, j: int) -> bool:
     """Whether the conclusions of steps i and j are equal up to the names of their bound objects."""
     return _asked(_compare, sheet, _size("a step", i), _size("a step", j)) == 1
 
+def _divided(names: Sequence[str]) -> bytes:
+    """Names divided by newlines. One with a newline in it would be two, and one of no bytes none: both are malformed, and handed over
+    as such."""
+    return "\n".join(name.replace("\n", "?") or "?" for name in names).encode(errors="replace")
+
 def exercise(names: Sequence[str], n: int, ordinal: int, *, room: int | None = None) -> bytes:
     """The code of the proposition at an ordinal, from 0, among all of at most n binary connectives over ⊤, ⊥ and up to 3 names, n
     up to 3. In the code the names are numbered as given. `include/skriduhol.h` says their order."""
-    # A name with a newline in it would be two, and one of no bytes none: both are malformed, and handed over as such.
-    content = "\n".join(name.replace("\n", "?") or "?" for name in names).encode(errors="replace")
-    return _bytes(_exercise, content, _size("the number of connectives", n), _size("the ordinal", ordinal),
+    return _bytes(_exercise, _divided(names), _size("the number of connectives", n), _size("the ordinal", ordinal),
                   room=LONGEST_EXERCISE if room is None else room)
+
+def exercise_length(names: Sequence[str], n: int, ordinal: int) -> int:
+    """How long the code of an exercise is, in bytes."""
+    return _asked(_exercise_length, _divided(names), _size("the number of connectives", n), _size("the ordinal", ordinal))
 
 def name_index(sheet: bytes) -> list[int]:
     """The index of the sheet's names, 1,024 slots, by which `find_name` finds one without comparing all."""
@@ -297,24 +307,39 @@ def find_name(sheet: bytes, slots: Sequence[int], name: bytes) -> int | None:
     found = _asked(_find_name, sheet, lent, name, len(name))
     return None if found == FREE else found
 
+def _row(given: Given) -> Any:
+    return (ctypes.c_uint16 * 5)(*(_u16("a number of what is given", number) for number in given))
+
 def restate(sheet: bytes, given: Given, *, room: int | None = None) -> tuple[bytes, list[int]]:
     """The sheet with one more step, AlphaEquivalent over its root, that concludes what is given, and the index of its names."""
-    slots, lent = _SLOTS(), (ctypes.c_uint16 * 5)(*(_u16("a number of what is given", number) for number in given))
-    return _bytes(_restate, sheet, lent, slots, room=LONGEST_SHEET if room is None else room), list(slots)
+    slots = _SLOTS()
+    return _bytes(_restate, sheet, _row(given), slots, room=LONGEST_SHEET if room is None else room), list(slots)
+
+def restate_length(sheet: bytes, given: Given) -> int:
+    """How long the sheet with one more step is, in bytes."""
+    return _asked(_restate_length, sheet, _row(given))
 
 def graft(host: bytes, step: int, donor: bytes, *, room: int | None = None) -> tuple[bytes, list[int]]:
     """The host with the donor's steps in the place of one of its own, a Sorry without premisses that concludes what the donor's root
     does, and the index of the merged names."""
-    slots, whose, other = _SLOTS(), _SIZE(), _frozen(donor)
+    slots, other, lent = _SLOTS(), _frozen(donor), LONGEST_SHEET if room is None else room
+    grafted = _of_graft(_graft, lambda function: _bytes(function, host, _size("the step", step), other, len(other), slots, room=lent))
+    return grafted, list(slots)
 
-    def grafted(*arguments: Any) -> int:
-        return _graft(*arguments, ctypes.byref(whose))
+def graft_length(host: bytes, step: int, donor: bytes) -> int:
+    """How long the merged sheet is, in bytes."""
+    other = _frozen(donor)
+    return _of_graft(_graft_length, lambda function: _asked(function, host, _size("the step", step), other, len(other)))
 
+_Answer = TypeVar("_Answer")
+
+def _of_graft(function: Callable[..., int], ask: Callable[[Callable[..., int]], _Answer]) -> _Answer:
+    """What is asked of a function that also says whose sheet a refusal speaks of."""
+    whose = _SIZE()
     try:
-        merged = _bytes(grafted, host, _size("the step", step), other, len(other), slots, room=LONGEST_SHEET if room is None else room)
+        return ask(lambda *arguments: function(*arguments, ctypes.byref(whose)))
     except Refused as refused:
         raise Refused(refused.number, refused.place, refused.column, Whose(whose.value)) from None
-    return merged, list(slots)
 
 def board_output(sheet: bytes) -> bytes:
     """What the board prints: the plain text if 65,536 bytes have room for it, or the refusal's line."""

@@ -78,6 +78,8 @@ class Examples(unittest.TestCase):
         self.assertEqual(skriduhol.exercise([], 0, 0), b"\x00")
         self.assertEqual(skriduhol.exercise(["A"], 0, 2), b"\x05\x00\x00\x00")
         self.assertEqual(len(skriduhol.exercise(("A", "B", "C"), 3, 86704)), skriduhol.LONGEST_EXERCISE)
+        self.assertEqual(skriduhol.exercise_length(("A", "B", "C"), 3, 86704), skriduhol.LONGEST_EXERCISE)
+        self.assert_refused(30, 0, 0, skriduhol.exercise_length, ("A", "B", "C"), 3, 86705)
         self.assert_refused(30, 0, 0, skriduhol.exercise, ["A", "B", "C"], 3, 86705)
         for names in ([""], ["A", ""], ["", ""], ["A\nB"], ["\n"], ["é"], ["\udc80"], ["A", "A"], ["A", "B", "C", "D"], ["A" * 33]):
             self.assert_refused(29, 0, 0, skriduhol.exercise, names, 0, 0)
@@ -100,6 +102,8 @@ class Examples(unittest.TestCase):
         self.assertEqual(skriduhol.plain_text(new), skriduhol.plain_text(sheet))
         self.assert_refused(16, 0, 0, skriduhol.restate, sheet, Given(0, 1), room=len(sheet) + 19)
         self.assert_refused(23, 0, 0, skriduhol.restate, sheet, Given(0, 1, column=4096))
+        self.assertEqual(skriduhol.restate_length(sheet, Given(0, 1, column=7)), len(new))
+        self.assert_refused(23, 0, 0, skriduhol.restate_length, sheet, Given(0, 1, column=4096))
         with self.assertRaises(ValueError):
             skriduhol.restate(sheet, Given(0, 65536))
 
@@ -118,6 +122,10 @@ class Examples(unittest.TestCase):
                 ((9, 4, 4098), Whose.HOST, wide, 0, b""), ((9, 4, 4098), Whose.DONOR, host, 9, wide),
                 ((1, 0, 0), Whose.HOST, b"", 0, b""), ((1, 0, 0), Whose.DONOR, host, 0, b"")):
             refused = self.assert_refused(*refusal, skriduhol.graft, *asked, room=len(new) - 1)
+            if refused.number == 16:
+                self.assertEqual(skriduhol.graft_length(*asked), len(new))
+            else:
+                self.assertIs(self.assert_refused(*refusal, skriduhol.graft_length, *asked).whose, whose)
             self.assertIs(refused.whose, whose)
         said = str(self.assert_refused(9, 4, 4098, skriduhol.graft, host, 0, wide))
         self.assertTrue(said.startswith("refused 9 at 4 column 4098 of the donor: a rule, kind, "), said)

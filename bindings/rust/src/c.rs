@@ -159,6 +159,31 @@ extern "C" {
         value: *mut usize,
         column: *mut usize,
     ) -> u8;
+    fn skriduhol_restate_length(
+        sheet: *const u8,
+        sheet_length: usize,
+        given: *const u16,
+        value: *mut usize,
+        column: *mut usize,
+    ) -> u8;
+    fn skriduhol_graft_length(
+        host: *const u8,
+        host_length: usize,
+        step: usize,
+        donor: *const u8,
+        donor_length: usize,
+        value: *mut usize,
+        column: *mut usize,
+        whose: *mut usize,
+    ) -> u8;
+    fn skriduhol_exercise_length(
+        names: *const u8,
+        names_length: usize,
+        n: usize,
+        ordinal: usize,
+        value: *mut usize,
+        column: *mut usize,
+    ) -> u8;
     fn skriduhol_name_index(
         sheet: *const u8,
         sheet_length: usize,
@@ -421,6 +446,35 @@ pub fn exercise(
             column,
         )
     }
+}
+
+pub fn restate_length(sheet: &[u8], given: &[u16; 5], value: &mut usize, column: &mut usize) -> u8 {
+    unsafe { skriduhol_restate_length(sheet.as_ptr(), sheet.len(), given.as_ptr(), value, column) }
+}
+
+pub fn graft_length(two: Two, value: &mut usize, column: &mut usize, whose: &mut usize) -> u8 {
+    unsafe {
+        skriduhol_graft_length(
+            two.host.as_ptr(),
+            two.host.len(),
+            two.step,
+            two.donor.as_ptr(),
+            two.donor.len(),
+            value,
+            column,
+            whose,
+        )
+    }
+}
+
+pub fn exercise_length(
+    names: &[u8],
+    n: usize,
+    ordinal: usize,
+    value: &mut usize,
+    column: &mut usize,
+) -> u8 {
+    unsafe { skriduhol_exercise_length(names.as_ptr(), names.len(), n, ordinal, value, column) }
 }
 
 pub fn name_index(

@@ -151,6 +151,14 @@ pub struct Given {
     pub column: u16,
 }
 
+impl Given {
+    /// The numbers in the order of a step record.
+    fn row(self) -> [u16; 5] {
+        let [first, second, third] = self.numbers;
+        [self.kind, first, second, third, self.column]
+    }
+}
+
 /// The sheet with one more step, AlphaEquivalent over its root, at the start of `out`; its length in bytes. Every answer to it is the
 /// old sheet's. The slots become the index of its names, and stay as they were where it is refused.
 pub fn restate(
@@ -159,9 +167,12 @@ pub fn restate(
     slots: &mut [u16; 1024],
     out: &mut [u8],
 ) -> Result<usize, Refusal> {
-    let [first, second, third] = given.numbers;
-    let row = [given.kind, first, second, third, given.column];
-    asked(|value, column| c::restate(sheet, &row, slots, out, value, column))
+    asked(|value, column| c::restate(sheet, &given.row(), slots, out, value, column))
+}
+
+/// How long the sheet with one more step is, in bytes; 16 is no answer.
+pub fn restate_length(sheet: &[u8], given: Given) -> Result<usize, Refusal> {
+    asked(|value, column| c::restate_length(sheet, &given.row(), value, column))
 }
 
 /// Whose sheet a refusal of a graft speaks of.
@@ -203,9 +214,22 @@ pub fn graft(
     slots: &mut [u16; SLOT_COUNT],
     out: &mut [u8],
 ) -> Result<usize, GraftRefusal> {
-    let mut whose = 0;
     let two = c::Two { host, step, donor };
-    let answer = asked(|value, column| c::graft(two, slots, out, value, column, &mut whose));
+    grafted(|value, column, whose| c::graft(two, slots, out, value, column, whose))
+}
+
+/// How long the merged sheet is, in bytes; 16 is no answer.
+pub fn graft_length(host: &[u8], step: usize, donor: &[u8]) -> Result<usize, GraftRefusal> {
+    let two = c::Two { host, step, donor };
+    grafted(|value, column, whose| c::graft_length(two, value, column, whose))
+}
+
+/// What a C function handed over of a graft.
+fn grafted(
+    question: impl FnOnce(&mut usize, &mut usize, &mut usize) -> u8,
+) -> Result<usize, GraftRefusal> {
+    let mut whose = 0;
+    let answer = asked(|value, column| question(value, column, &mut whose));
     answer.map_err(|refusal| GraftRefusal {
         whose: match whose {
             1 => Whose::Host,
@@ -221,6 +245,11 @@ pub fn graft(
 /// are numbered as given. `include/skriduhol.h` says their order.
 pub fn exercise(names: &[u8], n: usize, ordinal: usize, out: &mut [u8]) -> Result<usize, Refusal> {
     asked(|value, column| c::exercise(names, n, ordinal, out, value, column))
+}
+
+/// How long the code of an exercise is, in bytes; 16 is no answer.
+pub fn exercise_length(names: &[u8], n: usize, ordinal: usize) -> Result<usize, Refusal> {
+    asked(|value, column| c::exercise_length(names, n, ordinal, value, column))
 }
 
 /// Fills the slots with the index of the sheet's names: a name's number, or `FREE`. Names enter from number 0 up, repeats of earlier

@@ -1,10 +1,11 @@
 //! The example sheets through the wrapper: answers, refusals, and what becomes of the lent memory.
 use skriduhol::{
     atom_list, atom_list_length, board_output, compare, datatype_list, datatype_list_length,
-    exercise, find_name, graft, handout, handout_datatypes, handout_datatypes_length,
-    handout_length, label_count, name_index, plain_text, plain_text_length, restate, strict_text,
-    strict_text_length, Given, GraftRefusal, Refusal, Style, Whose, BOARD_ROOM, FREE,
-    LONGEST_EXERCISE, LONGEST_SHEET, SLOT_COUNT,
+    exercise, exercise_length, find_name, graft, graft_length, handout, handout_datatypes,
+    handout_datatypes_length, handout_length, label_count, name_index, plain_text,
+    plain_text_length, restate, restate_length, strict_text, strict_text_length, Given,
+    GraftRefusal, Refusal, Style, Whose, BOARD_ROOM, FREE, LONGEST_EXERCISE, LONGEST_SHEET,
+    SLOT_COUNT,
 };
 
 const SMALLEST: &[u8] = include_bytes!("../../../examples/sheets/smallest.sheet");
@@ -226,6 +227,9 @@ fn a_restated_sheet_prints_as_before() {
         let untouched = (refusal(number, 0), vec![UNTOUCHED; room], [7; 1024]);
         assert_eq!(restate_in(room, given), untouched);
     };
+    assert_eq!(restate_length(BOUND_OBJECT, given), Ok(length));
+    let late = Given { kind: 1, ..given };
+    assert_eq!(restate_length(BOUND_OBJECT, late), refusal(25, 0));
     refused(length - 1, given, 16);
     refused(
         length,
@@ -235,7 +239,7 @@ fn a_restated_sheet_prints_as_before() {
         },
         23,
     );
-    refused(length, Given { kind: 1, ..given }, 25);
+    refused(length, late, 25);
 }
 
 const OPEN_STEP: &[u8] = include_bytes!("../../../examples/sheets/open_step.sheet");
@@ -277,6 +281,7 @@ fn a_donor_replaces_a_sorry() {
         ["A", "B", "C", "h", "u", "a", "b"].map(|name| find_name(merged, &slots, name.as_bytes()));
     assert_eq!(found, [0, 1, 2, 3, 4, 5, 6].map(|number| Ok(Some(number))));
     assert_eq!(graft_in(length, OPEN_STEP, 0, SWAPPED).0, Ok(length));
+    assert_eq!(graft_length(OPEN_STEP, 0, SWAPPED), Ok(length));
 }
 
 #[test]
@@ -288,6 +293,9 @@ fn a_refused_graft_says_whose_it_is_and_leaves_the_memory() {
             [7; SLOT_COUNT],
         );
         assert_eq!(graft_in(room, host, step, donor), untouched);
+        if refusal.number != 16 {
+            assert_eq!(graft_length(host, step, donor), untouched.0);
+        }
     };
     let of = |number, place, column| Refusal {
         number,
@@ -350,6 +358,7 @@ fn exercise_in(
 fn exercises() {
     let code = |names, n, ordinal| {
         let (answer, mut out) = exercise_in(LONGEST_EXERCISE, names, n, ordinal);
+        assert_eq!(exercise_length(names.as_bytes(), n, ordinal), answer);
         out.truncate(answer?);
         Ok(out)
     };

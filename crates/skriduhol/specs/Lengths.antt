@@ -6,8 +6,12 @@ use Rattle.definitions.specs.declared.Style.{Style}
 use Rattle.definitions.specs.Outcome.{Outcome, _>>=_, mapOutcome}
 use Rattle.definitions.specs.Term.{atomList, datatypeList}
 use Rattle.definitions.specs.Answers.{atomNumbers, inRoom, versionOf, sheetTerm, sheetText}
+use Rattle.definitions.specs.Graft.{graftAnswer}
+use Rattle.made_length.specs.Whole.{wholeGraft, graftInRoom}
 use Rattle.skriduhol.specs.declared.Filled.{Filled}
+use Rattle.skriduhol.specs.declared.Grafted.{Grafted}
 use Rattle.skriduhol.specs.Located.{filledOf}
+use Rattle.skriduhol.specs.Grafts.{graftedOf}
 
 -- Of a sheet's bytes, given room:
 module _ (s : List ℕ) where
@@ -30,3 +34,8 @@ module _ (s : List ℕ) where
   pub record Measures (answer : ℕ → Outcome (List ℕ)) (whole : Outcome (List ℕ)) (r : Filled) : Type 0 where
     pub told : r ≡ filledOf s whole
     pub in-room : (room : ℕ) → answer room ≡ inRoom room whole
+
+-- the same of a graft, and whose a refusal is
+pub record MeasuresGraft (h d : List ℕ) (k : ℕ) (r : Grafted) : Type 0 where
+  pub told : r ≡ graftedOf h d (wholeGraft h d k)
+  pub in-room : (room : ℕ) → graftAnswer h d k room ≡ graftInRoom room (wholeGraft h d k)

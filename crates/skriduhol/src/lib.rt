@@ -33,7 +33,7 @@ ghost use lib.ListN.{length, take};
 ghost use Rattle.definitions.specs.Outcome.{Outcome};
 ghost use Rattle.definitions.specs.declared.Style.the-variants.{Plain, Strict};
 ghost use Rattle.definitions.specs.Answers.{inRoom, sheetText, versionOf, textAnswer, atomsAnswer, datatypesAnswer, labelCount, comparison, boardOutput};
-ghost use Rattle.definitions.specs.Restate.{restateAnswer};
+ghost use Rattle.definitions.specs.Restate.{restated, restateAnswer};
 ghost use Rattle.definitions.specs.declared.Whose.the-variants.{Host, Donor};
 ghost use Rattle.definitions.specs.Graft.{graftAnswer, locatedBy};
 ghost use Rattle.definitions.specs.Exercises.{exerciseAnswer};
@@ -46,12 +46,13 @@ ghost use Rattle.graft_laws.specs.Merges.{Merges};
 ghost use Rattle.restating.specs.Step.{givenOf};
 ghost use Rattle.restating.specs.Slots.{slotsAfter};
 ghost use Rattle.grafting.specs.Answered.{slotsBy};
+ghost use Rattle.made_length.specs.Whole.{wholeExercise};
 ghost use Rattle.located.specs.AfterHeader.{AfterHeader};
 ghost use Rattle.skriduhol.specs.Accurate.{AccurateText, AccurateCount};
 ghost use Rattle.skriduhol.specs.Lists.{listAnswer};
 ghost use Rattle.skriduhol.specs.Asked.{askedOf};
 ghost use Rattle.skriduhol.specs.Located.{filledOf, FillsOf, countOf, verdictOf};
-ghost use Rattle.skriduhol.specs.Lengths.{wholeText, wholeAtoms, wholeDatatypes, Measures};
+ghost use Rattle.skriduhol.specs.Lengths.{wholeText, wholeAtoms, wholeDatatypes, Measures, MeasuresGraft};
 ghost use Rattle.skriduhol.specs.Grafts.{GraftsOf};
 ghost use Rattle.skriduhol.specs.Board.{Prints};
 ghost use Rattle.skriduhol.specs.Searched.{searchedOf, plainAnswer};
@@ -294,6 +295,15 @@ pub fn restate(s: &[u8], given: Given, slots: &mut [u16; SLOT_COUNT], out: &mut 
     locate_written(s, written)
 }
 
+// How long the sheet with one more step is.
+pub fn restate_length(s: &[u8], given: Given) -> Filled
+    ensures { λ r. ⌜ Measures (now (s .entry)) (restateAnswer (now (s .entry)) (givenOf given))
+        (restated (now (s .entry)) (givenOf given)) r ⌝ }
+{
+    let written = made_length::restate_length(s, given);
+    locate_written(s, written)
+}
+
 // A refusal of a graft, with the column of the step that it names in the sheet whose it is.
 fn locate_by(host: &[u8], donor: &[u8], whose: Whose, refusal: Refusal) -> Located
     requires { ⌜ (whose ≡ Host → AfterHeader (now host) refusal) × (whose ≡ Donor → AfterHeader (now donor) refusal) ⌝ }
@@ -331,6 +341,19 @@ pub fn graft<'a>(
     }
 }
 
+// How long the merged sheet is.
+pub fn graft_length<'a>(host: &'a [u8], k: usize, donor: &'a [u8]) -> Grafted
+    ensures { λ r. ⌜ MeasuresGraft (now (host .entry)) (now (donor .entry)) k r ⌝ }
+{
+    let merged = made_length::graft_length(host, k, donor);
+    match merged {
+        Merged::Length(bytes) => Grafted::Length(bytes),
+        Merged::Refused(whose, refusal) => {
+            Grafted::Refused(whose, locate_by(host, donor, whose, refusal))
+        }
+    }
+}
+
 // The bytes that the board program lends.
 pub const BOARD_ROOM: usize = 65536;
 
@@ -352,6 +375,18 @@ pub fn exercise(names: &[u8], n: usize, ordinal: usize, out: &mut [u8]) -> Fille
         (now (out .entry)) (now (out .exit)) r ⌝ }
 {
     let written = exercises::exercise(names, n, ordinal, out);
+    match written {
+        Written::Length(length) => Filled::Length(length),
+        Written::Refused(refusal) => Filled::Refused(Located { refusal, column: 0 }),
+    }
+}
+
+// How long the code of an exercise is.
+pub fn exercise_length(names: &[u8], n: usize, ordinal: usize) -> Filled
+    ensures { λ r. ⌜ Measures [] (exerciseAnswer (now (names .entry)) n ordinal)
+        (wholeExercise (now (names .entry)) n ordinal) r ⌝ }
+{
+    let written = made_length::exercise_length(names, n, ordinal);
     match written {
         Written::Length(length) => Filled::Length(length),
         Written::Refused(refusal) => Filled::Refused(Located { refusal, column: 0 }),
