@@ -55,7 +55,8 @@ extern "C" {
 
    No function gives a number that stands in none of these lines.
    16 does not say how much room is missing: most answers fit 65,536 elements, but a text can pass 88 million bytes and a list 3
-   million numbers. */
+   million numbers. The length of an answer is asked for by a function of its own, skriduhol_plain_text_length and its like, which
+   tries the answer's other refusals and never 16. */
 enum skriduhol_refusal {
     /* 0: fewer than 12 bytes came */
     SKRIDUHOL_REFUSED_NO_HEADER = 1,
@@ -180,6 +181,29 @@ uint8_t skriduhol_handout_strict(const uint8_t *sheet, size_t sheet_length, size
 uint8_t skriduhol_handout_datatypes(const uint8_t *sheet, size_t sheet_length, size_t version, uint16_t *out, size_t room,
                                     size_t *value, size_t *column);
 
+/* How long each of these answers is, found out without writing it. *value: what the function without `_length` hands over in enough
+   room, in bytes of a text and in numbers of a list; a refusal is that function's own, and never 16. So an answer of any length
+   takes two calls:
+
+       size_t value, column;
+       uint8_t number = skriduhol_plain_text_length(sheet, sheet_length, &value, &column);
+       if (number != 0) return refused(number, value, column);
+       size_t room = value;
+       uint8_t *text = calloc(room, 1);
+       if (text == NULL) return out_of_memory();
+       skriduhol_plain_text(sheet, sheet_length, text, room, &value, &column);
+
+   Over the same bytes the second call is not refused, and fills all of the room. A text has some bytes; a list may have none, and
+   an allocation of no bytes may be null: allocate one element more for it. */
+uint8_t skriduhol_plain_text_length(const uint8_t *sheet, size_t sheet_length, size_t *value, size_t *column);
+uint8_t skriduhol_strict_text_length(const uint8_t *sheet, size_t sheet_length, size_t *value, size_t *column);
+uint8_t skriduhol_atom_list_length(const uint8_t *sheet, size_t sheet_length, size_t *value, size_t *column);
+uint8_t skriduhol_datatype_list_length(const uint8_t *sheet, size_t sheet_length, size_t *value, size_t *column);
+uint8_t skriduhol_handout_plain_length(const uint8_t *sheet, size_t sheet_length, size_t version, size_t *value, size_t *column);
+uint8_t skriduhol_handout_strict_length(const uint8_t *sheet, size_t sheet_length, size_t version, size_t *value, size_t *column);
+uint8_t skriduhol_handout_datatypes_length(const uint8_t *sheet, size_t sheet_length, size_t version, size_t *value,
+                                           size_t *column);
+
 /* The label count. *value: how many ascriptions and labelled functions the term has. */
 uint8_t skriduhol_label_count(const uint8_t *sheet, size_t sheet_length, size_t *value, size_t *column);
 
@@ -204,6 +228,10 @@ uint8_t skriduhol_judge(const uint8_t *sheet, size_t sheet_length, const uint16_
 uint8_t skriduhol_restate(const uint8_t *sheet, size_t sheet_length, const uint16_t given[5],
                           uint16_t slots[SKRIDUHOL_SLOT_COUNT], uint8_t *out, size_t room, size_t *value, size_t *column);
 
+/* How long the new sheet is, with no memory lent for it; never 16. *value: as above. */
+uint8_t skriduhol_restate_length(const uint8_t *sheet, size_t sheet_length, const uint16_t given[5], size_t *value,
+                                 size_t *column);
+
 /* The host with the donor's steps in place of `step`, a Sorry step without premisses whose conclusion is the donor root's: the same
    shape, name bytes and ids. The host's names, propositions, text, code and goal are kept byte for byte; the donor's names that are
    missing by bytes, each once, and all its propositions follow in their order without gaps, names renumbered to the lowest of equal
@@ -218,6 +246,10 @@ uint8_t skriduhol_graft(const uint8_t *host, size_t host_length, size_t step, co
                         uint16_t slots[SKRIDUHOL_SLOT_COUNT], uint8_t *out, size_t room, size_t *value, size_t *column,
                         size_t *whose);
 
+/* How long the merged sheet is, or whose the refusal is; never 16. *value, *column and *whose: as above. */
+uint8_t skriduhol_graft_length(const uint8_t *host, size_t host_length, size_t step, const uint8_t *donor, size_t donor_length,
+                               size_t *value, size_t *column, size_t *whose);
+
 /* The code of the proposition at an ordinal, from 0, among all of at most n binary connectives over ⊤, ⊥ and up to 3 names, n up
    to 3. Fewer connectives come first; then by root, ∧ before ∨ before ⊃; then by the left part's size, the left part, the right
    part; leaves are ⊤, ⊥, then the names as given, by which they are numbered in the code. Three names and n of 3 give 86,705.
@@ -226,6 +258,10 @@ uint8_t skriduhol_graft(const uint8_t *host, size_t host_length, size_t step, co
    *value: the code's length in bytes, at most SKRIDUHOL_LONGEST_EXERCISE. */
 uint8_t skriduhol_exercise(const uint8_t *names, size_t names_length, size_t n, size_t ordinal, uint8_t *out, size_t room,
                            size_t *value, size_t *column);
+
+/* How long the code is; never 16. *value: as above. */
+uint8_t skriduhol_exercise_length(const uint8_t *names, size_t names_length, size_t n, size_t ordinal, size_t *value,
+                                  size_t *column);
 
 /* The term of which these bytes are the strict text: what skriduhol_strict_text prints behind the declarations, with just those
    brackets. A label that is a lone name is a datatype if it is listed and otherwise an atom; a parameter that a quantifier of its

@@ -39,6 +39,20 @@ pub fn ask(question: Question, sheet: &[u8], lent: &mut Lent) -> Result<usize, R
     }
 }
 
+/// The length of an answer that fills memory, found out without writing it, or the refusal; no other operation has one.
+pub fn length(question: Question, sheet: &[u8]) -> Option<Result<usize, Refusal>> {
+    Some(match question {
+        Question::PlainText => skriduhol::plain_text_length(sheet),
+        Question::StrictText => skriduhol::strict_text_length(sheet),
+        Question::AtomList => skriduhol::atom_list_length(sheet),
+        Question::DatatypeList => skriduhol::datatype_list_length(sheet),
+        Question::HandoutPlain(version) => skriduhol::handout_length(sheet, version, Style::Plain),
+        Question::HandoutStrict(version) => skriduhol::handout_length(sheet, version, Style::Strict),
+        Question::HandoutDatatypes(version) => skriduhol::handout_datatypes_length(sheet, version),
+        Question::LabelCount | Question::Comparison(..) | Question::BoardOutput => return None,
+    })
+}
+
 /// The length of the code at an ordinal over three names with n of 3, or the refusal.
 pub fn exercise(ordinal: usize, lent: &mut Lent) -> Result<usize, Refusal> {
     skriduhol::exercise(b"A\nB\nC", 3, ordinal, &mut lent.bytes)

@@ -18,7 +18,7 @@ mod timing;
 use exercises::exercises;
 use grafts::grafts;
 use handouts::handouts;
-use library::{ask, question, Lent};
+use library::{ask, length, question, Lent};
 use lines::lines;
 use names::names;
 use operations::operations;
@@ -175,11 +175,18 @@ fn stack_use(plan: &Plan, lent: &mut Lent) -> Required {
     println!("## Stack: the most over {} sheets\n\n| operation | bytes | sheet |\n|---|--:|---|", grouped(all.len()));
     let mut stack = Stack::new();
     let mut most = 0;
-    for operation in Operation::ALL {
-        let mut used = |(_, sheet): &Named| stack.used(question(operation, steps(sheet)), sheet, lent);
+    let mut table = |row: String, used: &mut dyn FnMut(&Named) -> usize| {
         let (bytes, what) = all.iter().map(|named| (used(named), &named.0)).max_by_key(|(bytes, _)| *bytes).unwrap();
-        println!("| {operation} | {} | {what} |", grouped(bytes));
+        println!("| {row} | {} | {what} |", grouped(bytes));
         most = most.max(bytes);
+    };
+    for operation in Operation::ALL {
+        let asked = |sheet: &[u8]| question(operation, steps(sheet));
+        table(operation.to_string(), &mut |(_, sheet)| stack.used(asked(sheet), sheet, lent));
+        if length(asked(&[]), &[]).is_some() {
+            let mut used = |(_, sheet): &Named| stack.used_by_length(asked(sheet), sheet, lent);
+            table(format!("{operation}, its length"), &mut used);
+        }
     }
     let (bound, measured) = ("below 262,144 bytes".into(), format!("{} bytes", grouped(most)));
     Required { what: "stack of an operation", bound, measured, met: most < 256 << 10 }

@@ -1,16 +1,17 @@
 //! How much stack an operation uses. It runs on a stack of its own, which is painted before and scanned after.
-use crate::library::{ask, exercise, find_name, graft, judge, name_index, read_term, restate, Lent};
+use crate::library::{ask, exercise, find_name, graft, judge, length, name_index, read_term, restate, Lent};
 use oracle::{answer::Question, generate::texts::Text, grafts::Graft, restate::Given};
 use std::{arch::asm, ffi::c_void};
 
 const STACK_BYTES: usize = 4 << 20;
 const PAINT: u64 = 0x5ca1_ab1e_0ddb_a115;
 
-/// What is asked: nothing, a question about a sheet, a judgement or a restatement of it, the term of a text, a graft, an exercise by its
-/// ordinal, the index of a sheet's names, or a name by it.
+/// What is asked: nothing, a question about a sheet, the length of its answer, a judgement or a restatement of it, the term of a text, a
+/// graft, an exercise by its ordinal, the index of a sheet's names, or a name by it.
 enum Asked<'a> {
     Nothing,
     Question(Question, &'a [u8]),
+    Length(Question, &'a [u8]),
     Judgement(&'a [u8], usize),
     Restatement(&'a [u8], Given),
     Reading(&'a Text),
@@ -33,6 +34,7 @@ extern "C" fn run(call: *mut c_void) {
     let _ = match call.asked {
         Asked::Nothing => Ok(0),
         Asked::Question(question, sheet) => ask(question, sheet, call.lent),
+        Asked::Length(question, sheet) => length(question, sheet).unwrap_or(Ok(0)),
         Asked::Judgement(sheet, proposition) => judge(sheet, proposition).map(|_| 0),
         Asked::Restatement(sheet, given) => restate(sheet, given, call.lent),
         Asked::Reading(asked) => read_term(asked, call.lent).map(|_| 0),
@@ -81,6 +83,11 @@ impl Stack {
     /// The bytes of stack that the answer to a question takes, without those of the call itself.
     pub fn used(&mut self, question: Question, sheet: &[u8], lent: &mut Lent) -> usize {
         self.used_by(Asked::Question(question, sheet), lent)
+    }
+
+    /// The same of the length of the answer.
+    pub fn used_by_length(&mut self, question: Question, sheet: &[u8], lent: &mut Lent) -> usize {
+        self.used_by(Asked::Length(question, sheet), lent)
     }
 
     /// The same of a judgement.

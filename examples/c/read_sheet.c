@@ -1,16 +1,12 @@
 /* Reads a sheet from a file and prints the handout of a version, 1 if none is given, with the label count and the lists, or the
-   refusal. */
+   refusal. How long the text and each list are is asked for first. */
 #include <stdio.h>
 #include <stdlib.h>
 
 #include "skriduhol.h"
 
-#define ROOM 65536
-
 /* One byte more than the longest sheet: what is longer is no sheet. */
 static uint8_t sheet[SKRIDUHOL_LONGEST_SHEET + 1];
-static uint8_t text[ROOM];
-static uint16_t list[ROOM];
 
 /* Prints a refusal, and says that there was one. */
 static int refused(uint8_t number, size_t place, size_t column) {
@@ -22,14 +18,29 @@ static int refused(uint8_t number, size_t place, size_t column) {
     return 1;
 }
 
+/* Memory for so many elements, and one more, since none may have no address; cleared, as the library asks. */
+static void *memory(size_t count, size_t size) {
+    void *lent = calloc(count + 1, size);
+    if (lent == NULL) {
+        perror("read_sheet");
+        exit(2);
+    }
+    return lent;
+}
+
 static int print_text(size_t length, size_t version) {
     size_t value, column;
-    uint8_t number = skriduhol_handout_plain(sheet, length, version, text, ROOM, &value, &column);
+    uint8_t number = skriduhol_handout_plain_length(sheet, length, version, &value, &column);
     if (number != 0) {
         return refused(number, value, column);
     }
-    fwrite(text, 1, value, stdout);
+    size_t room = value;
+    uint8_t *text = memory(room, sizeof *text);
+    /* Over the same bytes, in the room that the length asks for, it is not refused. */
+    skriduhol_handout_plain(sheet, length, version, text, room, &value, &column);
+    fwrite(text, 1, room, stdout);
     putchar('\n');
+    free(text);
     return 0;
 }
 
@@ -44,25 +55,40 @@ static int print_label_count(size_t length) {
 }
 
 /* The numbers of a list on one line. */
-static int print_list(const char *word, size_t count) {
+static void print_list(const char *word, const uint16_t *list, size_t count) {
     printf("%s:", word);
     for (size_t i = 0; i < count; i++) {
         printf(" %u", (unsigned)list[i]);
     }
     putchar('\n');
-    return 0;
 }
 
 static int print_atoms(size_t length) {
     size_t value, column;
-    uint8_t number = skriduhol_atom_list(sheet, length, list, ROOM, &value, &column);
-    return number != 0 ? refused(number, value, column) : print_list("atoms", value);
+    uint8_t number = skriduhol_atom_list_length(sheet, length, &value, &column);
+    if (number != 0) {
+        return refused(number, value, column);
+    }
+    size_t room = value;
+    uint16_t *list = memory(room, sizeof *list);
+    skriduhol_atom_list(sheet, length, list, room, &value, &column);
+    print_list("atoms", list, room);
+    free(list);
+    return 0;
 }
 
 static int print_datatypes(size_t length, size_t version) {
     size_t value, column;
-    uint8_t number = skriduhol_handout_datatypes(sheet, length, version, list, ROOM, &value, &column);
-    return number != 0 ? refused(number, value, column) : print_list("datatypes", value);
+    uint8_t number = skriduhol_handout_datatypes_length(sheet, length, version, &value, &column);
+    if (number != 0) {
+        return refused(number, value, column);
+    }
+    size_t room = value;
+    uint16_t *list = memory(room, sizeof *list);
+    skriduhol_handout_datatypes(sheet, length, version, list, room, &value, &column);
+    print_list("datatypes", list, room);
+    free(list);
+    return 0;
 }
 
 int main(int argc, char **argv) {

@@ -1,6 +1,6 @@
-"""The proved library behind proof boards: a sheet's text, its lists, its label count, the comparison of two conclusions, the judgement
-of its term, restated conclusions, grafts of one sheet into another, terms that are read from their strict text, exercises, and the
-index of a sheet's names.
+"""The proved library behind proof boards: a sheet's text, its lists, their lengths, its label count, the comparison of two conclusions,
+the judgement of its term, restated conclusions, grafts of one sheet into another, terms that are read from their strict text,
+exercises, and the index of a sheet's names.
 
 Every function answers for any bytes, and raises `Refused` where the library refuses. A text or list is as long as it has to be;
 given a room, a longer one is refused with 16, as the library does. Functions may be called from several threads at once.
@@ -18,12 +18,14 @@ import os
 import pathlib
 import struct
 from collections.abc import Callable, Sequence
-from typing import Any, Final, NamedTuple
+from typing import Any, Final, NamedTuple, TypeVar
 
 __all__ = ["BOARD_ROOM", "CODE_ROOM", "FREE", "LONGEST_EXERCISE", "LONGEST_SHEET", "LONGEST_TERM", "NAME_ROOM", "RECORD_NUMBERS",
-           "RECORD_ROOM", "REFUSALS", "SLOT_COUNT", "VERSION", "Atom", "Given", "Hypothesis", "Judged", "Node", "ReadTerm", "Refused",
-           "Style", "Whose", "atom_list", "board_output", "compare", "datatype_list", "exercise", "find_name", "graft", "handout",
-           "handout_datatypes", "judge", "label_count", "name_index", "plain_text", "read_term", "restate", "strict_text"]
+           "RECORD_ROOM", "REFUSALS", "SLOT_COUNT", "VERSION", "Atom", "Given", "Hypothesis", "Judged", "Node", "ReadTerm",
+           "Refused", "Style", "Whose", "atom_list", "atom_list_length", "board_output", "compare", "datatype_list",
+           "datatype_list_length", "exercise", "exercise_length", "find_name", "graft", "graft_length", "handout",
+           "handout_datatypes", "handout_datatypes_length", "handout_length", "judge", "label_count", "name_index", "plain_text",
+           "plain_text_length", "read_term", "restate", "restate_length", "strict_text", "strict_text_length"]
 
 VERSION: Final = 2
 """The version of include/skriduhol.h that this module is written for."""
@@ -207,6 +209,12 @@ _atom_list = _function("atom_list", *_LIST)
 _datatype_list = _function("datatype_list", *_LIST)
 _handout = {Style.PLAIN: _function("handout_plain", _SIZE, *_TEXT), Style.STRICT: _function("handout_strict", _SIZE, *_TEXT)}
 _handout_datatypes = _function("handout_datatypes", _SIZE, *_LIST)
+_plain_text_length = _function("plain_text_length")
+_strict_text_length = _function("strict_text_length")
+_atom_list_length = _function("atom_list_length")
+_datatype_list_length = _function("datatype_list_length")
+_handout_length = {Style.PLAIN: _function("handout_plain_length", _SIZE), Style.STRICT: _function("handout_strict_length", _SIZE)}
+_handout_datatypes_length = _function("handout_datatypes_length", _SIZE)
 _label_count = _function("label_count")
 _compare = _function("compare", _SIZE, _SIZE)
 _judge = _function("judge", *_LIST, _SIZE, result=_RESULT + [ctypes.POINTER(_SIZE)])
@@ -217,6 +225,9 @@ _name_index = _function("name_index", _SLOTS)
 _find_name = _function("find_name", _SLOTS, *_BYTES)
 _restate = _function("restate", ctypes.c_uint16 * 5, _SLOTS, *_TEXT)
 _graft = _function("graft", _SIZE, *_BYTES, _SLOTS, *_TEXT, result=_RESULT + [ctypes.POINTER(_SIZE)])
+_restate_length = _function("restate_length", ctypes.c_uint16 * 5)
+_graft_length = _function("graft_length", _SIZE, *_BYTES, result=_RESULT + [ctypes.POINTER(_SIZE)])
+_exercise_length = _function("exercise_length", _SIZE, _SIZE)
 _board_output = _library.skriduhol_board_output
 _board_output.argtypes, _board_output.restype = _BYTES + [ctypes.POINTER(ctypes.c_uint8)], _SIZE
 
@@ -248,53 +259,77 @@ def _asked(function: Callable[..., int], content: bytes, *arguments: Any) -> int
         raise Refused(number, value.value, column.value)
     return value.value
 
-def _filled(element: Any, function: Callable[..., int], content: bytes, *arguments: Any, room: int | None) -> tuple[Any, int]:
-    """The memory that a function fills and how much of it: a room of so many elements, or one that grows until it is enough."""
-    lent = BOARD_ROOM if room is None else _size("the room", room)
-    while True:
-        # One element at least: the library takes no null address, even of no room.
-        out = (element * max(lent, 1))()
-        try:
-            return out, _asked(function, content, *arguments, out, lent)
-        except Refused as refused:
-            if refused.number != 16 or room is not None:
-                raise
-            lent *= 8
+def _filled(element: Any, function: Callable[..., int], content: bytes, *arguments: Any, room: int) -> tuple[Any, int]:
+    """The memory that a function fills, a room of so many elements, and how much of it is filled."""
+    # One element at least: the library takes no null address, even of no room.
+    out = (element * max(_size("the room", room), 1))()
+    return out, _asked(function, content, *arguments, out, room)
 
-def _bytes(function: Callable[..., int], content: bytes, *arguments: Any, room: int | None) -> bytes:
+def _bytes(function: Callable[..., int], content: bytes, *arguments: Any, room: int) -> bytes:
     return ctypes.string_at(*_filled(ctypes.c_uint8, function, content, *arguments, room=room))
 
-def _numbers(function: Callable[..., int], content: bytes, *arguments: int, room: int | None) -> list[int]:
-    out, length = _filled(ctypes.c_uint16, function, content, *arguments, room=room)
-    return list(out[:length])
+def _text(function: Callable[..., int], length: Callable[..., int], sheet: bytes, *version: int, room: int | None) -> str:
+    """A text in a room, or in as much as it needs: its length is asked for first, of the same bytes."""
+    content = _frozen(sheet)
+    return _bytes(function, content, *version, room=_asked(length, content, *version) if room is None else room).decode()
+
+def _list(function: Callable[..., int], length: Callable[..., int], sheet: bytes, *version: int, room: int | None) -> list[int]:
+    content = _frozen(sheet)
+    lent = _asked(length, content, *version) if room is None else room
+    out, filled = _filled(ctypes.c_uint16, function, content, *version, room=lent)
+    return list(out[:filled])
 
 def plain_text(sheet: bytes, *, room: int | None = None) -> str:
     """The declarations and the term. A room is counted in bytes."""
-    return _bytes(_plain_text, sheet, room=room).decode()
+    return _text(_plain_text, _plain_text_length, sheet, room=room)
 
 def strict_text(sheet: bytes, *, room: int | None = None) -> str:
     """The plain text with brackets also around a case or let on either side of an application, and around an ascription within a
     function, a case or a let."""
-    return _bytes(_strict_text, sheet, room=room).decode()
+    return _text(_strict_text, _strict_text_length, sheet, room=room)
 
 def atom_list(sheet: bytes, *, room: int | None = None) -> list[Atom]:
     """The atoms of the term's labels, left to right with repeats. A room is counted in numbers, two for each atom."""
-    numbers = _numbers(_atom_list, sheet, room=room)
+    numbers = _list(_atom_list, _atom_list_length, sheet, room=room)
     return [Atom(name, parameters) for name, parameters in zip(numbers[::2], numbers[1::2])]
 
 def datatype_list(sheet: bytes, *, room: int | None = None) -> list[int]:
     """The datatypes that are labels of the term, left to right with repeats, each by the number of its name."""
-    return _numbers(_datatype_list, sheet, room=room)
+    return _list(_datatype_list, _datatype_list_length, sheet, room=room)
 
 def handout(sheet: bytes, version: int, style: Style = Style.PLAIN, *, room: int | None = None) -> str:
     """The text of a version of the handout, 1 to 3. Version 1 is `plain_text` and `strict_text`; version 2 has the datatype
     declarations before the atoms, and declares the datatypes of its own list; version 3 is version 2 with its declarations sorted."""
-    return _bytes(_handout[style], sheet, _size("the version", version), room=room).decode()
+    return _text(_handout[style], _handout_length[style], sheet, _size("the version", version), room=room)
 
 def handout_datatypes(sheet: bytes, version: int, *, room: int | None = None) -> list[int]:
     """The datatype list of a version of the handout. Version 1 is `datatype_list`; versions 2 and 3 have every datatype of every
     label, those within a proposition too."""
-    return _numbers(_handout_datatypes, sheet, _size("the version", version), room=room)
+    return _list(_handout_datatypes, _handout_datatypes_length, sheet, _size("the version", version), room=room)
+
+def plain_text_length(sheet: bytes) -> int:
+    """How long the plain text is, in bytes. Like the other lengths, it is found out without writing the answer."""
+    return _asked(_plain_text_length, sheet)
+
+def strict_text_length(sheet: bytes) -> int:
+    """How long the strict text is, in bytes."""
+    return _asked(_strict_text_length, sheet)
+
+def atom_list_length(sheet: bytes) -> int:
+    """How long the atom list is as numbers, as a room is counted: two for each atom."""
+    return _asked(_atom_list_length, sheet)
+
+def datatype_list_length(sheet: bytes) -> int:
+    """How long the datatype list is."""
+    return _asked(_datatype_list_length, sheet)
+
+def handout_length(sheet: bytes, version: int, style: Style = Style.PLAIN) -> int:
+    """How long the text of a version of the handout is, in bytes."""
+    return _asked(_handout_length[style], sheet, _size("the version", version))
+
+def handout_datatypes_length(sheet: bytes, version: int) -> int:
+    """How long the datatype list of a version of the handout is."""
+    return _asked(_handout_datatypes_length, sheet, _size("the version", version))
 
 def label_count(sheet: bytes) -> int:
     """How many ascriptions and labelled functions the sheet's term has."""
@@ -339,7 +374,12 @@ def read_term(text: str | bytes, datatypes: Sequence[str] = (), *, room: tuple[i
 def exercise(names: Sequence[str], n: int, ordinal: int, *, room: int | None = None) -> bytes:
     """The code of the proposition at an ordinal, from 0, among all of at most n binary connectives over ⊤, ⊥ and up to 3 names, n
     up to 3. In the code the names are numbered as given. `include/skriduhol.h` says their order."""
-    return _bytes(_exercise, _divided(names), _size("the number of connectives", n), _size("the ordinal", ordinal), room=room)
+    return _bytes(_exercise, _divided(names), _size("the number of connectives", n), _size("the ordinal", ordinal),
+                  room=LONGEST_EXERCISE if room is None else room)
+
+def exercise_length(names: Sequence[str], n: int, ordinal: int) -> int:
+    """How long the code of an exercise is, in bytes."""
+    return _asked(_exercise_length, _divided(names), _size("the number of connectives", n), _size("the ordinal", ordinal))
 
 def name_index(sheet: bytes) -> list[int]:
     """The index of the sheet's names, 1,024 slots, by which `find_name` finds one without comparing all."""
@@ -355,21 +395,37 @@ def find_name(sheet: bytes, slots: Sequence[int], name: bytes) -> int | None:
     found = _asked(_find_name, sheet, lent, name, len(name))
     return None if found == FREE else found
 
+def _row(given: Given) -> Any:
+    return (ctypes.c_uint16 * 5)(*(_u16("a number of what is given", number) for number in given))
+
 def restate(sheet: bytes, given: Given, *, room: int | None = None) -> tuple[bytes, list[int]]:
     """The sheet with one more step, AlphaEquivalent over its root, that concludes what is given, and the index of its names."""
-    slots, lent = _SLOTS(), (ctypes.c_uint16 * 5)(*(_u16("a number of what is given", number) for number in given))
-    return _bytes(_restate, sheet, lent, slots, room=room), list(slots)
+    slots = _SLOTS()
+    return _bytes(_restate, sheet, _row(given), slots, room=LONGEST_SHEET if room is None else room), list(slots)
+
+def restate_length(sheet: bytes, given: Given) -> int:
+    """How long the sheet with one more step is, in bytes."""
+    return _asked(_restate_length, sheet, _row(given))
 
 def graft(host: bytes, step: int, donor: bytes, *, room: int | None = None) -> tuple[bytes, list[int]]:
     """The host with the donor's steps in the place of one of its own, a Sorry without premisses that concludes what the donor's root
     does, and the index of the merged names."""
-    slots, whose, other = _SLOTS(), _SIZE(), _frozen(donor)
+    slots, other, lent = _SLOTS(), _frozen(donor), LONGEST_SHEET if room is None else room
+    grafted = _of_graft(_graft, lambda function: _bytes(function, host, _size("the step", step), other, len(other), slots, room=lent))
+    return grafted, list(slots)
 
-    def grafted(*arguments: Any) -> int:
-        return _graft(*arguments, ctypes.byref(whose))
+def graft_length(host: bytes, step: int, donor: bytes) -> int:
+    """How long the merged sheet is, in bytes."""
+    other = _frozen(donor)
+    return _of_graft(_graft_length, lambda function: _asked(function, host, _size("the step", step), other, len(other)))
 
+_Answer = TypeVar("_Answer")
+
+def _of_graft(function: Callable[..., int], ask: Callable[[Callable[..., int]], _Answer]) -> _Answer:
+    """What is asked of a function that also says whose sheet a refusal speaks of."""
+    whose = _SIZE()
     try:
-        return _bytes(grafted, host, _size("the step", step), other, len(other), slots, room=room), list(slots)
+        return ask(lambda *arguments: function(*arguments, ctypes.byref(whose)))
     except Refused as refused:
         raise Refused(refused.number, refused.place, refused.column, Whose(whose.value)) from None
 

@@ -45,6 +45,24 @@ class Examples(unittest.TestCase):
             self.assert_refused(21, 0, 0, skriduhol.handout, HANDOUT, version)
             self.assert_refused(21, 0, 0, skriduhol.handout_datatypes, b"", version)
 
+    def test_lengths(self):
+        for sheet in (SECOND, HANDOUT, example("smallest"), example("labelled_function"), example("case_as_an_argument")):
+            self.assertEqual(skriduhol.plain_text_length(sheet), len(skriduhol.plain_text(sheet).encode()))
+            self.assertEqual(skriduhol.strict_text_length(sheet), len(skriduhol.strict_text(sheet).encode()))
+            self.assertEqual(skriduhol.atom_list_length(sheet), 2 * len(skriduhol.atom_list(sheet)))
+            self.assertEqual(skriduhol.datatype_list_length(sheet), len(skriduhol.datatype_list(sheet)))
+            for version in (1, 2, 3):
+                self.assertEqual(skriduhol.handout_datatypes_length(sheet, version), len(skriduhol.handout_datatypes(sheet, version)))
+                for style in Style:
+                    length = skriduhol.handout_length(sheet, version, style)
+                    self.assertEqual(length, len(skriduhol.handout(sheet, version, style).encode()))
+                    self.assertEqual(len(skriduhol.handout(sheet, version, style, room=length).encode()), length)
+                    self.assert_refused(16, 0, 0, skriduhol.handout, sheet, version, style, room=length - 1)
+        self.assert_refused(14, 1, 3, skriduhol.plain_text_length, REFUSED)
+        self.assert_refused(21, 0, 0, skriduhol.handout_length, REFUSED, 0)
+        self.assert_refused(21, 0, 0, skriduhol.handout_datatypes_length, b"", 4)
+        self.assert_refused(1, 0, 0, skriduhol.atom_list_length, b"")
+
     def test_lists_counts_and_comparisons(self):
         self.assertEqual(skriduhol.atom_list(example("labelled_function")), [Atom(name=0, parameters=0)])
         self.assertEqual(skriduhol.label_count(example("labelled_function")), 1)
@@ -101,6 +119,8 @@ class Examples(unittest.TestCase):
         self.assertEqual(skriduhol.exercise([], 0, 0), b"\x00")
         self.assertEqual(skriduhol.exercise(["A"], 0, 2), b"\x05\x00\x00\x00")
         self.assertEqual(len(skriduhol.exercise(("A", "B", "C"), 3, 86704)), skriduhol.LONGEST_EXERCISE)
+        self.assertEqual(skriduhol.exercise_length(("A", "B", "C"), 3, 86704), skriduhol.LONGEST_EXERCISE)
+        self.assert_refused(30, 0, 0, skriduhol.exercise_length, ("A", "B", "C"), 3, 86705)
         self.assert_refused(30, 0, 0, skriduhol.exercise, ["A", "B", "C"], 3, 86705)
         for names in ([""], ["A", ""], ["", ""], ["A\nB"], ["\n"], ["é"], ["\udc80"], ["A", "A"], ["A", "B", "C", "D"], ["A" * 33]):
             self.assert_refused(29, 0, 0, skriduhol.exercise, names, 0, 0)
@@ -123,6 +143,8 @@ class Examples(unittest.TestCase):
         self.assertEqual(skriduhol.plain_text(new), skriduhol.plain_text(sheet))
         self.assert_refused(16, 0, 0, skriduhol.restate, sheet, Given(0, 1), room=len(sheet) + 19)
         self.assert_refused(23, 0, 0, skriduhol.restate, sheet, Given(0, 1, column=4096))
+        self.assertEqual(skriduhol.restate_length(sheet, Given(0, 1, column=7)), len(new))
+        self.assert_refused(23, 0, 0, skriduhol.restate_length, sheet, Given(0, 1, column=4096))
         with self.assertRaises(ValueError):
             skriduhol.restate(sheet, Given(0, 65536))
 
@@ -141,6 +163,10 @@ class Examples(unittest.TestCase):
                 ((9, 4, 4098), Whose.HOST, wide, 0, b""), ((9, 4, 4098), Whose.DONOR, host, 9, wide),
                 ((1, 0, 0), Whose.HOST, b"", 0, b""), ((1, 0, 0), Whose.DONOR, host, 0, b"")):
             refused = self.assert_refused(*refusal, skriduhol.graft, *asked, room=len(new) - 1)
+            if refused.number == 16:
+                self.assertEqual(skriduhol.graft_length(*asked), len(new))
+            else:
+                self.assertIs(self.assert_refused(*refusal, skriduhol.graft_length, *asked).whose, whose)
             self.assertIs(refused.whose, whose)
         said = str(self.assert_refused(9, 4, 4098, skriduhol.graft, host, 0, wide))
         self.assertTrue(said.startswith("refused 9 at 4 column 4098 of the donor: a rule, kind, "), said)

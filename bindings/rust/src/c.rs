@@ -67,6 +67,51 @@ extern "C" {
         value: *mut usize,
         column: *mut usize,
     ) -> u8;
+    fn skriduhol_plain_text_length(
+        sheet: *const u8,
+        sheet_length: usize,
+        value: *mut usize,
+        column: *mut usize,
+    ) -> u8;
+    fn skriduhol_strict_text_length(
+        sheet: *const u8,
+        sheet_length: usize,
+        value: *mut usize,
+        column: *mut usize,
+    ) -> u8;
+    fn skriduhol_atom_list_length(
+        sheet: *const u8,
+        sheet_length: usize,
+        value: *mut usize,
+        column: *mut usize,
+    ) -> u8;
+    fn skriduhol_datatype_list_length(
+        sheet: *const u8,
+        sheet_length: usize,
+        value: *mut usize,
+        column: *mut usize,
+    ) -> u8;
+    fn skriduhol_handout_plain_length(
+        sheet: *const u8,
+        sheet_length: usize,
+        version: usize,
+        value: *mut usize,
+        column: *mut usize,
+    ) -> u8;
+    fn skriduhol_handout_strict_length(
+        sheet: *const u8,
+        sheet_length: usize,
+        version: usize,
+        value: *mut usize,
+        column: *mut usize,
+    ) -> u8;
+    fn skriduhol_handout_datatypes_length(
+        sheet: *const u8,
+        sheet_length: usize,
+        version: usize,
+        value: *mut usize,
+        column: *mut usize,
+    ) -> u8;
     fn skriduhol_label_count(
         sheet: *const u8,
         sheet_length: usize,
@@ -137,6 +182,31 @@ extern "C" {
         ordinal: usize,
         out: *mut u8,
         room: usize,
+        value: *mut usize,
+        column: *mut usize,
+    ) -> u8;
+    fn skriduhol_restate_length(
+        sheet: *const u8,
+        sheet_length: usize,
+        given: *const u16,
+        value: *mut usize,
+        column: *mut usize,
+    ) -> u8;
+    fn skriduhol_graft_length(
+        host: *const u8,
+        host_length: usize,
+        step: usize,
+        donor: *const u8,
+        donor_length: usize,
+        value: *mut usize,
+        column: *mut usize,
+        whose: *mut usize,
+    ) -> u8;
+    fn skriduhol_exercise_length(
+        names: *const u8,
+        names_length: usize,
+        n: usize,
+        ordinal: usize,
         value: *mut usize,
         column: *mut usize,
     ) -> u8;
@@ -268,6 +338,51 @@ pub fn handout_datatypes(
             value,
             column,
         )
+    }
+}
+
+pub fn plain_text_length(sheet: &[u8], value: &mut usize, column: &mut usize) -> u8 {
+    unsafe { skriduhol_plain_text_length(sheet.as_ptr(), sheet.len(), value, column) }
+}
+
+pub fn strict_text_length(sheet: &[u8], value: &mut usize, column: &mut usize) -> u8 {
+    unsafe { skriduhol_strict_text_length(sheet.as_ptr(), sheet.len(), value, column) }
+}
+
+pub fn atom_list_length(sheet: &[u8], value: &mut usize, column: &mut usize) -> u8 {
+    unsafe { skriduhol_atom_list_length(sheet.as_ptr(), sheet.len(), value, column) }
+}
+
+pub fn datatype_list_length(sheet: &[u8], value: &mut usize, column: &mut usize) -> u8 {
+    unsafe { skriduhol_datatype_list_length(sheet.as_ptr(), sheet.len(), value, column) }
+}
+
+pub fn handout_plain_length(
+    sheet: &[u8],
+    version: usize,
+    value: &mut usize,
+    column: &mut usize,
+) -> u8 {
+    unsafe { skriduhol_handout_plain_length(sheet.as_ptr(), sheet.len(), version, value, column) }
+}
+
+pub fn handout_strict_length(
+    sheet: &[u8],
+    version: usize,
+    value: &mut usize,
+    column: &mut usize,
+) -> u8 {
+    unsafe { skriduhol_handout_strict_length(sheet.as_ptr(), sheet.len(), version, value, column) }
+}
+
+pub fn handout_datatypes_length(
+    sheet: &[u8],
+    version: usize,
+    value: &mut usize,
+    column: &mut usize,
+) -> u8 {
+    unsafe {
+        skriduhol_handout_datatypes_length(sheet.as_ptr(), sheet.len(), version, value, column)
     }
 }
 
@@ -415,6 +530,35 @@ pub fn exercise(
             column,
         )
     }
+}
+
+pub fn restate_length(sheet: &[u8], given: &[u16; 5], value: &mut usize, column: &mut usize) -> u8 {
+    unsafe { skriduhol_restate_length(sheet.as_ptr(), sheet.len(), given.as_ptr(), value, column) }
+}
+
+pub fn graft_length(two: Two, value: &mut usize, column: &mut usize, whose: &mut usize) -> u8 {
+    unsafe {
+        skriduhol_graft_length(
+            two.host.as_ptr(),
+            two.host.len(),
+            two.step,
+            two.donor.as_ptr(),
+            two.donor.len(),
+            value,
+            column,
+            whose,
+        )
+    }
+}
+
+pub fn exercise_length(
+    names: &[u8],
+    n: usize,
+    ordinal: usize,
+    value: &mut usize,
+    column: &mut usize,
+) -> u8 {
+    unsafe { skriduhol_exercise_length(names.as_ptr(), names.len(), n, ordinal, value, column) }
 }
 
 pub fn name_index(

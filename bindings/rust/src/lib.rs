@@ -1,7 +1,7 @@
-//! The proved library behind proof boards, for Rust: a sheet's text, its lists, its label count, the comparison of two
-//! conclusions, the judgement of its term, restated conclusions, grafts of one sheet into another, terms that are read from their
-//! strict text, exercises, and the index of a sheet's names. Every function answers for any bytes. A refusal leaves the lent memory
-//! as it was, save that `board_output` then writes the refusal's line.
+//! The proved library behind proof boards, for Rust: a sheet's text, its lists, their lengths, its label count, the comparison of
+//! two conclusions, the judgement of its term, restated conclusions, grafts of one sheet into another, terms that are read from
+//! their strict text, exercises, and the index of a sheet's names. Every function answers for any bytes. A refusal leaves the lent
+//! memory as it was, save that `board_output` then writes the refusal's line.
 #![deny(unsafe_code)]
 
 mod c;
@@ -105,6 +105,40 @@ pub fn handout_datatypes(sheet: &[u8], version: usize, out: &mut [u16]) -> Resul
     asked(|value, column| c::handout_datatypes(sheet, version, out, value, column))
 }
 
+/// How long the plain text is, in bytes: the room that `plain_text` needs. It is not written for that, and 16 is no answer.
+pub fn plain_text_length(sheet: &[u8]) -> Result<usize, Refusal> {
+    asked(|value, column| c::plain_text_length(sheet, value, column))
+}
+
+/// How long the strict text is, in bytes.
+pub fn strict_text_length(sheet: &[u8]) -> Result<usize, Refusal> {
+    asked(|value, column| c::strict_text_length(sheet, value, column))
+}
+
+/// How long the atom list is, in numbers: two for each atom.
+pub fn atom_list_length(sheet: &[u8]) -> Result<usize, Refusal> {
+    asked(|value, column| c::atom_list_length(sheet, value, column))
+}
+
+/// How long the datatype list is, in numbers.
+pub fn datatype_list_length(sheet: &[u8]) -> Result<usize, Refusal> {
+    asked(|value, column| c::datatype_list_length(sheet, value, column))
+}
+
+/// How long the text of a version of the handout is, in bytes.
+pub fn handout_length(sheet: &[u8], version: usize, style: Style) -> Result<usize, Refusal> {
+    let of_style = match style {
+        Style::Plain => c::handout_plain_length,
+        Style::Strict => c::handout_strict_length,
+    };
+    asked(|value, column| of_style(sheet, version, value, column))
+}
+
+/// How long the datatype list of a version of the handout is, in numbers.
+pub fn handout_datatypes_length(sheet: &[u8], version: usize) -> Result<usize, Refusal> {
+    asked(|value, column| c::handout_datatypes_length(sheet, version, value, column))
+}
+
 /// How many ascriptions and labelled functions the sheet's term has.
 pub fn label_count(sheet: &[u8]) -> Result<usize, Refusal> {
     asked(|value, column| c::label_count(sheet, value, column))
@@ -162,6 +196,14 @@ pub struct Given {
     pub column: u16,
 }
 
+impl Given {
+    /// The numbers in the order of a step record.
+    fn row(self) -> [u16; 5] {
+        let [first, second, third] = self.numbers;
+        [self.kind, first, second, third, self.column]
+    }
+}
+
 /// The sheet with one more step, AlphaEquivalent over its root, at the start of `out`; its length in bytes. Every answer to it is the
 /// old sheet's. The slots become the index of its names, and stay as they were where it is refused.
 pub fn restate(
@@ -170,9 +212,12 @@ pub fn restate(
     slots: &mut [u16; 1024],
     out: &mut [u8],
 ) -> Result<usize, Refusal> {
-    let [first, second, third] = given.numbers;
-    let row = [given.kind, first, second, third, given.column];
-    asked(|value, column| c::restate(sheet, &row, slots, out, value, column))
+    asked(|value, column| c::restate(sheet, &given.row(), slots, out, value, column))
+}
+
+/// How long the sheet with one more step is, in bytes; 16 is no answer.
+pub fn restate_length(sheet: &[u8], given: Given) -> Result<usize, Refusal> {
+    asked(|value, column| c::restate_length(sheet, &given.row(), value, column))
 }
 
 /// Whose sheet a refusal of a graft speaks of.
@@ -214,9 +259,22 @@ pub fn graft(
     slots: &mut [u16; SLOT_COUNT],
     out: &mut [u8],
 ) -> Result<usize, GraftRefusal> {
-    let mut whose = 0;
     let two = c::Two { host, step, donor };
-    let answer = asked(|value, column| c::graft(two, slots, out, value, column, &mut whose));
+    grafted(|value, column, whose| c::graft(two, slots, out, value, column, whose))
+}
+
+/// How long the merged sheet is, in bytes; 16 is no answer.
+pub fn graft_length(host: &[u8], step: usize, donor: &[u8]) -> Result<usize, GraftRefusal> {
+    let two = c::Two { host, step, donor };
+    grafted(|value, column, whose| c::graft_length(two, value, column, whose))
+}
+
+/// What a C function handed over of a graft.
+fn grafted(
+    question: impl FnOnce(&mut usize, &mut usize, &mut usize) -> u8,
+) -> Result<usize, GraftRefusal> {
+    let mut whose = 0;
+    let answer = asked(|value, column| question(value, column, &mut whose));
     answer.map_err(|refusal| GraftRefusal {
         whose: match whose {
             1 => Whose::Host,
@@ -265,6 +323,11 @@ pub fn read_term(text: &[u8], datatypes: &[u8], memory: TermMemory) -> Result<Re
 /// are numbered as given. `include/skriduhol.h` says their order.
 pub fn exercise(names: &[u8], n: usize, ordinal: usize, out: &mut [u8]) -> Result<usize, Refusal> {
     asked(|value, column| c::exercise(names, n, ordinal, out, value, column))
+}
+
+/// How long the code of an exercise is, in bytes; 16 is no answer.
+pub fn exercise_length(names: &[u8], n: usize, ordinal: usize) -> Result<usize, Refusal> {
+    asked(|value, column| c::exercise_length(names, n, ordinal, value, column))
 }
 
 /// Fills the slots with the index of the sheet's names: a name's number, or `FREE`. Names enter from number 0 up, repeats of earlier

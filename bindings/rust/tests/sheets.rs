@@ -1,10 +1,12 @@
 //! The example sheets through the wrapper: answers, refusals, and what becomes of the lent memory.
 use skriduhol::{
-    atom_list, board_output, compare, datatype_list, exercise, find_name, graft, handout,
-    handout_datatypes, judge, label_count, name_index, plain_text, read_term, restate, strict_text,
-    Given, GraftRefusal, Hypothesis, Judged, ReadTerm, Refusal, Style, TermMemory, Whose,
-    BOARD_ROOM, CODE_ROOM, FREE, LONGEST_EXERCISE, LONGEST_SHEET, LONGEST_TERM, NAME_ROOM,
-    RECORD_NUMBERS, RECORD_ROOM, SLOT_COUNT,
+    atom_list, atom_list_length, board_output, compare, datatype_list, datatype_list_length,
+    exercise, exercise_length, find_name, graft, graft_length, handout, handout_datatypes,
+    handout_datatypes_length, handout_length, judge, label_count, name_index, plain_text,
+    plain_text_length, read_term, restate, restate_length, strict_text, strict_text_length, Given,
+    GraftRefusal, Hypothesis, Judged, ReadTerm, Refusal, Style, TermMemory, Whose, BOARD_ROOM,
+    CODE_ROOM, FREE, LONGEST_EXERCISE, LONGEST_SHEET, LONGEST_TERM, NAME_ROOM, RECORD_NUMBERS,
+    RECORD_ROOM, SLOT_COUNT,
 };
 
 const SMALLEST: &[u8] = include_bytes!("../../../examples/sheets/smallest.sheet");
@@ -78,6 +80,62 @@ fn strict_text_tells_apart_what_plain_text_does_not() {
         strict_text_of(CASE_WITH_AN_APPLIED_BRANCH),
         Ok("\n\n\nf (case h of inl x => a, inr y => b c)".into())
     );
+}
+
+#[test]
+fn lengths_are_those_of_the_answers() {
+    for sheet in [
+        SMALLEST,
+        SECOND,
+        LABELLED,
+        CASE_AS_AN_ARGUMENT,
+        SECOND_HANDOUT,
+        REFUSED,
+        &[],
+    ] {
+        assert_eq!(
+            plain_text_length(sheet),
+            text_of(sheet).map(|text| text.len())
+        );
+        assert_eq!(
+            strict_text_length(sheet),
+            strict_text_of(sheet).map(|text| text.len())
+        );
+        assert_eq!(atom_list_length(sheet), atom_list(sheet, &mut [0; 64]));
+        assert_eq!(
+            datatype_list_length(sheet),
+            datatype_list(sheet, &mut [0; 64])
+        );
+        for version in 0..5 {
+            for style in [Style::Plain, Style::Strict] {
+                let text = handout_of(sheet, version, style);
+                assert_eq!(
+                    handout_length(sheet, version, style),
+                    text.map(|text| text.len())
+                );
+            }
+            let list = datatypes_of(sheet, version);
+            assert_eq!(
+                handout_datatypes_length(sheet, version),
+                list.map(|list| list.len())
+            );
+        }
+    }
+    assert_eq!(plain_text_length(SECOND), Ok(SECOND_TEXT.len()));
+    assert_eq!(plain_text_length(REFUSED), refusal_of_step(14, 1, 3));
+    assert_eq!(handout_length(REFUSED, 4, Style::Plain), refusal(21, 0));
+}
+
+/// In the room that the length asks for the answer is not refused, and in one element less it is.
+#[test]
+fn the_length_is_the_least_room() {
+    let length = plain_text_length(SECOND).expect("a sheet");
+    assert_eq!(text_in(length, SECOND).0, Ok(length));
+    assert_eq!(text_in(length - 1, SECOND).0, refusal(16, 0));
+    let length = handout_datatypes_length(SECOND_HANDOUT, 2).expect("a sheet");
+    let list = |room| handout_datatypes(SECOND_HANDOUT, 2, &mut vec![0; room]);
+    assert_eq!(list(length), Ok(length));
+    assert_eq!(list(length - 1), refusal(16, 0));
 }
 
 fn handout_of(sheet: &[u8], version: usize, style: Style) -> Result<String, Refusal> {
@@ -201,6 +259,9 @@ fn a_restated_sheet_prints_as_before() {
         let untouched = (refusal(number, 0), vec![UNTOUCHED; room], [7; 1024]);
         assert_eq!(restate_in(room, given), untouched);
     };
+    assert_eq!(restate_length(BOUND_OBJECT, given), Ok(length));
+    let late = Given { kind: 1, ..given };
+    assert_eq!(restate_length(BOUND_OBJECT, late), refusal(25, 0));
     refused(length - 1, given, 16);
     refused(
         length,
@@ -210,7 +271,7 @@ fn a_restated_sheet_prints_as_before() {
         },
         23,
     );
-    refused(length, Given { kind: 1, ..given }, 25);
+    refused(length, late, 25);
 }
 
 const OPEN_STEP: &[u8] = include_bytes!("../../../examples/sheets/open_step.sheet");
@@ -252,6 +313,7 @@ fn a_donor_replaces_a_sorry() {
         ["A", "B", "C", "h", "u", "a", "b"].map(|name| find_name(merged, &slots, name.as_bytes()));
     assert_eq!(found, [0, 1, 2, 3, 4, 5, 6].map(|number| Ok(Some(number))));
     assert_eq!(graft_in(length, OPEN_STEP, 0, SWAPPED).0, Ok(length));
+    assert_eq!(graft_length(OPEN_STEP, 0, SWAPPED), Ok(length));
 }
 
 #[test]
@@ -263,6 +325,9 @@ fn a_refused_graft_says_whose_it_is_and_leaves_the_memory() {
             [7; SLOT_COUNT],
         );
         assert_eq!(graft_in(room, host, step, donor), untouched);
+        if refusal.number != 16 {
+            assert_eq!(graft_length(host, step, donor), untouched.0);
+        }
     };
     let of = |number, place, column| Refusal {
         number,
@@ -411,6 +476,7 @@ fn exercise_in(
 fn exercises() {
     let code = |names, n, ordinal| {
         let (answer, mut out) = exercise_in(LONGEST_EXERCISE, names, n, ordinal);
+        assert_eq!(exercise_length(names.as_bytes(), n, ordinal), answer);
         out.truncate(answer?);
         Ok(out)
     };

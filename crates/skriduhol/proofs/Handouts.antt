@@ -25,12 +25,12 @@ use Rattle.skriduhol.specs.Asked.{askedOf}
 use Rattle.skriduhol.specs.Located.{filledOf, FillsOf}
 
 -- what the program answers of a number is what the number asks for
-version-of : (o : Outcome Version) {v : Version} → askedOf o ≡ Of v → o ≡ accepted v
+pub version-of : (o : Outcome Version) {v : Version} → askedOf o ≡ Of v → o ≡ accepted v
 unfolding askedOf
 version-of (accepted w) e = cc
 version-of (refused r) e = let no : _≡_ {A = ℕ} 0 1 = cc in absurd (omega arith)
 
-refusal-of : (o : Outcome Version) {x : Refusal} → askedOf o ≡ NoVersion x → o ≡ refused x
+pub refusal-of : (o : Outcome Version) {x : Refusal} → askedOf o ≡ NoVersion x → o ≡ refused x
 unfolding askedOf
 refusal-of (accepted w) e = let no : _≡_ {A = ℕ} 0 1 = cc in absurd (omega arith)
 refusal-of (refused r) e = cc

@@ -7,3 +7,4 @@ pub mod Accuracy
 pub mod Board
 pub mod Drawings
 pub mod Grafts
+pub mod Lengths

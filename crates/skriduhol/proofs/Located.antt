@@ -70,7 +70,7 @@ module _ (s : List ℕ) where
   length-told {outcome = refused x} f back e = let is = back (refused x) (f .answer) in absurd (let z : _≡_ {A = ℕ} 0 1 = cc in omega arith)
 
 -- a refusal of an exercise names no step, so it has no column
-no-step : (r : Refusal) → OfExercise (r .number) → located [] r ≡ record { refusal = r; column = 0 }
+pub no-step : (r : Refusal) → OfExercise (r .number) → located [] r ≡ record { refusal = r; column = 0 }
 unfolding located columnOf namesStep
 no-step r (inl e) = rw e
 no-step r (inr (inl e)) = rw e

@@ -5,3 +5,4 @@ pub mod Asked
 pub mod Board
 pub mod Searched
 pub mod Grafts
+pub mod Lengths

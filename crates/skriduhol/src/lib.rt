@@ -9,6 +9,7 @@ use definitions::TermList;
 use definitions::Version;
 use definitions::Whose;
 use grafting::Merged;
+use list_length::list_length;
 use located::locate;
 use located::put_refusal;
 use name_index::SLOT_COUNT;
@@ -23,6 +24,7 @@ use sheet_term::Counted;
 use sheet_term::SheetTerm;
 use sheet_term::TERM_NUMBERS;
 use sheet_term::sheet_term;
+use text::sheet_text_length;
 use text::text;
 ghost use mathlib.Core.Path.{_≡_};
 ghost use mathlib.Core.List.{List, []};
@@ -31,7 +33,7 @@ ghost use lib.ListN.{length, take};
 ghost use Rattle.definitions.specs.Outcome.{Outcome};
 ghost use Rattle.definitions.specs.declared.Style.the-variants.{Plain, Strict};
 ghost use Rattle.definitions.specs.Answers.{inRoom, sheetText, versionOf, textAnswer, atomsAnswer, datatypesAnswer, labelCount, comparison, boardOutput};
-ghost use Rattle.definitions.specs.Restate.{restateAnswer};
+ghost use Rattle.definitions.specs.Restate.{restated, restateAnswer};
 ghost use Rattle.definitions.specs.declared.Whose.the-variants.{Host, Donor};
 ghost use Rattle.definitions.specs.Graft.{graftAnswer, locatedBy};
 ghost use Rattle.definitions.specs.Exercises.{exerciseAnswer};
@@ -44,16 +46,18 @@ ghost use Rattle.graft_laws.specs.Merges.{Merges};
 ghost use Rattle.restating.specs.Step.{givenOf};
 ghost use Rattle.restating.specs.Slots.{slotsAfter};
 ghost use Rattle.grafting.specs.Answered.{slotsBy};
+ghost use Rattle.made_length.specs.Whole.{wholeExercise};
 ghost use Rattle.located.specs.AfterHeader.{AfterHeader};
 ghost use Rattle.skriduhol.specs.Accurate.{AccurateText, AccurateCount};
 ghost use Rattle.skriduhol.specs.Lists.{listAnswer};
 ghost use Rattle.skriduhol.specs.Asked.{askedOf};
 ghost use Rattle.skriduhol.specs.Located.{filledOf, FillsOf, countOf, verdictOf};
+ghost use Rattle.skriduhol.specs.Lengths.{wholeText, wholeAtoms, wholeDatatypes, Measures, MeasuresGraft};
 ghost use Rattle.skriduhol.specs.Grafts.{GraftsOf};
 ghost use Rattle.skriduhol.specs.Board.{Prints};
 ghost use Rattle.skriduhol.specs.Searched.{searchedOf, plainAnswer};
 
-// The length of an answer in lent memory, or a refusal with its column.
+// The length of an answer, in lent memory or not, or a refusal with its column.
 pub enum Filled {
     Length(usize),
     Refused(Located),
@@ -160,6 +164,21 @@ pub fn strict_text(s: &[u8], out: &mut [u8]) -> Filled
     handout(s, 1, Style::Strict, out)
 }
 
+// How long the text of a version of the handout is, in a style.
+pub fn handout_length(s: &[u8], version: usize, style: Style) -> Filled
+    ensures { λ r. ⌜ Measures (now (s .entry)) (textAnswer (now (s .entry)) version style)
+        (wholeText (now (s .entry)) version style) r ⌝ }
+{
+    let asked = asked_version(version);
+    match asked {
+        Asked::Refused(refusal) => Filled::Refused(locate(s, refusal)),
+        Asked::Of(v) => {
+            let written = sheet_text_length(s, v, style);
+            locate_written(s, written)
+        }
+    }
+}
+
 // A list of the sheet's term in lent memory: measured by a dry run, and then written where it fits.
 fn list(s: &[u8], h: Sheet, terms: &[u16], n: usize, which: TermList, out: &mut [u16]) -> Written
     requires { ⌜ AcceptedSheet (now s) h × HeldTerm (now s) (now terms) n ⌝ }
@@ -215,6 +234,29 @@ pub fn datatype_list(s: &[u8], out: &mut [u16]) -> Filled
     handout_datatypes(s, 1, out)
 }
 
+// How many numbers the atom list has.
+pub fn atom_list_length(s: &[u8]) -> Filled
+    ensures { λ r. ⌜ Measures (now (s .entry)) (atomsAnswer (now (s .entry))) (wholeAtoms (now (s .entry))) r ⌝ }
+{
+    let written = list_length(s, TermList::Atoms);
+    locate_written(s, written)
+}
+
+// How many numbers the datatype list of a version of the handout has.
+pub fn handout_datatypes_length(s: &[u8], version: usize) -> Filled
+    ensures { λ r. ⌜ Measures (now (s .entry)) (datatypesAnswer (now (s .entry)) version)
+        (wholeDatatypes (now (s .entry)) version) r ⌝ }
+{
+    let asked = asked_version(version);
+    match asked {
+        Asked::Refused(refusal) => Filled::Refused(locate(s, refusal)),
+        Asked::Of(v) => {
+            let written = list_length(s, TermList::Datatypes(v));
+            locate_written(s, written)
+        }
+    }
+}
+
 // The label count.
 pub fn label_count(s: &[u8]) -> Count
     ensures { λ r. ⌜ r ≡ countOf (now (s .entry)) (labelCount (now (s .entry))) ⌝ }
@@ -250,6 +292,15 @@ pub fn restate(s: &[u8], given: Given, slots: &mut [u16; SLOT_COUNT], out: &mut 
         → Restates (now (s .entry)) (givenOf given) (take n (now (out .exit)))) ⌝ }
 {
     let written = restating::restate(s, given, slots, out);
+    locate_written(s, written)
+}
+
+// How long the sheet with one more step is.
+pub fn restate_length(s: &[u8], given: Given) -> Filled
+    ensures { λ r. ⌜ Measures (now (s .entry)) (restateAnswer (now (s .entry)) (givenOf given))
+        (restated (now (s .entry)) (givenOf given)) r ⌝ }
+{
+    let written = made_length::restate_length(s, given);
     locate_written(s, written)
 }
 
@@ -290,6 +341,19 @@ pub fn graft<'a>(
     }
 }
 
+// How long the merged sheet is.
+pub fn graft_length<'a>(host: &'a [u8], k: usize, donor: &'a [u8]) -> Grafted
+    ensures { λ r. ⌜ MeasuresGraft (now (host .entry)) (now (donor .entry)) k r ⌝ }
+{
+    let merged = made_length::graft_length(host, k, donor);
+    match merged {
+        Merged::Length(bytes) => Grafted::Length(bytes),
+        Merged::Refused(whose, refusal) => {
+            Grafted::Refused(whose, locate_by(host, donor, whose, refusal))
+        }
+    }
+}
+
 // The bytes that the board program lends.
 pub const BOARD_ROOM: usize = 65536;
 
@@ -311,6 +375,18 @@ pub fn exercise(names: &[u8], n: usize, ordinal: usize, out: &mut [u8]) -> Fille
         (now (out .entry)) (now (out .exit)) r ⌝ }
 {
     let written = exercises::exercise(names, n, ordinal, out);
+    match written {
+        Written::Length(length) => Filled::Length(length),
+        Written::Refused(refusal) => Filled::Refused(Located { refusal, column: 0 }),
+    }
+}
+
+// How long the code of an exercise is.
+pub fn exercise_length(names: &[u8], n: usize, ordinal: usize) -> Filled
+    ensures { λ r. ⌜ Measures [] (exerciseAnswer (now (names .entry)) n ordinal)
+        (wholeExercise (now (names .entry)) n ordinal) r ⌝ }
+{
+    let written = made_length::exercise_length(names, n, ordinal);
     match written {
         Written::Length(length) => Filled::Length(length),
         Written::Refused(refusal) => Filled::Refused(Located { refusal, column: 0 }),

@@ -16,7 +16,8 @@ use Rattle.skriduhol.specs.declared.Verdict.the-variants as verdict
 use Rattle.skriduhol.specs.declared.Searched.the-variants as searched
 use Rattle.skriduhol.specs.Searched.{searchedOf}
 use Rattle.skriduhol.specs.Located.{filledOf, FillsOf, countOf, verdictOf}
-use Rattle.skriduhol_c.specs.Handed.{numberOf, valueOf, columnFor, Hands, HandsFilled, HandsRefusal}
+use Rattle.skriduhol.specs.Lengths.{Measures}
+use Rattle.skriduhol_c.specs.Handed.{numberOf, valueOf, columnFor, Hands, HandsFilled, HandsLength, HandsRefusal}
 
 -- an outcome of a sheet that is this refusal as it is handed back
 pub record RefusedAs {A : Type 0} (s : List ℕ) (outcome : Outcome A) (l : Located) : Type 0 where
@@ -101,3 +102,10 @@ module _ (s : List ℕ) where
       → ((t : List ℕ) (o : Outcome (List ℕ)) → r ≡ filledOf t o → Hands length t o value column result)
       → HandsFilled answer s before after value column result
   fills f hands = record { handed = hands _ _ (f .answer); memory = f .memory }
+
+  -- the length of an answer, handed over
+  pub lengths : {answer : List ℕ → ℕ → Outcome (List ℕ)} {whole : List ℕ → Outcome (List ℕ)} {r : Filled} {value column result : ℕ}
+      → Measures s (answer s) (whole s) r
+      → ((t : List ℕ) (o : Outcome (List ℕ)) → r ≡ filledOf t o → Hands length t o value column result)
+      → HandsLength answer whole s value column result
+  lengths m hands = record { handed = hands _ _ (m .told); in-room = m .in-room }

@@ -7,6 +7,7 @@ use Rattle.definitions.specs.declared.Whose.{Whose}
 use Rattle.definitions.specs.declared.Whose.the-variants.{Neither, Host, Donor}
 use Rattle.definitions.specs.Graft.{Grafted, refusedBy, merged, graftAnswer, locatedBy}
 use Rattle.grafting.specs.Answered.{filledBy}
+use Rattle.made_length.specs.Whole.{wholeGraft, graftInRoom}
 
 -- 0 neither sheet's, 1 the host's, 2 the donor's
 unfoldable pub whoseNumber : Whose → ℕ
@@ -39,3 +40,15 @@ pub record HandsGrafted (h d : List ℕ) (k : ℕ) (before after : List ℕ) (va
   pub drawn : column ≡ columnBy h d (graftAnswer h d k (length before))
   pub by : whose ≡ whoseBy (graftAnswer h d k (length before))
   pub memory : after ≡ filledBy (graftAnswer h d k (length before)) before
+
+-- all four of a graft's answer
+pub record HandsBy (h d : List ℕ) (o : Grafted) (value column whose result : ℕ) : Type 0 where
+  pub number : result ≡ numberBy o
+  pub said : value ≡ valueBy o
+  pub drawn : column ≡ columnBy h d o
+  pub by : whose ≡ whoseBy o
+
+-- the length of the merged sheet; the graft in a room is the whole one or 16
+pub record HandsGraftLength (h d : List ℕ) (k value column whose result : ℕ) : Type 0 where
+  pub handed : HandsBy h d (wholeGraft h d k) value column whose result
+  pub in-room : (room : ℕ) → graftAnswer h d k room ≡ graftInRoom room (wholeGraft h d k)

@@ -7,7 +7,7 @@ use mathlib.Core.List.{List}
 use lib.ListN.{length, getD}
 use Rattle.definitions.specs.declared.Located.{Located}
 use Rattle.definitions.specs.Outcome.{Outcome, accepted, refused}
-use Rattle.definitions.specs.Answers.{columnOf}
+use Rattle.definitions.specs.Answers.{inRoom, columnOf}
 use Rattle.definitions.specs.NameIndex.{free}
 use Rattle.definitions.specs.Restate.{Given}
 use Rattle.output.specs.Written.{filled}
@@ -62,6 +62,16 @@ pub record HandsFilled
     : Type 0 where
   pub handed : Hands length s (answer s (length before)) value column result
   pub memory : after ≡ filled (answer s (length before)) before
+
+-- the length of a sheet's whole answer, or its refusal; the answer in a room is the whole one or 16
+pub record HandsLength
+    (answer : List ℕ → ℕ → Outcome (List ℕ))
+    (whole : List ℕ → Outcome (List ℕ))
+    (s : List ℕ)
+    (value column result : ℕ)
+    : Type 0 where
+  pub handed : Hands length s (whole s) value column result
+  pub in-room : (room : ℕ) → answer s room ≡ inRoom room (whole s)
 
 -- the number, the place and the column of a refusal
 pub record HandsRefusal (l : Located) (value column result : ℕ) : Type 0 where

@@ -21,18 +21,23 @@ ghost use Prim.Native.Nat.{ℕ};
 ghost use lib.ListN.{length};
 ghost use Rattle.definitions.specs.Outcome.{Outcome};
 ghost use Rattle.definitions.specs.Answers.{textAnswer, atomsAnswer, datatypesAnswer, labelCount, comparison, boardOutput};
-ghost use Rattle.definitions.specs.Restate.{restateAnswer};
+ghost use Rattle.definitions.specs.Restate.{restated, restateAnswer};
+ghost use Rattle.definitions.specs.Graft as graft;
 ghost use Rattle.definitions.specs.Graft.{graftAnswer};
 ghost use Rattle.definitions.specs.Exercises.{exerciseAnswer};
 ghost use Rattle.definitions.specs.NameIndex.{indexOf, indexAnswer, findAnswer};
 ghost use Rattle.definitions.specs.declared.Style.the-variants.{Plain, Strict};
+ghost use Rattle.restating.specs.Step.{givenOf};
 ghost use Rattle.restating.specs.Slots.{slotsAfter};
 ghost use Rattle.grafting.specs.Answered.{slotsBy};
+ghost use Rattle.made_length.specs.Whole.{wholeExercise};
 ghost use Rattle.skriduhol.specs.Located.{filledOf};
+ghost use Rattle.skriduhol.specs.Grafts.{graftedOf};
+ghost use Rattle.skriduhol.specs.Lengths.{wholeText, wholeAtoms, wholeDatatypes};
 ghost use Rattle.skriduhol.specs.Board.{Prints};
 ghost use Rattle.skriduhol.specs.Searched.{plainAnswer};
-ghost use Rattle.skriduhol_c.specs.Handed.{Hands, HandsFilled, HandsRefusal, yesOrNo, numberOrFree, givenIn};
-ghost use Rattle.skriduhol_c.specs.Grafts.{whoseNumber, HandsGrafted};
+ghost use Rattle.skriduhol_c.specs.Handed.{Hands, HandsFilled, HandsLength, HandsRefusal, yesOrNo, numberOrFree, givenIn};
+ghost use Rattle.skriduhol_c.specs.Grafts.{whoseNumber, HandsBy, HandsGrafted, HandsGraftLength};
 ghost use Rattle.skriduhol_c.specs.Judged.{HandsJudged};
 ghost use Rattle.skriduhol_c.specs.TermsRead.{HandsRead};
 
@@ -174,6 +179,120 @@ pub extern "C" fn skriduhol_handout_datatypes(
     )
 }
 
+// How long the plain text is.
+#[no_mangle]
+pub extern "C" fn skriduhol_plain_text_length(
+    sheet: &[u8],
+    value: &mut usize,
+    column: &mut usize,
+) -> u8
+    ensures { λ r. ⌜ HandsLength (λ s. textAnswer s 1 Plain) (λ s. wholeText s 1 Plain) (now (sheet .entry))
+        (now (value .exit)) (now (column .exit)) r ⌝ }
+{
+    hand_filled(
+        skriduhol::handout_length(sheet, 1, Style::Plain),
+        value,
+        column,
+    )
+}
+
+// How long the strict text is.
+#[no_mangle]
+pub extern "C" fn skriduhol_strict_text_length(
+    sheet: &[u8],
+    value: &mut usize,
+    column: &mut usize,
+) -> u8
+    ensures { λ r. ⌜ HandsLength (λ s. textAnswer s 1 Strict) (λ s. wholeText s 1 Strict) (now (sheet .entry))
+        (now (value .exit)) (now (column .exit)) r ⌝ }
+{
+    hand_filled(
+        skriduhol::handout_length(sheet, 1, Style::Strict),
+        value,
+        column,
+    )
+}
+
+// How many numbers the atom list has.
+#[no_mangle]
+pub extern "C" fn skriduhol_atom_list_length(
+    sheet: &[u8],
+    value: &mut usize,
+    column: &mut usize,
+) -> u8
+    ensures { λ r. ⌜ HandsLength atomsAnswer wholeAtoms (now (sheet .entry))
+        (now (value .exit)) (now (column .exit)) r ⌝ }
+{
+    hand_filled(skriduhol::atom_list_length(sheet), value, column)
+}
+
+// How many numbers the datatype list has.
+#[no_mangle]
+pub extern "C" fn skriduhol_datatype_list_length(
+    sheet: &[u8],
+    value: &mut usize,
+    column: &mut usize,
+) -> u8
+    ensures { λ r. ⌜ HandsLength (λ s. datatypesAnswer s 1) (λ s. wholeDatatypes s 1) (now (sheet .entry))
+        (now (value .exit)) (now (column .exit)) r ⌝ }
+{
+    hand_filled(skriduhol::handout_datatypes_length(sheet, 1), value, column)
+}
+
+// How long the plain text of a version of the handout is.
+#[no_mangle]
+pub extern "C" fn skriduhol_handout_plain_length(
+    sheet: &[u8],
+    version: usize,
+    value: &mut usize,
+    column: &mut usize,
+) -> u8
+    ensures { λ r. ⌜ HandsLength (λ s. textAnswer s version Plain) (λ s. wholeText s version Plain) (now (sheet .entry))
+        (now (value .exit)) (now (column .exit)) r ⌝ }
+{
+    hand_filled(
+        skriduhol::handout_length(sheet, version, Style::Plain),
+        value,
+        column,
+    )
+}
+
+// How long the strict text of a version of the handout is.
+#[no_mangle]
+pub extern "C" fn skriduhol_handout_strict_length(
+    sheet: &[u8],
+    version: usize,
+    value: &mut usize,
+    column: &mut usize,
+) -> u8
+    ensures { λ r. ⌜ HandsLength (λ s. textAnswer s version Strict) (λ s. wholeText s version Strict) (now (sheet .entry))
+        (now (value .exit)) (now (column .exit)) r ⌝ }
+{
+    hand_filled(
+        skriduhol::handout_length(sheet, version, Style::Strict),
+        value,
+        column,
+    )
+}
+
+// How many numbers the datatype list of a version of the handout has.
+#[no_mangle]
+pub extern "C" fn skriduhol_handout_datatypes_length(
+    sheet: &[u8],
+    version: usize,
+    value: &mut usize,
+    column: &mut usize,
+) -> u8
+    ensures { λ r. ⌜ HandsLength (λ s. datatypesAnswer s version) (λ s. wholeDatatypes s version) (now (sheet .entry))
+        (now (value .exit)) (now (column .exit)) r ⌝ }
+{
+    hand_filled(
+        skriduhol::handout_datatypes_length(sheet, version),
+        value,
+        column,
+    )
+}
+
 // The label count.
 #[no_mangle]
 pub extern "C" fn skriduhol_label_count(sheet: &[u8], value: &mut usize, column: &mut usize) -> u8
@@ -221,6 +340,19 @@ pub extern "C" fn skriduhol_compare(
     }
 }
 
+// What is given for a restatement: a kind, three numbers and a column, in the order of a step record.
+fn given_in(given: &[u16; 5]) -> Given
+    ensures { λ r. ⌜ givenOf r ≡ givenIn (now (given .entry)) ⌝ }
+{
+    Given {
+        kind: given[0],
+        first: given[1],
+        second: given[2],
+        third: given[3],
+        column: given[4],
+    }
+}
+
 // The old sheet with one more step, AlphaEquivalent over the old root. Given are a kind, three numbers and a column, in the order of
 // a step record; the slots are the index of the new sheet's names.
 #[no_mangle]
@@ -237,18 +369,27 @@ pub extern "C" fn skriduhol_restate(
     ensures { λ _. ⌜ now (slots .exit) ≡ slotsAfter
         (restateAnswer (now (sheet .entry)) (givenIn (now (given .entry))) (length (now (out .entry)))) (now (slots .entry)) ⌝ }
 {
-    let restatement = Given {
-        kind: given[0],
-        first: given[1],
-        second: given[2],
-        third: given[3],
-        column: given[4],
-    };
+    let restatement = given_in(given);
     hand_filled(
         skriduhol::restate(sheet, restatement, slots, out),
         value,
         column,
     )
+}
+
+// How long the sheet with one more step is.
+#[no_mangle]
+pub extern "C" fn skriduhol_restate_length(
+    sheet: &[u8],
+    given: &[u16; 5],
+    value: &mut usize,
+    column: &mut usize,
+) -> u8
+    ensures { λ r. ⌜ HandsLength (λ s. restateAnswer s (givenIn (now (given .entry))))
+        (λ s. restated s (givenIn (now (given .entry)))) (now (sheet .entry)) (now (value .exit)) (now (column .exit)) r ⌝ }
+{
+    let restatement = given_in(given);
+    hand_filled(skriduhol::restate_length(sheet, restatement), value, column)
 }
 
 // Whose a refusal is, as a number: 0 neither sheet's, 1 the host's, 2 the donor's.
@@ -259,6 +400,25 @@ fn whose_number(whose: Whose) -> usize
         Whose::Neither => 0,
         Whose::Host => 1,
         Whose::Donor => 2,
+    }
+}
+
+// The length of a merged sheet is the value; a refusal says whose it is.
+fn hand_grafted(grafted: Grafted, value: &mut usize, column: &mut usize, whose: &mut usize) -> u8
+    ensures { λ r. ⌜ ((h d : List ℕ) (o : graft.Grafted) → grafted ≡ graftedOf h d o
+        → HandsBy h d o (now (value .exit)) (now (column .exit)) (now (whose .exit)) r) ⌝ }
+{
+    match grafted {
+        Grafted::Length(merged) => {
+            *value = merged;
+            *column = 0;
+            *whose = 0;
+            return 0;
+        }
+        Grafted::Refused(by, located) => {
+            *whose = whose_number(by);
+            return hand_refusal(located, value, column);
+        }
     }
 }
 
@@ -279,19 +439,33 @@ pub extern "C" fn skriduhol_graft<'a>(
     ensures { λ _. ⌜ now (slots .exit) ≡ slotsBy
         (graftAnswer (now (host .entry)) (now (donor .entry)) step (length (now (out .entry)))) (now (slots .entry)) ⌝ }
 {
-    let grafted = skriduhol::graft(host, step, donor, slots, out);
-    match grafted {
-        Grafted::Length(merged) => {
-            *value = merged;
-            *column = 0;
-            *whose = 0;
-            return 0;
-        }
-        Grafted::Refused(by, located) => {
-            *whose = whose_number(by);
-            return hand_refusal(located, value, column);
-        }
-    }
+    hand_grafted(
+        skriduhol::graft(host, step, donor, slots, out),
+        value,
+        column,
+        whose,
+    )
+}
+
+// How long the merged sheet is.
+#[no_mangle]
+pub extern "C" fn skriduhol_graft_length<'a>(
+    host: &'a [u8],
+    step: usize,
+    donor: &'a [u8],
+    value: &mut usize,
+    column: &mut usize,
+    whose: &mut usize,
+) -> u8
+    ensures { λ r. ⌜ HandsGraftLength (now (host .entry)) (now (donor .entry)) step
+        (now (value .exit)) (now (column .exit)) (now (whose .exit)) r ⌝ }
+{
+    hand_grafted(
+        skriduhol::graft_length(host, step, donor),
+        value,
+        column,
+        whose,
+    )
 }
 
 // What the board program prints, and how many bytes it is.
@@ -316,6 +490,21 @@ pub extern "C" fn skriduhol_exercise(
         (now (out .exit)) (now (value .exit)) (now (column .exit)) r ⌝ }
 {
     hand_filled(skriduhol::exercise(names, n, ordinal, out), value, column)
+}
+
+// How long the code of an exercise is.
+#[no_mangle]
+pub extern "C" fn skriduhol_exercise_length(
+    names: &[u8],
+    n: usize,
+    ordinal: usize,
+    value: &mut usize,
+    column: &mut usize,
+) -> u8
+    ensures { λ r. ⌜ HandsLength (λ _. exerciseAnswer (now (names .entry)) n ordinal)
+        (λ _. wholeExercise (now (names .entry)) n ordinal) [] (now (value .exit)) (now (column .exit)) r ⌝ }
+{
+    hand_filled(skriduhol::exercise_length(names, n, ordinal), value, column)
 }
 
 // The index of the sheet's names, in 1,024 slots.

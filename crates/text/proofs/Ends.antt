@@ -72,7 +72,7 @@ module _ {s : List ℕ} {h : Sheet} (a : AcceptedSheet s h) where
   props-are = ap (λ count. propAt count (codeIn s (vocabularyOf h))) (count-is (its-header a)) ∙ ap (propAt (names s)) (code-is (its-header a))
 
   module _ {v : Vocabulary} (is : v ≡ vocabularyOf h) where
-    code-short : length (codeIn s v) ≤ 8192
+    pub code-short : length (codeIn s v) ≤ 8192
     unfolding headerOf codeLimit
     code-short =
         let same = ap (λ w. length (codeIn s w)) is ∙ ap length (code-is (its-header a)) in

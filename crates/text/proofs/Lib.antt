@@ -6,3 +6,4 @@ pub mod Heading
 pub mod Renaming
 pub mod Arranging
 pub mod Declaring
+pub mod Longest

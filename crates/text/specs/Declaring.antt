@@ -1,7 +1,8 @@
 -- The text of a sheet's term in two halves: the declarations, which stand in lent memory before they are written, and the term.
-use Prim.Native.Nat.{ℕ, _+_, _≤_, _<_}
+use Prim.Native.Nat.{ℕ, _<_}
 use mathlib.Core.Path.{_≡_}
 use mathlib.Core.List.{List, _++_, map}
+use lib.ListN.{length}
 use Rattle.definitions.specs.declared.Version.{Version}
 use Rattle.definitions.specs.declared.TermList.{TermList}
 use Rattle.definitions.specs.declared.TermList.the-variants.{Atoms, Datatypes}
@@ -10,7 +11,7 @@ use Rattle.definitions.specs.Name.{Name}
 use Rattle.definitions.specs.Sheet.{names, propositions, propositionPairs, codeBytes, nameOf, pairOffset}
 use Rattle.definitions.specs.Prop.{Prop, AtomUse, getAtoms, getDatatypes}
 use Rattle.definitions.specs.Term.{ProofTerm, atomList, datatypeList, renameTerm}
-use Rattle.definitions.specs.Text.{firsts, eqAtomUse, compareAtomUse, arranged}
+use Rattle.definitions.specs.Text.{firsts, eqAtomUse, compareAtomUse, arranged, heading}
 use Rattle.definitions.specs.Answers.{namedTerm, goalProp}
 use Rattle.order_laws.proofs.Datatypes.{asUse}
 use Rattle.prefix_code.specs.PropAt.{propAt}
@@ -47,7 +48,12 @@ module _ (s : List ℕ) where
   pub record EndsKnown (ends : List ℕ) : Type 0 where
     pub known : (i : ℕ) → i < propositions s → Known (names s) (codeBytes s) ends (pairOffset (propositionPairs s) i)
 
--- r is the position so many bytes past another where that is below the cap, and at the cap or past it where that is not
-pub record Skipped (cap to count r : ℕ) : Type 0 where
-  pub below : to + count < cap → r ≡ to + count
-  pub beyond : cap ≤ to + count → cap ≤ r
+  -- r is the length of what stands before the term, which fits 34 bits
+  pub record HeadingLength (v : Version) (r : ℕ) : Type 0 where
+    pub is : (t : ProofTerm Name) → namedTerm s ≡ accepted t → r ≡ length (heading v t (goalProp s))
+    pub small : r < 17179869184
+
+-- r is the length of the text of a term, which fits 42 bits
+pub record TermLength (text : List ℕ) (r : ℕ) : Type 0 where
+  pub is : r ≡ length text
+  pub small : r < 4398046511104

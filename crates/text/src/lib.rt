@@ -1,4 +1,5 @@
 // The text of a sheet's term: the declarations, and then the term (source document 005).
+use declaration_length::lines_length;
 use declaration_order::sort_declarations;
 use declarations::note_entries;
 use declarations::note_term;
@@ -21,8 +22,13 @@ use sheet::name_pairs;
 use sheet::proposition_pairs;
 use sheet::text_bytes;
 use sheet::vocabulary;
+use sheet_term::SheetTerm;
+use sheet_term::TERM_NUMBERS;
+use sheet_term::sheet_term;
 ghost use mathlib.Core.Path.{_≡_};
-ghost use Prim.Native.Nat.{_+_, min};
+ghost use mathlib.Core.Bool.{true};
+ghost use mathlib.Core.List.{List};
+ghost use Prim.Native.Nat.{ℕ};
 ghost use lib.ListN.{length};
 ghost use Rattle.definitions.specs.declared.Version.the-variants.{First};
 ghost use Rattle.definitions.specs.Outcome.{accepted};
@@ -32,12 +38,12 @@ ghost use Rattle.definitions.specs.Display.{displayTerm};
 ghost use Rattle.definitions.specs.Text.{firstList, secondList, heading};
 ghost use Rattle.definitions.specs.Answers.{inRoom, namedTerm, goalProp, sheetText};
 ghost use Rattle.output.specs.Wrote.{Wrote};
-ghost use Rattle.output.specs.Written.{Fills};
+ghost use Rattle.output.specs.Written.{writtenOf, Fills};
 ghost use Rattle.declarations.specs.Declared.{Declared};
 ghost use Rattle.sheet.specs.Header.{vocabularyOf};
 ghost use Rattle.sheet.proofs.Admitted.{AcceptedSheet};
 ghost use Rattle.sheet_term.specs.Held.{HeldTerm};
-ghost use Rattle.text.specs.Declaring.{termOf, Declares, Arranges, EndsKnown, Skipped};
+ghost use Rattle.text.specs.Declaring.{termOf, Declares, Arranges, EndsKnown, HeadingLength, TermLength};
 
 // One flag for each name and each count of parameters.
 const FLAGS: usize = Sheet::NAME_LIMIT * (Sheet::PARAMETER_LIMIT + 1);
@@ -47,6 +53,9 @@ const DECLARED_NUMBERS: usize = 2 * FLAGS;
 
 // A head for each slot, and a link for each declaration.
 const CHAIN_NUMBERS: usize = SLOT_COUNT + FLAGS;
+
+// The text of a sheet's term has fewer bytes: 2 to the 42nd.
+const TERM_TEXT_LIMIT: usize = 4398046511104;
 
 // Whose declarations come first in a version of the heading.
 fn first_list(version: Version) -> TermList
@@ -136,21 +145,41 @@ fn put_heading(
     first_count: usize,
     second: &[u16; DECLARED_NUMBERS],
     second_count: usize,
-    write: bool,
 ) -> usize
     requires { ⌜ AcceptedSheet (now s) h ⌝ }
     requires { ⌜ Declares (now s) h version (firstList version) (now first) «first_count» ⌝ }
     requires { ⌜ Declares (now s) h version (secondList version) (now second) «second_count» ⌝ }
     ensures { λ r. ⌜ ((t : ProofTerm Name) → namedTerm (now (s .entry)) ≡ accepted t →
-        Wrote (heading version t (goalProp (now (s .entry)))) write (now (out .entry)) 0 (now (out .exit)) r) ⌝ }
+        Wrote (heading version t (goalProp (now (s .entry)))) true (now (out .entry)) 0 (now (out .exit)) r) ⌝ }
 {
     let v = vocabulary(h);
     let upper = first_list(version);
-    let upper_end = put_declarations(out, 0, first, first_count, upper, s, v, write);
-    let line = put(out, upper_end, b'\n', write);
+    let upper_end = put_declarations(out, 0, first, first_count, upper, s, v, true);
+    let line = put(out, upper_end, b'\n', true);
     let lower = second_list(version);
-    let end = put_declarations(out, line, second, second_count, lower, s, v, write);
-    put_all(out, end, b"\n\n", write)
+    let end = put_declarations(out, line, second, second_count, lower, s, v, true);
+    put_all(out, end, b"\n\n", true)
+}
+
+// How long what stands before the term is: the order of the lines is no matter.
+fn heading_length(
+    s: &[u8],
+    h: Sheet,
+    version: Version,
+    first: &[u16; DECLARED_NUMBERS],
+    first_count: usize,
+    second: &[u16; DECLARED_NUMBERS],
+    second_count: usize,
+) -> usize
+    requires { ⌜ AcceptedSheet (now s) h ⌝ }
+    requires { ⌜ Declares (now s) h First (firstList version) (now first) «first_count» ⌝ }
+    requires { ⌜ Declares (now s) h First (secondList version) (now second) «second_count» ⌝ }
+    ensures { λ r. ⌜ HeadingLength (now (s .entry)) version r ⌝ }
+{
+    let v = vocabulary(h);
+    let upper = lines_length(first, first_count, first_list(version), s, v);
+    let lower = lines_length(second, second_count, second_list(version), s, v);
+    upper + lower + 3
 }
 
 // The term, from its records.
@@ -163,13 +192,12 @@ fn put_term(
     n: usize,
     style: Style,
     ends: &[u16; Sheet::CODE_LIMIT],
-    write: bool,
 ) -> usize
     requires { ⌜ AcceptedSheet (now s) h ⌝ }
     requires { ⌜ HeldTerm (now s) (now terms) n ⌝ }
     requires { ⌜ EndsKnown (now s) (now ends) ⌝ }
     ensures { λ r. ⌜ Wrote (displayTerm style (termOf (now (s .entry)) (now (terms .entry)) n))
-        write (now (out .entry)) to (now (out .exit)) r ⌝ }
+        true (now (out .entry)) to (now (out .exit)) r ⌝ }
 {
     print_term(
         out,
@@ -180,11 +208,11 @@ fn put_term(
         sheet::vocabulary(h),
         ends,
         style,
-        write,
+        true,
     )
 }
 
-// How long the term's text is, as far as a cap.
+// How long the term's text is.
 fn measure_term(
     s: &[u8],
     h: Sheet,
@@ -192,34 +220,49 @@ fn measure_term(
     n: usize,
     style: Style,
     ends: &[u16; Sheet::CODE_LIMIT],
-    cap: usize,
 ) -> usize
     requires { ⌜ AcceptedSheet (now s) h ⌝ }
     requires { ⌜ HeldTerm (now s) (now terms) n ⌝ }
     requires { ⌜ EndsKnown (now s) (now ends) ⌝ }
-    ensures { λ r. ⌜ r ≡ min (length (displayTerm style (termOf (now (s .entry)) (now (terms .entry)) n))) cap ⌝ }
+    ensures { λ r. ⌜ TermLength (displayTerm style (termOf (now (s .entry)) (now (terms .entry)) n)) r ⌝ }
 {
-    term_length(terms, n, s, sheet::vocabulary(h), ends, style, cap)
+    term_length(
+        terms,
+        n,
+        s,
+        sheet::vocabulary(h),
+        ends,
+        style,
+        TERM_TEXT_LIMIT,
+    )
 }
 
-// One past the room of a memory: as far as a text is measured.
-fn past_room(out: &[u8]) -> usize
-    ensures { λ r. ⌜ r ≡ length (now (out .entry)) + 1 ⌝ }
+// How long the text of a sheet's term in a version is.
+fn text_length(s: &[u8], h: Sheet, terms: &[u16], n: usize, version: Version, style: Style) -> usize
+    requires { ⌜ AcceptedSheet (now s) h ⌝ }
+    requires { ⌜ HeldTerm (now s) (now terms) n ⌝ }
+    ensures { λ r. ⌜ ((a : List ℕ) → sheetText (now (s .entry)) version style ≡ accepted a → r ≡ length a) ⌝ }
 {
-    out.len() + 1
+    let mut ends = [0u16; Sheet::CODE_LIMIT];
+    fill_sheet_ends(s, h, &mut ends);
+    let term = measure_term(s, h, terms, n, style, &ends);
+    let mut first = [0u16; DECLARED_NUMBERS];
+    let mut second = [0u16; DECLARED_NUMBERS];
+    let first_count = declare(s, h, terms, n, first_list(version), &mut first);
+    let second_count = declare(s, h, terms, n, second_list(version), &mut second);
+    heading_length(s, h, version, &first, first_count, &second, second_count) + term
 }
 
-// The position so many bytes past another, as far as a cap.
-fn skip(to: usize, count: usize, cap: usize) -> usize
-    ensures { λ r. ⌜ Skipped cap to count r ⌝ }
+// How long the text of a sheet is in a version and a style, or the refusal of the sheet's term, for every sequence of bytes.
+pub fn sheet_text_length(s: &[u8], version: Version, style: Style) -> Written
+    ensures { λ r. ⌜ r ≡ writtenOf (sheetText (now (s .entry)) version style) ⌝ }
 {
-    if cap <= to {
-        return to;
+    let mut terms = [0u16; TERM_NUMBERS];
+    let found = sheet_term(s, &mut terms);
+    match found {
+        SheetTerm::Refused(refusal) => Written::Refused(refusal),
+        SheetTerm::Held(h, n) => { Written::Length(text_length(s, h, &terms, n, version, style)) }
     }
-    if cap - to <= count {
-        return cap;
-    }
-    to + count
 }
 
 // The text of a sheet's term in a version, in lent memory: measured, and then written where it fits. A term that is too long for the
@@ -240,16 +283,19 @@ pub fn text(
 {
     let mut ends = [0u16; Sheet::CODE_LIMIT];
     fill_sheet_ends(s, h, &mut ends);
-    let cap = past_room(out);
-    let length = measure_term(s, h, terms, n, style, &ends, cap);
-    if cap <= length {
+    let term = measure_term(s, h, terms, n, style, &ends);
+    if out.len() < term {
         return Written::Refused(Refusal::at(16, 0));
     }
     let mut first = [0u16; DECLARED_NUMBERS];
     let mut second = [0u16; DECLARED_NUMBERS];
     let first_count = declare(s, h, terms, n, first_list(version), &mut first);
-    arrange(s, h, version, &mut first, first_count);
     let second_count = declare(s, h, terms, n, second_list(version), &mut second);
+    let end = heading_length(s, h, version, &first, first_count, &second, second_count) + term;
+    if out.len() < end {
+        return Written::Refused(Refusal::at(16, 0));
+    }
+    arrange(s, h, version, &mut first, first_count);
     arrange(s, h, version, &mut second, second_count);
     let start = put_heading(
         out,
@@ -260,23 +306,7 @@ pub fn text(
         first_count,
         &second,
         second_count,
-        false,
     );
-    let end = skip(start, length, cap);
-    if out.len() < end {
-        return Written::Refused(Refusal::at(16, 0));
-    }
-    let start = put_heading(
-        out,
-        s,
-        h,
-        version,
-        &first,
-        first_count,
-        &second,
-        second_count,
-        true,
-    );
-    put_term(out, start, s, h, terms, n, style, &ends, true);
+    put_term(out, start, s, h, terms, n, style, &ends);
     Written::Length(end)
 }

@@ -5,6 +5,7 @@ pub mod exercises;
 pub mod grafts;
 pub mod judgements;
 pub mod kinds;
+pub mod lengths;
 pub mod names;
 pub mod questions;
 pub mod readings;

@@ -1,5 +1,5 @@
 //! The command line: `run` beside this folder builds the library and starts it.
-use against_rust::{call::Library, exercises, grafts, kinds, names, restatements, tally::Table};
+use against_rust::{call::Library, exercises, grafts, kinds, lengths, names, restatements, tally::Table};
 use oracle::{exercise::Exercises, generate::Kind};
 use std::{fmt, process::exit, str::FromStr, thread, time::Instant};
 
@@ -74,6 +74,31 @@ extern "C" {
         value: *mut usize,
         column: *mut usize,
     ) -> u8;
+    fn skriduhol_plain_text_length(sheet: *const u8, length: usize, value: *mut usize, column: *mut usize) -> u8;
+    fn skriduhol_strict_text_length(sheet: *const u8, length: usize, value: *mut usize, column: *mut usize) -> u8;
+    fn skriduhol_atom_list_length(sheet: *const u8, length: usize, value: *mut usize, column: *mut usize) -> u8;
+    fn skriduhol_datatype_list_length(sheet: *const u8, length: usize, value: *mut usize, column: *mut usize) -> u8;
+    fn skriduhol_handout_plain_length(
+        sheet: *const u8,
+        length: usize,
+        version: usize,
+        value: *mut usize,
+        column: *mut usize,
+    ) -> u8;
+    fn skriduhol_handout_strict_length(
+        sheet: *const u8,
+        length: usize,
+        version: usize,
+        value: *mut usize,
+        column: *mut usize,
+    ) -> u8;
+    fn skriduhol_handout_datatypes_length(
+        sheet: *const u8,
+        length: usize,
+        version: usize,
+        value: *mut usize,
+        column: *mut usize,
+    ) -> u8;
     fn skriduhol_exercise(
         names: *const u8,
         names_length: usize,
@@ -128,6 +153,16 @@ extern "C" {
 const GRAFTING: grafts::Library = grafts::Library { graft: skriduhol_graft, asked: Some(LIBRARY) };
 
 const RESTATING: restatements::Library = restatements::Library { restate: skriduhol_restate, asked: Some(LIBRARY) };
+
+const LENGTHS: lengths::Library = lengths::Library {
+    plain_text: skriduhol_plain_text_length,
+    strict_text: skriduhol_strict_text_length,
+    atom_list: skriduhol_atom_list_length,
+    datatype_list: skriduhol_datatype_list_length,
+    handout_plain: skriduhol_handout_plain_length,
+    handout_strict: skriduhol_handout_strict_length,
+    handout_datatypes: skriduhol_handout_datatypes_length,
+};
 
 const NAMES: names::Library = names::Library { name_index: skriduhol_name_index, find_name: skriduhol_find_name };
 
@@ -221,6 +256,7 @@ fn main() {
     }
     if only.is_none() {
         report("an ", || exercises::compare(&LIBRARY, &Exercises::default(), seed));
+        report("", || lengths::compare(&LENGTHS, &lengths::KINDS, seed, count));
         report("", || names::compare(&NAMES, seed, count));
         #[cfg(feature = "read_term")]
         report("", || against_rust::readings::compare(&against_rust::terms::reading::LIBRARY, seed, count, 5));

@@ -1,6 +1,9 @@
 //! Reads a sheet from a file and prints the handout of a version, 1 if none is given, with the label count and the lists, or the
-//! refusal.
-use skriduhol::{atom_list, handout, handout_datatypes, label_count, Refusal, Style, BOARD_ROOM};
+//! refusal. How long the text and each list are is asked for first.
+use skriduhol::{
+    atom_list, atom_list_length, handout, handout_datatypes, handout_datatypes_length,
+    handout_length, label_count, Refusal, Style,
+};
 use std::process::ExitCode;
 
 fn main() -> ExitCode {
@@ -33,26 +36,21 @@ fn usage() -> ExitCode {
 }
 
 fn print_sheet(sheet: &[u8], version: usize) -> Result<(), Refusal> {
-    let mut text = vec![0; BOARD_ROOM];
-    let length = handout(sheet, version, Style::Plain, &mut text)?;
-    println!("{}", String::from_utf8_lossy(&text[..length]));
+    let mut text = vec![0; handout_length(sheet, version, Style::Plain)?];
+    handout(sheet, version, Style::Plain, &mut text)?;
+    println!("{}", String::from_utf8_lossy(&text));
     println!("labels: {}", label_count(sheet)?);
-    print_list("atoms", |out| atom_list(sheet, out))?;
-    print_list("datatypes", |out| handout_datatypes(sheet, version, out))?;
+    let mut atoms = vec![0; atom_list_length(sheet)?];
+    atom_list(sheet, &mut atoms)?;
+    print_list("atoms", &atoms);
+    let mut datatypes = vec![0; handout_datatypes_length(sheet, version)?];
+    handout_datatypes(sheet, version, &mut datatypes)?;
+    print_list("datatypes", &datatypes);
     Ok(())
 }
 
 /// The numbers of a list on one line.
-fn print_list(
-    word: &str,
-    list: impl FnOnce(&mut [u16]) -> Result<usize, Refusal>,
-) -> Result<(), Refusal> {
-    let mut out = vec![0; BOARD_ROOM];
-    let length = list(&mut out)?;
-    let numbers: String = out[..length]
-        .iter()
-        .map(|number| format!(" {number}"))
-        .collect();
+fn print_list(word: &str, list: &[u16]) {
+    let numbers: String = list.iter().map(|number| format!(" {number}")).collect();
     println!("{word}:{numbers}");
-    Ok(())
 }

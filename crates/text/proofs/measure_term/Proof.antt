@@ -1,11 +1,13 @@
--- The sheet's vocabulary and the table of ends are what the term's measuring asks for.
+-- The sheet's vocabulary and the table of ends are what the term's measuring asks for; the text is shorter than the cap.
 use Prim.Native.Nat.{min}
-use mathlib.Core.Path.{_≡_, ap, _∙_}
+use mathlib.Core.Path.{ap, _∙_}
+use native.Mathlib.Omega.{arith}
 use lib.ListN.{length}
 use denote.Ref.{now}
+use Rattle.definitions.proofs.PrefixCode.{Bytes}
 use Rattle.sheet.proofs.Admitted.{its-header}
 use Rattle.text.proofs.Ends.{measurable, term-shown}
-use borrow.Author.Needs.{needs}
+use Rattle.text.proofs.Longest.{term-short}
 use Rattle.text.proofs.measure_term.Statement.{statement}
 use Rattle.text.proofs.measure_term.Tie as tie
 
@@ -25,8 +27,12 @@ returns : tie.Need-returns
 returns c =
     let here = c .before .before in
     let s = start here in
-    let shown = term-shown (s .pre .0) (here .vocabulary .ensures) (s .args .style) (now (s .args .terms)) (s .args .n) in
-    c .term-length .ensures ∙ ap (λ t. min (length t) (s .args .cap)) shown
+    let (sheet, (term, ends)) = s .pre in
+    let shown = term-shown sheet (here .vocabulary .ensures) (s .args .style) (now (s .args .terms)) (s .args .n) in
+    let is = c .term-length .ensures ∙ ap (λ t. min (length t) 4398046511104) shown in
+    let bytes : Bytes (now (s .args .s)) = λ i. omega (arith, here .before .before .shared-slice-known .given i) in
+    let short = term-short sheet term ends bytes (s .args .style) in
+    record { is = omega (arith, is, short); small = omega (arith, is, short) }
 
 pub measure-term-spec : {M : Type 1} → statement M
 measure-term-spec = tie.close (tie.spec vocabulary-requires term-length-requires returns)

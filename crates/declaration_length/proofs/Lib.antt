@@ -1,0 +1,3 @@
+-- The laws of the lengths of declarations.
+pub mod Lines
+pub mod Sorted

@@ -1,0 +1,2 @@
+-- What the functions over the lengths of declarations say.
+pub mod Lengths

@@ -1,0 +1,2 @@
+-- The laws of the numbers of a list.
+pub mod Numbers

@@ -1,0 +1,2 @@
+-- What the functions that count the entries of a list say.
+pub mod Counts

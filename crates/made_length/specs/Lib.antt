@@ -1,0 +1,2 @@
+-- What is made, given room.
+pub mod Whole
