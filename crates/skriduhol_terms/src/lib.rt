@@ -5,7 +5,7 @@ use located::locate;
 use term_reader::TermRead;
 use term_reader::TermSize;
 ghost use Rattle.skriduhol_terms.specs.Judged.{JudgesOf};
-ghost use Rattle.skriduhol_terms.specs.Reading.{ReadsOf, RestoresOf};
+ghost use Rattle.skriduhol_terms.specs.Reading.{ReadsOf, RestoresOf, MeansTerm};
 
 // The rules derive the judgement, or they stop at a node of the term; or a refusal with its column.
 pub enum Judged {
@@ -47,6 +47,8 @@ pub fn read_term(
         (now (records .exit)) (now (names .exit)) (now (code .exit)) r ⌝ }
     ensures { λ r. ⌜ RestoresOf (now (types .entry)) (now (text .entry))
         (now (records .entry)) (now (names .entry)) (now (code .entry))
+        (now (records .exit)) (now (names .exit)) (now (code .exit)) r ⌝ }
+    ensures { λ r. ⌜ MeansTerm (now (types .entry)) (now (text .entry))
         (now (records .exit)) (now (names .exit)) (now (code .exit)) r ⌝ }
 {
     let read = term_reader::read_term(text, types, records, names, code);
