@@ -2,7 +2,7 @@
 
 import functools
 
-from model import Refused, Trouble, admitted
+from model import admitted, sheet_of
 
 SLOTS = 1024
 
@@ -21,9 +21,11 @@ def slots_of(names):
             slots[at] = number
     return slots
 
-def index_text(data):
-    try:
-        names = admitted(data).names.entries
-    except Refused as refused:
-        raise Trouble(" ".join([f"{refused.said(data)}."] + refused.sentences)) from None
-    return "".join(f"{slot} {number} {names[number].decode()}\n" for slot, number in sorted(slots_of(names).items()))
+def indexed(data):
+    """The number in each taken slot of a sheet's index; or 1 to 11."""
+    return slots_of(admitted(data).names.entries)
+
+def listing(data, slots):
+    """A line for each taken slot."""
+    names = sheet_of(data).names.entries
+    return "".join(f"{slot} {number} {names[number].decode()}\n" for slot, number in sorted(slots.items()))

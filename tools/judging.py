@@ -1,11 +1,8 @@
 """What the checker of document 02, ticket 5 says of a term, in a teacher's words: yes, or the node at which the rules of document
-01 stop and why.
-
-Each function takes the model of document 01 first: the module of tools/sheet. Propositions are held by their lowest names.
+01 stop and why. Propositions are held by their lowest names.
 """
 
-import re
-
+import model
 import terms
 
 NUMBERS, UNCHECKABLE = 31, 22
@@ -17,11 +14,11 @@ class Stopped(Exception):
 class Checker:
     """Checking and inferring, which call each other; nodes are counted as they are entered."""
 
-    def __init__(self, model, sheet, scope):
-        self.model, self.sheet, self.scope, self.entered = model, sheet, list(scope), 0
+    def __init__(self, sheet, scope):
+        self.sheet, self.scope, self.entered = sheet, list(scope), 0
 
     def text(self, prop):
-        return self.model.short(self.model.prop_text(self.sheet, prop))
+        return model.short(model.prop_text(self.sheet, prop))
 
     def enter(self):
         self.entered += 1
@@ -45,7 +42,7 @@ class Checker:
             prop = self.infer(part)
             return prop if prop.head == head else stop(f"{what}, and {self.text(prop)} is none.")
 
-        model, names, parts = self.model, term.names, term.parts
+        names, parts = term.names, term.parts
         if term.form == "name":
             found = [prop for name, prop in reversed(self.scope) if name == names[0]]
             return found[0] if found else stop(f"No hypothesis {names[0]} is in scope here.")
@@ -74,7 +71,7 @@ class Checker:
 
     def check(self, term, prop):
         """A form with a checked rule of its own by that alone, any other is inferred whole and then compared."""
-        node, model, names, parts = self.enter(), self.model, term.names, term.parts
+        node, names, parts = self.enter(), term.names, term.parts
         heads = {"fn": model.IMPLIES, "pair": model.AND, "inl": model.OR, "inr": model.OR}
         if heads.get(term.form, prop.head) != prop.head:
             raise Stopped(node, term, f"It is for {CONNECTIVES[term.form]}, and asked for is {self.text(prop)}.")
@@ -116,7 +113,7 @@ def out_of_range(sheet, hypotheses, number):
     if number >= counts[1]:
         yield f"Proposition {number} is not the sheet's."
 
-def uncheckable(model, sheet, term, scope, prop):
+def uncheckable(sheet, term, scope, prop):
     """What 22 says, a sentence each."""
     for node, part in enumerate(terms.nodes(term)):
         if part.form == "let":
@@ -124,71 +121,54 @@ def uncheckable(model, sheet, term, scope, prop):
         elif isinstance(part.label, str):
             yield f"Node {node} has the datatype {part.label} for a label."
         elif part.label and has_quantifier(part.label):
-            yield f"The label of node {node} has a quantifier or a parameter without an id: {short(model, sheet, part.label)}."
+            yield f"The label of node {node} has a quantifier or a parameter without an id: {short(sheet, part.label)}."
     for name, given in scope:
         if has_quantifier(given):
-            yield f"The hypothesis {name} has a quantifier or a parameter without an id: {short(model, sheet, given)}."
+            yield f"The hypothesis {name} has a quantifier or a parameter without an id: {short(sheet, given)}."
     if has_quantifier(prop):
-        yield f"The proposition has a quantifier or a parameter without an id: {short(model, sheet, prop)}."
+        yield f"The proposition has a quantifier or a parameter without an id: {short(sheet, prop)}."
 
-def short(model, sheet, prop):
+def short(sheet, prop):
     return model.short(model.prop_text(sheet, prop))
 
-def judged(model, data, hypotheses, number, read=None):
-    """None for yes, or the Stopped of a no; a refusal is raised. A term to read is its datatypes and its bytes."""
+def judged(data, hypotheses, number, read=None):
+    """None for yes, or the Stopped of a no, with the sheet, the term and the proposition; a refusal is raised. A term to read is its datatypes and its bytes."""
     sheet = model.admitted(data)
     counts = list(hypotheses)
     wrong = list(out_of_range(sheet, counts, number))
     props = [model.by_lowest_names(sheet, model.decode(sheet, code)) for code in sheet.propositions.entries]
-    names = [terms.word(model, sheet, name) for name in range(len(sheet.names.entries))]
+    names = [terms.word(sheet, name) for name in range(len(sheet.names.entries))]
     if read:
-        term = terms.read(model, sheet, *read)
+        term = terms.read(sheet, *read)
     else:
         model.walk(sheet, len(sheet.steps) - 1)
-        term = terms.exported(model, sheet)
+        term = terms.exported(sheet)
     model.refuse_for(wrong, NUMBERS, 0)
     scope = [(names[name], props[prop]) for name, prop in zip(counts[::2], counts[1::2])]
-    model.refuse_for(list(uncheckable(model, sheet, term, scope, props[number])), UNCHECKABLE, 0)
-    return verdict(model, sheet, term, scope, props[number]), sheet, term, props[number]
+    model.refuse_for(list(uncheckable(sheet, term, scope, props[number])), UNCHECKABLE, 0)
+    return verdict(sheet, term, scope, props[number]), sheet, term, props[number]
 
-def verdict(model, sheet, term, scope, prop):
+def verdict(sheet, term, scope, prop):
     try:
-        Checker(model, sheet, scope).check(term, prop)
+        Checker(sheet, scope).check(term, prop)
     except Stopped as stopped:
         return stopped
     return None
 
-def sentence(model, sheet, term, prop, stopped):
+def sentence(stopped, sheet, term, prop):
     """What the checker says of a term."""
     if stopped is None:
-        return f"The checker takes {model.short(terms.text(model, sheet, term))} for {short(model, sheet, prop)}."
+        return f"The checker takes {model.short(terms.text(sheet, term))} for {short(sheet, prop)}."
     node, part, why = stopped.args
-    return f"The checker stops at node {node}, {model.short(terms.text(model, sheet, part))}: {why}"
+    return f"The checker stops at node {node}, {model.short(terms.text(sheet, part))}: {why}"
 
-def of_root(model, data):
+def of_root(data):
     """What the checker says of a sheet's own term and its last step's proposition, from no hypotheses; nothing where the sheet or
     the judgement is refused, or where the last step concludes no proposition."""
     try:
         root = model.admitted(data).steps[-1]
         if root.kind != 0:
             return []
-        stopped, sheet, term, prop = judged(model, data, [], root.first)
+        return [sentence(*judged(data, [], root.first))]
     except model.Refused:
         return []
-    return [sentence(model, sheet, term, prop, stopped)]
-
-def judge_file(model, file, words):
-    """The answer and whether it is yes, from a proposition's number, hypotheses and perhaps a term's text and its datatypes."""
-    at = words.index("--text") if "--text" in words else len(words)
-    numbers, read = words[:at], words[at + 1:]
-    if not numbers or not all(re.fullmatch(r"\d{1,20}", word, re.ASCII) for word in numbers) or words[at:] == ["--text"]:
-        raise model.Trouble("expected a proposition's number, then a name's and a proposition's for each hypothesis, then perhaps "
-                            "--text, a term and its datatypes")
-    number, *hypotheses = map(int, numbers)
-    beside = (read[1:], read[0].encode("utf-8", "surrogateescape")) if read else None
-    data = model.contents(file)
-    try:
-        stopped, sheet, term, prop = judged(model, data, hypotheses, number, beside)
-    except model.Refused as refused:
-        raise model.Trouble(" ".join([f"{refused.said(data)}."] + refused.sentences)) from None
-    return stopped is None, sentence(model, sheet, term, prop, stopped) + "\n"

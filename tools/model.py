@@ -435,6 +435,10 @@ class Refused(Exception):
         place = "0" if where == "0" else f"{where} {self.place}"
         return f"refused {self.number} at {place}{column_text(self.column(data))}: {reason}"
 
+    def in_a_line(self, data):
+        """What it says with its sentences, and whose it is."""
+        return " ".join([(f"{self.whose} is " if self.whose else "") + f"{self.said(data)}."] + self.sentences)
+
 def refuse_for(sentences, number, place):
     if sentences:
         raise Refused(number, place, sentences)

@@ -40,7 +40,7 @@ bytes of its own and points at those.
 import re
 import struct
 
-from model import (AND, ATOM, EXISTS, FALSE, FORALL, IMPLIES, LARGEST, OR, Part, RULE_NUMBERS, STRENGTHS, Sheet, Step, TRUE,
+from model import (AND, ATOM, EXISTS, FALSE, FORALL, HEADER, IMPLIES, LARGEST, OR, Part, RULE_NUMBERS, STRENGTHS, Sheet, Step, TRUE,
                    Trouble, WORD, code_text, column_text, conclusion_text, counted, cut, given_text, row, rule_text, sheet_of,
                    short, word_of)
 
@@ -307,3 +307,14 @@ def write(text):
     if sheet.goal is None:
         raise Trouble("there is no goal line")
     return sheet.to_bytes()
+
+def bytes_of(data):
+    """The sheet of a description, or the sheet itself.
+
+    A header in its ranges has a byte below 9, as the upper one of the number of names, and a description has none.
+    """
+    try:
+        described = data and min(data[:HEADER.size]) >= 9 and data.decode()
+    except UnicodeDecodeError:
+        return data
+    return write(described) if described else data

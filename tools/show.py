@@ -1,31 +1,18 @@
-"""What `tools/sheet show` draws: the steps of a sheet with their places, labels and refusal.
-
-Each function takes the model of document 01 first: the module of tools/sheet.
-"""
+"""What `tools/sheet show` draws: the steps of a sheet with their places, labels and refusal."""
 
 import re
 import shutil
 import sys
 
 import deduction
+import model
 
 PAGE = 100  # cells across, where no terminal says another number
 NARROWEST = 20
 SHARE = 0.4  # a proposition that takes more of the width than this is called by its number and stands below
 INFERRING = "⇒"
 
-def bytes_of(model, data):
-    """The sheet of a description, or the sheet itself.
-
-    A header in its ranges has a byte below 9, as the upper one of the number of names, and a description has none.
-    """
-    try:
-        described = data and min(data[:model.HEADER.size]) >= 9 and data.decode()
-    except UnicodeDecodeError:
-        return data
-    return model.write(described) if described else data
-
-def places(model, sheet):
+def places(sheet):
     """The place of each step that is read, from the root down: checking or inferring, by step."""
     found, waiting = {}, [(len(sheet.steps) - 1, model.CHECKING)]
     while waiting:
@@ -36,7 +23,7 @@ def places(model, sheet):
                     for premiss, asked in zip(sheet.trees[0][number], rule.places)]
     return found
 
-def label(model, sheet, step):
+def label(sheet, step):
     """The label that a step takes in an inferring place, None where it takes none."""
     ending, code = model.row(step.rule).ending, model.concluded(sheet, step)
     if not ending or not code or code[0] not in ending.heads:
@@ -52,13 +39,13 @@ def cut(text, length):
 class Drawing:
     """The steps of a sheet as they are drawn, and the notes below them."""
 
-    def __init__(self, model, data, marked, numbered, width):
-        self.model, self.sheet, self.width = model, model.sheet_of(data), width
+    def __init__(self, data, marked, numbered, width):
+        self.sheet, self.width = model.sheet_of(data), width
         self.marked, self.numbered, self.long, self.cut = marked, numbered, {}, {}
         self.refused, self.places = None, {}
         try:
             model.admitted(data)
-            self.places = places(model, self.sheet)
+            self.places = places(self.sheet)
             model.walk(self.sheet, len(self.sheet.steps) - 1)
         except model.Refused as refused:
             self.refused = refused
@@ -74,10 +61,10 @@ class Drawing:
 
     def conclusion(self, number):
         step = self.sheet.steps[number]
-        text = self.model.code_text(self.sheet, self.model.concluded(self.sheet, step) or b"")
+        text = model.code_text(self.sheet, model.concluded(self.sheet, step) or b"")
         if text:
             return self.called(step.first, text)
-        judgement = self.model.conclusion_text(self.sheet, step)
+        judgement = model.conclusion_text(self.sheet, step)
         if len(judgement) > SHARE * self.width:
             self.cut.setdefault(number, []).append(f"concludes {judgement}")
         return cut(judgement, int(SHARE * self.width))
@@ -90,9 +77,9 @@ class Drawing:
     def beside(self, number, room):
         """The rule with its identifiers, the mark of an inferring place, and the label or the refusal. What does not fit the
         room is cut, and stands whole below."""
-        model, step, marks = self.model, self.sheet.steps[number], []
+        step, marks = self.sheet.steps[number], []
         inferring = self.places.get(number) == model.INFERRING
-        own = label(model, self.sheet, step) if inferring else None
+        own = label(self.sheet, step) if inferring else None
         if inferring and self.marked:
             marks.append(("place", INFERRING))
         if self.refused and model.REFUSALS[self.refused.number].where == "step" and self.refused.place == number:
@@ -111,12 +98,12 @@ class Drawing:
 
     def reaches_goal(self):
         """Whether the last step of an admitted sheet concludes the goal."""
-        codes = self.sheet.propositions.entries[self.sheet.goal], self.model.concluded(self.sheet, self.sheet.steps[-1])
-        goal, root = (code and self.model.by_lowest_names(self.sheet, self.model.decode(self.sheet, code)) for code in codes)
+        codes = self.sheet.propositions.entries[self.sheet.goal], model.concluded(self.sheet, self.sheet.steps[-1])
+        goal, root = (code and model.by_lowest_names(self.sheet, model.decode(self.sheet, code)) for code in codes)
         return goal == root
 
     def notes_of(self, data):
-        model, sheet = self.model, self.sheet
+        sheet = self.sheet
         if self.marked:
             yield "note", (f"{INFERRING} stands at each step in an inferring place." if self.places else
                            "The sheet is refused before any place is looked at.")
@@ -130,18 +117,18 @@ class Drawing:
         if self.refused:
             yield "refused", model.explained(self.refused, data).rstrip("\n")
 
-def items_of(model, data, marked, numbered, width):
+def items_of(data, marked, numbered, width):
     """What is drawn of a sheet, and its title. Of one whose header does not fit its bytes there are only the words."""
     try:
         for number in (1, 2, 3):
             model.refuse_for(model.REFUSALS[number].explain(data, 0), number, 0)
     except model.Refused as refused:
         return deduction.drawing([], [], [("refused", model.explained(refused, data).rstrip("\n"))], width), "No drawing"
-    drawn = Drawing(model, data, marked, numbered, width)
+    drawn = Drawing(data, marked, numbered, width)
     title = f"A deduction of {drawn.steps[-1].conclusion}"
     return deduction.drawing(drawn.steps, drawn.sheet.trees[1], drawn.notes, width), title
 
-def options(model, words):
+def options(words):
     """The file, and which options are given; the width, where that is one of them."""
     files, given, waiting = [], {}, list(words)
     while waiting:
@@ -156,11 +143,9 @@ def options(model, words):
         raise model.Trouble("expected a file, and of --svg, --places, --steps and --width N what is wanted")
     return files[0], given
 
-def shown(model, words):
-    """The output of `show`, from its file and its options."""
-    file, given = options(model, words)
+def shown(data, given):
+    """The output of `show`, from a sheet and the options."""
     terminal = not given.get("--svg") and sys.stdout and sys.stdout.isatty()
     width = shutil.get_terminal_size((PAGE, 0)).columns if terminal else PAGE
-    items, title = items_of(model, bytes_of(model, model.contents(file)), given.get("--places"), given.get("--steps"),
-                            max(given.get("--width", width), NARROWEST))
+    items, title = items_of(data, given.get("--places"), given.get("--steps"), max(given.get("--width", width), NARROWEST))
     return deduction.svg(items, title) if given.get("--svg") else deduction.text(items)

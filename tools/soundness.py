@@ -1,11 +1,12 @@
 """What `tools/sheet check` says: whether a drawing is sound by document 01's "Sound steps", and if not, which step breaks
 which rule and why, in a teacher's words.
 
-Each function takes the model of document 01 first: the module of tools/sheet. Propositions are held by their lowest names,
-so that the same ones are those that document 01 calls equal.
+Propositions are held by their lowest names, so that the same ones are those that document 01 calls equal.
 """
 
 from collections import namedtuple
+
+import model
 
 QUANTIFIED = ("ForAllIntro", "ForAllElim", "ExistsIntro", "ExistsElim")
 COUNTS = ("no premiss", "one premiss", "two premisses", "three premisses")
@@ -16,8 +17,8 @@ Hypothesis = namedtuple("Hypothesis", "name id step prop")
 class Judge:
     """The faults of a sheet that is accepted by 1 to 11 and has no quantifiers: step and sentence of each."""
 
-    def __init__(self, model, sheet):
-        self.model, self.sheet, self.faults = model, sheet, []
+    def __init__(self, sheet):
+        self.sheet, self.faults = sheet, []
         self.props = [model.by_lowest_names(sheet, model.decode(sheet, code)) for code in sheet.propositions.entries]
         waiting = [(len(sheet.steps) - 1, ())]
         while waiting:
@@ -26,7 +27,7 @@ class Judge:
             self.faults += [(number, sentence) for sentence in self.broken(number, scope) if sentence]
 
     def text(self, prop):
-        return self.model.short(self.model.prop_text(self.sheet, prop))
+        return model.short(model.prop_text(self.sheet, prop))
 
     def concluded(self, number):
         return self.props[self.sheet.steps[number].first]
@@ -38,7 +39,7 @@ class Judge:
 
     def added(self, number):
         """What a step adds over each of its premisses: None, or the index of an identifier and its proposition, if it has one."""
-        model, step, premisses = self.model, self.sheet.steps[number], self.sheet.trees[0][number]
+        step, premisses = self.sheet.steps[number], self.sheet.trees[0][number]
         if model.row(step.rule).name == "ImplIntro":
             own = self.concluded(number)
             return [(0, own.parts[0] if own.head == model.IMPLIES else None)] * len(premisses)
@@ -58,7 +59,7 @@ class Judge:
 
     def broken(self, number, scope):
         """Sentences on what is wrong with a step, or None in their place."""
-        model, step, premisses = self.model, self.sheet.steps[number], self.sheet.trees[0][number]
+        step, premisses = self.sheet.steps[number], self.sheet.trees[0][number]
         rule = model.row(step.rule)
         if len(premisses) != len(rule.places):
             yield f"{rule.name} stands over {COUNTS[len(rule.places)]}, and here are {len(premisses)}."
@@ -71,7 +72,7 @@ class Judge:
         """The sentence on a hypothesis whose name one in scope has already."""
         for hypothesis in scope:
             if hypothesis.name == self.sheet.names.entries[name]:
-                return (f"It adds a hypothesis {self.model.name_text(self.sheet, name)}, and step {hypothesis.step} has added one "
+                return (f"It adds a hypothesis {model.name_text(self.sheet, name)}, and step {hypothesis.step} has added one "
                         "of that name, which is in scope here: take another name.")
         return None
 
@@ -87,10 +88,10 @@ class Judge:
     # The rules without quantifiers, each by its name: a sentence on what is wrong, or None.
 
     def AndIntro(self, _, own, left, right, scope):
-        return self.unlike((left, right), self.model.Prop(self.model.AND, [], [], [left, right]), own)
+        return self.unlike((left, right), model.Prop(model.AND, [], [], [left, right]), own)
 
     def AndElimFst(self, _, own, premiss, scope, side=0):
-        if premiss.head != self.model.AND:
+        if premiss.head != model.AND:
             return self.no_form("Its premiss", premiss, "a conjunction")
         return self.unlike((premiss,), premiss.parts[side], own)
 
@@ -98,18 +99,18 @@ class Judge:
         return self.AndElimFst(number, own, premiss, scope, side=1)
 
     def TrueIntro(self, _, own, scope):
-        return None if own.head == self.model.TRUE else f"It gives ⊤, not {self.text(own)}."
+        return None if own.head == model.TRUE else f"It gives ⊤, not {self.text(own)}."
 
     def ImplIntro(self, number, own, premiss, scope):
-        if own.head != self.model.IMPLIES:
+        if own.head != model.IMPLIES:
             return self.no_form("What it concludes", own, "an implication")
         if own.parts[1] == premiss:
             return None
         return f"The right side of {self.text(own)} is {self.text(own.parts[1])}, and its premiss concludes {self.text(premiss)}."
 
     def ImplElim(self, _, own, first, second, scope):
-        if first.head != self.model.IMPLIES:
-            turned = second.head == self.model.IMPLIES and second.parts[0] == first
+        if first.head != model.IMPLIES:
+            turned = second.head == model.IMPLIES and second.parts[0] == first
             return self.no_form("Its first premiss", first, "an implication") + \
                 (" The second one is it: the two stand the wrong way round." if turned else "")
         if first.parts[0] != second:
@@ -118,7 +119,7 @@ class Judge:
 
     def Ident(self, number, own, scope):
         name, id = self.identifier(number, 0)
-        word = self.model.name_text(self.sheet, name)
+        word = model.name_text(self.sheet, name)
         named = [hypothesis for hypothesis in scope if hypothesis.name == self.sheet.names.entries[name]]
         same = [hypothesis for hypothesis in named if hypothesis.id == id]
         if not named:
@@ -130,7 +131,7 @@ class Judge:
         return f"The hypothesis {word} is {self.text(same[0].prop)} here, by step {same[0].step}, not {self.text(own)}."
 
     def OrIntroFst(self, _, own, premiss, scope, side=0):
-        if own.head != self.model.OR:
+        if own.head != model.OR:
             return self.no_form("What it concludes", own, "a disjunction")
         if own.parts[side] == premiss:
             return None
@@ -142,7 +143,7 @@ class Judge:
         return self.OrIntroFst(number, own, premiss, scope, side=1)
 
     def OrElim(self, _, own, first, second, third, scope):
-        if first.head != self.model.OR:
+        if first.head != model.OR:
             return self.no_form("Its first premiss", first, "a disjunction")
         for word, case in (("second", second), ("third", third)):
             if case != own:
@@ -151,7 +152,7 @@ class Judge:
         return None
 
     def FalsumElim(self, _, own, premiss, scope):
-        return None if premiss.head == self.model.FALSE else f"Its premiss has to conclude ⊥, not {self.text(premiss)}."
+        return None if premiss.head == model.FALSE else f"Its premiss has to conclude ⊥, not {self.text(premiss)}."
 
     def Sorry(self, _, own, scope):
         return None
@@ -161,7 +162,7 @@ class Judge:
             return None
         return f"Its premiss concludes {self.text(premiss)}, and without quantifiers only that is equivalent to it."
 
-def outside(model, sheet):
+def outside(sheet):
     """What of a sheet lies outside document 01's "Sound, without quantifiers", a sentence each."""
     for number, step in enumerate(sheet.steps):
         if model.row(step.rule).name in QUANTIFIED:
@@ -178,16 +179,16 @@ def outside(model, sheet):
 def has(prop, test):
     return test(prop) or any(has(part, test) for part in prop.parts)
 
-def judged(model, data):
+def judged(data):
     """Whether the sheet is sound, and the sentences on it."""
     try:
         sheet = model.admitted(data)
     except model.Refused as refused:
         return False, ["Not sound: the sheet is refused.", *model.explained(refused, data).rstrip("\n").split("\n")]
-    beyond = list(outside(model, sheet))
+    beyond = list(outside(sheet))
     if beyond:
         return False, ["Not judged: document 01 says what is sound for drawings without quantifiers.", *beyond]
-    judge = Judge(model, sheet)
+    judge = Judge(sheet)
     root = judge.concluded(len(sheet.steps) - 1)
     if not judge.faults:
         sentences = [f"Sound: a deduction of {judge.text(root)} from no hypotheses."]

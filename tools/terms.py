@@ -1,11 +1,12 @@
 """Terms: a sheet's own by document 01, and one that is read from its strict text by document 02, ticket 2.
 
-Each function takes the model of document 01 first: the module of tools/sheet. The propositions of a term are those of a sheet,
-by their lowest names; a text brings names of its own, which are added to a sheet's.
+The propositions of a term are those of a sheet, by their lowest names; a text brings names of its own, which are added to a sheet's.
 """
 
 import re
 from collections import namedtuple
+
+import model
 
 # A term: its form, the names that it binds or is, its label, its parts. A label is a proposition, or a datatype's name as a text.
 Term = namedtuple("Term", "form names label parts")
@@ -32,7 +33,7 @@ def depth(term):
 
 # ---- A sheet's own term
 
-def exported(model, sheet):
+def exported(sheet):
     """The term of a sheet that none of 1 to 15 refuses."""
     def given(number, inferring):
         step = sheet.steps[number]
@@ -41,7 +42,7 @@ def exported(model, sheet):
         parts = [given(premiss, place) for premiss, place in zip(sheet.trees[0][number], places)]
         if rule.name == "AlphaEquivalent":
             return parts[0]
-        names = [word(model, sheet, name) for name in (step.name1, step.name2)[:rule.identifiers]]
+        names = [word(sheet, name) for name in (step.name1, step.name2)[:rule.identifiers]]
         labelled = inferring and rule.ending
         concluded = labelled and model.by_lowest_names(sheet, model.decode(sheet, model.concluded(sheet, step)))
         if labelled is model.ASCRIBED:
@@ -50,29 +51,29 @@ def exported(model, sheet):
         if labelled is model.LABELLED_BY_LEFT:
             label = concluded.parts[0]
         elif labelled is model.LABELLED_BY_DATATYPE:
-            label = word(model, sheet, concluded.names[1])
+            label = word(sheet, concluded.names[1])
         return Term(FORMS[rule.name], names, label, parts)
 
     return given(len(sheet.steps) - 1, False)
 
-def word(model, sheet, name):
+def word(sheet, name):
     return sheet.names.entries[name].decode("latin-1")
 
 # ---- The strict text of a term
 
-def prop_text(model, sheet, prop):
+def prop_text(sheet, prop):
     """A proposition as the board prints it: without ids and numbers of names."""
     if prop.head in (model.TRUE, model.FALSE):
         return model.SYMBOLS[prop.head]
     if prop.head == model.ATOM:
-        parameters = ", ".join(word(model, sheet, name) for name, _ in prop.parameters)
-        return word(model, sheet, prop.names[0]) + (f"({parameters})" if parameters else "")
+        parameters = ", ".join(word(sheet, name) for name, _ in prop.parameters)
+        return word(sheet, prop.names[0]) + (f"({parameters})" if parameters else "")
     if prop.head in (model.FORALL, model.EXISTS):
-        bound, datatype = (word(model, sheet, name) for name in prop.names)
-        return f"{model.SYMBOLS[prop.head]}{bound}:{datatype}. {prop_text(model, sheet, prop.parts[0])}"
+        bound, datatype = (word(sheet, name) for name in prop.names)
+        return f"{model.SYMBOLS[prop.head]}{bound}:{datatype}. {prop_text(sheet, prop.parts[0])}"
 
     def side(part, least):
-        text = prop_text(model, sheet, part)
+        text = prop_text(sheet, part)
         return f"({text})" if model.strength(part) < least else text
 
     own, (left, right) = model.strength(prop), prop.parts
@@ -81,16 +82,16 @@ def prop_text(model, sheet, prop):
     implies = prop.head == model.IMPLIES
     return f"{side(left, own + implies)} {model.SYMBOLS[prop.head]} {side(right, own + (not implies))}"
 
-def label_text(model, sheet, label):
-    return label if isinstance(label, str) else prop_text(model, sheet, label)
+def label_text(sheet, label):
+    return label if isinstance(label, str) else prop_text(sheet, label)
 
-def text(model, sheet, term):
+def text(sheet, term):
     """The strict text: the brackets of the Rust's Display, and those of document 02, ticket 1."""
     def bracketed(part, wanted):
-        return f"({text(model, sheet, part)})" if part.form in wanted else text(model, sheet, part)
+        return f"({text(sheet, part)})" if part.form in wanted else text(sheet, part)
 
     def closed(part):
-        return text(model, sheet, part) if part.form in CLOSED else f"({text(model, sheet, part)})"
+        return text(sheet, part) if part.form in CLOSED else f"({text(sheet, part)})"
 
     def inner(part):
         return bracketed(part, ("ascription",))
@@ -101,15 +102,15 @@ def text(model, sheet, term):
     if term.form == "name":
         return names[0]
     if term.form == "pair":
-        return f"({text(model, sheet, parts[0])}, {text(model, sheet, parts[1])})"
+        return f"({text(sheet, parts[0])}, {text(sheet, parts[1])})"
     if term.form in CALLS:
         return f"{term.form} {closed(parts[0])}"
     if term.form == "application":
         return f"{bracketed(parts[0], OPEN)} {closed(parts[1])}"
     if term.form == "ascription":
-        return f"{bracketed(parts[0], OPEN)}: {label_text(model, sheet, term.label)}"
+        return f"{bracketed(parts[0], OPEN)}: {label_text(sheet, term.label)}"
     if term.form == "fn":
-        label = "" if term.label is None else f": {label_text(model, sheet, term.label)}"
+        label = "" if term.label is None else f": {label_text(sheet, term.label)}"
         return f"fn {names[0]}{label} => {inner(parts[0])}"
     if term.form == "let":
         return f"let ({names[0]}, {names[1]}) = {inner(parts[0])} in {inner(parts[1])}"
@@ -120,20 +121,20 @@ def text(model, sheet, term):
 
 NAME_BYTES = re.compile(r"[A-Za-z0-9_]*")
 
-def is_name(model, name):
+def is_name(name):
     return len(name) <= 32 and bool(model.WORD.fullmatch(name)) and name not in WORDS
 
 class Reader:
     """A text from left to right, with brackets wherever they may stand; its names are added to a sheet's."""
 
-    def __init__(self, model, sheet, types, content):
-        self.model, self.sheet, self.types, self.text = model, sheet, types, content
+    def __init__(self, sheet, types, content):
+        self.sheet, self.types, self.text = sheet, types, content
         self.at, self.levels, self.bound = 0, 0, []
 
     def fail(self, wanted):
         found = self.text[self.at:self.at + 12]
         where = f"at byte {len(self.text[:self.at].encode())}, {found!r}" if found else "at the end"
-        raise self.model.Refused(REFUSED, 0, [f"Expected {wanted} {where}."])
+        raise model.Refused(REFUSED, 0, [f"Expected {wanted} {where}."])
 
     def accept(self, what):
         found = self.text.startswith(what, self.at)
@@ -149,7 +150,7 @@ class Reader:
         return NAME_BYTES.match(self.text, self.at if at is None else at).group()
 
     def name(self, what="a name"):
-        if not is_name(self.model, self.word()):
+        if not is_name(self.word()):
             self.fail(what)
         found = self.word()
         self.at += len(found)
@@ -162,7 +163,7 @@ class Reader:
         """What is read one level deeper."""
         self.levels += 1
         if self.levels > LEVELS:
-            raise self.model.Refused(REFUSED, 0, ["It has more brackets within one another than a term within the limits."])
+            raise model.Refused(REFUSED, 0, ["It has more brackets within one another than a term within the limits."])
         found = read()
         self.levels -= 1
         return found
@@ -212,7 +213,7 @@ class Reader:
 
     def argument(self, at):
         """Whether an argument begins there."""
-        return self.text.startswith("(", at) or self.word(at) == "sorry" or is_name(self.model, self.word(at))
+        return self.text.startswith("(", at) or self.word(at) == "sorry" or is_name(self.word(at))
 
     def closed(self):
         if self.word() == "sorry":
@@ -231,16 +232,16 @@ class Reader:
     def label(self):
         """A lone name is a datatype if it is listed, otherwise an atom."""
         prop = self.implication()
-        lone = prop.head == self.model.ATOM and not prop.parameters and word(self.model, self.sheet, prop.names[0])
+        lone = prop.head == model.ATOM and not prop.parameters and word(self.sheet, prop.names[0])
         return lone if lone in self.types else prop
 
     def made(self, head, *parts, names=(), parameters=()):
-        return self.model.Prop(head, list(names), list(parameters), list(parts))
+        return model.Prop(head, list(names), list(parameters), list(parts))
 
     def implication(self):
         def read():
-            left = self.joined(" ∨ ", self.model.OR, lambda: self.joined(" ∧ ", self.model.AND, self.unit))
-            return self.made(self.model.IMPLIES, left, self.implication()) if self.accept(" ⊃ ") else left
+            left = self.joined(" ∨ ", model.OR, lambda: self.joined(" ∧ ", model.AND, self.unit))
+            return self.made(model.IMPLIES, left, self.implication()) if self.accept(" ⊃ ") else left
 
         return self.within(read)
 
@@ -251,7 +252,6 @@ class Reader:
         return left
 
     def unit(self):
-        model = self.model
         for head in (model.TRUE, model.FALSE):
             if self.accept(model.SYMBOLS[head]):
                 return self.made(head)
@@ -286,13 +286,13 @@ class Reader:
                 if not self.accept(", "):
                     break
             self.expect(")")
-        return self.made(self.model.ATOM, names=names, parameters=parameters)
+        return self.made(model.ATOM, names=names, parameters=parameters)
 
-def code_size(model, prop):
+def code_size(prop):
     own = {model.ATOM: 4, model.FORALL: 5, model.EXISTS: 5}.get(prop.head, 1)
-    return own + sum(3 if id is None else 5 for _, id in prop.parameters) + sum(code_size(model, part) for part in prop.parts)
+    return own + sum(3 if id is None else 5 for _, id in prop.parameters) + sum(code_size(part) for part in prop.parts)
 
-def beyond(model, term, names):
+def beyond(term, names):
     """What of a term passes the limits of reading, a sentence each."""
     counts = ((sum(1 for _ in nodes(term)), NODES, "nodes"), (depth(term), NESTING, "levels"), (names, NAMES, "different names"))
     for found, most, what in counts:
@@ -301,17 +301,17 @@ def beyond(model, term, names):
     for prop in (node.label for node in nodes(term) if isinstance(node.label, model.Prop)):
         if model.nesting(prop) > PROP_NESTING:
             yield f"A label nests {model.nesting(prop)} deep, and at most {PROP_NESTING} levels are read."
-        if code_size(model, prop) > CODE:
-            yield f"A label has {code_size(model, prop)} bytes of code, and at most {CODE} are read."
+        if code_size(prop) > CODE:
+            yield f"A label has {code_size(prop)} bytes of code, and at most {CODE} are read."
         if most_parameters(prop) > 8:
             yield f"An atom has {most_parameters(prop)} parameters, and at most 8 are read."
 
 def most_parameters(prop):
     return max([len(prop.parameters)] + [most_parameters(part) for part in prop.parts])
 
-def read(model, sheet, types, data):
+def read(sheet, types, data):
     """The term whose strict text these bytes are, over a sheet's names and its own; or 20."""
-    bad = [name for name in types if not is_name(model, name)]
+    bad = [name for name in types if not is_name(name)]
     model.refuse_for([f"The listed datatype {name!r} is no name." for name in bad], REFUSED, 0)
     if len(data) > TEXT:
         raise model.Refused(REFUSED, 0, [f"It has {len(data)} bytes, and at most {TEXT} are read."])
@@ -319,43 +319,37 @@ def read(model, sheet, types, data):
         content = data.decode()
     except UnicodeDecodeError as wrong:
         raise model.Refused(REFUSED, 0, [f"Byte {wrong.start} is no UTF-8."]) from None
-    reader = Reader(model, sheet, types, content)
+    reader = Reader(sheet, types, content)
     term = reader.term()
     if reader.at < len(content):
         reader.fail("the end")
-    again = text(model, sheet, term)
+    again = text(sheet, term)
     if again != content:
         same = next((at for at, pair in enumerate(zip(again, content)) if pair[0] != pair[1]), min(len(again), len(content)))
         raise model.Refused(REFUSED, 0, [f"Other brackets are needed: {model.short(again)}",
                                          f"The two differ from byte {len(content[:same].encode())} on."])
     names = {name for name in re.findall(r"[A-Za-z][A-Za-z0-9_]*", content) if name not in WORDS}
-    model.refuse_for(list(beyond(model, term, len(names))), REFUSED, 0)
+    model.refuse_for(list(beyond(term, len(names))), REFUSED, 0)
     return term
 
-# ---- The command
+# ---- The nodes of a term, a line each
 
-def heading(model, sheet, term):
+def heading(sheet, term):
     """A node without its parts."""
-    label = "" if term.label is None else f": {label_text(model, sheet, term.label)}"
+    label = "" if term.label is None else f": {label_text(sheet, term.label)}"
     words = {"name": "", "ascription": ""}.get(term.form, term.form)
     if isinstance(term.label, str):
         label += ", a datatype"
     return (" ".join([words, *term.names]).strip() + label).strip()
 
-def tree(model, sheet, term, indent=0):
+def tree(sheet, term, indent=0):
     """The lines of a term's nodes, each under the one that it is a part of."""
-    yield "  " * indent + heading(model, sheet, term)
+    yield "  " * indent + heading(sheet, term)
     for part in term.parts:
-        yield from tree(model, sheet, part, indent + 1)
+        yield from tree(sheet, part, indent + 1)
 
-def read_text(model, words):
-    """The nodes of a term by its text, numbered; or what 20 says."""
-    content, *types = words
-    sheet = model.Sheet(model.Part(), model.Part(), 0, [])
-    try:
-        term = read(model, sheet, types, content.encode("utf-8", "surrogateescape"))
-    except model.Refused as refused:
-        raise model.Trouble(" ".join([f"{refused.said(b'')}."] + refused.sentences)) from None
-    lines = list(tree(model, sheet, term))
+def listing(sheet, term):
+    """The nodes of a term, numbered."""
+    lines = list(tree(sheet, term))
     width = len(str(len(lines) - 1))
     return "".join(f"{number:{width}} {line}\n" for number, line in enumerate(lines))
