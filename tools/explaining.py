@@ -2,9 +2,8 @@
 
 import re
 
-import grafting
-from model import (EXERCISE, FULL, GIVEN, NEVER, NUMBERS, ORDINAL, REFUSALS, ROOM, Refused, Trouble, UNCHECKABLE, UNEQUAL, UNREAD,
-                   VERSION, admitted, column_text, compared, explained, walk)
+from model import (DIFFER, EXERCISE, FULL, GIVEN, LIMIT, NEVER, NO_OPEN_STEP, NUMBERS, ORDINAL, REFUSALS, ROOM, Refused, Trouble,
+                   UNCHECKABLE, UNEQUAL, UNREAD, VERSION, admitted, column_text, compared, explained, walk)
 
 def checked(data, steps):
     """What is true of a sheet that is not refused, or of two of its steps that are compared."""
@@ -43,7 +42,7 @@ def explain(data, line):
         raise Trouble(f"{number} is of a judgement: tools/sheet judge FILE.sheet K [NAME K].. explains it")
     if number in (GIVEN, FULL, UNEQUAL):
         raise Trouble(f"{number} is of a restatement: tools/sheet restate FILE.sheet KIND A B C COLUMN explains it")
-    if number in (grafting.NO_OPEN_STEP, grafting.DIFFER, grafting.LIMIT):
+    if number in (NO_OPEN_STEP, DIFFER, LIMIT):
         raise Trouble(f"{number} is of a graft: tools/sheet graft HOST STEP DONOR explains it")
     if (number, place, column, steps) == (VERSION, 0, None, []):
         sentence = "The sheet was not looked at: the version that is asked for has to be 1, 2 or 3."

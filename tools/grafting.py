@@ -6,7 +6,6 @@ import struct
 
 import model
 
-NO_OPEN_STEP, DIFFER, LIMIT = 26, 27, 28
 HOST, DONOR = "the host", "the donor"
 
 def bytewise(sheet, prop):
@@ -79,8 +78,8 @@ def admitted(data, whose):
 def grafted(host, step, donor):
     """The bytes of the merged sheet; or the host's 1 to 11, the donor's, 26, 27 or 28."""
     one, other = admitted(host, HOST), admitted(donor, DONOR)
-    model.refuse_for(explain_step(one, step), NO_OPEN_STEP, 0)
-    model.refuse_for(explain_conclusions(one, step, other), DIFFER, 0)
+    model.refuse_for(explain_step(one, step), model.NO_OPEN_STEP, 0)
+    model.refuse_for(explain_conclusions(one, step, other), model.DIFFER, 0)
     new = merged(one, step, other)
-    model.refuse_for(explain_limits(new), LIMIT, 0)
+    model.refuse_for(explain_limits(new), model.LIMIT, 0)
     return new.to_bytes()

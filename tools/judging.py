@@ -3,9 +3,9 @@
 """
 
 import model
+import reading
 import terms
 
-NUMBERS, UNCHECKABLE = 31, 22
 CONNECTIVES = {"pair": "a conjunction", "inl": "a disjunction", "inr": "a disjunction", "fn": "an implication"}
 
 class Stopped(Exception):
@@ -139,13 +139,13 @@ def judged(data, hypotheses, number, read=None):
     props = [model.by_lowest_names(sheet, model.decode(sheet, code)) for code in sheet.propositions.entries]
     names = [terms.word(sheet, name) for name in range(len(sheet.names.entries))]
     if read:
-        term = terms.read(sheet, *read)
+        term = reading.read(sheet, *read)
     else:
         model.walk(sheet, len(sheet.steps) - 1)
         term = terms.exported(sheet)
-    model.refuse_for(wrong, NUMBERS, 0)
+    model.refuse_for(wrong, model.NUMBERS, 0)
     scope = [(names[name], props[prop]) for name, prop in zip(counts[::2], counts[1::2])]
-    model.refuse_for(list(uncheckable(sheet, term, scope, props[number])), UNCHECKABLE, 0)
+    model.refuse_for(list(uncheckable(sheet, term, scope, props[number])), model.UNCHECKABLE, 0)
     return verdict(sheet, term, scope, props[number]), sheet, term, props[number]
 
 def verdict(sheet, term, scope, prop):

@@ -414,7 +414,7 @@ REFUSALS = {
     31: Refusal("0", "a number of the hypotheses or of the proposition is not the sheet's, or a last name has no proposition"),
 }
 ROOM, NEVER, UNREAD, VERSION, UNCHECKABLE, GIVEN, FULL, UNEQUAL = 16, 18, 20, 21, 22, 23, 24, 25
-EXERCISE, ORDINAL, NUMBERS = 29, 30, 31
+NO_OPEN_STEP, DIFFER, LIMIT, EXERCISE, ORDINAL, NUMBERS = 26, 27, 28, 29, 30, 31
 
 # ---- The refusal of a sheet, in document 01's order
 
