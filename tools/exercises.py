@@ -2,7 +2,7 @@
 
 import functools
 
-from model import AND, ATOM, EXERCISE, ORDINAL, Part, Prop, Refused, Sheet, WORD, counted, refuse_for
+from model import AND, ATOM, EXERCISE, ORDINAL, Prop, Refused, WORD, counted, refuse_for, sheet_of_names
 
 MOST_NAMES, MOST_CONNECTIVES = 3, 3
 
@@ -43,10 +43,7 @@ def exercise(n, ordinal, names):
     leaves, index = 2 + len(names), ordinal
     for size in range(n + 1):
         if index < exercises_of(leaves, size):
-            part = Part()
-            for name in names:
-                part.add(name.encode())
-            return Sheet(part, Part(), 0, []), exercise_of(leaves, size, index)
+            return sheet_of_names(names), exercise_of(leaves, size, index)
         index -= exercises_of(leaves, size)
     last = sum(exercises_of(leaves, size) for size in range(n + 1)) - 1
     raise Refused(ORDINAL, 0, [f"Those of at most {counted(n, 'connective')} have the ordinals 0 to {last}."])

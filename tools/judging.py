@@ -162,13 +162,13 @@ def sentence(stopped, sheet, term, prop):
     node, part, why = stopped.args
     return f"The checker stops at node {node}, {model.short(terms.text(sheet, part))}: {why}"
 
-def of_root(data):
+def of_root(data, judge=judged):
     """What the checker says of a sheet's own term and its last step's proposition, from no hypotheses; nothing where the sheet or
     the judgement is refused, or where the last step concludes no proposition."""
     try:
         root = model.admitted(data).steps[-1]
         if root.kind != 0:
             return []
-        return [sentence(*judged(data, [], root.first))]
+        return [sentence(*judge(data, [], root.first))]
     except model.Refused:
         return []

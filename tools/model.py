@@ -130,6 +130,13 @@ def sheet_of(data):
     return Sheet(Part(PAIR.iter_unpack(names), text), Part(PAIR.iter_unpack(propositions), code),
                  HEADER.unpack(header)[5], [Step(*fields) for fields in STEP.iter_unpack(steps)])
 
+def sheet_of_names(names):
+    """A sheet that has nothing but names."""
+    sheet = Sheet(Part(), Part(), 0, [])
+    for name in names:
+        sheet.names.add(name.encode())
+    return sheet
+
 def row(rule):
     return RULES[rule] if rule < len(RULES) else Rule(str(rule), 0, (), False, BARE)
 

@@ -225,5 +225,5 @@ def read(sheet, types, data):
 
 def read_alone(types, data):
     """A sheet that has nothing but the names of a text, and the term of that text; or 20."""
-    sheet = model.Sheet(model.Part(), model.Part(), 0, [])
+    sheet = model.sheet_of_names(())
     return sheet, read(sheet, types, data)
