@@ -132,7 +132,8 @@ def short(sheet, prop):
     return model.short(model.prop_text(sheet, prop))
 
 def judged(data, hypotheses, number, read=None):
-    """None for yes, or the Stopped of a no, with the sheet, the term and the proposition; a refusal is raised. A term to read is its datatypes and its bytes."""
+    """None for yes, or the Stopped of a no, with the sheet, the term and the proposition; a refusal is raised. A term to read is its
+    datatypes and its bytes."""
     sheet = model.admitted(data)
     counts = list(hypotheses)
     wrong = list(out_of_range(sheet, counts, number))

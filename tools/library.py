@@ -1,7 +1,7 @@
 """The answers of the proved library, asked through bindings/python, in the words of the tool's model.
 
 Each function has the name and the arguments of the model's. An answer and a refusal are the library's, and the sentences on a refusal
-or a no are the model's: where that says something else, one of the two is wrong, and this is said.
+or a no are the model's: where that says something else, one of the two is wrong, which is trouble.
 """
 
 import functools
@@ -20,8 +20,8 @@ import terms
 BINDINGS = pathlib.Path(__file__).resolve().parent.parent / "bindings" / "python"
 
 # By the kinds of a record that is read: the form of the node, and how many parts and names it has, in this order.
-KINDS = (("name", 0, 1), ("pair", 2, 0), ("fst", 1, 0), ("snd", 1, 0), ("fn", 1, 1), ("application", 2, 0), ("let", 2, 2), ("inl", 1, 0),
-         ("inr", 1, 0), ("case", 3, 2), ("abort", 1, 0), ("ascription", 1, 0), ("()", 0, 0), ("sorry", 0, 0))
+KINDS = (("name", 0, 1), ("pair", 2, 0), ("fst", 1, 0), ("snd", 1, 0), ("fn", 1, 1), ("application", 2, 0), ("let", 2, 2),
+         ("inl", 1, 0), ("inr", 1, 0), ("case", 3, 2), ("abort", 1, 0), ("ascription", 1, 0), ("()", 0, 0), ("sorry", 0, 0))
 PROPOSITION, DATATYPE = 1, 2  # the kinds of a label
 
 @functools.cache
@@ -48,15 +48,17 @@ def asked(question, own):
         raise explained(refused, own) from None
 
 def explained(refused, own):
-    whose = (None, grafting.HOST, grafting.DONOR)[refused.whose.value]
+    """The model's refusal, if it is the library's."""
     try:
         own()
     except model.Refused as same:
+        whose = (None, grafting.HOST, grafting.DONOR)[refused.whose.value]
         if (same.number, same.place, same.whose) == (refused.number, refused.place, whose):
             return same
-    other = model.Refused(refused.number, refused.place, ["The tool's own model answers otherwise: one of the two is wrong."])
-    other.whose = whose
-    return other
+    return otherwise(refused)
+
+def otherwise(said):
+    return model.Trouble(f"the library says {said}; the tool's own model says otherwise: one of the two is wrong")
 
 def restated(data, given):
     new, _ = asked(lambda library: library.restate(data, library.Given(*given)), lambda: restating.restated(data, given))
@@ -80,10 +82,13 @@ def judged(data, hypotheses, number, read=None):
         raise model.Trouble("--library: the library judges a sheet's own term alone, and not one that is read beside it")
     pairs = [hypotheses[at:at + 2] for at in range(0, len(hypotheses), 2)]
     answer = asked(lambda library: library.judge(data, pairs, number), lambda: judging.judged(data, hypotheses, number))
-    own = judging.judged(data, hypotheses, number)
+    said = "yes" if answer.node is None else f"no, at node {answer.node}"
+    try:
+        own = judging.judged(data, hypotheses, number)
+    except model.Refused:
+        raise otherwise(said) from None
     if answer.node != (own[0] and own[0].args[0]):
-        said = "yes" if answer else f"no, at node {answer.node}"
-        raise model.Trouble(f"the library says {said}; the tool's own model answers otherwise: one of the two is wrong")
+        raise otherwise(said)
     return own
 
 def read_alone(types, data):
