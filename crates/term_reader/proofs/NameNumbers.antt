@@ -12,7 +12,6 @@ use Rattle.definitions.specs.Name.{Name, eqName}
 use Rattle.definitions.specs.Sheet.{marked}
 use Rattle.definitions.specs.Text.{occurs, firstsAfter, firsts}
 use Rattle.definitions.specs.TermMemory.{place}
-use Rattle.definitions.proofs.Names.{eqName-true}
 use Rattle.words.specs.Table.{addName, added, numberIn, tableNames}
 use Rattle.words.proofs.Numbers.{names-length}
 use Rattle.term_stack.specs.Standing.{Extends}
@@ -88,21 +87,6 @@ module _ (x : Name) where
       either false true same e = omega arith
       either false false same e = absurd (true≢false (sym e))
 
-  -- at its place stands the name
-  at-place : (ys : List Name) → occurs eqName x ys ≡ true → (place ys x < length ys) × (getD ys (place ys x) [] ≡ x)
-  unfolding occurs place
-  at-place [] h = absurd (true≢false (sym h))
-  at-place (y ∷ ys) h = either (eqName x y) refl (at-place ys) h
-    where
-      either : (here : Bool) → eqName x y ≡ here → (occurs eqName x ys ≡ true → (place ys x < length ys) × (getD ys (place ys x) [] ≡ x))
-          → (here || occurs eqName x ys) ≡ true
-          → (cond here 0 (1 + place ys x) < length (y ∷ ys)) × (getD (y ∷ ys) (cond here 0 (1 + place ys x)) [] ≡ x)
-      either true e later k = (omega arith, sym (eqName-true e))
-      either false e later k =
-          let (below, same) = later k in
-          let n : 1 + place ys x ≡ suc (place ys x) = omega arith in
-          (omega (arith, below), rw n same)
-
 -- so the places number all names
 pub places-extend : (xs : List Name) → Extends (place (firsts eqName xs)) (added [] xs)
 places-extend xs x met = sym (number-place x (added [] xs) met ∙ ap (λ l. place l x) (different-in-order xs))
@@ -119,8 +103,3 @@ marked-in-order pairs text (suc n) i h =
     (λ e. rw e (getD-at (reverse later) (marked pairs text n) [] [] n long))
     (λ l. List·getD-append (reverse later) (marked pairs text n ∷ []) [] i (omega (arith, long)) ∙ marked-in-order pairs text n i l)
     (eq-or-lt-of-le (le-of-suc-le-suc h)))
-
--- a name that was met stands at its place among the different ones
-pub place-names : (xs : List Name) (x : Name) → occurs eqName x (added [] xs) ≡ true
-    → (place (firsts eqName xs) x < length (firsts eqName xs)) × (getD (firsts eqName xs) (place (firsts eqName xs) x) [] ≡ x)
-place-names xs x met = at-place x (firsts eqName xs) (rw (← different-in-order xs) (occurs-reverse x (added [] xs) ∙ met))
