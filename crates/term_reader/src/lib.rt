@@ -24,10 +24,12 @@ ghost use lib.ListN.{length, take};
 ghost use lib.Seq.{paste, sets};
 ghost use Rattle.definitions.specs.CallerNames.{namesIn};
 ghost use Rattle.definitions.specs.TermText.{termTextLimit, allAdmitted};
+ghost use Rattle.definitions.specs.TermReader.{readAnswer};
 ghost use Rattle.term_stack.specs.Turning.{sceneOf, TurnBegins};
 ghost use Rattle.term_reader.specs.Between.{AtTurn, goesOn, GoesOn, ReadBegins};
 ghost use Rattle.term_reader.specs.Whole.{Settles, ReadEnds, HasRead, Rereads};
-ghost use Rattle.term_reader.specs.Answered.{Copyable, shortFor, HasRoom, HandsOver, ReadsTerm, RestoresTerm};
+ghost use Rattle.term_reader.specs.Answered.{answerOf, Copyable, shortFor, HasRoom, HandsOver};
+ghost use Rattle.term_reader.specs.Answered.{ReadsTerm, RestoresTerm};
 
 // At most so many bytes.
 const TEXT_LIMIT: usize = 65536;
@@ -241,6 +243,38 @@ fn read_admitted(
         return TermRead::Refused(Refusal::at(16, 0));
     }
     hand_over(text, types, &mut pairs, &mut work, records, names, code, s)
+}
+
+// How large the term of a text is that is short enough, with an admitted list, or 20.
+fn size_admitted(text: &[u8], types: &[u8]) -> TermRead
+    requires { ⌜ (length (now text) ≤ termTextLimit) × (allAdmitted (namesIn (now types)) ≡ true) ⌝ }
+    ensures { λ r. ⌜ r ≡ answerOf (readAnswer (namesIn (now (types .entry))) (now (text .entry))) ⌝ }
+{
+    let mut work = [0u16; WORK_SIZE];
+    let mut pairs = [0u8; TABLE_SIZE];
+    let s = measure(text, types, &mut pairs, &mut work);
+    if s.mode == REFUSED {
+        return TermRead::Refused(Refusal::at(20, 0));
+    }
+    TermRead::Accepted(TermSize {
+        nodes: s.used,
+        names: s.count,
+        code: s.to,
+        labels: s.tally,
+    })
+}
+
+// How large the term is whose strict text these bytes are, or 20: what `read_term` answers given room.
+pub fn term_size(text: &[u8], types: &[u8]) -> TermRead
+    ensures { λ r. ⌜ r ≡ answerOf (readAnswer (namesIn (now (types .entry))) (now (text .entry))) ⌝ }
+{
+    if TEXT_LIMIT < text.len() {
+        return TermRead::Refused(Refusal::at(20, 0));
+    }
+    if !all_admitted(types) {
+        return TermRead::Refused(Refusal::at(20, 0));
+    }
+    size_admitted(text, types)
 }
 
 // The term whose strict text these bytes are, without declarations; the datatypes are listed with newlines between their names. Its

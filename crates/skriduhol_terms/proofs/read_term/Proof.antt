@@ -1,9 +1,8 @@
--- The sizes are handed back as they are, a refusal with no column; the lent memory is what the layer below made of it, and
--- so means the term that was read.
+-- What the reader answers is handed back; the lent memory is what it made of it, and so means the term that was read.
 use borrow.Author.Needs.{needs}
 use Rattle.term_reader.specs.Answered.{RestoresTerm}
 use Rattle.skriduhol_terms.specs.Reading.{RestoresOf}
-use Rattle.skriduhol_terms.proofs.TermsRead.{hands-size, hands-refusal}
+use Rattle.skriduhol_terms.proofs.TermsRead.{hands}
 use Rattle.skriduhol_terms.proofs.Meaning.{means-term}
 use Rattle.skriduhol_terms.proofs.read_term.Statement.{statement}
 use Rattle.skriduhol_terms.proofs.read_term.Tie as tie
@@ -18,25 +17,11 @@ answered c = c .before .before .before .before
 returns : tie.Need-returns
 unfolding RestoresTerm RestoresOf
 returns c =
-    let told = c .before in
-    let (reads, restores) = answered (coded (told .before .before)) .read-term .ensures in
-    let handed = hands-size reads (told .read .given .1) in (
+    let (reads, restores) = answered (coded (c .before)) .read-term .ensures in
+    let handed = hands reads (c .hand-back .ensures) in (
       handed,
       (
-        λ s t bytes is shown short listed plain fits. hands-size (restores s t bytes is shown short listed plain fits) (told .read .given .1),
-        means-term _ _ _ _ _ handed,
-      ),
-    )
-
-returns-2 : tie.Need-returns-2
-unfolding RestoresTerm RestoresOf
-returns-2 c =
-    let told = c .before in
-    let (reads, restores) = answered (coded (told .before .before)) .read-term .ensures in
-    let handed = hands-refusal reads (told .read2 .given .1) in (
-      handed,
-      (
-        λ s t bytes is shown short listed plain fits. hands-refusal (restores s t bytes is shown short listed plain fits) (told .read2 .given .1),
+        λ s t bytes is shown short listed plain fits. hands (restores s t bytes is shown short listed plain fits) (c .hand-back .ensures),
         means-term _ _ _ _ _ handed,
       ),
     )
@@ -46,13 +31,8 @@ read-term-spec =
     tie.close
     (tie.spec
     (λ c κs. search needs)
+    (λ c κs. search needs)
     (λ c. search needs)
     (λ c. search needs)
     (λ c. search needs)
-    (λ c. search needs)
-    (λ c. search needs)
-    returns
-    (λ c. search needs)
-    (λ c. search needs)
-    (λ c. search needs)
-    returns-2)
+    returns)
