@@ -13,7 +13,7 @@ use Rattle.skriduhol_terms.specs.declared.Reading.{Reading}
 use Rattle.skriduhol_terms.specs.declared.Reading.the-variants.{Read, Refused}
 use Rattle.skriduhol_terms.specs.Reading.{readingOf, HandsTerm}
 use Rattle.skriduhol_c.specs.Handed.{numberOf, valueOf, HandsRefusal}
-use Rattle.skriduhol_c.specs.TermsRead.{countBy, namesOf, codeOf, HandsOutcome}
+use Rattle.skriduhol_c.specs.TermsRead.{countBy, namesOf, codeOf, HandsSizes, HandsOutcome}
 
 -- a term was read, of which these are the sizes
 record Accepts (o : Outcome (ProofTerm Name)) (size : TermSize) : Type 0 where
@@ -38,36 +38,41 @@ refuses (refused r) {l} e =
     let same : l ≡ record { refusal = r; column = 0 } = cc in
     record { is = rw same; nowhere = rw same }
 
-module _ {o : Outcome (ProofTerm Name)} {text records names code records′ names′ code′ : List ℕ} {x : Reading}
-    (h : HandsTerm o text records names code records′ names′ code′ x) where
-  pub sizes-handed : {size : TermSize} → x ≡ Read size
-      → HandsOutcome o text records names code records′ names′ code′ (size .nodes) 0 (size .names) (size .code) 0
+-- the answer of the reader, handed over
+module _ (o : Outcome (ProofTerm Name)) where
+  pub sizes-handed : {size : TermSize} → Read size ≡ readingOf o → HandsSizes o (size .nodes) 0 (size .names) (size .code) 0
   unfolding numberOf valueOf countBy namesOf codeOf sizeOf
   sizes-handed e =
-      let a = accepts o (sym e ∙ h .answer) in
+      let a = accepts o e in
       record {
         number = rw (a .is);
         said = ap (λ (z : TermSize). z .nodes) (a .sizes) ∙ sym (ap (valueOf nodes) (a .is));
         drawn = refl;
         named = ap (λ (z : TermSize). z .names) (a .sizes) ∙ sym (ap (countBy namesOf) (a .is));
         coded = ap (λ (z : TermSize). z .code) (a .sizes) ∙ sym (ap (countBy codeOf) (a .is));
-        records-are = h .records-are;
-        names-are = h .names-are;
-        code-is = h .code-is;
       }
 
-  pub refusal-handed : {l : Located} {value column result : ℕ} → x ≡ Refused l → HandsRefusal l value column result
-      → HandsOutcome o text records names code records′ names′ code′ value column 0 0 result
+  pub refusal-handed : {l : Located} {value column result : ℕ} → Refused l ≡ readingOf o → HandsRefusal l value column result
+      → HandsSizes o value column 0 0 result
   unfolding numberOf valueOf countBy
   refusal-handed e parts =
-      let r = refuses o (sym e ∙ h .answer) in
+      let r = refuses o e in
       record {
         number = rw (r .is) (parts .number);
         said = rw (r .is) (parts .place);
         drawn = parts .drawn ∙ r .nowhere;
         named = rw (r .is);
         coded = rw (r .is);
-        records-are = h .records-are;
-        names-are = h .names-are;
-        code-is = h .code-is;
       }
+
+-- and what became of the lent memory
+pub memory-handed : {o : Outcome (ProofTerm Name)} {text records names code records′ names′ code′ : List ℕ} {x : Reading}
+    {value column name-count code-length result : ℕ} → HandsTerm o text records names code records′ names′ code′ x
+    → ((o : Outcome (ProofTerm Name)) → x ≡ readingOf o → HandsSizes o value column name-count code-length result)
+    → HandsOutcome o text records names code records′ names′ code′ value column name-count code-length result
+memory-handed h hands = record {
+  sizes = hands _ (h .answer);
+  records-are = h .records-are;
+  names-are = h .names-are;
+  code-is = h .code-is;
+}

@@ -8,6 +8,7 @@ use Rattle.definitions.specs.Name.{Name}
 use Rattle.definitions.specs.CallerNames.{namesIn}
 use Rattle.definitions.specs.Term.{ProofTerm}
 use Rattle.definitions.specs.TermText.{nodes}
+use Rattle.definitions.specs.TermReader.{readAnswer}
 use Rattle.definitions.specs.TermMemory.{differentNames, textLabels, labelsSize, termAnswer}
 use Rattle.term_reader.specs.Answered.{recordsBy, NamesBy, codeBy, roomOf}
 use Rattle.skriduhol_c.specs.Handed.{numberOf, valueOf}
@@ -23,17 +24,21 @@ namesOf t = length (differentNames t)
 unfoldable pub codeOf : ProofTerm Name → ℕ
 codeOf t = labelsSize (textLabels t)
 
--- an outcome as all five numbers, whatever they were before, and every number and byte of the lent memory
-pub record HandsOutcome
-    (outcome : Outcome (ProofTerm Name))
-    (text records names code records′ names′ code′ : List ℕ)
-    (value column name-count code-length result : ℕ)
-    : Type 0 where
+-- an outcome as all five numbers, whatever they were before
+pub record HandsSizes (outcome : Outcome (ProofTerm Name)) (value column name-count code-length result : ℕ) : Type 0 where
   pub number : result ≡ numberOf outcome
   pub said : value ≡ valueOf nodes outcome
   pub drawn : column ≡ 0
   pub named : name-count ≡ countBy namesOf outcome
   pub coded : code-length ≡ countBy codeOf outcome
+
+-- and every number and byte of the lent memory
+pub record HandsOutcome
+    (outcome : Outcome (ProofTerm Name))
+    (text records names code records′ names′ code′ : List ℕ)
+    (value column name-count code-length result : ℕ)
+    : Type 0 where
+  pub sizes : HandsSizes outcome value column name-count code-length result
   pub records-are : records′ ≡ recordsBy outcome records
   pub names-are : NamesBy outcome text names names′
   pub code-is : code′ ≡ codeBy outcome code
@@ -44,3 +49,8 @@ abbrev pub HandsRead
 HandsRead list text records names code records′ names′ code′ value column name-count code-length result =
     HandsOutcome (termAnswer (roomOf records names code) (namesIn list) text) text records names code records′ names′ code′
     value column name-count code-length result
+
+-- the sizes given room
+abbrev pub HandsReadLength : List ℕ → List ℕ → ℕ → ℕ → ℕ → ℕ → ℕ → Type 0
+HandsReadLength list text value column name-count code-length result =
+    HandsSizes (readAnswer (namesIn list) text) value column name-count code-length result

@@ -20,6 +20,8 @@ ghost use mathlib.Core.List.{List, []};
 ghost use Prim.Native.Nat.{ℕ};
 ghost use lib.ListN.{length};
 ghost use Rattle.definitions.specs.Outcome.{Outcome};
+ghost use Rattle.definitions.specs.Name.{Name};
+ghost use Rattle.definitions.specs.Term.{ProofTerm};
 ghost use Rattle.definitions.specs.Answers.{textAnswer, atomsAnswer, datatypesAnswer, labelCount, comparison, boardOutput};
 ghost use Rattle.definitions.specs.Restate.{restated, restateAnswer};
 ghost use Rattle.definitions.specs.Graft as graft;
@@ -36,10 +38,11 @@ ghost use Rattle.skriduhol.specs.Grafts.{graftedOf};
 ghost use Rattle.skriduhol.specs.Lengths.{wholeText, wholeAtoms, wholeDatatypes};
 ghost use Rattle.skriduhol.specs.Board.{Prints};
 ghost use Rattle.skriduhol.specs.Searched.{plainAnswer};
+ghost use Rattle.skriduhol_terms.specs.Reading.{readingOf};
 ghost use Rattle.skriduhol_c.specs.Handed.{Hands, HandsFilled, HandsLength, HandsRefusal, yesOrNo, numberOrFree, givenIn};
 ghost use Rattle.skriduhol_c.specs.Grafts.{whoseNumber, HandsBy, HandsGrafted, HandsGraftLength};
 ghost use Rattle.skriduhol_c.specs.Judged.{HandsJudged};
-ghost use Rattle.skriduhol_c.specs.TermsRead.{HandsRead};
+ghost use Rattle.skriduhol_c.specs.TermsRead.{HandsSizes, HandsRead, HandsReadLength};
 
 // A refusal's place is the value, and its column the column.
 fn hand_refusal(located: Located, value: &mut usize, column: &mut usize) -> u8
@@ -589,8 +592,35 @@ pub extern "C" fn skriduhol_judge(
     }
 }
 
-// The term whose strict text these bytes are: the value is how many nodes it has, and behind two pointers of their own are its names
-// and the bytes of its labels' code. A refusal has 0 for both.
+// The value is how many nodes a term has, and behind two pointers of their own are its names and the bytes of its labels' code. A
+// refusal has 0 for both.
+fn hand_reading(
+    reading: Reading,
+    value: &mut usize,
+    column: &mut usize,
+    name_count: &mut usize,
+    code_length: &mut usize,
+) -> u8
+    ensures { λ r. ⌜ ((o : Outcome (ProofTerm Name)) → reading ≡ readingOf o → HandsSizes o (now (value .exit))
+        (now (column .exit)) (now («name_count» .exit)) (now («code_length» .exit)) r) ⌝ }
+{
+    match reading {
+        Reading::Read(size) => {
+            *value = size.nodes;
+            *column = 0;
+            *name_count = size.names;
+            *code_length = size.code;
+            return 0;
+        }
+        Reading::Refused(located) => {
+            *name_count = 0;
+            *code_length = 0;
+            return hand_refusal(located, value, column);
+        }
+    }
+}
+
+// The term whose strict text these bytes are.
 #[no_mangle]
 pub extern "C" fn skriduhol_read_term(
     text: &[u8],
@@ -609,18 +639,22 @@ pub extern "C" fn skriduhol_read_term(
         (now («name_count» .exit)) (now («code_length» .exit)) r ⌝ }
 {
     let reading = skriduhol_terms::read_term(text, datatypes, records, names, code);
-    match reading {
-        Reading::Read(size) => {
-            *value = size.nodes;
-            *column = 0;
-            *name_count = size.names;
-            *code_length = size.code;
-            return 0;
-        }
-        Reading::Refused(located) => {
-            *name_count = 0;
-            *code_length = 0;
-            return hand_refusal(located, value, column);
-        }
-    }
+    hand_reading(reading, value, column, name_count, code_length)
+}
+
+// How large that term is: what `skriduhol_read_term` hands over given room, and never 16.
+#[no_mangle]
+pub extern "C" fn skriduhol_read_term_length(
+    text: &[u8],
+    datatypes: &[u8],
+    value: &mut usize,
+    column: &mut usize,
+    name_count: &mut usize,
+    code_length: &mut usize,
+) -> u8
+    ensures { λ r. ⌜ HandsReadLength (now (datatypes .entry)) (now (text .entry)) (now (value .exit)) (now (column .exit))
+        (now («name_count» .exit)) (now («code_length» .exit)) r ⌝ }
+{
+    let reading = skriduhol_terms::read_term_length(text, datatypes);
+    hand_reading(reading, value, column, name_count, code_length)
 }
