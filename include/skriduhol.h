@@ -293,6 +293,11 @@ uint8_t skriduhol_read_term(const uint8_t *text, size_t text_length, const uint8
                             uint16_t *records, size_t records_room, uint8_t *names, size_t names_room, uint8_t *code,
                             size_t code_room, size_t *value, size_t *column, size_t *name_count, size_t *code_length);
 
+/* How large that term is; never 16. *value, *name_count and *code_length: as above, so that 7 numbers for each node, 4 bytes for each
+   name and the bytes of code are the least room. */
+uint8_t skriduhol_read_term_length(const uint8_t *text, size_t text_length, const uint8_t *datatypes, size_t datatypes_length,
+                                   size_t *value, size_t *column, size_t *name_count, size_t *code_length);
+
 /* The index of the sheet's names, by which skriduhol_find_name finds one without comparing all. `slots` has SKRIDUHOL_SLOT_COUNT
    numbers, of which all that is said of `out` holds: a name's number or SKRIDUHOL_FREE. Names enter from number 0 up, repeats of
    earlier bytes not at all, each at its start slot or, where that is taken, at the next free one, round the end. The start slot is

@@ -25,7 +25,7 @@ __all__ = ["BOARD_ROOM", "CODE_ROOM", "FREE", "LONGEST_EXERCISE", "LONGEST_SHEET
            "Refused", "Style", "Whose", "atom_list", "atom_list_length", "board_output", "compare", "datatype_list",
            "datatype_list_length", "exercise", "exercise_length", "find_name", "graft", "graft_length", "handout",
            "handout_datatypes", "handout_datatypes_length", "handout_length", "judge", "label_count", "name_index", "plain_text",
-           "plain_text_length", "read_term", "restate", "restate_length", "strict_text", "strict_text_length"]
+           "plain_text_length", "read_term", "read_term_length", "restate", "restate_length", "strict_text", "strict_text_length"]
 
 VERSION: Final = 2
 """The version of include/skriduhol.h that this module is written for."""
@@ -219,6 +219,7 @@ _label_count = _function("label_count")
 _compare = _function("compare", _SIZE, _SIZE)
 _judge = _function("judge", *_LIST, _SIZE, result=_RESULT + [ctypes.POINTER(_SIZE)])
 _read_term = _function("read_term", *_BYTES, *_LIST, *_TEXT, *_TEXT, result=_RESULT + [ctypes.POINTER(_SIZE)] * 2)
+_read_term_length = _function("read_term_length", *_BYTES, result=_RESULT + [ctypes.POINTER(_SIZE)] * 2)
 _exercise = _function("exercise", _SIZE, _SIZE, *_TEXT)
 _SLOTS = ctypes.c_uint16 * SLOT_COUNT
 _name_index = _function("name_index", _SLOTS)
@@ -370,6 +371,17 @@ def read_term(text: str | bytes, datatypes: Sequence[str] = (), *, room: tuple[i
     pairs = struct.iter_unpack("<2H", ctypes.string_at(names, 4 * name_count.value))
     return ReadTerm(nodes, [content[offset:offset + length].decode() for offset, length in pairs],
                     ctypes.string_at(code, code_length.value))
+
+def read_term_length(text: str | bytes, datatypes: Sequence[str] = ()) -> tuple[int, int, int]:
+    """How large the term of a strict text is, as a room is counted: numbers of records, bytes of names and bytes of code."""
+    content, types = text.encode(errors="replace") if isinstance(text, str) else _frozen(text), _divided(datatypes)
+    name_count, code_length = _SIZE(), _SIZE()
+
+    def measured(*arguments: Any) -> int:
+        return _read_term_length(*arguments, ctypes.byref(name_count), ctypes.byref(code_length))
+
+    nodes = _asked(measured, content, types, len(types))
+    return RECORD_NUMBERS * nodes, 4 * name_count.value, code_length.value
 
 def exercise(names: Sequence[str], n: int, ordinal: int, *, room: int | None = None) -> bytes:
     """The code of the proposition at an ordinal, from 0, among all of at most n binary connectives over ⊤, ⊥ and up to 3 names, n

@@ -104,6 +104,16 @@ class Examples(unittest.TestCase):
             with self.assertRaises(ValueError):
                 skriduhol.read_term("x", room=room)
 
+    def test_the_size_of_a_read_term_is_its_least_room(self):
+        text, datatypes = "fn x: T => (x: A)", ["U", "T"]
+        size = skriduhol.read_term_length(text, datatypes)
+        self.assertEqual(size, (21, 12, 4))
+        self.assertEqual(skriduhol.read_term(text, datatypes, room=size), skriduhol.read_term(text, datatypes))
+        for part in range(3):
+            short = tuple(room - (part == at) for at, room in enumerate(size))
+            self.assert_refused(16, 0, 0, skriduhol.read_term, text, datatypes, room=short)
+        self.assert_refused(20, 0, 0, skriduhol.read_term_length, "in")
+
     def test_the_texts_of_sheets_are_read_back(self):
         for name, count in (("smallest", 1), ("second_drawing", 3), ("labelled_function", 4), ("case_as_an_argument", 8),
                             ("second_handout", 6), ("disjunction_swapped", 7)):

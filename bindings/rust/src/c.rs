@@ -175,6 +175,16 @@ extern "C" {
         name_count: *mut usize,
         code_length: *mut usize,
     ) -> u8;
+    fn skriduhol_read_term_length(
+        text: *const u8,
+        text_length: usize,
+        datatypes: *const u8,
+        datatypes_length: usize,
+        value: *mut usize,
+        column: *mut usize,
+        name_count: *mut usize,
+        code_length: *mut usize,
+    ) -> u8;
     fn skriduhol_exercise(
         names: *const u8,
         names_length: usize,
@@ -502,6 +512,27 @@ pub fn read_term(
             memory.names.len(),
             memory.code.as_mut_ptr(),
             memory.code.len(),
+            value,
+            column,
+            &mut counts.names,
+            &mut counts.code,
+        )
+    }
+}
+
+pub fn read_term_length(
+    text: &[u8],
+    datatypes: &[u8],
+    value: &mut usize,
+    column: &mut usize,
+    counts: &mut Counts,
+) -> u8 {
+    unsafe {
+        skriduhol_read_term_length(
+            text.as_ptr(),
+            text.len(),
+            datatypes.as_ptr(),
+            datatypes.len(),
             value,
             column,
             &mut counts.names,

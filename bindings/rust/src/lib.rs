@@ -318,6 +318,21 @@ pub fn read_term(text: &[u8], datatypes: &[u8], memory: TermMemory) -> Result<Re
     })
 }
 
+/// How large that term is: the room that `read_term` needs is `RECORD_NUMBERS` numbers for each node, 4 bytes for each name, and the
+/// bytes of code.
+pub fn read_term_length(text: &[u8], datatypes: &[u8]) -> Result<ReadTerm, Refusal> {
+    let mut counts = c::Counts::default();
+    let question = |value: &mut usize, column: &mut usize| {
+        c::read_term_length(text, datatypes, value, column, &mut counts)
+    };
+    let nodes = asked(question)?;
+    Ok(ReadTerm {
+        nodes,
+        names: counts.names,
+        code: counts.code,
+    })
+}
+
 /// The code of the proposition at an ordinal, from 0, among all of at most `n` binary connectives over ⊤, ⊥ and up to 3 names, `n` up
 /// to 3, at the start of `out`; its length in bytes. The names are divided by newlines, no bytes are no names, and in the code they
 /// are numbered as given. `include/skriduhol.h` says their order.

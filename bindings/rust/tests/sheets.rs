@@ -3,10 +3,10 @@ use skriduhol::{
     atom_list, atom_list_length, board_output, compare, datatype_list, datatype_list_length,
     exercise, exercise_length, find_name, graft, graft_length, handout, handout_datatypes,
     handout_datatypes_length, handout_length, judge, label_count, name_index, plain_text,
-    plain_text_length, read_term, restate, restate_length, strict_text, strict_text_length, Given,
-    GraftRefusal, Hypothesis, Judged, ReadTerm, Refusal, Style, TermMemory, Whose, BOARD_ROOM,
-    CODE_ROOM, FREE, LONGEST_EXERCISE, LONGEST_SHEET, LONGEST_TERM, NAME_ROOM, RECORD_NUMBERS,
-    RECORD_ROOM, SLOT_COUNT,
+    plain_text_length, read_term, read_term_length, restate, restate_length, strict_text,
+    strict_text_length, Given, GraftRefusal, Hypothesis, Judged, ReadTerm, Refusal, Style,
+    TermMemory, Whose, BOARD_ROOM, CODE_ROOM, FREE, LONGEST_EXERCISE, LONGEST_SHEET, LONGEST_TERM,
+    NAME_ROOM, RECORD_NUMBERS, RECORD_ROOM, SLOT_COUNT,
 };
 
 const SMALLEST: &[u8] = include_bytes!("../../../examples/sheets/smallest.sheet");
@@ -404,6 +404,11 @@ fn a_text_is_read() {
     let read = read_in([21, 12, 4], "fn x: T => (x: A)", "U\nT");
     let (nodes, names, code) = (3, 3, 4);
     assert_eq!(read.answer, Ok(ReadTerm { nodes, names, code }));
+    assert_eq!(read_term_length(b"fn x: T => (x: A)", b"U\nT"), read.answer);
+    assert_eq!(
+        read_term_length(b"fn x: T => (x: A)", b"in"),
+        refusal(20, 0)
+    );
     // x, then x: A, whose label stands at offset 0, then the function that binds x, with the datatype T for a label
     let (name, ascription) = ([0; 7], [11, 0, 0, 1, 0, 0, 1]);
     let function = [4, 1, 0, 2, 1, 0, 2];
