@@ -253,7 +253,7 @@ fn size_admitted(text: &[u8], types: &[u8]) -> TermRead
     let mut work = [0u16; WORK_SIZE];
     let mut pairs = [0u8; TABLE_SIZE];
     let s = measure(text, types, &mut pairs, &mut work);
-    if s.mode == REFUSED {
+    if s.mode == term_stack::REFUSED {
         return TermRead::Refused(Refusal::at(20, 0));
     }
     TermRead::Accepted(TermSize {
