@@ -283,8 +283,9 @@ uint8_t skriduhol_exercise_length(const uint8_t *names, size_t names_length, siz
                  5 application: function, argument              12 ()
                  6 let: head, body, the two names it binds      13 sorry
                A label is two numbers: 0 and 0 for none; 1 and half the offset of its proposition's code; 2 and a datatype's name.
-     names     4 bytes for each different name, in the order in which the text meets them: the offset in the text at which it first
-               stands, and its length, each low byte first, as in a sheet
+     names     4 bytes for each different name, in the order in which the text meets them: the offset of a place in the text where it
+               stands, and its length, each low byte first, as in a sheet. That the bytes there are the name's is proved; that the place
+               is the first one is tested
      code      the propositions of the labels in the order of the text, in the form of a sheet's, each from an even offset on; what lies
                between two of them, and one byte behind the last of an odd length, stays as it was
    *value: how many nodes there are. *name_count and *code_length, which are always set: how many names, and how many bytes of code, up
