@@ -1,4 +1,6 @@
 // Says of each file that its arguments name whether it holds a sheet, or which of refusals 1 to 11 it meets.
+#![tactic(auto)]
+
 use definitions::Refusal;
 use libc::STDOUT_FILENO;
 use sheet::Checked;

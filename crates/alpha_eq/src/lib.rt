@@ -1,6 +1,8 @@
 // Two propositions of a sheet compared up to the names of their bound objects, after `Prop::alpha_eq` of the Rust's prop.rs.
 // Names are equal where their bytes are, the latest binding decides, and the first no ends the walk. Where the Rust panics, two
 // atoms of one name with different parameter counts are a no, and two unbound parameters refusal 19.
+#![tactic(auto)]
+
 ghost use Rattle.std.specs.Prelude.{◌≡◌, get_or};
 ghost use Rattle.definitions.specs.Sheet.{marked};
 ghost use Rattle.number.specs.Pairs.{NameWithin};

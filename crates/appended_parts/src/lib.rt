@@ -1,5 +1,7 @@
 // What a graft appends to the host's parts, in order and without gaps: the donor's names that are missing, and all its propositions
 // over the merged numbers. Pairs and bytes stand in two memories until the merged sheet is written.
+#![tactic(auto)]
+
 ghost use Rattle.std.specs.Prelude.{List, [], ◌∷◌, ◌++◌, ℕ, ◌+◌, ◌<◌, ◌≤◌, length};
 ghost use Rattle.definitions.specs.Sheet.{code_limit, names, propositions, text_length};
 ghost use Rattle.definitions.specs.Graft.{missing};

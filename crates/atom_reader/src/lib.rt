@@ -1,6 +1,8 @@
 // An atom of a label: its name and its parameters, read from strict text into prefix code. A reader gives the place after what it
 // read, or a place past the end of the text where none stands there or there are too many names. Names are noted in any case; code is
 // stored only where `write` says so.
+#![tactic(auto)]
+
 ghost use Rattle.std.specs.Prelude.{◌≡◌, List, ◌<◌, length, drop};
 ghost use Rattle.definitions.specs.Name.{Name};
 ghost use Rattle.definitions.specs.Code.{parameter_limit};

@@ -1,5 +1,7 @@
 // Reads a sheet from standard input and prints its plain text, or the refusal's line. An input that cannot be read to its end counts
 // as the bytes that came.
+#![tactic(auto)]
+
 ghost use Rattle.std.specs.Prelude.{◌≡◌, length};
 ghost use Rattle.board.specs.Input.{input_room};
 

@@ -1,4 +1,6 @@
 // A caller's list of names: pieces of some bytes, divided by newlines.
+#![tactic(auto)]
+
 ghost use Rattle.std.specs.Prelude.{◌≡◌, ◌≤◌, length};
 ghost use Rattle.definitions.specs.Name.{eq_name};
 ghost use Rattle.definitions.specs.Text.{occurs};

@@ -1,5 +1,7 @@
 // Refusal 22: whether a proposition in code is quantifier-free, and whether a term in records has no let, no datatype label and
 // only such labels.
+#![tactic(auto)]
+
 ghost use Rattle.std.specs.Prelude.{◌≡◌, ℕ, ◌+◌, ◌*◌, ◌≤◌, List, length};
 ghost use Rattle.definitions.specs.Prop.{Prop, PropParameter};
 ghost use Rattle.definitions.specs.Code.{encode, Codable};

@@ -1,6 +1,8 @@
 // Checking and inferring over term records, as document 01's rules call each other. Every proposition that is checked against or
 // that a name stands for has its code in one memory; what a pair and a labelled function infer is made in another. Names are
 // numbers that are equal where their bytes are.
+#![tactic(auto)]
+
 ghost use Rattle.std.specs.Prelude.{◌≡◌, ℕ, ◌+◌, ◌*◌, ◌≤◌, ◌<◌, length, get_or, set};
 ghost use Rattle.definitions.specs.Prop.{Prop};
 ghost use Rattle.definitions.specs.TermText.{nodes};

@@ -1,1 +1,2 @@
 // Ticket 5's laws of the definitions on checking a term; no function.
+#![tactic(auto)]

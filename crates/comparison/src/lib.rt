@@ -1,5 +1,7 @@
 // The conclusions of two steps compared, for every sequence of bytes and every two numbers: refusals 1 to 11, then 17, then two
 // propositions up to the names of their bound objects, two type judgements by their names' bytes and their ids.
+#![tactic(auto)]
+
 ghost use Rattle.std.specs.Prelude.{◌≡◌, ◌<◌};
 ghost use Rattle.definitions.specs.Outcome.{accepted};
 ghost use Rattle.definitions.specs.Name.{eq_name};

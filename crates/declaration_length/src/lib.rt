@@ -1,4 +1,6 @@
 // How long the lines of declarations are, without writing them.
+#![tactic(auto)]
+
 ghost use Rattle.std.specs.Prelude.{◌≡◌, ◌≤◌, ◌<◌, length};
 ghost use Rattle.vocabulary.specs.Vocabulary.{name_in, Names};
 ghost use Rattle.prop_lists.specs.Entries.{use_of};

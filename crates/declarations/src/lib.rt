@@ -1,6 +1,8 @@
 // Declarations, after the Rust's generate_proof_term_from_proof_tree: the first occurrence of each atom by name bytes and count,
 // and of each datatype by name bytes. They stand in lent memory, a name's number and a count each; a datatype has the count 0.
 // The search among them follows the chain of a start slot, so that first occurrences take a time that grows with the uses.
+#![tactic(auto)]
+
 ghost use Rattle.std.specs.Prelude.{◌≡◌, [], ◌∷◌, ◌≤◌, ◌<◌};
 ghost use Rattle.definitions.specs.Code.{parameter_limit};
 ghost use Rattle.definitions.specs.NameIndex.{start_slot};

@@ -18,7 +18,7 @@ data Distinct : Hypotheses → Type 0 where
   added : {x : Identifier Name} {a : Prop Name} {hs : Hypotheses} → Fresh x hs → Distinct hs → Distinct (assume x a hs)
 
 -- a fresh name differs from that of each hypothesis in scope
-apart : {hs : Hypotheses} {h : Hypothesis} (x : Identifier Name)
+apart : {h : Hypothesis} {hs : Hypotheses} (x : Identifier Name)
     → Fresh x hs → Memᴰ h hs → eq_name x.name h.identifier.name ≡ false
 unfolding Fresh
 apart x f (Memᴰ.head p) = rw p f.0
@@ -27,6 +27,7 @@ apart x f (Memᴰ.tail i) = apart x f.1 i
 -- a hypothesis in scope is the latest of its name
 latest : {hs : Hypotheses} {h : Hypothesis} → Distinct hs → Memᴰ h hs → lookup h.identifier.name (context hs) ≡ some h.prop
 unfolding lookup context
+latest {h = h} nothing x3 = elim x3 [ ]
 latest {h = h} (added f d) (Memᴰ.head p) = rw (p, eq_name_refl)
 latest {h = h} (added {x = x} f d) (Memᴰ.tail i) = rw (apart x f i) (latest d i)
 

@@ -1,4 +1,6 @@
 // The types that every layer shares with the definitions.
+#![tactic(auto)]
+
 ghost use Rattle.std.specs.Prelude.{◌≡◌, ◌<◌};
 
 // A refusal of document 01 or 02: its number and its place.

@@ -1,5 +1,7 @@
 // Whether a conclusion of a host and one of a donor are equal, names taken by bytes: refusal 27. Propositions are compared by their
 // codes over the merged numbers, by which names have equal bytes just where their numbers are equal.
+#![tactic(auto)]
+
 ghost use Rattle.std.specs.Prelude.{◌≡◌, ◌-◌, ◌<◌, ◌≤◌, length, take};
 ghost use Rattle.definitions.specs.Name.{eq_name};
 ghost use Rattle.definitions.specs.Equal.{eq_conclusion};

@@ -1,4 +1,6 @@
 // The proposition at an ordinal among all small ones over a few zero-place names, found by division and remainder.
+#![tactic(auto)]
+
 mod names;
 
 ghost use Rattle.std.specs.Prelude.{◌≡◌, ◌<◌, length};

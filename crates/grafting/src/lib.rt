@@ -1,5 +1,7 @@
 // A graft, for every two sequences of bytes, every step and every room: the donor's steps in place of a Sorry step of the host that
 // has no premisses; or the first of the host's 1 to 11, the donor's, 26, 27, 28 and 16, and whose it is.
+#![tactic(auto)]
+
 ghost use Rattle.std.specs.Prelude.{◌≡◌, false, cond, List, ℕ, ◌+◌, ◌≤◌, ◌<◌, length, take, ltb};
 ghost use Rattle.definitions.specs.Sheet.{name_limit, tree_nesting_limit, names, steps, step_records};
 ghost use Rattle.definitions.specs.Tree.{height, root_of};

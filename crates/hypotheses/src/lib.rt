@@ -1,5 +1,7 @@
 // The hypotheses of a judgement: pairs of a name's number and a proposition's number, the latest last. Whether they are the sheet's,
 // whether they may be checked, and the scope that they fill.
+#![tactic(auto)]
+
 ghost use Rattle.std.specs.Prelude.{◌≡◌, false, [], ◌<◌};
 ghost use Rattle.definitions.specs.Sheet.{propositions};
 ghost use Rattle.definitions.specs.Sound.{is_quantifier_free};

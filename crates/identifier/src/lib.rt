@@ -1,4 +1,6 @@
 // Names, after the Rust's identifier.rs: which bytes are one, how two stand to each other, and where a name stood first.
+#![tactic(auto)]
+
 mod classes;
 
 ghost use Rattle.std.specs.Prelude.{◌≡◌};

@@ -1,5 +1,7 @@
 // The name context, after the Rust's identifier_context.rs, in lent memory: four numbers for each entry, the oldest entry first.
 // The caller keeps the count of entries. Names are numbers of the sheet, and equal where their bytes are.
+#![tactic(auto)]
+
 ghost use Rattle.std.specs.Prelude.{◌≡◌, ◌+◌, ◌-◌, ◌*◌, ◌≤◌, ◌<◌, length};
 ghost use Rattle.definitions.specs.Sheet.{marked};
 ghost use Rattle.number.specs.Pairs.{NameWithin};

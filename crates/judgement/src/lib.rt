@@ -1,5 +1,7 @@
 // Whether the checking rules derive a judgement about a sheet's own term, for every sequence of bytes and every question. Before they
 // are asked, every name gets the lowest number of its bytes, in the term and in the code.
+#![tactic(auto)]
+
 ghost use Rattle.std.specs.Prelude.{◌≡◌, ◌||◌, ◌+◌, ◌≤◌, length, take, leb};
 ghost use Rattle.definitions.specs.Outcome.{accepted};
 ghost use Rattle.definitions.specs.Sheet.{name_limit, names, propositions, proposition_pairs, code_bytes};

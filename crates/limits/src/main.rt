@@ -1,5 +1,7 @@
 // Prints the plain text of drawings in rooms of memory. Its arguments are a room in bytes and the file of a drawing, by turns. The
 // memory is lent full of dots, and printed as it stands after.
+#![tactic(auto)]
+
 ghost use Rattle.std.specs.Prelude.{◌≡◌, ◌≤◌, length};
 
 use definitions::Located;

@@ -1,4 +1,6 @@
 // How long the atom list and the datatype list of a sheet's term are, without writing them. Entries are counted, and then their numbers.
+#![tactic(auto)]
+
 ghost use Rattle.std.specs.Prelude.{◌≡◌, ◌≤◌, ◌<◌, length};
 ghost use Rattle.definitions.specs.Outcome.{map_outcome};
 ghost use Rattle.definitions.specs.Answers.{sheet_term};

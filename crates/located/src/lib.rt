@@ -1,4 +1,6 @@
 // A refusal as it is handed back: with the column of the step that it names, and as a line.
+#![tactic(auto)]
+
 ghost use Rattle.std.specs.Prelude.{◌≡◌, true, ◌≤◌, length};
 ghost use Rattle.definitions.specs.Sheet.{column, step_records};
 ghost use Rattle.definitions.specs.Answers.{names_step, located, column_words, refusal_line};

@@ -1,5 +1,7 @@
 // How long a restated sheet, a merged one and the code of an exercise are: each is made in memory of its own, which has room for the
 // longest.
+#![tactic(auto)]
+
 ghost use Rattle.std.specs.Prelude.{◌≡◌};
 ghost use Rattle.definitions.specs.Restate.{restated};
 ghost use Rattle.output.specs.Written.{written_of};

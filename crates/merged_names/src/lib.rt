@@ -1,5 +1,7 @@
 // The numbers that names have in a merged sheet: the lowest of equal bytes among the host's names and then the missing ones. Each
 // sheet has its index beside it, so that a name is found at once.
+#![tactic(auto)]
+
 ghost use Rattle.std.specs.Prelude.{◌≡◌, true, false, cond, ◌+◌, ◌<◌, length, get_or};
 ghost use Rattle.definitions.specs.declared.Found.TheVariants.{At};
 ghost use Rattle.definitions.specs.Sheet.{names};

@@ -1,5 +1,7 @@
 // The sheet of a host with a donor's steps in place of one of its own: the host's parts as they are, each followed by what is
 // appended. What is appended is made first, so that the header is known, and with it whether the sheet passes a limit and fits.
+#![tactic(auto)]
+
 ghost use Rattle.std.specs.Prelude.{◌≡◌, true, false, ◌≤◌, ◌<◌, length, take};
 ghost use Rattle.definitions.specs.Sheet.{names, steps};
 ghost use Rattle.definitions.specs.Graft.{not_open};

@@ -1,4 +1,6 @@
 // The index of names: 1,024 slots, a name's number behind the taken slots from its start slot on, round the end.
+#![tactic(auto)]
+
 ghost use Rattle.std.specs.Prelude.{◌≡◌, ◌+◌, ◌*◌, ◌%◌, ◌<◌, ◌≤◌, length, take, drop, replicate};
 ghost use Rattle.definitions.specs.Outcome.{found_at};
 ghost use Rattle.definitions.specs.Sheet.{name_limit};

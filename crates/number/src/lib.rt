@@ -1,4 +1,6 @@
 // Document 01's numbers: a u16, low byte first; and its pairs of an offset and a length.
+#![tactic(auto)]
+
 ghost use Rattle.std.specs.Prelude.{◌≡◌, ◌+◌, ◌*◌, ◌<◌, ◌≤◌, length};
 ghost use Rattle.definitions.specs.Sheet.{pair_size, number_at, pair_offset, pair_length, marked};
 ghost use Rattle.number.specs.Pairs.{NameWithin};

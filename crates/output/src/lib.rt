@@ -1,5 +1,7 @@
 // Writing into lent memory. Each function returns the position after what it writes, or a position past the end where that does
 // not fit. A dry run, with `write` false, returns a position by the same rule and leaves the memory as it is.
+#![tactic(auto)]
+
 ghost use Rattle.std.specs.Prelude.{[], ◌∷◌, ◌≡◌, ◌+◌, ◌-◌, ◌≤◌, min, length, take};
 ghost use Rattle.definitions.specs.Code.{u16};
 ghost use Rattle.definitions.specs.Text.{decimal};

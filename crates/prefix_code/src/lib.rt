@@ -1,4 +1,6 @@
 // A proposition's prefix code: where it ends, whether it is one, and whether it nests too deep.
+#![tactic(auto)]
+
 ghost use Rattle.std.specs.Prelude.{◌≡◌, ℕ, ◌≤◌, ◌<◌, false, not, length, ltb};
 ghost use Rattle.std.proofs.Math.Option.{get_or};
 ghost use Rattle.definitions.specs.Prop.{False, nesting};

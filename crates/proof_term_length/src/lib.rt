@@ -1,4 +1,6 @@
 // How long the text of a term is, from its records, without printing it. Lengths are counted as far as a cap: one past the room.
+#![tactic(auto)]
+
 ghost use Rattle.std.specs.Prelude.{◌≡◌, List, ℕ, ◌+◌, ◌*◌, ◌≤◌, ◌<◌, min, length};
 ghost use Rattle.proof_term.specs.Records.{record_size};
 ghost use Rattle.prop.specs.Printing.{prop_text, Printable};

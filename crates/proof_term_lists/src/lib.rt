@@ -1,5 +1,7 @@
 // The atom list and the datatype list of a term in records, as numbers in lent memory. The records stand in the term's order, so that
 // a list is what the labels of one record after the other add.
+#![tactic(auto)]
+
 ghost use Rattle.std.specs.Prelude.{◌≡◌, ◌+◌, ◌*◌, ◌≤◌, length};
 ghost use Rattle.output.specs.Wrote.{Wrote};
 ghost use Rattle.proof_term.specs.Records.{record_size};

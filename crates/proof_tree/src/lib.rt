@@ -1,5 +1,7 @@
 // From the steps of a sheet to the records of its term (source document 000).
 // The count of names, by which propositions are read from their code, is passed on for the contracts alone.
+#![tactic(auto)]
+
 mod conclusion;
 mod step;
 mod table;

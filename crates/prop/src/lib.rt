@@ -1,4 +1,6 @@
 // Propositions, after the Rust's prop.rs: where the code of each part ends, how strongly a proposition binds, and its text.
+#![tactic(auto)]
+
 ghost use Rattle.std.specs.Prelude.{◌≡◌, ℕ, ◌<◌, ltb};
 ghost use Rattle.definitions.specs.Name.{Name};
 ghost use Rattle.definitions.specs.Prop.{Connective, connective_byte, Quantifier, quantifier_byte, rename_prop};

@@ -1,6 +1,8 @@
 // What stands around the parts of a proposition, read from strict text into prefix code: a negation's sign, brackets, a quantifier
 // with its names, a connective between two sides. A reader gives the place after what it read, or a place past the end of the text
 // where that does not stand there or there are too many names.
+#![tactic(auto)]
+
 ghost use Rattle.std.specs.Prelude.{◌≡◌, List, ℕ, ◌+◌, ◌≤◌, ◌<◌, max, length, drop};
 ghost use Rattle.definitions.specs.Name.{Name};
 ghost use Rattle.definitions.specs.Prop.{Prop, Connective, connective_byte};

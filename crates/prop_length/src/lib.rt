@@ -1,4 +1,6 @@
 // How long the text of a proposition is, without printing it.
+#![tactic(auto)]
+
 ghost use Rattle.vocabulary.specs.Vocabulary.{name_in, Names};
 ghost use Rattle.prop.specs.Printing.{prop_text, part_text, AtomPrintable, Printable};
 ghost use Rattle.prop_length.specs.Length.{NameLength, TextLength};

@@ -1,5 +1,7 @@
 // The entries of a proposition in a list, after the Rust's get_atoms and get_datatypes: its atoms or its datatypes, left to right with
 // repeats. One walk over the heads of its code hands them out.
+#![tactic(auto)]
+
 ghost use Rattle.std.specs.Prelude.{◌≡◌, [], ◌∷◌, ◌<◌};
 ghost use Rattle.output.specs.Wrote.{Wrote};
 ghost use Rattle.vocabulary.specs.Vocabulary.{prop_in, SomeProposition};

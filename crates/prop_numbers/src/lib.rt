@@ -1,5 +1,7 @@
 // Propositions as numbers: the offset of a code that stands, or past all code the node that made it of two others. Names are numbers
 // that are equal where their bytes are, so two propositions that stand are equal where their code bytes are.
+#![tactic(auto)]
+
 ghost use Rattle.std.specs.Prelude.{◌≡◌, ℕ, ◌≤◌, ◌<◌, length};
 ghost use Rattle.definitions.specs.Name.{Name};
 ghost use Rattle.definitions.specs.Prop.{rename_prop};

@@ -1,5 +1,7 @@
 // The parts of a label's text and of its code: signs, connectives and names, and the bytes that stand for them. A reader gives a
 // place past the end of the text where nothing stands.
+#![tactic(auto)]
+
 ghost use Rattle.std.specs.Prelude.{◌≡◌, ◌≤◌, ◌<◌, length};
 ghost use Rattle.definitions.specs.Prop.{Connective, connective_byte};
 ghost use Rattle.definitions.specs.Code.{u16};

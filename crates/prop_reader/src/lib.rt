@@ -1,6 +1,8 @@
 // The label of a term, read from strict text: a proposition into prefix code, or a datatype. Each reader gives the place after what
 // it read, or a place past the end of the text where none stands there or there are too many names. Names are noted in any case;
 // code is stored only where `write` says so.
+#![tactic(auto)]
+
 ghost use Rattle.std.specs.Prelude.{List, ◌+◌, ◌≤◌, ◌<◌, length, drop};
 ghost use Rattle.definitions.specs.CallerNames.{names_in};
 ghost use Rattle.definitions.specs.Name.{Name};

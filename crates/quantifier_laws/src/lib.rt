@@ -1,1 +1,2 @@
 // Ticket 12's definitions and laws on quantifiers under the accuracy statement; no function.
+#![tactic(auto)]

@@ -1,4 +1,6 @@
 // A reader holds a sheet and a position in it. Its functions take it apart, and leave the work to functions of a slice and a position.
+#![tactic(auto)]
+
 ghost use Rattle.std.specs.Prelude.{◌≡◌, ◌*◌};
 ghost use Rattle.reader.specs.Reading.{bytes_after, number_after, position_after};
 

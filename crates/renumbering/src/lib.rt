@@ -1,5 +1,7 @@
 // Propositions and steps written again over other name numbers: each name goes through a map, a step's proposition is counted on
 // from another sheet's, and all else stays as it is.
+#![tactic(auto)]
+
 ghost use Rattle.std.specs.Prelude.{◌≡◌, true, ◌<◌, ◌≤◌, length};
 ghost use Rattle.output.specs.Wrote.{Wrote};
 ghost use Rattle.prefix_code.specs.Scan.{proposition_coding, parameter_coding, parameters_coding};

@@ -1,6 +1,8 @@
 // Asks each question of a fixed list of sheets, of names for exercises and of texts of terms, and says how many of the answers agree
 // with those that the list holds: the Rust's, and those of documents 01 and 02 where the Rust has none. tests/oracle/README.md has the
 // form of the list, and README.md says how it is made.
+#![tactic(auto)]
+
 ghost use Rattle.std.specs.Prelude.{◌<◌, ◌≤◌};
 ghost use Rattle.io.specs.Counts.{IsPrefixLen};
 

@@ -1,5 +1,7 @@
 // Asks each question of a fixed list of sequences on a name context, and says how many of the answers agree with those that the list
 // holds: the Rust's, and document 01's where the lent room is full. tests/oracle/README.md has the form of the list.
+#![tactic(auto)]
+
 ghost use Rattle.std.specs.Prelude.{◌≡◌, Bool, ◌<◌, ◌≤◌};
 ghost use Rattle.number.specs.Pairs.{NameWithin};
 ghost use Rattle.identifier_context.specs.Memory.{Holds};

@@ -1,5 +1,7 @@
 // A conclusion restated, after the Rust's create_alphq_eq_tree: the old sheet with one more step, AlphaEquivalent over the old root,
 // for every sequence of bytes and every room; 1 to 11, 23, 24, 19 or 25, 16.
+#![tactic(auto)]
+
 ghost use Rattle.std.specs.Prelude.{◌≡◌, false, true, ℕ, ◌<◌, length, take};
 ghost use Rattle.definitions.specs.Outcome.{accepted};
 ghost use Rattle.definitions.specs.Sheet.{step_size, step_limit, names, propositions, steps, step_records};

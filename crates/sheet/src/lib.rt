@@ -1,4 +1,6 @@
 // The sheet: its header, its parts, and which bytes are one.
+#![tactic(auto)]
+
 mod header;
 mod pairs;
 mod parts;

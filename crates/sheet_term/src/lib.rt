@@ -1,4 +1,6 @@
 // The term of a sheet in records, for every sequence of bytes, and what its readers may know of it.
+#![tactic(auto)]
+
 ghost use Rattle.std.specs.Prelude.{◌≡◌};
 ghost use Rattle.definitions.specs.Sheet.{steps, step_records};
 ghost use Rattle.definitions.specs.Answers.{label_count};

@@ -1,5 +1,7 @@
 // The public operations, for every sequence of bytes and every room: each equals a definition, and a refusal leaves the lent memory
 // as it was, save that the board's output is then the refusal's line.
+#![tactic(auto)]
+
 ghost use Rattle.std.specs.Prelude.{◌≡◌, List, [], ℕ, length, take};
 ghost use Rattle.definitions.specs.Outcome.{Outcome};
 ghost use Rattle.definitions.specs.declared.Style.TheVariants.{Plain, Strict};

@@ -1,6 +1,8 @@
 // The public operations for callers in C and in Rust. A slice is a pointer and a length there. Each result is 0 for an accepted
 // answer or the refusal's number, and the value is what was accepted, as one number, or the refusal's place. The column is
 // that of the step that refusals 9 to 15 name, else 0.
+#![tactic(auto)]
+
 ghost use Rattle.std.specs.Prelude.{◌≡◌, List, [], ℕ, length};
 ghost use Rattle.definitions.specs.Outcome.{Outcome};
 ghost use Rattle.definitions.specs.Name.{Name};

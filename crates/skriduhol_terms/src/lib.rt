@@ -1,4 +1,6 @@
 // The public operations on terms, for every input: each equals a definition.
+#![tactic(auto)]
+
 ghost use Rattle.std.specs.Prelude.{◌≡◌};
 ghost use Rattle.definitions.specs.Outcome.{Outcome};
 ghost use Rattle.definitions.specs.Name.{Name};

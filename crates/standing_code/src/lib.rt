@@ -1,4 +1,6 @@
 // The code of a sheet's propositions over other name numbers, each where it stood, with ⊤ and ⊥ behind all of them.
+#![tactic(auto)]
+
 ghost use Rattle.standing_code.specs.Over.{Codes, CodeOver, CodeStands};
 
 use number::{marked_bytes, pair_offset};

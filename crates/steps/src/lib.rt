@@ -1,4 +1,6 @@
 // The step records of a sheet: a step as a value, refusals 9, 10 and 11, and the sizes of the steps' trees.
+#![tactic(auto)]
+
 ghost use Rattle.std.specs.Prelude.{ℕ, ◌+◌, ◌≤◌, ◌<◌, max, ◌≡◌, List, length, get_or};
 ghost use Rattle.definitions.specs.Outcome.{lowest, found_at};
 ghost use Rattle.definitions.specs.Sheet.{step_size, step_limit, rule_byte, premiss_count, step_number, column};

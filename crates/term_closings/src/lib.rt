@@ -1,4 +1,6 @@
 // What a turn behind a term does: an argument, a label, or what the entry on top of the stack waits for.
+#![tactic(auto)]
+
 ghost use Rattle.std.specs.Prelude.{true, false, ◌≡◌, ◌<◌, ◌≤◌, length, drop};
 ghost use Rattle.definitions.specs.Utf8.{utf8};
 ghost use Rattle.definitions.specs.TermReader.{argument_follows};

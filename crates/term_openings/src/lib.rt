@@ -1,4 +1,6 @@
 // What a turn of the reader of terms does before a term: a word, a name, a bracket that opens.
+#![tactic(auto)]
+
 ghost use Rattle.std.specs.Prelude.{◌≡◌, ◌≤◌, length};
 ghost use Rattle.std.proofs.Math.Option.{Option};
 ghost use Rattle.definitions.specs.CallerNames.{names_in};

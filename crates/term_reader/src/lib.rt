@@ -1,4 +1,6 @@
 // A term, read from strict text into lent memory: turn after turn, until there is no term or nothing waits for it.
+#![tactic(auto)]
+
 ghost use Rattle.std.specs.Prelude.{◌≡◌, true, false, [], ◌≤◌, ◌*◌, length, take};
 ghost use Rattle.std.proofs.Math.Seq.{paste};
 ghost use Rattle.std.proofs.lemmas.List.Edits.{sets};

@@ -1,4 +1,6 @@
 // A term in records over other name numbers, in place: each number of a record that is a name goes through a map.
+#![tactic(auto)]
+
 ghost use Rattle.std.specs.Prelude.{◌≡◌, ◌+◌, ◌*◌, ◌≤◌, ◌<◌, length, set};
 ghost use Rattle.proof_term.specs.Records.{record_size, field_at};
 ghost use Rattle.renumbering.specs.Renumbered.{mapped};

@@ -1,5 +1,7 @@
 // How many nodes the term of each record has, kept in the record in the place of its label count: so that a walk over a term finds the
 // number of a node after a part at once.
+#![tactic(auto)]
+
 ghost use Rattle.std.specs.Prelude.{◌≡◌, ℕ, ◌+◌, ◌*◌, ◌≤◌, ◌<◌, length};
 ghost use Rattle.definitions.specs.Prop.{Prop};
 ghost use Rattle.definitions.specs.TermText.{nodes};

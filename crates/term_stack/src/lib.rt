@@ -1,5 +1,7 @@
 // The memory of the reader of terms: the records of what was read, behind them a stack of entries for what is not finished, and the
 // term in hand, whose record is the last.
+#![tactic(auto)]
+
 ghost use Rattle.std.specs.Prelude.{◌≡◌, true, ◌<◌, ◌≤◌, max, length, get_or, leb};
 ghost use Rattle.definitions.specs.TermReader.{same};
 ghost use Rattle.term_stack.specs.Forms.{form_table};

@@ -1,4 +1,6 @@
 // The text of a sheet's term: the declarations, and then the term (source document 005).
+#![tactic(auto)]
+
 ghost use Rattle.std.specs.Prelude.{◌≡◌, true, List, ℕ, length};
 ghost use Rattle.definitions.specs.declared.Version.TheVariants.{First};
 ghost use Rattle.definitions.specs.Outcome.{accepted};

@@ -1,5 +1,7 @@
 // The names and the code of propositions in one memory: those of a sheet, or of a term that was read. A function that reads names or
 // propositions takes the memory and a vocabulary; one that compares two memories takes two of each.
+#![tactic(auto)]
+
 ghost use Rattle.std.specs.Prelude.{◌≡◌, ◌+◌, ◌≤◌, length, take, drop};
 ghost use Rattle.definitions.specs.Name.{eq_name, compare_name};
 ghost use Rattle.vocabulary.specs.Vocabulary.{pairs_in, text_in, code_in, name_in, Within, Names, SomeProposition, ShapeIn};

@@ -1,5 +1,7 @@
 // What stands in front in the text of a term: words, names, expected bytes. Each reader gives the place after what it read, or a
 // place past the end of the text where that does not stand there.
+#![tactic(auto)]
+
 ghost use Rattle.std.specs.Prelude.{◌≡◌, List, ℕ, ◌+◌, ◌≤◌, ◌<◌, length, drop};
 ghost use Rattle.definitions.specs.TermText.{is_admitted, all_admitted};
 ghost use Rattle.definitions.specs.CallerNames.{names_in};
