@@ -1,6 +1,6 @@
 -- A table's rule, proved at every entry by one test that antt computes over the whole table.
 use mathlib.Core.Path.{◌≡◌}
-use mathlib.Core.Bool.{Bool, true, ◌&&◌}
+use mathlib.Core.Bool.{Bool, false, true, ◌&&◌}
 use mathlib.Core.List.{List, [], ◌∷◌}
 use Prim.Native.Nat.{ℕ, zero, suc, ◌+◌, ◌<◌}
 use native.Mathlib.Nat.{zero-add, suc-add, add-suc, add-zero}
@@ -15,6 +15,7 @@ module _ (rule : ℕ → ℕ) where
   follows i (x ∷ xs) = eqb x (rule i) && follows (suc i) xs
 
   both : (a b : Bool) → T (a && b) → T a × T b
+  both false b t = elim t [ ]
   both true b t = (tt, t)
 
   entry_from : (table : List ℕ) (i : ℕ) → T (follows i table) → (k : ℕ) → k < length table → get_or table k 0 ≡ rule (i + k)
