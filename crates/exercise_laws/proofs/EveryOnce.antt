@@ -29,9 +29,9 @@ joined_of c (p ∷ ps) qs h = elim (in_either (map (Binary c p) qs) (joined c ps
   | inr k ↦ let j = joined_of c ps qs k in record { left = j.left; right = j.right; is = j.is; of_left = later j.of_left; of_right = j.of_right }
 ]
 
-in_joined : (c : Connective) {ps qs : List (Prop ℕ)} {p q : Prop ℕ} → In p ps → In q qs → In (Binary c p q) (joined c ps qs)
+in_joined : (c : Connective) {p q : Prop ℕ} {ps qs : List (Prop ℕ)} → In p ps → In q qs → In (Binary c p q) (joined c ps qs)
 unfolding joined
-in_joined c {qs = qs} {q = q} (here {b = b} {l = ps} e) k = in_left {l = map (Binary c b) qs} (joined c ps qs) (rw e (in_map (Binary c b) k))
+in_joined c {q = q} {qs = qs} (here {b = b} {l = ps} e) k = in_left {l = map (Binary c b) qs} (joined c ps qs) (rw e (in_map (Binary c b) k))
 in_joined c {qs = qs} (later {b = b} h) k = in_right (map (Binary c b) qs) (in_joined c h k)
 
 once_joined : (c : Connective) (ps qs : List (Prop ℕ)) → Once ps → Once qs → Once (joined c ps qs)

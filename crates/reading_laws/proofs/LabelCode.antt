@@ -11,7 +11,7 @@ use Rattle.definitions.specs.Prop.{Prop, True, False, Binary, Atom, Quantified, 
 use Rattle.definitions.specs.Code.{u16, encode_parameter, encode_parameters, encode}
 use Rattle.definitions.specs.Display.{wrap, is_negation, precedence, wraps_left, wraps_right, connective_text, quantifier_text, following_parameters, display_parameters, display_prop}
 use Rattle.definitions.specs.TermText.{Admitted, ConventionalParameters, ConventionalProp, code_bytes}
-use Rattle.reading_laws.proofs.WordsRead.{is_name}
+use Rattle.reading_laws.proofs.WordsRead.{is_name_lem}
 
 -- a name has a byte
 name_long : (x : Name) → is_name x ≡ true → 1 ≤ length x
@@ -20,7 +20,7 @@ name_long [] h = absurd (true≢false (sym h))
 name_long (b ∷ x) h = omega arith
 
 some_byte : (x : Name) → Admitted x → 1 ≤ length x
-some_byte x ok = name_long x (is_name x ok)
+some_byte x ok = name_long x (is_name_lem x ok)
 
 -- what is denied has a code of one byte
 short_false : (c : Connective) (q : Prop Name) → is_negation c q ≡ true → length (encode (rename_prop {M = ℕ} (λ x. 0) q)) ≡ 1

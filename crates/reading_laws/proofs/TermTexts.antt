@@ -23,7 +23,7 @@ use Rattle.definitions.specs.TermText.{keywords, is_admitted, Admitted, Conventi
 use Rattle.definitions.specs.TermReader.{Shown, standing, same, due, inner, word, longer, named, name, expect, if_read, or_read, means, connective, strong_enough, goes_on, is_open, Start, no_word, start_of, is_sorry, argument_begins, argument_follows, label, parameter_label, ascribed, closed_or_paired, opened, closed, function, case_of, let_in, started, head, arguments, read_term}
 use Rattle.definitions.specs.TermReader as reader
 use Rattle.definitions.proofs.Readings.{given}
-use Rattle.reading_laws.proofs.WordsRead.{stops, word_whole, is_name, read_word, read_name, no_start}
+use Rattle.reading_laws.proofs.WordsRead.{stops, word_whole, is_name_lem, read_word, read_name, no_start}
 use Rattle.reading_laws.proofs.PropTexts.{After, extra, same_same, not_read, read_whole_prop}
 
 -- whether bytes stand in front
@@ -131,7 +131,7 @@ module _ (types : List Name) (levels : ℕ) where
 
   pub unopened : (t : ProofTerm Name) → Good t → (s : List ℕ) → is_next (utf8 ")") (display_term Strict t ++ s) ≡ false
   unfolding is_next if_read expect display_term Each
-  unopened (Ident x) ok s = unopened_name x s (is_name x ok)
+  unopened (Ident x) ok s = unopened_name x s (is_name_lem x ok)
   unopened (Pair a b) ok s = refl
   unopened (Named f a) ok s = unopened_function f _ s
   unopened (Function x l a) ok s = refl

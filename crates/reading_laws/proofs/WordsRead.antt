@@ -51,9 +51,9 @@ module _ (x : Name) (admitted : Admitted x) where
   unfolding is_admitted
   well_formed_lem = ((and-eq-true_iff (well_formed x) _).0 admitted).0
 
-  pub is_name : is_name x ≡ true
+  pub is_name_lem : is_name x ≡ true
   unfolding well_formed
-  is_name = ((and-eq-true_iff (leb (length x) name_length_limit) (is_name x)).0 well_formed_lem).1
+  is_name_lem = ((and-eq-true_iff (leb (length x) name_length_limit) (is_name x)).0 well_formed_lem).1
 
   no_keyword : occurs eq_name x keywords ≡ false
   unfolding is_admitted
@@ -61,7 +61,7 @@ module _ (x : Name) (admitted : Admitted x) where
 
   -- an admitted name is read as a word and as a name
   pub read_word : (rest : List ℕ) → stops rest ≡ true → word (x ++ rest) ≡ record { value = x; rest = rest }
-  read_word rest e = word_whole x rest (name_follows x is_name) e
+  read_word rest e = word_whole x rest (name_follows x is_name_lem) e
 
   pub read_name : (rest : List ℕ) → stops rest ≡ true → name (x ++ rest) ≡ given x rest
   unfolding name named

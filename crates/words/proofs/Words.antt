@@ -15,7 +15,7 @@ use Rattle.definitions.specs.CallerNames.{newline, in_front, pieces, names_in, w
 use Rattle.definitions.specs.Term.{fst, snd, inl, inr, abort}
 use Rattle.definitions.specs.TermReader.{word, named, name, expect, if_read, Start, fn_word, case_word, let_word, sorry_word, no_word, call_word, start_of, is_sorry, is_open, argument_begins, argument_follows}
 use Rattle.definitions.proofs.Names.{eq_name_true}
-use Rattle.reading_laws.proofs.WordsRead.{well_formed_lem, is_name}
+use Rattle.reading_laws.proofs.WordsRead.{well_formed_lem, is_name_lem}
 use Rattle.words.specs.Places.{between, Ends, WordEnds, NameEnds, Expected}
 
 name_some : (x : Name) → is_name x ≡ true → 0 < length x
@@ -28,7 +28,7 @@ pub admitted_length : (x : Name) → is_admitted x ≡ true → (0 < length x) �
 unfolding well_formed
 admitted_length x e =
     let short = ((and-eq-true_iff (leb (length x) name_length_limit) _).0 (well_formed_lem x e)).0 in
-    (name_some x (is_name x e), leb-true _ _ short)
+    (name_some x (is_name_lem x e), leb-true _ _ short)
 
 -- the words that are no names, as a list
 pub keyword_list : names_in (utf8 "fn\ncase\nof\ninl\ninr\nlet\nin\nfst\nsnd\nabort\nsorry") ≡ keywords
