@@ -66,6 +66,9 @@ Constant (constant y i) = Unit {0}
 settled_bound : (d : ℕ) (cs : List Above) (y : Name) → Settled cs → Constant (bound_in d cs y)
 unfolding bound_in
 settled_bound d [] y h = tt
+settled_bound d (passed _ ∷ cs) y h = elim h [ ]
+settled_bound d (opened x (bound _) ∷ cs) y h = elim h [ ]
+settled_bound d (opened x (free _) ∷ cs) y h = elim h [ ]
 settled_bound d (opened x (constant w i) ∷ cs) y h = go (eq_name x y) (settled_bound d cs y h)
   where
     go : (b : Bool) → Constant (bound_in d cs y) → Constant (cond b (constant w i) (bound_in d cs y))
@@ -76,10 +79,14 @@ settled_bound d (opened x (constant w i) ∷ cs) y h = go (eq_name x y) (settled
 settled_depth : (d e : ℕ) (cs : List Above) (y : Name) → Settled cs → bound_in d cs y ≡ bound_in e cs y
 unfolding bound_in
 settled_depth d e [] y h = refl
+settled_depth d e (passed _ ∷ cs) y h = elim h [ ]
+settled_depth d e (opened x (bound _) ∷ cs) y h = elim h [ ]
+settled_depth d e (opened x (free _) ∷ cs) y h = elim h [ ]
 settled_depth d e (opened x (constant w i) ∷ cs) y h = rw (settled_depth d e cs y h)
 
 instantiate_constant : (d : ℕ) (o p : Object) → Constant p → instantiate_object d o p ≡ p
 unfolding instantiate_object
+instantiate_constant d o (bound _) h = elim h [ ]
 instantiate_constant d o (free y) h = refl
 instantiate_constant d o (constant y i) h = refl
 

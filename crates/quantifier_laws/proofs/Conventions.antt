@@ -20,7 +20,7 @@ data Distinct : Scope → Type 0 where
   added : {x : Identifier Name} {f : Fact} {hs : Scope} → Fresh x hs → Distinct hs → Distinct (assume x f hs)
 
 -- a fresh name differs from each in scope
-apart : {hs : Scope} {h : Assumption} (x : Identifier Name)
+apart : {h : Assumption} {hs : Scope} (x : Identifier Name)
     → Fresh x hs → Memᴰ h hs → eq_name x.name h.identifier.name ≡ false
 unfolding Fresh
 apart x f (Memᴰ.head p) = rw p f.0
@@ -30,6 +30,7 @@ apart x f (Memᴰ.tail i) = apart x f.1 i
 found : (xs : List Name) {hs : Scope} {h : Assumption} → Distinct hs → Memᴰ h hs
     → lookup h.identifier.name (among_entries xs (entries hs)) ≡ some (among_fact xs h.fact)
 unfolding lookup entries among_entries
+found xs {h = h} nothing x3 = elim x3 [ ]
 found xs {h = h} (added f d) (Memᴰ.head p) = rw (p, eq_name_refl)
 found xs {h = h} (added {x = x} f d) (Memᴰ.tail i) = rw (apart x f i) (found xs d i)
 

@@ -30,6 +30,7 @@ embed_one h = record { identifier = h.identifier; fact = proves (nameless [] h.p
 among_embedded : (x : Identifier Name) (a : Prop Name) (hs : plain.Hypotheses) → Memᴰ (record { identifier = x; prop = a }) hs
     → Memᴰ (record { identifier = x; fact = proves (nameless [] a) }) (embed hs)
 unfolding embed embed_one
+among_embedded x a [] x'' = elim x'' [ ]
 among_embedded x a (h ∷ hs) (Memᴰ.head p) = Memᴰ.head (ap embed_one p)
 among_embedded x a (h ∷ hs) (Memᴰ.tail i) = Memᴰ.tail (among_embedded x a hs i)
 
