@@ -25,10 +25,10 @@ use Rattle.skriduhol.specs.Asked.{asked_of}
 use Rattle.skriduhol.specs.Located.{filled_of, FillsOf}
 
 -- what the program answers of a number is what the number asks for
-pub version_of : (o : Outcome Version) {v : Version} → asked_of o ≡ Of v → o ≡ accepted v
+pub version_of_lem : (o : Outcome Version) {v : Version} → asked_of o ≡ Of v → o ≡ accepted v
 unfolding asked_of
-version_of (accepted w) e = cc
-version_of (refused r) e = let no : ◌≡◌ {A = ℕ} 0 1 = cc in absurd (omega arith)
+version_of_lem (accepted w) e = cc
+version_of_lem (refused r) e = let no : ◌≡◌ {A = ℕ} 0 1 = cc in absurd (omega arith)
 
 pub refusal_of : (o : Outcome Version) {x : Refusal} → asked_of o ≡ NoVersion x → o ≡ refused x
 unfolding asked_of
@@ -41,12 +41,12 @@ module _ (version : ℕ) {a : Asked} (asked : a ≡ asked_of (version_of version
   module _ {v : Version} (e : a ≡ Of v) {before after : List ℕ} {r : Filled} where
     pub text_asked : (style : Style) → FillsOf s (is_in_room (length before) (sheet_text s v style)) before after r
         → FillsOf s (text_answer s version style (length before)) before after r
-    text_asked style fills = rw (version_text s version v (version_of (version_of version) (sym asked ∙ e)) style (length before)) fills
+    text_asked style fills = rw (version_text s version v (version_of_lem (version_of version) (sym asked ∙ e)) style (length before)) fills
 
     pub datatypes_asked : FillsOf s (list_answer (Datatypes v) s (length before)) before after r
         → FillsOf s (datatypes_answer s version (length before)) before after r
     unfolding list_answer list_numbers
-    datatypes_asked fills = rw (version_datatypes s version v (version_of (version_of version) (sym asked ∙ e)) (length before)) fills
+    datatypes_asked fills = rw (version_datatypes s version v (version_of_lem (version_of version) (sym asked ∙ e)) (length before)) fills
 
   -- its refusal, located, is the answer
   module _ {x : Refusal} (e : a ≡ NoVersion x) where

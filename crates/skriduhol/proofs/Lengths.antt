@@ -42,7 +42,7 @@ use Rattle.skriduhol.specs.Grafts.{grafted_of}
 use Rattle.skriduhol.specs.Lengths.{Measures, MeasuresGraft}
 use Rattle.skriduhol.proofs.Located.{length_back, refusal_back, no_step}
 use Rattle.skriduhol.proofs.Grafts.{after_headers}
-use Rattle.skriduhol.proofs.Handouts.{version_of, refusal_of}
+use Rattle.skriduhol.proofs.Handouts.{version_of_lem, refusal_of}
 
 -- a refusal that a layer below answers is the outcome, and so it is in every room
 pub length_refused : {w : Written} {r : Refusal} (o : Outcome (List ℕ)) → w ≡ written_of o → w ≡ written.Refused r → is_in_room 0 o ≡ refused r
@@ -66,7 +66,7 @@ module _ (version : ℕ) {a : Asked} (asked : a ≡ asked_of (version_of version
       → ((o : Outcome (List ℕ)) → w ≡ written_of o → r ≡ filled_of s o) → Measured r
   unfolding ◌>>=◌
   measured {v} e is back = record {
-    told = rw (version_of (version_of version) (sym asked ∙ e)) (back (of v) is);
+    told = rw (version_of_lem (version_of version) (sym asked ∙ e)) (back (of v) is);
     in_room = by_version (version_of version) of;
   }
 

@@ -39,7 +39,7 @@ use Rattle.proof_term_display.proofs.is_between.Reads as is-between
 use Rattle.proof_term_display.proofs.is_bracketed.Reads as is_bracketed
 use Rattle.proof_term_display.proofs.is_body_bracketed.Reads as is-body-bracketed
 use Rattle.proof_term_display.proofs.kind_at.Reads as kind_at
-use Rattle.proof_term_display.proofs.part_field.Reads as part_field
+use Rattle.proof_term_display.proofs.part_field.Reads as part_field_reads
 use Rattle.proof_term_display.proofs.part_position.Reads as part-position
 use Rattle.proof_term_display.proofs.put_ascription.Reads as put-ascription
 use Rattle.proof_term_display.proofs.put_bracket.Reads as put-bracket
@@ -77,8 +77,8 @@ module _ (t : ℕ) where
 
   abbrev part-claims : part-lts.Claims
   part-claims = (
-    part_field.Asked,
-    part_field.Learnt,
+    part_field_reads.Asked,
+    part_field_reads.Learnt,
     field.Asked,
     field.Learnt,
     put_all_lem.Asked,

@@ -4,7 +4,7 @@ use mathlib.Core.Bool.{◌||◌}
 use native.Mathlib.Omega.{arith}
 use lib.Dec.{leb}
 use borrow.Author.Tests.{le-leb, lt-leb}
-use borrow.Author.Rules.{rules}
+use borrow.Author.Rules.{rules as search_rules}
 use Rattle.definitions.specs.Sheet.{step_size}
 use Rattle.definitions.specs.Tree.{rules, rule_in}
 use Rattle.definitions.specs.Admission.{bad_identifier, bad_conclusion, bad_column, identifiers, bad_step}
@@ -73,14 +73,14 @@ unfolding rules step_size
 bad-step-spec =
     tie.close
     (tie.spec
-    (λ c κs. search rules)
-    (λ c. search rules)
+    (λ c κs. search search_rules)
+    (λ c. search search_rules)
     returns
     (λ c κs. omega arith)
-    (λ c κs. search rules)
-    (λ c κs. search rules)
-    (λ c κs. search rules)
-    (λ c κs. search rules)
+    (λ c κs. search search_rules)
+    (λ c κs. search search_rules)
+    (λ c κs. search search_rules)
+    (λ c κs. search search_rules)
     returns-2
     returns-3
     returns-4

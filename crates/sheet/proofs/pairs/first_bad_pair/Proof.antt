@@ -14,11 +14,11 @@ use Rattle.sheet.proofs.pairs.first_bad_pair.Statement.{statement}
 use Rattle.sheet.proofs.pairs.first_bad_pair.Tie as tie
 
 abbrev invariant-loop : tie.invariant-loop
-invariant-loop pairs count bytes longest last-end₀ i₀ last_end i =
-    (Passed (bad_pair pairs bytes longest) count i) × (last_end ≡ last_end pairs i)
+invariant-loop pairs count bytes longest last-end₀ i₀ last i =
+    (Passed (bad_pair pairs bytes longest) count i) × (last ≡ last_end pairs i)
 
 abbrev decreases-loop : tie.decreases-loop
-decreases-loop pairs count bytes longest last-end₀ i₀ last_end i = count - i
+decreases-loop pairs count bytes longest last-end₀ i₀ last i = count - i
 
 loop-holds : tie.Need-loop-init invariant-loop decreases-loop
 unfolding last_end
