@@ -27,15 +27,15 @@ sets_append l i (a ∷ s) t = ap (λ k. sets (sets (set l i a) (suc i) s) k t) (
 module _ (write : Bool) (l : List ℕ) (i : ℕ) (s : List ℕ) where
   pub puts_past : length l ≤ i → puts write l i s ≡ l
   unfolding puts
-  puts_past = elim write [ true ↦ sets_past l i s | false ↦ λ h. refl ]
+  puts_past = elim write as (λ k. length l ≤ i → puts k l i s ≡ l) [ true ↦ sets_past l i s | false ↦ λ h. refl ]
 
   puts_append : (t : List ℕ) → puts write (puts write l i s) (i + length s) t ≡ puts write l i (s ++ t)
   unfolding puts
-  puts_append t = elim write [ true ↦ sets_append l i s t | false ↦ refl ]
+  puts_append t = elim write as (λ k. puts k (puts k l i s) (i + length s) t ≡ puts k l i (s ++ t)) [ true ↦ sets_append l i s t | false ↦ refl ]
 
   puts_length : length (puts write l i s) ≡ length l
   unfolding puts
-  puts_length = elim write [ true ↦ length-sets l i s | false ↦ refl ]
+  puts_length = elim write as (λ k. length (puts k l i s) ≡ length l) [ true ↦ length-sets l i s | false ↦ refl ]
 
 -- whether the bytes are written or not
 pub dry : {write : Bool} (before : List ℕ) (to : ℕ) (text : List ℕ) → write ≡ false → before ≡ puts write before to text
@@ -66,7 +66,7 @@ module _ {text before after : List ℕ} {write : Bool} {to next : ℕ} (w : Wrot
 pub none : (write : Bool) (before : List ℕ) (to : ℕ) → Wrote [] write before to before to
 unfolding puts
 none write before to =
-    record { stored = elim write [ true ↦ refl | false ↦ refl ]; within = omega arith; beyond = omega arith }
+    record { stored = elim write as (λ k. before ≡ puts k before to []) [ true ↦ refl | false ↦ refl ]; within = omega arith; beyond = omega arith }
 
 -- a byte is written within the memory
 pub one :
