@@ -7,8 +7,7 @@ use borrow.Author.Tests.{ne_eqb}
 use borrow.Author.Rules.{rules}
 use Rattle.definitions.specs.Sheet.{step_size, step_number}
 use Rattle.definitions.specs.Admission.{bad_prop_is_true, bad_type_judgement, bad_conclusion}
-use Rattle.steps.proofs.bad_conclusion.Statement.{statement}
-use Rattle.steps.proofs.bad_conclusion.Tie as tie
+use Rattle.steps.proofs.bad_conclusion.Goals as goal
 
 module _ (names propositions : ℕ) (records : List ℕ) (k : ℕ) where
   of-kind-0 : step_number records k 10 ≡ 0
@@ -26,29 +25,29 @@ module _ (names propositions : ℕ) (records : List ℕ) (k : ℕ) where
   unfolding bad_conclusion
   of-no-kind n m = rw (ne_eqb _ _ n, ne_eqb _ _ m)
 
-returns : tie.Need-returns
-returns c =
-    c.bad-prop-is-true.ensures _
-    ∙ sym (of-kind-0 _ _ _ _ (sym c.before.before.step-number.ensures.0 ∙ c.before.match.keys1))
+pub returns-in-0 : goal.returns-in-0
+returns-in-0 c =
+    c.bad_prop_is_true.ensures _
+    ∙ sym (of-kind-0 _ _ _ _ (sym c.step_number.ensures.0 ∙ c.in-0.is))
 
-returns-2 : tie.Need-returns-2
-returns-2 c =
-    c.bad-type-judgement.ensures _
-    ∙ sym (of-kind-1 _ _ _ _ (sym c.before.before.step-number.ensures.0 ∙ c.before.match.keys2))
+pub returns-in-1 : goal.returns-in-1
+returns-in-1 c =
+    c.bad_type_judgement.ensures _
+    ∙ sym (of-kind-1 _ _ _ _ (sym c.step_number.ensures.0 ∙ c.in-1.is))
 
-returns-3 : tie.Need-returns-3
-returns-3 c =
-    let e = c.before.step-number.ensures.0 in
-    sym (of-no-kind _ _ _ _ (λ z. c.match.rest.0.1 (e ∙ z)) (λ z. c.match.rest.1 (e ∙ z)))
+pub returns-in_default : goal.returns-in_default
+returns-in_default c =
+    let e = c.step_number.ensures.0 in
+    sym (of-no-kind _ _ _ _ (λ z. c.in_default.in_default-own.rest.0.1 (e ∙ z)) (λ z. c.in_default.in_default-own.rest.1 (e ∙ z)))
 
-pub bad-conclusion-spec : {M : Type 1} → statement M
+pub step_number-requires : goal.step_number-requires
 unfolding step_size
-bad-conclusion-spec =
-    tie.close
-    (tie.spec
-    (λ c κs. search rules)
-    (λ c κs. search rules)
-    (λ c κs. search rules)
-    returns
-    returns-2
-    returns-3)
+step_number-requires c = search rules
+
+pub bad_prop_is_true-requires : goal.bad_prop_is_true-requires
+unfolding step_size
+bad_prop_is_true-requires c = search rules
+
+pub bad_type_judgement-requires : goal.bad_type_judgement-requires
+unfolding step_size
+bad_type_judgement-requires c = search rules

@@ -2,13 +2,12 @@
 use native.Mathlib.Omega.{arith}
 use lib.ListN.{get_or-map}
 use Rattle.definitions.specs.Tree.{rules, Sorry, identifier_count}
-use Rattle.steps.proofs.identifier_count.Statement.{statement}
-use Rattle.steps.proofs.identifier_count.Tie as tie
+use Rattle.steps.proofs.identifier_count.Goals as goal
 
-returns : tie.Need-returns
+pub returns : goal.returns
 unfolding rules identifier_count
 returns c = get_or-map identifier_count rules c.args.rule Sorry
 
-pub identifier-count-spec : {M : Type 1} → statement M
+pub bounds-rule : goal.bounds-rule
 unfolding rules
-identifier-count-spec = tie.close (tie.spec (λ c. omega arith) returns)
+bounds-rule c = omega arith

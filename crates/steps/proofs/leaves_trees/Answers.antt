@@ -12,8 +12,7 @@ use Rattle.definitions.specs.Tree.{trees_before, tree_in}
 use Rattle.definitions.specs.Admission.{trees_left}
 use Rattle.steps.specs.Size.{size}
 use Rattle.steps.proofs.Premisses.{Seam, seam, tree_steps, below_tree}
-use Rattle.steps.proofs.leaves_trees.Statement.{statement}
-use Rattle.steps.proofs.leaves_trees.Tie as tie
+use Rattle.steps.proofs.leaves_trees.Goals as goal
 
 module _ (names : ℕ) (pairs code records : List ℕ) where
   -- trees are left below a tree that starts past step 0
@@ -34,16 +33,12 @@ module _ (names : ℕ) (pairs code records : List ℕ) where
   left_below : (k : ℕ) → ltb (size (tree_in names pairs code records k)) (k + 1) ≡ trees_left names pairs code records (k + 1)
   left_below k = let (p, s) = seam names pairs code records k (premiss_count records k) in left-from k p s
 
-cast-result : tie.Need-overflow-cast-result
-cast-result c = omega (arith, c.shared-slice-known.given (c.before.args.steps - 1))
+pub overflow_cast-result : goal.overflow_cast-result
+overflow_cast-result c = omega (arith, c.type_inv.sizes (c.args.steps - 1))
 
-returns : tie.Need-returns
+pub returns : goal.returns
 returns c names pairs code =
-    let last = c.before.args.steps - 1 in
-    let e : last + 1 ≡ c.before.args.steps = omega arith in
-    rw (c.before.requires.2.sizes names pairs code last (omega arith))
-    (rw e at (left_below names pairs code c.before.args.step_records.now last))
-
-pub leaves-trees-spec : {M : Type 1} → statement M
-leaves-trees-spec =
-    tie.close (tie.spec (λ c. search rules) (λ c. search rules) (λ c. search rules) cast-result returns)
+    let last = c.args.steps - 1 in
+    let e : last + 1 ≡ c.args.steps = omega arith in
+    rw (c.requires.2.sizes names pairs code last (omega arith))
+    (rw e at (left_below names pairs code c.args.step_records.now last))

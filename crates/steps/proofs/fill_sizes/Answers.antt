@@ -1,0 +1,88 @@
+-- The table is filled step by step, up to the first that finds too few trees.
+use Prim.Native.Nat.{ℕ, ◌-◌}
+use mathlib.Core.List.{List, []}
+use native.Mathlib.Omega.{arith}
+use borrow.Author.Rules.{rules}
+use Rattle.definitions.specs.declared.Found.{Found}
+use Rattle.definitions.specs.Sheet.{step_size, step_limit}
+use Rattle.definitions.specs.Admission.{too_few_trees}
+use Rattle.steps.specs.Tables.{TreeStart, SizeTable, FilledSizes}
+use Rattle.steps.proofs.Tables.{size_table_none, size_table_more}
+use Rattle.steps.proofs.Filling.{Filling, Filled, filling_none, filling_more, filling_stopped, filling_done}
+use Rattle.steps.proofs.fill_sizes.Goals as goal
+
+answer : {records : List ℕ} {steps : ℕ} {before after : List ℕ} {r : Found}
+    → Filled (λ names pairs code. too_few_trees names pairs code records) (SizeTable records) steps before r after
+    → FilledSizes records steps before r after
+answer f = record { found = f.found; table = f.table; kept = f.kept }
+
+pub tree_start-requires : goal.tree_start-requires
+unfolding step_size
+tree_start-requires c = (omega arith, omega arith, c.loop-k.invariant.table)
+
+pub returns-in_default : goal.returns-in_default
+unfolding TreeStart
+returns-in_default c =
+    answer (filling_stopped c.loop-k.invariant c.loop-k-test.true
+    (rw c.in_default.is at c.tree_start.ensures))
+
+pub overflow_sub-sizes : goal.overflow_sub-sizes
+unfolding TreeStart
+overflow_sub-sizes c =
+    let s = rw c.in-At.is at c.tree_start.ensures in
+    omega (arith, (s 0 [] []).1)
+
+pub bounds-sizes-k : goal.bounds-sizes-k
+bounds-sizes-k c = let f = c.loop-k.invariant in omega arith
+
+pub loop-k-preserved : goal.loop-k-preserved
+unfolding TreeStart
+loop-k-preserved c =
+    let f = c.loop-k.invariant in
+    let s = rw c.in-At.is at c.tree_start.ensures in
+    filling_more f _ c.loop-k-test.true (λ names pairs code. (s names pairs code).0)
+    (size_table_more _ _ _ _ (omega arith) f.table s)
+
+pub loop-k-init : goal.loop-k-init
+unfolding step_limit
+loop-k-init c = filling_none _ _ _ _ (size_table_none _ _)
+
+pub enum_known-start : goal.enum_known-start
+unfolding step_limit
+enum_known-start c = search rules
+
+pub enum_told-1 : goal.enum_told-1
+unfolding step_limit
+enum_told-1 c = search rules
+
+pub shape_of-sizes-in_default : goal.shape_of-sizes-in_default
+unfolding step_limit
+shape_of-sizes-in_default c = c.loop-k.invariant.long
+
+pub overflow_add-sizes : goal.overflow_add-sizes
+unfolding step_limit
+overflow_add-sizes c = omega arith
+
+pub overflow_cast-sizes : goal.overflow_cast-sizes
+unfolding step_limit
+overflow_cast-sizes c = omega arith
+
+pub offset_bounds-sizes-k : goal.offset_bounds-sizes-k
+unfolding step_limit
+offset_bounds-sizes-k c = omega arith
+
+pub overflow_step-k : goal.overflow_step-k
+unfolding step_limit
+overflow_step-k c = omega arith
+
+pub loop-k-smaller : goal.loop-k-smaller
+unfolding step_limit
+loop-k-smaller c = omega arith
+
+pub shape_of-sizes : goal.shape_of-sizes
+unfolding step_limit
+shape_of-sizes c = c.loop-k.invariant.long
+
+pub returns : goal.returns
+unfolding step_limit
+returns c = answer (filling_done c.loop-k.invariant (omega arith))

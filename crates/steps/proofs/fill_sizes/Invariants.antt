@@ -1,0 +1,19 @@
+-- The table is filled step by step, up to the first that finds too few trees.
+use Prim.Native.Nat.{ℕ, ◌-◌}
+use mathlib.Core.List.{List, []}
+use native.Mathlib.Omega.{arith}
+use borrow.Author.Rules.{rules}
+use Rattle.definitions.specs.declared.Found.{Found}
+use Rattle.definitions.specs.Sheet.{step_size, step_limit}
+use Rattle.definitions.specs.Admission.{too_few_trees}
+use Rattle.steps.specs.Tables.{TreeStart, SizeTable, FilledSizes}
+use Rattle.steps.proofs.Tables.{size_table_none, size_table_more}
+use Rattle.steps.proofs.Filling.{Filling, Filled, filling_none, filling_more, filling_stopped, filling_done}
+use Rattle.steps.proofs.fill_sizes.Given as goal
+
+abbrev pub invariant-loop-k : goal.invariant-loop-k
+invariant-loop-k l =
+    Filling (λ names pairs code. too_few_trees names pairs code l.step_records) (SizeTable l.step_records) l.steps l.initial.sizes l.sizes l.k
+
+abbrev pub decreases-loop-k : goal.decreases-loop-k
+decreases-loop-k l = l.steps - l.k

@@ -1,0 +1,25 @@
+-- The nestings are kept step by step, up to the first that is too deep.
+use Prim.Native.Nat.{ℕ, ◌-◌}
+use mathlib.Core.Bool.{Bool}
+use mathlib.Core.List.{List}
+use native.Mathlib.Omega.{arith}
+use lib.Dec.{ltb}
+use borrow.Author.Tests.{lt-ltb, le-ltb}
+use Rattle.definitions.specs.declared.Found.{Found}
+use Rattle.definitions.specs.Sheet.{step_size}
+use Rattle.definitions.specs.Tree.{height, tree_in}
+use Rattle.steps.specs.Tables.{HeightTable, FilledHeights}
+use Rattle.steps.proofs.Tables.{size_table_shorter, height_table_none, height_table_more}
+use Rattle.steps.proofs.Filling.{Filling, Filled, filling_none, filling_more, filling_stopped, filling_done}
+use Rattle.steps.proofs.first_deep_tree.Given as goal
+
+-- a step's tree nests deeper than the limit
+abbrev pub deeper : List ℕ → ℕ → ℕ → List ℕ → List ℕ → ℕ → Bool
+deeper records limit names pairs code k = ltb limit (height (tree_in names pairs code records k))
+
+abbrev pub invariant-loop-k : goal.invariant-loop-k
+invariant-loop-k l =
+    Filling (deeper l.step_records l.limit) (HeightTable l.step_records) l.steps l.initial.heights l.heights l.k
+
+abbrev pub decreases-loop-k : goal.decreases-loop-k
+decreases-loop-k l = l.steps - l.k

@@ -1,0 +1,64 @@
+-- The walk back over the premisses by the size table meets the deepest of them.
+use Prim.Native.Nat.{◌-◌, ◌≤◌, ◌<◌}
+use mathlib.Core.Path.{◌≡◌}
+use mathlib.Core.List.{[]}
+use native.Mathlib.Omega.{arith}
+use borrow.Author.Rules.{rules}
+use Rattle.definitions.specs.Sheet.{premiss_count, step_limit}
+use Rattle.steps.specs.Tables.{SizeTable}
+use Rattle.steps.proofs.Walk.{Walk, walk_start, walk_within, size_fits, walk_on, walk_in}
+use Rattle.steps.proofs.Deepest.{Deepest, deepest_none, deepest_more, deepest_within, deepest_all}
+use Rattle.steps.proofs.Tables.{size_table_shorter}
+use Rattle.steps.proofs.tree_height.Goals as goal
+use Rattle.steps.proofs.tree_height.Goals.{In-loop, Start}
+
+-- the sizes of the trees before step k
+sized : (c : Start) → SizeTable c.args.step_records.now c.args.k c.args.sizes.now
+sized c = size_table_shorter _ _ _ _ (omega arith) c.requires.size_table.0
+
+-- a premiss that is still to be passed ends before the walk's step
+before : (c : In-loop) → 0 < c.loop.start
+before c =
+    walk_in c.loop.invariant.0 (c.requires.size_table.0.enough 0 [] [] _ (omega arith)) (omega arith)
+
+pub overflow_sub-start : goal.overflow_sub-start
+overflow_sub-start c =
+    size_fits c.loop.invariant.0 _ (sized (goal.at.overflow_sub-start c).Start) (before (goal.at.overflow_sub-start c).In-loop)
+
+pub loop-preserved : goal.loop-preserved
+loop-preserved c =
+    let l = c.loop.invariant in
+    let n = before (goal.at.loop-preserved c).In-loop in (
+      walk_on l.0 _ (sized (goal.at.loop-preserved c).Start) n,
+      rw c.max-deepest.ensures (deepest_more _ _ _ _ _ _ c.requires.size_table.1 l.0 n l.1),
+      omega arith,
+      l.3,
+    )
+
+pub overflow_add-result : goal.overflow_add-result
+unfolding step_limit
+overflow_add-result c = let l = c.loop.invariant in omega (arith, deepest_within _ _ _ _ _ l.0 l.1)
+
+pub loop-init : goal.loop-init
+loop-init c = (walk_start _ _, deepest_none _ _, omega arith, c.premiss_count-premisses.ensures)
+
+pub overflow_sub-last : goal.overflow_sub-last
+overflow_sub-last c = before c
+
+pub offset_bounds-heights-last : goal.offset_bounds-heights-last
+offset_bounds-heights-last c = omega (arith, walk_within c.loop.invariant.0)
+
+pub bounds-heights-last : goal.bounds-heights-last
+bounds-heights-last c = omega (arith, before (goal.at.bounds-heights-last c).In-loop, walk_within c.loop.invariant.0)
+
+pub offset_bounds-sizes-last : goal.offset_bounds-sizes-last
+offset_bounds-sizes-last c = omega (arith, walk_within c.loop.invariant.0)
+
+pub bounds-sizes-last : goal.bounds-sizes-last
+bounds-sizes-last c = omega (arith, before (goal.at.bounds-sizes-last c).In-loop, walk_within c.loop.invariant.0)
+
+pub overflow_cast-start : goal.overflow_cast-start
+overflow_cast-start c = omega (arith, c.type_inv.sizes (c.loop.start - 1))
+
+pub returns : goal.returns
+returns c = deepest_all _ _ _ _ (omega arith) c.loop.invariant.1
