@@ -1,0 +1,45 @@
+-- The loop's invariant: a proposition stands from `at` on exactly where the needed ones stand from `i` on.
+use Prim.Native.Nat.{◌+◌, ◌-◌, ◌≤◌}
+use mathlib.Core.Path.{◌≡◌}
+use mathlib.Core.Logic.Iff
+use native.Mathlib.Omega.{arith}
+use lib.ListN.{length}
+use Rattle.prefix_code.proofs.Runs.{walk_end}
+use Rattle.prefix_code.proofs.Propositions.{Needed, Headed, headed, walk_head, walk_no_head}
+use Rattle.prefix_code.proofs.scan.Goals as goal
+use Rattle.prefix_code.proofs.scan.Goals.{Else-code-end}
+
+-- where the head ends inside the code
+head : (c : Else-code-end) → Headed c.args.code.now c.loop-needed.i c.head_end-end.result
+head c = headed _ _ _ _ c.head_end-end.ensures c.if-code-end.false
+
+pub loop-needed-preserved : goal.loop-needed-preserved
+loop-needed-preserved c =
+    let walked = walk_head _ _ _ _ _ _ c.loop-needed.invariant.0 c.loop-needed-test.true c.head_end-end.ensures c.if-code-end.false in
+    (rw c.parts_after.ensures walked, omega (arith, head (goal.at.loop-needed-preserved c).Else-code-end))
+
+pub returns : goal.returns
+returns c =
+    let none : c.loop-needed.needed ≡ 0 = omega arith in
+    walk_end _ _ _ c.requires (rw none at c.loop-needed.invariant.0)
+
+pub loop-needed-init : goal.loop-needed-init
+loop-needed-init c = (record { inside = c.requires; same = λ rest. Iff.rfl }, omega arith)
+
+pub head_end-end-requires : goal.head_end-end-requires
+head_end-end-requires c = c.loop-needed.invariant.0.inside
+
+pub returns-then-code-end : goal.returns-then-code-end
+returns-then-code-end c = walk_no_head _ _ _ _ _ _ c.loop-needed.invariant.0 c.loop-needed-test.true c.head_end-end.ensures c.if-code-end.true
+
+pub bounds-code-i : goal.bounds-code-i
+bounds-code-i c = (head (goal.at.bounds-code-i c).Else-code-end).inside
+
+pub parts_after-requires : goal.parts_after-requires
+parts_after-requires c = (head (goal.at.parts_after-requires c).Else-code-end).known
+
+pub overflow_add-needed : goal.overflow_add-needed
+overflow_add-needed c = omega (arith, head (goal.at.overflow_add-needed c).Else-code-end)
+
+pub loop-needed-smaller : goal.loop-needed-smaller
+loop-needed-smaller c = omega (arith, head (goal.at.loop-needed-smaller c).Else-code-end)
