@@ -1,0 +1,15 @@
+-- The invariant: the numbers before i are over other names, and all others are as they were.
+use Prim.Native.Nat.{◌+◌, ◌-◌, ◌*◌, ◌≤◌}
+use mathlib.Core.Path.{◌≡◌}
+use native.Mathlib.Omega.{arith}
+use borrow.Author.Rules.{rules}
+use Rattle.proof_term.specs.Records.{field_at}
+use Rattle.renumbering.specs.Renumbered.{mapped}
+use Rattle.term_renumbering.proofs.Numbers.{Partly, partly_none, partly_more, partly_all}
+use Rattle.term_renumbering.proofs.renumber_record.Given as goal
+
+abbrev pub invariant-loop-i : goal.invariant-loop-i
+invariant-loop-i l = Partly (mapped l.numbers) l.initial.records l.m l.kind l.label l.i l.records
+
+abbrev pub decreases-loop-i : goal.decreases-loop-i
+decreases-loop-i l = 6 - l.i
