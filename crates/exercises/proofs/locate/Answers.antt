@@ -1,0 +1,24 @@
+-- The invariant: all of fewer connectives are passed.
+use Prim.Native.Nat.{suc, ◌-◌}
+use native.Mathlib.Omega.{arith}
+use native.Mathlib.Numerals.{add-one}
+use Rattle.exercises.proofs.Unranked.{fewer, Locating, first_size, this_size, next_size, past_all}
+use Rattle.exercises.proofs.locate.Goals as goal
+
+pub loop-size-init : goal.loop-size-init
+loop-size-init c = first_size _ _ _
+
+pub count-c-requires : goal.count-c-requires
+count-c-requires c = fewer c.requires (omega arith)
+
+pub returns-then-index-c : goal.returns-then-index-c
+returns-then-index-c c = this_size c.loop-size.invariant c.loop-size-test.true c.count-c.ensures c.if-index-c.true
+
+pub overflow_add-size : goal.overflow_add-size
+overflow_add-size c = omega (arith, c.requires.connectives_few)
+
+pub loop-size-preserved : goal.loop-size-preserved
+loop-size-preserved c = rw add-one (next_size c.loop-size.invariant c.loop-size-test.true c.count-c.ensures c.if-index-c.false)
+
+pub returns : goal.returns
+returns c = past_all c.loop-size.invariant c.loop-size-test.false

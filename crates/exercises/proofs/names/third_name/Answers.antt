@@ -1,0 +1,34 @@
+-- The last of three names is judged by itself, and then beside each of the two before it.
+use borrow.Author.Rules.{rules}
+use Rattle.exercises.specs.Names.{Two}
+use Rattle.exercises.proofs.Counting.{fails, holds, told, many, bad_third, same_outer, same_last, three}
+use Rattle.exercises.proofs.names.third_name.Goals as goal
+use Rattle.exercises.proofs.names.third_name.Goals.{After-name_end-third}
+
+-- the two names before it
+known : (c : After-name_end-third) → Two c.args.text.now c.args.first c.args.second
+known c = c.requires
+
+pub returns-then-third-text : goal.returns-then-third-text
+returns-then-third-text c = many (known (goal.at.returns-then-third-text c).After-name_end-third) c.name_end-third.ensures c.if-third-text.true
+
+pub returns-then-not-well_formed : goal.returns-then-not-well_formed
+returns-then-not-well_formed c =
+    bad_third (known (goal.at.returns-then-not-well_formed c).After-name_end-third) c.name_end-third.ensures c.if-third-text.false (fails c.well-formed-2.ensures c.if-not-well_formed.true-raw)
+
+pub returns-then-same_piece : goal.returns-then-same_piece
+returns-then-same_piece c =
+    same_outer (known (goal.at.returns-then-same_piece c).After-name_end-third) c.name_end-third.ensures c.if-third-text.false (told c.same_piece.ensures c.if-same_piece.true)
+
+pub returns-then-same_piece-2 : goal.returns-then-same_piece-2
+returns-then-same_piece-2 c =
+    same_last (known (goal.at.returns-then-same_piece-2 c).After-name_end-third) c.name_end-third.ensures c.if-third-text.false
+    (told c.same_piece.ensures c.if-same_piece.false)
+    (told c.same_piece-2.ensures c.if-same_piece-2.true)
+
+pub returns : goal.returns
+returns c =
+    three (known (goal.at.returns c).After-name_end-third) c.name_end-third.ensures c.if-third-text.false
+    (told c.same_piece.ensures c.if-same_piece.false)
+    (holds c.well_formed_lem.ensures c.if-not-well_formed.false)
+    (told c.same_piece-2.ensures c.if-same_piece-2.false)

@@ -1,0 +1,24 @@
+-- A number below all made ones is an offset, any other has a slot.
+use Prim.Native.Nat.{◌*◌, ◌-◌}
+use native.Mathlib.Omega.{arith}
+use borrow.Author.Rules.{rules}
+use borrow.Author.Tests.{lt-ltb, le-ltb}
+use Rattle.prop_numbers.specs.Standing.{standing, head_of}
+use Rattle.prop_numbers.proofs.head.Goals as goal
+
+pub returns-then-p-lt-STANDING : goal.returns-then-p-lt-STANDING
+unfolding head_of
+returns-then-p-lt-STANDING c = rw (lt-ltb c.args.p standing c.if-p-lt-STANDING.true)
+
+pub returns : goal.returns
+unfolding head_of
+returns c = rw (le-ltb c.args.p standing c.if-p-lt-STANDING.false)
+
+pub bounds-code-p : goal.bounds-code-p
+bounds-code-p c = c.requires.inside c.if-p-lt-STANDING.true
+
+pub overflow_cast-result : goal.overflow_cast-result
+overflow_cast-result c = omega (arith, c.type_inv.code c.args.p)
+
+pub overflow_cast-result-2 : goal.overflow_cast-result-2
+overflow_cast-result-2 c = omega (arith, c.type_inv.made (3 * (c.args.p - standing)))

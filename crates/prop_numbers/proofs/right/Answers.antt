@@ -1,0 +1,24 @@
+-- A number below all made ones is an offset, any other has a slot.
+use Prim.Native.Nat.{◌+◌, ◌*◌, ◌-◌}
+use native.Mathlib.Omega.{arith}
+use borrow.Author.Rules.{rules}
+use borrow.Author.Tests.{lt-ltb, le-ltb}
+use Rattle.prop_numbers.specs.Standing.{standing, right_of}
+use Rattle.prop_numbers.proofs.right.Goals as goal
+
+pub returns-then-p-lt-STANDING : goal.returns-then-p-lt-STANDING
+unfolding right_of
+returns-then-p-lt-STANDING c = record { scanned = λ h. c.scan.ensures; is = rw (lt-ltb c.args.p standing c.if-p-lt-STANDING.true) }
+
+pub returns : goal.returns
+unfolding right_of
+returns c = record {
+  scanned = λ h. absurd (omega arith);
+  is = rw (le-ltb c.args.p standing c.if-p-lt-STANDING.false);
+}
+
+pub scan-requires : goal.scan-requires
+scan-requires c = omega (arith, c.requires.inside c.if-p-lt-STANDING.true)
+
+pub overflow_cast-result : goal.overflow_cast-result
+overflow_cast-result c = omega (arith, c.type_inv.made (3 * (c.args.p - standing) + 2))

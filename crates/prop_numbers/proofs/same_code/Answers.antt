@@ -1,0 +1,48 @@
+-- The codes are cut out and compared byte by byte.
+use Prim.Native.Nat.{◌+◌}
+use mathlib.Core.Path.{◌≡◌}
+use native.Mathlib.Omega.{arith}
+use lib.ListN.{length}
+use borrow.Author.Rules.{rules}
+use Rattle.definitions.specs.Code.{encode}
+use Rattle.prefix_code.specs.PropAt.{prop_at}
+use Rattle.prefix_code.proofs.Reading.{inside}
+use Rattle.prop_numbers.specs.Standing.{name_space}
+use Rattle.prop_numbers.proofs.Bytes.{ended, same_standing}
+use Rattle.prop_numbers.proofs.same_code.Goals as goal
+use Rattle.prop_numbers.proofs.same_code.Goals.{After-scan-j_end}
+
+first : (c : After-scan-j_end) → let s = c.args in c.scan-i_end.result ≡ s.i + length (encode (prop_at name_space s.code.now s.i))
+first c = ended c.requires.0 c.scan-i_end.ensures
+
+second : (c : After-scan-j_end) → let s = c.args in c.scan-j_end.result ≡ s.j + length (encode (prop_at name_space s.code.now s.j))
+second c = ended c.requires.1 c.scan-j_end.ensures
+
+pub scan-i_end-requires : goal.scan-i_end-requires
+scan-i_end-requires c = omega (arith, (inside c.requires.0).start)
+
+pub scan-j_end-requires : goal.scan-j_end-requires
+scan-j_end-requires c = omega (arith, (inside c.requires.1).start)
+
+pub slice_bounds-same_name-count : goal.slice_bounds-same_name-count
+slice_bounds-same_name-count c = omega (arith, first c)
+
+pub slice_bounds-same_name-start : goal.slice_bounds-same_name-start
+slice_bounds-same_name-start c = omega (arith, first c)
+
+pub slice_bounds-same_name-end : goal.slice_bounds-same_name-end
+slice_bounds-same_name-end c = omega (arith, first c, (inside c.requires.0).end)
+
+pub slice_bounds-same_name-count-2 : goal.slice_bounds-same_name-count-2
+slice_bounds-same_name-count-2 c = omega (arith, second (goal.at.slice_bounds-same_name-count-2 c).After-scan-j_end)
+
+pub slice_bounds-same_name-start-2 : goal.slice_bounds-same_name-start-2
+slice_bounds-same_name-start-2 c = omega (arith, second (goal.at.slice_bounds-same_name-start-2 c).After-scan-j_end)
+
+pub slice_bounds-same_name-end-2 : goal.slice_bounds-same_name-end-2
+slice_bounds-same_name-end-2 c = omega (arith, second (goal.at.slice_bounds-same_name-end-2 c).After-scan-j_end, (inside c.requires.1).end)
+
+pub returns : goal.returns
+returns c =
+    λ f one.
+    same_standing c.requires.0 c.requires.1 c.scan-i_end.ensures c.scan-j_end.ensures f one c.same_name.ensures

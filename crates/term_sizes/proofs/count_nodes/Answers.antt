@@ -1,0 +1,66 @@
+-- The loop adds the node counts of one part after the other, each as far as a number goes.
+use Prim.Native.Nat.{ℕ, ◌+◌, ◌-◌, ◌*◌, ◌≤◌, ◌<◌}
+use mathlib.Core.Path.{◌≡◌}
+use mathlib.Core.Logic.{⊎_elim}
+use native.Mathlib.Omega.{arith}
+use Rattle.definitions.specs.Prop.{Prop}
+use Rattle.definitions.specs.TermText.{nodes}
+use Rattle.proof_term.specs.Records.{field_at, part_count, term_at}
+use Rattle.proof_term.proofs.Records.{few_parts}
+use Rattle.term_sizes.specs.Sizes.{CountedTo, Sized}
+use Rattle.term_sizes.proofs.Counting.{sized, sized_none, sized_all, sized_part, sized_unit}
+use Rattle.term_sizes.proofs.Filling.{counted_so, add_counted, cut_counted}
+use Rattle.term_sizes.proofs.count_nodes.Goals as goal
+use Rattle.term_sizes.proofs.count_nodes.Goals.{At-loop-i}
+
+pub field-requires : goal.field-requires
+field-requires c = omega (arith, c.requires.0)
+
+pub part_count-parts-requires : goal.part_count-parts-requires
+part_count-parts-requires c = tt
+
+pub loop-i-init : goal.loop-i-init
+loop-i-init c = (cc, omega arith, omega arith, λ props. rw (sized_none props _ _) (counted_so 1))
+
+pub overflow_add-i : goal.overflow_add-i
+overflow_add-i c = omega (arith, few_parts c.field.result)
+
+pub field-part-requires : goal.field-part-requires
+field-part-requires c = omega (arith, few_parts c.field.result, c.requires.0)
+
+pub field-count-requires : goal.field-count-requires
+field-count-requires c = omega (arith, c.if-part-m.true, c.requires.0)
+
+pub overflow_add-count : goal.overflow_add-count
+overflow_add-count c = omega (arith, few_parts c.field.result)
+
+pub overflow_add-count-else-part-m : goal.overflow_add-count-else-part-m
+overflow_add-count-else-part-m c = omega (arith, few_parts c.field.result)
+
+pub loop-i-preserved : goal.loop-i-preserved
+unfolding Sized
+loop-i-preserved c =
+    let is = c.field-part.ensures.0 in
+    let sofar = c.loop-i.invariant in (
+      sofar.0,
+      omega arith,
+      ⊎_elim (λ w. omega (arith, w.2, w.1.ensures.1, sofar.2)) (λ w. omega (arith, w.1, sofar.2)) c.if-part-m.branch,
+      λ props. ⊎_elim
+          (λ w. rw (sized_part props _ _ _ is w.0.taken, w.2, w.1.ensures.0) (add_counted (sofar.3 props) (c.requires.1 _ w.0.taken props)))
+          (λ w. rw (sized_unit props _ _ _ is w.0.left, w.1) (add_counted (sofar.3 props) (counted_so 1)))
+          c.if-part-m.branch,
+    )
+
+-- what the loop came to is the record's own count
+all_counted : (c : At-loop-i) → c.part_count-parts.result ≤ c.loop-i.i → (props : ℕ → Prop ℕ)
+    → CountedTo (nodes (term_at props c.args.records.now c.args.m)) c.loop-i.count
+all_counted c ended props =
+    let kind = field_at c.args.records.now c.args.m 0 in
+    let all : c.loop-i.i ≡ part_count kind = omega (arith, c.loop-i.invariant.0, c.loop-i.invariant.1) in
+    rw (← sized_all props _ _ all) (c.loop-i.invariant.3 props)
+
+pub returns-then-count-gt-MOST : goal.returns-then-count-gt-MOST
+returns-then-count-gt-MOST c = (omega arith, λ props. cut_counted (all_counted (goal.at.returns-then-count-gt-MOST c).At-loop-i c.loop-i-test.false props) c.if-count-gt-MOST.true)
+
+pub returns : goal.returns
+returns c = (c.if-count-gt-MOST.false, all_counted (goal.at.returns c).At-loop-i c.loop-i-test.false)

@@ -1,0 +1,20 @@
+-- The loop adds the node counts of one part after the other, each as far as a number goes.
+use Prim.Native.Nat.{ℕ, ◌+◌, ◌-◌, ◌*◌, ◌≤◌, ◌<◌}
+use mathlib.Core.Path.{◌≡◌}
+use mathlib.Core.Logic.{⊎_elim}
+use native.Mathlib.Omega.{arith}
+use Rattle.definitions.specs.Prop.{Prop}
+use Rattle.definitions.specs.TermText.{nodes}
+use Rattle.proof_term.specs.Records.{field_at, part_count, term_at}
+use Rattle.proof_term.proofs.Records.{few_parts}
+use Rattle.term_sizes.specs.Sizes.{CountedTo, Sized}
+use Rattle.term_sizes.proofs.Counting.{sized, sized_none, sized_all, sized_part, sized_unit}
+use Rattle.term_sizes.proofs.Filling.{counted_so, add_counted, cut_counted}
+use Rattle.term_sizes.proofs.count_nodes.Given as goal
+
+abbrev pub invariant-loop-i : goal.invariant-loop-i
+invariant-loop-i l =
+    (l.parts ≡ part_count (field_at l.records l.m 0)) × (l.i ≤ l.parts) × (l.count ≤ 1 + 65535 * l.i) × ((props : ℕ → Prop ℕ) → CountedTo (sized props l.records l.m l.i) l.count)
+
+abbrev pub decreases-loop-i : goal.decreases-loop-i
+decreases-loop-i l = l.parts - l.i
