@@ -22,7 +22,7 @@ use words::{NAME_LIMIT, expect, number_of_name};
 pub const STRONGEST: usize = 999;
 
 // Where the reading stands: in the text, in the names, under how many quantifiers, and in the code.
-#[derive(Drop)]
+#[derive(Clone, Copy)]
 pub struct Place {
     pub at: usize,
     pub count: usize,
@@ -41,7 +41,7 @@ pub struct ParametersRead {
 
 // A proposition that was read: where it ends, how many names there are now, its size in code, its nesting, how strongly it binds,
 // whether it is ⊥, and whether it stood in brackets of its own.
-#[derive(Drop)]
+#[derive(Clone, Copy)]
 pub struct PropRead {
     pub end: usize,
     pub count: usize,

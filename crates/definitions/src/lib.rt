@@ -4,7 +4,7 @@
 ghost use Rattle.std.specs.Prelude.{◌≡◌, ◌<◌};
 
 // A refusal of document 01 or 02: its number and its place.
-#[derive(Drop)]
+#[derive(Clone, Copy)]
 pub struct Refusal {
     pub number: u8,
     pub place: u16,
@@ -31,7 +31,7 @@ pub struct Located {
 }
 
 // How a text is asked for: as the Rust prints it, or with the brackets of strict text too.
-#[derive(Drop)]
+#[derive(Clone, Copy)]
 pub enum Style {
     Plain,
     Strict,
@@ -39,7 +39,7 @@ pub enum Style {
 
 // The version of the handout. The first is document 01's. The second has the datatype declarations before the atoms', and its
 // datatype list holds the datatypes of every label. The third is the second with its declarations sorted.
-#[derive(Drop)]
+#[derive(Clone, Copy)]
 pub enum Version {
     First,
     Second,
@@ -47,7 +47,7 @@ pub enum Version {
 }
 
 // A list of a term: its atoms, or its datatypes in a version.
-#[derive(Drop)]
+#[derive(Clone, Copy)]
 pub enum TermList {
     Atoms,
     Datatypes(Version),
@@ -69,7 +69,7 @@ pub enum Found {
 }
 
 // Whose refusal it is that a graft meets: neither sheet's, the host's or the donor's.
-#[derive(Drop)]
+#[derive(Clone, Copy)]
 pub enum Whose {
     Neither,
     Host,

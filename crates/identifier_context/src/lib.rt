@@ -31,7 +31,7 @@ pub enum Inserted {
 }
 
 // What is looked up: the latest entry of a name, or of a name and an id.
-#[derive(Drop)]
+#[derive(Clone, Copy)]
 pub enum Lookup {
     ByName(u16),
     ByIdentifier(u16, u16),

@@ -177,7 +177,7 @@ const FORMATS: Formats = [
 ];
 
 // What the printing of a term goes by: where the names and the propositions lie, the style, and whether bytes are written.
-#[derive(Drop)]
+#[derive(Clone, Copy)]
 pub struct Printer {
     pub vocabulary: Vocabulary,
     pub style: Style,

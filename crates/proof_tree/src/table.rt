@@ -11,14 +11,14 @@ use RuleTerm::{
 };
 
 // Whether a term is checked or inferred: document 01's places, by the Rust's name.
-#[derive(Drop)]
+#[derive(Clone, Copy)]
 pub enum ReasoningMode {
     Checking,
     Inferring,
 }
 
 // What becomes of a step's term in inferring mode.
-#[derive(Drop)]
+#[derive(Clone, Copy)]
 pub enum Ending {
     Bare,
     Ascribed,
@@ -28,7 +28,7 @@ pub enum Ending {
 }
 
 // The term that a rule has over those of its premisses; `Premiss` is the first one's own.
-#[derive(Drop)]
+#[derive(Clone, Copy)]
 pub enum RuleTerm {
     Pair,
     ProjectFst,
@@ -48,7 +48,7 @@ pub enum RuleTerm {
 
 // A row of the table: the fewest premisses, all of which are read, and the most; the modes of those that are read; the
 // ending; the term.
-#[derive(Drop)]
+#[derive(Clone, Copy)]
 pub struct Row(pub u8, pub u8, pub [u8; 3], pub Ending, pub RuleTerm);
 
 // The mode of a premiss: its step's own, or one of the two. Past those that are read there is none.

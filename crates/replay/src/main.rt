@@ -61,7 +61,7 @@ const YES: usize = 65535;
 
 // 0 for an accepted answer, its length, its count, a name's number, 1 for yes and 0 for no, or of a judgement the node of a no, and 0;
 // or a refusal's number, place and column.
-#[derive(Drop)]
+#[derive(Clone, Copy)]
 struct Result {
     number: usize,
     value: usize,

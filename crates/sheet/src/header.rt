@@ -8,7 +8,7 @@ use crate::{Checked, refuse};
 use reader::{Number, header_number};
 
 // The six header numbers: T, N, C, P, S and the goal.
-#[derive(Drop)]
+#[derive(Clone, Copy)]
 pub struct Sheet {
     pub text_length: usize,
     pub names: usize,

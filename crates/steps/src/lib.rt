@@ -24,14 +24,14 @@ pub const COLUMN_LIMIT: u16 = 4095;
 const IDENTIFIER_COUNTS: [u8; 17] = [0, 0, 0, 0, 1, 0, 1, 0, 0, 2, 0, 1, 0, 0, 2, 0, 0];
 
 // A name, by its number, and an id.
-#[derive(Drop)]
+#[derive(Clone, Copy)]
 pub struct Identifier {
     pub name: u16,
     pub unique_id: u16,
 }
 
 // A type judgement: the name and the id of an object, and the name of its datatype.
-#[derive(Drop)]
+#[derive(Clone, Copy)]
 pub struct Judgement {
     pub name: u16,
     pub unique_id: u16,
@@ -39,7 +39,7 @@ pub struct Judgement {
 }
 
 // A conclusion: the number of a proposition, or a type judgement.
-#[derive(Drop)]
+#[derive(Clone, Copy)]
 pub enum Conclusion {
     PropIsTrue(u16),
     TypeJudgement(Judgement),

@@ -23,7 +23,7 @@ pub const REFUSED: usize = 3;
 
 // How far the reading is: in the text, in the entries, the records, the names and the labels' code; and of the term in hand the kind,
 // whether it stands in brackets of its own, how deep it nests and how many labels it has.
-#[derive(Drop)]
+#[derive(Clone, Copy)]
 pub struct Progress {
     pub mode: usize,
     pub at: usize,

@@ -12,7 +12,7 @@ use number::{PAIR_SIZE, marked_bytes};
 use prefix_code::{Shape, shape_at};
 
 // The count of names, and where their pairs, their text and the code begin; how long the last two are.
-#[derive(Drop)]
+#[derive(Clone, Copy)]
 pub struct Vocabulary {
     pub name_count: usize,
     pub pairs: usize,
