@@ -13,7 +13,7 @@ use Rattle.definitions.specs.Text.{decimal, atom_declaration, datatype_declarati
 use Rattle.output.proofs.Digits.{least_digits}
 use Rattle.prop_length.specs.Length.{NameLength}
 use Rattle.prop_lists.specs.Entries.{use_of}
-use Rattle.declarations.specs.Declared.{use_over, entry_at, declared_uses}
+use Rattle.declarations.specs.Memory.{use_over, entry_at, declared_uses}
 use Rattle.declarations.specs.Lines.{count_text, break_before, declaration, declaration_lines}
 use Rattle.declarations.proofs.Lines.{lines_more}
 use Rattle.declaration_length.specs.Lengths.{LineLength}

@@ -5,7 +5,7 @@ ghost use Rattle.std.specs.Prelude.{◌≡◌, ◌≤◌, ◌<◌, length};
 ghost use Rattle.vocabulary.specs.Vocabulary.{name_in, Names};
 ghost use Rattle.prop_lists.specs.Entries.{use_of};
 ghost use Rattle.prop_length.specs.Length.{TextLength};
-ghost use Rattle.declarations.specs.Declared.{use_over, declared_uses, Declared};
+ghost use Rattle.declarations.specs.Memory.{use_over, declared_uses, Declared};
 ghost use Rattle.declarations.specs.Lines.{count_text, break_before, declaration, declaration_lines};
 ghost use Rattle.declaration_length.specs.Lengths.{LineLength};
 

@@ -7,7 +7,7 @@ use native.Mathlib.Omega.{arith}
 use lib.Dec.{eqb}
 use lib.ListN.{length, get_or, set}
 use lib.Seq.{get_or-set_other}
-use Rattle.declarations.specs.Declared.{entries_of, flagged}
+use Rattle.declarations.specs.Memory.{entries_of, flagged}
 
 bit : (b : Bool) → cond b 0 1 ≤ 1
 bit true = omega arith

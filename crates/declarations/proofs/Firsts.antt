@@ -10,7 +10,7 @@ use Rattle.definitions.specs.Prop.{AtomUse}
 use Rattle.definitions.specs.Text.{occurs, firsts_after, firsts, eq_atom_use}
 use Rattle.definitions.proofs.Names.{eq_name_refl, eq_name_true}
 use Rattle.definitions.proofs.NameOrder.{equal_use}
-use Rattle.declarations.specs.Declared.{same_use}
+use Rattle.declarations.specs.Memory.{same_use}
 
 shuffle : (p q x : Bool) → (p || (q || x)) ≡ ((q || p) || x)
 shuffle true true x = refl

@@ -16,7 +16,7 @@ use Rattle.definitions.specs.Utf8.{utf8}
 use Rattle.definitions.specs.Text.{occurs, firsts_after, firsts, eq_atom_use, compare_atom_use, arranged, atom_declaration, following_lines, join_lines, atom_declarations, datatype_declarations}
 use Rattle.order_laws.proofs.Datatypes.{as_use, same_arranged}
 use Rattle.prop_lists.specs.Entries.{use_of, datatype_uses}
-use Rattle.declarations.specs.Declared.{use_over, uses_over, entry_at, entries_of}
+use Rattle.declarations.specs.Memory.{use_over, uses_over, entry_at, entries_of}
 use Rattle.declarations.specs.Lines.{break_before, declaration, declaration_lines}
 
 following_more : (ls : List (List ℕ)) (l : List ℕ) → following_lines (ls ++ (l ∷ [])) ≡ following_lines ls ++ (utf8 "\n" ++ l)

@@ -17,7 +17,7 @@ use Rattle.definitions.specs.NameIndex.{slot_count, start_slot}
 use Rattle.vocabulary.specs.declared.Vocabulary.{Vocabulary}
 use Rattle.vocabulary.specs.Vocabulary.{name_in, Names}
 use Rattle.prop_lists.specs.Entries.{use_of}
-use Rattle.declarations.specs.Declared.{use_over, uses_over, entries_of, is_declared, flag_of, flagged, Lent, lent, Noted, Declared, Held, Notes}
+use Rattle.declarations.specs.Memory.{use_over, uses_over, entries_of, is_declared, flag_of, flagged, Lent, lent, Noted, Declared, Held, Notes}
 use Rattle.declarations.specs.Chains.{slot_of, Newest, Linked, Chained}
 use Rattle.declarations.proofs.Firsts.{occurs_append, occurs_firsts, firsts_known, firsts_new, eq_atom_use_true, eq_atom_use_refl, same_search}
 use Rattle.declarations.proofs.Declared.{flagged_few, flagged_more, entries_kept}

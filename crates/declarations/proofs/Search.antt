@@ -21,7 +21,7 @@ use Rattle.vocabulary.specs.declared.Vocabulary.{Vocabulary}
 use Rattle.vocabulary.specs.Vocabulary.{pairs_in, text_in, name_in, Names}
 use Rattle.identifier.proofs.Equality.{eq_name_lengths, eq_name_differ, eq_name_alike}
 use Rattle.prop_lists.specs.Entries.{use_of}
-use Rattle.declarations.specs.Declared.{use_over, uses_over, entry_at, entries_of, same_use, is_declared, Declared}
+use Rattle.declarations.specs.Memory.{use_over, uses_over, entry_at, entries_of, same_use, is_declared, Declared}
 use Rattle.declarations.specs.Chains.{slot_of, link_of, Newest, Linked}
 use Rattle.declarations.proofs.Firsts.{occurs_append, eq_atom_use_true}
 

@@ -4,7 +4,7 @@ use mathlib.Core.Path.{◌≡◌, refl, sym, ◌∙◌}
 use mathlib.Core.List.{List, [], ◌∷◌, ◌++◌, append_assoc, append-nil}
 use Rattle.definitions.specs.Prop.{AtomUse}
 use Rattle.vocabulary.specs.declared.Vocabulary.{Vocabulary}
-use Rattle.declarations.specs.Declared.{Lent, Held, Notes}
+use Rattle.declarations.specs.Memory.{Lent, Held, Notes}
 
 module _ {bytes : List ℕ} {v : Vocabulary} where
   pub notes_none : {m : Lent} → Held bytes v m → Notes bytes v [] m m

@@ -1,4 +1,4 @@
 -- What the functions that note declarations and write them say.
 pub mod Chains
-pub mod Declared
+pub mod Memory
 pub mod Lines

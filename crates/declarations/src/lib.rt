@@ -11,7 +11,7 @@ ghost use Rattle.vocabulary.specs.Vocabulary.{name_in, prop_in, Names, SomePropo
 ghost use Rattle.prop_lists.specs.Entries.{use_of, entries};
 ghost use Rattle.proof_term_lists.specs.Labels.{term_uses, added_uses, AddedStands, Listable, term_in};
 ghost use Rattle.declarations.specs.Chains.{slot_of, Newest, Linked};
-ghost use Rattle.declarations.specs.Declared.{use_over, is_declared, declared_uses, Declared, lent, Held, Notes};
+ghost use Rattle.declarations.specs.Memory.{use_over, is_declared, declared_uses, Declared, lent, Held, Notes};
 ghost use Rattle.declarations.specs.Lines.{count_text, break_before, declaration, declaration_lines};
 
 use definitions::TermList;

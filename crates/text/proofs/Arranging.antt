@@ -7,7 +7,7 @@ use Rattle.definitions.specs.declared.Version.TheVariants.{Third}
 use Rattle.definitions.specs.Name.{Name}
 use Rattle.definitions.specs.Text.{arranged}
 use Rattle.vocabulary.specs.Vocabulary.{name_in}
-use Rattle.declarations.specs.Declared.{use_over, declared_uses, entry_at, entries_of, Declared}
+use Rattle.declarations.specs.Memory.{use_over, declared_uses, entry_at, entries_of, Declared}
 use Rattle.declaration_order.specs.Entries.{uses_from}
 use Rattle.declaration_order.specs.Sorted.{Sorts}
 use Rattle.declaration_order.proofs.Uses.{from_more}

@@ -24,7 +24,7 @@ use Rattle.vocabulary.specs.Vocabulary.{name_in, prop_in, SomeProposition}
 use Rattle.prop_lists.specs.Entries.{use_of, entries}
 use Rattle.proof_term_lists.specs.Labels.{term_uses, Listable, term_in}
 use Rattle.proof_term_lists.proofs.Labels.{atoms_are, datatypes_are}
-use Rattle.declarations.specs.Declared.{use_over, uses_over, declared_uses, entries_of, flag_of, Lent, lent, Noted, Held, Notes}
+use Rattle.declarations.specs.Memory.{use_over, uses_over, declared_uses, entries_of, flag_of, Lent, lent, Noted, Held, Notes}
 use Rattle.declarations.specs.Chains.{Chained}
 use Rattle.declarations.proofs.Noting.{declared_held}
 use Rattle.declarations.proofs.Lines.{datatypes_over}

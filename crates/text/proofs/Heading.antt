@@ -24,7 +24,7 @@ use Rattle.output.specs.Wrote.{Wrote}
 use Rattle.output.specs.Written.{written_of, Fills}
 use Rattle.output.proofs.Writing.{then, dry_run}
 use Rattle.output.proofs.Filling.{too_long, fills}
-use Rattle.declarations.specs.Declared.{declared_uses, Declared}
+use Rattle.declarations.specs.Memory.{declared_uses, Declared}
 use Rattle.declarations.specs.Lines.{declaration_lines}
 use Rattle.declarations.proofs.Lines.{atoms_declared, datatypes_declared}
 use Rattle.vocabulary.specs.declared.Vocabulary.{Vocabulary}

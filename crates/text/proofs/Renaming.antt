@@ -9,7 +9,7 @@ use Rattle.definitions.specs.declared.Version.TheVariants.{First, Second, Third}
 use Rattle.definitions.specs.Name.{Name}
 use Rattle.definitions.specs.Prop.{Prop, True, False, Binary, Atom, Quantified, get_atoms, get_datatypes, rename_parameter, rename_prop}
 use Rattle.definitions.specs.Term.{Label, proposition, datatype, ProofTerm, Ident, Pair, Named, Function, Application, LetIn, Case, TypeAscription, Unit, Sorry, of_label, of_labels, label_atoms, proposition_datatypes, label_datatypes, atom_list, datatype_list, rename_label, rename_parameter_label, rename_term}
-use Rattle.declarations.specs.Declared.{use_over, uses_over}
+use Rattle.declarations.specs.Memory.{use_over, uses_over}
 
 module _ (f : ℕ → Name) where
   pub prop_atoms_renamed : (p : Prop ℕ) → get_atoms (rename_prop f p) ≡ uses_over f (get_atoms p)

@@ -15,7 +15,7 @@ use Rattle.prefix_code.specs.PropAt.{prop_at}
 use Rattle.vocabulary.specs.Vocabulary.{name_in}
 use Rattle.prop.specs.Ends.{Known}
 use Rattle.proof_term.specs.Records.{term_at}
-use Rattle.declarations.specs.Declared.{declared_uses, Declared}
+use Rattle.declarations.specs.Memory.{declared_uses, Declared}
 use Rattle.sheet.specs.declared.header.Sheet.{Sheet}
 use Rattle.sheet.specs.Header.{vocabulary_of}
 

@@ -11,7 +11,7 @@ ghost use Rattle.definitions.specs.Text.{first_list, second_list, heading};
 ghost use Rattle.definitions.specs.Answers.{is_in_room, named_term, goal_prop, sheet_text};
 ghost use Rattle.output.specs.Wrote.{Wrote};
 ghost use Rattle.output.specs.Written.{written_of, Fills};
-ghost use Rattle.declarations.specs.Declared.{Declared};
+ghost use Rattle.declarations.specs.Memory.{Declared};
 ghost use Rattle.sheet.specs.Header.{vocabulary_of};
 ghost use Rattle.sheet.proofs.Admitted.{AcceptedSheet};
 ghost use Rattle.sheet_term.specs.Held.{HeldTerm};

@@ -4,7 +4,7 @@ use mathlib.Core.Path.{◌≡◌}
 use native.Mathlib.Omega.{arith}
 use lib.ListN.{length}
 use Rattle.vocabulary.specs.Vocabulary.{name_in}
-use Rattle.declarations.specs.Declared.{declared_uses}
+use Rattle.declarations.specs.Memory.{declared_uses}
 use Rattle.declarations.specs.Lines.{declaration_lines}
 use Rattle.declarations.proofs.Lines.{lines_none}
 use Rattle.declaration_length.proofs.Lines.{lines_added}

@@ -7,7 +7,7 @@ use borrow.Author.Rules.{rules}
 use Rattle.definitions.specs.Code.{parameter_limit}
 use Rattle.definitions.specs.NameIndex.{slot_count, start_slot}
 use Rattle.vocabulary.specs.Vocabulary.{name_in}
-use Rattle.declarations.specs.Declared.{flag_of}
+use Rattle.declarations.specs.Memory.{flag_of}
 use Rattle.declarations.proofs.Noting.{has_flag, noted_again, has_head, chain_searchable, room_for_one, noted_known, noted_new}
 use Rattle.declarations.proofs.note.Statement.{statement}
 use Rattle.declarations.proofs.note.Tie as tie

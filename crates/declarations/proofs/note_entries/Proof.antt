@@ -5,7 +5,7 @@ use borrow.Author.Rules.{rules}
 use Rattle.prop_lists.specs.Row.{Row}
 use Rattle.prop_lists.specs.Entries.{use_of, entries_from, FirstEntry}
 use Rattle.prop_lists.proofs.Rows.{begins, row_there, entries_there}
-use Rattle.declarations.specs.Declared.{lent}
+use Rattle.declarations.specs.Memory.{lent}
 use Rattle.declarations.proofs.Threads.{Left, all_left, one_less, none_left}
 use Rattle.declarations.proofs.note_entries.Statement.{statement}
 use Rattle.declarations.proofs.note_entries.Tie as tie

@@ -2,7 +2,7 @@
 use Prim.Native.Nat.{◌-◌, ◌≤◌}
 use native.Mathlib.Omega.{arith}
 use Rattle.proof_term_lists.proofs.Labels.{uses_below, uses_none, uses_more, uses_all, added_stands}
-use Rattle.declarations.specs.Declared.{lent, Notes}
+use Rattle.declarations.specs.Memory.{lent, Notes}
 use Rattle.declarations.proofs.Threads.{notes_none, notes_then}
 use Rattle.declarations.proofs.note_term.Statement.{statement}
 use Rattle.declarations.proofs.note_term.Tie as tie

@@ -6,7 +6,7 @@ use lib.ListN.{length}
 use Rattle.output.specs.Wrote.{Wrote}
 use Rattle.output.proofs.Writing as writing
 use Rattle.vocabulary.specs.Vocabulary.{name_in}
-use Rattle.declarations.specs.Declared.{declared_uses}
+use Rattle.declarations.specs.Memory.{declared_uses}
 use Rattle.declarations.specs.Lines.{declaration_lines}
 use Rattle.declarations.proofs.Lines.{lines_none, lines_more}
 use Rattle.declarations.proofs.put_declarations.Statement.{statement}
