@@ -1,0 +1,21 @@
+-- A number past the last marks nothing; any other marks what its pair says, as far as the text goes.
+use Rattle.std.proofs.Common.{◌∙◌, rules}
+use Rattle.name_index.proofs.AnyName.{no_name, pair_there, name_cut}
+use Rattle.name_index.proofs.any_name.Goals as goal
+
+pub returns-then-v-i : goal.returns-then-v-i
+returns-then-v-i c = c.cut.ensures ∙ no_name _ _ c.requires _ c.if-v-i.true
+
+pub pair_offset-requires : goal.pair_offset-requires
+pair_offset-requires c = rw c.pairs_of-pairs.ensures (pair_there _ _ c.requires _ c.if-v-i.false)
+
+pub pair_length-requires : goal.pair_length-requires
+pair_length-requires c =
+    rw c.pairs_of-pairs.ensures (pair_there _ _ c.requires _ c.if-v-i.false)
+
+pub returns : goal.returns
+returns c =
+    c.cut-2.ensures
+    ∙ name_cut _ _ c.requires _ c.pairs_of-pairs.ensures c.text_of.ensures
+    c.pair_offset.ensures
+    c.pair_length.ensures

@@ -1,0 +1,32 @@
+-- The names enter from number 0 up.
+use Rattle.std.proofs.Common.{◌≡◌, ◌-◌, ◌≤◌, sym, ◌∙◌, arith}
+use Rattle.definitions.specs.NameIndex.{index}
+use Rattle.vocabulary.specs.Vocabulary.{name_in}
+use Rattle.name_index.proofs.Entering.{index_size, none_entered, all_entered}
+use Rattle.name_index.proofs.build.Goals as goal
+
+pub clear-requires : goal.clear-requires
+clear-requires c = c.requires.slots_len.0
+
+pub loop-i-init : goal.loop-i-init
+loop-i-init c = (omega arith, none_entered _ c.clear.ensures)
+
+pub enter-requires : goal.enter-requires
+enter-requires c =
+    let pre = c.requires in
+    record {
+          i_lt_name_limit = (omega (arith, c.loop-i-test.true, pre.name_count_bound), pre.slots_len.1);
+          slots_value = c.loop-i.invariant.1;
+        }
+
+pub loop-i-preserved : goal.loop-i-preserved
+loop-i-preserved c = (omega (arith, c.loop-i-test.true), c.enter.ensures)
+
+pub shape_of-slots : goal.shape_of-slots
+shape_of-slots c =
+    let (inside, is) = c.loop-i.invariant in
+    let pre = c.requires in
+    index_size _ _ is (omega (arith, pre.name_count_bound)) ∙ sym pre.slots_len.0
+
+pub returns : goal.returns
+returns c = let (inside, is) = c.loop-i.invariant in all_entered _ _ _ is inside c.loop-i-test.false

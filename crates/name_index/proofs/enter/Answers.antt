@@ -1,0 +1,43 @@
+-- A repeat is held by the index so far; a first name takes the slot at which probing ended.
+use Rattle.std.proofs.Common.{◌≡◌, length, sym, ◌∙◌, arith, rules}
+use Rattle.definitions.specs.Sheet.{name_limit}
+use Rattle.definitions.specs.NameIndex.{slot_count}
+use Rattle.vocabulary.specs.Vocabulary.{name_in}
+use Rattle.name_index.specs.Probed.{probed}
+use Rattle.name_index.specs.declared.Probed.TheVariants.{Absent}
+use Rattle.name_index.proofs.Entering.{index_size, repeated, entered, absent_below}
+use Rattle.name_index.proofs.enter.Goals as goal
+use Rattle.name_index.proofs.enter.Goals.{After-any_name, In-Absent}
+
+-- there are 1,024 slots
+size : (c : After-any_name) → length c.args.slots.now ≡ slot_count
+unfolding name_limit
+size c = index_size _ _ c.requires.slots_value (omega (arith, c.requires.i_lt_name_limit.0))
+
+-- the name is absent: the slot that it would enter
+would_enter : (c : In-Absent) →
+    let a = c.args in
+    probed (name_in a.bytes.now a.v) a.slots.now c.any_name.result.now ≡ Absent c.in-Absent.at
+would_enter c = sym c.probe.ensures ∙ c.in-Absent.is
+
+pub probe-requires : goal.probe-requires
+probe-requires c = (size c, c.requires.i_lt_name_limit.1)
+
+pub returns-in_default : goal.returns-in_default
+returns-in_default c =
+    repeated _ _ c.requires.slots_value c.requires.i_lt_name_limit.0 c.any_name.ensures (sym c.probe.ensures ∙ c.in_default.is)
+
+pub overflow_cast-slots : goal.overflow_cast-slots
+unfolding name_limit
+overflow_cast-slots c = omega (arith, c.requires.i_lt_name_limit.0)
+
+pub offset_bounds-slots-at : goal.offset_bounds-slots-at
+unfolding slot_count
+offset_bounds-slots-at c = omega (arith, absent_below _ _ _ (would_enter c))
+
+pub bounds-slots-at : goal.bounds-slots-at
+bounds-slots-at c = omega (arith, absent_below _ _ _ (would_enter c), size (goal.at.bounds-slots-at c).After-any_name)
+
+pub returns : goal.returns
+returns c =
+    entered _ _ c.requires.slots_value c.requires.i_lt_name_limit.0 c.any_name.ensures (would_enter c)
