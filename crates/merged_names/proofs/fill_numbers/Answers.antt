@@ -1,0 +1,33 @@
+-- The invariant: the numbers of the names below n are stored. The measure is how many names are left.
+use Prim.Native.Nat.{◌-◌}
+use mathlib.Core.Path.{refl}
+use native.Mathlib.Omega.{arith}
+use Rattle.merged_names.proofs.Storing.{Filled, none_yet, all_filled}
+use Rattle.merged_names.proofs.fill_numbers.Goals as goal
+
+pub loop-n-init : goal.loop-n-init
+loop-n-init c =
+    record { all = c.requires.indexed.1.count; reached = omega arith; counted = none_yet _ _; stored = c.requires.numbered; size = refl }
+
+pub number_name-missing-requires : goal.number_name-missing-requires
+number_name-missing-requires c =
+    let inv = c.loop-n.invariant in
+    record {
+          indexed = c.requires.indexed;
+          n_bound = (omega (arith, inv.all, c.loop-n-test.true), inv.stored);
+          missing_value = inv.counted;
+        }
+
+pub loop-n-preserved : goal.loop-n-preserved
+loop-n-preserved c =
+    let inv = c.loop-n.invariant in
+    let named = c.number_name-missing.ensures in
+    record { all = inv.all; reached = omega (arith, c.loop-n-test.true); counted = named.value; stored = named.numbered; size = omega (arith, inv.size) }
+
+pub shape_of-numbers : goal.shape_of-numbers
+shape_of-numbers c = c.loop-n.invariant.size
+
+pub returns : goal.returns
+returns c =
+    let p = all_filled c.loop-n.invariant c.loop-n-test.false in
+    record { value = p.0; numbered_2 = p.1 }
