@@ -14,20 +14,9 @@ use Rattle.definitions.specs.Sheet.{marked}
 use Rattle.identifier_context.specs.Memory.{context_of}
 use Rattle.identifier_context.specs.Promises.{is_visible, visible_before, visible_from, latest_visible, Shows}
 use Rattle.identifier_context.proofs.Visibility.{visible_none, visible_all, visible_passed, visible_listed}
-use Rattle.identifier_context.proofs.next_visible.Statement.{statement}
-use Rattle.identifier_context.proofs.next_visible.Tie as tie
-
--- the entries that are left: both the next visible index and what is listed are those that were asked for
-record Left (name_of : ℕ → Name) (entries : List ℕ) (len before left : ℕ) : Type 0 where
-  inside : left ≤ len
-  index : latest_visible name_of entries len (min before len) ≡ latest_visible name_of entries len left
-  listed : visible_before name_of (context_of entries len) before ≡ visible_before name_of (context_of entries len) left
-
-abbrev invariant-loop : tie.invariant-loop
-invariant-loop entries len pairs text before left₀ left = Left (marked pairs text) entries len before left
-
-abbrev decreases-loop : tie.decreases-loop
-decreases-loop entries len pairs text before left₀ left = left
+use Rattle.identifier_context.proofs.next_visible.Goals as goal
+use Rattle.identifier_context.proofs.next_visible.Goals.{then-len-left, else-len-left}
+use Rattle.identifier_context.proofs.next_visible.Invariants.{Left}
 
 -- all entries are left where the index lies past them, and else those before it
 left_all : (name_of : ℕ → Name) (entries : List ℕ) (len before : ℕ) → len < before → Left name_of entries len before len
@@ -35,8 +24,8 @@ left_all name_of entries len before past =
     let least : min before len ≡ len = omega arith in
     record { inside = omega arith; index = rw least; listed = visible_all _ _ _ _ (omega arith) }
 
-left-before : (name_of : ℕ → Name) (entries : List ℕ) (len before : ℕ) → before ≤ len → Left name_of entries len before before
-left-before name_of entries len before inside =
+left_before : (name_of : ℕ → Name) (entries : List ℕ) (len before : ℕ) → before ≤ len → Left name_of entries len before before
+left_before name_of entries len before inside =
     let least : min before len ≡ before = omega arith in
     record { inside = inside; index = rw least; listed = refl }
 
@@ -52,10 +41,10 @@ left_less e hidden l =
     }
 
 -- one is met that is visible
-left-met : {name_of : ℕ → Name} {entries : List ℕ} {len before left next : ℕ} → left ≡ suc next
+left_met : {name_of : ℕ → Name} {entries : List ℕ} {len before left next : ℕ} → left ≡ suc next
     → is_visible name_of entries len next ≡ true → Left name_of entries len before left → Shows name_of entries len before (At next)
 unfolding latest_visible visible_from found_at
-left-met {name_of} {entries} {len} {left} {next} e shown l =
+left_met {name_of} {entries} {len} {left} {next} e shown l =
     let met : latest_visible name_of entries len left ≡ some next = rw (e, shown) in
     record {
       index = sym (ap found_at (l.index ∙ met));
@@ -68,38 +57,25 @@ left_none : {name_of : ℕ → Name} {entries : List ℕ} {len before : ℕ} →
 unfolding latest_visible visible_from found_at
 left_none l = record { index = sym (ap found_at l.index); listed = sym (l.listed ∙ visible_none _ _ _) }
 
-loop-holds : tie.Need-loop-init invariant-loop decreases-loop
-loop-holds c =
-    ⊎_elim (λ w. rw w.1 (left_all _ _ _ _ w.0.taken)) (λ w. rw w.1 (left-before _ _ _ _ w.0.left)) c.if1.branch
+pub loop-left-init : goal.loop-left-init
+loop-left-init c =
+    elim c.if-len-left.branch [
+      then-len-left w ↦ rw w.left-is (left_all _ _ _ _ w.if-len-left.true)
+      | else-len-left w ↦ rw w.left-is (left_before _ _ _ _ w.if-len-left.false)
+    ]
 
--- back from the loop to the start
-abbrev start : tie.At-loop invariant-loop decreases-loop → tie.Start invariant-loop decreases-loop
-start c = c.before.before.before.before.before
+pub returns-then-is_visible : goal.returns-then-is_visible
+returns-then-is_visible c =
+    left_met (omega arith) (sym c.is_visible.ensures ∙ c.if-is_visible.true) c.loop-left.invariant
 
-returns : tie.Need-returns invariant-loop decreases-loop
+pub loop-left-preserved : goal.loop-left-preserved
+loop-left-preserved c =
+    left_less (omega arith) (sym c.is_visible.ensures ∙ c.if-is_visible.false) c.loop-left.invariant
+
+pub returns : goal.returns
 returns c =
-    left-met (omega arith) (sym c.before.is-visible.ensures ∙ c.if2.true) c.before.before.before.before.loop.invariant
+    let none_left : c.loop-left.left ≡ 0 = omega arith in
+    left_none (rw none_left at c.loop-left.invariant)
 
-loop-again : tie.Need-loop-preserved invariant-loop decreases-loop
-loop-again c =
-    left_less (omega arith) (sym c.before.is-visible.ensures ∙ c.if2.false) c.before.before.before.before.loop.invariant
-
-returns-2 : tie.Need-returns-2 invariant-loop decreases-loop
-returns-2 c =
-    let none_left : c.before.loop.left ≡ 0 = omega arith in
-    left_none (rw none_left at c.before.loop.invariant)
-
-pub next-visible-spec : {M : Type 1} → statement M
-next-visible-spec =
-    tie.close
-    (tie.spec
-    invariant-loop
-    decreases-loop
-    loop-holds
-    (λ c. search rules)
-    (λ c κs. ((start c.before.before).pre, omega arith))
-    returns
-    (λ c. search rules)
-    (λ c. search rules)
-    loop-again
-    returns-2)
+pub is_visible-requires : goal.is_visible-requires
+is_visible-requires c = (c.requires, omega arith)

@@ -10,17 +10,11 @@ use Rattle.definitions.specs.Sheet.{name_limit, pair_size}
 use Rattle.definitions.specs.NameIndex.{slot_count}
 use Rattle.words.specs.Table.{slot_size, slot_offset, table_size}
 use Rattle.words.proofs.Indexing.{empty_table}
-use Rattle.words.proofs.clear.Statement.{statement}
-use Rattle.words.proofs.clear.Tie as tie
-
-abbrev invariant-loop : tie.invariant-loop
-invariant-loop names₀ at₀ names at = (at ≤ 4096) × (length names ≡ length names₀) × (names ≡ replicate at 255 ++ drop at names₀)
-
-abbrev decreases-loop : tie.decreases-loop
-decreases-loop names₀ at₀ names at = 4096 - at
+use Rattle.words.proofs.clear.Goals as goal
+use Rattle.words.proofs.clear.Goals.{Start}
 
 -- a table has so many bytes
-long : (c : tie.Start invariant-loop decreases-loop) → length c.args.names.now ≡ 4096
+long : (c : Start) → length c.args.names.now ≡ 4096
 unfolding table_size slot_offset slot_size slot_count pair_size name_limit
 long c = c.requires
 
@@ -37,29 +31,21 @@ cleared before {at = at} size up ended filled =
     let bytes : List ℕ = replicate (length before) 255 in
     filled ∙ rw (all, drop-length before, append-nil bytes) (ap (λ n. replicate n 255) size)
 
-slice-write-names : tie.Need-slice-write-names invariant-loop decreases-loop
-slice-write-names c = omega (arith, c.before.loop.invariant.1, long c.before.before)
+pub bounds-names-at : goal.bounds-names-at
+bounds-names-at c = omega (arith, c.loop-at.invariant.1, long (goal.at.bounds-names-at c).Start)
 
-loop-again : tie.Need-loop-preserved invariant-loop decreases-loop
-loop-again c =
-    let sofar = c.before.loop.invariant in
-    (omega arith, length-set {A = ℕ} c.before.loop.names c.before.loop.at 255 ∙ sofar.1, more _ (long c.before.before) c.loop-test.true sofar.2)
+pub loop-at-preserved : goal.loop-at-preserved
+loop-at-preserved c =
+    let sofar = c.loop-at.invariant in
+    (omega arith, length-set {A = ℕ} c.loop-at.names c.loop-at.at 255 ∙ sofar.1, more _ (long (goal.at.loop-at-preserved c).Start) c.loop-at-test.true sofar.2)
 
-returns : tie.Need-returns invariant-loop decreases-loop
+pub returns : goal.returns
 returns c = λ text.
-    let sofar = c.before.loop.invariant in
-    rw (cleared _ (long c.before.before) sofar.0 c.loop-test.false sofar.2) (empty_table text)
+    let sofar = c.loop-at.invariant in
+    rw (cleared _ (long (goal.at.returns c).Start) sofar.0 c.loop-at-test.false sofar.2) (empty_table text)
 
-pub clear_spec : {M : Type 1} → statement M
-clear_spec =
-    tie.close
-    (tie.spec
-    invariant-loop
-    decreases-loop
-    (λ c. (omega arith, refl, fill_none _ 255))
-    slice-write-names
-    (λ c. omega arith)
-    (λ c. omega arith)
-    loop-again
-    (λ c. c.before.loop.invariant.1)
-    returns)
+pub loop-at-init : goal.loop-at-init
+loop-at-init c = (omega arith, refl, fill_none _ 255)
+
+pub shape_of-names : goal.shape_of-names
+shape_of-names c = c.loop-at.invariant.1

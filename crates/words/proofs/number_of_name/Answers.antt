@@ -1,0 +1,65 @@
+-- The name is held, there are too many, or it is added.
+use mathlib.Core.Path.{◌≡◌, sym, ◌∙◌}
+use native.Mathlib.Omega.{arith}
+use borrow.Author.Rules.{rules}
+use Rattle.definitions.specs.Sheet.{name_limit}
+use Rattle.definitions.specs.NameIndex.{slot_count}
+use Rattle.name_index.specs.declared.Probed.TheVariants.{Held, Absent}
+use Rattle.words.specs.Places.{between}
+use Rattle.words.specs.Table.{searched}
+use Rattle.words.proofs.Indexing.{slot_inside}
+use Rattle.words.proofs.Numbers.{found_again, none_more}
+use Rattle.words.proofs.NewName.{pair_fits, paired_length, one_more}
+use Rattle.words.proofs.number_of_name.Goals as goal
+use Rattle.words.proofs.number_of_name.Goals.{In-Absent, In-Held}
+
+-- the name has this number
+held : (c : In-Held) →
+    let a = c.args in
+    searched a.names.now a.text.now a.count (between a.at a.end a.text.now) ≡ Held c.in-Held.number
+held c = sym c.find_name.ensures ∙ c.in-Held.is
+
+-- the name is absent, and would enter this slot
+absent : (c : In-Absent) →
+    let a = c.args in
+    searched a.names.now a.text.now a.count (between a.at a.end a.text.now) ≡ Absent c.in-Absent.slot
+absent c = sym c.find_name.ensures ∙ c.in-Absent.is
+
+pub find_name-requires : goal.find_name-requires
+find_name-requires c =
+    let pre = c.requires in
+    (pre.0, omega (arith, pre.1), pre.1.within)
+
+pub returns-then-count-eq-NAME_LIMIT : goal.returns-then-count-eq-NAME_LIMIT
+unfolding name_limit
+returns-then-count-eq-NAME_LIMIT c = none_more c.requires.0 _ (absent (goal.at.returns-then-count-eq-NAME_LIMIT c).In-Absent) c.if-count-eq-NAME_LIMIT.true
+
+pub put_pair-requires : goal.put_pair-requires
+unfolding name_limit
+put_pair-requires c =
+    let pre = c.requires in
+    pair_fits pre.0 c.if-count-eq-NAME_LIMIT.false pre.1
+
+pub put_slot-requires : goal.put_slot-requires
+unfolding name_limit slot_count
+put_slot-requires c =
+    let pre = c.requires in
+    record {
+      room = rw c.put_pair.ensures (paired_length pre.0 c.if-count-eq-NAME_LIMIT.false pre.1);
+      inside = omega (arith, slot_inside pre.0 _ (absent (goal.at.put_slot-requires c).In-Absent));
+      few = omega (arith, pre.0.few, c.if-count-eq-NAME_LIMIT.false);
+    }
+
+pub overflow_add-result : goal.overflow_add-result
+unfolding name_limit
+overflow_add-result c =
+    omega (arith, c.requires.0.few)
+
+pub returns-in-Held : goal.returns-in-Held
+returns-in-Held c = found_again c.requires.0 _ (held c)
+
+pub returns-else-count-eq-NAME_LIMIT : goal.returns-else-count-eq-NAME_LIMIT
+unfolding name_limit
+returns-else-count-eq-NAME_LIMIT c =
+    let pre = c.requires in
+    rw (c.put_slot.ensures, c.put_pair.ensures) (one_more pre.0 c.if-count-eq-NAME_LIMIT.false pre.1 (absent (goal.at.returns-else-count-eq-NAME_LIMIT c).In-Absent))
