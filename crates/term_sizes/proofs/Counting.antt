@@ -8,11 +8,11 @@ use native.Mathlib.Decide.{dec_le}
 use native.Mathlib.Nat.{zero-add, add_assoc}
 use native.Mathlib.Numerals.{add-one}
 use lib.ListN.{get_or, get_or-map}
-use Rattle.definitions.specs.Prop.{Prop, True}
+use Rattle.definitions.specs.Prop.{Prop}
 use Rattle.definitions.specs.Term.{ProofTerm, Unit}
 use Rattle.definitions.specs.TermText.{nodes}
 use Rattle.proof_term.specs.Tally.{sum_of}
-use Rattle.proof_term.specs.Records.{field_at, Form, leaf, unary, binary, ternary, form_term, forms, record_term_at, part_count, term_at, part_at}
+use Rattle.proof_term.specs.Records.{field_at, leaf, form_term, forms, record_term_at, part_count, term_at, part_at}
 use Rattle.proof_term.proofs.Records.{arity, part_count_lem, term_at_is, part_below, part_else}
 
 sum_of_le : (f : ℕ → ℕ) (i n : ℕ) → i ≤ n → sum_of i f ≤ sum_of n f

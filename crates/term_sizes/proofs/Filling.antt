@@ -1,7 +1,7 @@
 -- Counts as far as a number goes are added up so and cut at the most that a number holds; a record that keeps its own leaves all
 -- terms, and the counts of earlier records, as they were.
 use Prim.Native.Nat.{ℕ, ◌+◌, ◌*◌, ◌≤◌, ◌<◌}
-use mathlib.Core.Path.{◌≡◌, refl, sym, ap, ◌∙◌}
+use mathlib.Core.Path.{◌≡◌, refl, ◌∙◌}
 use mathlib.Core.Logic.{by_cases}
 use mathlib.Core.List.{List}
 use native.Mathlib.Omega.{arith}

@@ -1,17 +1,16 @@
 -- The loop adds the node counts of one part after the other, each as far as a number goes.
-use Prim.Native.Nat.{ℕ, ◌+◌, ◌-◌, ◌*◌, ◌≤◌, ◌<◌}
+use Prim.Native.Nat.{ℕ, ◌≤◌}
 use mathlib.Core.Path.{◌≡◌}
-use mathlib.Core.Logic.{⊎_elim}
 use native.Mathlib.Omega.{arith}
 use Rattle.definitions.specs.Prop.{Prop}
 use Rattle.definitions.specs.TermText.{nodes}
 use Rattle.proof_term.specs.Records.{field_at, part_count, term_at}
 use Rattle.proof_term.proofs.Records.{few_parts}
 use Rattle.term_sizes.specs.Sizes.{CountedTo, Sized}
-use Rattle.term_sizes.proofs.Counting.{sized, sized_none, sized_all, sized_part, sized_unit}
+use Rattle.term_sizes.proofs.Counting.{sized_none, sized_all, sized_part, sized_unit}
 use Rattle.term_sizes.proofs.Filling.{counted_so, add_counted, cut_counted}
 use Rattle.term_sizes.proofs.count_nodes.Goals as goal
-use Rattle.term_sizes.proofs.count_nodes.Goals.{At-loop-i}
+use Rattle.term_sizes.proofs.count_nodes.Goals.{At-loop-i, then-part-m, else-part-m}
 
 pub field-requires : goal.field-requires
 field-requires c = omega (arith, c.requires.0)
@@ -44,11 +43,14 @@ loop-i-preserved c =
     let sofar = c.loop-i.invariant in (
       sofar.0,
       omega arith,
-      ⊎_elim (λ w. omega (arith, w.2, w.1.ensures.1, sofar.2)) (λ w. omega (arith, w.1, sofar.2)) c.if-part-m.branch,
-      λ props. ⊎_elim
-          (λ w. rw (sized_part props _ _ _ is w.0.taken, w.2, w.1.ensures.0) (add_counted (sofar.3 props) (c.requires.1 _ w.0.taken props)))
-          (λ w. rw (sized_unit props _ _ _ is w.0.left, w.1) (add_counted (sofar.3 props) (counted_so 1)))
-          c.if-part-m.branch,
+      elim c.if-part-m.branch [
+        | then-part-m w ↦ omega (arith, w.count-is, w.field-count.ensures.1, sofar.2)
+        | else-part-m w ↦ omega (arith, w.count-is, sofar.2)
+      ],
+      λ props. elim c.if-part-m.branch [
+        | then-part-m w ↦ rw (sized_part props _ _ _ is w.if-part-m.true, w.count-is, w.field-count.ensures.0) (add_counted (sofar.3 props) (c.requires.1 _ w.if-part-m.true props))
+        | else-part-m w ↦ rw (sized_unit props _ _ _ is w.if-part-m.false, w.count-is) (add_counted (sofar.3 props) (counted_so 1))
+      ],
     )
 
 -- what the loop came to is the record's own count

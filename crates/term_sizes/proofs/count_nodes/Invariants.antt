@@ -1,15 +1,10 @@
 -- The loop adds the node counts of one part after the other, each as far as a number goes.
-use Prim.Native.Nat.{ℕ, ◌+◌, ◌-◌, ◌*◌, ◌≤◌, ◌<◌}
+use Prim.Native.Nat.{ℕ, ◌+◌, ◌-◌, ◌*◌, ◌≤◌}
 use mathlib.Core.Path.{◌≡◌}
-use mathlib.Core.Logic.{⊎_elim}
-use native.Mathlib.Omega.{arith}
 use Rattle.definitions.specs.Prop.{Prop}
-use Rattle.definitions.specs.TermText.{nodes}
-use Rattle.proof_term.specs.Records.{field_at, part_count, term_at}
-use Rattle.proof_term.proofs.Records.{few_parts}
-use Rattle.term_sizes.specs.Sizes.{CountedTo, Sized}
-use Rattle.term_sizes.proofs.Counting.{sized, sized_none, sized_all, sized_part, sized_unit}
-use Rattle.term_sizes.proofs.Filling.{counted_so, add_counted, cut_counted}
+use Rattle.proof_term.specs.Records.{field_at, part_count}
+use Rattle.term_sizes.specs.Sizes.{CountedTo}
+use Rattle.term_sizes.proofs.Counting.{sized}
 use Rattle.term_sizes.proofs.count_nodes.Given as goal
 
 abbrev pub invariant-loop-i : goal.invariant-loop-i

@@ -1,7 +1,6 @@
 -- The invariant: the records below m keep their counts, and all other numbers are as they were.
 use Prim.Native.Nat.{◌+◌, ◌-◌, ◌≤◌}
-use native.Mathlib.Omega.{arith}
-use Rattle.term_sizes.proofs.Filling.{Filled, filled_none, filled_more, filled_all}
+use Rattle.term_sizes.proofs.Filling.{Filled}
 use Rattle.term_sizes.proofs.fill_sizes.Given as goal
 
 abbrev pub invariant-loop-m : goal.invariant-loop-m
