@@ -1,9 +1,7 @@
 -- Whether two propositions are equal, by the numbers that they have.
 use Prim.Native.Nat.{ℕ}
-use mathlib.Core.Path.{◌≡◌, refl, sym, ap, ◌∙◌}
+use mathlib.Core.Path.{◌≡◌, refl, sym, ap}
 use mathlib.Core.Bool.{Bool, true, false, ◌&&◌}
-use mathlib.Core.Option.{none}
-use mathlib.Core.List.{List}
 use Rattle.definitions.specs.Name.{Name}
 use Rattle.definitions.specs.Prop.{Prop, True, False, Binary, Atom, Quantified, Connective, eq_connective, as_binary, rename_prop}
 use Rattle.definitions.specs.Equal.{eq_sides, eq_prop}

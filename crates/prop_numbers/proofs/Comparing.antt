@@ -1,26 +1,24 @@
 -- Two numbers by their heads and their sides; a side weighs less.
-use Prim.Native.Nat.{ℕ, suc, ◌+◌, ◌*◌, ◌-◌, ◌≤◌, ◌<◌}
-use mathlib.Core.Path.{◌≡◌, refl, sym, ap, ◌∙◌}
+use Prim.Native.Nat.{ℕ, ◌+◌, ◌-◌, ◌≤◌, ◌<◌}
+use mathlib.Core.Path.{◌≡◌, refl, sym, ◌∙◌}
 use mathlib.Core.Logic.{◌⊎◌, ⊎_elim}
-use mathlib.Core.Bool.{Bool, true, false, cond, ◌&&◌}
+use mathlib.Core.Bool.{Bool, true, false, cond}
 use mathlib.Core.List.{List}
 use native.Mathlib.Omega.{arith}
-use lib.ListN.{length, get_or}
+use lib.ListN.{length}
 use lib.Dec.{ltb}
 use borrow.Author.Tests.{lt-ltb, le-ltb}
 use Rattle.definitions.specs.Name.{Name}
 use Rattle.definitions.specs.Prop.{Prop, Binary, Connective, connective_byte, rename_prop}
 use Rattle.definitions.specs.Equal.{eq_prop}
 use Rattle.definitions.proofs.Equal.{eq_prop_true, eq_prop_refl}
-use Rattle.prefix_code.specs.PropAt.{prop_at, Present}
-use Rattle.prefix_code.specs.Scan.{Scanned}
-use Rattle.prop_numbers.specs.Standing.{standing, node_limit, name_space, Stood, Rep, stands, made, Known, Distinct, head_of, left_of, right_of, RightOf}
+use Rattle.prefix_code.specs.PropAt.{prop_at}
+use Rattle.prop_numbers.specs.Standing.{standing, node_limit, name_space, Rep, stands, made, Known, Distinct, head_of, left_of, RightOf}
 use Rattle.prop_numbers.specs.Answering.{Alike}
 use Rattle.prop_numbers.proofs.Equality.{rename_injective}
-use Rattle.prop_numbers.proofs.Reps.{rep_wider}
-use Rattle.prop_numbers.proofs.Opening.{same_connective, Sides, opened, binary_head}
+use Rattle.prop_numbers.proofs.Opening.{opened, binary_head}
 use Rattle.prop_numbers.proofs.Alike.{same_sides}
-use Rattle.prop_numbers.proofs.Halves.{rep_is, rep_stands, rep_low, head_made, left_made, right_made, head_stands, left_stands, right_stands, halves, half, sides_of}
+use Rattle.prop_numbers.proofs.Halves.{rep_is, head_made, left_made, right_made, left_stands, halves, half, sides_of}
 
 -- what stands weighs less than what is made, and what comes later less than what comes before
 unfoldable pub weight : ℕ → ℕ

@@ -1,13 +1,13 @@
 -- Two propositions that stand are equal, by whatever different names, exactly where their code bytes are.
-use Prim.Native.Nat.{ℕ, ◌+◌, ◌≤◌, ◌<◌}
+use Prim.Native.Nat.{ℕ}
 use mathlib.Core.Path.{◌≡◌, refl, sym, ap, ◌∙◌}
-use mathlib.Core.Bool.{Bool, true, false, true≢false}
+use mathlib.Core.Bool.{Bool, true, false}
 use mathlib.Core.List.{List, [], ◌∷◌, ◌++◌, map}
 use Rattle.definitions.specs.Name.{Name, eq_name}
 use Rattle.definitions.specs.Prop.{Prop, True, False, Binary, Atom, Quantified, PropParameter, Uninstantiated, Instantiated, rename_parameter, rename_prop}
 use Rattle.definitions.specs.Code.{encode, Codable}
 use Rattle.definitions.specs.Equal.{eq_prop}
-use Rattle.definitions.proofs.Names.{eq_name_refl, eq_name_true, eq_name_of_eq}
+use Rattle.definitions.proofs.Names.{eq_name_true, eq_name_of_eq}
 use Rattle.definitions.proofs.Equal.{eq_prop_true, eq_prop_refl}
 use Rattle.definitions.proofs.PrefixCode.{encode_injective}
 use Rattle.prop_numbers.specs.Standing.{name_space}

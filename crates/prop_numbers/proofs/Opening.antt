@@ -1,22 +1,21 @@
 -- A proposition's number by its head: which connective it has, and what numbers its sides have.
 use Prim.Native.Nat.{ℕ, ◌+◌, ◌*◌, ◌-◌, ◌≤◌, ◌<◌}
 use mathlib.Core.Path.{◌≡◌, refl, sym, ap, ◌∙◌}
-use mathlib.Core.Bool.{Bool, true, false, cond, true≢false}
+use mathlib.Core.Bool.{Bool, true, false, cond}
 use mathlib.Core.List.{List, ◌∷◌, ◌++◌}
 use native.Mathlib.Omega.{arith}
 use lib.ListN.{length, get_or, drop}
-use lib.Dec.{ltb}
 use borrow.Author.Tests.{lt-ltb, le-ltb, eq-eqb}
 use Rattle.definitions.specs.Name.{Name}
 use Rattle.definitions.specs.Prop.{Prop, True, False, Binary, Atom, Quantified, as_binary, rename_prop, Connective, connective_byte, eq_connective}
-use Rattle.definitions.specs.Code.{encode, Codable}
+use Rattle.definitions.specs.Code.{encode}
 use Rattle.definitions.proofs.Connectives.{eq_connective_true, eq_connective_of_eq}
 use Rattle.definitions.specs.Checker.{derived, stopped, ◌>>=◌, ensure, sides_in, sides}
 use Rattle.prefix_code.specs.Scan.{Stands, At, Scanned}
 use Rattle.prefix_code.specs.PropAt.{prop_at, Present}
 use Rattle.prefix_code.proofs.Positions.{byte_at}
 use Rattle.prefix_code.proofs.Heads.{connective_byte_lem}
-use Rattle.prefix_code.proofs.Forms.{BinaryAt, binary_at}
+use Rattle.prefix_code.proofs.Forms.{binary_at}
 use Rattle.prefix_code.proofs.Reading.{prop_at_lem, present, inside}
 use Rattle.prop_numbers.proofs.Reps.{rep_wider}
 use Rattle.prop_numbers.specs.Standing.{standing, name_space, Rep, stands, made, head_of, left_of, right_of}

@@ -1,8 +1,6 @@
 -- A stop stays; two propositions are compared.
-use mathlib.Core.Path.{refl, sym, ap}
-use mathlib.Core.Bool.{true, false, cond}
+use mathlib.Core.Path.{refl}
 use native.Mathlib.Omega.{arith}
-use borrow.Author.Rules.{rules}
 use Rattle.prop_numbers.proofs.agree.Goals as goal
 
 pub returns-then-r-ge-STOPS : goal.returns-then-r-ge-STOPS
@@ -10,9 +8,9 @@ returns-then-r-ge-STOPS c = record { stop = λ h. refl; tested = λ h. absurd (o
 
 pub same-requires : goal.same-requires
 same-requires c = record {
-      code_len_bound = (c.requires.code_len_bound.0, c.requires.code_len_bound.1);
-      known = (c.requires.known.0 c.if-r-ge-STOPS.false, c.requires.known.1);
-    }
+  code_len_bound = (c.requires.code_len_bound.0, c.requires.code_len_bound.1);
+  known = (c.requires.known.0 c.if-r-ge-STOPS.false, c.requires.known.1);
+}
 
 pub returns-then-same : goal.returns-then-same
 returns-then-same c =

@@ -1,7 +1,6 @@
 -- A stop stays; any other answer by its head.
 use mathlib.Core.Path.{refl, sym, ◌∙◌}
 use native.Mathlib.Omega.{arith}
-use borrow.Author.Rules.{rules}
 use Rattle.prop_numbers.proofs.expect.Goals as goal
 
 pub returns-then-r-ge-STOPS : goal.returns-then-r-ge-STOPS

@@ -1,7 +1,6 @@
 -- Three numbers are stored in the node's slot, unless the second part is a stop.
 use mathlib.Core.Path.{refl}
 use native.Mathlib.Omega.{arith}
-use borrow.Author.Rules.{rules}
 use Rattle.prop_numbers.specs.Standing.{slotted}
 use Rattle.prop_numbers.proofs.make.Goals as goal
 

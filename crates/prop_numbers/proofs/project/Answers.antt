@@ -1,8 +1,7 @@
 -- What is expected to be ∧ has two sides.
-use mathlib.Core.Path.{◌≡◌, refl, sym, ◌∙◌}
-use mathlib.Core.Bool.{true, false, true≢false}
+use mathlib.Core.Path.{refl, sym, ◌∙◌}
+use mathlib.Core.Bool.{true≢false}
 use native.Mathlib.Omega.{arith}
-use borrow.Author.Rules.{rules}
 use Rattle.prop_numbers.specs.Standing.{Space}
 use Rattle.prop_numbers.proofs.Halves.{expected_space}
 use Rattle.prop_numbers.proofs.project.Goals as goal

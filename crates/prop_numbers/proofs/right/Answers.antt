@@ -1,7 +1,6 @@
 -- A number below all made ones is an offset, any other has a slot.
 use Prim.Native.Nat.{◌+◌, ◌*◌, ◌-◌}
 use native.Mathlib.Omega.{arith}
-use borrow.Author.Rules.{rules}
 use borrow.Author.Tests.{lt-ltb, le-ltb}
 use Rattle.prop_numbers.specs.Standing.{standing, right_of}
 use Rattle.prop_numbers.proofs.right.Goals as goal

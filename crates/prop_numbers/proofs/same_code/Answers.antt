@@ -3,7 +3,6 @@ use Prim.Native.Nat.{◌+◌}
 use mathlib.Core.Path.{◌≡◌}
 use native.Mathlib.Omega.{arith}
 use lib.ListN.{length}
-use borrow.Author.Rules.{rules}
 use Rattle.definitions.specs.Code.{encode}
 use Rattle.prefix_code.specs.PropAt.{prop_at}
 use Rattle.prefix_code.proofs.Reading.{inside}

@@ -1,7 +1,6 @@
 -- The byte in front says the connective.
 use mathlib.Core.Path.{refl}
 use native.Mathlib.Omega.{arith}
-use borrow.Author.Rules.{rules}
 use Rattle.prefix_code.proofs.Reading.{inside}
 use Rattle.prop_numbers.proofs.side_of.Goals as goal
 

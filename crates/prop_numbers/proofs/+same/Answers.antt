@@ -1,0 +1,99 @@
+-- A side weighs less than the whole, so the sum of both weights falls.
+use Prim.Native.Nat.{ℕ, ◌≤◌}
+use mathlib.Core.Path.{◌≡◌, sym, ◌∙◌}
+use mathlib.Core.Logic.{◌⊎◌, inl, inr}
+use native.Mathlib.Omega.{arith}
+use Rattle.definitions.specs.Prop.{connective_byte}
+use Rattle.prop_numbers.specs.Standing.{standing, Known, Space, head_of}
+use Rattle.prop_numbers.proofs.Halves.{rep_stands, space_of}
+use Rattle.prop_numbers.proofs.Comparing.{left_lighter, right_lighter, Joined, joined, left_known, right_known, alike_other, alike_standing, alike_left, alike_both}
+use Rattle.prop_numbers.proofs.+same.Goals as goal
+use Rattle.prop_numbers.proofs.+same.Goals.{Else-head, Joined-p-lt-STANDING, Start, then-p-lt-STANDING+else-q-lt-STANDING, else-p-lt-STANDING}
+
+first : (t : ℕ) → (c : Start t) → Known c.args.code.now c.args.made.now c.args.p
+first t c = c.requires.known.0
+
+second : (t : ℕ) → (c : Start t) → Known c.args.code.now c.args.made.now c.args.q
+second t c = c.requires.known.1
+
+first_space : (t : ℕ) → (c : Start t) → Space c.args.code.now c.args.made.now c.args.p
+first_space t c = space_of c.requires.code_len_bound.0 c.requires.code_len_bound.1 (first t c)
+
+second_space : (t : ℕ) → (c : Start t) → Space c.args.code.now c.args.made.now c.args.q
+second_space t c = space_of c.requires.code_len_bound.0 c.requires.code_len_bound.1 (second t c)
+
+-- one of the two is made
+one_made : (t : ℕ) → (c : Joined-p-lt-STANDING t) → (standing ≤ c.args.q) ⊎ (standing ≤ c.args.p)
+one_made t c =
+    elim c.if-p-lt-STANDING.branch [
+      | then-p-lt-STANDING+else-q-lt-STANDING w ↦ inl w.if-q-lt-STANDING.false
+      | else-p-lt-STANDING w ↦ inr w.if-p-lt-STANDING.false
+    ]
+
+-- and both have one head
+heads : (t : ℕ) → (c : Else-head t) → let s = c.args in Joined s.code.now s.made.now s.p
+heads t c =
+    joined (first t (goal.at.Else-head t c).Start) (second t (goal.at.Else-head t c).Start) (sym c.head.ensures ∙ c.if-head.false ∙ c.head-2.ensures) (one_made t (goal.at.Else-head t c).Joined-p-lt-STANDING)
+
+-- the second too
+other_head : (t : ℕ) → (c : Else-head t) → let s = c.args in head_of s.code.now s.made.now s.q ≡ connective_byte (heads t c).connective
+other_head t c = sym c.head-2.ensures ∙ sym c.if-head.false ∙ c.head.ensures ∙ (heads t c).head
+
+pub same_code-requires : goal.same_code-requires
+same_code-requires t c =
+    ((rep_stands (first t (goal.at.same_code-requires t c).Start).rep c.if-p-lt-STANDING.true).there, (rep_stands (second t (goal.at.same_code-requires t c).Start).rep c.if-q-lt-STANDING.true).there)
+
+pub returns-then-q-lt-STANDING : goal.returns-then-q-lt-STANDING
+returns-then-q-lt-STANDING t c = alike_standing c.if-p-lt-STANDING.true c.if-q-lt-STANDING.true c.same_code.ensures
+
+pub returns-then-head : goal.returns-then-head
+returns-then-head t c = alike_other (λ e. c.if-head.true (c.head.ensures ∙ e ∙ sym c.head-2.ensures)) (one_made t (goal.at.returns-then-head t c).Joined-p-lt-STANDING)
+
+pub same-left_same-requires : goal.same-left_same-requires
+same-left_same-requires t c =
+    let few = c.requires.code_len_bound.0 in
+    let j = heads t (goal.at.same-left_same-requires t c).Else-head in
+    let l = left_lighter j.connective few (first t (goal.at.same-left_same-requires t c).Start).last (first t (goal.at.same-left_same-requires t c).Start).rep j.head in
+    let r = left_lighter j.connective few (second t (goal.at.same-left_same-requires t c).Start).last (second t (goal.at.same-left_same-requires t c).Start).rep (other_head t (goal.at.same-left_same-requires t c).Else-head) in (
+      rw (c.left.ensures, c.left-2.ensures) (omega (arith, c.decreases, l, r)),
+      (c.requires.code_len_bound, (left_known j.connective few (first t (goal.at.same-left_same-requires t c).Start) j.head c.left.ensures, left_known j.connective few (second t (goal.at.same-left_same-requires t c).Start) (other_head t (goal.at.same-left_same-requires t c).Else-head) c.left-2.ensures)),
+    )
+
+pub returns-then-not-left_same : goal.returns-then-not-left_same
+returns-then-not-left_same t c =
+    alike_left (heads t (goal.at.returns-then-not-left_same t c).Else-head).connective c.requires.code_len_bound.0 (heads t (goal.at.returns-then-not-left_same t c).Else-head).head (other_head t (goal.at.returns-then-not-left_same t c).Else-head) c.left.ensures c.left-2.ensures
+    (rw c.if-not-left_same.true at c.same-left_same.ensures)
+
+pub same-requires : goal.same-requires
+same-requires t c =
+    let few = c.requires.code_len_bound.0 in
+    let j = heads t (goal.at.same-requires t c).Else-head in
+    let l = right_lighter j.connective few (first t (goal.at.same-requires t c).Start).last (first t (goal.at.same-requires t c).Start).rep j.head c.right.ensures in
+    let r = right_lighter j.connective few (second t (goal.at.same-requires t c).Start).last (second t (goal.at.same-requires t c).Start).rep (other_head t (goal.at.same-requires t c).Else-head) c.right-2.ensures in (
+      omega (arith, c.decreases, l, r),
+      (c.requires.code_len_bound, (right_known j.connective few (first t (goal.at.same-requires t c).Start) j.head c.right.ensures, right_known j.connective few (second t (goal.at.same-requires t c).Start) (other_head t (goal.at.same-requires t c).Else-head) c.right-2.ensures)),
+    )
+
+pub returns : goal.returns
+returns t c =
+    alike_both (heads t (goal.at.returns t c).Else-head).connective c.requires.code_len_bound.0 (heads t (goal.at.returns t c).Else-head).head (other_head t (goal.at.returns t c).Else-head) c.left.ensures c.left-2.ensures
+    c.right.ensures c.right-2.ensures
+    (rw c.if-not-left_same.false at c.same-left_same.ensures) c.same.ensures
+
+pub head-requires : goal.head-requires
+head-requires t c = first_space t (goal.at.head-requires t c).Start
+
+pub head-requires-2 : goal.head-requires-2
+head-requires-2 t c = second_space t (goal.at.head-requires-2 t c).Start
+
+pub left-requires : goal.left-requires
+left-requires t c = let s = first_space t (goal.at.left-requires t c).Start in (s.low, s.slots)
+
+pub left-requires-2 : goal.left-requires-2
+left-requires-2 t c = let s = second_space t (goal.at.left-requires-2 t c).Start in (s.low, s.slots)
+
+pub right-requires : goal.right-requires
+right-requires t c = first_space t (goal.at.right-requires t c).Start
+
+pub right-requires-2 : goal.right-requires-2
+right-requires-2 t c = second_space t (goal.at.right-requires-2 t c).Start
