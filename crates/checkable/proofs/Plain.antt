@@ -15,7 +15,7 @@ use Rattle.prefix_code.proofs.Positions.{after, extent, byte_at}
 use Rattle.prefix_code.proofs.Heads.{head_bytes, atom_bytes, quantified_bytes, connective_byte_lem, quantifier_byte_lem}
 use Rattle.prefix_code.proofs.Propositions.{headed}
 use Rattle.renumbering.specs.Renumbered.{Whole}
-use Rattle.renumbering.proofs.Rows.{head_of, parts, row, CodableRow, RowAt, FirstHead, first_head, whole_row}
+use Rattle.renumbering.proofs.Rows.{head_of, parts, row, RowAt, FirstHead, first_head, whole_row}
 use Rattle.checkable.specs.Plain.{is_plain_head, SomeParameters, SomeHead}
 
 module _ (names : ℕ) (before : List ℕ) (at : ℕ) where

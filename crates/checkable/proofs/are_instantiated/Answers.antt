@@ -1,6 +1,6 @@
 -- One parameter after the other; the first that is uninstantiated decides.
 use native.Mathlib.Omega.{arith}
-use Rattle.checkable.proofs.Plain.{Left, left_all, left_inside, left_stop, left_next, left_none}
+use Rattle.checkable.proofs.Plain.{left_all, left_inside, left_stop, left_next, left_none}
 use Rattle.checkable.proofs.are_instantiated.Goals as goal
 
 pub loop-needed-init : goal.loop-needed-init

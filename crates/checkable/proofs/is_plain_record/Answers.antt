@@ -1,9 +1,6 @@
 -- A let is none; a label decides where there is one.
 use native.Mathlib.Omega.{arith}
-use mathlib.Core.Path.{◌≡◌, sym, ap, ◌∙◌}
-use mathlib.Core.Bool.{Bool, true, false}
-use borrow.Author.Rules.{rules}
-use borrow.Author.Tests.{not-true, not-false}
+use mathlib.Core.Path.{◌≡◌, sym, ◌∙◌}
 use Rattle.proof_term.specs.Records.{field_at}
 use Rattle.proof_term.specs.Labels.{has_label, Labelled}
 use Rattle.checkable.proofs.Terms.{label_read, own_let, own_unlabelled, own_datatype, own_proposition}
@@ -17,11 +14,11 @@ asked c = label_read c.has_label.ensures c.field-kind.ensures.0 c.field-label.en
 
 -- and there is one
 labelled : (c : Else-not-has_label) → Labelled c.args.records.now c.args.n
-labelled c = sym (asked (goal.at.Else-not-has_label c).After-has_label) ∙ not-false _ c.if-not-has_label.false-raw
+labelled c = sym (asked (goal.at.Else-not-has_label c).After-has_label) ∙ c.if-not-has_label.false
 
 pub returns-then-not-has_label : goal.returns-then-not-has_label
 returns-then-not-has_label c =
-    own_unlabelled _ _ _ _ (λ e. c.if-kind-eq-LET_IN.false (c.field-kind.ensures.0 ∙ e)) (sym (asked (goal.at.returns-then-not-has_label c).After-has_label) ∙ not-true _ c.if-not-has_label.true-raw)
+    own_unlabelled _ _ _ _ (λ e. c.if-kind-eq-LET_IN.false (c.field-kind.ensures.0 ∙ e)) (sym (asked (goal.at.returns-then-not-has_label c).After-has_label) ∙ c.if-not-has_label.true)
 
 pub returns-then-label-eq-DATATYPE : goal.returns-then-label-eq-DATATYPE
 returns-then-label-eq-DATATYPE c =

@@ -1,14 +1,11 @@
 -- One head after the other; the first that is not plain decides.
-use Prim.Native.Nat.{◌-◌}
 use native.Mathlib.Omega.{arith}
-use lib.ListN.{length}
-use borrow.Author.Tests.{not-true, not-false}
-use Rattle.checkable.proofs.Plain.{Looking, looking_start, looking_head, looking_ends, looking_stop, looking_next, looking_end}
+use Rattle.checkable.proofs.Plain.{looking_start, looking_head, looking_ends, looking_stop, looking_next, looking_end}
 use Rattle.checkable.proofs.is_quantifier_free.Goals as goal
 
 pub loop-i-preserved : goal.loop-i-preserved
 loop-i-preserved c =
-    looking_next c.loop-i.invariant c.loop-i-test.true c.is_plain_head.ensures c.requires (not-false _ c.if-not-is_plain_head.false-raw) c.head_end-i.ensures
+    looking_next c.loop-i.invariant c.loop-i-test.true c.is_plain_head.ensures c.requires c.if-not-is_plain_head.false c.head_end-i.ensures
 
 pub loop-i-init : goal.loop-i-init
 loop-i-init c = looking_start
@@ -17,7 +14,7 @@ pub is_plain_head-requires : goal.is_plain_head-requires
 is_plain_head-requires c = looking_head c.loop-i.invariant c.loop-i-test.true c.requires
 
 pub returns-then-not-is_plain_head : goal.returns-then-not-is_plain_head
-returns-then-not-is_plain_head c = looking_stop c.loop-i.invariant c.loop-i-test.true c.is_plain_head.ensures (not-true _ c.if-not-is_plain_head.true-raw)
+returns-then-not-is_plain_head c = looking_stop c.loop-i.invariant c.loop-i-test.true c.is_plain_head.ensures c.if-not-is_plain_head.true
 
 pub head_end-i-requires : goal.head_end-i-requires
 head_end-i-requires c = c.loop-i.invariant.inside
