@@ -1,0 +1,18 @@
+-- By the connective.
+use mathlib.Core.Path.{◌≡◌, refl}
+use native.Mathlib.Omega.{arith}
+use Rattle.definitions.specs.TermReader.{right_least}
+use Rattle.prop_parts.proofs.Signs.{and_is, or_is, impl_is}
+use Rattle.prop_parts.proofs.right_least.Goals as goal
+
+pub returns-then-connective-eq-AND : goal.returns-then-connective-eq-AND
+unfolding right_least
+returns-then-connective-eq-AND c k e = rw (and_is _ c.if-connective-eq-AND.true k e) refl
+
+pub returns-then-connective-eq-OR : goal.returns-then-connective-eq-OR
+unfolding right_least
+returns-then-connective-eq-OR c k e = rw (or_is _ c.if-connective-eq-OR.true k e) refl
+
+pub returns : goal.returns
+unfolding right_least
+returns c k e = rw (impl_is _ c.if-connective-eq-AND.false c.if-connective-eq-OR.false k e) refl
