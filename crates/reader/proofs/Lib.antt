@@ -1,4 +1,2 @@
 -- Steps that the walks of the reader's functions share, and what their answers say.
-pub mod Answered
-pub mod Apart
 pub mod Numbers
