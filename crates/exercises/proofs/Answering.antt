@@ -4,16 +4,14 @@ use mathlib.Core.Path.{◌≡◌, refl}
 use mathlib.Core.Bool.{Bool, true, false, ◌||◌, not, cond}
 use mathlib.Core.List.{List}
 use native.Mathlib.Omega.{arith}
-use lib.ListN.{length, get_or}
+use lib.ListN.{length}
 use lib.Dec.{ltb}
 use borrow.Author.Tests.{ltb-false, lt-ltb, le-ltb, le-leb, lt-leb}
 use Rattle.definitions.specs.declared.Found.TheVariants.{Nowhere, At}
 use Rattle.definitions.specs.Outcome.{Outcome, accepted, refuse, refuse_if, ◌>>=◌}
-use Rattle.definitions.specs.Prop.{True}
-use Rattle.definitions.specs.Code.{encode}
 use Rattle.definitions.specs.Answers.{is_in_room}
 use Rattle.definitions.specs.CallerNames.{names_in, all_well_formed}
-use Rattle.definitions.specs.Exercises.{repeated, exercise_name_limit, connective_limit, bad_names, exercises, of_size, exercise_answer}
+use Rattle.definitions.specs.Exercises.{repeated, exercise_name_limit, connective_limit, bad_names, exercises, exercise_answer}
 use Rattle.output.specs.declared.Written.TheVariants.{Refused}
 use Rattle.output.specs.Written.{written_of, filled, Fills}
 use Rattle.exercises.specs.Names.{count_of}

@@ -3,10 +3,10 @@ use Prim.Native.Nat.{ℕ, zero, suc, ◌+◌, ◌*◌, ◌≤◌, ◌<◌}
 use mathlib.Core.Path.{◌≡◌, refl, sym, ◌∙◌}
 use mathlib.Core.List.{List, [], ◌∷◌}
 use native.Mathlib.Omega.{arith}
-use lib.ListN.{length, get_or}
+use lib.ListN.{get_or}
 use Rattle.exercise_laws.specs.Counts.{before, each, counts}
 use Rattle.exercise_laws.proofs.Counts.{length_of_size}
-use Rattle.exercises.specs.Sizes.{Few, size, CountOf}
+use Rattle.exercises.specs.Sizes.{size, CountOf}
 
 abbrev pub table : List ℕ
 table = 2 ∷ 12 ∷ 144 ∷ 2160 ∷ 3 ∷ 27 ∷ 486 ∷ 10935 ∷ 4 ∷ 48 ∷ 1152 ∷ 34560 ∷ 5 ∷ 75 ∷ 2250 ∷ 84375 ∷ []

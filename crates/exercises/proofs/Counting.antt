@@ -6,8 +6,7 @@ use mathlib.Core.List.{List, [], ◌∷◌}
 use native.Mathlib.Omega.{arith}
 use lib.ListN.{length, drop}
 use lib.Dec.{ltb}
-use borrow.Author.Tests.{lt-ltb, not-true, not-false}
-use Rattle.definitions.specs.declared.Found.{Found}
+use borrow.Author.Tests.{lt-ltb}
 use Rattle.definitions.specs.declared.Found.TheVariants.{Nowhere, At}
 use Rattle.definitions.specs.Name.{Name, eq_name}
 use Rattle.definitions.specs.Text.{occurs}
@@ -18,12 +17,6 @@ use Rattle.caller_names.proofs.Pieces.{after_last, after_more, names_pieces, no_
 use Rattle.exercises.specs.Names.{Two, count_of}
 
 -- what a call answered, as the test after it tells
-pub fails : {r t : Bool} → r ≡ t → not r ≡ true → t ≡ false
-fails {r} e h = sym e ∙ not-true r h
-
-pub holds : {r t : Bool} → r ≡ t → not r ≡ false → t ≡ true
-holds {r} e h = sym e ∙ not-false r h
-
 pub told : {r t b : Bool} → r ≡ t → r ≡ b → t ≡ b
 told e h = sym e ∙ h
 

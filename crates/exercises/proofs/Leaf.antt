@@ -1,10 +1,10 @@
 -- The code of a leaf.
 use Prim.Native.Nat.{ℕ, zero, suc, ◌+◌, ◌-◌, ◌/◌, ◌%◌, ◌≤◌, ◌<◌}
 use mathlib.Core.Path.{◌≡◌, ap}
-use mathlib.Core.List.{List, [], ◌∷◌}
+use mathlib.Core.List.{[], ◌∷◌}
 use native.Mathlib.Omega.{arith}
 use lib.ListN.{get_or}
-use Rattle.definitions.specs.Prop.{True, Atom}
+use Rattle.definitions.specs.Prop.{True}
 use Rattle.definitions.specs.Code.{encode, u16, encode_parameters}
 use Rattle.definitions.specs.Exercises.{of_size}
 use Rattle.exercise_laws.specs.Counts.{counts}

@@ -1,13 +1,13 @@
 -- The proposition at an ordinal, by its number of connectives, its root, the left part's size and the parts' indices.
 use Prim.Native.Nat.{ℕ, zero, suc, ◌+◌, ◌*◌, ◌-◌, ◌/◌, ◌%◌, ◌≤◌, ◌<◌}
-use mathlib.Core.Path.{◌≡◌, refl, sym, ◌∙◌, ap, subst}
+use mathlib.Core.Path.{◌≡◌, refl, sym, ◌∙◌, ap}
 use mathlib.Core.Logic.{by_cases}
-use mathlib.Core.List.{List, [], ◌∷◌, ◌++◌}
+use mathlib.Core.List.{List, ◌∷◌, ◌++◌}
 use native.Mathlib.Omega.{arith}
 use native.Mathlib.Decide.{dec_le}
 use native.Mathlib.Nat.{div-add-mod', div-lt_iff_lt-mul, mod-lt, mul-le-mul}
 use lib.ListN.{length, get_or, length-append}
-use Rattle.definitions.specs.Prop.{Prop, True, Binary, Connective, and, or, impl, connective_byte}
+use Rattle.definitions.specs.Prop.{Prop, True, Binary, Connective, connective_byte}
 use Rattle.definitions.specs.Code.{encode}
 use Rattle.definitions.specs.Exercises.{of_root, of_roots, sizes, of_size, exercises}
 use Rattle.definitions.proofs.Arms.{Missed}

@@ -1,5 +1,4 @@
 -- The table's entry.
-use borrow.Author.Rules.{rules}
 use Rattle.exercises.proofs.Counted.{entry}
 use Rattle.exercises.proofs.count.Goals as goal
 

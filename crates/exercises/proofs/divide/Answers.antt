@@ -1,8 +1,7 @@
 -- The invariant: so many blocks of left parts with fewer connectives are passed.
-use Prim.Native.Nat.{◌-◌}
 use native.Mathlib.Omega.{arith}
 use native.Mathlib.Numerals.{add-one}
-use Rattle.exercises.proofs.Unranked.{fewer, Dividing, first_block, product_bounded, this_block, next_block}
+use Rattle.exercises.proofs.Unranked.{fewer, first_block, product_bounded, this_block, next_block}
 use Rattle.exercises.proofs.divide.Goals as goal
 
 pub loop-rest-init : goal.loop-rest-init

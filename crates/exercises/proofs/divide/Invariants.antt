@@ -1,8 +1,6 @@
 -- The invariant: so many blocks of left parts with fewer connectives are passed.
 use Prim.Native.Nat.{◌-◌}
-use native.Mathlib.Omega.{arith}
-use native.Mathlib.Numerals.{add-one}
-use Rattle.exercises.proofs.Unranked.{fewer, Dividing, first_block, product_bounded, this_block, next_block}
+use Rattle.exercises.proofs.Unranked.{Dividing}
 use Rattle.exercises.proofs.divide.Given as goal
 
 abbrev pub invariant-loop-rest : goal.invariant-loop-rest

@@ -1,8 +1,7 @@
 -- The invariant: all of fewer connectives are passed.
-use Prim.Native.Nat.{suc, ◌-◌}
 use native.Mathlib.Omega.{arith}
 use native.Mathlib.Numerals.{add-one}
-use Rattle.exercises.proofs.Unranked.{fewer, Locating, first_size, this_size, next_size, past_all}
+use Rattle.exercises.proofs.Unranked.{fewer, first_size, this_size, next_size, past_all}
 use Rattle.exercises.proofs.locate.Goals as goal
 
 pub loop-size-init : goal.loop-size-init

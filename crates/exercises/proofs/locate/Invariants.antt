@@ -1,8 +1,6 @@
 -- The invariant: all of fewer connectives are passed.
 use Prim.Native.Nat.{suc, ◌-◌}
-use native.Mathlib.Omega.{arith}
-use native.Mathlib.Numerals.{add-one}
-use Rattle.exercises.proofs.Unranked.{fewer, Locating, first_size, this_size, next_size, past_all}
+use Rattle.exercises.proofs.Unranked.{Locating}
 use Rattle.exercises.proofs.locate.Given as goal
 
 abbrev pub invariant-loop-size : goal.invariant-loop-size

@@ -1,6 +1,5 @@
 -- ⊤ and ⊥ are their ordinals; an atom is its number, which one byte holds.
 use native.Mathlib.Omega.{arith}
-use borrow.Author.Rules.{rules}
 use Rattle.exercises.proofs.Leaf.{leaves, constant, named}
 use Rattle.exercises.proofs.put_leaf.Goals as goal
 

@@ -14,4 +14,4 @@ unfolding connective_byte root_of
 returns-in-1 c = search rules
 
 pub returns-in_default : goal.returns-in_default
-returns-in_default c = last_root _ c.in_default.in_default-own.rest
+returns-in_default c = search (rules, last_root)

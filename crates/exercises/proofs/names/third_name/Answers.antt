@@ -1,7 +1,6 @@
 -- The last of three names is judged by itself, and then beside each of the two before it.
-use borrow.Author.Rules.{rules}
 use Rattle.exercises.specs.Names.{Two}
-use Rattle.exercises.proofs.Counting.{fails, holds, told, many, bad_third, same_outer, same_last, three}
+use Rattle.exercises.proofs.Counting.{told, many, bad_third, same_outer, same_last, three}
 use Rattle.exercises.proofs.names.third_name.Goals as goal
 use Rattle.exercises.proofs.names.third_name.Goals.{After-name_end-third}
 
@@ -14,7 +13,7 @@ returns-then-third-text c = many (known (goal.at.returns-then-third-text c).Afte
 
 pub returns-then-not-well_formed : goal.returns-then-not-well_formed
 returns-then-not-well_formed c =
-    bad_third (known (goal.at.returns-then-not-well_formed c).After-name_end-third) c.name_end-third.ensures c.if-third-text.false (fails c.well-formed-2.ensures c.if-not-well_formed.true-raw)
+    bad_third (known (goal.at.returns-then-not-well_formed c).After-name_end-third) c.name_end-third.ensures c.if-third-text.false (told c.well_formed-2.ensures c.if-not-well_formed.true)
 
 pub returns-then-same_piece : goal.returns-then-same_piece
 returns-then-same_piece c =
@@ -30,5 +29,5 @@ pub returns : goal.returns
 returns c =
     three (known (goal.at.returns c).After-name_end-third) c.name_end-third.ensures c.if-third-text.false
     (told c.same_piece.ensures c.if-same_piece.false)
-    (holds c.well_formed_lem.ensures c.if-not-well_formed.false)
+    (told c.well_formed-2.ensures c.if-not-well_formed.false)
     (told c.same_piece-2.ensures c.if-same_piece-2.false)
