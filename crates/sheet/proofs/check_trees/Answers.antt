@@ -1,0 +1,194 @@
+-- The sizes of the trees are filled in first; the other two refusals read them.
+use Prim.Native.Nat.{ℕ, ◌-◌, ◌≤◌}
+use mathlib.Core.Path.{◌≡◌, sym, ◌∙◌}
+use mathlib.Core.Bool.{Bool}
+use mathlib.Core.List.{List}
+use native.Mathlib.Omega.{arith}
+use lib.ListN.{length}
+use lib.Dec.{ltb}
+use borrow.Author.Rules.{rules}
+use Rattle.definitions.specs.declared.Found.{Found}
+use Rattle.definitions.specs.declared.Found.TheVariants.{Nowhere}
+use Rattle.definitions.specs.Outcome.{accepted, lowest, found_at, refuse_if, refuse_lowest}
+use Rattle.definitions.specs.Sheet.{step_limit, tree_nesting_limit, names, steps, proposition_pairs, step_records, code_bytes}
+use Rattle.definitions.specs.Tree.{height, tree_in}
+use Rattle.definitions.specs.Admission.{too_few_trees, trees_left, deep_tree}
+use Rattle.steps.specs.Tables.{SizeTable, FilledSizes, passed}
+use Rattle.sheet.specs.declared.header.Sheet.{Sheet}
+use Rattle.sheet.specs.Header.{header_of}
+use Rattle.sheet.specs.Checks.{tree_checks}
+use Rattle.sheet.specs.Sizes.{steps_finding_trees, Sized}
+use Rattle.sheet.proofs.Searched.{found_below, refused_at, not_refused}
+use Rattle.sheet.proofs.Given.{steps_present, step_place}
+use Rattle.sheet.proofs.Stages.{refused_if, not_refused_if, refused_last, accepted_last, refused_now, passed_on}
+use Rattle.sheet.proofs.check_trees.Goals as goal
+use Rattle.sheet.proofs.check_trees.Goals.{After-fill_sizes, After-first_deep_tree, After-leaves_trees, After-slice_known-2-1, Else-leaves_trees, In_default}
+
+-- What holds of the step records and the steps as the program has them holds of the sheet's.
+module _ (s : List ℕ) {records : List ℕ} {h : Sheet} (same : records ≡ step_records s) (header : h ≡ header_of s) where
+  filled_of : {before after : List ℕ} {r : Found} → FilledSizes records h.steps before r after
+      → FilledSizes (step_records s) (steps s) before r after
+  unfolding header_of
+  filled_of f = rw (same, header) at f
+
+  table_of : {t : List ℕ} → SizeTable (step_records s) (steps s) t → SizeTable records h.steps t
+  unfolding header_of
+  table_of t = rw (same, header) t
+
+  left-of : {left : Bool} → left ≡ trees_left (names s) (proposition_pairs s) (code_bytes s) records h.steps
+      → trees_left (names s) (proposition_pairs s) (code_bytes s) (step_records s) (steps s) ≡ left
+  unfolding header_of
+  left-of e = sym (rw (same, header) at e)
+
+  deep_of : {r : Found}
+      → r ≡ found_at (lowest (λ k. ltb 256 (height (tree_in (names s) (proposition_pairs s) (code_bytes s) records k))) h.steps)
+      → r ≡ found_at (lowest (deep_tree (names s) (proposition_pairs s) (code_bytes s) (step_records s)) (steps s))
+  unfolding header_of deep_tree tree_nesting_limit
+  deep_of e = rw (same, header) at e
+
+-- What the filled table is.
+module _ (s : List ℕ) {before after : List ℕ} {r : Found} (f : FilledSizes (step_records s) (steps s) before r after) where
+  sized_of : Sized s (steps_finding_trees s) before after
+  unfolding steps_finding_trees
+  sized_of =
+      let search = f.found (names s) (proposition_pairs s) (code_bytes s) in
+      record { table = rw search at f.table; kept = rw search at f.kept }
+
+  all_of : r ≡ Nowhere → SizeTable (step_records s) (steps s) after
+  unfolding passed
+  all_of e = rw e at f.table
+
+abbrev sheet : After-fill_sizes → List ℕ
+sheet c = c.args.s.now
+
+abbrev sheet_filled : In_default → List ℕ
+sheet_filled c = sheet (goal.at.In_default c).After-fill_sizes
+
+-- the table after it was filled
+abbrev table : After-fill_sizes → List ℕ
+table c = c.fill_sizes.new.sizes
+
+filled : (c : After-fill_sizes)
+    → FilledSizes (step_records (sheet c)) (steps (sheet c)) c.args.sizes.now c.fill_sizes.result (table c)
+filled c = filled_of _ c.step_records-records.ensures c.requires.0.header c.fill_sizes.ensures
+
+tree_search : (c : After-fill_sizes) →
+    let s = sheet c in
+    c.fill_sizes.result
+    ≡ found_at (lowest (too_few_trees (names s) (proposition_pairs s) (code_bytes s) (step_records s)) (steps s))
+tree_search c = (filled c).found _ _ _
+
+sized : (c : After-fill_sizes) → Sized (sheet c) (steps_finding_trees (sheet c)) c.args.sizes.now (table c)
+sized c = sized_of _ (filled c)
+
+trees_passed : (c : In_default) →
+    let s = sheet_filled c in
+    refuse_lowest (too_few_trees (names s) (proposition_pairs s) (code_bytes s) (step_records s)) (steps s) 10 ≡ accepted tt
+trees_passed c = not_refused _ _ (tree_search (goal.at.In_default c).After-fill_sizes) 10 c.in_default.is
+
+size_table : (c : In_default)
+    → SizeTable (step_records (sheet_filled c)) (steps (sheet_filled c)) (table (goal.at.In_default c).After-fill_sizes)
+size_table c = all_of _ (filled (goal.at.In_default c).After-fill_sizes) c.in_default.is
+
+-- the table as it was filled, over the steps as the program has them
+program_table : (c : In_default) →
+    SizeTable c.step_records-records.result.now c.args.h.steps (table (goal.at.In_default c).After-fill_sizes)
+program_table c =
+    table_of _ c.step_records-records.ensures c.requires.0.header (size_table c)
+
+table_long_enough : (c : In_default) →
+    c.args.h.steps ≤ length (table (goal.at.In_default c).After-fill_sizes)
+unfolding step_limit
+table_long_enough c =
+    omega (arith, c.requires.0.in_range.steps, c.requires.1, c.fill_sizes.auto.sizes)
+
+trees_test : (c : After-leaves_trees) →
+    let s = sheet_filled (goal.at.After-leaves_trees c).In_default in
+    trees_left (names s) (proposition_pairs s) (code_bytes s) (step_records s) (steps s) ≡ c.leaves_trees.result
+trees_test c =
+    left-of _ c.step_records-records.ensures c.requires.0.header (c.leaves_trees.ensures _ _ _)
+
+one_left : (c : Else-leaves_trees) →
+    let s = sheet_filled (goal.at.Else-leaves_trees c).In_default in
+    refuse_if (trees_left (names s) (proposition_pairs s) (code_bytes s) (step_records s) (steps s)) 10 (steps s - 1) ≡ accepted tt
+one_left c = not_refused_if _ _ (trees_test (goal.at.Else-leaves_trees c).After-leaves_trees ∙ c.if-leaves_trees.false)
+
+height_search : (c : After-first_deep_tree) →
+    let s = sheet_filled (goal.at.After-first_deep_tree c).In_default in
+    c.first_deep_tree.result
+    ≡ found_at (lowest (deep_tree (names s) (proposition_pairs s) (code_bytes s) (step_records s)) (steps s))
+height_search c =
+    deep_of _ c.step_records-records.ensures c.requires.0.header
+    (c.first_deep_tree.ensures.found _ _ _)
+
+pub fill_sizes-requires : goal.fill_sizes-requires
+unfolding step_limit
+fill_sizes-requires c =
+    rw c.step_records-records.ensures (
+      steps_present c.requires.0,
+      c.requires.0.in_range.steps,
+      omega (arith, c.requires.0.in_range.steps, c.requires.1),
+    )
+
+pub refuse-requires : goal.refuse-requires
+refuse-requires c =
+    step_place c.requires.0 (found_below _ _ (tree_search (goal.at.refuse-requires c).After-fill_sizes) c.in-At.is)
+
+pub returns-in-At : goal.returns-in-At
+unfolding tree_checks
+returns-in-At c =
+    record {
+          value = refused_now _ _ (refused_at _ _ (tree_search (goal.at.returns-in-At c).After-fill_sizes) 10 c.in-At.is) c.refuse.ensures;
+          sized = sized (goal.at.returns-in-At c).After-fill_sizes;
+        }
+
+pub leaves_trees-requires : goal.leaves_trees-requires
+leaves_trees-requires c =
+    (c.requires.0.in_range.some_step, table_long_enough (goal.at.leaves_trees-requires c).In_default, program_table (goal.at.leaves_trees-requires c).In_default)
+
+pub refuse-requires-then-leaves_trees : goal.refuse-requires-then-leaves_trees
+unfolding step_limit
+refuse-requires-then-leaves_trees c =
+    omega (arith, c.requires.0.in_range.steps)
+
+pub returns-then-leaves_trees : goal.returns-then-leaves_trees
+unfolding tree_checks header_of
+returns-then-leaves_trees c =
+    record {
+          value = passed_on _ _ (trees_passed (goal.at.returns-then-leaves_trees c).In_default)
+          (refused_now _ _ (refused_if _ _ (trees_test (goal.at.returns-then-leaves_trees c).After-leaves_trees ∙ c.if-leaves_trees.true))
+          (rw c.requires.0.header at c.refuse-then-leaves_trees.ensures));
+          sized = sized (goal.at.returns-then-leaves_trees c).After-fill_sizes;
+        }
+
+pub first_deep_tree-requires : goal.first_deep_tree-requires
+unfolding step_limit
+first_deep_tree-requires c =
+    let has = c.requires.0 in record {
+          has_steps = (rw c.step_records-records.ensures (steps_present has), has.in_range.steps);
+          steps_in_bounds = (table_long_enough (goal.at.first_deep_tree-requires c).In_default, has.in_range.steps, program_table (goal.at.first_deep_tree-requires c).In_default);
+        }
+
+pub refuse-requires-in-At-first_deep_tree : goal.refuse-requires-in-At-first_deep_tree
+refuse-requires-in-At-first_deep_tree c =
+    step_place c.requires.0 (found_below _ _ (height_search (goal.at.refuse-requires-in-At-first_deep_tree c).After-first_deep_tree) c.in-At-first_deep_tree.is)
+
+pub returns-in-At-first_deep_tree : goal.returns-in-At-first_deep_tree
+unfolding tree_checks
+returns-in-At-first_deep_tree c =
+    record {
+          value = passed_on _ _ (trees_passed (goal.at.returns-in-At-first_deep_tree c).In_default)
+          (passed_on _ _ (one_left (goal.at.returns-in-At-first_deep_tree c).Else-leaves_trees)
+          (refused_last _ (refused_at _ _ (height_search (goal.at.returns-in-At-first_deep_tree c).After-first_deep_tree) 11 c.in-At-first_deep_tree.is) c.refuse-in-At-first_deep_tree.ensures));
+          sized = sized (goal.at.returns-in-At-first_deep_tree c).After-fill_sizes;
+        }
+
+pub returns : goal.returns
+unfolding tree_checks
+returns c =
+    record {
+          value = passed_on _ _ (trees_passed (goal.at.returns c).In_default)
+          (passed_on _ _ (one_left (goal.at.returns c).Else-leaves_trees)
+          (accepted_last _ (not_refused _ _ (height_search (goal.at.returns c).After-first_deep_tree) 11 c.in_default-first_deep_tree.is)));
+          sized = sized (goal.at.returns c).After-fill_sizes;
+        }

@@ -1,0 +1,62 @@
+-- The loop keeps the last pair's end beside the number of the next pair.
+use Prim.Native.Nat.{◌+◌, ◌*◌, ◌-◌}
+use mathlib.Core.Path.{◌≡◌, refl}
+use mathlib.Core.Logic.{⊎_elim}
+use native.Mathlib.Omega.{arith}
+use native.Mathlib.Numerals.{add-one}
+use borrow.Author.Tests.{ltb-true, ltb-false}
+use Rattle.definitions.specs.Sheet.{pair_size, number_at, pair_offset, pair_length, pair_end, last_end}
+use Rattle.definitions.proofs.Lowest.{found_here, found_nowhere}
+use Rattle.sheet.specs.Pairs.{bad_pair}
+use Rattle.definitions.proofs.Upward.{Passed, at_start, onward}
+use Rattle.sheet.proofs.Placed.{good_passes, bad_pair_lem}
+use Rattle.sheet.proofs.pairs.first_bad_pair.Goals as goal
+
+pub loop-i-init : goal.loop-i-init
+unfolding last_end
+loop-i-init c = (at_start _ _, refl)
+
+pub overflow_add-end : goal.overflow_add-end
+unfolding pair_offset pair_length number_at
+overflow_add-end c =
+    let at = c.loop-i.i in
+    let byte = c.type_inv.pairs in
+    omega (arith, byte (pair_size * at), byte (pair_size * at + 1), byte (pair_size * at + 2), byte (pair_size * at + 2 + 1))
+
+pub returns-then-offset-last_end : goal.returns-then-offset-last_end
+unfolding pair_end
+returns-then-offset-last_end c =
+    found_here _ _ _ c.loop-i.invariant.0.none_below
+    (bad_pair_lem _ _ _ _ λ g.
+    ⊎_elim (λ w. omega arith)
+    (⊎_elim (λ w. omega (arith, ltb-true)) (⊎_elim (λ w. omega (arith, ltb-true)) (λ w. omega (arith, ltb-true))))
+    c.then-offset-last_end.either)
+    c.loop-i-test.true
+
+pub loop-i-preserved : goal.loop-i-preserved
+unfolding pair_end last_end
+loop-i-preserved c =
+    (
+      onward c.loop-i.invariant.0 c.loop-i-test.true (good_passes _ _ _ _ (omega (arith, ltb-false))),
+      rw (add-one, last_end) (omega arith),
+    )
+
+pub pair_offset-offset-requires : goal.pair_offset-offset-requires
+unfolding pair_size
+pair_offset-offset-requires c = omega arith
+
+pub pair_length-length-requires : goal.pair_length-length-requires
+unfolding pair_size
+pair_length-length-requires c = omega arith
+
+pub overflow_step-i : goal.overflow_step-i
+unfolding pair_size
+overflow_step-i c = omega arith
+
+pub loop-i-smaller : goal.loop-i-smaller
+unfolding pair_size
+loop-i-smaller c = omega arith
+
+pub returns : goal.returns
+unfolding pair_size
+returns c = found_nowhere _ _ _ c.loop-i.invariant.0.none_below (omega arith)
