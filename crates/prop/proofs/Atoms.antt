@@ -15,7 +15,6 @@ use Rattle.definitions.specs.Display.{following_parameters, display_parameters, 
 use Rattle.output.specs.Wrote.{Wrote}
 use Rattle.output.proofs.Writing.{then, none as nothing}
 use Rattle.prefix_code.specs.Scan.{Stands, Ends, parameter_coding, Several, parameters_coding}
-use Rattle.prefix_code.proofs.Positions.{after}
 use Rattle.prefix_code.proofs.Parameters.{ParameterBytes, parameter_bytes, FirstParameter, first_parameter, none_stand}
 use Rattle.prefix_code.proofs.Forms.{AtomAt, atom_at}
 use Rattle.prefix_code.specs.PropAt.{prop_at, Present}
