@@ -1,11 +1,10 @@
 -- The label of a function's parameter as an annotation: none, that of a kind and a number, or a refusal.
 use Prim.Native.Nat.{ℕ, ◌<◌}
 use mathlib.Core.Path.{◌≡◌, refl}
+use mathlib.Core.Logic.{◌⊎◌, inl, inr}
 use mathlib.Core.Option.{none, some}
-use mathlib.Core.List.{List, [], ◌∷◌}
+use mathlib.Core.List.{List}
 use native.Mathlib.Omega.{arith}
-use types.Run.{OneOf, miss}
-use denote.Enum.Declared.{tag_of}
 use Rattle.definitions.specs.Outcome.{Outcome, accepted, map_outcome, refuse}
 use Rattle.definitions.specs.declared.Refusal.{Refusal}
 use Rattle.definitions.specs.Sheet.{pair_offset}
@@ -18,7 +17,6 @@ use Rattle.definitions.proofs.PrefixCode.{Bytes}
 use Rattle.prefix_code.specs.declared.Shape.{Shape}
 use Rattle.prefix_code.specs.declared.Shape.TheVariants.{Binary, Quantified}
 use Rattle.prefix_code.specs.Shape.{ShapeOf}
-use Rattle.prefix_code.specs.contracts.Shape as shape
 use Rattle.prefix_code.proofs.Shapes.{implication_at}
 use Rattle.steps.specs.declared.Judgement.{Judgement}
 use Rattle.steps.specs.declared.Conclusion.{Conclusion}
@@ -31,19 +29,18 @@ use Rattle.proof_tree.specs.Table.{ending_of}
 use Rattle.proof_tree.specs.Labelling.{left_label_of, datatype_label_of, parameter_label_of, Means, stands, judges, Annotated, labelled, refuses}
 use Rattle.proof_tree.specs.Opening.{Readable}
 use Rattle.proof_tree.proofs.Conclusions.{shaped, left_fits, datatype_fits, implication_label_lem, other_connective, no_binary, universal_label_lem, other_quantifier, no_quantified}
-use Rattle.proof_tree.specs.contracts.table.Ending as ending
 
-no_parameter : (e : Ending) (k : ℕ) (c : ProofTreeConclusion ℕ) → OneOf (0 ∷ 1 ∷ 4 ∷ []) (tag_of ending.the_type e)
+no_parameter : (e : Ending) (k : ℕ) (c : ProofTreeConclusion ℕ) → (e ≡ Bare) ⊎ ((e ≡ Ascribed) ⊎ (e ≡ PremissOwn))
     → parameter_label_of (ending_of e) k c ≡ accepted none
 unfolding parameter_label_of ending_of
 no_parameter Bare k c h = refl
 no_parameter Ascribed k c h = refl
-no_parameter LeftLabelled k c h = absurd (miss (0 ∷ 1 ∷ 4 ∷ []) 2 tt h)
-no_parameter DatatypeLabelled k c h = absurd (miss (0 ∷ 1 ∷ 4 ∷ []) 3 tt h)
+no_parameter LeftLabelled k c h = elim h [ inl is ↦ cc | inr more ↦ elim more [ inl is ↦ cc | inr is ↦ cc ] ]
+no_parameter DatatypeLabelled k c h = elim h [ inl is ↦ cc | inr more ↦ elim more [ inl is ↦ cc | inr is ↦ cc ] ]
 no_parameter PremissOwn k c h = refl
 
 -- no function with a label is made
-pub unlabelled : (names : ℕ) (pairs code : List ℕ) (e : Ending) (c : Conclusion) (k : ℕ) (m : ProofTreeConclusion ℕ) → OneOf (0 ∷ 1 ∷ 4 ∷ []) (tag_of ending.the_type e)
+pub unlabelled : (names : ℕ) (pairs code : List ℕ) (e : Ending) (c : Conclusion) (k : ℕ) (m : ProofTreeConclusion ℕ) → (e ≡ Bare) ⊎ ((e ≡ Ascribed) ⊎ (e ≡ PremissOwn))
     → Annotated names pairs code c (parameter_label_of (ending_of e) k m) (Label 0 0)
 unfolding parameter_label
 unlabelled names pairs code e c k m h =
@@ -102,7 +99,7 @@ module _ {names : ℕ} {pairs code : List ℕ} {c : Conclusion} {m : ProofTreeCo
         → r ≡ record { number = number; place = k } → Annotated names pairs code c (map_outcome some (label m)) (Refused r)
     no_label label e is = rw (stated o.concludes).is (refused_label e is)
 
-    pub no_left : {k : ℕ} {r : Refusal} → OneOf (0 ∷ 1 ∷ 3 ∷ 4 ∷ []) (tag_of shape.the_type s)
+    pub no_left : {k : ℕ} {r : Refusal} → ((connective left : ℕ) → s ≡ Binary connective left → ⊥)
         → r ≡ record { number = 14; place = k } → Annotated names pairs code c (left_label_of k m) (Refused r)
     unfolding left_label_of
     no_left {k} other = no_label (left_label k) (no_binary k (is_shape refl) other)
@@ -124,7 +121,7 @@ module _ {names : ℕ} {pairs code : List ℕ} {c : Conclusion} {m : ProofTreeCo
           left = λ z. record { proposition = p; concludes = o.concludes; implies = implies };
         })
 
-    pub no_datatype : {k : ℕ} {r : Refusal} → OneOf (0 ∷ 1 ∷ 2 ∷ 3 ∷ []) (tag_of shape.the_type s)
+    pub no_datatype : {k : ℕ} {r : Refusal} → ((quantifier object d body : ℕ) → s ≡ Quantified quantifier object d body → ⊥)
         → r ≡ record { number = 15; place = k } → Annotated names pairs code c (datatype_label_of k m) (Refused r)
     unfolding datatype_label_of
     no_datatype {k} other = no_label (datatype_label k) (no_quantified k (is_shape refl) other)

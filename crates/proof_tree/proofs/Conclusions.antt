@@ -1,11 +1,9 @@
 -- The label that a proposition gives, by its shape.
 use Prim.Native.Nat.{ℕ, ◌+◌, ◌<◌}
-use mathlib.Core.Path.{◌≡◌}
-use mathlib.Core.List.{List, [], ◌∷◌}
+use mathlib.Core.Path.{◌≡◌, refl}
+use mathlib.Core.List.{List}
 use native.Mathlib.Omega.{arith}
 use lib.ListN.{length}
-use types.Run.{OneOf, miss}
-use denote.Enum.Declared.{tag_of}
 use borrow.Author.Tests.{eq-eqb, ne_eqb}
 use Rattle.definitions.specs.Outcome.{accepted, refuse}
 use Rattle.definitions.specs.Prop.{as_binary, as_quantified, connective_byte, quantifier_byte, eq_connective, eq_quantifier}
@@ -19,7 +17,6 @@ use Rattle.prefix_code.specs.declared.Shape.TheVariants.{Binary, Quantified}
 use Rattle.prefix_code.specs.PropAt.{prop_at, Present}
 use Rattle.prefix_code.specs.Shape.{ShapeOf, is_true, is_false, is_binary, is_atom, is_quantified}
 use Rattle.prefix_code.proofs.Reading.{inside}
-use Rattle.prefix_code.specs.contracts.Shape as shape
 
 -- the shape that was read at an offset
 pub shaped : {names : ℕ} {code : List ℕ} {at offset : ℕ} {s t : Shape} → at ≡ offset → Present names code offset
@@ -47,12 +44,12 @@ module _ {names : ℕ} {code : List ℕ} {at : ℕ} (k : ℕ) where
   unfolding left_label implication_label as_binary eq_connective connective_byte
   other_connective (is_binary {c} is) other = rw (is, ne_eqb (connective_byte c) 4 other)
 
-  pub no_binary : {s : Shape} → ShapeOf names code at s → OneOf (0 ∷ 1 ∷ 3 ∷ 4 ∷ []) (tag_of shape.the_type s)
+  pub no_binary : {s : Shape} → ShapeOf names code at s → ((connective left : ℕ) → s ≡ Binary connective left → ⊥)
       → left_label k (PropIsTrue (prop_at names code at)) ≡ refuse 14 k
   unfolding left_label implication_label as_binary
   no_binary (is_true is) other = rw is
   no_binary (is_false is) other = rw is
-  no_binary (is_binary is) other = absurd (miss (0 ∷ 1 ∷ 3 ∷ 4 ∷ []) 2 tt other)
+  no_binary (is_binary is) other = absurd (other _ _ refl)
   no_binary (is_atom is count) other = rw is
   no_binary (is_quantified is) other = rw is
 
@@ -67,11 +64,11 @@ module _ {names : ℕ} {code : List ℕ} {at : ℕ} (k : ℕ) where
   unfolding datatype_label universal_label as_quantified eq_quantifier quantifier_byte
   other_quantifier (is_quantified {q} is) other = rw (is, ne_eqb (quantifier_byte q) 6 other)
 
-  pub no_quantified : {s : Shape} → ShapeOf names code at s → OneOf (0 ∷ 1 ∷ 2 ∷ 3 ∷ []) (tag_of shape.the_type s)
+  pub no_quantified : {s : Shape} → ShapeOf names code at s → ((quantifier object d body : ℕ) → s ≡ Quantified quantifier object d body → ⊥)
       → datatype_label k (PropIsTrue (prop_at names code at)) ≡ refuse 15 k
   unfolding datatype_label universal_label as_quantified
   no_quantified (is_true is) other = rw is
   no_quantified (is_false is) other = rw is
   no_quantified (is_binary is) other = rw is
   no_quantified (is_atom is count) other = rw is
-  no_quantified (is_quantified is) other = absurd (miss (0 ∷ 1 ∷ 2 ∷ 3 ∷ []) 4 tt other)
+  no_quantified (is_quantified is) other = absurd (other _ _ _ _ refl)

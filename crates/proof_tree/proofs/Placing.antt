@@ -6,8 +6,6 @@ use mathlib.Core.Option.{Option, some}
 use mathlib.Core.List.{List, [], ◌∷◌}
 use native.Mathlib.Omega.{arith}
 use native.Mathlib.Decide.{dec_lt}
-use types.Run.{OneOf, miss}
-use denote.Enum.Declared.{tag_of}
 use Rattle.definitions.specs.Outcome.{Outcome, accepted, refused, refuse, ◌>>=◌, map_outcome}
 use Rattle.definitions.specs.declared.Refusal.{Refusal}
 use Rattle.definitions.specs.Prop.{Prop}
@@ -43,7 +41,6 @@ use Rattle.proof_tree.specs.Labelling as labelling
 use Rattle.proof_tree.specs.Wrapping as wrapping
 use Rattle.proof_tree.specs.Wrapping.{Wrapped, ascribes}
 use Rattle.proof_tree.specs.Exporting.{LabelOffset, Answered, gives, refuses}
-use Rattle.proof_tree.specs.contracts.table.Ending as ending-type
 use Rattle.proof_tree.proofs.Ordering.{ascribed_ordered}
 use Rattle.proof_tree.proofs.Makers.{same_number}
 use Rattle.proof_tree.proofs.Concluding.{whole_offset, left_offset}
@@ -81,10 +78,10 @@ module _ (z : Step ℕ) (ts : List (ProofTerm ℕ)) where
   placed_parts inferring = refl
 
 -- only an ascribed term becomes another
-unascribed : (e : own-ending.Ending) (z : Step ℕ) (t : ProofTerm ℕ) → OneOf (0 ∷ 2 ∷ 3 ∷ 4 ∷ []) (tag_of ending-type.the_type e) → finishing (ending_of e) z t ≡ accepted t
+unascribed : (e : own-ending.Ending) (z : Step ℕ) (t : ProofTerm ℕ) → (e ≡ Ascribed → ⊥) → finishing (ending_of e) z t ≡ accepted t
 unfolding finishing ending_of
 unascribed Bare z t h = refl
-unascribed Ascribed z t h = absurd (miss (0 ∷ 2 ∷ 3 ∷ 4 ∷ []) 1 tt h)
+unascribed Ascribed z t h = absurd (h refl)
 unascribed LeftLabelled z t h = refl
 unascribed DatatypeLabelled z t h = refl
 unascribed PremissOwn z t h = refl
@@ -177,7 +174,7 @@ module _ {names : ℕ} {pairs code records : List ℕ} {k : ℕ} {mode : own.Rea
     labels : (m offset : ℕ) → used ≤ m → m < next → HasProposition after m offset → LabelOffset pairs code records k offset
     labels m offset h i has = let (one, same) = made.labels m offset h i has in rw same (left_offset v.good v.bytes concluded number (l.left one))
 
-    pub term_answer : OneOf (0 ∷ 2 ∷ 3 ∷ 4 ∷ []) (tag_of ending-type.the_type e)
+    pub term_answer : (e ≡ Ascribed → ⊥)
         → Answered names pairs code records k (placed ts) before used parts (used + 1 - row.0) (used + 2) after (Term next)
     term_answer other =
         gives {next = next} (record {

@@ -5,13 +5,16 @@ use Rattle.definitions.specs.Tree.{rules}
 use Rattle.definitions.specs.Export.{row, row_of, places, ending, rule_term}
 use Rattle.proof_tree.specs.Table.{ending_of, term_of, part_count, fewest, most, premiss_mode}
 use Rattle.proof_tree.proofs.Rows.{entry, table_row}
-use Rattle.proof_tree.proofs.table.row_of.Statement.{statement}
-use Rattle.proof_tree.proofs.table.row_of.Tie as tie
+use Rattle.proof_tree.proofs.table.row_of.Goals as goal
 
-returns : tie.Need-returns
+pub returns : goal.returns
 unfolding rules row row_of places ending ending_of fewest most premiss_mode part_count term_of rule_term
-returns c = rw entry (table_row _ _ refl _ c.before.pre)
+returns c = rw entry (table_row _ _ refl _ c.requires)
 
-pub row-of-spec : {M : Type 1} → statement M
+pub offset_bounds-rule : goal.offset_bounds-rule
 unfolding rules
-row-of-spec = tie.close (tie.spec (λ c. omega arith) (λ c. omega arith) returns)
+offset_bounds-rule c = omega arith
+
+pub bounds-rule-rule : goal.bounds-rule-rule
+unfolding rules
+bounds-rule-rule c = omega arith

@@ -1,0 +1,14 @@
+-- The loop's invariant: what is left of the premisses decides what they all come to. The calls end by the step's number.
+use Prim.Native.Nat.{◌-◌}
+use Rattle.proof_tree.specs.Table.{mode_of}
+use Rattle.proof_tree.proofs.ReadPremisses.{PremissesRead}
+use Rattle.proof_tree.proofs.+do_export_as_proof_term.Given as goal
+
+abbrev pub decreases-do_export_as_proof_term : goal.decreases-do_export_as_proof_term
+decreases-do_export_as_proof_term l = l.k
+
+abbrev pub invariant-loop-i : goal.invariant-loop-i
+invariant-loop-i l = PremissesRead l.names l.pairs l.code l.step_records l.k (mode_of l.mode) l.row l.initial.term_records l.used l.i l.parts l.term_records l.next
+
+abbrev pub decreases-loop-i : goal.decreases-loop-i
+decreases-loop-i l = l.reads - l.i

@@ -1,0 +1,44 @@
+-- The conclusion is opened, then its proposition, then its quantifier is tested.
+use native.Mathlib.Omega.{arith}
+use Rattle.proof_tree.proofs.Annotations.{Opened, no_datatype_judged, no_datatype, other_datatype, datatype, datatype_small}
+use Rattle.proof_tree.proofs.conclusion.datatype_label.Goals as goal
+use Rattle.proof_tree.proofs.conclusion.datatype_label.Goals.{After-shape_at}
+
+opened : (c : After-shape_at) → let s = c.args in
+    Opened s.pairs.now s.code.now s.conclusion c.in-PropIsTrue.p
+    c.pair_offset-at.result c.shape_at.result
+opened c =
+    record {
+      concludes = c.in-PropIsTrue.is;
+      offset = c.pair_offset-at.ensures;
+      shape = c.shape_at.ensures;
+    }
+
+pub shape_at-requires : goal.shape_at-requires
+shape_at-requires c =
+    rw c.pair_offset-at.ensures (c.requires.1.stands _ c.in-PropIsTrue.is)
+
+pub returns-then-quantifier-ne-FOR_ALL : goal.returns-then-quantifier-ne-FOR_ALL
+returns-then-quantifier-ne-FOR_ALL c names m means =
+    other_datatype means (opened (goal.at.returns-then-quantifier-ne-FOR_ALL c).After-shape_at) c.in-Quantified.is c.if-quantifier-ne-FOR_ALL.true c.at-then-quantifier-ne-FOR_ALL.ensures
+
+pub overflow_cast-result-2 : goal.overflow_cast-result-2
+overflow_cast-result-2 c =
+    let readable = c.requires.1 in
+    record {
+      fits = datatype_small readable (opened (goal.at.overflow_cast-result-2 c).After-shape_at) (λ i. omega (arith, c.type_inv.code i))
+          c.in-Quantified.is;
+    }
+
+pub returns : goal.returns
+returns c names m means =
+    datatype means (opened (goal.at.returns c).After-shape_at) _ c.in-Quantified.is c.if-quantifier-ne-FOR_ALL.false
+
+pub returns-in_default : goal.returns-in_default
+returns-in_default c names m means = no_datatype_judged means c.in_default.is c.at.ensures
+
+pub pair_offset-at-requires : goal.pair_offset-at-requires
+pair_offset-at-requires c = c.requires.1.paired.there _ c.in-PropIsTrue.is
+
+pub returns-in_default-shape_at : goal.returns-in_default-shape_at
+returns-in_default-shape_at c names m means = no_datatype means (opened (goal.at.returns-in_default-shape_at c).After-shape_at) c.in_default-shape_at.not-Quantified c.at-in_default-shape_at.ensures

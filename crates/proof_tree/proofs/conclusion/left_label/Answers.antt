@@ -1,0 +1,40 @@
+-- The conclusion is opened, then its proposition, then its connective is tested.
+use Rattle.proof_tree.proofs.Annotations.{Opened, no_left_judged, no_left, other_left, left_side, left_small}
+use Rattle.proof_tree.proofs.conclusion.left_label.Goals as goal
+use Rattle.proof_tree.proofs.conclusion.left_label.Goals.{After-shape_at}
+
+opened : (c : After-shape_at) → let s = c.args in
+    Opened s.pairs.now s.code.now s.conclusion c.in-PropIsTrue.p
+    c.pair_offset-at.result c.shape_at.result
+opened c =
+    record {
+      concludes = c.in-PropIsTrue.is;
+      offset = c.pair_offset-at.ensures;
+      shape = c.shape_at.ensures;
+    }
+
+pub shape_at-requires : goal.shape_at-requires
+shape_at-requires c =
+    rw c.pair_offset-at.ensures (c.requires.1.stands _ c.in-PropIsTrue.is)
+
+pub returns-then-connective-ne-IMPL : goal.returns-then-connective-ne-IMPL
+returns-then-connective-ne-IMPL c names m means =
+    other_left means (opened (goal.at.returns-then-connective-ne-IMPL c).After-shape_at) c.in-Binary.is c.if-connective-ne-IMPL.true c.at-then-connective-ne-IMPL.ensures
+
+pub overflow_cast-result-2 : goal.overflow_cast-result-2
+overflow_cast-result-2 c =
+    let readable = c.requires.1 in
+    record { fits = left_small readable (opened (goal.at.overflow_cast-result-2 c).After-shape_at) c.in-Binary.is }
+
+pub returns : goal.returns
+returns c names m means =
+    left_side means (opened (goal.at.returns c).After-shape_at) _ c.in-Binary.is c.if-connective-ne-IMPL.false
+
+pub returns-in_default : goal.returns-in_default
+returns-in_default c names m means = no_left_judged means c.in_default.is c.at.ensures
+
+pub pair_offset-at-requires : goal.pair_offset-at-requires
+pair_offset-at-requires c = c.requires.1.paired.there _ c.in-PropIsTrue.is
+
+pub returns-in_default-shape_at : goal.returns-in_default-shape_at
+returns-in_default-shape_at c names m means = no_left means (opened (goal.at.returns-in_default-shape_at c).After-shape_at) c.in_default-shape_at.not-Binary c.at-in_default-shape_at.ensures

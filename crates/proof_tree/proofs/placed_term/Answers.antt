@@ -1,0 +1,68 @@
+-- The label of a parameter first, then the rule's term, then an ascription.
+use Prim.Native.Nat.{ℕ}
+use native.Mathlib.Omega.{arith}
+use Rattle.proof_tree.specs.Exportable.{GoodStep}
+use Rattle.proof_tree.specs.Labelling.{LabelOf}
+use Rattle.proof_tree.proofs.Concluding.{means, readable}
+use Rattle.proof_tree.proofs.Placing.{Visited, concluded, label, label_of, label_refused, term_answer, ascription, ascribed_answer}
+use Rattle.proof_tree.proofs.placed_term.Goals as goal
+use Rattle.proof_tree.proofs.placed_term.Goals.{After-step_at-step, In-Label}
+
+visited : (c : After-step_at-step) {names : ℕ} → let s = c.args in
+    GoodStep names s.pairs.now s.code.now s.step_records.now s.k
+    → Visited names s.pairs.now s.code.now s.step_records.now s.k s.mode s.row c.ending_in-ending.result c.step_at-step.result
+visited c good =
+    record {
+      good = good;
+      is_row = c.requires.some_good_step.1;
+      ends = c.ending_in-ending.ensures;
+      bytes = λ i. omega (arith, c.type_inv.code i);
+      is_step = c.step_at-step.ensures;
+    }
+
+-- the label of a parameter
+its_label : (c : In-Label) {names : ℕ} → let s = c.args in
+    (good : GoodStep names s.pairs.now s.code.now s.step_records.now s.k)
+    → LabelOf names s.pairs.now s.code.now c.step_at-step.result.conclusion (label (visited (goal.at.In-Label c).After-step_at-step good)) c.in-Label.kind c.in-Label.label
+its_label c good =
+    let v = visited (goal.at.In-Label c).After-step_at-step good in
+    label_of c.in-Label.is (c.annotation_of-annotation.ensures _ _ (means v.good v.bytes (concluded v)))
+
+pub step_at-step-requires : goal.step_at-step-requires
+step_at-step-requires c = c.requires.some_good_step.0.good.whole
+
+pub annotation_of-annotation-requires : goal.annotation_of-annotation-requires
+annotation_of-annotation-requires c =
+    let v = visited c c.requires.some_good_step.0.good in (v.good.few, readable v.good v.bytes (concluded v))
+
+pub rule_term-next-requires : goal.rule_term-next-requires
+rule_term-next-requires c =
+    let pre = c.requires in
+    (pre.parts.0, (its_label (goal.at.rule_term-next-requires c).In-Label pre.some_good_step.0.good).known)
+
+pub returns-in_default : goal.returns-in_default
+returns-in_default c names good =
+    term_answer (visited (goal.at.returns-in_default c).After-step_at-step good) (its_label (goal.at.returns-in_default c).In-Label good) c.rule_term-next.ensures c.in_default.not-Ascribed
+
+pub wrap_into_type_ascription-requires : goal.wrap_into_type_ascription-requires
+wrap_into_type_ascription-requires c =
+    let v = visited (goal.at.wrap_into_type_ascription-requires c).After-step_at-step c.requires.some_good_step.0.good in
+    let made = c.rule_term-next.ensures in
+    let room = c.requires.parts.1 in
+    let same = c.rule_term-next.auto in (
+      v.good.few,
+      record { room = omega (arith, made.few, room.room, same); few = omega (arith, made.few, room.few) },
+      made.some_record,
+      (readable v.good v.bytes (concluded v)).paired,
+    )
+
+pub returns-in-Refused : goal.returns-in-Refused
+returns-in-Refused c names good =
+    let v = visited (goal.at.returns-in-Refused c).After-step_at-step good in
+    label_refused v _ (rw c.in-Refused.is at (c.annotation_of-annotation.ensures _ _ (means v.good v.bytes (concluded v))))
+
+pub returns-in-Ascribed : goal.returns-in-Ascribed
+returns-in-Ascribed c names good =
+    let v = visited (goal.at.returns-in-Ascribed c).After-step_at-step good in
+    ascribed_answer v (its_label (goal.at.returns-in-Ascribed c).In-Label good) c.rule_term-next.ensures c.in-Ascribed.is
+    (ascription (means v.good v.bytes (concluded v)) c.wrap_into_type_ascription.ensures)
