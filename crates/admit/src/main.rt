@@ -2,43 +2,37 @@
 #![tactic(auto)]
 
 use definitions::Refusal;
-use libc::STDOUT_FILENO;
 use sheet::Checked;
+use std::rt::Files;
+use std::{env, io};
+
+// More bytes than the longest sheet has.
+const ROOM: usize = 65536;
 
 // `refused R at P`.
-fn write_refusal(r: Refusal) {
-    io::write_all(STDOUT_FILENO, b"refused ");
-    io::print_decimal(STDOUT_FILENO, r.number as u64);
-    io::write_all(STDOUT_FILENO, b" at ");
-    io::print_decimal(STDOUT_FILENO, r.place as u64);
+fn write_refusal(rt: &impl Print, r: Refusal) -> io::Result<()> {
+    print!(rt; "refused {} at {}", r.number, r.place)
 }
 
-fn write_answer(s: &[u8]) {
+fn write_answer(rt: &impl Print, s: &[u8]) -> io::Result<()> {
     match sheet::answer(s) {
-        Checked::Accepted(_) => {
-            io::write_all(STDOUT_FILENO, b"accepted");
-        }
-        Checked::Refused(r) => write_refusal(r),
+        Checked::Accepted(_) => print!(rt; "accepted"),
+        Checked::Refused(r) => write_refusal(rt, r),
     }
 }
 
-// A line for the argument of a number: its name and the answer for the file's bytes. A file that cannot be read has none. The
-// buffer is longer than the longest sheet.
-fn answer_argument(i: usize) {
-    let mut path = io::buffer();
-    let length = os::arg(i, &mut path);
-    let fd = os::open_read(&path[..length]);
-    let mut bytes = io::large_buffer();
-    let count = io::read_full(fd, &mut bytes);
-    libc::close(fd);
-    io::write_all(STDOUT_FILENO, &path[..length]);
-    io::write_all(STDOUT_FILENO, b": ");
-    write_answer(&bytes[..count]);
-    io::write_all(STDOUT_FILENO, b"\n");
+// A line for a file: its name and the answer for its bytes. A file that cannot be read has none.
+fn answer_file(rt: &(impl Files + Print), path: &str) -> io::Result<()> {
+    let mut bytes = [0u8; ROOM];
+    let count = input::read_file(rt, path, &mut bytes);
+    print!(rt; "{path}: ")?;
+    write_answer(rt, &bytes[..count])?;
+    print!(rt; "\n")
 }
 
-fn main() {
-    for i in 1..os::arg_count() {
-        answer_argument(i);
+fn main(rt: HostRuntime) -> io::Result<()> {
+    for path in env::args(&rt)?.skip(1) {
+        answer_file(&rt, path.as_str())?;
     }
+    Ok(())
 }

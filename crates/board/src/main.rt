@@ -5,9 +5,9 @@
 ghost use Rattle.std.specs.Prelude.{◌≡◌, length};
 ghost use Rattle.board.specs.Input.{input_room};
 
-use libc::{STDIN_FILENO, STDOUT_FILENO};
 use sheet::Sheet;
 use skriduhol::BOARD_ROOM;
+use std::io;
 
 // One byte more than the longest sheet: a longer input has the answer of its first part.
 const INPUT_ROOM: usize = Sheet::LENGTH_LIMIT + 1;
@@ -19,10 +19,10 @@ fn input_memory() -> [u8; INPUT_ROOM]
     [0; INPUT_ROOM]
 }
 
-fn main() {
+fn main(rt: HostRuntime) -> io::Result<()> {
     let mut input = input_memory();
-    let count = io::read_full(STDIN_FILENO, &mut input);
+    let count = input::read_full(&mut rt.stdin(), &mut input);
     let mut out = [0u8; BOARD_ROOM];
     let length = skriduhol::board_output(&input[..count], &mut out);
-    io::write_all(STDOUT_FILENO, &out[..length]);
+    rt.write_all(&out[..length])
 }

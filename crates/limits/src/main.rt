@@ -5,8 +5,9 @@
 ghost use Rattle.std.specs.Prelude.{◌≡◌, ◌≤◌, length};
 
 use definitions::Located;
-use libc::STDOUT_FILENO;
 use skriduhol::{BOARD_ROOM, Filled};
+use std::rt::Files;
+use std::{env, io};
 
 // The number of a decimal digit; another byte counts as 0.
 fn digit(b: u8) -> usize
@@ -38,28 +39,23 @@ fn room_of(digits: &[u8]) -> usize
 }
 
 // `refused R at P column K`, whatever the refusal.
-fn write_refusal(located: Located) {
+fn write_refusal(rt: &impl Print, located: Located) -> io::Result<()> {
     let refusal = located.refusal;
-    io::write_all(STDOUT_FILENO, b"refused ");
-    io::print_decimal(STDOUT_FILENO, refusal.number as u64);
-    io::write_all(STDOUT_FILENO, b" at ");
-    io::print_decimal(STDOUT_FILENO, refusal.place as u64);
-    io::write_all(STDOUT_FILENO, b" column ");
-    io::print_decimal(STDOUT_FILENO, located.column as u64);
+    print!(rt;
+        "refused {} at {} column {}",
+        refusal.number, refusal.place, located.column
+    )
 }
 
 // The answer in a line, and then the memory.
-fn write_answer(s: &[u8], memory: &mut [u8]) {
+fn write_answer(rt: &impl Print, s: &[u8], memory: &mut [u8]) -> io::Result<()> {
     match skriduhol::plain_text(s, memory) {
-        Filled::Length(length) => {
-            io::print_decimal(STDOUT_FILENO, length as u64);
-            io::write_all(STDOUT_FILENO, b" bytes");
-        }
-        Filled::Refused(located) => write_refusal(located),
+        Filled::Length(length) => print!(rt; "{length} bytes")?,
+        Filled::Refused(located) => write_refusal(rt, located)?,
     }
-    io::write_all(STDOUT_FILENO, b"\n");
-    io::write_all(STDOUT_FILENO, memory);
-    io::write_all(STDOUT_FILENO, b"\n");
+    print!(rt; "\n")?;
+    rt.write_all(memory)?;
+    print!(rt; "\n")
 }
 
 // Memory full of dots.
@@ -70,39 +66,36 @@ fn dots() -> [u8; BOARD_ROOM]
 }
 
 // The answer and the memory for a room of dots.
-fn answer_in(s: &[u8], room: usize)
+fn answer_in(rt: &impl Print, s: &[u8], room: usize) -> io::Result<()>
     requires { room ≤ 65536 }
 {
     let mut memory = dots();
-    write_answer(s, &mut memory[..room]);
+    write_answer(rt, s, &mut memory[..room])
 }
 
 // The same of the drawing in a file. The buffer is longer than the longest sheet.
-fn answer_file(path: &[u8], room: usize)
+fn answer_file(rt: &(impl Files + Print), path: &str, room: usize) -> io::Result<()>
     requires { room ≤ 65536 }
 {
-    let fd = os::open_read(path);
-    let mut bytes = io::large_buffer();
-    let count = io::read_full(fd, &mut bytes);
-    libc::close(fd);
-    io::write_all(STDOUT_FILENO, path);
-    io::write_all(STDOUT_FILENO, b" in ");
-    io::print_decimal(STDOUT_FILENO, room as u64);
-    io::write_all(STDOUT_FILENO, b": ");
-    answer_in(&bytes[..count], room);
+    let mut bytes = [0u8; BOARD_ROOM];
+    let count = input::read_file(rt, path, &mut bytes);
+    print!(rt; "{path} in {room}: ")?;
+    answer_in(rt, &bytes[..count], room)
 }
 
-// The room and the file that stand at `i` and after it among the arguments.
-fn answer_arguments(i: usize, next: usize) {
-    let mut digits = io::buffer();
-    let digit_count = os::arg(i, &mut digits);
-    let mut path = io::buffer();
-    let length = os::arg(next, &mut path);
-    answer_file(&path[..length], room_of(&digits[..digit_count]));
-}
-
-fn main() {
-    for i in 0..os::arg_count() / 2 {
-        answer_arguments(2 * i + 1, 2 * i + 2);
+// The argument at `i`, or no text where there is none.
+fn argument(arguments: &[String], i: usize) -> &str {
+    match arguments.get(i) {
+        Some(text) => text.as_str(),
+        None => "",
     }
+}
+
+fn main(rt: HostRuntime) -> io::Result<()> {
+    let arguments = env::args(&rt)?.collect::<Vec<String>>(rt.alloc())?;
+    for i in 0..arguments.len() / 2 {
+        let room = room_of(argument(&arguments, 2 * i + 1).as_bytes());
+        answer_file(&rt, argument(&arguments, 2 * i + 2), room)?;
+    }
+    Ok(())
 }

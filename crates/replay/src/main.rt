@@ -3,16 +3,15 @@
 // form of the list, and README.md says how it is made.
 #![tactic(auto)]
 
-ghost use Rattle.std.specs.Prelude.{◌<◌, ◌≤◌};
-ghost use Rattle.io.specs.Counts.{IsPrefixLen};
+ghost use Rattle.std.specs.Prelude.{◌≡◌, ◌<◌, ◌≤◌, length, take};
 
 use definitions::{Located, Style, Whose};
-use libc::STDOUT_FILENO;
 use name_index::{FREE, SLOT_COUNT};
 use number::number_at;
 use restating::Given;
 use skriduhol::{Count, Filled, Grafted, Searched, Verdict};
 use skriduhol_terms::{Judged, Reading};
+use std::{fs, io};
 
 // The kinds of questions; any other asks for the board's output.
 const PLAIN_TEXT: u8 = 0;
@@ -68,6 +67,13 @@ struct Result {
     column: usize,
 }
 
+// Memory of zeros.
+fn zeros() -> [u8; ROOM]
+    ensures { 65536 ≡ length result }
+{
+    [0; ROOM]
+}
+
 fn least(a: usize, b: usize) -> usize
     ensures upper_bound { result ≤ a }
     ensures upper_bound_2 { result ≤ b }
@@ -77,14 +83,16 @@ fn least(a: usize, b: usize) -> usize
 
 // The lesser of a number and the bytes that the memory has.
 fn bytes_within(n: usize, memory: &[u8]) -> usize
-    ensures { IsPrefixLen result memory.now }
+    ensures within { result ≤ length memory.now }
+    ensures prefix { result ≡ length (take result memory.now) }
 {
     least(n, memory.len())
 }
 
 // The lesser of a number and the numbers that the memory has.
 fn numbers_within(n: usize, memory: &[u16]) -> usize
-    ensures { IsPrefixLen result memory.now }
+    ensures within { result ≤ length memory.now }
+    ensures prefix { result ≡ length (take result memory.now) }
 {
     least(n, memory.len())
 }
@@ -95,46 +103,47 @@ fn wide(byte: u8) -> usize
     byte as usize
 }
 
-fn read_byte(fd: i32) -> u8 {
+// The list's next byte. `rest` is what is left of the list; past its end there are zeros.
+fn read_byte(rest: &mut &[u8]) -> u8 {
     let mut byte = [0u8; 1];
-    io::read_full(fd, &mut byte);
+    input::read_full(rest, &mut byte);
     byte[0]
 }
 
-fn read_u16(fd: i32) -> usize
+fn read_u16(rest: &mut &[u8]) -> usize
     ensures { result < 65536 }
 {
-    let low = wide(read_byte(fd));
-    low + 256 * wide(read_byte(fd))
+    let low = wide(read_byte(rest));
+    low + 256 * wide(read_byte(rest))
 }
 
-fn read_u32(fd: i32) -> usize
+fn read_u32(rest: &mut &[u8]) -> usize
     ensures { result < 4294967296 }
 {
-    let low = read_u16(fd);
-    low + 65536 * read_u16(fd)
+    let low = read_u16(rest);
+    low + 65536 * read_u16(rest)
 }
 
-fn read_u64(fd: i32) -> usize {
-    let low = read_u32(fd);
-    low + 4294967296 * read_u32(fd)
+fn read_u64(rest: &mut &[u8]) -> usize {
+    let low = read_u32(rest);
+    low + 4294967296 * read_u32(rest)
 }
 
 // Only a refusal has a column.
-fn read_column(fd: i32, number: usize) -> usize {
+fn read_column(rest: &mut &[u8], number: usize) -> usize {
     if number == 0 {
         return 0;
     }
-    read_u16(fd)
+    read_u16(rest)
 }
 
-fn read_result(fd: i32) -> Result {
-    let number = wide(read_byte(fd));
-    let value = read_u32(fd);
+fn read_result(rest: &mut &[u8]) -> Result {
+    let number = wide(read_byte(rest));
+    let value = read_u32(rest);
     Result {
         number: number,
         value: value,
-        column: read_column(fd, number),
+        column: read_column(rest, number),
     }
 }
 
@@ -214,10 +223,10 @@ fn elements(answer: Result) -> usize
 }
 
 // So many bytes of the list, and zeros past them.
-fn read_bytes(fd: i32, length: usize) -> [u8; ROOM] {
-    let mut bytes = io::large_buffer();
+fn read_bytes(rest: &mut &[u8], length: usize) -> [u8; ROOM] {
+    let mut bytes = zeros();
     let held = bytes_within(length, &bytes);
-    io::read_full(fd, &mut bytes[..held]);
+    input::read_full(rest, &mut bytes[..held]);
     bytes
 }
 
@@ -263,11 +272,11 @@ fn text(s: &[u8], asked: AskedText, room: usize, out: &mut [u8]) -> Filled {
     }
 }
 
-fn text_agrees(fd: i32, s: &[u8], asked: AskedText) -> bool {
-    let room = read_u32(fd);
-    let expected = read_result(fd);
-    let bytes = read_bytes(fd, elements(expected));
-    let mut out = io::large_buffer();
+fn text_agrees(rest: &mut &[u8], s: &[u8], asked: AskedText) -> bool {
+    let room = read_u32(rest);
+    let expected = read_result(rest);
+    let bytes = read_bytes(rest, elements(expected));
+    let mut out = zeros();
     let answer = filled_result(text(s, asked, room, &mut out));
     if !same_result(expected, answer) {
         return false;
@@ -319,10 +328,10 @@ fn same_numbers(numbers: &[u16; ROOM], bytes: &[u8; ROOM]) -> bool {
     true
 }
 
-fn list_agrees(fd: i32, s: &[u8], asked: AskedList) -> bool {
-    let room = read_u32(fd);
-    let expected = read_result(fd);
-    let bytes = read_bytes(fd, 2 * elements(expected));
+fn list_agrees(rest: &mut &[u8], s: &[u8], asked: AskedList) -> bool {
+    let room = read_u32(rest);
+    let expected = read_result(rest);
+    let bytes = read_bytes(rest, 2 * elements(expected));
     let mut out = [0u16; ROOM];
     let answer = filled_result(list(s, asked, room, &mut out));
     if !same_result(expected, answer) {
@@ -331,22 +340,22 @@ fn list_agrees(fd: i32, s: &[u8], asked: AskedList) -> bool {
     same_numbers(&out, &bytes)
 }
 
-fn count_agrees(fd: i32, s: &[u8]) -> bool {
-    let expected = read_result(fd);
+fn count_agrees(rest: &mut &[u8], s: &[u8]) -> bool {
+    let expected = read_result(rest);
     same_result(expected, count_result(skriduhol::label_count(s)))
 }
 
-fn comparison_agrees(fd: i32, s: &[u8]) -> bool {
-    let i = read_u16(fd);
-    let j = read_u16(fd);
-    let expected = read_result(fd);
+fn comparison_agrees(rest: &mut &[u8], s: &[u8]) -> bool {
+    let i = read_u16(rest);
+    let j = read_u16(rest);
+    let expected = read_result(rest);
     same_result(expected, verdict_result(skriduhol::compare(s, i, j)))
 }
 
-fn board_agrees(fd: i32, s: &[u8]) -> bool {
-    let expected = read_result(fd);
-    let bytes = read_bytes(fd, elements(expected));
-    let mut out = io::large_buffer();
+fn board_agrees(rest: &mut &[u8], s: &[u8]) -> bool {
+    let expected = read_result(rest);
+    let bytes = read_bytes(rest, elements(expected));
+    let mut out = zeros();
     let answer = accepted(skriduhol::board_output(s, &mut out));
     if !same_result(expected, answer) {
         return false;
@@ -355,10 +364,10 @@ fn board_agrees(fd: i32, s: &[u8]) -> bool {
 }
 
 // Names stand where other questions have a sheet.
-fn exercise_agrees(fd: i32, names: &[u8]) -> bool {
-    let n = read_u64(fd);
-    let ordinal = read_u64(fd);
-    text_agrees(fd, names, AskedText::Exercise(n, ordinal))
+fn exercise_agrees(rest: &mut &[u8], names: &[u8]) -> bool {
+    let n = read_u64(rest);
+    let ordinal = read_u64(rest);
+    text_agrees(rest, names, AskedText::Exercise(n, ordinal))
 }
 
 fn same_slots(slots: &[u16; SLOT_COUNT], bytes: &[u8; ROOM]) -> bool {
@@ -370,9 +379,9 @@ fn same_slots(slots: &[u16; SLOT_COUNT], bytes: &[u8; ROOM]) -> bool {
     true
 }
 
-fn index_agrees(fd: i32, s: &[u8]) -> bool {
-    let expected = read_result(fd);
-    let bytes = read_bytes(fd, 2 * elements(expected));
+fn index_agrees(rest: &mut &[u8], s: &[u8]) -> bool {
+    let expected = read_result(rest);
+    let bytes = read_bytes(rest, 2 * elements(expected));
     let mut slots = [0u16; SLOT_COUNT];
     let answer = filled_result(skriduhol::name_index(s, &mut slots));
     if !same_result(expected, answer) {
@@ -382,9 +391,9 @@ fn index_agrees(fd: i32, s: &[u8]) -> bool {
 }
 
 // Fills the memory with a name. It is sought in the sheet's own index, or, where it is refused, in slots that all hold 0.
-fn search_agrees(fd: i32, s: &[u8], name: &mut [u8]) -> bool {
-    io::read_full(fd, name);
-    let expected = read_result(fd);
+fn search_agrees(rest: &mut &[u8], s: &[u8], name: &mut [u8]) -> bool {
+    input::read_full(rest, name);
+    let expected = read_result(rest);
     let mut slots = [0u16; SLOT_COUNT];
     skriduhol::name_index(s, &mut slots);
     same_result(
@@ -393,51 +402,51 @@ fn search_agrees(fd: i32, s: &[u8], name: &mut [u8]) -> bool {
     )
 }
 
-fn name_agrees(fd: i32, s: &[u8]) -> bool {
-    let mut name = io::large_buffer();
-    let length = bytes_within(wide(read_byte(fd)), &name);
-    search_agrees(fd, s, &mut name[..length])
+fn name_agrees(rest: &mut &[u8], s: &[u8]) -> bool {
+    let mut name = zeros();
+    let length = bytes_within(wide(read_byte(rest)), &name);
+    search_agrees(rest, s, &mut name[..length])
 }
 
-fn read_number(fd: i32) -> u16 {
-    read_u16(fd) as u16
+fn read_number(rest: &mut &[u8]) -> u16 {
+    read_u16(rest) as u16
 }
 
 // What is given for a restatement stands in the order of a step record.
-fn restate_agrees(fd: i32, s: &[u8]) -> bool {
+fn restate_agrees(rest: &mut &[u8], s: &[u8]) -> bool {
     let given = Given {
-        kind: read_number(fd),
-        first: read_number(fd),
-        second: read_number(fd),
-        third: read_number(fd),
-        column: read_number(fd),
+        kind: read_number(rest),
+        first: read_number(rest),
+        second: read_number(rest),
+        third: read_number(rest),
+        column: read_number(rest),
     };
-    text_agrees(fd, s, AskedText::Restate(given))
+    text_agrees(rest, s, AskedText::Restate(given))
 }
 
 // So many numbers of the list, and zeros past them.
-fn read_numbers(fd: i32, count: usize) -> [u16; HYPOTHESES]
+fn read_numbers(rest: &mut &[u8], count: usize) -> [u16; HYPOTHESES]
     requires { count < 256 }
 {
     let mut numbers = [0u16; HYPOTHESES];
     for i in 0..count {
-        numbers[i] = read_number(fd);
+        numbers[i] = read_number(rest);
     }
     numbers
 }
 
-fn judgement_agrees(fd: i32, s: &[u8], hypotheses: &[u16]) -> bool {
-    let proposition = read_u64(fd);
-    let expected = read_result(fd);
+fn judgement_agrees(rest: &mut &[u8], s: &[u8], hypotheses: &[u16]) -> bool {
+    let proposition = read_u64(rest);
+    let expected = read_result(rest);
     let judged = skriduhol_terms::judge(s, hypotheses, proposition);
     same_result(expected, judged_result(judged))
 }
 
-fn judge_agrees(fd: i32, s: &[u8]) -> bool {
-    let count = wide(read_byte(fd));
-    let numbers = read_numbers(fd, count);
+fn judge_agrees(rest: &mut &[u8], s: &[u8]) -> bool {
+    let count = wide(read_byte(rest));
+    let numbers = read_numbers(rest, count);
     let given = numbers_within(count, &numbers);
-    judgement_agrees(fd, s, &numbers[..given])
+    judgement_agrees(rest, s, &numbers[..given])
 }
 
 // What a text answers: its nodes or a refusal, and of a term also its names and its bytes of code.
@@ -464,8 +473,8 @@ fn term_result(reading: Reading) -> TermResult {
 }
 
 // Only a term has names and code.
-fn read_term_result(fd: i32) -> TermResult {
-    let result = read_result(fd);
+fn read_term_result(rest: &mut &[u8]) -> TermResult {
+    let result = read_result(rest);
     if result.number != 0 {
         return TermResult {
             result: result,
@@ -473,11 +482,11 @@ fn read_term_result(fd: i32) -> TermResult {
             code: 0,
         };
     }
-    let names = read_u16(fd);
+    let names = read_u16(rest);
     TermResult {
         result: result,
         names: names,
-        code: read_u32(fd),
+        code: read_u32(rest),
     }
 }
 
@@ -499,11 +508,11 @@ struct TermRoom {
     code: usize,
 }
 
-fn read_room(fd: i32) -> TermRoom {
+fn read_room(rest: &mut &[u8]) -> TermRoom {
     TermRoom {
-        records: read_u32(fd),
-        names: read_u32(fd),
-        code: read_u32(fd),
+        records: read_u32(rest),
+        names: read_u32(rest),
+        code: read_u32(rest),
     }
 }
 
@@ -528,15 +537,15 @@ fn read_term(
 }
 
 // A record has seven numbers of two bytes, and a name four bytes.
-fn term_agrees(fd: i32, text: &[u8], datatypes: &[u8]) -> bool {
-    let room = read_room(fd);
-    let expected = read_term_result(fd);
-    let numbers = read_bytes(fd, 14 * elements(expected.result));
-    let pairs = read_bytes(fd, 4 * least(expected.names, ROOM));
-    let labels = read_bytes(fd, expected.code);
+fn term_agrees(rest: &mut &[u8], text: &[u8], datatypes: &[u8]) -> bool {
+    let room = read_room(rest);
+    let expected = read_term_result(rest);
+    let numbers = read_bytes(rest, 14 * elements(expected.result));
+    let pairs = read_bytes(rest, 4 * least(expected.names, ROOM));
+    let labels = read_bytes(rest, expected.code);
     let mut records = [0u16; ROOM];
-    let mut names = io::large_buffer();
-    let mut code = io::large_buffer();
+    let mut names = zeros();
+    let mut code = zeros();
     let answer = read_term(text, datatypes, room, &mut records, &mut names, &mut code);
     if !same_term_result(expected, answer) {
         return false;
@@ -551,16 +560,16 @@ fn term_agrees(fd: i32, text: &[u8], datatypes: &[u8]) -> bool {
 }
 
 // Fills the memory with a list of datatypes.
-fn listed_agrees(fd: i32, text: &[u8], datatypes: &mut [u8]) -> bool {
-    io::read_full(fd, datatypes);
-    term_agrees(fd, text, datatypes)
+fn listed_agrees(rest: &mut &[u8], text: &[u8], datatypes: &mut [u8]) -> bool {
+    input::read_full(rest, datatypes);
+    term_agrees(rest, text, datatypes)
 }
 
 // The text stands where other questions have a sheet.
-fn reading_agrees(fd: i32, text: &[u8]) -> bool {
-    let mut datatypes = io::large_buffer();
-    let length = bytes_within(read_u16(fd), &datatypes);
-    listed_agrees(fd, text, &mut datatypes[..length])
+fn reading_agrees(rest: &mut &[u8], text: &[u8]) -> bool {
+    let mut datatypes = zeros();
+    let length = bytes_within(read_u16(rest), &datatypes);
+    listed_agrees(rest, text, &mut datatypes[..length])
 }
 
 // What a graft answers, and whose a refusal is: 0 neither's, 1 the host's, 2 the donor's.
@@ -592,11 +601,11 @@ fn grafted_result(grafted: Grafted) -> GraftResult {
 }
 
 // Only a refusal is somebody's.
-fn read_whose(fd: i32, number: usize) -> usize {
+fn read_whose(rest: &mut &[u8], number: usize) -> usize {
     if number == 0 {
         return 0;
     }
-    wide(read_byte(fd))
+    wide(read_byte(rest))
 }
 
 fn graft<'a>(
@@ -611,13 +620,13 @@ fn graft<'a>(
     grafted_result(skriduhol::graft(host, step, donor, &mut slots, &mut out[..lent]))
 }
 
-fn pair_agrees<'a>(fd: i32, host: &'a [u8], donor: &'a [u8]) -> bool {
-    let step = read_u64(fd);
-    let room = read_u32(fd);
-    let expected = read_result(fd);
-    let whose = read_whose(fd, expected.number);
-    let bytes = read_bytes(fd, elements(expected));
-    let mut out = io::large_buffer();
+fn pair_agrees<'a>(rest: &mut &[u8], host: &'a [u8], donor: &'a [u8]) -> bool {
+    let step = read_u64(rest);
+    let room = read_u32(rest);
+    let expected = read_result(rest);
+    let whose = read_whose(rest, expected.number);
+    let bytes = read_bytes(rest, elements(expected));
+    let mut out = zeros();
     let answer = graft(host, step, donor, room, &mut out);
     if !same_result(expected, answer.result) {
         return false;
@@ -629,37 +638,46 @@ fn pair_agrees<'a>(fd: i32, host: &'a [u8], donor: &'a [u8]) -> bool {
 }
 
 // The donor is the first of the bytes behind the host.
-fn donor_agrees<'a>(fd: i32, host: &'a [u8], behind: &'a [u8]) -> bool {
-    let theirs = bytes_within(read_u32(fd), behind);
-    pair_agrees(fd, host, &behind[..theirs])
+fn donor_agrees<'a>(rest: &mut &[u8], host: &'a [u8], behind: &'a [u8]) -> bool {
+    let theirs = bytes_within(read_u32(rest), behind);
+    pair_agrees(rest, host, &behind[..theirs])
 }
 
 // The host is the first of the entry's bytes.
-fn graft_agrees(fd: i32, both: &[u8]) -> bool {
-    let own = bytes_within(read_u32(fd), both);
-    donor_agrees(fd, &both[..own], &both[own..both.len()])
+fn graft_agrees(rest: &mut &[u8], both: &[u8]) -> bool {
+    let own = bytes_within(read_u32(rest), both);
+    donor_agrees(rest, &both[..own], &both[own..both.len()])
 }
 
 // Whether the answer to the next question agrees.
-fn agrees(fd: i32, s: &[u8]) -> bool {
-    match read_byte(fd) {
-        PLAIN_TEXT => text_agrees(fd, s, AskedText::Plain),
-        STRICT_TEXT => text_agrees(fd, s, AskedText::Strict),
-        ATOM_LIST => list_agrees(fd, s, AskedList::Atoms),
-        DATATYPE_LIST => list_agrees(fd, s, AskedList::Datatypes),
-        LABEL_COUNT => count_agrees(fd, s),
-        COMPARISON => comparison_agrees(fd, s),
-        HANDOUT_PLAIN => text_agrees(fd, s, AskedText::HandoutPlain(read_u64(fd))),
-        HANDOUT_STRICT => text_agrees(fd, s, AskedText::HandoutStrict(read_u64(fd))),
-        HANDOUT_DATATYPES => list_agrees(fd, s, AskedList::HandoutDatatypes(read_u64(fd))),
-        EXERCISE => exercise_agrees(fd, s),
-        NAME_INDEX => index_agrees(fd, s),
-        FIND_NAME => name_agrees(fd, s),
-        RESTATE => restate_agrees(fd, s),
-        GRAFT => graft_agrees(fd, s),
-        READ_TERM => reading_agrees(fd, s),
-        JUDGE => judge_agrees(fd, s),
-        _ => board_agrees(fd, s),
+fn agrees(rest: &mut &[u8], s: &[u8]) -> bool {
+    match read_byte(rest) {
+        PLAIN_TEXT => text_agrees(rest, s, AskedText::Plain),
+        STRICT_TEXT => text_agrees(rest, s, AskedText::Strict),
+        ATOM_LIST => list_agrees(rest, s, AskedList::Atoms),
+        DATATYPE_LIST => list_agrees(rest, s, AskedList::Datatypes),
+        LABEL_COUNT => count_agrees(rest, s),
+        COMPARISON => comparison_agrees(rest, s),
+        HANDOUT_PLAIN => {
+            let version = read_u64(rest);
+            text_agrees(rest, s, AskedText::HandoutPlain(version))
+        }
+        HANDOUT_STRICT => {
+            let version = read_u64(rest);
+            text_agrees(rest, s, AskedText::HandoutStrict(version))
+        }
+        HANDOUT_DATATYPES => {
+            let version = read_u64(rest);
+            list_agrees(rest, s, AskedList::HandoutDatatypes(version))
+        }
+        EXERCISE => exercise_agrees(rest, s),
+        NAME_INDEX => index_agrees(rest, s),
+        FIND_NAME => name_agrees(rest, s),
+        RESTATE => restate_agrees(rest, s),
+        GRAFT => graft_agrees(rest, s),
+        READ_TERM => reading_agrees(rest, s),
+        JUDGE => judge_agrees(rest, s),
+        _ => board_agrees(rest, s),
     }
 }
 
@@ -670,12 +688,12 @@ fn one_if(yes: bool) -> usize
 }
 
 // How many of the answers to so many questions agree.
-fn agreeing(fd: i32, s: &[u8], questions: usize) -> usize
+fn agreeing(rest: &mut &[u8], s: &[u8], questions: usize) -> usize
     ensures { result ≤ questions }
 {
     let mut agreed = 0;
     for i in 0..questions {
-        agreed += one_if(agrees(fd, s));
+        agreed += one_if(agrees(rest, s));
     }
     agreed
 }
@@ -688,12 +706,12 @@ struct Tally {
 }
 
 // Fills the memory with an entry of the list, a sheet or names, and asks the questions on it.
-fn ask(fd: i32, sheet: &mut [u8]) -> Tally
+fn ask(rest: &mut &[u8], sheet: &mut [u8]) -> Tally
     ensures { (result.«questions» < 256) × (result.«agreed» < 256) }
 {
-    io::read_full(fd, sheet);
-    let questions = wide(read_byte(fd));
-    let agreed = agreeing(fd, sheet, questions);
+    input::read_full(rest, sheet);
+    let questions = wide(read_byte(rest));
+    let agreed = agreeing(rest, sheet, questions);
     Tally {
         questions: questions,
         agreed: agreed,
@@ -701,34 +719,24 @@ fn ask(fd: i32, sheet: &mut [u8]) -> Tally
 }
 
 // Asks the questions on the next entry of the list.
-fn ask_next(fd: i32) -> Tally
+fn ask_next(rest: &mut &[u8]) -> Tally
     ensures { (result.«questions» < 256) × (result.«agreed» < 256) }
 {
-    let mut sheet = io::large_buffer();
-    let length = bytes_within(read_u32(fd), &sheet);
-    ask(fd, &mut sheet[..length])
+    let mut sheet = zeros();
+    let length = bytes_within(read_u32(rest), &sheet);
+    ask(rest, &mut sheet[..length])
 }
 
-fn write_count(count: usize, words: &[u8]) {
-    io::print_decimal(STDOUT_FILENO, count as u64);
-    io::write_all(STDOUT_FILENO, words);
-}
-
-fn report(entries: usize, questions: usize, agreed: usize) {
-    write_count(entries, b" entries, ");
-    write_count(questions, b" questions, ");
-    write_count(agreed, b" answers agree\n");
-}
-
-fn main() {
-    let fd = os::open_read(b"answers");
-    let sheets = read_u32(fd);
+fn main(rt: HostRuntime) -> io::Result<()> {
+    let answers = fs::read(&rt, "answers")?;
+    let mut rest = answers.as_slice();
+    let entries = read_u32(&mut rest);
     let mut questions = 0;
     let mut agreed = 0;
-    for i in 0..sheets {
-        let tally = ask_next(fd);
+    for _ in 0..entries {
+        let tally = ask_next(&mut rest);
         questions += tally.questions;
         agreed += tally.agreed;
     }
-    report(sheets, questions, agreed);
+    println!(rt; "{entries} entries, {questions} questions, {agreed} answers agree")
 }

@@ -2,17 +2,16 @@
 // holds: the Rust's, and document 01's where the lent room is full. tests/oracle/README.md has the form of the list.
 #![tactic(auto)]
 
-ghost use Rattle.std.specs.Prelude.{◌≡◌, Bool, ◌<◌, ◌≤◌};
+ghost use Rattle.std.specs.Prelude.{◌≡◌, Bool, ◌<◌, ◌≤◌, length, take};
 ghost use Rattle.number.specs.Pairs.{NameWithin};
 ghost use Rattle.identifier_context.specs.Memory.{Holds};
 ghost use Rattle.identifier_context.specs.Promises.{length_after};
 ghost use Rattle.replay_context.specs.Lengths.{length_inserted};
-ghost use Rattle.io.specs.Counts.{IsPrefixLen};
 
 use definitions::Found;
 use identifier_context::{ENTRY_SIZE, Entry, Inserted, Removed};
-use libc::STDOUT_FILENO;
 use number::{PAIR_SIZE, number_at, pair_length, pair_offset};
+use std::{fs, io};
 
 // The kinds of questions; any other asks for the latest entry of a name.
 const INSERT: u16 = 0;
@@ -62,9 +61,10 @@ fn number_of(bytes: &[u8; 2]) -> u16 {
     number_at(bytes, 0) as u16
 }
 
-fn read_number(fd: i32) -> u16 {
+// The list's next number. `rest` is what is left of the list; past its end there are zeros.
+fn read_number(rest: &mut &[u8]) -> u16 {
     let mut bytes = [0u8; 2];
-    io::read_full(fd, &mut bytes);
+    input::read_full(rest, &mut bytes);
     number_of(&bytes)
 }
 
@@ -74,11 +74,11 @@ fn wide(number: u16) -> usize
     number as usize
 }
 
-fn read_entry(fd: i32) -> Entry {
-    let name = read_number(fd);
-    let id = read_number(fd);
-    let kind = read_number(fd);
-    let number = read_number(fd);
+fn read_entry(rest: &mut &[u8]) -> Entry {
+    let name = read_number(rest);
+    let id = read_number(rest);
+    let kind = read_number(rest);
+    let number = read_number(rest);
     Entry {
         name: name,
         id: id,
@@ -87,9 +87,9 @@ fn read_entry(fd: i32) -> Entry {
     }
 }
 
-fn read_answer(fd: i32) -> Answer {
-    let outcome = read_number(fd);
-    let entry = read_entry(fd);
+fn read_answer(rest: &mut &[u8]) -> Answer {
+    let outcome = read_number(rest);
+    let entry = read_entry(rest);
     Answer {
         outcome: outcome,
         entry: entry,
@@ -148,7 +148,8 @@ fn found_entry(entries: &[u16], found: Found) -> Answer {
 
 // The lesser of a number and the numbers that the memory has.
 fn numbers_within(n: usize, memory: &[u16]) -> usize
-    ensures { IsPrefixLen result memory.now }
+    ensures within { result ≤ length memory.now }
+    ensures prefix { result ≡ length (take result memory.now) }
 {
     let most = memory.len();
     if n < most {
@@ -305,7 +306,7 @@ fn ask(
 
 // The turn of the list's next question.
 fn ask_next(
-    fd: i32,
+    rest: &mut &[u8],
     entries: &mut [u16],
     len: usize,
     before: usize,
@@ -315,8 +316,8 @@ fn ask_next(
     requires { Holds pairs.now text.now entries.old len }
     ensures { Holds pairs.now text.now entries.new result.«len» }
 {
-    let kind = read_number(fd);
-    let entry = read_entry(fd);
+    let kind = read_number(rest);
+    let entry = read_entry(rest);
     if is_name(pairs, text, entry.name as usize) {
         return ask(entries, len, before, pairs, text, kind, entry);
     }
@@ -334,9 +335,9 @@ fn one_if(yes: bool) -> usize
 }
 
 // Whether the list's next answer is that of a turn.
-fn agrees(fd: i32, turn: Turn) -> bool {
-    let len = wide(read_number(fd));
-    let answer = read_answer(fd);
+fn agrees(rest: &mut &[u8], turn: Turn) -> bool {
+    let len = wide(read_number(rest));
+    let answer = read_answer(rest);
     if len != turn.len {
         return false;
     }
@@ -344,47 +345,42 @@ fn agrees(fd: i32, turn: Turn) -> bool {
 }
 
 // How many of the answers to a context's questions agree. The context is empty at first.
-fn agreeing(fd: i32, entries: &mut [u16], pairs: &[u8], text: &[u8]) -> usize
+fn agreeing(rest: &mut &[u8], entries: &mut [u16], pairs: &[u8], text: &[u8]) -> usize
     ensures { result ≤ 40 }
 {
     let mut len = 0;
     let mut before = 0;
     let mut agreed = 0;
     for i in 0..QUESTIONS {
-        let turn = ask_next(fd, entries, len, before, pairs, text);
+        let turn = ask_next(rest, entries, len, before, pairs, text);
         len = turn.len;
         before = turn.before;
-        agreed += one_if(agrees(fd, turn));
+        agreed += one_if(agrees(rest, turn));
     }
     agreed
 }
 
 // Asks the questions of the next context, in memory of so many numbers as the list says.
-fn ask_all(fd: i32) -> usize
+fn ask_all(rest: &mut &[u8]) -> usize
     ensures { result ≤ 40 }
 {
     let mut pairs = [0u8; PAIR_BYTES];
-    io::read_full(fd, &mut pairs);
+    input::read_full(rest, &mut pairs);
     let mut text = [0u8; TEXT_BYTES];
-    io::read_full(fd, &mut text);
+    input::read_full(rest, &mut text);
     let mut memory = [0u16; ROOM];
-    let lent = numbers_within(wide(read_number(fd)), &memory);
-    agreeing(fd, &mut memory[..lent], &pairs, &text)
+    let lent = numbers_within(wide(read_number(rest)), &memory);
+    agreeing(rest, &mut memory[..lent], &pairs, &text)
 }
 
-fn write_count(count: usize, words: &[u8]) {
-    io::print_decimal(STDOUT_FILENO, count as u64);
-    io::write_all(STDOUT_FILENO, words);
-}
-
-fn main() {
-    let fd = os::open_read(b"contexts");
-    let contexts = wide(read_number(fd));
+fn main(rt: HostRuntime) -> io::Result<()> {
+    let bytes = fs::read(&rt, "contexts")?;
+    let mut rest = bytes.as_slice();
+    let contexts = wide(read_number(&mut rest));
     let mut agreed = 0;
-    for i in 0..contexts {
-        agreed += ask_all(fd);
+    for _ in 0..contexts {
+        agreed += ask_all(&mut rest);
     }
-    write_count(contexts, b" contexts, ");
-    write_count(QUESTIONS * contexts, b" questions, ");
-    write_count(agreed, b" answers agree\n");
+    let questions = QUESTIONS * contexts;
+    println!(rt; "{contexts} contexts, {questions} questions, {agreed} answers agree")
 }
