@@ -2,7 +2,7 @@
  * Skriduhol: from the sheet of a proof board to its printed term, and exercises for its classes.
  *
  * A sheet is any sequence of bytes: every function answers for every sequence and every length. The functions are proved in
- * Rattle, in crates/skriduhol_c; `rt staticlib skriduhol_c` writes target/staticlib/libskriduhol_c.a for x86-64 Linux.
+ * Rattle, in crates/skriduhol_c; `tools/build skriduhol_c` writes target/staticlib/libskriduhol_c.a for x86-64 Linux.
  *
  * What a caller owes
  *   - Each pointer is aligned for its type and not null, also where its length is 0: a function takes it for a reference,

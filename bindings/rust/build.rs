@@ -1,5 +1,5 @@
 //! Links the proved library: libskriduhol_c.a in the folder that SKRIDUHOL_LIB names, without it in the repository's
-//! target/staticlib, where `rt staticlib skriduhol_c` writes it.
+//! target/staticlib, where `tools/build skriduhol_c` writes it.
 use std::{env, path::PathBuf};
 
 fn main() {

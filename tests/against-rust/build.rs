@@ -1,4 +1,4 @@
-//! Says where `rt staticlib skriduhol_c` leaves the library.
+//! Says where `tools/build skriduhol_c` leaves the library.
 use std::path::Path;
 
 fn main() {
