@@ -1,0 +1,31 @@
+-- A step that is there has its column among the records; for one that is not, the definition gives 0.
+use mathlib.Core.Path.{◌≡◌, sym}
+use borrow.Author.Rules.{rules}
+use Rattle.steps.specs.StepAt.{step_at}
+use Rattle.sheet.specs.Header.{header_of}
+use Rattle.sheet.proofs.Stages.{stage_accepted, refused_not_accepted}
+use Rattle.located.proofs.Columns.{header_accepted, read_header, no_step, has_step}
+use Rattle.located.proofs.column_at.Goals as goal
+use Rattle.located.proofs.column_at.Goals.{In-Accepted}
+
+is_header : (c : In-Accepted) → c.in-Accepted.h ≡ header_of c.args.s.now
+is_header c = (stage_accepted _ _ c.header-read.ensures c.in-Accepted.is).0
+
+pub returns-in_default : goal.returns-in_default
+returns-in_default c =
+    absurd (refused_not_accepted c.in_default.is (header_accepted c.requires c.header-read.ensures))
+
+pub returns-then-h-k : goal.returns-then-h-k
+returns-then-h-k c =
+    sym (no_step c.requires (is_header (goal.at.returns-then-h-k c).In-Accepted) _ c.if-h-k.true)
+
+pub step_records-requires : goal.step_records-requires
+step_records-requires c = read_header c.requires (is_header (goal.at.step_records-requires c).In-Accepted)
+
+pub step_at-step-requires : goal.step_at-step-requires
+step_at-step-requires c =
+    rw c.step_records.ensures (has_step c.requires (is_header (goal.at.step_at-step-requires c).In-Accepted) _ c.if-h-k.false)
+
+pub returns : goal.returns
+unfolding step_at
+returns c = rw (← c.step_records.ensures, c.step_at-step.ensures)
