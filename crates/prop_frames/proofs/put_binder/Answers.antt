@@ -1,0 +1,8 @@
+-- Byte by byte.
+use borrow.Author.Rules.{rules}
+use Rattle.prop_frames.proofs.Binders.{binder_stored}
+use Rattle.prop_frames.proofs.put_binder.Goals as goal
+
+pub returns : goal.returns
+returns c =
+    binder_stored _ _ _ _ _ _ c.put.ensures.stored c.put_u16.ensures c.put_u16-2.ensures
