@@ -1,17 +1,17 @@
 -- The length of an atom's text is summed up parameter by parameter.
 use Prim.Native.Nat.{ℕ, ◌+◌, ◌*◌, ◌-◌, ◌≤◌, ◌<◌}
-use mathlib.Core.Path.{◌≡◌, refl, sym, ap, ◌∙◌}
+use mathlib.Core.Path.{◌≡◌, ap, ◌∙◌}
 use mathlib.Core.List.{List, ◌++◌}
 use native.Mathlib.Omega.{arith}
 use lib.ListN.{length, get_or}
 use Rattle.definitions.specs.Name.{Name}
-use Rattle.definitions.specs.Prop.{Prop, PropParameter, parameter_name, rename_prop}
+use Rattle.definitions.specs.Prop.{PropParameter, parameter_name, rename_prop}
 use Rattle.definitions.specs.Code.{encode_parameter, encode_parameters, parameter_limit}
 use Rattle.definitions.specs.Sheet.{number_at}
 use Rattle.definitions.specs.Display.{display_prop}
 use Rattle.prefix_code.specs.Scan.{Stands, Ends, parameter_coding, parameters_coding}
 use Rattle.prefix_code.proofs.Parameters.{FirstParameter, first_parameter, none_stand, parameter_bytes}
-use Rattle.prefix_code.proofs.Forms.{AtomAt, atom_at}
+use Rattle.prefix_code.proofs.Forms.{atom_at}
 use Rattle.prefix_code.specs.PropAt.{prop_at, Present}
 use Rattle.prop_length.specs.Length.{NameLength, TextLength}
 use Rattle.prop_length.proofs.Lengths as lengths
