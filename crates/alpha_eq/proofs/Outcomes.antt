@@ -1,16 +1,12 @@
 -- What an answer of the walk tells of the outcome: after a yes the rest decides, and nothing follows a no or a refusal.
 use Prim.Native.Nat.{ℕ}
-use mathlib.Core.Path.{◌≡◌, refl, ap}
+use mathlib.Core.Path.{◌≡◌, refl}
 use mathlib.Core.Bool.{Bool, true, false}
-use mathlib.Core.Logic.{◌⊎◌, ⊎_elim}
-use native.Mathlib.Omega.{arith}
-use denote.Enum.Declared.{tag_of}
 use Rattle.definitions.specs.Outcome.{Outcome, refused, accepted}
 use Rattle.definitions.specs.Comparison.{no, and_also}
 use Rattle.alpha_eq.specs.declared.Compared.{Compared}
 use Rattle.alpha_eq.specs.declared.Compared.TheVariants.{Same, Different, Refused}
 use Rattle.alpha_eq.specs.Comparing.{compared}
-use Rattle.alpha_eq.specs.contracts.Compared.{the_type}
 
 -- the outcome of an answer
 abbrev pub told : Compared → Outcome Bool
@@ -28,12 +24,10 @@ told_compared (accepted false) i j = refl
 pub Stops : Compared → Type 0
 Stops r = (i j : ℕ) → r ≡ Same i j → ⊥
 
--- the second variant and the third do
-pub stops : (r : Compared) → (tag_of the_type r ≡ 1) ⊎ (tag_of the_type r ≡ 2) → Stops r
+-- what is no yes does
+pub stops : (r : Compared) → ((i j : ℕ) → r ≡ Same i j → ⊥) → Stops r
 unfolding Stops
-stops r h i j e =
-    let same : tag_of the_type r ≡ 0 = ap (tag_of the_type) e in
-    ⊎_elim (λ k. omega arith) (λ k. omega arith) h
+stops r h = h
 
 -- a yes tells the outcome and the ends
 pub yes_ends : (outcome : Outcome Bool) (i j : ℕ) {a b : ℕ} → Same a b ≡ compared outcome i j → (outcome ≡ accepted true) × (a ≡ i) × (b ≡ j)

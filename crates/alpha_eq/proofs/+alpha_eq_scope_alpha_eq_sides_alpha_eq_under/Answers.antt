@@ -1,0 +1,224 @@
+-- The calls end by the bytes of the code from i on: a form's function calls on parts of it, which start later. Where two
+-- calls follow each other, the second finds the bindings as the first found them.
+use Prim.Native.Nat.{ℕ, ◌+◌, ◌*◌, ◌≤◌}
+use mathlib.Core.Path.{◌≡◌, ◌∙◌}
+use mathlib.Core.Bool.{Bool}
+use mathlib.Core.List.{List}
+use native.Mathlib.Omega.{arith}
+use lib.ListN.{length, length-set}
+use Rattle.definitions.specs.Outcome.{Outcome}
+use Rattle.definitions.specs.Prop.{Prop}
+use Rattle.prefix_code.specs.Scan.{proposition_coding}
+use Rattle.identifier.proofs.Within.{last_within}
+use Rattle.alpha_eq.specs.declared.Compared.{Compared}
+use Rattle.alpha_eq.specs.Comparing.{Answers, of_sides, of_applied, of_scope}
+use Rattle.alpha_eq.proofs.Outcomes.{stops}
+use Rattle.alpha_eq.proofs.Bindings.{kept_all, kept_fewer, kept_trans, kept_pushed}
+use Rattle.alpha_eq.proofs.Forms.{inside, other_front, same_leaf, same_connective, same_atom, same_quantifier}
+use Rattle.alpha_eq.proofs.Forms.{forms_asked, by_form, sides_under, atom_under, scope_under}
+use Rattle.alpha_eq.proofs.Sides.{sides_inside, lefts_asked, lefts_stop, rights_decide, rights_asked, rights_after}
+use Rattle.alpha_eq.proofs.Scopes.{scope_at, other_datatype, room_here, bodies_decide, bodies_asked}
+use Rattle.alpha_eq.proofs.+alpha_eq_scope_alpha_eq_sides_alpha_eq_under.Goals as goal
+use Rattle.alpha_eq.proofs.+alpha_eq_scope_alpha_eq_sides_alpha_eq_under.Goals.{alpha_eq_scope-After-same_bytes}
+
+-- an answer by what it equals
+answer_as : {code : List ℕ} {i j : ℕ} {outcome : Prop ℕ → Prop ℕ → Outcome Bool} {r q : Compared}
+    → r ≡ q → Answers proposition_coding code i j outcome r → Answers proposition_coding code i j outcome q
+answer_as e h = rw e at h
+
+-- `alpha_eq_scope` by its places: room for the binding of the two objects
+room : (t : ℕ) → (c : alpha_eq_scope-After-same_bytes t) → let s = c.args in
+    2 * (s.depth + 1) ≤ length s.bindings.now
+room t c = room_here c.requires.with_room
+
+pub alpha_eq_scope-same_bytes-requires : goal.alpha_eq_scope-same_bytes-requires
+alpha_eq_scope-same_bytes-requires t c =
+    let s = c.requires.with_room.forms in (
+      last_within (s.named c.number_at-t.result (omega (arith, scope_at s.two.left))),
+      last_within (s.named c.number_at-u.result (omega (arith, scope_at s.two.right))),
+    )
+
+pub alpha_eq_scope-returns-then-not-same_bytes : goal.alpha_eq_scope-returns-then-not-same_bytes
+alpha_eq_scope-returns-then-not-same_bytes t c =
+    record {
+      answers = other_datatype _ _ _ _ _ _ _ c.requires.i_value c.number_at-t.ensures.0
+          c.number_at-u.ensures.0 c.same_bytes.ensures c.if-not-same_bytes.true;
+      kept = kept_all;
+    }
+
+pub alpha_eq_scope-alpha_eq_under-requires : goal.alpha_eq_scope-alpha_eq_under-requires
+alpha_eq_scope-alpha_eq_under-requires t c = (
+  omega (arith, c.decreases, scope_at c.requires.with_room.forms.two.left),
+  bodies_asked c.requires.with_room c.number_at.ensures.0 c.number_at-2.ensures.0,
+)
+
+pub alpha_eq_scope-returns : goal.alpha_eq_scope-returns
+alpha_eq_scope-returns t c =
+    let here = (goal.at.alpha_eq_scope-returns t c).After-same_bytes in
+    let bodies = c.alpha_eq_under.ensures in record {
+      answers = bodies_decide _ _ _ _ _ _ _ c.requires.i_value c.number_at-t.ensures.0
+          c.number_at-u.ensures.0 c.same_bytes.ensures (room t here)
+          c.if-not-same_bytes.false c.number_at.ensures.0
+          c.number_at-2.ensures.0 bodies.answers;
+      kept = kept_trans (kept_pushed _ _ _ _ (room t here)) (kept_fewer bodies.kept);
+    }
+
+pub alpha_eq_scope-overflow_add-i : goal.alpha_eq_scope-overflow_add-i
+alpha_eq_scope-overflow_add-i t c = omega (arith, scope_at c.requires.with_room.forms.two.left)
+
+pub alpha_eq_scope-number_at-t-requires : goal.alpha_eq_scope-number_at-t-requires
+alpha_eq_scope-number_at-t-requires t c = omega (arith, scope_at c.requires.with_room.forms.two.left)
+
+pub alpha_eq_scope-overflow_add-j : goal.alpha_eq_scope-overflow_add-j
+alpha_eq_scope-overflow_add-j t c = omega (arith, scope_at c.requires.with_room.forms.two.right)
+
+pub alpha_eq_scope-number_at-u-requires : goal.alpha_eq_scope-number_at-u-requires
+alpha_eq_scope-number_at-u-requires t c = omega (arith, scope_at c.requires.with_room.forms.two.right)
+
+pub alpha_eq_scope-overflow_add-i-2 : goal.alpha_eq_scope-overflow_add-i-2
+alpha_eq_scope-overflow_add-i-2 t c = omega (arith, scope_at c.requires.with_room.forms.two.left)
+
+pub alpha_eq_scope-number_at-requires : goal.alpha_eq_scope-number_at-requires
+alpha_eq_scope-number_at-requires t c = omega (arith, scope_at c.requires.with_room.forms.two.left)
+
+pub alpha_eq_scope-overflow_mul-bindings : goal.alpha_eq_scope-overflow_mul-bindings
+alpha_eq_scope-overflow_mul-bindings t c = omega (arith, room t (goal.at.alpha_eq_scope-overflow_mul-bindings t c).After-same_bytes)
+
+pub alpha_eq_scope-offset_bounds-bindings-depth : goal.alpha_eq_scope-offset_bounds-bindings-depth
+alpha_eq_scope-offset_bounds-bindings-depth t c =
+    let here = goal.at.alpha_eq_scope-offset_bounds-bindings-depth t c in
+    omega (arith, room t here.After-same_bytes)
+
+pub alpha_eq_scope-bounds-bindings-depth : goal.alpha_eq_scope-bounds-bindings-depth
+alpha_eq_scope-bounds-bindings-depth t c = omega (arith, room t (goal.at.alpha_eq_scope-bounds-bindings-depth t c).After-same_bytes)
+
+pub alpha_eq_scope-overflow_add-j-2 : goal.alpha_eq_scope-overflow_add-j-2
+alpha_eq_scope-overflow_add-j-2 t c = omega (arith, scope_at c.requires.with_room.forms.two.right)
+
+pub alpha_eq_scope-number_at-requires-2 : goal.alpha_eq_scope-number_at-requires-2
+alpha_eq_scope-number_at-requires-2 t c = omega (arith, scope_at c.requires.with_room.forms.two.right)
+
+pub alpha_eq_scope-overflow_mul-bindings-2 : goal.alpha_eq_scope-overflow_mul-bindings-2
+alpha_eq_scope-overflow_mul-bindings-2 t c = omega (arith, room t (goal.at.alpha_eq_scope-overflow_mul-bindings-2 t c).After-same_bytes)
+
+pub alpha_eq_scope-overflow_add-bindings : goal.alpha_eq_scope-overflow_add-bindings
+alpha_eq_scope-overflow_add-bindings t c = omega (arith, room t (goal.at.alpha_eq_scope-overflow_add-bindings t c).After-same_bytes)
+
+pub alpha_eq_scope-offset_bounds-bindings-depth-2 : goal.alpha_eq_scope-offset_bounds-bindings-depth-2
+alpha_eq_scope-offset_bounds-bindings-depth-2 t c =
+    let here = goal.at.alpha_eq_scope-offset_bounds-bindings-depth-2 t c in
+    omega (arith, room t here.After-same_bytes)
+
+pub alpha_eq_scope-bounds-bindings-depth-2 : goal.alpha_eq_scope-bounds-bindings-depth-2
+alpha_eq_scope-bounds-bindings-depth-2 t c =
+    let here = goal.at.alpha_eq_scope-bounds-bindings-depth-2 t c in
+    simp length-set (omega (arith, room t here.After-same_bytes))
+
+pub alpha_eq_scope-overflow_add-i-3 : goal.alpha_eq_scope-overflow_add-i-3
+alpha_eq_scope-overflow_add-i-3 t c = omega (arith, scope_at c.requires.with_room.forms.two.left)
+
+pub alpha_eq_scope-overflow_add-j-3 : goal.alpha_eq_scope-overflow_add-j-3
+alpha_eq_scope-overflow_add-j-3 t c = omega (arith, scope_at c.requires.with_room.forms.two.right)
+
+pub alpha_eq_scope-overflow_add-depth : goal.alpha_eq_scope-overflow_add-depth
+alpha_eq_scope-overflow_add-depth t c = omega (arith, room t (goal.at.alpha_eq_scope-overflow_add-depth t c).After-same_bytes)
+
+pub alpha_eq_scope-shape_of-bindings : goal.alpha_eq_scope-shape_of-bindings
+alpha_eq_scope-shape_of-bindings t c = c.alpha_eq_under.auto.bindings ∙ simp length-set
+
+-- `alpha_eq_sides` by its places
+pub alpha_eq_sides-returns-in_default : goal.alpha_eq_sides-returns-in_default
+alpha_eq_sides-returns-in_default t c =
+    let left = c.alpha_eq_under-left.ensures in
+    record {
+      answers = lefts_stop _ _ _ _ _ _ _ c.requires.i_value left.answers (stops _ c.in_default.not-Same);
+      kept = left.kept;
+    }
+
+pub alpha_eq_sides-alpha_eq_under-requires : goal.alpha_eq_sides-alpha_eq_under-requires
+alpha_eq_sides-alpha_eq_under-requires t c =
+    let yes = answer_as c.in-Same.is c.alpha_eq_under-left.ensures.answers in (
+      omega (arith, c.decreases, sides_inside c.requires.with_room, rights_after c.requires.with_room yes),
+      rights_asked c.requires.with_room yes c.alpha_eq_under-left.ensures.kept c.alpha_eq_under-left.auto.bindings,
+    )
+
+pub alpha_eq_sides-returns : goal.alpha_eq_sides-returns
+alpha_eq_sides-returns t c =
+    let left = c.alpha_eq_under-left.ensures in
+    let right = c.alpha_eq_under.ensures in
+    let yes = answer_as c.in-Same.is left.answers in record {
+      answers = rights_decide _ _ _ _ _ _ _ c.requires.i_value yes left.kept right.answers;
+      kept = kept_trans left.kept right.kept;
+    }
+
+pub alpha_eq_sides-overflow_add-i : goal.alpha_eq_sides-overflow_add-i
+alpha_eq_sides-overflow_add-i t c = omega (arith, sides_inside c.requires.with_room)
+
+pub alpha_eq_sides-overflow_add-j : goal.alpha_eq_sides-overflow_add-j
+alpha_eq_sides-overflow_add-j t c = omega (arith, sides_inside c.requires.with_room)
+
+pub alpha_eq_sides-alpha_eq_under-left-requires : goal.alpha_eq_sides-alpha_eq_under-left-requires
+alpha_eq_sides-alpha_eq_under-left-requires t c = (omega (arith, c.decreases, sides_inside c.requires.with_room), lefts_asked c.requires.with_room)
+
+-- `alpha_eq_under` by its places
+pub alpha_eq_under-alpha_eq_sides-requires : goal.alpha_eq_under-alpha_eq_sides-requires
+alpha_eq_under-alpha_eq_sides-requires t c = (
+  omega arith,
+  (
+    forms_asked of_sides (same_connective _ _ _ c.if-head-code.false (omega arith) c.if-head-lt5.true)
+        c.requires,
+    c.if-head-code.false,
+  ),
+)
+
+pub alpha_eq_under-returns-then-head-lt5 : goal.alpha_eq_under-returns-then-head-lt5
+alpha_eq_under-returns-then-head-lt5 t c =
+    let answer = c.alpha_eq_sides.ensures in record {
+      answers = by_form of_sides (same_connective _ _ _ c.if-head-code.false (omega arith) c.if-head-lt5.true) _ _
+          (sides_under _ _ _ _) answer.answers;
+      kept = answer.kept;
+    }
+
+pub alpha_eq_under-alpha_eq_atom-requires : goal.alpha_eq_under-alpha_eq_atom-requires
+alpha_eq_under-alpha_eq_atom-requires t c =
+    (forms_asked of_applied (same_atom _ _ _ c.if-head-code.false c.if-head-eq5.true) c.requires).forms
+
+pub alpha_eq_under-returns-then-head-eq5 : goal.alpha_eq_under-returns-then-head-eq5
+alpha_eq_under-returns-then-head-eq5 t c =
+    let atom = same_atom _ _ _ c.if-head-code.false c.if-head-eq5.true in
+    record { answers = by_form of_applied atom _ _ (atom_under _ _ _ _) c.alpha_eq_atom.ensures; kept = kept_all }
+
+pub alpha_eq_under-alpha_eq_scope-requires : goal.alpha_eq_under-alpha_eq_scope-requires
+alpha_eq_under-alpha_eq_scope-requires t c = (
+  omega arith,
+  (
+    forms_asked of_scope (same_quantifier _ _ _ c.if-head-code.false (omega arith)) c.requires,
+    c.if-head-code.false,
+  ),
+)
+
+pub alpha_eq_under-returns : goal.alpha_eq_under-returns
+alpha_eq_under-returns t c =
+    let answer = c.alpha_eq_scope.ensures in record {
+      answers = by_form of_scope (same_quantifier _ _ _ c.if-head-code.false (omega arith)) _ _
+          (scope_under _ _ _ _) answer.answers;
+      kept = answer.kept;
+    }
+
+pub alpha_eq_under-bounds-code-i : goal.alpha_eq_under-bounds-code-i
+alpha_eq_under-bounds-code-i t c = omega (arith, inside c.requires)
+
+pub alpha_eq_under-bounds-code-j : goal.alpha_eq_under-bounds-code-j
+alpha_eq_under-bounds-code-j t c = omega (arith, inside c.requires)
+
+pub alpha_eq_under-returns-then-head-code : goal.alpha_eq_under-returns-then-head-code
+alpha_eq_under-returns-then-head-code t c = record { answers = other_front _ _ _ _ _ _ _ c.if-head-code.true; kept = kept_all }
+
+pub alpha_eq_under-overflow_add-result : goal.alpha_eq_under-overflow_add-result
+alpha_eq_under-overflow_add-result t c = omega (arith, inside c.requires)
+
+pub alpha_eq_under-overflow_add-result-then-head-lt2 : goal.alpha_eq_under-overflow_add-result-then-head-lt2
+alpha_eq_under-overflow_add-result-then-head-lt2 t c = omega (arith, inside c.requires)
+
+pub alpha_eq_under-returns-then-head-lt2 : goal.alpha_eq_under-returns-then-head-lt2
+alpha_eq_under-returns-then-head-lt2 t c = record { answers = same_leaf _ _ _ _ _ _ _ c.if-head-code.false c.if-head-lt2.true; kept = kept_all }
