@@ -13,7 +13,7 @@ use Rattle.definitions.specs.declared.TermList.TheVariants.{Atoms, Datatypes}
 use Rattle.definitions.specs.Name.{Name, eq_name, compare_name}
 use Rattle.definitions.specs.Prop.{AtomUse}
 use Rattle.definitions.specs.Utf8.{utf8}
-use Rattle.definitions.specs.Text.{occurs, firsts_after, firsts, eq_atom_use, compare_atom_use, arranged, atom_declaration, following_lines, join_lines, atom_declarations, datatype_declarations}
+use Rattle.definitions.specs.Text.{occurs, firsts_after, firsts, eq_atom_use, compare_atom_use, arranged, following_lines, join_lines, atom_declarations, datatype_declarations}
 use Rattle.order_laws.proofs.Datatypes.{as_use, same_arranged}
 use Rattle.prop_lists.specs.Entries.{use_of, datatype_uses}
 use Rattle.declarations.specs.Memory.{use_over, uses_over, entry_at, entries_of}

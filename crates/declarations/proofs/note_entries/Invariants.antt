@@ -1,0 +1,16 @@
+-- The loop's invariant: what is left to note are the entries from `i` on.
+use Prim.Native.Nat.{◌-◌}
+use Rattle.prop_lists.specs.Row.{Row}
+use Rattle.prop_lists.specs.Entries.{entries_from}
+use Rattle.declarations.specs.Memory.{lent}
+use Rattle.declarations.proofs.Threads.{Left}
+use Rattle.declarations.proofs.note_entries.Given as goal
+
+abbrev pub invariant-loop-name : goal.invariant-loop-name
+invariant-loop-name l =
+    Row l.names l.code l.i l.end
+    × Left l.bytes l.v (entries_from l.names l.list l.code l.at l.end) (entries_from l.names l.list l.code l.i l.end) (lent l.initial.declared l.len l.initial.seen l.initial.chains)
+    (lent l.declared l.noted l.seen l.chains)
+
+abbrev pub decreases-loop-name : goal.decreases-loop-name
+decreases-loop-name l = l.end - l.i
