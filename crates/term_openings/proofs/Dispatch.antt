@@ -1,12 +1,10 @@
 -- By the first word the machine goes on behind it, or reads a closed term as the head of the term.
 use Prim.Native.Nat.{ℕ, ◌≤◌}
 use mathlib.Core.Path.{◌≡◌, refl, sym, ap, ◌∙◌}
-use mathlib.Core.List.{List, [], ◌∷◌, append-nil}
+use mathlib.Core.List.{List, append-nil}
 use mathlib.Core.Logic.{◌⊎◌, ⊎_elim}
 use native.Mathlib.Omega.{arith}
 use lib.ListN.{drop}
-use types.Run.{OneOf}
-use denote.Enum.Declared.{tag_of}
 use Rattle.definitions.specs.Name.{Name}
 use Rattle.definitions.specs.Term.{NamedFunction, fst, snd, inl, inr, abort}
 use Rattle.definitions.specs.TermReader.{fn_word, case_word, let_word, sorry_word, no_word, call_word, start_of}
@@ -17,7 +15,6 @@ use Rattle.words.specs.declared.Start.{Start}
 use Rattle.words.specs.declared.Start.TheVariants.{Function, Case, Let, Fst, Snd, Inl, Inr, Abort, Sorry, Other}
 use Rattle.words.specs.Places.{between, WordEnds}
 use Rattle.words.specs.Starts.{as_call, as_start}
-use Rattle.words.specs.contracts.Start.{the_type}
 use Rattle.term_stack.specs.declared.Progress.{Progress}
 use Rattle.term_stack.specs.Numbers.{purpose_kind, purpose_number, purpose_nesting, purpose_tally, purpose_records, stack_records}
 use Rattle.term_stack.specs.Standing.{Scene, Some, AtReading}
@@ -56,50 +53,30 @@ meant_back (call_word abort) = refl
 pub meant_is : {r : Start} (w : reader.Start) → r ≡ as_start w → w ≡ meant r
 meant_is w e = sym (ap meant e ∙ meant_back w)
 
--- the tags of several variants
-late : {x : ℕ} → OneOf (8 ∷ 9 ∷ []) x → 8 ≤ x
-late h = ⊎_elim (λ e. omega (arith, e)) (λ e. omega (arith, e)) h
-
-middle : {x : ℕ} → OneOf (3 ∷ 4 ∷ 5 ∷ 6 ∷ 7 ∷ []) x → (3 ≤ x) × (x ≤ 7)
-middle h =
-    ⊎_elim (λ e. (omega (arith, e), omega (arith, e)))
-    (λ i. ⊎_elim (λ e. (omega (arith, e), omega (arith, e)))
-    (λ j. ⊎_elim (λ e. (omega (arith, e), omega (arith, e)))
-    (λ k. ⊎_elim (λ e. (omega (arith, e), omega (arith, e))) (λ e. (omega (arith, e), omega (arith, e))) k) j) i) h
-
 -- the last two begin a closed term
-head_word : (types : List Name) (k : List Entry) (whole rest : List ℕ) (r : Start) → OneOf (8 ∷ 9 ∷ []) (tag_of the_type r)
+head_word : (types : List Name) (k : List Entry) (whole rest : List ℕ) (r : Start) → (r ≡ Sorry) ⊎ (r ≡ Other)
     → start types k (meant r) whole rest ≡ closed_for k as_head whole
 unfolding meant start
-head_word types k whole rest Sorry h = refl
-head_word types k whole rest Other h = refl
-head_word types k whole rest Function h = absurd (omega (arith, late h))
-head_word types k whole rest Case h = absurd (omega (arith, late h))
-head_word types k whole rest Let h = absurd (omega (arith, late h))
-head_word types k whole rest Fst h = absurd (omega (arith, late h))
-head_word types k whole rest Snd h = absurd (omega (arith, late h))
-head_word types k whole rest Inl h = absurd (omega (arith, late h))
-head_word types k whole rest Inr h = absurd (omega (arith, late h))
-head_word types k whole rest Abort h = absurd (omega (arith, late h))
+head_word types k whole rest r h = ⊎_elim (λ e. rw e refl) (λ e. rw e refl) h
 
 -- a start that calls a named function
 pub record Calls (r : Start) (f : NamedFunction) : Type 0 where
   pub means : meant r ≡ call_word f
   pub is : r ≡ as_call f
 
--- those in the middle do
-pub call_word_lem : (r : Start) → OneOf (3 ∷ 4 ∷ 5 ∷ 6 ∷ 7 ∷ []) (tag_of the_type r) → Some (Calls r)
+-- each does but for these five
+pub call_word_lem : (r : Start) → (r ≡ Function → ⊥) → (r ≡ Case → ⊥) → (r ≡ Let → ⊥) → (r ≡ Sorry → ⊥) → (r ≡ Other → ⊥) → Some (Calls r)
 unfolding meant as_call
-call_word_lem Fst h = record { value = fst; holds = record { means = refl; is = refl } }
-call_word_lem Snd h = record { value = snd; holds = record { means = refl; is = refl } }
-call_word_lem Inl h = record { value = inl; holds = record { means = refl; is = refl } }
-call_word_lem Inr h = record { value = inr; holds = record { means = refl; is = refl } }
-call_word_lem Abort h = record { value = abort; holds = record { means = refl; is = refl } }
-call_word_lem Function h = absurd (omega (arith, (middle h).0))
-call_word_lem Case h = absurd (omega (arith, (middle h).0))
-call_word_lem Let h = absurd (omega (arith, (middle h).0))
-call_word_lem Sorry h = absurd (omega (arith, (middle h).1))
-call_word_lem Other h = absurd (omega (arith, (middle h).1))
+call_word_lem Fst _ _ _ _ _ = record { value = fst; holds = record { means = refl; is = refl } }
+call_word_lem Snd _ _ _ _ _ = record { value = snd; holds = record { means = refl; is = refl } }
+call_word_lem Inl _ _ _ _ _ = record { value = inl; holds = record { means = refl; is = refl } }
+call_word_lem Inr _ _ _ _ _ = record { value = inr; holds = record { means = refl; is = refl } }
+call_word_lem Abort _ _ _ _ _ = record { value = abort; holds = record { means = refl; is = refl } }
+call_word_lem Function h _ _ _ _ = absurd (h refl)
+call_word_lem Case _ h _ _ _ = absurd (h refl)
+call_word_lem Let _ _ h _ _ = absurd (h refl)
+call_word_lem Sorry _ _ _ h _ = absurd (h refl)
+call_word_lem Other _ _ _ _ h = absurd (h refl)
 
 module _ {z : Scene} {work : List ℕ} {s : Progress} {end : ℕ} {r : Start} (at : AtReading z work s) (ends : WordEnds z.text s.at end)
     (is : r ≡ as_start (start_of (between s.at end z.text))) where
@@ -118,7 +95,7 @@ module _ {z : Scene} {work : List ℕ} {s : Progress} {end : ℕ} {r : Start} (a
     stored = at.before.stored;
   }
 
-  pub closed_head : OneOf (8 ∷ 9 ∷ []) (tag_of the_type r) → Closed z work s (record { kind = 0; value = 0; nest = 0; tally = 0 })
+  pub closed_head : (r ≡ Sorry) ⊎ (r ≡ Other) → Closed z work s (record { kind = 0; value = 0; nest = 0; tally = 0 })
   unfolding purpose_marks purpose_records purpose_kind purpose_number purpose_nesting purpose_tally
   closed_head h =
       let whole = drop s.at z.text in

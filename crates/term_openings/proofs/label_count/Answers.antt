@@ -6,8 +6,7 @@ use native.Mathlib.Omega.{arith}
 use Rattle.definitions.specs.Name.{Name}
 use Rattle.definitions.specs.Term.{Label, proposition, datatype, is_labelled}
 use Rattle.definitions.specs.TermMemory.{label_kind, parameter_label_kind}
-use Rattle.term_openings.proofs.label_count.Statement.{statement}
-use Rattle.term_openings.proofs.label_count.Tie as tie
+use Rattle.term_openings.proofs.label_count.Goals as goal
 
 no_label : {kind : ℕ} → kind ≡ 0 → (l : Option (Label Name)) → kind ≡ parameter_label_kind l → 0 ≡ is_labelled l
 unfolding parameter_label_kind label_kind is_labelled
@@ -20,11 +19,8 @@ unfolding parameter_label_kind is_labelled
 one_label h none e = absurd (h e)
 one_label h (some l) e = refl
 
-returns : tie.Need-returns
-returns c = no_label c.if1.true
+pub returns-then-kind-eq-NO_LABEL : goal.returns-then-kind-eq-NO_LABEL
+returns-then-kind-eq-NO_LABEL c = no_label c.if-kind-eq-NO_LABEL.true
 
-returns-2 : tie.Need-returns-2
-returns-2 c = one_label c.if1.false
-
-pub label-count-spec : {M : Type 1} → statement M
-label-count-spec = tie.close (tie.spec returns returns-2)
+pub returns : goal.returns
+returns c = one_label c.if-kind-eq-NO_LABEL.false

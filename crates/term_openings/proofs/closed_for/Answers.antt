@@ -1,0 +1,49 @@
+-- A name, sorry, or a bracket.
+use mathlib.Core.Path.{refl, sym, ◌∙◌}
+use Rattle.words.specs.Places.{between}
+use Rattle.term_openings.specs.Beginning.{with_text, with_names, TextBegins, TextEnds, NamesBegin, NamesEnd}
+use Rattle.term_openings.proofs.ClosedTerms.{turned_behind, is_sorry_lem, sorry_leaf, sorry_long, wordless}
+use Rattle.term_openings.proofs.closed_for.Goals as goal
+
+pub name_end-name-requires : goal.name_end-name-requires
+unfolding NamesBegin with_names
+name_end-name-requires c = c.requires.holds.for.placed.within
+
+pub word_end-end-requires : goal.word_end-end-requires
+unfolding NamesBegin with_names
+word_end-end-requires c = c.requires.holds.for.placed.within
+
+pub use_leaf-requires : goal.use_leaf-requires
+unfolding NamesBegin with_names between
+use_leaf-requires c =
+    let ends = c.word_end-end.ensures in
+    record {
+      value = _;
+      holds =
+          sorry_leaf c.requires.holds (c.name_end-name.ensures.ends.fails c.if-name-text.false)
+          (is_sorry_lem ends (sym c.same_name.ensures ∙ c.if-same_name.true)) ends;
+    }
+
+pub returns-then-same_name : goal.returns-then-same_name
+unfolding NamesEnd with_names between
+returns-then-same_name c z closed =
+    let ends = c.word_end-end.ensures in
+    let is = sym c.same_name.ensures ∙ c.if-same_name.true in
+    turned_behind _ _ (c.use_leaf.ensures _ (sorry_leaf closed (c.name_end-name.ensures.ends.fails c.if-name-text.false) (is_sorry_lem ends is) ends))
+    (sorry_long ends is) ends.within refl
+
+pub open_for-requires : goal.open_for-requires
+unfolding NamesBegin TextBegins with_names with_text between
+open_for-requires c =
+    let pre = c.requires in
+    let given = c.args in (
+      record { value = with_names pre.value given.text.now given.names.now; holds = pre.holds },
+      wordless c.word_end-end.ensures c.name_end-name.ensures c.if-name-text.false
+          (sym c.same_name.ensures ∙ c.if-same_name.false),
+    )
+
+pub returns : goal.returns
+unfolding NamesEnd TextEnds with_names with_text
+returns c z closed =
+    let given = c.args in
+    c.open_for.ensures (with_names z given.text.now given.names.now) closed

@@ -1,0 +1,98 @@
+-- The first word tells which of the turns before a term it is.
+use Prim.Native.Nat.{ℕ}
+use mathlib.Core.Path.{ap}
+use mathlib.Core.List.{List}
+use Rattle.definitions.specs.TermReader.{fn_word, case_word, let_word, call_word}
+use Rattle.words.specs.Places.{between}
+use Rattle.term_stack.specs.Standing.{Scene}
+use Rattle.term_stack.specs.Turning.{scene_of, TurnBegins, TurnEnds}
+use Rattle.term_openings.specs.Beginning.{with_text, with_names, TextBegins, TextEnds, NamesBegin, NamesEnd}
+use Rattle.term_openings.proofs.Dispatch.{meant, call_word_lem, started_by, closed_head, turned_from}
+use Rattle.term_openings.proofs.start.Goals as goal
+use Rattle.term_openings.proofs.start.Goals.{After-start_of-first}
+
+-- what the turn sees, with the code before the reading
+abbrev scene : After-start_of-first → List ℕ → Scene
+scene c before =
+    let given = c.args in
+    scene_of given.types.now given.text.now given.names.now before given.code.now
+
+pub word_end-end-requires : goal.word_end-end-requires
+unfolding TurnBegins scene_of
+word_end-end-requires c = c.requires.holds.before.placed.within
+
+pub start_function-requires : goal.start_function-requires
+unfolding TurnBegins scene_of between meant
+start_function-requires c =
+    let pre = c.requires in
+    record { value = pre.value; holds = started_by pre.holds c.word_end-end.ensures c.start_of-first.ensures fn_word (ap meant c.in-Function.is) }
+
+pub returns-in-Function : goal.returns-in-Function
+unfolding TurnEnds scene_of between meant
+returns-in-Function c before at =
+    let ends = c.word_end-end.ensures in
+    turned_from _ (c.start_function.ensures before (started_by at ends c.start_of-first.ensures fn_word (ap meant c.in-Function.is))) ends.from
+
+pub start_case-requires : goal.start_case-requires
+unfolding TurnBegins TextBegins scene_of with_text between meant
+start_case-requires c =
+    let pre = c.requires in
+    record { value = scene (goal.at.start_case-requires c).After-start_of-first pre.value; holds = started_by pre.holds c.word_end-end.ensures c.start_of-first.ensures case_word (ap meant c.in-Case.is) }
+
+pub returns-in-Case : goal.returns-in-Case
+unfolding TurnEnds TextEnds scene_of with_text between meant
+returns-in-Case c before at =
+    let ends = c.word_end-end.ensures in
+    turned_from _ (c.start_case.ensures (scene (goal.at.returns-in-Case c).After-start_of-first before) (started_by at ends c.start_of-first.ensures case_word (ap meant c.in-Case.is))) ends.from
+
+pub start_let-requires : goal.start_let-requires
+unfolding TurnBegins NamesBegin scene_of with_names between meant
+start_let-requires c =
+    let pre = c.requires in
+    record { value = scene (goal.at.start_let-requires c).After-start_of-first pre.value; holds = started_by pre.holds c.word_end-end.ensures c.start_of-first.ensures let_word (ap meant c.in-Let.is) }
+
+pub returns-in-Let : goal.returns-in-Let
+unfolding TurnEnds NamesEnd scene_of with_names between meant
+returns-in-Let c before at =
+    let ends = c.word_end-end.ensures in
+    turned_from _ (c.start_let.ensures (scene (goal.at.returns-in-Let c).After-start_of-first before) (started_by at ends c.start_of-first.ensures let_word (ap meant c.in-Let.is))) ends.from
+
+pub closed_for-requires : goal.closed_for-requires
+unfolding TurnBegins NamesBegin scene_of with_names between
+closed_for-requires c =
+    let pre = c.requires in
+    record { value = scene (goal.at.closed_for-requires c).After-start_of-first pre.value; holds = closed_head pre.holds c.word_end-end.ensures c.start_of-first.ensures c.in-Sorry.is }
+
+pub returns-in-Sorry : goal.returns-in-Sorry
+unfolding TurnEnds NamesEnd scene_of with_names between
+returns-in-Sorry c before at =
+    c.closed_for.ensures (scene (goal.at.returns-in-Sorry c).After-start_of-first before) (closed_head at c.word_end-end.ensures c.start_of-first.ensures c.in-Sorry.is)
+
+pub call-requires : goal.call-requires
+unfolding TurnBegins NamesBegin scene_of with_names between
+call-requires c =
+    let pre = c.requires in
+    let other = c.in_default in
+    let calls = call_word_lem _ other.not-Function other.not-Case other.not-Let other.not-Sorry other.not-Other in
+    record {
+      value = scene (goal.at.call-requires c).After-start_of-first pre.value;
+      holds = record {
+        function = calls.value;
+        kind_is = c.called.ensures calls.value calls.holds.is;
+        started = started_by pre.holds c.word_end-end.ensures c.start_of-first.ensures (call_word calls.value) calls.holds.means;
+      };
+    }
+
+pub returns-in_default : goal.returns-in_default
+unfolding TurnEnds NamesEnd scene_of with_names between
+returns-in_default c before at =
+    let ends = c.word_end-end.ensures in
+    let other = c.in_default in
+    let calls = call_word_lem _ other.not-Function other.not-Case other.not-Let other.not-Sorry other.not-Other in
+    turned_from _
+    (c.call.ensures (scene (goal.at.returns-in_default c).After-start_of-first before) (record {
+      function = calls.value;
+      kind_is = c.called.ensures calls.value calls.holds.is;
+      started = started_by at ends c.start_of-first.ensures (call_word calls.value) calls.holds.means;
+    }))
+    ends.from
