@@ -10,7 +10,7 @@ use Rattle.definitions.specs.declared.Style.TheVariants.{Strict}
 use Rattle.definitions.specs.Utf8.{utf8}
 use Rattle.definitions.specs.Display.{function_of, wraps}
 use Rattle.definitions.specs.TermReader.{same, expect, argument_follows}
-use Rattle.reading_laws.specs.TermMachine.{as_argument, holding, giving, and_then, if_due, closed_for, chain}
+use Rattle.reading_laws.specs.TermMachine.{as_argument, holding, and_then, if_due, closed_for, chain}
 use Rattle.reading_laws.specs.Marks.{purpose_marks}
 use Rattle.words.specs.Places.{Expected}
 use Rattle.term_stack.specs.declared.Progress.{Progress}

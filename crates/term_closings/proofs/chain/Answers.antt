@@ -1,0 +1,37 @@
+-- An argument, or else a label, or else nothing more.
+use mathlib.Core.Path.{sym, ◌∙◌}
+use mathlib.Core.List.{[]}
+use native.Mathlib.Omega.{arith}
+use Rattle.term_stack.specs.Turning.{scene_of, left_at, TurnBegins, TurnEnds}
+use Rattle.term_openings.specs.Beginning.{with_names, NamesBegin, NamesEnd}
+use Rattle.term_openings.proofs.ClosedTerms.{turned_within}
+use Rattle.term_closings.proofs.Chained.{whole_term}
+use Rattle.term_closings.proofs.chain.Goals as goal
+
+pub argument_follows-requires : goal.argument_follows-requires
+unfolding TurnBegins scene_of
+argument_follows-requires c = c.requires.holds.behind.placed.within
+
+pub argument-requires : goal.argument-requires
+unfolding TurnBegins NamesBegin scene_of with_names
+argument-requires c =
+    let pre = c.requires in
+    (record { value = scene_of _ [] [] pre.value _; holds = pre.holds }, sym c.argument_follows.ensures ∙ c.if-argument_follows.true)
+
+pub returns-then-argument_follows : goal.returns-then-argument_follows
+unfolding TurnEnds NamesEnd scene_of with_names left_at
+returns-then-argument_follows c before held = turned_within (c.argument.ensures (scene_of _ [] [] before _) held) (omega arith)
+
+pub expect-label-requires : goal.expect-label-requires
+unfolding TurnBegins scene_of
+expect-label-requires c = c.requires.holds.behind.placed.within
+
+pub ascribe-requires : goal.ascribe-requires
+unfolding TurnBegins scene_of
+ascribe-requires c =
+    (c.requires, sym c.argument_follows.ensures ∙ c.if-argument_follows.false, c.expect-label.ensures, c.if-label-text.true)
+
+pub returns : goal.returns
+unfolding TurnEnds scene_of
+returns c before held =
+    whole_term held (sym c.argument_follows.ensures ∙ c.if-argument_follows.false) c.expect-label.ensures c.if-label-text.false
