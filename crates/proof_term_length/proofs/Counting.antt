@@ -9,10 +9,10 @@ use lib.ListN.{length, get_or, take, drop, length-append, length-take, get_or-eq
 use lib.Dec.{eqb}
 use Rattle.definitions.specs.declared.Style.{Style}
 use Rattle.definitions.specs.Sheet.{pair_size, number_at, pair_offset, pair_length, marked}
-use Rattle.definitions.specs.Term.{rename_term, rename_label, rename_parameter_label}
-use Rattle.definitions.specs.Display.{wrap, form, display_label, display_parameter_label, display_term}
+use Rattle.definitions.specs.Term.{rename_term, rename_parameter_label}
+use Rattle.definitions.specs.Display.{wrap, display_parameter_label, display_term}
 use Rattle.prefix_code.proofs.Positions.{largest, entry_below}
-use Rattle.proof_term.specs.Records.{field_at, label_of, parameter_label, term_at, part_at}
+use Rattle.proof_term.specs.Records.{field_at, label_of, parameter_label, part_at}
 use Rattle.proof_term.specs.Labels.{has_label}
 use Rattle.vocabulary.specs.declared.Vocabulary.{Vocabulary}
 use Rattle.vocabulary.specs.Vocabulary.{pairs_in, text_in, name_in, prop_in}

@@ -1,0 +1,13 @@
+-- The loop's invariant: the records below m are measured, and the table of texts has only lengths of texts.
+use Prim.Native.Nat.{◌+◌, ◌-◌, ◌≤◌}
+use mathlib.Core.Path.{◌≡◌}
+use lib.ListN.{length}
+use Rattle.proof_term_length.specs.Measure.{MeasuredBelow, Known}
+use Rattle.proof_term_length.proofs.term_length.Given as goal
+
+abbrev pub invariant-loop-m : goal.invariant-loop-m
+invariant-loop-m l =
+    (l.m ≤ l.n + 1) × (length l.lengths ≡ 2048) × MeasuredBelow l.bytes l.v l.records l.style l.cap l.lengths l.m × Known l.bytes l.v l.known
+
+abbrev pub decreases-loop-m : goal.decreases-loop-m
+decreases-loop-m l = l.n + 1 - l.m
