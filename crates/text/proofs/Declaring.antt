@@ -11,14 +11,13 @@ use Rattle.definitions.specs.declared.TermList.{TermList}
 use Rattle.definitions.specs.declared.TermList.TheVariants.{Atoms, Datatypes}
 use Rattle.definitions.specs.Name.{Name}
 use Rattle.definitions.specs.Prop.{Prop, AtomUse, get_atoms, get_datatypes, rename_prop}
-use Rattle.definitions.specs.Sheet.{name_limit, names, goal, proposition_pairs, code_bytes, name_of, pair_offset}
+use Rattle.definitions.specs.Sheet.{name_limit, goal, proposition_pairs, name_of, pair_offset}
 use Rattle.definitions.specs.Term.{ProofTerm, atom_list, datatype_list, rename_term}
 use Rattle.definitions.specs.Text.{firsts, firsts_after, eq_atom_use, compare_atom_use, arranged}
 use Rattle.definitions.specs.NameIndex.{slot_count}
 use Rattle.definitions.specs.Answers.{goal_prop}
 use Rattle.definitions.proofs.PrefixCode.{Bytes}
 use Rattle.order_laws.proofs.Datatypes.{as_use}
-use Rattle.prefix_code.specs.PropAt.{prop_at}
 use Rattle.vocabulary.specs.declared.Vocabulary.{Vocabulary}
 use Rattle.vocabulary.specs.Vocabulary.{name_in, prop_in, SomeProposition}
 use Rattle.prop_lists.specs.Entries.{use_of, entries}

@@ -5,7 +5,7 @@ use mathlib.Core.List.{List}
 use native.Mathlib.Omega.{arith}
 use lib.ListN.{length}
 use Rattle.definitions.specs.declared.Style.{Style}
-use Rattle.definitions.specs.Sheet.{names, propositions, name_pairs, proposition_pairs, code_bytes, code_limit, step_limit, pair_offset, name_of, marked}
+use Rattle.definitions.specs.Sheet.{names, name_pairs, proposition_pairs, code_bytes, code_limit, step_limit, pair_offset, name_of, marked}
 use Rattle.definitions.specs.Name.{Name}
 use Rattle.definitions.specs.Prop.{Prop}
 use Rattle.definitions.specs.Term.{rename_term}
