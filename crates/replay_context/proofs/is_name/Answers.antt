@@ -1,0 +1,23 @@
+-- Both tests hold of a number where the answer is yes.
+use Rattle.std.proofs.Common.{◌+◌, ◌*◌, arith}
+use Rattle.definitions.specs.Sheet.{pair_size, number_at, pair_offset, pair_length, pair_end}
+use Rattle.replay_context.proofs.is_name.Goals as goal
+
+pub pair_offset-offset-requires : goal.pair_offset-offset-requires
+unfolding pair_size
+pair_offset-offset-requires c = omega arith
+
+pub pair_length-length-requires : goal.pair_length-length-requires
+unfolding pair_size
+pair_length-length-requires c = omega arith
+
+pub overflow_add-offset : goal.overflow_add-offset
+unfolding pair_offset pair_length number_at
+overflow_add-offset c =
+    let byte = c.type_inv.pairs in
+    let at = pair_size * c.args.name in
+    omega (arith, byte at, byte (at + 1), byte (at + 2), byte (at + 2 + 1))
+
+pub returns : goal.returns
+unfolding pair_end pair_size
+returns c = λ _. record { present = omega arith; ends = omega arith }
