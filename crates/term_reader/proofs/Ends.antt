@@ -14,7 +14,7 @@ use Rattle.definitions.specs.TermText.{nodes, term_names, node_limit, term_nesti
 use Rattle.definitions.specs.TermReader.{Shown, read_answer}
 use Rattle.definitions.specs.TermMemory.{different_names, place, store_labels}
 use Rattle.reading_laws.specs.TermMachine.{Entry, giving}
-use Rattle.reading_laws.specs.Marks.{marks, entries_marks, met}
+use Rattle.reading_laws.specs.Marks.{entries_marks, met}
 use Rattle.reading_laws.proofs.Entries.{entries, hand_nesting}
 use Rattle.reading_laws.proofs.OnTheWay as way
 use Rattle.reading_laws.proofs.OnTheWay.{Fits, nodes_met_lem, names_met_lem, rest_refused, own_refused, last_accepted}

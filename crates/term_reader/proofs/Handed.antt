@@ -1,5 +1,5 @@
 -- What is answered: 20, and after it 16, with all memory as it was; or the term, whose numbers and bytes stand in the lent memory.
-use Prim.Native.Nat.{ℕ, ◌+◌, ◌*◌, ◌-◌, ◌≤◌, ◌<◌}
+use Prim.Native.Nat.{ℕ, ◌+◌, ◌*◌, ◌≤◌, ◌<◌}
 use mathlib.Core.Path.{◌≡◌, refl, ap, ◌∙◌}
 use mathlib.Core.Bool.{Bool, true, false, ◌||◌, true≢false, and-false}
 use mathlib.Core.List.{List, [], ◌++◌}
@@ -18,7 +18,7 @@ use Rattle.definitions.specs.CallerNames.{names_in}
 use Rattle.definitions.specs.Display.{display_term}
 use Rattle.definitions.specs.TermText.{nodes, term_text_limit, all_admitted, without_ids}
 use Rattle.definitions.specs.TermReader.{read_answer}
-use Rattle.definitions.specs.TermMemory.{different_names, place, record_numbers, TermRoom, too_short, term_answer}
+use Rattle.definitions.specs.TermMemory.{different_names, record_numbers, TermRoom, too_short, term_answer}
 use Rattle.reading_laws.specs.Restoring.{Restores}
 use Rattle.reading_laws.proofs.Restored.{restored}
 use Rattle.words.proofs.Numbers.{end_kept, marked_kept}
@@ -159,7 +159,7 @@ pub fitting : {t : ProofTerm Name} (list text pairs records names code : List �
     → all_admitted (names_in list) ≡ true → Read t (scene_of list text pairs [] []) work s
     → short_for (length records) (length names) (length code) s ≡ false → Fitting t list text pairs work records names code s
 unfolding scene_of
-fitting list text pairs records names code short listed read enough = record {
+fitting list text _ records names code short listed read enough = record {
   measured = record {
     begins = record { short = short; listed = listed; pairs = read.whole.table.room; room = read.whole.room };
     whole = read.whole;

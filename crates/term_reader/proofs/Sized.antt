@@ -1,7 +1,5 @@
 -- How large the term of a text is, by what was counted; and that there is none.
-use Prim.Native.Nat.{ℕ}
-use mathlib.Core.Path.{◌≡◌, refl, sym, ap, ◌∙◌}
-use mathlib.Core.List.{List}
+use mathlib.Core.Path.{◌≡◌}
 use Rattle.definitions.specs.Outcome.{Outcome, accepted, refuse}
 use Rattle.definitions.specs.Name.{Name}
 use Rattle.definitions.specs.Term.{ProofTerm}

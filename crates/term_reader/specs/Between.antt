@@ -1,5 +1,5 @@
 -- Between two turns: the machine is where the mode says, and something is left to read or to close.
-use Rattle.std.specs.Prelude.{ℕ, ◌+◌, ◌*◌, ◌<◌, ◌≤◌, ◌≡◌, Bool, true, ◌||◌, ◌&&◌, cond, List, length, eqb, ltb}
+use Rattle.std.specs.Prelude.{ℕ, ◌+◌, ◌<◌, ◌≤◌, ◌≡◌, Bool, true, ◌||◌, ◌&&◌, cond, List, length, eqb, ltb}
 use Rattle.definitions.specs.CallerNames.{names_in}
 use Rattle.definitions.specs.TermText.{term_text_limit, all_admitted}
 use Rattle.reading_laws.specs.TermMachine.{holding, giving}
