@@ -7,15 +7,11 @@ use Rattle.definitions.specs.Restate.{restate_answer}
 use Rattle.output.specs.Written.{written_of}
 use Rattle.restating.specs.Step.{given_of}
 use Rattle.made_length.proofs.Enough.{restated_whole}
-use Rattle.made_length.proofs.restate_length.Statement.{statement}
-use Rattle.made_length.proofs.restate_length.Tie as tie
+use Rattle.made_length.proofs.restate_length.Goals as goal
 
-returns : tie.Need-returns
+pub returns : goal.returns
 returns c =
-    let s = c.before.before.before.before.before.args in
+    let s = c.args in
     let sheet = s.s.now in
     let in_room = ap (restate_answer sheet (given_of s.given)) (length-replicate {A = ℕ} 40972 0) in
-    c.before.restate.ensures.0.answer ∙ ap written_of (in_room ∙ restated_whole sheet (given_of s.given))
-
-pub restate-length-spec : {M : Type 1} → statement M
-restate-length-spec = tie.close (tie.spec (λ c. search rules) (λ c κs. search rules) returns)
+    c.restate.ensures.fills.answer ∙ ap written_of (in_room ∙ restated_whole sheet (given_of s.given))

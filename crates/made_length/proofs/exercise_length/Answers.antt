@@ -7,15 +7,11 @@ use Rattle.definitions.specs.Exercises.{exercise_answer}
 use Rattle.output.specs.Written.{written_of}
 use Rattle.made_length.proofs.Rooms.{exercise_in_room}
 use Rattle.made_length.proofs.Enough.{exercise_whole}
-use Rattle.made_length.proofs.exercise_length.Statement.{statement}
-use Rattle.made_length.proofs.exercise_length.Tie as tie
+use Rattle.made_length.proofs.exercise_length.Goals as goal
 
-returns : tie.Need-returns
+pub returns : goal.returns
 returns c =
-    let s = c.before.before.before.before.args in
+    let s = c.args in
     let names = s.names.now in
     let in_room = ap (exercise_answer names s.n s.ordinal) (length-replicate {A = ℕ} 19 0) ∙ exercise_in_room names s.n s.ordinal 19 in
-    c.before.exercise.ensures.answer ∙ ap written_of (in_room ∙ exercise_whole names s.n s.ordinal)
-
-pub exercise-length-spec : {M : Type 1} → statement M
-exercise-length-spec = tie.close (tie.spec (λ c. search rules) (λ c κs. search rules) returns)
+    c.exercise.ensures.answer ∙ ap written_of (in_room ∙ exercise_whole names s.n s.ordinal)

@@ -1,0 +1,48 @@
+-- The propositions stand over the numbers, the term and the hypotheses are over them, and the checker is asked.
+use mathlib.Core.Path.{◌≡◌, refl, ap, ◌∙◌}
+use native.Mathlib.Omega.{arith}
+use borrow.Author.Rules.{rules}
+use Rattle.definitions.specs.Sheet.{pair_size, pair_offset, proposition_pairs}
+use Rattle.definitions.proofs.PrefixCode.{Bytes}
+use Rattle.sheet.proofs.Admitted.{its_header, has_codes}
+use Rattle.judgement.proofs.Standing.{stood_at}
+use Rattle.judgement.proofs.Asking.{enterable, in_scope, judgeable, rules_say}
+use Rattle.judgement.proofs.decide.Goals as goal
+use Rattle.judgement.proofs.decide.Goals.{After-pair_offset-at, After-proposition_pairs-pairs}
+
+bytes : (c : After-proposition_pairs-pairs) → Bytes c.args.s.now
+bytes c = λ i. omega (arith, c.type_inv.s i)
+
+pub assume-requires : goal.assume-requires
+assume-requires c =
+    let record { accepted_sheet = (sheet, _, numbers); known = known } = c.requires in
+    enterable sheet (bytes (goal.at.assume-requires c).After-proposition_pairs-pairs) numbers _ known.hypotheses c.stand.ensures c.proposition_pairs-pairs.ensures (search rules)
+
+pub pair_offset-at-requires : goal.pair_offset-at-requires
+unfolding pair_size
+pair_offset-at-requires c =
+    let record { accepted_sheet = (sheet, _, _); known = known } = c.requires in
+    rw c.proposition_pairs-pairs.ensures (omega (arith, known.proposition, (has_codes sheet.sheet).pairs_within.present))
+
+-- where the proposition stands
+found : (c : After-pair_offset-at) → let given = c.args in
+    c.pair_offset-at.result ≡ pair_offset (proposition_pairs given.s.now) given.k
+found c =
+    c.pair_offset-at.ensures ∙ ap (λ pairs. pair_offset pairs c.args.k) c.proposition_pairs-pairs.ensures
+
+pub check-requires : goal.check-requires
+check-requires c =
+    let record { accepted_sheet = (sheet, term, numbers); known = known } = c.requires in
+    let names = in_scope sheet (bytes (goal.at.check-requires c).After-proposition_pairs-pairs) numbers _ known.hypotheses c.stand.ensures c.proposition_pairs-pairs.ensures refl c.assume.ensures in (
+      judgeable sheet (bytes (goal.at.check-requires c).After-proposition_pairs-pairs) numbers c.stand.ensures term c.renumber_records.ensures c.fill_sizes.ensures (search rules) names.entries (search rules),
+      stood_at sheet (bytes (goal.at.check-requires c).After-proposition_pairs-pairs) numbers c.stand.ensures known.proposition (found (goal.at.check-requires c).After-pair_offset-at),
+    )
+
+pub returns : goal.returns
+returns c =
+    let record { accepted_sheet = (sheet, term, numbers); known = known } = c.requires in
+    rules_say sheet (bytes (goal.at.returns c).After-proposition_pairs-pairs) numbers c.stand.ensures term c.renumber_records.ensures c.fill_sizes.ensures known.proposition (found (goal.at.returns c).After-pair_offset-at)
+    (in_scope sheet (bytes (goal.at.returns c).After-proposition_pairs-pairs) numbers _ known.hypotheses c.stand.ensures c.proposition_pairs-pairs.ensures refl c.assume.ensures) c.check.ensures
+
+pub proposition_pairs-pairs-requires : goal.proposition_pairs-pairs-requires
+proposition_pairs-pairs-requires c = its_header c.requires.accepted_sheet.0
