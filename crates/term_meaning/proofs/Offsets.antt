@@ -22,7 +22,7 @@ module _ {p : Prop Name} {at : ℕ} where
   begins_back {to} [] h = let here : to + 0 ≡ to = omega arith in rw here at h
   begins_back {to} (l ∷ a) h =
       let sum : to + (label_size l + labels_size a) ≡ to + label_size l + labels_size a = omega arith in
-      later (begins_back a (rw sum at h))
+      later (begins_back {to = to + label_size l} a (rw sum at h))
 
 pub begins_in : {p : Prop Name} {at to : ℕ} {ls : List (Label Name)} → BeginsAt p at to ls → In (proposition p) ls
 begins_in first = here refl

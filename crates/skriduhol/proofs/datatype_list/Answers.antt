@@ -1,0 +1,6 @@
+-- The datatype list of version 1.
+use borrow.Author.Rules.{rules}
+use Rattle.skriduhol.proofs.datatype_list.Goals as goal
+
+pub returns : goal.returns
+returns c = c.handout_datatypes.ensures

@@ -1,0 +1,51 @@
+-- A header that passes 1 to 3 says where the names lie; a refusal is located.
+use mathlib.Core.Path.{◌≡◌, sym, ◌∙◌}
+use native.Mathlib.Omega.{arith}
+use borrow.Author.Rules.{rules}
+use Rattle.definitions.specs.Outcome.{refused, accepted}
+use Rattle.definitions.specs.Admission.{header_checks}
+use Rattle.definitions.specs.NameIndex.{slot_count}
+use Rattle.sheet.specs.Header.{HasHeader}
+use Rattle.sheet.proofs.Stages.{stage_accepted, stage_refuses}
+use Rattle.sheet.proofs.Order.{header_given}
+use Rattle.sheet.proofs.NamesAndCode.{within}
+use Rattle.located.proofs.AfterHeader.{header_after_header}
+use Rattle.skriduhol.proofs.Names.{own_too, search_refused, search_found, search_missed}
+use Rattle.skriduhol.proofs.find_name.Goals as goal
+use Rattle.skriduhol.proofs.find_name.Goals.{In-Accepted, In-Refused}
+
+is_refused : (c : In-Refused) → header_checks c.args.s.now ≡ refused c.in-Refused.refusal
+is_refused c = stage_refuses _ _ c.check_header-checked.ensures c.in-Refused.is
+
+has_passed : (c : In-Accepted) → header_checks c.args.s.now ≡ accepted tt
+has_passed c = (stage_accepted _ _ c.check_header-checked.ensures c.in-Accepted.is).2
+
+has_header : (c : In-Accepted) → HasHeader c.args.s.now c.in-Accepted.h
+has_header c = header_given _ (stage_accepted _ _ c.check_header-checked.ensures c.in-Accepted.is).0 (has_passed c)
+
+pub locate-requires : goal.locate-requires
+locate-requires c = header_after_header _ (is_refused c)
+
+pub vocabulary-requires : goal.vocabulary-requires
+vocabulary-requires c = (has_header (goal.at.vocabulary-requires c).In-Accepted).in_range
+
+pub find-requires : goal.find-requires
+unfolding slot_count
+find-requires c = rw c.vocabulary.ensures (omega arith, within (has_header (goal.at.find-requires c).In-Accepted))
+
+pub returns-in-Refused : goal.returns-in-Refused
+returns-in-Refused c =
+    let p = own_too _ _ _ (search_refused _ _ _ (is_refused (goal.at.returns-in-Refused c).In-Refused) c.locate.ensures) in
+    record { value = p.0; value_2 = p.1 }
+pub returns-in-At : goal.returns-in-At
+returns-in-At c =
+    let p = own_too _ _ _
+    (search_found _ _ _ (has_header (goal.at.returns-in-At c).In-Accepted) (has_passed (goal.at.returns-in-At c).In-Accepted)
+    (sym c.in-At.is ∙ (rw c.vocabulary.ensures at c.find.ensures))) in
+    record { value = p.0; value_2 = p.1 }
+pub returns-in-Nowhere : goal.returns-in-Nowhere
+returns-in-Nowhere c =
+    let p = own_too _ _ _
+    (search_missed _ _ _ (has_header (goal.at.returns-in-Nowhere c).In-Accepted) (has_passed (goal.at.returns-in-Nowhere c).In-Accepted)
+    (sym c.in-Nowhere.is ∙ (rw c.vocabulary.ensures at c.find.ensures))) in
+    record { value = p.0; value_2 = p.1 }

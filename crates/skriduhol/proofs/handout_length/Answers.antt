@@ -1,0 +1,24 @@
+-- The length of the text of the version that is asked for, or 21.
+use borrow.Author.Rules.{rules}
+use Rattle.definitions.specs.Answers.{text_answer}
+use Rattle.skriduhol.specs.Lengths.{whole_text}
+use Rattle.skriduhol.proofs.Handouts.{locatable}
+use Rattle.skriduhol.proofs.Lengths.{measured, unmeasured, text_locatable}
+use Rattle.skriduhol.proofs.handout_length.Goals as goal
+
+pub returns-in-Refused : goal.returns-in-Refused
+unfolding text_answer whole_text
+returns-in-Refused c =
+    unmeasured _ c.asked_version-asked.ensures _ _ c.in-Refused.is c.locate.ensures
+
+pub returns-in-Of : goal.returns-in-Of
+unfolding text_answer whole_text
+returns-in-Of c =
+    measured _ c.asked_version-asked.ensures _ _ c.in-Of.is
+    c.sheet_text_length-written.ensures c.locate_written.ensures
+
+pub locate-requires : goal.locate-requires
+locate-requires c = locatable _ c.asked_version-asked.ensures _ c.in-Refused.is
+
+pub locate_written-requires : goal.locate_written-requires
+locate_written-requires c = λ r e. text_locatable _ _ _ c.sheet_text_length-written.ensures e
