@@ -16,10 +16,10 @@ pub append_name-appended-requires : goal.append_name-appended-requires
 append_name-appended-requires c =
     let record { accepted_sheet = (host, donor); numbered = numbered; room = _ } = c.requires in
     record {
-          accepted_sheet = (host, donor);
-          n_bound = (omega (arith, name_count donor, c.loop-n-test.true), numbered);
-          appends = c.loop-n.invariant.so;
-        }
+      accepted_sheet = (host, donor);
+      n_bound = (omega (arith, name_count donor, c.loop-n-test.true), numbered);
+      appends = c.loop-n.invariant.so;
+    }
 
 pub loop-n-smaller : goal.loop-n-smaller
 loop-n-smaller c =

@@ -16,10 +16,10 @@ pub append_proposition-appended-requires : goal.append_proposition-appended-requ
 append_proposition-appended-requires c =
     let record { accepted_sheet = (donor, offset); numbers = numbers; room = _ } = c.requires in
     record {
-          accepted_sheet = (donor, omega (arith, proposition_count donor, c.loop-i-test.true), offset);
-          numbers = numbers;
-          appends = c.loop-i.invariant.so;
-        }
+      accepted_sheet = (donor, omega (arith, proposition_count donor, c.loop-i-test.true), offset);
+      numbers = numbers;
+      appends = c.loop-i.invariant.so;
+    }
 
 pub loop-i-smaller : goal.loop-i-smaller
 loop-i-smaller c =

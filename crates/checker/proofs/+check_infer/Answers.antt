@@ -34,9 +34,9 @@ pub check-body_side-side-requires : goal.check-body_side-side-requires
 check-body_side-side-requires t c =
     let j = ready t (goal.at.check-body_side-side-requires t c).After-field-first in
     record {
-          m_in_bounds = (j.held, (j.well c.args.m (omega arith)).label);
-          m_value = (sym (kind t (goal.at.check-body_side-side-requires t c).After-field-first) ∙ c.in-4.is, stood t (goal.at.check-body_side-side-requires t c).After-field-first, j.ends.space, node_low j);
-        }
+      m_in_bounds = (j.held, (j.well c.args.m (omega arith)).label);
+      m_value = (sym (kind t (goal.at.check-body_side-side-requires t c).After-field-first) ∙ c.in-4.is, stood t (goal.at.check-body_side-side-requires t c).After-field-first, j.ends.space, node_low j);
+    }
 
 pub check-returns-then-side-ge-STOPS : goal.check-returns-then-side-ge-STOPS
 check-returns-then-side-ge-STOPS t c =
@@ -218,9 +218,9 @@ check-check-requires-in-10 t c =
 pub check-agree-requires : goal.check-agree-requires
 check-agree-requires t c =
     record {
-          code_len_bound = ((ready t (goal.at.check-agree-requires t c).After-field-first).ends.space, c.infer-r.ensures.kept.long ∙ (ready t (goal.at.check-agree-requires t c).After-field-first).slots, node_low (ready t (goal.at.check-agree-requires t c).After-field-first));
-          known = (arms.fall_known (ready t (goal.at.check-agree-requires t c).After-field-first) (stood t (goal.at.check-agree-requires t c).After-field-first) (kind t (goal.at.check-agree-requires t c).After-field-first) (first t (goal.at.check-agree-requires t c).After-field-first) c.infer-r.ensures, known_stood (stood t (goal.at.check-agree-requires t c).After-field-first));
-        }
+      code_len_bound = ((ready t (goal.at.check-agree-requires t c).After-field-first).ends.space, c.infer-r.ensures.kept.long ∙ (ready t (goal.at.check-agree-requires t c).After-field-first).slots, node_low (ready t (goal.at.check-agree-requires t c).After-field-first));
+      known = (arms.fall_known (ready t (goal.at.check-agree-requires t c).After-field-first) (stood t (goal.at.check-agree-requires t c).After-field-first) (kind t (goal.at.check-agree-requires t c).After-field-first) (first t (goal.at.check-agree-requires t c).After-field-first) c.infer-r.ensures, known_stood (stood t (goal.at.check-agree-requires t c).After-field-first));
+    }
 
 pub check-returns-in_default : goal.check-returns-in_default
 check-returns-in_default t c =
@@ -497,12 +497,11 @@ infer-infer-q-requires-in-9 t c =
     (omega (arith, c.decreases, call.less), call.ready)
 
 pub infer-unbind-requires-in-9 : goal.infer-unbind-requires-in-9
-infer-unbind-requires-in-9 t c =
-    (
-      cases.left_name (asked t (goal.at.infer-unbind-requires-in-9 t c).After-field-first) (form t (goal.at.infer-unbind-requires-in-9 t c).After-field-first) (part t (goal.at.infer-unbind-requires-in-9 t c).After-field-first) c.in-9.is,
-      cases.left_long (asked t (goal.at.infer-unbind-requires-in-9 t c).After-field-first) (form t (goal.at.infer-unbind-requires-in-9 t c).After-field-first) (part t (goal.at.infer-unbind-requires-in-9 t c).After-field-first) c.in-9.is c.infer-inferred-in-9.ensures c.expect-h.ensures c.if-h-ge-STOPS.false
-          c.field-second-in-9.ensures.0 (c.after-next-in-9.ensures (props t (goal.at.infer-unbind-requires-in-9 t c).After-field-first)) c.bind-hidden-in-9.ensures c.infer-q-in-9.ensures.same,
-    )
+infer-unbind-requires-in-9 t c = (
+  cases.left_name (asked t (goal.at.infer-unbind-requires-in-9 t c).After-field-first) (form t (goal.at.infer-unbind-requires-in-9 t c).After-field-first) (part t (goal.at.infer-unbind-requires-in-9 t c).After-field-first) c.in-9.is,
+  cases.left_long (asked t (goal.at.infer-unbind-requires-in-9 t c).After-field-first) (form t (goal.at.infer-unbind-requires-in-9 t c).After-field-first) (part t (goal.at.infer-unbind-requires-in-9 t c).After-field-first) c.in-9.is c.infer-inferred-in-9.ensures c.expect-h.ensures c.if-h-ge-STOPS.false
+      c.field-second-in-9.ensures.0 (c.after-next-in-9.ensures (props t (goal.at.infer-unbind-requires-in-9 t c).After-field-first)) c.bind-hidden-in-9.ensures c.infer-q-in-9.ensures.same,
+)
 
 pub infer-returns-then-q-ge-STOPS : goal.infer-returns-then-q-ge-STOPS
 infer-returns-then-q-ge-STOPS t c =
@@ -533,19 +532,18 @@ infer-infer-r-requires-in-9 t c =
     (omega (arith, c.decreases, call.less), call.ready)
 
 pub infer-unbind-requires-in-9-2 : goal.infer-unbind-requires-in-9-2
-infer-unbind-requires-in-9-2 t c =
-    (
-      cases.right_name (asked t (goal.at.infer-unbind-requires-in-9-2 t c).After-field-first) (form t (goal.at.infer-unbind-requires-in-9-2 t c).After-field-first) (part t (goal.at.infer-unbind-requires-in-9-2 t c).After-field-first) c.in-9.is,
-      cases.right_long (asked t (goal.at.infer-unbind-requires-in-9-2 t c).After-field-first) (form t (goal.at.infer-unbind-requires-in-9-2 t c).After-field-first) (part t (goal.at.infer-unbind-requires-in-9-2 t c).After-field-first) c.in-9.is c.infer-inferred-in-9.ensures c.expect-h.ensures c.if-h-ge-STOPS.false
-          c.field-second-in-9.ensures.0 (c.after-next-in-9.ensures (props t (goal.at.infer-unbind-requires-in-9-2 t c).After-field-first)) c.bind-hidden-in-9.ensures c.infer-q-in-9.ensures.same c.infer-q-in-9.ensures.kept c.unbind-in-9.ensures
-          c.field-third.ensures.0 (c.after-last.ensures (props t (goal.at.infer-unbind-requires-in-9-2 t c).After-field-first)) c.scan-side.ensures c.bind-hidden-in-9-2.ensures c.infer-r-in-9.ensures.same,
-    )
+infer-unbind-requires-in-9-2 t c = (
+  cases.right_name (asked t (goal.at.infer-unbind-requires-in-9-2 t c).After-field-first) (form t (goal.at.infer-unbind-requires-in-9-2 t c).After-field-first) (part t (goal.at.infer-unbind-requires-in-9-2 t c).After-field-first) c.in-9.is,
+  cases.right_long (asked t (goal.at.infer-unbind-requires-in-9-2 t c).After-field-first) (form t (goal.at.infer-unbind-requires-in-9-2 t c).After-field-first) (part t (goal.at.infer-unbind-requires-in-9-2 t c).After-field-first) c.in-9.is c.infer-inferred-in-9.ensures c.expect-h.ensures c.if-h-ge-STOPS.false
+      c.field-second-in-9.ensures.0 (c.after-next-in-9.ensures (props t (goal.at.infer-unbind-requires-in-9-2 t c).After-field-first)) c.bind-hidden-in-9.ensures c.infer-q-in-9.ensures.same c.infer-q-in-9.ensures.kept c.unbind-in-9.ensures
+      c.field-third.ensures.0 (c.after-last.ensures (props t (goal.at.infer-unbind-requires-in-9-2 t c).After-field-first)) c.scan-side.ensures c.bind-hidden-in-9-2.ensures c.infer-r-in-9.ensures.same,
+)
 
 pub infer-agree-requires : goal.infer-agree-requires
 infer-agree-requires t c =
     let slots = c.infer-r-in-9.ensures.kept.long ∙ c.infer-q-in-9.ensures.kept.long ∙ c.infer-inferred-in-9.ensures.kept.long ∙ (asked t (goal.at.infer-agree-requires t c).After-field-first).slots in record {
-          code_len_bound = ((asked t (goal.at.infer-agree-requires t c).After-field-first).ends.space, slots, node_low (asked t (goal.at.infer-agree-requires t c).After-field-first));
-          known = (
+      code_len_bound = ((asked t (goal.at.infer-agree-requires t c).After-field-first).ends.space, slots, node_low (asked t (goal.at.infer-agree-requires t c).After-field-first));
+      known = (
         inferring.case_right_known (asked t (goal.at.infer-agree-requires t c).After-field-first) (form t (goal.at.infer-agree-requires t c).After-field-first) (part t (goal.at.infer-agree-requires t c).After-field-first) c.in-9.is c.infer-inferred-in-9.ensures c.expect-h.ensures c.if-h-ge-STOPS.false
             c.field-second-in-9.ensures.0 (c.after-next-in-9.ensures (props t (goal.at.infer-agree-requires t c).After-field-first)) c.bind-hidden-in-9.ensures c.infer-q-in-9.ensures c.unbind-in-9.ensures c.if-q-ge-STOPS.false
             c.field-third.ensures.0 (c.after-last.ensures (props t (goal.at.infer-agree-requires t c).After-field-first)) c.scan-side.ensures c.bind-hidden-in-9-2.ensures c.infer-r-in-9.ensures c.unbind-in-9-2.ensures,
@@ -553,7 +551,7 @@ infer-agree-requires t c =
             c.field-second-in-9.ensures.0 (c.after-next-in-9.ensures (props t (goal.at.infer-agree-requires t c).After-field-first)) c.bind-hidden-in-9.ensures c.infer-q-in-9.ensures c.unbind-in-9.ensures c.if-q-ge-STOPS.false
             c.field-third.ensures.0 (c.after-last.ensures (props t (goal.at.infer-agree-requires t c).After-field-first)) c.scan-side.ensures c.bind-hidden-in-9-2.ensures c.infer-r-in-9.ensures c.unbind-in-9-2.ensures,
       );
-        }
+    }
 
 pub infer-returns-else-q-ge-STOPS : goal.infer-returns-else-q-ge-STOPS
 infer-returns-else-q-ge-STOPS t c =

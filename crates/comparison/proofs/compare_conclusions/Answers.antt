@@ -14,9 +14,9 @@ pub compare_propositions-requires : goal.compare_propositions-requires
 compare_propositions-requires c =
     let record { accepted_sheet = sheet; conclusion_in = (first, second) } = c.requires in
     record {
-          accepted_sheet = sheet;
-          p_bound = (first.proposition _ c.in-PropIsTrue.is, second.proposition _ c.in-PropIsTrue-right.is);
-        }
+      accepted_sheet = sheet;
+      p_bound = (first.proposition _ c.in-PropIsTrue.is, second.proposition _ c.in-PropIsTrue-right.is);
+    }
 
 pub returns-in-PropIsTrue : goal.returns-in-PropIsTrue
 returns-in-PropIsTrue c =
@@ -30,9 +30,9 @@ pub compare_judgements-requires : goal.compare_judgements-requires
 compare_judgements-requires c =
     let record { accepted_sheet = sheet; conclusion_in = (first, second) } = c.requires in
     record {
-          accepted_sheet = sheet;
-          judgement_in = (first.judgement _ c.in-TypeJudgement.is, second.judgement _ c.in-TypeJudgement-right.is);
-        }
+      accepted_sheet = sheet;
+      judgement_in = (first.judgement _ c.in-TypeJudgement.is, second.judgement _ c.in-TypeJudgement-right.is);
+    }
 
 pub returns-in-TypeJudgement : goal.returns-in-TypeJudgement
 returns-in-TypeJudgement c =

@@ -50,10 +50,10 @@ step_at-right-requires c =
 pub compare_conclusions-requires : goal.compare_conclusions-requires
 compare_conclusions-requires c =
     let b = both (goal.at.compare_conclusions-requires c).Else-h-j in record {
-          accepted_sheet = b.sheet;
-          conclusion_in = rw (c.step_at-left.ensures, c.step_at-right.ensures, c.step_records-records.ensures)
+      accepted_sheet = b.sheet;
+      conclusion_in = rw (c.step_at-left.ensures, c.step_at-right.ensures, c.step_records-records.ensures)
           (conclusion_in b.sheet.sheet _ b.first, conclusion_in b.sheet.sheet _ b.second);
-        }
+    }
 
 pub returns : goal.returns
 returns c =

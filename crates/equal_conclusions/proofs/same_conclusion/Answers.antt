@@ -44,14 +44,14 @@ returns-in_default c =
 pub same_propositions-requires : goal.same_propositions-requires
 same_propositions-requires c =
     let record { accepted_sheet = (host, donor, below); numbered = numbered; numbered_2 = merged } = c.requires in record {
-          accepted_sheet = (host, donor);
-          numbered = numbered;
-          numbered_2 = merged;
-          p_bound = (
-            (known host _ below).proposition _ (sym (ours (goal.at.same_propositions-requires c).After-step_at-theirs) ∙ c.in-PropIsTrue.is),
-            (known donor _ (rw (root_is donor) at (root_below donor))).proposition _ (sym (theirs (goal.at.same_propositions-requires c).After-step_at-theirs) ∙ c.in-PropIsTrue-theirs.is),
-          );
-        }
+      accepted_sheet = (host, donor);
+      numbered = numbered;
+      numbered_2 = merged;
+      p_bound = (
+        (known host _ below).proposition _ (sym (ours (goal.at.same_propositions-requires c).After-step_at-theirs) ∙ c.in-PropIsTrue.is),
+        (known donor _ (rw (root_is donor) at (root_below donor))).proposition _ (sym (theirs (goal.at.same_propositions-requires c).After-step_at-theirs) ∙ c.in-PropIsTrue-theirs.is),
+      );
+    }
 
 pub returns-in-PropIsTrue : goal.returns-in-PropIsTrue
 returns-in-PropIsTrue c =
@@ -64,12 +64,12 @@ returns-in_default-theirs c =
 pub same_judgements-requires : goal.same_judgements-requires
 same_judgements-requires c =
     let record { accepted_sheet = (host, donor, below); numbered = _; numbered_2 = _ } = c.requires in record {
-          accepted_sheet = (host, donor);
-          known_judgement = (
+      accepted_sheet = (host, donor);
+      known_judgement = (
         (known host _ below).judgement _ (sym (ours (goal.at.same_judgements-requires c).After-step_at-theirs) ∙ c.in-TypeJudgement.is),
         (known donor _ (rw (root_is donor) at (root_below donor))).judgement _ (sym (theirs (goal.at.same_judgements-requires c).After-step_at-theirs) ∙ c.in-TypeJudgement-theirs.is),
       );
-        }
+    }
 
 pub returns-in-TypeJudgement : goal.returns-in-TypeJudgement
 returns-in-TypeJudgement c =

@@ -19,10 +19,10 @@ pub returns-in-Refused : goal.returns-in-Refused
 returns-in-Refused c =
     let (answer, slots) = host-refused _ _ _ _ (refused_sheet _ (sym c.check-checked.ensures.value ∙ c.in-Refused.is)) _ _ in
     record {
-          fills_by = answer;
-          slots_after = slots;
-          by_index = bytes-merge _ _ _ _ (host_bytes (goal.at.returns-in-Refused c).After-slice_known-1) (donor_bytes (goal.at.returns-in-Refused c).After-slice_known-1) answer;
-        }
+      fills_by = answer;
+      slots_after = slots;
+      by_index = bytes-merge _ _ _ _ (host_bytes (goal.at.returns-in-Refused c).After-slice_known-1) (donor_bytes (goal.at.returns-in-Refused c).After-slice_known-1) answer;
+    }
 
 pub graft_donor-requires : goal.graft_donor-requires
 unfolding slot_count
@@ -30,15 +30,15 @@ graft_donor-requires c =
     let check = c.check-checked in
     let accepts = sym check.ensures.value ∙ c.in-Accepted.is in
     record {
-          accepted_sheet = (accepted_sheet _ accepts, search rules);
-          size_table = accepted_sizes _ accepts check.ensures.sized;
-        }
+      accepted_sheet = (accepted_sheet _ accepts, search rules);
+      size_table = accepted_sizes _ accepts check.ensures.sized;
+    }
 
 pub returns-in-Accepted : goal.returns-in-Accepted
 returns-in-Accepted c =
     let record { fills_by = answer; slots_after = slots } = c.graft_donor.ensures in
     record {
-          fills_by = answer;
-          slots_after = slots;
-          by_index = bytes-merge _ _ _ _ (host_bytes (goal.at.returns-in-Accepted c).After-slice_known-1) (donor_bytes (goal.at.returns-in-Accepted c).After-slice_known-1) answer;
-        }
+      fills_by = answer;
+      slots_after = slots;
+      by_index = bytes-merge _ _ _ _ (host_bytes (goal.at.returns-in-Accepted c).After-slice_known-1) (donor_bytes (goal.at.returns-in-Accepted c).After-slice_known-1) answer;
+    }

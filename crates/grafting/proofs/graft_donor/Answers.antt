@@ -18,6 +18,7 @@ pub returns-in-Refused : goal.returns-in-Refused
 returns-in-Refused c =
     let p = donor-refused _ _ _ _ c.requires.accepted_sheet.0 (refused_sheet _ (sym c.check-checked.ensures.value ∙ c.in-Refused.is)) _ _ in
     record { fills_by = p.0; slots_after = p.1 }
+
 donor_here : (c : In-Accepted) → AcceptedSheet c.args.donor.now c.in-Accepted.g
 donor_here c = accepted_sheet _ (sym c.check-checked.ensures.value ∙ c.in-Accepted.is)
 
@@ -26,15 +27,15 @@ graft_indexed-written-requires c =
     let record { accepted_sheet = (host, size); size_table = sizes } = c.requires in
     let accepts = sym c.check-checked.ensures.value ∙ c.in-Accepted.is in
     record {
-          accepted_sheet = (host, donor_here (goal.at.graft_indexed-written-requires c).In-Accepted, size);
-          size_table = sizes;
-          size_table_2 = accepted_sizes _ accepts c.check-checked.ensures.sized;
-        }
+      accepted_sheet = (host, donor_here (goal.at.graft_indexed-written-requires c).In-Accepted, size);
+      size_table = sizes;
+      size_table_2 = accepted_sizes _ accepts c.check-checked.ensures.sized;
+    }
 
 pub returns-in-Accepted : goal.returns-in-Accepted
 returns-in-Accepted c =
     let record { accepted_sheet = (host, _); size_table = _ } = c.requires in
     let record { fills = fills; slots_after = slots } = c.graft_indexed-written.ensures in record {
-          fills_by = neither host (donor_here (goal.at.returns-in-Accepted c).In-Accepted) (host_bytes (goal.at.returns-in-Accepted c).After-slice_known-2-1) (donor_bytes (goal.at.returns-in-Accepted c).After-slice_known-2-1) _ _ fills c.by_neither.ensures;
-          slots_after = slots ∙ slots-of-neither host (donor_here (goal.at.returns-in-Accepted c).In-Accepted) (host_bytes (goal.at.returns-in-Accepted c).After-slice_known-2-1) (donor_bytes (goal.at.returns-in-Accepted c).After-slice_known-2-1) _ _ _;
-        }
+      fills_by = neither host (donor_here (goal.at.returns-in-Accepted c).In-Accepted) (host_bytes (goal.at.returns-in-Accepted c).After-slice_known-2-1) (donor_bytes (goal.at.returns-in-Accepted c).After-slice_known-2-1) _ _ fills c.by_neither.ensures;
+      slots_after = slots ∙ slots-of-neither host (donor_here (goal.at.returns-in-Accepted c).In-Accepted) (host_bytes (goal.at.returns-in-Accepted c).After-slice_known-2-1) (donor_bytes (goal.at.returns-in-Accepted c).After-slice_known-2-1) _ _ _;
+    }

@@ -28,6 +28,7 @@ returns-in-Refused c =
     let p = let record { accepted_sheet = (host, donor, _); size_table = _; size_table_2 = _ } = c.requires in
     stays-refused host donor (host_bytes (goal.at.returns-in-Refused c).After-slice_known-2-1) (donor_bytes (goal.at.returns-in-Refused c).After-slice_known-2-1) _ _ c.graft_accepted-merged.ensures c.in-Refused.is _ in
     record { fills = p.0; slots_after = p.1 }
+
 -- the merged sheet
 sheet_here : (c : In-Accepted)
     → Stands c.requires.accepted_sheet.0 c.requires.accepted_sheet.1 (host_bytes (goal.at.In-Accepted c).After-slice_known-2-1)

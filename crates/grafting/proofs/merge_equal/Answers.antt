@@ -24,10 +24,10 @@ same_conclusion-requires c =
     let (host, donor, _) = c.requires in
     let record { numbered = ours; numbered_2 = theirs } = c.number_names.ensures in
     record {
-          accepted_sheet = (host, donor, here (graft_here (goal.at.same_conclusion-requires c).After-slice_known-1));
-          numbered = ours;
-          numbered_2 = theirs;
-        }
+      accepted_sheet = (host, donor, here (graft_here (goal.at.same_conclusion-requires c).After-slice_known-1));
+      numbered = ours;
+      numbered_2 = theirs;
+    }
 
 pub returns-then-not-same_conclusion : goal.returns-then-not-same_conclusion
 returns-then-not-same_conclusion c =

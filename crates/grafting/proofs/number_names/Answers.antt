@@ -18,18 +18,18 @@ unfolding slot_count
 build-requires c =
     let host = c.requires.accepted_sheet.0 in
     record {
-          slots_len = (search rules, vocabulary-within host c.vocabulary-v.ensures);
-          name_count_bound = few_names host c.vocabulary-v.ensures;
-        }
+      slots_len = (search rules, vocabulary-within host c.vocabulary-v.ensures);
+      name_count_bound = few_names host c.vocabulary-v.ensures;
+    }
 
 pub build-requires-2 : goal.build-requires-2
 unfolding slot_count
 build-requires-2 c =
     let donor = c.requires.accepted_sheet.1 in
     record {
-          slots_len = (search rules, vocabulary-within donor c.vocabulary-w.ensures);
-          name_count_bound = few_names donor c.vocabulary-w.ensures;
-        }
+      slots_len = (search rules, vocabulary-within donor c.vocabulary-w.ensures);
+      name_count_bound = few_names donor c.vocabulary-w.ensures;
+    }
 
 pub fill_numbers-requires : goal.fill_numbers-requires
 unfolding slot_count
@@ -42,12 +42,12 @@ pub fill_numbers-requires-2 : goal.fill_numbers-requires-2
 unfolding slot_count
 fill_numbers-requires-2 c =
     let record { accepted_sheet = (host, donor); name_limit_in_bounds = (_, room) } = c.requires in record {
-          indexed = (
+      indexed = (
         indexed host c.vocabulary-v.ensures (search rules) (built host c.vocabulary-v.ensures c.build.ensures),
         indexed donor c.vocabulary-w.ensures (search rules) (built donor c.vocabulary-w.ensures c.build-2.ensures),
       );
-          numbered = none_numbered _ _ room;
-        }
+      numbered = none_numbered _ _ room;
+    }
 
 pub returns : goal.returns
 returns c =

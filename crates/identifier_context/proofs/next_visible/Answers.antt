@@ -60,7 +60,7 @@ left_none l = record { index = sym (ap found_at l.index); listed = sym (l.listed
 pub loop-left-init : goal.loop-left-init
 loop-left-init c =
     elim c.if-len-left.branch [
-      then-len-left w ↦ rw w.left-is (left_all _ _ _ _ w.if-len-left.true)
+      | then-len-left w ↦ rw w.left-is (left_all _ _ _ _ w.if-len-left.true)
       | else-len-left w ↦ rw w.left-is (left_before _ _ _ _ w.if-len-left.false)
     ]
 

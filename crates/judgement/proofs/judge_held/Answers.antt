@@ -46,9 +46,9 @@ pub decide-r-requires : goal.decide-r-requires
 decide-r-requires c =
     let (sheet, term) = c.requires in
     record {
-          accepted_sheet = (sheet, term, lowest_numbers sheet (bytes (goal.at.decide-r-requires c).After-is_outside) c.number_names.ensures c.first.ensures);
-          known = are_known (goal.at.decide-r-requires c).Else-is_outside;
-        }
+      accepted_sheet = (sheet, term, lowest_numbers sheet (bytes (goal.at.decide-r-requires c).After-is_outside) c.number_names.ensures c.first.ensures);
+      known = are_known (goal.at.decide-r-requires c).Else-is_outside;
+    }
 
 pub returns : goal.returns
 returns c =

@@ -11,9 +11,9 @@ unfolding slot_count
 build-requires c =
     let sheet = c.requires.0 in
     record {
-          slots_len = (search rules, vocabulary-within sheet c.vocabulary-v.ensures);
-          name_count_bound = few_names sheet c.vocabulary-v.ensures;
-        }
+      slots_len = (search rules, vocabulary-within sheet c.vocabulary-v.ensures);
+      name_count_bound = few_names sheet c.vocabulary-v.ensures;
+    }
 
 pub fill_numbers-requires : goal.fill_numbers-requires
 unfolding slot_count

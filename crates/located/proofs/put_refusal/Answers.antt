@@ -10,10 +10,10 @@ pub returns : goal.returns
 unfolding refusal_line
 returns c =
     record {
-          wrote = then c.put_all-number.ensures
+      wrote = then c.put_all-number.ensures
           (then c.put_decimal-at.ensures
           (then c.put_all-place.ensures
           (then c.put_decimal-column.ensures
           (then c.put_column-newline.ensures c.put.ensures))));
-          located_len_bound = refusal_line_length c.args.located (omega (arith, c.well_formed)) (omega (arith, c.well_formed)) (omega (arith, c.well_formed));
-        }
+      located_len_bound = refusal_line_length c.args.located (omega (arith, c.well_formed)) (omega (arith, c.well_formed)) (omega (arith, c.well_formed));
+    }

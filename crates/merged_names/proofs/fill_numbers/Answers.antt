@@ -13,10 +13,10 @@ pub number_name-missing-requires : goal.number_name-missing-requires
 number_name-missing-requires c =
     let inv = c.loop-n.invariant in
     record {
-          indexed = c.requires.indexed;
-          n_bound = (omega (arith, inv.all, c.loop-n-test.true), inv.stored);
-          missing_value = inv.counted;
-        }
+      indexed = c.requires.indexed;
+      n_bound = (omega (arith, inv.all, c.loop-n-test.true), inv.stored);
+      missing_value = inv.counted;
+    }
 
 pub loop-n-preserved : goal.loop-n-preserved
 loop-n-preserved c =

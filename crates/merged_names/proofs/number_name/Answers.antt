@@ -25,6 +25,7 @@ returns-in_default c =
     let p = new_stored _ _ _ c.requires.indexed.1.few c.requires.n_bound.0 c.requires.n_bound.1 c.known_number-known.ensures c.in_default.is
     c.requires.indexed.0.count c.requires.missing_value in
     record { value = p.0; numbered = p.1 }
+
 pub overflow_cast-numbers-2 : goal.overflow_cast-numbers-2
 overflow_cast-numbers-2 c = omega (arith, (has_number _ _ _ c.known_number-known.ensures c.in-At.is).1)
 

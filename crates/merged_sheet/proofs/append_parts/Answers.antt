@@ -20,10 +20,10 @@ pub append_propositions-propositions-requires : goal.append_propositions-proposi
 append_propositions-propositions-requires c =
     let record { accepted_sheet = (host, donor); numbered = numbered; room = (_, propositions) } = c.requires in
     record {
-          accepted_sheet = (donor, code_within host);
-          numbers = has_numbers donor numbered;
-          room = propositions;
-        }
+      accepted_sheet = (donor, code_within host);
+      numbers = has_numbers donor numbered;
+      room = propositions;
+    }
 
 pub merged_header-requires : goal.merged_header-requires
 merged_header-requires c =

@@ -47,10 +47,10 @@ pub append_parts-m-requires : goal.append_parts-m-requires
 unfolding pair_size name_limit text_limit
 append_parts-m-requires c =
     let record { accepted_sheet = (host, donor, _); numbered = numbered } = c.requires in record {
-          accepted_sheet = (host, donor);
-          numbered = numbered;
-          room = (record { for_pairs = omega arith; for_bytes = omega arith }, record { for_pairs = omega arith; for_bytes = omega arith });
-        }
+      accepted_sheet = (host, donor);
+      numbered = numbered;
+      room = (record { for_pairs = omega arith; for_bytes = omega arith }, record { for_pairs = omega arith; for_bytes = omega arith });
+    }
 
 pub returns-then-out_of_range : goal.returns-then-out_of_range
 returns-then-out_of_range c =
@@ -77,17 +77,17 @@ put_pairs-after_pairs-requires c =
     let record { accepted_sheet = (host, _, _); numbered = _ } = c.requires in
     let new = c.append_parts-m.ensures in
     record {
-          accepted_sheet = (host, range host new (graft_here (goal.at.put_pairs-after_pairs-requires c).After-slice_known-1) (within (goal.at.put_pairs-after_pairs-requires c).Else-deep), longer host new);
-          pair_room = (omega arith, omega arith);
-        }
+      accepted_sheet = (host, range host new (graft_here (goal.at.put_pairs-after_pairs-requires c).After-slice_known-1) (within (goal.at.put_pairs-after_pairs-requires c).Else-deep), longer host new);
+      pair_room = (omega arith, omega arith);
+    }
 
 pub put_records-after_records-requires : goal.put_records-after_records-requires
 put_records-after_records-requires c =
     let record { accepted_sheet = (host, donor, _); numbered = numbered } = c.requires in
     record {
-          accepted_sheet = (host, donor, here (graft_here (goal.at.put_records-after_records-requires c).After-slice_known-1));
-          numbers = has_numbers donor numbered;
-        }
+      accepted_sheet = (host, donor, here (graft_here (goal.at.put_records-after_records-requires c).After-slice_known-1));
+      numbers = has_numbers donor numbered;
+    }
 
 pub put_text_and_code-requires : goal.put_text_and_code-requires
 unfolding text_limit
@@ -95,9 +95,9 @@ put_text_and_code-requires c =
     let record { accepted_sheet = (host, _, _); numbered = _ } = c.requires in
     let new = c.append_parts-m.ensures in
     record {
-          accepted_sheet = (host, range host new (graft_here (goal.at.put_text_and_code-requires c).After-slice_known-1) (within (goal.at.put_text_and_code-requires c).Else-deep), longer host new);
-          byte_room = (omega arith, omega arith);
-        }
+      accepted_sheet = (host, range host new (graft_here (goal.at.put_text_and_code-requires c).After-slice_known-1) (within (goal.at.put_text_and_code-requires c).Else-deep), longer host new);
+      byte_room = (omega arith, omega arith);
+    }
 
 pub returns : goal.returns
 returns c =

@@ -15,9 +15,9 @@ pub enter-requires : goal.enter-requires
 enter-requires c =
     let pre = c.requires in
     record {
-          i_lt_name_limit = (omega (arith, c.loop-i-test.true, pre.name_count_bound), pre.slots_len.1);
-          slots_value = c.loop-i.invariant.1;
-        }
+      i_lt_name_limit = (omega (arith, c.loop-i-test.true, pre.name_count_bound), pre.slots_len.1);
+      slots_value = c.loop-i.invariant.1;
+    }
 
 pub loop-i-preserved : goal.loop-i-preserved
 loop-i-preserved c = (omega (arith, c.loop-i-test.true), c.enter.ensures)

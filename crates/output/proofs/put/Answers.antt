@@ -7,9 +7,9 @@ use Rattle.output.proofs.put.Goals as goal
 use Rattle.output.proofs.put.Goals.{then-write, else-write}
 
 pub returns-then-to-out : goal.returns-then-to-out
-returns-then-to-out c = 
+returns-then-to-out c =
     elim c.if-write.branch [
-      then-write w ↦ rw w.out-is (writing.one c.if-to-out.true w.if-write.true)
+      | then-write w ↦ rw w.out-is (writing.one c.if-to-out.true w.if-write.true)
       | else-write w ↦ rw w.out-is (writing.dry_run w.if-write.false (omega arith) (omega arith))
     ]
 

@@ -10,9 +10,9 @@ pub returns-then-out-to : goal.returns-then-out-to
 returns-then-out-to c = record { stored = sym (writing.puts_past _ _ _ _ c.if-out-to.true); within = omega arith; beyond = omega arith }
 
 pub returns : goal.returns
-returns c = 
+returns c =
     elim c.if-write.branch [
-      then-write w ↦ rw w.out-is (writing.one c.if-out-to.false w.if-write.true)
+      | then-write w ↦ rw w.out-is (writing.one c.if-out-to.false w.if-write.true)
       | else-write w ↦ rw w.out-is (writing.dry_run w.if-write.false (omega arith) (omega arith))
     ]
 

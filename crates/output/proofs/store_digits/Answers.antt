@@ -18,7 +18,7 @@ loop-i-preserved c =
     let st = one_left (omega arith) c.loop-i.invariant in
     let all = least_is_length c.requires.least_digits in
     elim c.if-i-fit.branch [
-      then-i-fit w ↦ rw w.out-is (digit_stored st (omega arith))
+      | then-i-fit w ↦ rw w.out-is (digit_stored st (omega arith))
       | else-i-fit w ↦ rw w.out-is (digit_dropped st (omega arith))
     ]
 

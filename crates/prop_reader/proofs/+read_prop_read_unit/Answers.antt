@@ -273,12 +273,11 @@ read_unit-returns t c ns b =
 part_kept : (t : ℕ) → (c : read_unit-After-read_prop-part t) → let s = c.args in
     (length c.read_prop-part.new.names ≡ length s.names.now) × (length c.read_prop-part.new.bound ≡ length s.bound.now)
     × (length c.read_prop-part.new.code ≡ length s.code.now)
-part_kept t c =
-    (
-      c.read_prop-part.auto.names ∙ c.open_front-place.auto.names,
-      c.read_prop-part.auto.bound ∙ c.open_front-place.auto.bound,
-      c.read_prop-part.auto.code ∙ c.open_front-place.auto.code,
-    )
+part_kept t c = (
+  c.read_prop-part.auto.names ∙ c.open_front-place.auto.names,
+  c.read_prop-part.auto.bound ∙ c.open_front-place.auto.bound,
+  c.read_prop-part.auto.code ∙ c.open_front-place.auto.code,
+)
 
 pub read_unit-shape_of-names-then-text-part : goal.read_unit-shape_of-names-then-text-part
 read_unit-shape_of-names-then-text-part t c = (part_kept t (goal.at.read_unit-shape_of-names-then-text-part t c).After-read_prop-part).0

@@ -16,9 +16,9 @@ step_at-root-requires c = rw c.step_records.ensures (last_step c.requires.accept
 pub compare_conclusions-requires : goal.compare_conclusions-requires
 compare_conclusions-requires c =
     let record { accepted_sheet = (sheet, _); step_value = good } = c.requires in record {
-          accepted_sheet = sheet;
-          conclusion_in = rw (c.step_at-root.ensures, c.step_at-new.ensures, c.step_records.ensures) (root_in sheet, step_in _ _ good);
-        }
+      accepted_sheet = sheet;
+      conclusion_in = rw (c.step_at-root.ensures, c.step_at-new.ensures, c.step_records.ensures) (root_in sheet, step_in _ _ good);
+    }
 
 pub returns : goal.returns
 returns c =

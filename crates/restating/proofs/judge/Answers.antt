@@ -22,9 +22,9 @@ pub compare_root-requires : goal.compare_root-requires
 compare_root-requires c =
     let record { accepted_sheet = sheet; size_table = _ } = c.requires in
     record {
-          accepted_sheet = sheet;
-          step_value = sym (bad_known sheet.0 _ c.bad_step.ensures) ∙ c.if-bad_step.false;
-        }
+      accepted_sheet = sheet;
+      step_value = sym (bad_known sheet.0 _ c.bad_step.ensures) ∙ c.if-bad_step.false;
+    }
 
 pub returns : goal.returns
 returns c =

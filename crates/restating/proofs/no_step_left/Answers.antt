@@ -19,9 +19,9 @@ first_deep_tree-requires c =
     let record { accepted_sheet = sheet; size_table = sizes } = c.requires in
     rw c.step_records.ensures
     record {
-          has_steps = (all_steps sheet, few_steps sheet);
-          steps_in_bounds = (omega (arith, few_steps sheet), omega (arith, few_steps sheet), sizes_known sheet sizes);
-        }
+      has_steps = (all_steps sheet, few_steps sheet);
+      steps_in_bounds = (omega (arith, few_steps sheet), omega (arith, few_steps sheet), sizes_known sheet sizes);
+    }
 
 pub overflow_sub-result : goal.overflow_sub-result
 overflow_sub-result c = some_step c.requires.accepted_sheet

@@ -18,9 +18,9 @@ restate_indexed-requires c =
     let check = c.check-checked in
     let accepts = sym check.ensures.value ∙ c.in-Accepted.is in
     record {
-          accepted_sheet = (accepted_sheet _ accepts, search rules);
-          size_table = accepted_sizes _ accepts check.ensures.sized;
-        }
+      accepted_sheet = (accepted_sheet _ accepts, search rules);
+      size_table = accepted_sizes _ accepts check.ensures.sized;
+    }
 
 pub returns-in-Accepted : goal.returns-in-Accepted
 returns-in-Accepted c =

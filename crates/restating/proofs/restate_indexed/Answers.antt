@@ -17,9 +17,9 @@ pub build-requires : goal.build-requires
 build-requires c =
     let record { accepted_sheet = (sheet, sized); size_table = _ } = c.requires in
     record {
-          slots_len = (sized, vocabulary-within sheet c.vocabulary.ensures);
-          name_count_bound = few_names sheet c.vocabulary.ensures;
-        }
+      slots_len = (sized, vocabulary-within sheet c.vocabulary.ensures);
+      name_count_bound = few_names sheet c.vocabulary.ensures;
+    }
 
 pub returns-in-Length : goal.returns-in-Length
 returns-in-Length c =
@@ -27,6 +27,6 @@ returns-in-Length c =
     let answer = c.restate_accepted-written.ensures in
     let sheet = c.requires.accepted_sheet.0 in
     record {
-          fills = told answer is;
-          slots_after = slots-built _ _ _ answer is _ (built sheet c.vocabulary.ensures c.build.ensures);
-        }
+      fills = told answer is;
+      slots_after = slots-built _ _ _ answer is _ (built sheet c.vocabulary.ensures c.build.ensures);
+    }

@@ -71,36 +71,36 @@ returns-in_default c =
     let answer = c.check_header-header.ensures in
     let refusal = c.in_default.is in
     record {
-          value = from_header _ refl (stage_refused _ _ _ answer refusal);
-          sized = untouched _ _ (rw (stage_refuses _ _ answer refusal));
-        }
+      value = from_header _ refl (stage_refused _ _ _ answer refusal);
+      sized = untouched _ _ (rw (stage_refuses _ _ answer refusal));
+    }
 
 pub returns-in_default-names : goal.returns-in_default-names
 unfolding from_names sized_steps unless_refused
 returns-in_default-names c =
     let answer = c.check_names-names.ensures in
     let refusal = c.in_default-names.is in record {
-          value = names_on (goal.at.returns-in_default-names c).In-Accepted (stage_refused _ _ _ answer refusal);
-          sized = untouched _ _ (rw (header_passed (goal.at.returns-in_default-names c).In-Accepted, stage_refuses _ _ answer refusal));
-        }
+      value = names_on (goal.at.returns-in_default-names c).In-Accepted (stage_refused _ _ _ answer refusal);
+      sized = untouched _ _ (rw (header_passed (goal.at.returns-in_default-names c).In-Accepted, stage_refuses _ _ answer refusal));
+    }
 
 pub returns-in_default-propositions : goal.returns-in_default-propositions
 unfolding from_propositions sized_steps unless_refused
 returns-in_default-propositions c =
     let answer = c.check_propositions-propositions.ensures in
     let refusal = c.in_default-propositions.is in record {
-          value = propositions_on (goal.at.returns-in_default-propositions c).In-Accepted-names (stage_refused _ _ _ answer refusal);
-          sized = untouched _ _ (rw (header_passed (goal.at.returns-in_default-propositions c).In-Accepted, names_passed (goal.at.returns-in_default-propositions c).In-Accepted-names, stage_refuses _ _ answer refusal));
-        }
+      value = propositions_on (goal.at.returns-in_default-propositions c).In-Accepted-names (stage_refused _ _ _ answer refusal);
+      sized = untouched _ _ (rw (header_passed (goal.at.returns-in_default-propositions c).In-Accepted, names_passed (goal.at.returns-in_default-propositions c).In-Accepted-names, stage_refuses _ _ answer refusal));
+    }
 
 pub returns-in_default-steps : goal.returns-in_default-steps
 unfolding from_steps sized_steps unless_refused
 returns-in_default-steps c =
     let answer = c.check_steps-steps.ensures in
     let refusal = c.in_default-steps.is in record {
-          value = steps_on (goal.at.returns-in_default-steps c).In-Accepted-propositions (stage_refused _ _ _ answer refusal);
-          sized = untouched _ _ (rw (header_passed (goal.at.returns-in_default-steps c).In-Accepted, names_passed (goal.at.returns-in_default-steps c).In-Accepted-names, propositions_passed (goal.at.returns-in_default-steps c).In-Accepted-propositions, stage_refuses _ _ answer refusal));
-        }
+      value = steps_on (goal.at.returns-in_default-steps c).In-Accepted-propositions (stage_refused _ _ _ answer refusal);
+      sized = untouched _ _ (rw (header_passed (goal.at.returns-in_default-steps c).In-Accepted, names_passed (goal.at.returns-in_default-steps c).In-Accepted-names, propositions_passed (goal.at.returns-in_default-steps c).In-Accepted-propositions, stage_refuses _ _ answer refusal));
+    }
 
 pub check_trees-requires : goal.check_trees-requires
 unfolding step_limit
@@ -111,10 +111,10 @@ pub returns : goal.returns
 unfolding from_trees sized_steps unless_refused
 returns c =
     record {
-          value = trees_on (goal.at.returns c).In-Accepted-steps (stage_last _ _ _ c.check_trees.ensures.value);
-          sized = rw (header_passed (goal.at.returns c).In-Accepted, names_passed (goal.at.returns c).In-Accepted-names, propositions_passed (goal.at.returns c).In-Accepted-propositions, steps_passed (goal.at.returns c).In-Accepted-steps)
+      value = trees_on (goal.at.returns c).In-Accepted-steps (stage_last _ _ _ c.check_trees.ensures.value);
+      sized = rw (header_passed (goal.at.returns c).In-Accepted, names_passed (goal.at.returns c).In-Accepted-names, propositions_passed (goal.at.returns c).In-Accepted-propositions, steps_passed (goal.at.returns c).In-Accepted-steps)
           c.check_trees.ensures.sized;
-        }
+    }
 
 pub check_names-names-requires : goal.check_names-names-requires
 check_names-names-requires c = has_header c

@@ -138,9 +138,9 @@ pub returns-in-At : goal.returns-in-At
 unfolding tree_checks
 returns-in-At c =
     record {
-          value = refused_now _ _ (refused_at _ _ (tree_search (goal.at.returns-in-At c).After-fill_sizes) 10 c.in-At.is) c.refuse.ensures;
-          sized = sized (goal.at.returns-in-At c).After-fill_sizes;
-        }
+      value = refused_now _ _ (refused_at _ _ (tree_search (goal.at.returns-in-At c).After-fill_sizes) 10 c.in-At.is) c.refuse.ensures;
+      sized = sized (goal.at.returns-in-At c).After-fill_sizes;
+    }
 
 pub leaves_trees-requires : goal.leaves_trees-requires
 leaves_trees-requires c =
@@ -155,19 +155,19 @@ pub returns-then-leaves_trees : goal.returns-then-leaves_trees
 unfolding tree_checks header_of
 returns-then-leaves_trees c =
     record {
-          value = passed_on _ _ (trees_passed (goal.at.returns-then-leaves_trees c).In_default)
+      value = passed_on _ _ (trees_passed (goal.at.returns-then-leaves_trees c).In_default)
           (refused_now _ _ (refused_if _ _ (trees_test (goal.at.returns-then-leaves_trees c).After-leaves_trees ∙ c.if-leaves_trees.true))
           (rw c.requires.0.header at c.refuse-then-leaves_trees.ensures));
-          sized = sized (goal.at.returns-then-leaves_trees c).After-fill_sizes;
-        }
+      sized = sized (goal.at.returns-then-leaves_trees c).After-fill_sizes;
+    }
 
 pub first_deep_tree-requires : goal.first_deep_tree-requires
 unfolding step_limit
 first_deep_tree-requires c =
     let has = c.requires.0 in record {
-          has_steps = (rw c.step_records-records.ensures (steps_present has), has.in_range.steps);
-          steps_in_bounds = (table_long_enough (goal.at.first_deep_tree-requires c).In_default, has.in_range.steps, program_table (goal.at.first_deep_tree-requires c).In_default);
-        }
+      has_steps = (rw c.step_records-records.ensures (steps_present has), has.in_range.steps);
+      steps_in_bounds = (table_long_enough (goal.at.first_deep_tree-requires c).In_default, has.in_range.steps, program_table (goal.at.first_deep_tree-requires c).In_default);
+    }
 
 pub refuse-requires-in-At-first_deep_tree : goal.refuse-requires-in-At-first_deep_tree
 refuse-requires-in-At-first_deep_tree c =
@@ -177,18 +177,18 @@ pub returns-in-At-first_deep_tree : goal.returns-in-At-first_deep_tree
 unfolding tree_checks
 returns-in-At-first_deep_tree c =
     record {
-          value = passed_on _ _ (trees_passed (goal.at.returns-in-At-first_deep_tree c).In_default)
+      value = passed_on _ _ (trees_passed (goal.at.returns-in-At-first_deep_tree c).In_default)
           (passed_on _ _ (one_left (goal.at.returns-in-At-first_deep_tree c).Else-leaves_trees)
           (refused_last _ (refused_at _ _ (height_search (goal.at.returns-in-At-first_deep_tree c).After-first_deep_tree) 11 c.in-At-first_deep_tree.is) c.refuse-in-At-first_deep_tree.ensures));
-          sized = sized (goal.at.returns-in-At-first_deep_tree c).After-fill_sizes;
-        }
+      sized = sized (goal.at.returns-in-At-first_deep_tree c).After-fill_sizes;
+    }
 
 pub returns : goal.returns
 unfolding tree_checks
 returns c =
     record {
-          value = passed_on _ _ (trees_passed (goal.at.returns c).In_default)
+      value = passed_on _ _ (trees_passed (goal.at.returns c).In_default)
           (passed_on _ _ (one_left (goal.at.returns c).Else-leaves_trees)
           (accepted_last _ (not_refused _ _ (height_search (goal.at.returns c).After-first_deep_tree) 11 c.in_default-first_deep_tree.is)));
-          sized = sized (goal.at.returns c).After-fill_sizes;
-        }
+      sized = sized (goal.at.returns c).After-fill_sizes;
+    }

@@ -37,12 +37,14 @@ pub returns-in-Refused : goal.returns-in-Refused
 returns-in-Refused c =
     let p = own_too _ _ _ (search_refused _ _ _ (is_refused (goal.at.returns-in-Refused c).In-Refused) c.locate.ensures) in
     record { value = p.0; value_2 = p.1 }
+
 pub returns-in-At : goal.returns-in-At
 returns-in-At c =
     let p = own_too _ _ _
     (search_found _ _ _ (has_header (goal.at.returns-in-At c).In-Accepted) (has_passed (goal.at.returns-in-At c).In-Accepted)
     (sym c.in-At.is ∙ (rw c.vocabulary.ensures at c.find.ensures))) in
     record { value = p.0; value_2 = p.1 }
+
 pub returns-in-Nowhere : goal.returns-in-Nowhere
 returns-in-Nowhere c =
     let p = own_too _ _ _

@@ -11,16 +11,16 @@ returns-in-Length c =
     let record { fills_by = answer; slots_after = slots; by_index = laws } = c.graft-merged.ensures in
     let is = c.in-Length.is in
     record {
-          grafts_of = length_back _ _ _ _ answer is;
-          slots_after = slots;
-          by_index = λ n e. laws n (length_told is e);
-        }
+      grafts_of = length_back _ _ _ _ answer is;
+      slots_after = slots;
+      by_index = λ n e. laws n (length_told is e);
+    }
 
 pub returns-in-Refused : goal.returns-in-Refused
 returns-in-Refused c =
     let record { fills_by = answer; slots_after = slots; by_index = _ } = c.graft-merged.ensures in
     record {
-          grafts_of = refusal_back _ _ _ _ answer c.in-Refused.is c.locate_by.ensures;
-          slots_after = slots;
-          by_index = λ n e. absurd (no_length e);
-        }
+      grafts_of = refusal_back _ _ _ _ answer c.in-Refused.is c.locate_by.ensures;
+      slots_after = slots;
+      by_index = λ n e. absurd (no_length e);
+    }

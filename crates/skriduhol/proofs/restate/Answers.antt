@@ -11,7 +11,7 @@ pub returns : goal.returns
 returns c =
     let record { fills = answer; slots_after = slots; by_index = laws } = c.restate-written.ensures in
     record {
-          fills_of = fills_back _ answer c.locate_written.ensures;
-          slots_after = slots;
-          by_index = λ n e. laws n (length_told _ answer c.locate_written.ensures e);
-        }
+      fills_of = fills_back _ answer c.locate_written.ensures;
+      slots_after = slots;
+      by_index = λ n e. laws n (length_told _ answer c.locate_written.ensures e);
+    }

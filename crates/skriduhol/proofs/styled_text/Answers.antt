@@ -13,9 +13,9 @@ slice_bounds-text-end c = sym (term_of c.sheet_term-found.ensures c.in-Held.is).
 pub text-requires : goal.text-requires
 text-requires c =
     record {
-          accepted_sheet = accepted-of c.sheet_term-found.ensures c.in-Held.is;
-          held_term = term_of c.sheet_term-found.ensures c.in-Held.is;
-        }
+      accepted_sheet = accepted-of c.sheet_term-found.ensures c.in-Held.is;
+      held_term = term_of c.sheet_term-found.ensures c.in-Held.is;
+    }
 
 pub returns-in-Refused : goal.returns-in-Refused
 returns-in-Refused c = no_text _ _ _ (refusal_of c.sheet_term-found.ensures c.in-Refused.is) _

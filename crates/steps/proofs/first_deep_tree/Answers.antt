@@ -23,9 +23,9 @@ pub tree_height-height-requires : goal.tree_height-height-requires
 unfolding step_size
 tree_height-height-requires c =
     record {
-          has_step = (omega arith, omega arith, omega arith, omega arith);
-          size_table = (size_table_shorter _ _ _ _ (omega arith) c.requires.steps_in_bounds.2, c.loop-k.invariant.table);
-        }
+      has_step = (omega arith, omega arith, omega arith, omega arith);
+      size_table = (size_table_shorter _ _ _ _ (omega arith) c.requires.steps_in_bounds.2, c.loop-k.invariant.table);
+    }
 
 pub returns-then-limit-height : goal.returns-then-limit-height
 returns-then-limit-height c =

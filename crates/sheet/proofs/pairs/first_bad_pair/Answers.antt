@@ -35,11 +35,10 @@ returns-then-offset-last_end c =
 
 pub loop-i-preserved : goal.loop-i-preserved
 unfolding pair_end last_end
-loop-i-preserved c =
-    (
-      onward c.loop-i.invariant.0 c.loop-i-test.true (good_passes _ _ _ _ (omega (arith, ltb-false))),
-      rw (add-one, last_end) (omega arith),
-    )
+loop-i-preserved c = (
+  onward c.loop-i.invariant.0 c.loop-i-test.true (good_passes _ _ _ _ (omega (arith, ltb-false))),
+  rw (add-one, last_end) (omega arith),
+)
 
 pub pair_offset-offset-requires : goal.pair_offset-offset-requires
 unfolding pair_size
