@@ -12,9 +12,9 @@ returns-in-At c =
     let found = c.find_name-searched.ensures in
     let is = c.in-At.is in
     record {
-          hands = accepts _ number_or_free (number_found _ _ (sym is ∙ found.value));
-          hands_2 = λ own. accepts _ number_or_free (number_found _ _ (sym is ∙ found.value_2 own));
-        }
+      hands = accepts _ number_or_free (number_found _ _ (sym is ∙ found.value));
+      hands_2 = λ own. accepts _ number_or_free (number_found _ _ (sym is ∙ found.value_2 own));
+    }
 
 pub returns-in-Nowhere : goal.returns-in-Nowhere
 unfolding number_or_free free
@@ -22,9 +22,9 @@ returns-in-Nowhere c =
     let found = c.find_name-searched.ensures in
     let is = c.in-Nowhere.is in
     record {
-          hands = accepts _ number_or_free (none_found _ _ (sym is ∙ found.value));
-          hands_2 = λ own. accepts _ number_or_free (none_found _ _ (sym is ∙ found.value_2 own));
-        }
+      hands = accepts _ number_or_free (none_found _ _ (sym is ∙ found.value));
+      hands_2 = λ own. accepts _ number_or_free (none_found _ _ (sym is ∙ found.value_2 own));
+    }
 
 pub returns-in-Refused : goal.returns-in-Refused
 returns-in-Refused c =
@@ -32,6 +32,6 @@ returns-in-Refused c =
     let is = c.in-Refused.is in
     let handed = c.hand_refusal.ensures in
     record {
-          hands = refuses _ (search_refused _ _ (sym is ∙ found.value)) handed;
-          hands_2 = λ own. refuses _ (search_refused _ _ (sym is ∙ found.value_2 own)) handed;
-        }
+      hands = refuses _ (search_refused _ _ (sym is ∙ found.value)) handed;
+      hands_2 = λ own. refuses _ (search_refused _ _ (sym is ∙ found.value_2 own)) handed;
+    }
