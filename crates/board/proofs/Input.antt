@@ -2,14 +2,14 @@
 use Prim.Native.Nat.{ℕ, ◌+◌, ◌≤◌, ◌<◌}
 use native.Mathlib.Omega.{arith}
 use mathlib.Core.Path.{◌≡◌, refl, sym, ap, ◌∙◌}
-use mathlib.Core.Bool.{Bool, true, false, not, cond}
+use mathlib.Core.Bool.{Bool, true, false, cond}
 use mathlib.Core.List.{List}
-use lib.ListN.{length, get_or, take}
+use lib.ListN.{length, take}
 use lib.Seq.{take_all, length-take-le, get_or-take}
-use lib.Dec.{leb, eqb}
+use lib.Dec.{leb}
 use borrow.Author.Tests.{le-ltb, leb-true, leb-false, ne_eqb}
 use Rattle.definitions.specs.declared.Refusal.{Refusal}
-use Rattle.definitions.specs.Outcome.{Outcome, refused, refuse, ◌>>=◌, map_outcome, refuse_if}
+use Rattle.definitions.specs.Outcome.{refused, refuse, ◌>>=◌, map_outcome, refuse_if}
 use Rattle.definitions.specs.Sheet.{header_size, pair_size, name_limit, proposition_limit, step_size, step_limit, text_limit, code_limit, number_at, text_length, names, code_length, propositions, steps, goal, header_out_of_range, name_pairs_start, proposition_pairs_start, steps_start, text_start, code_start, sheet_length}
 use Rattle.definitions.specs.Admission.{header_checks, admitted}
 use Rattle.definitions.specs.Answers.{sheet_term, named_term, sheet_text, is_in_room, version_of, text_answer, names_step, column_of, located, printed, refusal_line, board_output}
