@@ -11,7 +11,7 @@ unfolding RestoresTerm RestoresOf
 returns c =
     let record { reads_term = reads; restores_term = restores } = c.read_term.ensures in
     let handed = hands reads c.hand_back.ensures in record {
-          reads_of = handed;
-          restores_of = λ s t bytes is shown short listed plain fits. hands (restores s t bytes is shown short listed plain fits) c.hand_back.ensures;
-          means_term = means_term _ _ _ _ _ handed;
-        }
+      reads_of = handed;
+      restores_of = λ s t bytes is shown short listed plain fits. hands (restores s t bytes is shown short listed plain fits) c.hand_back.ensures;
+      means_term = means_term _ _ _ _ _ handed;
+    }
