@@ -2,7 +2,6 @@
 #![tactic(auto)]
 
 use definitions::Refusal;
-use sheet::Checked;
 use std::rt::Files;
 use std::{env, io};
 
@@ -16,8 +15,8 @@ fn write_refusal(rt: &impl Print, r: Refusal) -> io::Result<()> {
 
 fn write_answer(rt: &impl Print, s: &[u8]) -> io::Result<()> {
     match sheet::answer(s) {
-        Checked::Accepted(_) => print!(rt; "accepted"),
-        Checked::Refused(r) => write_refusal(rt, r),
+        Ok(_) => print!(rt; "accepted"),
+        Err(r) => write_refusal(rt, r),
     }
 }
 

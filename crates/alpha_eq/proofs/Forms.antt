@@ -2,7 +2,7 @@
 use Prim.Native.Nat.{ℕ, ◌+◌, ◌*◌, ◌≤◌, ◌<◌}
 use mathlib.Core.Path.{◌≡◌, refl, sym, ap, ◌∙◌, subst}
 use mathlib.Core.Bool.{Bool, true, false}
-use mathlib.Core.Option.{Option, none, some}
+use Rattle.std.specs.Prelude.{Option, None, Some}
 use mathlib.Core.List.{List, ◌++◌}
 use native.Mathlib.Omega.{arith}
 use native.Mathlib.Decide.{dec_lt}
@@ -59,18 +59,18 @@ fronts_differ False bs r differ = leaf_differs (is_false r) (λ e. differ (sym (
 fronts_differ (Binary c p q) bs r differ = go (as_binary r) refl
   where
     go : (view : Option (Sides Name)) → as_binary r ≡ view → alpha_eq_sides c (alpha_eq_under p bs) (alpha_eq_under q bs) view ≡ accepted false
-    go none e = refl
-    go (some a) e = rw (ne_eqb (connective_byte c) (connective_byte a.connective) (λ same. differ (same ∙ sym (ap front_byte (as_binary_some a e)))))
+    go None e = refl
+    go (Some a) e = rw (ne_eqb (connective_byte c) (connective_byte a.connective) (λ same. differ (same ∙ sym (ap front_byte (as_binary_some a e)))))
 fronts_differ (Atom a ps) bs r differ = go (as_atom r) refl
   where
     go : (view : Option (Applied Name)) → as_atom r ≡ view → alpha_eq_applied bs a ps view ≡ accepted false
-    go none e = refl
-    go (some b) e = absurd (differ (sym (ap front_byte (as_atom_some b e))))
+    go None e = refl
+    go (Some b) e = absurd (differ (sym (ap front_byte (as_atom_some b e))))
 fronts_differ (Quantified q x t p) bs r differ = go (as_quantified r) refl
   where
     go : (view : Option (Scope Name)) → as_quantified r ≡ view → alpha_eq_scope bs q x t (alpha_eq_under p) view ≡ accepted false
-    go none e = refl
-    go (some a) e = rw (ne_eqb (quantifier_byte q) (quantifier_byte a.quantifier) (λ same. differ (same ∙ sym (ap front_byte (as_quantified_some a e)))))
+    go None e = refl
+    go (Some a) e = rw (ne_eqb (quantifier_byte q) (quantifier_byte a.quantifier) (λ same. differ (same ∙ sym (ap front_byte (as_quantified_some a e)))))
 
 front_at : {names : ℕ} {code : List ℕ} {at : ℕ} (name_of : ℕ → Name) (s : Standing proposition_coding names code at)
     → get_or code at 0 ≡ front_byte (rename_prop name_of s.value)

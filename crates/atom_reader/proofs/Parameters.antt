@@ -2,7 +2,7 @@
 use Prim.Native.Nat.{ℕ, suc, ◌+◌, ◌≤◌, ◌<◌}
 use mathlib.Core.Path.{◌≡◌, refl, sym, ap, ◌∙◌}
 use mathlib.Core.Bool.{Bool, true, false, cond}
-use mathlib.Core.Option.{none}
+use Rattle.std.specs.Prelude.{None}
 use mathlib.Core.List.{List, [], ◌∷◌, ◌++◌, map, append-nil}
 use native.Mathlib.Omega.{arith}
 use lib.ListN.{length, drop, length-append}
@@ -126,7 +126,7 @@ unfolding parameters_from ◌>>=◌ followed_by
 from_first names most x s t e = rw e refl
 
 module _ (names : List Name) (most : ℕ) (t u : List ℕ) where
-  later_last : expect (utf8 ", ") t ≡ none → expect (utf8 ")") t ≡ given tt u → later_parameters names (suc most) t ≡ given [] u
+  later_last : expect (utf8 ", ") t ≡ None → expect (utf8 ")") t ≡ given tt u → later_parameters names (suc most) t ≡ given [] u
   unfolding later_parameters if_read ◌>>=◌ followed_by yield
   later_last e f = rw (e, f) refl
 
@@ -134,7 +134,7 @@ module _ (names : List Name) (most : ℕ) (t u : List ℕ) where
   unfolding later_parameters if_read parameters_from ◌>>=◌
   later_more e = rw e refl
 
-later_not : (names : List Name) (most : ℕ) (t : List ℕ) → expect (utf8 ", ") t ≡ none → expect (utf8 ")") t ≡ none → later_parameters names (suc most) t ≡ none
+later_not : (names : List Name) (most : ℕ) (t : List ℕ) → expect (utf8 ", ") t ≡ None → expect (utf8 ")") t ≡ None → later_parameters names (suc most) t ≡ None
 unfolding later_parameters if_read ◌>>=◌ followed_by
 later_not names most t e f = rw (e, f) refl
 

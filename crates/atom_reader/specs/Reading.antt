@@ -1,6 +1,5 @@
 -- What the readers of a proposition and of an atom's parameters are given, and what they answer, in both directions.
-use Rattle.std.specs.Prelude.{ℕ, ◌+◌, ◌*◌, ◌<◌, ◌≤◌, ◌≡◌, Bool, false, List, [], ◌∷◌, ◌++◌, map, length, drop}
-use Rattle.std.proofs.Math.Option.{Option}
+use Rattle.std.specs.Prelude.{ℕ, ◌+◌, ◌*◌, ◌<◌, ◌≤◌, ◌≡◌, Bool, false, List, [], ◌∷◌, ◌++◌, map, length, drop, Option}
 use Rattle.definitions.specs.Name.{Name}
 use Rattle.definitions.specs.Prop.{Prop, Atom, PropParameter, parameter_name, is_false, rename_prop, rename_parameter}
 use Rattle.definitions.specs.Prop as prop

@@ -4,7 +4,7 @@ use mathlib.Core.Path.{◌≡◌, refl, sym, ap, ◌∙◌}
 use mathlib.Core.Logic.{by_cases}
 use mathlib.Core.Bool.{Bool, true, false, ◌&&◌, not, cond}
 use mathlib.Core.List.{List, map}
-use mathlib.Core.Option.{none, some}
+use Rattle.std.specs.Prelude.{None, Some}
 use native.Mathlib.Omega.{arith}
 use native.Mathlib.Decide.{dec_lt}
 use native.Mathlib.Numerals.{add-one}
@@ -64,7 +64,7 @@ module _ (props : ℕ → Prop ℕ) (number : ℕ → ℕ) (d e : ℕ) where
   own_is (suc (suc (suc zero))) = refl
   own_is (suc (suc (suc (suc zero)))) = go (eqb (number 3) 0)
     where
-      go : (b : Bool) → (is_checkable_parameter_label (cond b none (some (label_of props (number 3) d))) && true) ≡ cond (not b) (is_checkable_label (label_of props (number 3) d)) true
+      go : (b : Bool) → (is_checkable_parameter_label (cond b None (Some (label_of props (number 3) d))) && true) ≡ cond (not b) (is_checkable_label (label_of props (number 3) d)) true
       go true = refl
       go false = and_true (is_checkable_label (label_of props (number 3) d))
   own_is (suc (suc (suc (suc (suc zero))))) = refl

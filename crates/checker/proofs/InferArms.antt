@@ -3,7 +3,7 @@ use Prim.Native.Nat.{ℕ, ◌+◌, ◌-◌, ◌*◌, ◌≤◌, ◌<◌}
 use mathlib.Core.Path.{◌≡◌, refl, sym, ap, ◌∙◌}
 use mathlib.Core.Logic.{by_cases}
 use mathlib.Core.Bool.{Bool, true, false, cond}
-use mathlib.Core.Option.{some}
+use Rattle.std.specs.Prelude.{Some}
 use mathlib.Core.List.{List}
 use native.Mathlib.Omega.{arith}
 use native.Mathlib.Decide.{ℕ_discrete, dec_le}
@@ -198,7 +198,7 @@ module _ {records code : List ℕ} {stride : ℕ} {scope mades : List ℕ} {m n 
           (λ same.
           rw ((x.some there).datatype same)
           (inferred_at (function_is.is ∙ ap (λ l. Function (field_at records m 2) l (term a))
-          (some_label (label_prop code stride) (field_at records m 3) (field_at records m 4) there ∙ ap some (a_datatype (label_prop code stride) (field_at records m 3) (field_at records m 4) same)))
+          (some_label (label_prop code stride) (field_at records m 3) (field_at records m 4) there ∙ ap Some (a_datatype (label_prop code stride) (field_at records m 3) (field_at records m 4) same)))
           (function_datatype _) refl kept_all))
           (λ other. absurd (omega (arith, ((x.some there).offset other).1))))
 
@@ -212,11 +212,11 @@ module _ {records code : List ℕ} {stride : ℕ} {scope mades : List ℕ} {m n 
         pub function_stood : Stood code label
         function_stood = rw ((x.some there).offset no_function_datatype).0 (own.label.parameter (sym k ∙ e) there no_function_datatype)
 
-        function_labelled : term m ≡ Function (field_at records m 2) (some (proposition (prop_at name_space code label))) (term a)
+        function_labelled : term m ≡ Function (field_at records m 2) (Some (proposition (prop_at name_space code label))) (term a)
         function_labelled = rw ((x.some there).offset no_function_datatype).0
             (function_is.is ∙ ap (λ l. Function (field_at records m 2) l (term a))
             (some_label (label_prop code stride) (field_at records m 3) (field_at records m 4) there
-            ∙ ap some (a_proposition (label_prop code stride) (field_at records m 3) (field_at records m 4) no_function_datatype)))
+            ∙ ap Some (a_proposition (label_prop code stride) (field_at records m 3) (field_at records m 4) no_function_datatype)))
 
         module _ {bound : List ℕ} {hidden : ℕ} (bd : Bound scope (field_at records m 2) label bound hidden) where
           pub function_call : Call records code stride bound mades m a (n + 1)

@@ -2,7 +2,7 @@
 use Prim.Native.Nat.{ℕ, suc, ◌+◌, ◌≤◌, ◌<◌}
 use mathlib.Core.Path.{◌≡◌, refl, sym, ◌∙◌}
 use mathlib.Core.Bool.{Bool, true, false}
-use mathlib.Core.Option.{none, some}
+use Rattle.std.specs.Prelude.{None, Some}
 use mathlib.Core.List.{List}
 use native.Mathlib.Omega.{arith}
 use native.Mathlib.Numerals.{add-one}
@@ -154,24 +154,24 @@ module _ {code scope mades : List ℕ} {t : ProofTerm ℕ} {n : ℕ} where
 
 -- A function.
 module _ {code scope mades : List ℕ} {t : ProofTerm ℕ} {x n : ℕ} where
-  pub function_none : InfersAs code scope mades (Function x none t) n (stops + n)
+  pub function_none : InfersAs code scope mades (Function x None t) n (stops + n)
   unfolding Means infer rename_term rename_parameter_label named labelled ◌>>=◌
   function_none = stops_as n refl (λ f g d s. refl)
 
-  pub function_datatype : (y : ℕ) → InfersAs code scope mades (Function x (some (datatype y)) t) n (stops + n)
+  pub function_datatype : (y : ℕ) → InfersAs code scope mades (Function x (Some (datatype y)) t) n (stops + n)
   unfolding Means infer rename_term rename_parameter_label rename_label named labelled ◌>>=◌
   function_datatype y = stops_as n refl (λ f g d s. refl)
 
 module _ {code scope mades : List ℕ} {t : ProofTerm ℕ} {x n p r : ℕ} (low : x < name_space) (entries : Entries code scope) (stood : Stood code p)
     (a : InfersAs code (set scope x (p + 1)) mades t (n + 1) r) where
-  pub function_stops : {last : List ℕ} → stops ≤ r → InfersAs code scope last (Function x (some (proposition (prop_at name_space code p))) t) n r
+  pub function_stops : {last : List ℕ} → stops ≤ r → InfersAs code scope last (Function x (Some (proposition (prop_at name_space code p))) t) n r
   unfolding Means infer rename_term rename_parameter_label rename_label named labelled ◌>>=◌
   function_stops h =
       let s = stopping a h in
       stops_as s.k s.at (λ f g d sc. rw (s.means f (bind (f x) (rename_prop f (prop_at name_space code p)) g) d (bound_scope code scope x p low stood entries f g d sc)))
 
   pub function_gives : length mades ≡ made_numbers → n + 1 + nodes t ≤ node_limit → r < stops
-      → InfersAs code scope (slotted mades n 4 p r) (Function x (some (proposition (prop_at name_space code p))) t) n (standing + n)
+      → InfersAs code scope (slotted mades n 4 p r) (Function x (Some (proposition (prop_at name_space code p))) t) n (standing + n)
   unfolding Means infer rename_term rename_parameter_label rename_label rename_prop named labelled nodes connective_byte Shaped ◌>>=◌
   function_gives long room h =
       let v = derives a h in

@@ -3,7 +3,7 @@ use Prim.Native.Nat.{ℕ, ◌+◌, ◌*◌, ◌≤◌, ◌<◌}
 use mathlib.Core.Path.{◌≡◌, refl, sym, ap, ◌∙◌}
 use mathlib.Core.Logic.{by_cases}
 use mathlib.Core.Bool.{Bool, true, false, true≢false}
-use mathlib.Core.Option.{none, some}
+use Rattle.std.specs.Prelude.{None, Some}
 use mathlib.Core.List.{List}
 use native.Mathlib.Omega.{arith}
 use native.Mathlib.Decide.{ℕ_discrete}
@@ -23,7 +23,7 @@ use Rattle.checker.specs.Helping.{LabelTested, BodySide, Ascribed}
 use Rattle.checker.proofs.Steps.{halves_at}
 
 module _ (props : ℕ → Prop ℕ) (kind number : ℕ) where
-  pub no_label : kind ≡ 0 → parameter_label props kind number ≡ none
+  pub no_label : kind ≡ 0 → parameter_label props kind number ≡ None
   unfolding parameter_label
   no_label e = rw (eq-eqb kind 0 e)
 
@@ -35,7 +35,7 @@ module _ (props : ℕ → Prop ℕ) (kind number : ℕ) where
   unfolding label_of
   a_proposition h = rw (ne_eqb kind 2 h)
 
-  pub some_label : (kind ≡ 0 → ⊥) → parameter_label props kind number ≡ some (label_of props kind number)
+  pub some_label : (kind ≡ 0 → ⊥) → parameter_label props kind number ≡ Some (label_of props kind number)
   unfolding parameter_label
   some_label h = rw (ne_eqb kind 0 h)
 

@@ -1,6 +1,5 @@
 -- The names in scope: for each number the offset of its proposition plus one, or 0.
-use Rattle.std.specs.Prelude.{ℕ, suc, zero, ◌<◌, ◌≡◌, List, length, get_or}
-use Rattle.std.proofs.Math.Option.{Option, none, some}
+use Rattle.std.specs.Prelude.{ℕ, suc, zero, ◌<◌, ◌≡◌, List, length, get_or, Option, None, Some}
 use Rattle.definitions.specs.Name.{Name}
 use Rattle.definitions.specs.Prop.{Prop, rename_prop}
 use Rattle.definitions.specs.CheckingRules.{Context, lookup}
@@ -9,8 +8,8 @@ use Rattle.prop_numbers.specs.Standing.{name_space, Stood}
 
 -- the proposition that an entry of the scope stands for: 0 for none, else one more than its offset
 unfoldable pub entry_prop : (ℕ → Name) → List ℕ → ℕ → Option (Prop Name)
-entry_prop f code zero = none
-entry_prop f code (suc p) = some (rename_prop f (prop_at name_space code p))
+entry_prop f code zero = None
+entry_prop f code (suc p) = Some (rename_prop f (prop_at name_space code p))
 
 -- every entry of the scope stands
 pub record Entries (code scope : List ℕ) : Type 0 where

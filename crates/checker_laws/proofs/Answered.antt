@@ -5,7 +5,7 @@ use native.Mathlib.Omega.{arith}
 use mathlib.Core.Path.{◌≡◌, ◌∙◌}
 use mathlib.Core.Logic.{◌↔◌}
 use mathlib.Core.Bool.{Bool, true, false, ◌||◌, true≢false}
-use mathlib.Core.Option.{some}
+use Rattle.std.specs.Prelude.{Some}
 use mathlib.Core.List.{List, [], ◌∷◌, ◌++◌}
 use lib.Dec.{leb}
 use Rattle.definitions.specs.Outcome.{accepted, ◌>>=◌}
@@ -69,7 +69,7 @@ module _ (s hs : List ℕ) (k : ℕ) where
 
 -- the last hypothesis of a name is the one that the name stands for
 pub later_hides : (s hs : List ℕ) (x p : ℕ) (g : Context) → hypothesis_out s hs ≡ false
-    → lookup (name_of s x) (assumed s (hs ++ (x ∷ p ∷ [])) g) ≡ some (named_prop s p)
+    → lookup (name_of s x) (assumed s (hs ++ (x ∷ p ∷ [])) g) ≡ Some (named_prop s p)
 unfolding assumed hypothesis_out lookup
 later_hides s [] x p g e = rw (eq_name_refl (name_of s x))
 later_hides s (y ∷ []) x p g e = absurd (true≢false e)

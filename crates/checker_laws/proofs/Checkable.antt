@@ -1,8 +1,7 @@
 -- What refusal 22 looks at: names do not matter to it, and a term that the rules accept passes it where its labels do.
 use mathlib.Core.Path.{◌≡◌, refl}
 use mathlib.Core.Bool.{true}
-use mathlib.Core.Option as option
-use mathlib.Core.Option.{Option, some}
+use Rattle.std.specs.Prelude.{None, Option, Some}
 use mathlib.Core.List.{List, [], ◌∷◌, map}
 use Rattle.definitions.specs.Name.{Name}
 use Rattle.definitions.specs.Prop.{Prop, True, False, Binary, Atom, Quantified, PropParameter, Uninstantiated, Instantiated, rename_parameter, rename_prop}
@@ -36,8 +35,8 @@ module _ {N M : Type 0} (f : N → M) where
 
   parameter_label_same : (l : Option (Label N)) → is_checkable_parameter_label (rename_parameter_label f l) ≡ is_checkable_parameter_label l
   unfolding is_checkable_parameter_label rename_parameter_label
-  parameter_label_same option.none = refl
-  parameter_label_same (some l) = label_same l
+  parameter_label_same None = refl
+  parameter_label_same (Some l) = label_same l
 
   pub checkable_same : (t : ProofTerm N) → is_checkable (rename_term f t) ≡ is_checkable t
   unfolding is_checkable rename_term
@@ -61,8 +60,8 @@ CheckableLabels t = Each CheckableLabel (λ x. Unit {0}) t
 
 parameter_passes : (l : Option (Label Name)) → OfParameterLabel CheckableLabel (λ x. Unit {0}) l → is_checkable_parameter_label l ≡ true
 unfolding OfParameterLabel is_checkable_parameter_label
-parameter_passes option.none h = refl
-parameter_passes (some l) h = h
+parameter_passes None h = refl
+parameter_passes (Some l) h = h
 
 -- no rule has a let
 mutual

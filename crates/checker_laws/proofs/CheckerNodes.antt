@@ -2,8 +2,7 @@
 use Prim.Native.Nat.{ℕ, ◌+◌, ◌≤◌, ◌<◌}
 use mathlib.Core.Bool.{Bool, true, false}
 use mathlib.Core.Path.{◌≡◌}
-use mathlib.Core.Option as option
-use mathlib.Core.Option.{Option, some}
+use Rattle.std.specs.Prelude.{None, Option, Some}
 use native.Mathlib.Omega.{arith}
 use Rattle.definitions.specs.Name.{Name}
 use Rattle.definitions.specs.Prop.{Prop, False, Connective, and, or, impl, eq_connective, Sides, as_binary}
@@ -37,13 +36,13 @@ module _ {high : ℕ} (n : ℕ) (h : n < high) where
 
   scope_within : (o : Option (Prop Name)) → Within n high (in_scope n o)
   unfolding in_scope
-  scope_within option.none = stops self h
-  scope_within (some a) = goes
+  scope_within None = stops self h
+  scope_within (Some a) = goes
 
   sides_in_within : (c : Connective) (o : Option (Sides Name)) → Within n high (sides_in n c o)
   unfolding sides_in
-  sides_in_within c option.none = stops self h
-  sides_in_within c (some a) = then (ensure_within (eq_connective c a.connective)) (λ u. goes)
+  sides_in_within c None = stops self h
+  sides_in_within c (Some a) = then (ensure_within (eq_connective c a.connective)) (λ u. goes)
 
   sides_within : (c : Connective) (p : Prop Name) → Within n high (sides n c p)
   unfolding sides
@@ -51,15 +50,15 @@ module _ {high : ℕ} (n : ℕ) (h : n < high) where
 
   labelled_within : (l : Option (Label Name)) → Within n high (labelled n l)
   unfolding labelled
-  labelled_within option.none = stops self h
-  labelled_within (some (proposition a)) = goes
-  labelled_within (some (datatype t)) = stops self h
+  labelled_within None = stops self h
+  labelled_within (Some (proposition a)) = goes
+  labelled_within (Some (datatype t)) = stops self h
 
   label_is_within : (l : Option (Label Name)) (a : Prop Name) → Within n high (label_is n l a)
   unfolding label_is
-  label_is_within option.none a = goes
-  label_is_within (some (proposition b)) a = ensure_within (eq_prop b a)
-  label_is_within (some (datatype t)) a = stops self h
+  label_is_within None a = goes
+  label_is_within (Some (proposition b)) a = ensure_within (eq_prop b a)
+  label_is_within (Some (datatype t)) a = stops self h
 
   compared_within : (a : Prop Name) {o : Judged (Prop Name)} → Within n high o → Within n high (compared n a o)
   unfolding compared
@@ -90,7 +89,7 @@ module _ {high : ℕ} (n : ℕ) (h : n < high) where
   ascribed_within : (l : Label Name) {k : Prop Name → Judged (Unit {0})}
       → ((b : Prop Name) → Within n high (k b)) → Within n high (infer_ascribed n l k)
   unfolding infer_ascribed
-  ascribed_within l k = then (labelled_within (some l)) (λ a. then (k a) (λ u. goes))
+  ascribed_within l k = then (labelled_within (Some l)) (λ a. then (k a) (λ u. goes))
 
 mutual
   unfolding infer check nodes

@@ -3,8 +3,7 @@ use Prim.Native.Nat.{ℕ, ◌+◌}
 use mathlib.Core.Path.{◌≡◌, refl, sym, ap, ◌∙◌}
 use mathlib.Core.Logic.{◌↔◌}
 use mathlib.Core.Bool.{Bool, true, false, true≢false}
-use mathlib.Core.Option as option
-use mathlib.Core.Option.{Option, some}
+use Rattle.std.specs.Prelude.{None, Option, Some}
 use Rattle.definitions.specs.Name.{Name}
 use Rattle.definitions.specs.Prop.{Prop, True, False, Binary, And, Impl, Connective, and, or, impl, eq_connective, Sides, as_binary}
 use Rattle.definitions.specs.Equal.{eq_prop}
@@ -38,10 +37,10 @@ ensured n true e = refl
 ensured n false e = cc
 
 sides_in_derived : (n : ℕ) (c : Connective) (v : Option (Sides Name)) (s : Sides Name) → sides_in n c v ≡ derived s
-    → (v ≡ some s) × (c ≡ s.connective)
+    → (v ≡ Some s) × (c ≡ s.connective)
 unfolding sides_in
-sides_in_derived n c option.none s e = absurd (apart e)
-sides_in_derived n c (some a) s e =
+sides_in_derived n c None s e = absurd (apart e)
+sides_in_derived n c (Some a) s e =
     let x = bound (ensure n (eq_connective c a.connective)) _ s e in
     let same = eq_connective_true {c = c} (ensured n (eq_connective c a.connective) x.1) in
     ((cc), (cc))
@@ -54,22 +53,22 @@ sides_derived n c p s e =
     let whole = as_binary_some {p = p} s x.0 in
     cc
 
-labelled_derived : (n : ℕ) (l : Option (Label Name)) (a : Prop Name) → labelled n l ≡ derived a → l ≡ some (proposition a)
+labelled_derived : (n : ℕ) (l : Option (Label Name)) (a : Prop Name) → labelled n l ≡ derived a → l ≡ Some (proposition a)
 unfolding labelled
-labelled_derived n option.none a e = cc
-labelled_derived n (some (proposition b)) a e = cc
-labelled_derived n (some (datatype t)) a e = cc
+labelled_derived n None a e = cc
+labelled_derived n (Some (proposition b)) a e = cc
+labelled_derived n (Some (datatype t)) a e = cc
 
 label_is_derived : (n : ℕ) (l : Option (Label Name)) (a : Prop Name) → label_is n l a ≡ derived tt → LabelIs l a
 unfolding label_is LabelIs
-label_is_derived n option.none a e = tt
-label_is_derived n (some (proposition b)) a e = ap proposition (eq_prop_true b a (ensured n (eq_prop b a) e))
-label_is_derived n (some (datatype t)) a e = absurd (apart e)
+label_is_derived n None a e = tt
+label_is_derived n (Some (proposition b)) a e = ap proposition (eq_prop_true b a (ensured n (eq_prop b a) e))
+label_is_derived n (Some (datatype t)) a e = absurd (apart e)
 
-in_scope_derived : (n : ℕ) (v : Option (Prop Name)) (a : Prop Name) → in_scope n v ≡ derived a → v ≡ some a
+in_scope_derived : (n : ℕ) (v : Option (Prop Name)) (a : Prop Name) → in_scope n v ≡ derived a → v ≡ Some a
 unfolding in_scope
-in_scope_derived n option.none a e = cc
-in_scope_derived n (some b) a e = cc
+in_scope_derived n None a e = cc
+in_scope_derived n (Some b) a e = cc
 
 compared_derived : (n : ℕ) (a : Prop Name) (o : Judged (Prop Name)) → compared n a o ≡ derived tt → o ≡ derived a
 unfolding compared
@@ -130,8 +129,8 @@ module _ (g : Context) (n : ℕ) where
       → (a : Prop Name) → infer_ascribed n l k ≡ derived a → Infers g (TypeAscription t l) a
   unfolding infer_ascribed
   ascribed_inferred t l k body a e =
-      let x = bound (labelled n (some l)) _ a e in
-      let label = labelled_derived n (some l) x.0 x.1 in
+      let x = bound (labelled n (Some l)) _ a e in
+      let label = labelled_derived n (Some l) x.0 x.1 in
       let y = bound (k x.0) _ a x.2 in
       let own = y.2 in
       let is_label : l ≡ proposition a = cc in

@@ -16,7 +16,7 @@ use alpha_eq::Answer;
 use definitions::Refusal;
 use identifier::same_bytes;
 use number::pair_offset;
-use sheet::{Checked, Sheet, code_bytes, name_pairs, proposition_pairs, step_records, text_bytes};
+use sheet::{Sheet, code_bytes, name_pairs, proposition_pairs, step_records, text_bytes};
 use steps::{Conclusion, Judgement, step_at};
 
 // Whether the names of two numbers have the same bytes.
@@ -100,7 +100,7 @@ pub fn compare(s: &[u8], i: usize, j: usize) -> Answer
 {
     let checked = sheet::answer(s);
     match checked {
-        Checked::Refused(refusal) => Answer::Refused(refusal),
-        Checked::Accepted(h) => compare_steps(s, h, i, j),
+        Err(refusal) => Answer::Refused(refusal),
+        Ok(h) => compare_steps(s, h, i, j),
     }
 }

@@ -5,7 +5,7 @@ use mathlib.Core.Bool.{Bool, true, false, cond}
 use mathlib.Core.List.{List, [], ◌∷◌, map}
 use native.Mathlib.Omega.{arith}
 use lib.ListN.{length, length-append}
-use Rattle.definitions.specs.declared.Order.{Order}
+use Rattle.std.specs.declared.cmp.Ordering.{Ordering}
 use Rattle.definitions.specs.declared.Version.{Version}
 use Rattle.definitions.specs.declared.Version.TheVariants.{First, Second, Third}
 use Rattle.definitions.specs.declared.TermList.{TermList}
@@ -30,7 +30,7 @@ module _ {A : Type 0} (line : A → List ℕ) where
   joined [] = refl
   joined (a ∷ l) = omega arith
 
-  module _ (compare : A → A → Order) where
+  module _ (compare : A → A → Ordering) where
     inserted : (a : A) (l : List A) → bytes (insert compare a l) ≡ bytes (a ∷ l)
     unfolding insert
     inserted a [] = refl
@@ -52,7 +52,7 @@ module _ {A : Type 0} (line : A → List ℕ) where
     in_any_order Second l = refl
     in_any_order Third l = sorted l
 
-pub same_lines : (compare : AtomUse Name → AtomUse Name → Order) (v : Version) (list : TermList) (uses : List (AtomUse Name))
+pub same_lines : (compare : AtomUse Name → AtomUse Name → Ordering) (v : Version) (list : TermList) (uses : List (AtomUse Name))
     → length (declaration_lines list (arranged compare v uses)) ≡ length (declaration_lines list uses)
 unfolding declaration_lines
 same_lines compare v list uses =

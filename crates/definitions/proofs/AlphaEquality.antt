@@ -6,12 +6,13 @@ use mathlib.Core.Path.{◌≡◌, refl, sym, ◌∙◌, ap, subst}
 use mathlib.Core.Logic.Iff
 use mathlib.Core.Logic.{◌⊎◌, inl, inr}
 use mathlib.Core.Bool.{Bool, true, false, ◌&&◌, ◌||◌, cond, and-eq-true_iff}
-use mathlib.Core.Option.{Option, none, some, IsSome}
+use Rattle.std.specs.Prelude.{Option, None, Some, IsSome}
 use mathlib.Core.List.{List, [], ◌∷◌, map}
 use lib.ListN.{length, length-map}
 use lib.Dec.{eqb}
 use native.Mathlib.Omega.{arith}
 use borrow.Author.Tests.{eqb-true, eqb-false, eq-eqb, ne_eqb}
+use Rattle.std.proofs.lemmas.Bool.{false≢true}
 use Rattle.definitions.specs.Utf8.{utf8}
 use Rattle.definitions.specs.declared.Refusal.{Refusal}
 use Rattle.definitions.specs.Outcome.{Outcome, refused, accepted, refuse}
@@ -144,9 +145,9 @@ shown : (env : List Name) (r : Prop Name) → Shown r (nameless env r)
 unfolding nameless is_true is_false as_binary as_atom as_quantified
 shown env prop.True = refl
 shown env prop.False = refl
-shown env (prop.Binary c p q) = tt
-shown env (prop.Atom a ps) = tt
-shown env (prop.Quantified q x t p) = tt
+shown env (prop.Binary c p q) = refl
+shown env (prop.Atom a ps) = refl
+shown env (prop.Quantified q x t p) = refl
 
 shows : (env : List Name) (r : Prop Name) {m : Nameless} → m ≡ nameless env r → Shown r m
 shows env r same = subst (Shown r) (sym same) (shown env r)
@@ -161,8 +162,8 @@ sides : (bs : List Binding) (c : Connective) (p q : Prop Name) → Law p bs → 
     → Compared HasFree (Binary c (nameless (lefts bs) p) (nameless (lefts bs) q)) (nameless (rights bs) r)
     (alpha_eq_sides c (alpha_eq_under p bs) (alpha_eq_under q bs) view)
 unfolding nameless alpha_eq_sides no
-sides bs c p q left right r none e = fails (λ same. subst IsSome e (shows (rights bs) r same))
-sides bs c p q left right r (some a) e =
+sides bs c p q left right r None e = fails (λ same. false≢true (subst IsSome e (shows (rights bs) r same)))
+sides bs c p q left right r (Some a) e =
     rw (as_binary_some a e)
     (restated ((λ h. cc), (λ e. (cc, (cc, cc))))
     (both (decided (eq_connective c a.connective) (eq_connective_true, eq_connective_of_eq))
@@ -172,8 +173,8 @@ applied : (bs : List Binding) (a : Name) (ps : List (PropParameter Name))
     → (r : Prop Name) (view : Option (Applied Name)) → as_atom r ≡ view
     → Compared HasFree (Atom a (map (object (lefts bs)) ps)) (nameless (rights bs) r) (alpha_eq_applied bs a ps view)
 unfolding nameless alpha_eq_applied alpha_eq_atom no
-applied bs a ps r none e = fails (λ same. subst IsSome e (shows (rights bs) r same))
-applied bs a ps r (some b) e =
+applied bs a ps r None e = fails (λ same. false≢true (subst IsSome e (shows (rights bs) r same)))
+applied bs a ps r (Some b) e =
     rw (as_atom_some b e)
     (restated ((λ h. cc), (λ e. (cc, cc)))
     (both (names a b.atom) (counted bs ps b.parameters (eqb (length ps) (length b.parameters)) refl)))
@@ -184,8 +185,8 @@ scope : (bs : List Binding) (q : Quantifier) (x t : Name) (p : Prop Name)
     → Compared HasFree (Quantified q t (nameless (x ∷ lefts bs) p)) (nameless (rights bs) r)
     (alpha_eq_scope bs q x t (alpha_eq_under p) view)
 unfolding nameless alpha_eq_scope no
-scope bs q x t p body r none e = fails (λ same. subst IsSome e (shows (rights bs) r same))
-scope bs q x t p body r (some a) e =
+scope bs q x t p body r None e = fails (λ same. false≢true (subst IsSome e (shows (rights bs) r same)))
+scope bs q x t p body r (Some a) e =
     rw (as_quantified_some a e)
     (restated ((λ h. cc), (λ e. (cc, (cc, cc))))
     (both (decided (eq_quantifier q a.quantifier) (eq_quantifier_true, eq_quantifier_of_eq))

@@ -1,8 +1,7 @@
 -- Whatever the checking rules derive, the checker answers yes to.
 use Prim.Native.Nat.{ℕ, ◌+◌}
 use mathlib.Core.Path.{◌≡◌, refl}
-use mathlib.Core.Option as option
-use mathlib.Core.Option.{Option, some}
+use Rattle.std.specs.Prelude.{None, Option, Some}
 use Rattle.definitions.specs.Name.{Name}
 use Rattle.definitions.specs.Prop.{Prop, True, eq_connective, connective_byte, as_binary}
 use Rattle.definitions.specs.Term.{Label, proposition, ProofTerm}
@@ -14,8 +13,8 @@ use Rattle.definitions.proofs.Equal.{eq_prop_refl}
 -- a label that equals the proposition
 label_same : (n : ℕ) (l : Option (Label Name)) (a : Prop Name) → LabelIs l a → label_is n l a ≡ derived tt
 unfolding LabelIs label_is ensure
-label_same n option.none a e = refl
-label_same n (some l) a e = simp (e, eq_prop_refl a)
+label_same n None a e = refl
+label_same n (Some l) a e = simp (e, eq_prop_refl a)
 
 -- Whatever infers a proposition is found to infer it, and passes its own checked rule for it.
 mutual
@@ -40,7 +39,7 @@ mutual
       (rw y, rw (y, eq_prop_refl a))
   infers_complete (infer_function_lem {a = a} d) n =
       let x = infers_complete d (n + 1) in
-      (rw x.0, rw (label_same n (some (proposition a)) a refl) x.1)
+      (rw x.0, rw (label_same n (Some (proposition a)) a refl) x.1)
   infers_complete (infer_pair {s = s} d e) n =
       let x = infers_complete d (n + 1) in
       let y = infers_complete e (n + 1 + nodes s) in

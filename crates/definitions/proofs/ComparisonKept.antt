@@ -2,7 +2,7 @@
 use Prim.Native.Nat.{ℕ}
 use mathlib.Core.Path.{◌≡◌}
 use mathlib.Core.Bool.{Bool, true, false, not}
-use mathlib.Core.Option.{Option, none, some}
+use Rattle.std.specs.Prelude.{Option, None, Some}
 use mathlib.Core.List.{List, []}
 use native.Mathlib.Omega.{arith}
 use lib.ListN.{length}
@@ -42,22 +42,22 @@ counted false o = clash_is_no
 applied : (bs : List Binding) (a : Name) (ps : List (PropParameter Name)) (view : Option (Applied Name))
     → Kept (alpha_eq_applied18 bs a ps view) (alpha_eq_applied bs a ps view)
 unfolding alpha_eq_applied18 alpha_eq_applied alpha_eq_atom
-applied bs a ps none = same
-applied bs a ps (some b) = both same (counted (eqb (length ps) (length b.parameters)) (alpha_eq_parameters bs ps b.parameters))
+applied bs a ps None = same
+applied bs a ps (Some b) = both same (counted (eqb (length ps) (length b.parameters)) (alpha_eq_parameters bs ps b.parameters))
 
 sides : (c : Connective) {f g f18 g18 : Prop Name → Outcome Bool}
     → ((r : Prop Name) → Kept (f18 r) (f r)) → ((r : Prop Name) → Kept (g18 r) (g r)) → (view : Option (Sides Name))
     → Kept (alpha_eq_sides c f18 g18 view) (alpha_eq_sides c f g view)
 unfolding alpha_eq_sides
-sides c k l none = same
-sides c k l (some a) = both same (both (k a.left) (l a.right))
+sides c k l None = same
+sides c k l (Some a) = both same (both (k a.left) (l a.right))
 
 scope : (bs : List Binding) (q : Quantifier) (x t : Name) {f f18 : List Binding → Prop Name → Outcome Bool}
     → ((cs : List Binding) (r : Prop Name) → Kept (f18 cs r) (f cs r)) → (view : Option (Scope Name))
     → Kept (alpha_eq_scope bs q x t f18 view) (alpha_eq_scope bs q x t f view)
 unfolding alpha_eq_scope
-scope bs q x t k none = same
-scope bs q x t k (some a) = both same (both same (k _ a.body))
+scope bs q x t k None = same
+scope bs q x t k (Some a) = both same (both same (k _ a.body))
 
 under_kept : (p : Prop Name) (bs : List Binding) (r : Prop Name) → Kept (alpha_eq_under18 p bs r) (alpha_eq_under p bs r)
 unfolding alpha_eq_under18 alpha_eq_under

@@ -3,7 +3,7 @@
 use Prim.Native.Nat.{ℕ}
 use mathlib.Core.Path.{◌≡◌, refl, sym, ◌∙◌}
 use mathlib.Core.Bool.{false, true}
-use mathlib.Core.Option.{some}
+use Rattle.std.specs.Prelude.{Some}
 use mathlib.Core.List.{List, [], ◌∷◌, Memᴰ}
 use Rattle.definitions.specs.Name.{Name, eq_name}
 use Rattle.definitions.specs.Prop.{Prop}
@@ -25,7 +25,7 @@ apart x f (Memᴰ.head p) = rw p f.0
 apart x f (Memᴰ.tail i) = apart x f.1 i
 
 -- a hypothesis in scope is the latest of its name
-latest : {hs : Hypotheses} {h : Hypothesis} → Distinct hs → Memᴰ h hs → lookup h.identifier.name (context hs) ≡ some h.prop
+latest : {hs : Hypotheses} {h : Hypothesis} → Distinct hs → Memᴰ h hs → lookup h.identifier.name (context hs) ≡ Some h.prop
 unfolding lookup context
 latest {h = h} nothing x3 = elim x3 [ ]
 latest {h = h} (added f d) (Memᴰ.head p) = rw (p, eq_name_refl)

@@ -1,7 +1,7 @@
 -- The test of two propositions decides equality: the same shape, name bytes and ids.
 use mathlib.Core.Path.{◌≡◌, refl, sym, ap}
 use mathlib.Core.Bool.{Bool, true, false, ◌&&◌, true≢false, and-eq-true_iff}
-use mathlib.Core.Option.{Option, none, some}
+use Rattle.std.specs.Prelude.{Option, None, Some}
 use mathlib.Core.List.{List, [], ◌∷◌}
 use lib.Dec.{eqb}
 use borrow.Author.Tests.{eqb-true, eq-eqb}
@@ -37,11 +37,11 @@ eq_parameters_true (p ∷ ps) (q ∷ qs) e =
     let rest = eq_parameters_true ps qs b in
     cc
 
-no_sides : (c : Connective) (f g : Prop Name → Bool) → eq_sides c f g none ≡ true → ⊥
+no_sides : (c : Connective) (f g : Prop Name → Bool) → eq_sides c f g None ≡ true → ⊥
 unfolding eq_sides
 no_sides c f g e = true≢false (sym e)
 
-same_sides : (c : Connective) (f g : Prop Name → Bool) (a : Sides Name) → eq_sides c f g (some a) ≡ true
+same_sides : (c : Connective) (f g : Prop Name → Bool) (a : Sides Name) → eq_sides c f g (Some a) ≡ true
     → (eq_connective c a.connective ≡ true) × (f a.left ≡ true) × (g a.right ≡ true)
 unfolding eq_sides
 same_sides c f g a e =
@@ -49,20 +49,20 @@ same_sides c f g a e =
     let (l, r) = both (f a.left) (g a.right) y in
     (x, l, r)
 
-no_applied : (b : Name) (ps : List (PropParameter Name)) → eq_applied b ps none ≡ true → ⊥
+no_applied : (b : Name) (ps : List (PropParameter Name)) → eq_applied b ps None ≡ true → ⊥
 unfolding eq_applied
 no_applied b ps e = true≢false (sym e)
 
-same_applied : (b : Name) (ps : List (PropParameter Name)) (a : Applied Name) → eq_applied b ps (some a) ≡ true
+same_applied : (b : Name) (ps : List (PropParameter Name)) (a : Applied Name) → eq_applied b ps (Some a) ≡ true
     → (eq_name b a.atom ≡ true) × (eq_parameters ps a.parameters ≡ true)
 unfolding eq_applied
 same_applied b ps a e = both (eq_name b a.atom) (eq_parameters ps a.parameters) e
 
-no_scope : (q : Quantifier) (x t : Name) (f : Prop Name → Bool) → eq_scope q x t f none ≡ true → ⊥
+no_scope : (q : Quantifier) (x t : Name) (f : Prop Name → Bool) → eq_scope q x t f None ≡ true → ⊥
 unfolding eq_scope
 no_scope q x t f e = true≢false (sym e)
 
-same_scope : (q : Quantifier) (x t : Name) (f : Prop Name → Bool) (a : Scope Name) → eq_scope q x t f (some a) ≡ true
+same_scope : (q : Quantifier) (x t : Name) (f : Prop Name → Bool) (a : Scope Name) → eq_scope q x t f (Some a) ≡ true
     → (eq_quantifier q a.quantifier ≡ true) × (eq_name x a.object ≡ true) × (eq_name t a.datatype ≡ true) × (f a.body ≡ true)
 unfolding eq_scope
 same_scope q x t f a e =
@@ -79,8 +79,8 @@ eq_prop_true (Binary c p q) r e = sides (as_binary r) refl e (λ s f. eq_prop_tr
   where
     sides : (x : Option (Sides Name)) → as_binary r ≡ x → eq_sides c (eq_prop p) (eq_prop q) x ≡ true
         → ((s : Prop Name) → eq_prop p s ≡ true → p ≡ s) → ((s : Prop Name) → eq_prop q s ≡ true → q ≡ s) → Binary c p q ≡ r
-    sides none is f left right = absurd (no_sides c (eq_prop p) (eq_prop q) f)
-    sides (some a) is f left right =
+    sides None is f left right = absurd (no_sides c (eq_prop p) (eq_prop q) f)
+    sides (Some a) is f left right =
         let (x, y, z) = same_sides c (eq_prop p) (eq_prop q) a f in
         let i : c ≡ a.connective = eq_connective_true x in
         let j = left a.left y in
@@ -90,8 +90,8 @@ eq_prop_true (Binary c p q) r e = sides (as_binary r) refl e (λ s f. eq_prop_tr
 eq_prop_true (Atom b ps) r e = applied (as_atom r) refl e
   where
     applied : (x : Option (Applied Name)) → as_atom r ≡ x → eq_applied b ps x ≡ true → Atom b ps ≡ r
-    applied none is f = absurd (no_applied b ps f)
-    applied (some a) is f =
+    applied None is f = absurd (no_applied b ps f)
+    applied (Some a) is f =
         let (x, y) = same_applied b ps a f in
         let i : b ≡ a.atom = eq_name_true x in
         let j = eq_parameters_true ps a.parameters y in
@@ -101,8 +101,8 @@ eq_prop_true (Quantified q x t p) r e = scope (as_quantified r) refl e (λ s f. 
   where
     scope : (y : Option (Scope Name)) → as_quantified r ≡ y → eq_scope q x t (eq_prop p) y ≡ true → ((s : Prop Name) → eq_prop p s ≡ true → p ≡ s)
         → Quantified q x t p ≡ r
-    scope none is f body = absurd (no_scope q x t (eq_prop p) f)
-    scope (some a) is f body =
+    scope None is f body = absurd (no_scope q x t (eq_prop p) f)
+    scope (Some a) is f body =
         let (b, c, d, g) = same_scope q x t (eq_prop p) a f in
         let i : q ≡ a.quantifier = eq_quantifier_true b in
         let j : x ≡ a.object = eq_name_true c in

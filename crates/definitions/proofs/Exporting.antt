@@ -5,8 +5,7 @@ use native.Mathlib.Omega.{arith}
 use borrow.Author.Tests.{le-leb}
 use mathlib.Core.Path.{◌≡◌, refl, ap, ◌∙◌}
 use mathlib.Core.Bool.{true, not}
-use mathlib.Core.Option as option
-use mathlib.Core.Option.{some}
+use Rattle.std.specs.Prelude.{None, Some}
 use mathlib.Core.List.{List, [], ◌∷◌}
 use Rattle.definitions.specs.Outcome.{Outcome, accepted, ◌>>=◌, refuse_if}
 use Rattle.definitions.specs.Name.{Name}
@@ -73,13 +72,13 @@ module _ (z : Step Name) (ps : Premisses Name) (us : List (ProofTerm Name)) (adm
   placed m d = rw (admitted, d.exported)
 
   -- a step in a checking place
-  checking_step : AllExported (places z.rule checking) ps us → Exported checking (over z ps) (step_term z option.none us)
+  checking_step : AllExported (places z.rule checking) ps us → Exported checking (over z ps) (step_term z None us)
   unfolding placed_term placed_tally total tally_of
   checking_step d = record { exported = placed checking d; labelled = labels.unlabelled refl d.labelled refl }
 
   -- a step without a label of its own
-  bare_step : (m : Place) → total (tally z.rule) ≡ 0 → inferring_term (ending z.rule) z us ≡ accepted (step_term z option.none us)
-      → AllExported (places z.rule m) ps us → Exported m (over z ps) (step_term z option.none us)
+  bare_step : (m : Place) → total (tally z.rule) ≡ 0 → inferring_term (ending z.rule) z us ≡ accepted (step_term z None us)
+      → AllExported (places z.rule m) ps us → Exported m (over z ps) (step_term z None us)
   unfolding placed_term placed_tally total tally_of
   bare_step checking n e d = checking_step d
   bare_step inferring n e d = record { exported = rw (placed inferring d) e; labelled = labels.unlabelled n d.labelled refl }
@@ -88,7 +87,7 @@ module _ (z : Step Name) (ps : Premisses Name) (us : List (ProofTerm Name)) (adm
   ascribed_step : (a : Prop Name) → z.conclusion ≡ PropIsTrue a
       → ending z.rule ≡ ascribed → total (tally z.rule) ≡ 1 → (tally z.rule).functions ≡ 0
       → AllExported (places z.rule inferring) ps us
-      → Exported inferring (over z ps) (TypeAscription (step_term z option.none us) (proposition a))
+      → Exported inferring (over z ps) (TypeAscription (step_term z None us) (proposition a))
   unfolding placed_term placed_tally inferring_term ascription_label ◌>>=◌
   ascribed_step a c e n f d =
       record {
@@ -100,7 +99,7 @@ module _ (z : Step Name) (ps : Premisses Name) (us : List (ProofTerm Name)) (adm
   function_step : (a b : Prop Name) → z.conclusion ≡ PropIsTrue (Impl a b)
       → ending z.rule ≡ left_labelled → total (tally z.rule) ≡ 1 → (tally z.rule).functions ≡ 1
       → AllExported (places z.rule inferring) ps us
-      → Exported inferring (over z ps) (step_term z (some (proposition a)) us)
+      → Exported inferring (over z ps) (step_term z (Some (proposition a)) us)
   unfolding placed_term placed_tally inferring_term left_label implication_label as_binary eq_connective connective_byte ◌>>=◌
   function_step a b c e n f d =
       record {
@@ -118,17 +117,17 @@ pub record Exports (hs : Hypotheses) (t : ProofTree Name) (a : Prop Name) (m : P
 module _ (m : Place) (hs : Hypotheses) (z : Step Name) (r : ProofTreeRule) (is_rule : z.rule ≡ r) where
   -- the step's term, with the rule in place of the step
   abbrev Term : List (ProofTerm Name) → ProofTerm Name
-  Term us = rule_term r z.first.name z.second.name option.none (premiss_term us 0) (premiss_term us 1) (premiss_term us 2)
+  Term us = rule_term r z.first.name z.second.name None (premiss_term us 0) (premiss_term us 1) (premiss_term us 2)
 
   -- a step without a label of its own
   unlabelled : {ps : Premisses Name} {us : List (ProofTerm Name)} {a : Prop Name}
       → admits_count r (count ps) ≡ true → total (tally r) ≡ 0
-      → {e : Ending} → ending r ≡ e → inferring_term e z us ≡ accepted (step_term z option.none us)
+      → {e : Ending} → ending r ≡ e → inferring_term e z us ≡ accepted (step_term z None us)
       → AllExported (places r m) ps us → Accepts m (context hs) (Term us) a → Exports hs (over z ps) a m
   unfolding step_term
   unlabelled {ps} {us} k n {e} is_ending is_bare d accepts =
       record {
-        term = step_term z option.none us;
+        term = step_term z None us;
         result = bare_step z ps us (rw is_rule k) m (rw is_rule n)
             (ap (λ x. inferring_term x z us) (ap ending is_rule ∙ is_ending) ∙ is_bare) (rw is_rule d);
         accepts = rw is_rule accepts;
@@ -143,13 +142,13 @@ module _ (hs : Hypotheses) (z : Step Name) (r : ProofTreeRule) (is_rule : z.rule
   unfolding step_term
   ascribe {ps} {us} checking a c e n f k d checked =
       record {
-        term = step_term z option.none us;
+        term = step_term z None us;
         result = checking_step z ps us (rw is_rule k) (rw is_rule d);
         accepts = rw is_rule (checks checked);
       }
   ascribe {ps} {us} inferring a c e n f k d checked =
       record {
-        term = TypeAscription (step_term z option.none us) (proposition a);
+        term = TypeAscription (step_term z None us) (proposition a);
         result = ascribed_step z ps us (rw is_rule k) a c (rw is_rule e) (rw is_rule n) (rw is_rule f) (rw is_rule d);
         accepts = rw is_rule (infers (infer_ascribed_lem checked));
       }
@@ -160,13 +159,13 @@ abstraction : {t : ProofTree Name} (hs : Hypotheses) (z : Step Name) (a b : Prop
 unfolding context admits_count admits count places ending row row_of step_term rule_term premiss_term total tally tally_of LabelIs
 abstraction {t} hs z a b checking c x =
     record {
-      term = step_term z option.none (x.term ∷ []);
+      term = step_term z None (x.term ∷ []);
       result = checking_step z (t and none) (x.term ∷ []) (rw c.rule) (rw c.rule (read x.result (unread none)));
       accepts = rw c.rule (checks (check_function tt (check x.accepts)));
     }
 abstraction {t} hs z a b inferring c x =
     record {
-      term = step_term z (some (proposition a)) (x.term ∷ []);
+      term = step_term z (Some (proposition a)) (x.term ∷ []);
       result =
           function_step z (t and none) (x.term ∷ []) (rw c.rule) a b c.conclusion (rw c.rule) (rw c.rule) (rw c.rule)
           (rw c.rule (read x.result (unread none)));

@@ -8,8 +8,8 @@ use native.Mathlib.Omega.{arith}
 use native.Mathlib.Decide.{dec_lt}
 use lib.Dec.{eqb}
 use borrow.Author.Tests.{lt-ltb, le-ltb, eq-eqb, ne_eqb}
-use Rattle.definitions.specs.declared.Order.{Order}
-use Rattle.definitions.specs.declared.Order.TheVariants.{Less, Equal, Greater}
+use Rattle.std.specs.declared.cmp.Ordering.{Ordering}
+use Rattle.std.specs.declared.cmp.Ordering.TheVariants.{Less, Equal, Greater}
 use Rattle.definitions.specs.Name.{Name, compare_number, or_else, compare_name, is_equal, eq_name}
 use Rattle.definitions.specs.Prop.{AtomUse}
 use Rattle.definitions.specs.Text.{compare_atom_use, eq_atom_use}
@@ -22,7 +22,7 @@ equal_number x y = by_cases (dec_lt x y)
     (λ k. rw (le-ltb x y (omega arith), ne_eqb x y (λ e. omega arith)))
     (λ k. rw (le-ltb x y (omega arith), eq-eqb x y (omega arith))))
 
-equal_then : (o next : Order) → is_equal (or_else o next) ≡ is_equal o && is_equal next
+equal_then : (o next : Ordering) → is_equal (or_else o next) ≡ is_equal o && is_equal next
 unfolding or_else is_equal
 equal_then Less next = refl
 equal_then Equal next = refl

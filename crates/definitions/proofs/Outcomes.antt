@@ -2,7 +2,7 @@
 use Prim.Native.Nat.{ℕ}
 use mathlib.Core.Path.{◌≡◌, refl}
 use mathlib.Core.Bool.{Bool, true, false}
-use mathlib.Core.Option.{Option, none, some}
+use Rattle.std.specs.Prelude.{Option, None, Some}
 use native.Mathlib.Omega.{arith}
 use Rattle.definitions.specs.Outcome.{Outcome, refused, accepted, refuse, ◌>>=◌, refuse_if, lowest, refuse_at, refuse_lowest}
 
@@ -25,12 +25,12 @@ unfolding refuse_if refuse
 test_failed true number place e = absurd (let z : ◌≡◌ {A = ℕ} 0 1 = cc in omega arith)
 test_failed false number place e = refl
 
-nothing_refused : (o : Option ℕ) (number : ℕ) {a : Unit {0}} → refuse_at o number ≡ accepted a → o ≡ none
+nothing_refused : (o : Option ℕ) (number : ℕ) {a : Unit {0}} → refuse_at o number ≡ accepted a → o ≡ None
 unfolding refuse_at refuse
-nothing_refused none number e = refl
-nothing_refused (some i) number e = absurd (let z : ◌≡◌ {A = ℕ} 0 1 = cc in omega arith)
+nothing_refused None number e = refl
+nothing_refused (Some i) number e = absurd (let z : ◌≡◌ {A = ℕ} 0 1 = cc in omega arith)
 
 pub none_lowest : (test : ℕ → Bool) (count number : ℕ) {a : Unit {0}} → refuse_lowest test count number ≡ accepted a
-    → lowest test count ≡ none
+    → lowest test count ≡ None
 unfolding refuse_lowest
 none_lowest test count number e = nothing_refused _ number e

@@ -1,7 +1,7 @@
 -- Reading inverts writing, both ways: the code of a proposition reads back as that proposition, and what is read from bytes is the proposition whose code stands there.
 use Prim.Native.Nat.{ℕ, zero, suc, ◌+◌, ◌*◌, ◌/◌, ◌%◌, ◌<◌, ◌≤◌}
 use mathlib.Core.Path.{◌≡◌, refl, sym, ap, ◌∙◌}
-use mathlib.Core.Option.{some, some-injective}
+use Rattle.std.specs.Prelude.{Some}
 use mathlib.Core.List.{List, [], ◌∷◌, ◌++◌, append_assoc, append-nil}
 use native.Mathlib.Omega.{arith}
 use lib.ListN.{length, length-append}
@@ -10,6 +10,7 @@ use borrow.Author.Tests.{lt-ltb, le-leb, ltb-true, leb-true}
 use Rattle.definitions.specs.Prop.{Prop, True, False, Binary, Atom, Quantified, PropParameter, Uninstantiated, Instantiated, Connective, and, or, impl, connective_byte, Quantifier, for_all, exists, quantifier_byte}
 use Rattle.definitions.specs.Code.{Read, Reading, yield, fail, followed_by, ◌>>=◌, byte, number, whole, parameter_limit, name_number, uninstantiated, instantiated, parameter, parameters, atom, binary, quantified, by_head, proposition, decode, u16, encode_parameter, encode_parameters, encode, CodableParameter, CodableParameters, Codable}
 use Rattle.definitions.proofs.Readings.{given, reads_none, reads_some, reads_if, reads_then, Recovers, RecoversAfter, recover_byte, recover_number, recover_fail, recover_picked, entries, whole_read}
+use Rattle.std.proofs.lemmas.Option.{same_Some}
 pub use Rattle.definitions.proofs.Readings.{Bytes}
 
 -- a number is put together from its two bytes
@@ -77,7 +78,7 @@ module _ (names : ℕ) where
       let sum' = length-append (u16 t) (encode p) in
       rw (by_head_quantifier, append_assoc, append_assoc, read_name x _ ok.0, read_name t _ ok.1, read_encode bytes p rest ok.2 (omega arith))
 
-  pub decode_encode : (p : Prop ℕ) → Codable names p → decode names (encode p) ≡ some p
+  pub decode_encode : (p : Prop ℕ) → Codable names p → decode names (encode p) ≡ Some p
   unfolding decode whole
   decode_encode p ok = rw (rw append-nil at (read_encode (length (encode p)) p [] ok (omega arith)))
 
@@ -88,7 +89,7 @@ module _ (names : ℕ) where
       let enough = length (encode p) + length (encode q) in
       let reads-p = read_encode enough p rest ok (omega arith) in
       let reads-q = read_encode enough q rest' ok' (omega arith) in
-      let same = some-injective _ _ (sym reads-p ∙ ap (proposition names enough) e ∙ reads-q) in
+      let same = same_Some _ _ (sym reads-p ∙ ap (proposition names enough) e ∙ reads-q) in
       (ap (λ r. r.value) same, ap (λ r. r.rest) same)
 
 -- What is read from bytes has been written, and is codable.
@@ -187,11 +188,11 @@ module _ (names : ℕ) where
   recover_proposition (suc bytes) s h = recover_picked (recover_by_head (proposition names bytes) (recover_proposition bytes)) s h
 
   -- what is read from bytes is codable, and its code stands in front
-  pub encode_read : (bytes : ℕ) (s : List ℕ) (r : Read (Prop ℕ)) → Bytes s → proposition names bytes s ≡ some r
+  pub encode_read : (bytes : ℕ) (s : List ℕ) (r : Read (Prop ℕ)) → Bytes s → proposition names bytes s ≡ Some r
       → (s ≡ encode r.value ++ r.rest) × Codable names r.value
   encode_read bytes s r h e = let w = (recover_proposition bytes s h).holds r e in (w.split, w.good)
 
-  pub encode_decode : (s : List ℕ) (p : Prop ℕ) → Bytes s → decode names s ≡ some p → (encode p ≡ s) × Codable names p
+  pub encode_decode : (s : List ℕ) (p : Prop ℕ) → Bytes s → decode names s ≡ Some p → (encode p ≡ s) × Codable names p
   unfolding decode
   encode_decode s p h e =
       let w = encode_read (length s) s _ h (whole_read (proposition names (length s) s) p e) in

@@ -2,16 +2,18 @@
 use Prim.Native.Nat.{ℕ, zero, suc, ◌+◌, ◌*◌, ◌/◌, ◌%◌, ◌<◌}
 use mathlib.Core.Path.{◌≡◌, refl, sym, ◌∙◌}
 use mathlib.Core.Bool.{Bool, true, false, cond}
-use mathlib.Core.Option.{Option, none, some, some-injective, none-ne-some}
+use Rattle.std.specs.Prelude.{Option, None, Some}
 use mathlib.Core.List.{List, [], ◌∷◌, ◌++◌}
 use native.Mathlib.Omega.{arith}
 use lib.ListN.{length, get_or}
 use lib.Dec.{eqb, eqb-suc-zero}
 use Rattle.definitions.specs.Code.{Read, Reading, yield, fail, followed_by, ◌>>=◌, byte, number, whole, u16}
+use Rattle.std.proofs.lemmas.Option.{same_Some}
+use Rattle.std.proofs.lemmas.Option.{none-some}
 
 -- what a reading gives: a value, and the bytes after it
 abbrev pub given : {A : Type 0} → A → List ℕ → Option (Read A)
-given a rest = some (record { value = a; rest = rest })
+given a rest = Some (record { value = a; rest = rest })
 
 -- each element is a byte: stated for every index, past the end too, as it is known of a slice of bytes
 abbrev pub Bytes : List ℕ → Type 0
@@ -19,28 +21,28 @@ Bytes s = (i : ℕ) → get_or s i 0 < 256
 
 -- whatever m reads from s, P holds of it and of the bytes after it
 pub record Reads {A : Type 0} (m : Reading A) (s : List ℕ) (P : A → List ℕ → Type 0) : Type 0 where
-  pub holds : (r : Read A) → m s ≡ some r → P r.value r.rest
+  pub holds : (r : Read A) → m s ≡ Some r → P r.value r.rest
 
 module _ {A : Type 0} {m : Reading A} {s : List ℕ} {P : A → List ℕ → Type 0} where
-  pub reads_none : m s ≡ none → Reads m s P
-  reads_none fails = record { holds = λ r e. absurd (none-ne-some r (sym fails ∙ e)) }
+  pub reads_none : m s ≡ None → Reads m s P
+  reads_none fails = record { holds = λ r e. absurd (none-some r (sym fails ∙ e)) }
 
   pub reads_some : {a : A} {t : List ℕ} → m s ≡ given a t → P a t → Reads m s P
-  reads_some gives h = record { holds = λ r e. rw (← (some-injective _ r (sym gives ∙ e))) h }
+  reads_some gives h = record { holds = λ r e. rw (← (same_Some _ r (sym gives ∙ e))) h }
 
   pub reads_if : (b : Bool) → (b ≡ true → Reads m s P) → Reads (cond b m fail) s P
   unfolding fail
   reads_if true h = h refl
-  reads_if false h = record { holds = λ r e. absurd (none-ne-some r e) }
+  reads_if false h = record { holds = λ r e. absurd (none-some r e) }
 
   pub reads_then : {B : Type 0} {next : A → Reading B} {Q : B → List ℕ → Type 0}
       → Reads m s P → ((a : A) (t : List ℕ) → P a t → Reads (next a) t Q) → Reads (◌>>=◌ m next) s Q
   unfolding ◌>>=◌ followed_by
   reads_then {B} {next} {Q} first then = record { holds = go (m s) refl }
     where
-      go : (x : Option (Read A)) → m s ≡ x → (r : Read B) → followed_by x next ≡ some r → Q r.value r.rest
-      go none e r h = absurd (none-ne-some r h)
-      go (some a) e r h = (then a.value a.rest (first.holds a e)).holds r h
+      go : (x : Option (Read A)) → m s ≡ x → (r : Read B) → followed_by x next ≡ Some r → Q r.value r.rest
+      go None e r h = absurd (none-some r h)
+      go (Some a) e r h = (then a.value a.rest (first.holds a e)).holds r h
 
 -- s is the code of the good value a, and then the bytes t
 pub record Written {A : Type 0} (code : A → List ℕ) (Good : A → Type 0) (s : List ℕ) (a : A) (t : List ℕ) : Type 0 where
@@ -85,11 +87,11 @@ entries P first others zero = first
 entries P first others (suc n) = others n
 
 -- what is whole was read with no byte after it
-pub whole_read : {A : Type 0} (x : Option (Read A)) (a : A) → whole x ≡ some a → x ≡ given a []
+pub whole_read : {A : Type 0} (x : Option (Read A)) (a : A) → whole x ≡ Some a → x ≡ given a []
 unfolding whole
-whole_read none a e = absurd (none-ne-some a e)
-whole_read (some r) a e = go r.rest e
+whole_read None a e = absurd (none-some a e)
+whole_read (Some r) a e = go r.rest e
   where
-    go : (rest : List ℕ) → cond (eqb (length rest) 0) (some r.value) none ≡ some a → given r.value rest ≡ given a []
+    go : (rest : List ℕ) → cond (eqb (length rest) 0) (Some r.value) None ≡ Some a → given r.value rest ≡ given a []
     go [] e = cc
-    go (b ∷ rest) e = absurd (none-ne-some a (rw eqb-suc-zero at e))
+    go (b ∷ rest) e = absurd (none-some a (rw eqb-suc-zero at e))

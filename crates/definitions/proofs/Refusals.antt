@@ -5,8 +5,7 @@ use native.Mathlib.Omega.{arith}
 use mathlib.Core.Path.{◌≡◌, refl}
 use mathlib.Core.Logic.{◌⊎◌, inl, inr}
 use mathlib.Core.Bool.{Bool, true, false, not, cond}
-use mathlib.Core.Option as option
-use mathlib.Core.Option.{Option, some}
+use Rattle.std.specs.Prelude.{None, Option, Some}
 use mathlib.Core.List.{List, [], ◌∷◌}
 use lib.Dec.{eqb}
 use borrow.Author.Rules.{rules}
@@ -58,8 +57,8 @@ module _ {Kind : Refusal → Type 0} where
 
   found : (at : Option ℕ) (number : ℕ) → ((place : ℕ) → Kind (record { number = number; place = place })) → Meets Kind (refuse_at at number)
   unfolding refuse_at
-  found option.none number h = is_accepted
-  found (some place) number h = refusal number place (h place)
+  found None number h = is_accepted
+  found (Some place) number h = refusal number place (h place)
 
   searched : (test : ℕ → Bool) (size number : ℕ) → ((place : ℕ) → Kind (record { number = number; place = place }))
       → Meets Kind (refuse_lowest test size number)
@@ -131,8 +130,8 @@ module _ {N : Type 0} (Kind : Refusal → Type 0) where
 
   implication_meets : (k : ℕ) (sides : Option (Sides N)) → OfStep Kind k → Meets Kind (implication_label k sides)
   unfolding implication_label
-  implication_meets k option.none h = refusal 14 k (h 14 (search rules))
-  implication_meets k (some a) h = chosen (proposition a.left) (eq_connective a.connective impl) 14 k (h 14 (search rules))
+  implication_meets k None h = refusal 14 k (h 14 (search rules))
+  implication_meets k (Some a) h = chosen (proposition a.left) (eq_connective a.connective impl) 14 k (h 14 (search rules))
 
   left_meets : (k : ℕ) (c : ProofTreeConclusion N) → OfStep Kind k → Meets Kind (left_label k c)
   unfolding left_label
@@ -141,8 +140,8 @@ module _ {N : Type 0} (Kind : Refusal → Type 0) where
 
   universal_meets : (k : ℕ) (scope : Option (Scope N)) → OfStep Kind k → Meets Kind (universal_label k scope)
   unfolding universal_label
-  universal_meets k option.none h = refusal 15 k (h 15 (search rules))
-  universal_meets k (some a) h = chosen (datatype a.datatype) (eq_quantifier a.quantifier for_all) 15 k (h 15 (search rules))
+  universal_meets k None h = refusal 15 k (h 15 (search rules))
+  universal_meets k (Some a) h = chosen (datatype a.datatype) (eq_quantifier a.quantifier for_all) 15 k (h 15 (search rules))
 
   datatype_meets : (k : ℕ) (c : ProofTreeConclusion N) → OfStep Kind k → Meets Kind (datatype_label k c)
   unfolding datatype_label

@@ -2,8 +2,7 @@
 use Prim.Native.Nat.{ℕ, ◌+◌}
 use mathlib.Core.Path.{◌≡◌, refl, ap}
 use mathlib.Core.Bool.{not}
-use mathlib.Core.Option as option
-use mathlib.Core.Option.{Option, some}
+use Rattle.std.specs.Prelude.{None, Option, Some}
 use mathlib.Core.List.{List, [], ◌∷◌, map}
 use lib.ListN.{get_or-map}
 use Rattle.definitions.specs.Outcome.{Outcome, refused, accepted, refuse, ◌>>=◌, map_outcome, refuse_if}
@@ -99,25 +98,25 @@ module _ {N M : Type 0} (f : N → M) where
   inferring_term_same : (e : Ending) (z : Step N) (ts : List (ProofTerm N))
       → inferring_term e (rename_step f z) (map (rename_term f) ts) ≡ map_outcome (rename_term f) (inferring_term e z ts)
   unfolding inferring_term map_outcome rename_step rename_parameter_label rename_term
-  inferring_term_same bare z ts = ap accepted (step_term_same z option.none ts)
-  inferring_term_same premiss_own z ts = ap accepted (step_term_same z option.none ts)
+  inferring_term_same bare z ts = ap accepted (step_term_same z None ts)
+  inferring_term_same premiss_own z ts = ap accepted (step_term_same z None ts)
   inferring_term_same ascribed z ts =
       rw (ascription_label_same z.number z.conclusion)
       (bind_same (rename_label f) (rename_term f) (ascription_label z.number z.conclusion) _ _
-      (λ l. ap (λ u. accepted (TypeAscription u (rename_label f l))) (step_term_same z option.none ts)))
+      (λ l. ap (λ u. accepted (TypeAscription u (rename_label f l))) (step_term_same z None ts)))
   inferring_term_same left_labelled z ts =
       rw (left_label_same z.number z.conclusion)
       (bind_same (rename_label f) (rename_term f) (left_label z.number z.conclusion) _ _
-      (λ l. ap accepted (step_term_same z (some l) ts)))
+      (λ l. ap accepted (step_term_same z (Some l) ts)))
   inferring_term_same datatype_labelled z ts =
       rw (datatype_label_same z.number z.conclusion)
       (bind_same (rename_label f) (rename_term f) (datatype_label z.number z.conclusion) _ _
-      (λ l. ap accepted (step_term_same z (some l) ts)))
+      (λ l. ap accepted (step_term_same z (Some l) ts)))
 
   placed_term_same : (m : Place) (z : Step N) (ts : List (ProofTerm N))
       → placed_term m (rename_step f z) (map (rename_term f) ts) ≡ map_outcome (rename_term f) (placed_term m z ts)
   unfolding placed_term map_outcome rename_step rename_parameter_label
-  placed_term_same checking z ts = ap accepted (step_term_same z option.none ts)
+  placed_term_same checking z ts = ap accepted (step_term_same z None ts)
   placed_term_same inferring z ts = inferring_term_same (ending z.rule) z ts
 
   mutual
@@ -144,8 +143,8 @@ unfolding annotation_count rename_term rename_parameter_label is_labelled
 annotation_count_same f (term.Ident x) = refl
 annotation_count_same f (term.Pair a b) = rw (annotation_count_same f a, annotation_count_same f b)
 annotation_count_same f (term.Named g a) = annotation_count_same f a
-annotation_count_same f (term.Function x option.none a) = rw (annotation_count_same f a)
-annotation_count_same f (term.Function x (some l) a) = rw (annotation_count_same f a)
+annotation_count_same f (term.Function x None a) = rw (annotation_count_same f a)
+annotation_count_same f (term.Function x (Some l) a) = rw (annotation_count_same f a)
 annotation_count_same f (term.Application a b) = rw (annotation_count_same f a, annotation_count_same f b)
 annotation_count_same f (term.LetIn x y a b) = rw (annotation_count_same f a, annotation_count_same f b)
 annotation_count_same f (term.Case a x b y c) = rw (annotation_count_same f a, annotation_count_same f b, annotation_count_same f c)

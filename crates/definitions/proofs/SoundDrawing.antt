@@ -2,7 +2,7 @@
 use Prim.Native.Nat.{ℕ, ◌<◌}
 use mathlib.Core.Path.{◌≡◌, refl}
 use mathlib.Core.Bool.{Bool, true, not}
-use mathlib.Core.Option.{none}
+use Rattle.std.specs.Prelude.{None}
 use mathlib.Core.List.Memᴰ
 use mathlib.Core.List.{[]}
 use borrow.Author.Tests.{not-false}
@@ -17,7 +17,7 @@ use Rattle.definitions.proofs.Everything.{everything}
 use Rattle.definitions.proofs.Lowest.{all_fail}
 
 -- a test holds at every place below the count where a search finds no place at which it fails
-all_hold : (test : ℕ → Bool) (count : ℕ) → lowest (λ k. not (test k)) count ≡ none → (k : ℕ) → k < count → test k ≡ true
+all_hold : (test : ℕ → Bool) (count : ℕ) → lowest (λ k. not (test k)) count ≡ None → (k : ℕ) → k < count → test k ≡ true
 all_hold test count e k h = not-false (test k) (all_fail (λ k. not (test k)) count e k h)
 
 concludes : {z : Step Name} {r : ProofTreeRule} {a : Prop Name} → z.rule ≡ r → z.conclusion ≡ PropIsTrue a → Concludes z r a

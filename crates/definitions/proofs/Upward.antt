@@ -2,7 +2,7 @@
 use Prim.Native.Nat.{ℕ, ◌+◌, ◌<◌, ◌≤◌}
 use mathlib.Core.Path.{◌≡◌, refl}
 use mathlib.Core.Bool.{Bool, false}
-use mathlib.Core.Option.{none}
+use Rattle.std.specs.Prelude.{None}
 use native.Mathlib.Omega.{arith}
 use Rattle.definitions.specs.Outcome.{lowest}
 use Rattle.definitions.proofs.Lowest.{lowest_passed}
@@ -10,7 +10,7 @@ use Rattle.definitions.proofs.Lowest.{lowest_passed}
 -- the places below i are searched, and the test holds at none of them
 pub record Passed (test : ℕ → Bool) (count i : ℕ) : Type 0 where
   pub up_to : i ≤ count
-  pub none_below : lowest test i ≡ none
+  pub none_below : lowest test i ≡ None
 
 pub at_start : (test : ℕ → Bool) (count : ℕ) → Passed test count 0
 unfolding lowest

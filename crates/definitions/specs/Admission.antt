@@ -1,6 +1,5 @@
 -- Refusals 1 to 11: which bytes are a sheet. Document 01, "Refusals in checking order".
-use Rattle.std.specs.Prelude.{ℕ, ◌+◌, ◌-◌, Bool, true, false, ◌||◌, not, cond, List, length, ltb, leb, eqb}
-use Rattle.std.proofs.Math.Option.{Option, none, some}
+use Rattle.std.specs.Prelude.{ℕ, ◌+◌, ◌-◌, Bool, true, false, ◌||◌, not, cond, List, length, ltb, leb, eqb, Option, None, Some}
 use Rattle.definitions.specs.Outcome.{Outcome, accepted, ◌>>=◌, refuse_if, refuse_lowest}
 use Rattle.definitions.specs.Name.{is_name}
 use Rattle.definitions.specs.Prop.{nesting}
@@ -26,8 +25,8 @@ unfoldable pub bad_proposition_pair : List ℕ → ℕ → ℕ → Bool
 bad_proposition_pair pairs bytes i = misplaced pairs bytes i || eqb (pair_length pairs i) 0
 
 unfoldable pub is_none : {A : Type 0} → Option A → Bool
-is_none none = true
-is_none (some a) = false
+is_none None = true
+is_none (Some a) = false
 
 -- 7: a proposition's code is not exactly one proposition over its whole length with names below N
 unfoldable pub bad_code : ℕ → List ℕ → List ℕ → ℕ → Bool

@@ -1,8 +1,6 @@
 -- The answer to the question whether a term checks against a proposition of a sheet, for every sequence of bytes.
 -- Document 02, ticket 5. The proposition and the hypotheses are numbers of the sheet; the term is the sheet's or one read beside it.
-use Rattle.std.specs.Prelude.{ℕ, Bool, true, false, ◌&&◌, ◌||◌, not, List, [], ◌∷◌, leb}
-use Rattle.std.proofs.Math.Option as option
-use Rattle.std.proofs.Math.Option.{Option, some}
+use Rattle.std.specs.Prelude.{ℕ, Bool, true, false, ◌&&◌, ◌||◌, not, List, [], ◌∷◌, leb, None, Option, Some}
 use Rattle.definitions.specs.Outcome.{Outcome, accepted, ◌>>=◌, refuse_if}
 use Rattle.definitions.specs.Name.{Name}
 use Rattle.definitions.specs.Prop.{Prop, rename_prop}
@@ -24,8 +22,8 @@ is_checkable_label (proposition p) = is_quantifier_free p
 is_checkable_label (datatype t) = false
 
 unfoldable pub is_checkable_parameter_label : {N : Type 0} → Option (Label N) → Bool
-is_checkable_parameter_label option.none = true
-is_checkable_parameter_label (some l) = is_checkable_label l
+is_checkable_parameter_label None = true
+is_checkable_parameter_label (Some l) = is_checkable_label l
 
 -- 22, of a term: no let, and of its labels
 unfoldable pub is_checkable : {N : Type 0} → ProofTerm N → Bool

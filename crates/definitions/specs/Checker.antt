@@ -1,8 +1,6 @@
 -- Checking and inferring as two functions that call each other as document 01's rules do, with the node at which they stop.
 -- Document 02, ticket 5; document 01, "Sound steps and the checking rules", its second paragraph.
-use Rattle.std.specs.Prelude.{ℕ, ◌+◌, Bool, true, false}
-use Rattle.std.proofs.Math.Option as option
-use Rattle.std.proofs.Math.Option.{Option, some}
+use Rattle.std.specs.Prelude.{ℕ, ◌+◌, Bool, true, false, None, Option, Some}
 use Rattle.definitions.specs.Name.{Name}
 use Rattle.definitions.specs.Prop.{Prop, True, False, And, Impl, Connective, and, or, impl, eq_connective, Sides, as_binary}
 use Rattle.definitions.specs.Equal.{eq_prop}
@@ -31,12 +29,12 @@ module _ (n : ℕ) where
 
   -- a name must be in scope
   unfoldable pub in_scope : Option (Prop Name) → Judged (Prop Name)
-  in_scope option.none = stopped n
-  in_scope (some a) = derived a
+  in_scope None = stopped n
+  in_scope (Some a) = derived a
 
   unfoldable pub sides_in : Connective → Option (Sides Name) → Judged (Sides Name)
-  sides_in c option.none = stopped n
-  sides_in c (some a) = do
+  sides_in c None = stopped n
+  sides_in c (Some a) = do
     _ ← ensure (eq_connective c a.connective)
     derived a
 
@@ -46,15 +44,15 @@ module _ (n : ℕ) where
 
   -- a label must be there, and a proposition
   unfoldable pub labelled : Option (Label Name) → Judged (Prop Name)
-  labelled option.none = stopped n
-  labelled (some (proposition a)) = derived a
-  labelled (some (datatype t)) = stopped n
+  labelled None = stopped n
+  labelled (Some (proposition a)) = derived a
+  labelled (Some (datatype t)) = stopped n
 
   -- a label, if there is one, must equal the proposition
   unfoldable pub label_is : Option (Label Name) → Prop Name → Judged (Unit {0})
-  label_is option.none a = derived tt
-  label_is (some (proposition b)) a = ensure (eq_prop b a)
-  label_is (some (datatype t)) a = stopped n
+  label_is None a = derived tt
+  label_is (Some (proposition b)) a = ensure (eq_prop b a)
+  label_is (Some (datatype t)) a = stopped n
 
   -- what is inferred must equal the proposition
   unfoldable pub compared : Prop Name → Judged (Prop Name) → Judged (Unit {0})
@@ -99,7 +97,7 @@ module _ (n : ℕ) where
   -- what an ascribed term infers
   unfoldable pub infer_ascribed : Label Name → (Prop Name → Judged (Unit {0})) → Judged (Prop Name)
   infer_ascribed l body = do
-    a ← labelled (some l)
+    a ← labelled (Some l)
     _ ← body a
     derived a
 

@@ -1,8 +1,6 @@
 -- Judgements to try, with the node at which the rules stop, and questions about whole sheets. Document 02, ticket 5.
-use Rattle.std.specs.Prelude.{ℕ, Bool, true, false, List, [], ◌∷◌}
+use Rattle.std.specs.Prelude.{ℕ, Bool, true, false, List, [], ◌∷◌, None, Some}
 use Prim.Native.String.{String}
-use Rattle.std.proofs.Math.Option as option
-use Rattle.std.proofs.Math.Option.{some}
 use Rattle.definitions.specs.Utf8.{utf8}
 use Rattle.definitions.specs.Name.{Name}
 use Rattle.definitions.specs.Outcome.{Outcome, accepted, refuse}
@@ -50,10 +48,10 @@ unfoldable pub under : Prop Name → Context
 under a = bind (utf8 "u") a []
 
 unfoldable pub fn : ProofTerm Name → ProofTerm Name
-fn t = Function (utf8 "u") option.none t
+fn t = Function (utf8 "u") None t
 
 unfoldable pub fn_of : Prop Name → ProofTerm Name → ProofTerm Name
-fn_of a t = Function (utf8 "u") (some (proposition a)) t
+fn_of a t = Function (utf8 "u") (Some (proposition a)) t
 
 -- case u of inl u => .., inr z => ..
 unfoldable pub case_of : ProofTerm Name → ProofTerm Name → ProofTerm Name

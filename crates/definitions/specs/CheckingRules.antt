@@ -1,7 +1,5 @@
 -- The checking rules as two judgements. Document 01, "Sound steps and the checking rules", its second paragraph.
-use Rattle.std.specs.Prelude.{◌≡◌, cond, List, [], ◌∷◌}
-use Rattle.std.proofs.Math.Option as option
-use Rattle.std.proofs.Math.Option.{Option, some}
+use Rattle.std.specs.Prelude.{◌≡◌, cond, List, [], ◌∷◌, None, Option, Some}
 use Rattle.definitions.specs.Name.{Name, eq_name}
 use Rattle.definitions.specs.Prop.{Prop, True, False, And, Or, Impl}
 use Rattle.definitions.specs.Term as term
@@ -21,18 +19,18 @@ bind x a g = record { name = x; prop = a } ∷ g
 
 -- the latest binding of a name
 unfoldable pub lookup : Name → Context → Option (Prop Name)
-lookup x [] = option.none
-lookup x (e ∷ g) = cond (eq_name e.name x) (some e.prop) (lookup x g)
+lookup x [] = None
+lookup x (e ∷ g) = cond (eq_name e.name x) (Some e.prop) (lookup x g)
 
 -- a label, if there is one, equals the proposition
 unfoldable pub LabelIs : Option (Label Name) → Prop Name → Type 0
-LabelIs option.none a = Unit {0}
-LabelIs (some l) a = l ≡ proposition a
+LabelIs None a = Unit {0}
+LabelIs (Some l) a = l ≡ proposition a
 
 mutual
   -- a term infers a proposition
   pub data Infers : Context → ProofTerm Name → Prop Name → Type 0 where
-    infer_name : {g : Context} {x : Name} {a : Prop Name} → lookup x g ≡ some a → Infers g (Ident x) a
+    infer_name : {g : Context} {x : Name} {a : Prop Name} → lookup x g ≡ Some a → Infers g (Ident x) a
     infer_unit : {g : Context} → Infers g term.Unit True
     infer_fst : {g : Context} {t : ProofTerm Name} {a b : Prop Name} → Infers g t (And a b) → Infers g (ProjectFst t) a
     infer_snd : {g : Context} {t : ProofTerm Name} {a b : Prop Name} → Infers g t (And a b) → Infers g (ProjectSnd t) b
@@ -41,7 +39,7 @@ mutual
     infer_ascribed_lem : {g : Context} {t : ProofTerm Name} {a : Prop Name}
         → Checks g t a → Infers g (TypeAscription t (proposition a)) a
     infer_function_lem : {g : Context} {x : Name} {t : ProofTerm Name} {a b : Prop Name}
-        → Infers (bind x a g) t b → Infers g (Function x (some (proposition a)) t) (Impl a b)
+        → Infers (bind x a g) t b → Infers g (Function x (Some (proposition a)) t) (Impl a b)
     infer_pair : {g : Context} {s t : ProofTerm Name} {a b : Prop Name}
         → Infers g s a → Infers g t b → Infers g (Pair s t) (And a b)
     infer_case : {g : Context} {h s t : ProofTerm Name} {x y : Name} {a b c : Prop Name}

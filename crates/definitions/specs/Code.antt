@@ -1,7 +1,6 @@
 -- A proposition's prefix code: how it is read, and how it is written.
 -- Document 01, "The sheet", the paragraph on code, with the limits of refusal 7.
-use Rattle.std.specs.Prelude.{ℕ, zero, suc, ◌+◌, ◌*◌, ◌/◌, ◌%◌, ◌<◌, ◌≤◌, cond, List, [], ◌∷◌, ◌++◌, length, get_or, ltb, leb, eqb}
-use Rattle.std.proofs.Math.Option.{Option, none, some}
+use Rattle.std.specs.Prelude.{ℕ, zero, suc, ◌+◌, ◌*◌, ◌/◌, ◌%◌, ◌<◌, ◌≤◌, cond, List, [], ◌∷◌, ◌++◌, length, get_or, ltb, leb, eqb, Option, None, Some}
 use Rattle.definitions.specs.Prop.{Prop, True, False, Binary, Atom, Quantified, PropParameter, Uninstantiated, Instantiated, Connective, and, or, impl, connective_byte, Quantifier, for_all, exists, quantifier_byte}
 
 -- what was read, and the bytes after it
@@ -14,22 +13,22 @@ abbrev pub Reading : Type 0 → Type 0
 Reading A = List ℕ → Option (Read A)
 
 unfoldable pub yield : {A : Type 0} → A → Reading A
-yield a s = some (record { value = a; rest = s })
+yield a s = Some (record { value = a; rest = s })
 
 unfoldable pub fail : {A : Type 0} → Reading A
-fail s = none
+fail s = None
 
 unfoldable pub followed_by : {A B : Type 0} → Option (Read A) → (A → Reading B) → Option (Read B)
-followed_by none next = none
-followed_by (some r) next = next r.value r.rest
+followed_by None next = None
+followed_by (Some r) next = next r.value r.rest
 
 infixl 10 ◌>>=◌
 unfoldable pub ◌>>=◌ : {A B : Type 0} → Reading A → (A → Reading B) → Reading B
 ◌>>=◌ m next s = followed_by (m s) next
 
 unfoldable pub byte : Reading ℕ
-byte [] = none
-byte (b ∷ s) = some (record { value = b; rest = s })
+byte [] = None
+byte (b ∷ s) = Some (record { value = b; rest = s })
 
 -- a u16, low byte first
 unfoldable pub number : Reading ℕ
@@ -40,8 +39,8 @@ number = do
 
 -- what was read, if it is all
 unfoldable pub whole : {A : Type 0} → Option (Read A) → Option A
-whole none = none
-whole (some r) = cond (eqb (length r.rest) 0) (some r.value) none
+whole None = None
+whole (Some r) = cond (eqb (length r.rest) 0) (Some r.value) None
 
 -- an atom has at most so many parameters
 unfoldable pub parameter_limit : ℕ

@@ -1,8 +1,7 @@
 -- Comparison as the Rust decides it (source documents 002 and 005), stopping at a no. Where the Rust panics, two atoms of one
 -- name with different parameter counts are a no (document 02, ticket 7), and two unbound parameters are refused with 19
 -- (document 01, "Refusals in checking order").
-use Rattle.std.specs.Prelude.{ℕ, Bool, true, false, ◌&&◌, ◌||◌, cond, List, [], ◌∷◌, length, eqb}
-use Rattle.std.proofs.Math.Option.{Option, none, some}
+use Rattle.std.specs.Prelude.{ℕ, Bool, true, false, ◌&&◌, ◌||◌, cond, List, [], ◌∷◌, length, eqb, Option, None, Some}
 use Rattle.definitions.specs.Outcome.{Outcome, refused, accepted, refuse}
 use Rattle.definitions.specs.Name.{Name, eq_name}
 use Rattle.definitions.specs.Prop.{Prop, True, False, Binary, Atom, Quantified, PropParameter, Uninstantiated, Instantiated, Connective, eq_connective, Quantifier, eq_quantifier, Sides, Applied, Scope, is_true, is_false, as_binary, as_atom, as_quantified}
@@ -47,18 +46,18 @@ alpha_eq_atom bs a ps b qs =
 
 -- A proposition of another form than the left one is a no.
 unfoldable pub alpha_eq_sides : Connective → (Prop Name → Outcome Bool) → (Prop Name → Outcome Bool) → Option (Sides Name) → Outcome Bool
-alpha_eq_sides c left right none = no
-alpha_eq_sides c left right (some a) =
+alpha_eq_sides c left right None = no
+alpha_eq_sides c left right (Some a) =
     and_also (accepted (eq_connective c a.connective)) (and_also (left a.left) (right a.right))
 
 unfoldable pub alpha_eq_applied : List Binding → Name → List (PropParameter Name) → Option (Applied Name) → Outcome Bool
-alpha_eq_applied bs a ps none = no
-alpha_eq_applied bs a ps (some b) = alpha_eq_atom bs a ps b.atom b.parameters
+alpha_eq_applied bs a ps None = no
+alpha_eq_applied bs a ps (Some b) = alpha_eq_atom bs a ps b.atom b.parameters
 
 -- quantifiers, then datatypes, then the bodies with the objects bound to each other
 unfoldable pub alpha_eq_scope : List Binding → Quantifier → Name → Name → (List Binding → Prop Name → Outcome Bool) → Option (Scope Name) → Outcome Bool
-alpha_eq_scope bs q x t body none = no
-alpha_eq_scope bs q x t body (some a) =
+alpha_eq_scope bs q x t body None = no
+alpha_eq_scope bs q x t body (Some a) =
     and_also (accepted (eq_quantifier q a.quantifier))
     (and_also (accepted (eq_name t a.datatype)) (body (record { left = x; right = a.object } ∷ bs) a.body))
 

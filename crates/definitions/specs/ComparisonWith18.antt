@@ -1,7 +1,6 @@
 -- Comparison by document 01 alone, with refusal 18 where two atoms of one name have different parameter counts. It stands here
 -- for one law, `comparison-kept`: ticket 7 changes no other answer and no other refusal. No promise uses it.
-use Rattle.std.specs.Prelude.{ℕ, Bool, ◌&&◌, ◌||◌, not, List, [], length, eqb, leb}
-use Rattle.std.proofs.Math.Option.{Option, none, some}
+use Rattle.std.specs.Prelude.{ℕ, Bool, ◌&&◌, ◌||◌, not, List, [], length, eqb, leb, Option, None, Some}
 use Rattle.definitions.specs.Outcome.{Outcome, accepted, refuse, ◌>>=◌, refuse_if}
 use Rattle.definitions.specs.Name.{Name, eq_name}
 use Rattle.definitions.specs.Prop.{Prop, True, False, Binary, Atom, Quantified, PropParameter, Applied, is_true, is_false, as_binary, as_atom, as_quantified}
@@ -12,8 +11,8 @@ use Rattle.definitions.specs.Comparison.{no, and_also, Binding, alpha_eq_paramet
 use Rattle.definitions.specs.Answers.{named_conclusion}
 
 unfoldable pub alpha_eq_applied18 : List Binding → Name → List (PropParameter Name) → Option (Applied Name) → Outcome Bool
-alpha_eq_applied18 bs a ps none = no
-alpha_eq_applied18 bs a ps (some b) = and_also (accepted (eq_name a b.atom)) (do
+alpha_eq_applied18 bs a ps None = no
+alpha_eq_applied18 bs a ps (Some b) = and_also (accepted (eq_name a b.atom)) (do
   _ ← refuse_if (not (eqb (length ps) (length b.parameters))) 18 0
   alpha_eq_parameters bs ps b.parameters)
 

@@ -1,7 +1,6 @@
 -- The two `Display` bodies as bytes: propositions (source document 002) and terms (001), plain and strict.
 -- Document 01, "Text"; strict text by document 02, ticket 1.
-use Rattle.std.specs.Prelude.{ℕ, Bool, true, false, cond, List, [], ◌∷◌, ◌++◌, ltb, leb}
-use Rattle.std.proofs.Math.Option.{Option, none, some}
+use Rattle.std.specs.Prelude.{ℕ, Bool, true, false, cond, List, [], ◌∷◌, ◌++◌, ltb, leb, Option, None, Some}
 use Rattle.definitions.specs.declared.Style.{Style}
 use Rattle.definitions.specs.declared.Style.TheVariants.{Plain, Strict}
 use Rattle.definitions.specs.Utf8.{utf8}
@@ -77,8 +76,8 @@ display_label (proposition p) = display_prop p
 display_label (datatype t) = t
 
 unfoldable pub display_parameter_label : Option (Label Name) → List ℕ
-display_parameter_label none = []
-display_parameter_label (some l) = utf8 ": " ++ display_label l
+display_parameter_label None = []
+display_parameter_label (Some l) = utf8 ": " ++ display_label l
 
 -- a term's outermost form, as far as brackets go
 pub data Form : Type 0 where

@@ -1,7 +1,6 @@
 -- Document 01's drawings marked ● and those of document 02: each with its sheet, a question and the answer that the document gives.
-use Rattle.std.specs.Prelude.{ℕ, Bool, true, false, List, [], ◌∷◌, ◌++◌, map, length, take, set, replicate}
+use Rattle.std.specs.Prelude.{ℕ, Bool, true, false, List, [], ◌∷◌, ◌++◌, map, length, take, set, replicate, Option, None, Some}
 use Prim.Native.String.{String}
-use Rattle.std.proofs.Math.Option.{Option, none, some}
 use Rattle.definitions.specs.declared.Style.{Style}
 use Rattle.definitions.specs.declared.Style.TheVariants.{Plain, Strict}
 use Rattle.definitions.specs.Utf8.{utf8}
@@ -438,10 +437,10 @@ six_slots =
     set (set (set (set f_ha 1 2) 64 3) 65 4) 66 5
 
 unfoldable pub finds : ℕ → Outcome Answer
-finds i = accepted (found (some i))
+finds i = accepted (found (Some i))
 
 unfoldable pub finds_none : Outcome Answer
-finds_none = accepted (found none)
+finds_none = accepted (found None)
 
 -- A name that refusal 5 turns away has no index, and is found all the same where slots have it: searching tries 1 to 3.
 unfoldable pub indexes : List Drawing

@@ -1,7 +1,6 @@
 -- Equal propositions and conclusions, names taken by bytes: the same shape, name bytes and ids, the names that quantifiers bind
 -- included. Document 01, "Sound steps and the checking rules", the last sentence of its first paragraph.
-use Rattle.std.specs.Prelude.{Bool, true, false, ◌&&◌, List, [], ◌∷◌, eqb}
-use Rattle.std.proofs.Math.Option.{Option, none, some}
+use Rattle.std.specs.Prelude.{Bool, true, false, ◌&&◌, List, [], ◌∷◌, eqb, Option, None, Some}
 use Rattle.definitions.specs.Name.{Name, eq_name}
 use Rattle.definitions.specs.Prop.{Prop, True, False, Binary, Atom, Quantified, PropParameter, Uninstantiated, Instantiated, Connective, eq_connective, Quantifier, eq_quantifier, Sides, Applied, Scope, is_true, is_false, as_binary, as_atom, as_quantified}
 use Rattle.definitions.specs.Tree.{ProofTreeConclusion, PropIsTrue, TypeJudgement}
@@ -20,16 +19,16 @@ eq_parameters (p ∷ ps) [] = false
 eq_parameters (p ∷ ps) (q ∷ qs) = eq_parameter p q && eq_parameters ps qs
 
 unfoldable pub eq_sides : Connective → (Prop Name → Bool) → (Prop Name → Bool) → Option (Sides Name) → Bool
-eq_sides c left right none = false
-eq_sides c left right (some a) = eq_connective c a.connective && (left a.left && right a.right)
+eq_sides c left right None = false
+eq_sides c left right (Some a) = eq_connective c a.connective && (left a.left && right a.right)
 
 unfoldable pub eq_applied : Name → List (PropParameter Name) → Option (Applied Name) → Bool
-eq_applied a ps none = false
-eq_applied a ps (some b) = eq_name a b.atom && eq_parameters ps b.parameters
+eq_applied a ps None = false
+eq_applied a ps (Some b) = eq_name a b.atom && eq_parameters ps b.parameters
 
 unfoldable pub eq_scope : Quantifier → Name → Name → (Prop Name → Bool) → Option (Scope Name) → Bool
-eq_scope q x t body none = false
-eq_scope q x t body (some a) = eq_quantifier q a.quantifier && (eq_name x a.object && (eq_name t a.datatype && body a.body))
+eq_scope q x t body None = false
+eq_scope q x t body (Some a) = eq_quantifier q a.quantifier && (eq_name x a.object && (eq_name t a.datatype && body a.body))
 
 unfoldable pub eq_prop : Prop Name → Prop Name → Bool
 eq_prop True r = is_true r

@@ -1,7 +1,5 @@
 -- From a tree to its term (source document 000), with refusals 12 to 15. Document 01, "Places and labels".
-use Rattle.std.specs.Prelude.{ℕ, Bool, true, false, not, cond, List, [], ◌∷◌, get_or, eqb, leb}
-use Rattle.std.proofs.Math.Option as option
-use Rattle.std.proofs.Math.Option.{Option, some}
+use Rattle.std.specs.Prelude.{ℕ, Bool, true, false, not, cond, List, [], ◌∷◌, get_or, eqb, leb, None, Option, Some}
 use Rattle.definitions.specs.Outcome.{Outcome, accepted, refuse, ◌>>=◌, refuse_if}
 use Rattle.definitions.specs.Prop.{Prop, Sides, Scope, as_binary, as_quantified, impl, for_all, eq_connective, eq_quantifier}
 use Rattle.definitions.specs.Tree as tree
@@ -73,8 +71,8 @@ ascription_label k (TypeJudgement x d) = refuse 13 k
 
 -- the left side of an implication
 unfoldable pub implication_label : {N : Type 0} → ℕ → Option (Sides N) → Outcome (Label N)
-implication_label k option.none = refuse 14 k
-implication_label k (some a) = cond (eq_connective a.connective impl) (accepted (proposition a.left)) (refuse 14 k)
+implication_label k None = refuse 14 k
+implication_label k (Some a) = cond (eq_connective a.connective impl) (accepted (proposition a.left)) (refuse 14 k)
 
 -- a function's label is the left side of its conclusion, which must be an implication
 unfoldable pub left_label : {N : Type 0} → ℕ → ProofTreeConclusion N → Outcome (Label N)
@@ -83,8 +81,8 @@ left_label k (TypeJudgement x d) = refuse 14 k
 
 -- the datatype of a ∀
 unfoldable pub universal_label : {N : Type 0} → ℕ → Option (Scope N) → Outcome (Label N)
-universal_label k option.none = refuse 15 k
-universal_label k (some a) = cond (eq_quantifier a.quantifier for_all) (accepted (datatype a.datatype)) (refuse 15 k)
+universal_label k None = refuse 15 k
+universal_label k (Some a) = cond (eq_quantifier a.quantifier for_all) (accepted (datatype a.datatype)) (refuse 15 k)
 
 -- or, for ∀, its datatype
 unfoldable pub datatype_label : {N : Type 0} → ℕ → ProofTreeConclusion N → Outcome (Label N)
@@ -123,21 +121,21 @@ module _ {N : Type 0} where
 
   -- the step's term in an inferring place, by the table's last column
   unfoldable pub inferring_term : Ending → Step N → List (ProofTerm N) → Outcome (ProofTerm N)
-  inferring_term bare z ts = accepted (step_term z option.none ts)
-  inferring_term premiss_own z ts = accepted (step_term z option.none ts)
+  inferring_term bare z ts = accepted (step_term z None ts)
+  inferring_term premiss_own z ts = accepted (step_term z None ts)
   inferring_term ascribed z ts = do
     l ← ascription_label z.number z.conclusion
-    accepted (TypeAscription (step_term z option.none ts) l)
+    accepted (TypeAscription (step_term z None ts) l)
   inferring_term left_labelled z ts = do
     l ← left_label z.number z.conclusion
-    accepted (step_term z (some l) ts)
+    accepted (step_term z (Some l) ts)
   inferring_term datatype_labelled z ts = do
     l ← datatype_label z.number z.conclusion
-    accepted (step_term z (some l) ts)
+    accepted (step_term z (Some l) ts)
 
   -- the step's term in its place, over the terms of the premisses that it reads
   unfoldable pub placed_term : Place → Step N → List (ProofTerm N) → Outcome (ProofTerm N)
-  placed_term checking z ts = accepted (step_term z option.none ts)
+  placed_term checking z ts = accepted (step_term z None ts)
   placed_term inferring z ts = inferring_term (ending z.rule) z ts
 
   -- the count is checked on entering a step (12), its premisses come next in order, its conclusion last (13, 14, 15)

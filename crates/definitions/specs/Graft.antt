@@ -1,7 +1,6 @@
 -- Document 02, ticket 11: the donor's steps in place of a Sorry step of the host that has no premisses, as bytes; or the first of
 -- the host's 1 to 11, the donor's, 26, 27, 28 and 16.
-use Rattle.std.specs.Prelude.{ℕ, zero, suc, ◌+◌, ◌*◌, ◌-◌, Bool, ◌||◌, not, cond, List, [], ◌∷◌, ◌++◌, map, length, get_or, take, drop, ltb, leb, eqb}
-use Rattle.std.proofs.Math.Option
+use Rattle.std.specs.Prelude.{ℕ, zero, suc, ◌+◌, ◌*◌, ◌-◌, Bool, ◌||◌, not, cond, List, [], ◌∷◌, ◌++◌, map, length, get_or, take, drop, ltb, leb, eqb, unwrap_or}
 use Rattle.definitions.specs.declared.Refusal.{Refusal}
 use Rattle.definitions.specs.declared.Located.{Located}
 use Rattle.definitions.specs.declared.Whose.{Whose}
@@ -47,7 +46,7 @@ module _ (h d : List ℕ) where
 
   -- a donor name's number in the result: the lowest of equal bytes
   unfoldable pub renumbered : ℕ → ℕ
-  renumbered n = Option.get_or (plain_search (λ i. get_or merged_names i []) (length merged_names) (name_of d n)) 0
+  renumbered n = unwrap_or (plain_search (λ i. get_or merged_names i []) (length merged_names) (name_of d n)) 0
 
   -- the same where the step has that name; where it lacks it, the field stays 0
   unfoldable pub donor_name : ℕ → Bool → ℕ

@@ -1,7 +1,6 @@
 -- The name context (source document 003). Document 01, "Port order and what changes shape": "a lookup, by name or by name and id,
 -- finds the latest entry, a removal takes that one out, if any, an entry past the lent room is 16".
-use Rattle.std.specs.Prelude.{ℕ, Bool, cond, List, [], ◌∷◌, length, leb}
-use Rattle.std.proofs.Math.Option.{Option, none, some}
+use Rattle.std.specs.Prelude.{ℕ, Bool, cond, List, [], ◌∷◌, length, leb, Option, None, Some}
 use Rattle.definitions.specs.Outcome.{Outcome, accepted, ◌>>=◌, refuse_if}
 use Rattle.definitions.specs.Name.{Name, eq_name}
 use Rattle.definitions.specs.Tree.{Identifier, rename_identifier}
@@ -33,8 +32,8 @@ insert room e context = do
 module _ (wanted : Entry → Bool) where
   -- the latest entry that it admits, if any
   unfoldable pub latest : IdentifierContext → Option Entry
-  latest [] = none
-  latest (e ∷ context) = cond (wanted e) (some e) (latest context)
+  latest [] = None
+  latest (e ∷ context) = cond (wanted e) (Some e) (latest context)
 
   -- the context with that one taken out
   unfoldable pub without_latest : IdentifierContext → IdentifierContext

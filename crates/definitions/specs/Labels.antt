@@ -1,9 +1,7 @@
 -- Where labels belong on a sheet without quantifiers: at each injection, abort, sorry and function in an inferring place, and
 -- nowhere else.
 -- Document 01, "Places and labels", its last paragraphs, and demand 3.
-use Rattle.std.specs.Prelude.{ℕ, ◌+◌, ◌≡◌, List, [], ◌∷◌}
-use Rattle.std.proofs.Math.Option as option
-use Rattle.std.proofs.Math.Option.{Option, some}
+use Rattle.std.specs.Prelude.{ℕ, ◌+◌, ◌≡◌, List, [], ◌∷◌, None, Option, Some}
 use Rattle.definitions.specs.Prop.{Prop, Impl}
 use Rattle.definitions.specs.Tree.{ProofTreeRule, AndIntro, AndElimFst, AndElimSnd, TrueIntro, ImplIntro, ImplElim, Ident, OrIntroFst, OrIntroSnd, OrElim, FalsumElim, ForAllIntro, ForAllElim, ExistsIntro, ExistsElim, Sorry, AlphaEquivalent, PropIsTrue, Step, ProofTree, over, Premisses, none, ◌and◌}
 use Rattle.definitions.specs.Term.{ProofTerm, proposition, TypeAscription}
@@ -71,17 +69,17 @@ mutual
     -- any other step, and any step in a checking place, adds no label
     unlabelled : {m : Place} {z : Step N} {ps : Premisses N} {us : List (ProofTerm N)} {u : ProofTerm N}
         → total (placed_tally m z.rule) ≡ 0
-        → AllLabelled (places z.rule m) ps us → u ≡ step_term z option.none us
+        → AllLabelled (places z.rule m) ps us → u ≡ step_term z None us
         → Labelled m (over z ps) u
     -- an injection, abort or sorry is ascribed the step's own conclusion
     ascribed : {m : Place} {z : Step N} {ps : Premisses N} {us : List (ProofTerm N)} {p : Prop N} {u : ProofTerm N}
         → total (placed_tally m z.rule) ≡ 1 → (tally z.rule).functions ≡ 0 → z.conclusion ≡ PropIsTrue p
-        → AllLabelled (places z.rule m) ps us → u ≡ TypeAscription (step_term z option.none us) (proposition p)
+        → AllLabelled (places z.rule m) ps us → u ≡ TypeAscription (step_term z None us) (proposition p)
         → Labelled m (over z ps) u
     -- a function's parameter is labelled with the left side of the conclusion
     function : {m : Place} {z : Step N} {ps : Premisses N} {us : List (ProofTerm N)} {p q : Prop N} {u : ProofTerm N}
         → total (placed_tally m z.rule) ≡ 1 → (tally z.rule).functions ≡ 1 → z.conclusion ≡ PropIsTrue (Impl p q)
-        → AllLabelled (places z.rule m) ps us → u ≡ step_term z (some (proposition p)) us
+        → AllLabelled (places z.rule m) ps us → u ≡ step_term z (Some (proposition p)) us
         → Labelled m (over z ps) u
 
   -- the terms of the premisses that are read, each in its place

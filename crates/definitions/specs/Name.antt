@@ -1,8 +1,8 @@
 -- Names. Document 01, "The sheet": 1 to 32 bytes, an ASCII letter, then letters, digits or `_`.
 -- The length belongs to the sheet's pairs (refusal 4); the bytes are judged here (refusal 5). Document 02, ticket 8, for their order.
 use Rattle.std.specs.Prelude.{ℕ, Bool, true, false, ◌&&◌, ◌||◌, cond, List, [], ◌∷◌, ltb, leb, eqb}
-use Rattle.definitions.specs.declared.Order.{Order}
-use Rattle.definitions.specs.declared.Order.TheVariants.{Less, Equal, Greater}
+use Rattle.std.specs.declared.cmp.Ordering.{Ordering}
+use Rattle.std.specs.declared.cmp.Ordering.TheVariants.{Less, Equal, Greater}
 
 -- a name is its bytes: equal bytes are the same name under different numbers
 abbrev pub Name : Type 0
@@ -46,28 +46,28 @@ eq_name (x ∷ xs) [] = false
 eq_name (x ∷ xs) (y ∷ ys) = eqb x y && eq_name xs ys
 
 -- how two numbers stand to each other
-unfoldable pub compare_number : ℕ → ℕ → Order
+unfoldable pub compare_number : ℕ → ℕ → Ordering
 compare_number a b = cond (ltb a b) Less (cond (eqb a b) Equal Greater)
 
 -- the first difference decides
-unfoldable pub or_else : Order → Order → Order
+unfoldable pub or_else : Ordering → Ordering → Ordering
 or_else Less next = Less
 or_else Equal next = next
 or_else Greater next = Greater
 
 -- by bytes, a name before its own extensions
-unfoldable pub compare_name : Name → Name → Order
+unfoldable pub compare_name : Name → Name → Ordering
 compare_name [] [] = Equal
 compare_name [] (y ∷ ys) = Less
 compare_name (x ∷ xs) [] = Greater
 compare_name (x ∷ xs) (y ∷ ys) = or_else (compare_number x y) (compare_name xs ys)
 
-unfoldable pub is_equal : Order → Bool
+unfoldable pub is_equal : Ordering → Bool
 is_equal Less = false
 is_equal Equal = true
 is_equal Greater = false
 
-unfoldable pub is_greater : Order → Bool
+unfoldable pub is_greater : Ordering → Bool
 is_greater Less = false
 is_greater Equal = false
 is_greater Greater = true

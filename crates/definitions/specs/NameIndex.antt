@@ -1,6 +1,5 @@
 -- Document 02, ticket 14: the index of names, what it answers, and the plain search.
-use Rattle.std.specs.Prelude.{ℕ, zero, suc, ◌+◌, ◌*◌, ◌%◌, cond, List, [], ◌∷◌, get_or, set, replicate, eqb}
-use Rattle.std.proofs.Math.Option.{Option, none, some}
+use Rattle.std.specs.Prelude.{ℕ, zero, suc, ◌+◌, ◌*◌, ◌%◌, cond, List, [], ◌∷◌, get_or, set, replicate, eqb, Option, None, Some}
 use Rattle.definitions.specs.Outcome.{Outcome, map_outcome, lowest}
 use Rattle.definitions.specs.Name.{Name, eq_name}
 use Rattle.definitions.specs.Sheet as sheet
@@ -55,10 +54,10 @@ module _ (name : ℕ → Name) where
 
   -- the first of so many slots from a place on whose name has equal bytes; none at a free one
   unfoldable pub find_from : List ℕ → Name → ℕ → ℕ → Option ℕ
-  find_from slots x zero at = none
+  find_from slots x zero at = None
   find_from slots x (suc more) at =
-      cond (eqb (slot_at slots at) free) none
-      (cond (eq_name (name (slot_at slots at)) x) (some (slot_at slots at)) (find_from slots x more (at + 1)))
+      cond (eqb (slot_at slots at) free) None
+      (cond (eq_name (name (slot_at slots at)) x) (Some (slot_at slots at)) (find_from slots x more (at + 1)))
 
   -- what an index answers
   unfoldable pub find : List ℕ → Name → Option ℕ

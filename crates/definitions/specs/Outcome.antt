@@ -1,10 +1,7 @@
 -- What a question about a sheet comes to: a value, or one refusal with its number and its place.
 -- Document 01, "Refusals in checking order".
-use Rattle.std.specs.Prelude.{ℕ, zero, suc, Bool, true, false}
-use Rattle.std.proofs.Math.Option.{Option, none, some}
+use Rattle.std.specs.Prelude.{ℕ, zero, suc, Bool, true, false, Option, None, Some}
 use Rattle.definitions.specs.declared.Refusal.{Refusal}
-use Rattle.definitions.specs.declared.Found.{Found}
-use Rattle.definitions.specs.declared.Found.TheVariants.{Nowhere, At}
 
 pub data Outcome (A : Type 0) : Type 0 where
   refused : Refusal → Outcome A
@@ -32,24 +29,19 @@ refuse_if false number place = accepted tt
 
 -- the place that was found already, or else this one if the test holds here
 unfoldable pub first_of : Option ℕ → Bool → ℕ → Option ℕ
-first_of (some found) test place = some found
-first_of none true place = some place
-first_of none false place = none
+first_of (Some found) test place = Some found
+first_of None true place = Some place
+first_of None false place = None
 
 -- the lowest place below the count at which the test holds
 unfoldable pub lowest : (ℕ → Bool) → ℕ → Option ℕ
-lowest test zero = none
+lowest test zero = None
 lowest test (suc count) = first_of (lowest test count) (test count) count
-
--- such a place as the program answers it
-unfoldable pub found_at : Option ℕ → Found
-found_at none = Nowhere
-found_at (some place) = At place
 
 -- refused at that place, if there is one
 unfoldable pub refuse_at : Option ℕ → ℕ → Outcome (Unit {0})
-refuse_at none number = accepted tt
-refuse_at (some place) number = refuse number place
+refuse_at None number = accepted tt
+refuse_at (Some place) number = refuse number place
 
 -- refused at the lowest place below the count at which the test holds
 unfoldable pub refuse_lowest : (ℕ → Bool) → ℕ → ℕ → Outcome (Unit {0})

@@ -1,7 +1,6 @@
 -- Propositions (source document 002), over the names `N`: numbers of a sheet, or bytes.
 -- Document 01, "The sheet", the paragraph on code.
-use Rattle.std.specs.Prelude.{ℕ, ◌+◌, max, Bool, true, false, List, [], ◌∷◌, ◌++◌, map, length, eqb}
-use Rattle.std.proofs.Math.Option.{Option, none, some}
+use Rattle.std.specs.Prelude.{ℕ, ◌+◌, max, Bool, true, false, List, [], ◌∷◌, ◌++◌, map, length, eqb, Option, None, Some}
 
 pub data PropParameter (N : Type 0) : Type 0 where
   Uninstantiated : N → PropParameter N
@@ -107,25 +106,25 @@ module _ {N : Type 0} where
   is_false (Quantified q x t p) = false
 
   unfoldable pub as_binary : Prop N → Option (Sides N)
-  as_binary True = none
-  as_binary False = none
-  as_binary (Binary c p q) = some (record { connective = c; left = p; right = q })
-  as_binary (Atom a ps) = none
-  as_binary (Quantified q x t p) = none
+  as_binary True = None
+  as_binary False = None
+  as_binary (Binary c p q) = Some (record { connective = c; left = p; right = q })
+  as_binary (Atom a ps) = None
+  as_binary (Quantified q x t p) = None
 
   unfoldable pub as_atom : Prop N → Option (Applied N)
-  as_atom True = none
-  as_atom False = none
-  as_atom (Binary c p q) = none
-  as_atom (Atom a ps) = some (record { atom = a; parameters = ps })
-  as_atom (Quantified q x t p) = none
+  as_atom True = None
+  as_atom False = None
+  as_atom (Binary c p q) = None
+  as_atom (Atom a ps) = Some (record { atom = a; parameters = ps })
+  as_atom (Quantified q x t p) = None
 
   unfoldable pub as_quantified : Prop N → Option (Scope N)
-  as_quantified True = none
-  as_quantified False = none
-  as_quantified (Binary c p q) = none
-  as_quantified (Atom a ps) = none
-  as_quantified (Quantified q x t p) = some (record { quantifier = q; object = x; datatype = t; body = p })
+  as_quantified True = None
+  as_quantified False = None
+  as_quantified (Binary c p q) = None
+  as_quantified (Atom a ps) = None
+  as_quantified (Quantified q x t p) = Some (record { quantifier = q; object = x; datatype = t; body = p })
 
 -- the byte that stands for it in the code
 unfoldable pub connective_byte : Connective → ℕ

@@ -1,7 +1,6 @@
 -- Sound steps without quantifiers. Document 01, "Sound steps and the checking rules", its first paragraph.
 -- Names stand as bytes, so that "equal" (the same shape, name bytes and ids) is plain equality.
-use Rattle.std.specs.Prelude.{ℕ, ◌<◌, ◌≡◌, Bool, true, false, ◌&&◌, ◌||◌}
-use Rattle.std.proofs.Math.Option.{some}
+use Rattle.std.specs.Prelude.{ℕ, ◌<◌, ◌≡◌, Bool, true, false, ◌&&◌, ◌||◌, Some}
 use mathlib.Core.List.{List, [], ◌∷◌, map, Memᴰ}
 use Rattle.definitions.specs.Outcome.{accepted}
 use Rattle.definitions.specs.Name.{Name, eq_name}
@@ -99,7 +98,7 @@ context hs = map (λ h. record { name = h.identifier.name; prop = h.prop }) hs
 unfoldable pub shadowing : Convention
 shadowing =
     record {
-      Concluded = λ x a hs. lookup x.name (context hs) ≡ some a;
+      Concluded = λ x a hs. lookup x.name (context hs) ≡ Some a;
       Added = λ x hs. Unit {0};
       Unread = λ ps. Unit {0};
     }

@@ -1,7 +1,6 @@
 -- Proof terms (source document 001), their labels, and what the labels add to the lists.
 -- Document 01, "Places and labels"; document 02, ticket 3, for the versions of the datatype list.
-use Rattle.std.specs.Prelude.{ℕ, ◌+◌, List, [], ◌∷◌, ◌++◌}
-use Rattle.std.proofs.Math.Option.{Option, none, some}
+use Rattle.std.specs.Prelude.{ℕ, ◌+◌, List, [], ◌∷◌, ◌++◌, Option, None, Some}
 use Rattle.definitions.specs.declared.Version.{Version}
 use Rattle.definitions.specs.declared.Version.TheVariants.{First, Second, Third}
 use Rattle.definitions.specs.Prop.{Prop, AtomUse, get_atoms, get_datatypes, rename_prop}
@@ -51,8 +50,8 @@ module _ {N : Type 0} where
 -- what `add` gives for each label of a term, a term's parts before its own label
 module _ {N A : Type 0} (add : Label N → List A) where
   unfoldable pub of_label : Option (Label N) → List A
-  of_label none = []
-  of_label (some l) = add l
+  of_label None = []
+  of_label (Some l) = add l
 
   unfoldable pub of_labels : ProofTerm N → List A
   of_labels (Ident x) = []
@@ -68,8 +67,8 @@ module _ {N A : Type 0} (add : Label N → List A) where
 
 module _ {N : Type 0} where
   unfoldable pub is_labelled : Option (Label N) → ℕ
-  is_labelled none = 0
-  is_labelled (some l) = 1
+  is_labelled None = 0
+  is_labelled (Some l) = 1
 
   -- document 01's label count: the number of ascriptions and labelled functions
   unfoldable pub annotation_count : ProofTerm N → ℕ
@@ -114,8 +113,8 @@ module _ {N M : Type 0} (f : N → M) where
   rename_label (datatype t) = datatype (f t)
 
   unfoldable pub rename_parameter_label : Option (Label N) → Option (Label M)
-  rename_parameter_label none = none
-  rename_parameter_label (some l) = some (rename_label l)
+  rename_parameter_label None = None
+  rename_parameter_label (Some l) = Some (rename_label l)
 
   unfoldable pub rename_term : ProofTerm N → ProofTerm M
   rename_term (Ident x) = Ident (f x)

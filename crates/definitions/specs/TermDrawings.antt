@@ -1,7 +1,6 @@
 -- Texts that are read as terms, and texts that are refused. Document 02, ticket 2.
-use Rattle.std.specs.Prelude.{ℕ, List, [], ◌∷◌}
+use Rattle.std.specs.Prelude.{ℕ, List, [], ◌∷◌, Option, None, Some}
 use Prim.Native.String.{String}
-use Rattle.std.proofs.Math.Option.{Option, none, some}
 use Rattle.definitions.specs.Utf8.{utf8}
 use Rattle.definitions.specs.Outcome.{Outcome, accepted, refuse}
 use Rattle.definitions.specs.Name.{Name}
@@ -47,10 +46,10 @@ term_drawings =
     ∷ is_refused "" "f (a)"
     ∷ is_refused "" "(f a)"
     ∷ reads_as "" "(f a, fst (f a))" (Pair (Application (term "f") (term "a")) (ProjectFst (Application (term "f") (term "a"))))
-    ∷ reads_as "" "fn x => (x: A)" (Function (utf8 "x") none (TypeAscription (term "x") (proposition (letter "A"))))
+    ∷ reads_as "" "fn x => (x: A)" (Function (utf8 "x") None (TypeAscription (term "x") (proposition (letter "A"))))
     ∷ is_refused "" "fn x => x: A"
-    ∷ reads_as "" "(fn x => x): A" (TypeAscription (Function (utf8 "x") none (term "x")) (proposition (letter "A")))
-    ∷ reads_as "T" "fn x: T => x" (Function (utf8 "x") (some (datatype (utf8 "T"))) (term "x"))
+    ∷ reads_as "" "(fn x => x): A" (TypeAscription (Function (utf8 "x") None (term "x")) (proposition (letter "A")))
+    ∷ reads_as "T" "fn x: T => x" (Function (utf8 "x") (Some (datatype (utf8 "T"))) (term "x"))
     ∷ reads_as "T" "x: T" (TypeAscription (term "x") (datatype (utf8 "T")))
     ∷ reads_as "U" "x: T" (TypeAscription (term "x") (proposition (letter "T")))
     ∷ reads_as "T" "x: T ∧ T" (TypeAscription (term "x") (proposition (And (letter "T") (letter "T"))))

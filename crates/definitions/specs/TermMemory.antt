@@ -1,7 +1,6 @@
 -- A term that was read, in lent memory: seven numbers for each node, a pair for each name, the labels' code; and the room that they
 -- take. Document 02, ticket 2, with ticket 10 for the last number of a node.
-use Rattle.std.specs.Prelude.{ℕ, zero, suc, ◌+◌, ◌-◌, ◌*◌, ◌/◌, ◌%◌, Bool, ◌||◌, cond, List, [], ◌∷◌, ◌++◌, length, ltb}
-use Rattle.std.proofs.Math.Option.{Option, none, some}
+use Rattle.std.specs.Prelude.{ℕ, zero, suc, ◌+◌, ◌-◌, ◌*◌, ◌/◌, ◌%◌, Bool, ◌||◌, cond, List, [], ◌∷◌, ◌++◌, length, ltb, Option, None, Some}
 use Rattle.std.proofs.lemmas.List.Edits.{sets}
 use Rattle.definitions.specs.Outcome.{Outcome, accepted, ◌>>=◌, refuse_if}
 use Rattle.definitions.specs.Name.{Name, eq_name}
@@ -25,8 +24,8 @@ place (y ∷ ys) x =
 
 -- the labels of a term in the order of its text
 unfoldable pub parameter_labels : Option (Label Name) → List (Label Name)
-parameter_labels none = []
-parameter_labels (some l) = l ∷ []
+parameter_labels None = []
+parameter_labels (Some l) = l ∷ []
 
 unfoldable pub text_labels : ProofTerm Name → List (Label Name)
 text_labels (Ident x) = []
@@ -62,8 +61,8 @@ label_kind (proposition p) = 1
 label_kind (datatype t) = 2
 
 unfoldable pub parameter_label_kind : Option (Label Name) → ℕ
-parameter_label_kind none = 0
-parameter_label_kind (some l) = label_kind l
+parameter_label_kind None = 0
+parameter_label_kind (Some l) = label_kind l
 
 -- a kind, five numbers and the label count
 unfoldable pub seven : ℕ → ℕ → ℕ → ℕ → ℕ → ℕ → ℕ → List ℕ
@@ -77,8 +76,8 @@ module _ (number : Name → ℕ) where
   label_number to (datatype t) = number t
 
   unfoldable pub parameter_label_number : ℕ → Option (Label Name) → ℕ
-  parameter_label_number to none = 0
-  parameter_label_number to (some l) = label_number to l
+  parameter_label_number to None = 0
+  parameter_label_number to (Some l) = label_number to l
 
   -- The records of a term, parts before the whole, behind so many records and so many bytes of code.
   unfoldable pub records_of : ℕ → ℕ → ProofTerm Name → List ℕ

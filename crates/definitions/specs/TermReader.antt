@@ -1,6 +1,5 @@
 -- A reader of strict term text: one pass from left to right without a second try. Document 02, ticket 2.
-use Rattle.std.specs.Prelude.{ℕ, zero, suc, Bool, true, false, ◌&&◌, ◌||◌, not, cond, List, [], ◌∷◌, length, ltb, leb, eqb}
-use Rattle.std.proofs.Math.Option.{Option, none, some}
+use Rattle.std.specs.Prelude.{ℕ, zero, suc, Bool, true, false, ◌&&◌, ◌||◌, not, cond, List, [], ◌∷◌, length, ltb, leb, eqb, Option, None, Some}
 use Rattle.definitions.specs.declared.Style.TheVariants.{Strict}
 use Rattle.definitions.specs.Utf8.{utf8}
 use Rattle.definitions.specs.Outcome.{Outcome, accepted, refuse}
@@ -26,7 +25,7 @@ word (b ∷ s) =
     cond (may_follow (byte_class b)) (longer b more) (record { value = []; rest = b ∷ s })
 
 unfoldable pub named : Read (List ℕ) → Option (Read Name)
-named w = cond (is_admitted w.value) (some w) none
+named w = cond (is_admitted w.value) (Some w) None
 
 unfoldable pub name : Reading Name
 name s = named (word s)
@@ -34,21 +33,21 @@ name s = named (word s)
 -- exactly these bytes
 unfoldable pub expect : List ℕ → Reading (Prim.Unit {0})
 expect [] s = yield tt s
-expect (b ∷ bs) [] = none
-expect (b ∷ bs) (c ∷ s) = cond (eqb b c) (expect bs s) none
+expect (b ∷ bs) [] = None
+expect (b ∷ bs) (c ∷ s) = cond (eqb b c) (expect bs s) None
 
 -- what to do where something stands in front, and where it does not
 unfoldable pub if_read : {A B : Type 0} → Option (Read A) → (A → List ℕ → B) → B → B
-if_read none then else = else
-if_read (some r) then else = then r.value r.rest
+if_read None then else = else
+if_read (Some r) then else = then r.value r.rest
 
 -- the first of two that stands in front
 unfoldable pub or_read : {A : Type 0} → Option (Read A) → Option (Read A) → Option (Read A)
-or_read none later = later
-or_read (some r) later = some r
+or_read None later = later
+or_read (Some r) later = Some r
 
 unfoldable pub means : {A : Type 0} → A → List ℕ → Reading A
-means a bs s = if_read (expect bs s) (λ u rest. yield a rest) none
+means a bs s = if_read (expect bs s) (λ u rest. yield a rest) None
 
 -- Brackets.
 
@@ -66,7 +65,7 @@ same false b = not b
 
 -- goes on where the brackets are those that are due
 unfoldable pub due : {A : Type 0} → Bool → Bool → Reading A → Reading A
-due own asked next s = cond (same own asked) (next s) none
+due own asked next s = cond (same own asked) (next s) None
 
 -- Propositions.
 
@@ -81,8 +80,8 @@ right_least impl = 2
 
 -- the connective in front, if it binds at least so strongly
 unfoldable pub strong_enough : ℕ → Option (Read Connective) → Option (Read Connective)
-strong_enough least none = none
-strong_enough least (some r) = cond (leb least (connective_precedence r.value)) (some r) none
+strong_enough least None = None
+strong_enough least (Some r) = cond (leb least (connective_precedence r.value)) (Some r) None
 
 unfoldable pub goes_on : ℕ → Reading Connective
 goes_on least s = strong_enough least (connective s)
@@ -100,7 +99,7 @@ sign s =
 module _ (bound : List Name) where
   -- at most so many parameters after the first, and the closing bracket
   unfoldable pub later_parameters : ℕ → Reading (List (PropParameter Name))
-  later_parameters zero s = none
+  later_parameters zero s = None
   later_parameters (suc most) s =
       if_read (expect (utf8 ", ") s)
       (λ u rest. (name >>= λ x. later_parameters most >>= λ ps. yield (parameter_named bound x ∷ ps)) rest)
@@ -201,7 +200,7 @@ module _ (types : List Name) (levels : ℕ) where
     due p.own false (yield (label_for types p.shown))
 
   unfoldable pub parameter_label : Reading (Option (Label Name))
-  parameter_label s = if_read (expect (utf8 ": ") s) (λ u. label >>= λ l. yield (some l)) (yield none s)
+  parameter_label s = if_read (expect (utf8 ": ") s) (λ u. label >>= λ l. yield (Some l)) (yield None s)
 
   -- a term, with the label that follows it, if any
   unfoldable pub ascribed : Shown (ProofTerm Name) → Reading (Shown (ProofTerm Name))
@@ -318,8 +317,8 @@ is_limited_label (proposition p) = leb (nesting p) proposition_nesting_limit && 
 is_limited_label (datatype t) = true
 
 unfoldable pub is_limited_parameter_label : Option (Label Name) → Bool
-is_limited_parameter_label none = true
-is_limited_parameter_label (some l) = is_limited_label l
+is_limited_parameter_label None = true
+is_limited_parameter_label (Some l) = is_limited_label l
 
 unfoldable pub has_limited_labels : ProofTerm Name → Bool
 has_limited_labels (Ident x) = true
@@ -340,8 +339,8 @@ is_limited t =
 
 -- the term that was read, if it stands in no brackets of its own and is within the limits
 unfoldable pub settled : Option (Shown (ProofTerm Name)) → Outcome (ProofTerm Name)
-settled none = refuse 20 0
-settled (some t) = cond (same t.own false && is_limited t.shown) (accepted t.shown) (refuse 20 0)
+settled None = refuse 20 0
+settled (Some t) = cond (same t.own false && is_limited t.shown) (accepted t.shown) (refuse 20 0)
 
 unfoldable pub read_answer : List Name → List ℕ → Outcome (ProofTerm Name)
 read_answer types text =

@@ -1,6 +1,5 @@
 -- The strict text of a term, read back: which terms a text may be of, and the answer. Document 02, ticket 2.
-use Rattle.std.specs.Prelude.{ℕ, ◌+◌, max, ◌≤◌, ◌≡◌, Bool, true, false, ◌&&◌, not, cond, List, [], ◌∷◌, ◌++◌, map, length}
-use Rattle.std.proofs.Math.Option.{Option, none, some}
+use Rattle.std.specs.Prelude.{ℕ, ◌+◌, max, ◌≤◌, ◌≡◌, Bool, true, false, ◌&&◌, not, cond, List, [], ◌∷◌, ◌++◌, map, length, Option, None, Some}
 use Rattle.definitions.specs.declared.Style.TheVariants.{Strict}
 use Rattle.definitions.specs.Utf8.{utf8}
 use Rattle.definitions.specs.Outcome.{Outcome, accepted, refuse}
@@ -49,8 +48,8 @@ ConventionalProp bound (Quantified q x t p) = Admitted x × Admitted t × Conven
 -- What is asked of each label of a term, and of each name outside its labels.
 module _ (OfLabel : Label Name → Type 0) (OfName : Name → Type 0) where
   unfoldable pub OfParameterLabel : Option (Label Name) → Type 0
-  OfParameterLabel none = Prim.Unit {0}
-  OfParameterLabel (some l) = OfLabel l
+  OfParameterLabel None = Prim.Unit {0}
+  OfParameterLabel (Some l) = OfLabel l
 
   unfoldable pub Each : ProofTerm Name → Type 0
   Each (Ident x) = OfName x
@@ -135,8 +134,8 @@ label_names (proposition p) = prop_names p
 label_names (datatype t) = t ∷ []
 
 unfoldable pub parameter_label_names : Option (Label Name) → List Name
-parameter_label_names none = []
-parameter_label_names (some l) = label_names l
+parameter_label_names None = []
+parameter_label_names (Some l) = label_names l
 
 unfoldable pub term_names : ProofTerm Name → List Name
 term_names (Ident x) = x ∷ []
@@ -210,8 +209,8 @@ label_without_ids (proposition p) = proposition (prop_without_ids p)
 label_without_ids (datatype t) = datatype t
 
 unfoldable pub parameter_label_without_ids : Option (Label Name) → Option (Label Name)
-parameter_label_without_ids none = none
-parameter_label_without_ids (some l) = some (label_without_ids l)
+parameter_label_without_ids None = None
+parameter_label_without_ids (Some l) = Some (label_without_ids l)
 
 unfoldable pub without_ids : ProofTerm Name → ProofTerm Name
 without_ids (Ident x) = Ident x

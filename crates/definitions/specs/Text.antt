@@ -7,7 +7,7 @@ use Rattle.definitions.specs.declared.Version.TheVariants.{First, Second, Third}
 use Rattle.definitions.specs.declared.TermList.{TermList}
 use Rattle.definitions.specs.declared.TermList.TheVariants.{Atoms, Datatypes}
 use Rattle.definitions.specs.Utf8.{utf8}
-use Rattle.definitions.specs.declared.Order.{Order}
+use Rattle.std.specs.declared.cmp.Ordering.{Ordering}
 use Rattle.definitions.specs.Name.{Name, eq_name, compare_number, or_else, compare_name}
 use Rattle.definitions.specs.Sorting.{sort}
 use Rattle.definitions.specs.Prop.{Prop, AtomUse, get_atoms, get_datatypes}
@@ -48,11 +48,11 @@ unfoldable pub eq_atom_use : AtomUse Name → AtomUse Name → Bool
 eq_atom_use a b = eq_name a.name b.name && eqb a.count b.count
 
 -- by name bytes, then by count
-unfoldable pub compare_atom_use : AtomUse Name → AtomUse Name → Order
+unfoldable pub compare_atom_use : AtomUse Name → AtomUse Name → Ordering
 compare_atom_use a b = or_else (compare_name a.name b.name) (compare_number a.count b.count)
 
 -- the declarations in a version's order: as they are first met, in version 3 sorted
-unfoldable pub arranged : {A : Type 0} → (A → A → Order) → Version → List A → List A
+unfoldable pub arranged : {A : Type 0} → (A → A → Ordering) → Version → List A → List A
 arranged compare First l = l
 arranged compare Second l = l
 arranged compare Third l = sort compare l

@@ -1,6 +1,5 @@
 -- Proof trees (source document 000), and the trees of a sheet's steps. Document 01, "The sheet", the paragraph on steps.
-use Rattle.std.specs.Prelude.{ℕ, zero, suc, ◌+◌, ◌-◌, max, cond, List, [], ◌∷◌, get_or, drop, eqb}
-use Rattle.std.proofs.Math.Option
+use Rattle.std.specs.Prelude.{ℕ, zero, suc, ◌+◌, ◌-◌, max, cond, List, [], ◌∷◌, get_or, drop, eqb, unwrap_or}
 use Rattle.definitions.specs.Prop.{Prop, False, rename_prop}
 use Rattle.definitions.specs.Code.{decode}
 use Rattle.definitions.specs.Sheet.{marked, rule_byte, premiss_count, step_number, names, steps, proposition_pairs, code_bytes, step_records}
@@ -116,7 +115,7 @@ rule_in records k = get_or rules (rule_byte records k) Sorry
 -- Of the count of names, the propositions' pairs and the code bytes: the proposition of a number. Refusal 7 keeps ⊥ from
 -- standing for one that has no code.
 unfoldable pub prop_in : ℕ → List ℕ → List ℕ → ℕ → Prop ℕ
-prop_in names pairs code i = Option.get_or (decode names (marked pairs code i)) False
+prop_in names pairs code i = unwrap_or (decode names (marked pairs code i)) False
 
 -- Of these and the step records:
 module _ (names : ℕ) (pairs code records : List ℕ) where

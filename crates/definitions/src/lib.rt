@@ -53,21 +53,6 @@ pub enum TermList {
     Datatypes(Version),
 }
 
-// How one name, or one number, stands to another.
-#[derive(Drop)]
-pub enum Order {
-    Less,
-    Equal,
-    Greater,
-}
-
-// The place that a search found, if there is one.
-#[derive(Drop)]
-pub enum Found {
-    Nowhere,
-    At(usize),
-}
-
 // Whose refusal it is that a graft meets: neither sheet's, the host's or the donor's.
 #[derive(Clone, Copy)]
 pub enum Whose {

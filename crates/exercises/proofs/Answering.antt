@@ -7,21 +7,20 @@ use native.Mathlib.Omega.{arith}
 use lib.ListN.{length}
 use lib.Dec.{ltb}
 use borrow.Author.Tests.{ltb-false, lt-ltb, le-ltb, le-leb, lt-leb}
-use Rattle.definitions.specs.declared.Found.TheVariants.{Nowhere, At}
+use Rattle.std.specs.Prelude.{None, Some, Err}
 use Rattle.definitions.specs.Outcome.{Outcome, accepted, refuse, refuse_if, ◌>>=◌}
 use Rattle.definitions.specs.Answers.{is_in_room}
 use Rattle.definitions.specs.CallerNames.{names_in, all_well_formed}
 use Rattle.definitions.specs.Exercises.{repeated, exercise_name_limit, connective_limit, bad_names, exercises, exercise_answer}
-use Rattle.output.specs.declared.Written.TheVariants.{Refused}
 use Rattle.output.specs.Written.{written_of, filled, Fills}
 use Rattle.exercises.specs.Names.{count_of}
 use Rattle.exercises.specs.Sizes.{code_at, LocatedAt}
 
-decided : (bad : Bool) (k n : ℕ) → At n ≡ cond bad Nowhere (At k) → (bad ≡ false) × (k ≡ n)
+decided : (bad : Bool) (k n : ℕ) → Some n ≡ cond bad None (Some k) → (bad ≡ false) × (k ≡ n)
 decided true k n e = let never : ◌≡◌ {A = ℕ} 0 1 = cc in absurd (omega arith)
 decided false k n e = (refl, cc)
 
-undecided : (bad : Bool) (k : ℕ) → Nowhere ≡ cond bad Nowhere (At k) → bad ≡ true
+undecided : (bad : Bool) (k : ℕ) → None ≡ cond bad None (Some k) → bad ≡ true
 undecided true k e = refl
 undecided false k e = let never : ◌≡◌ {A = ℕ} 0 1 = cc in absurd (omega arith)
 
@@ -35,7 +34,7 @@ pub record Named (text : List ℕ) (names : ℕ) : Type 0 where
   pub number : length (names_in text) ≡ names
   pub few : names ≤ 3
 
-pub named : {text : List ℕ} {names : ℕ} → At names ≡ count_of (names_in text) → Named text names
+pub named : {text : List ℕ} {names : ℕ} → Some names ≡ count_of (names_in text) → Named text names
 unfolding count_of bad_names exercise_name_limit
 named {text} {names} e =
     let l = names_in text in
@@ -44,7 +43,7 @@ named {text} {names} e =
     record { good = good; number = number; few = omega arith }
 
 module _ (text : List ℕ) (n ordinal room : ℕ) where
-  pub bad_names_lem : Nowhere ≡ count_of (names_in text) → exercise_answer text n ordinal room ≡ refuse 29 0
+  pub bad_names_lem : None ≡ count_of (names_in text) → exercise_answer text n ordinal room ≡ refuse 29 0
   unfolding count_of exercise_answer refuse_if refuse ◌>>=◌
   bad_names_lem e = rw (undecided (bad_names (names_in text)) (length (names_in text)) e)
 
@@ -63,6 +62,6 @@ module _ (text : List ℕ) (n ordinal room : ℕ) where
     answered h at = rw (a.good, le-ltb 3 n h, a.number, lt-leb (length (exercises names n)) ordinal at.within, at.same)
 
 -- a refusal leaves the memory as it was
-pub refuses : {outcome : Outcome (List ℕ)} {number : ℕ} → outcome ≡ refuse number 0 → (before : List ℕ) → Fills outcome before before (Refused (record { number = number; place = 0 }))
+pub refuses : {outcome : Outcome (List ℕ)} {number : ℕ} → outcome ≡ refuse number 0 → (before : List ℕ) → Fills outcome before before (Err (record { number = number; place = 0 }))
 unfolding refuse written_of filled
 refuses e before = rw e (record { answer = refl; memory = refl })

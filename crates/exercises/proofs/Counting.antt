@@ -7,7 +7,7 @@ use native.Mathlib.Omega.{arith}
 use lib.ListN.{length, drop}
 use lib.Dec.{ltb}
 use borrow.Author.Tests.{lt-ltb}
-use Rattle.definitions.specs.declared.Found.TheVariants.{Nowhere, At}
+use Rattle.std.specs.Prelude.{None, Some}
 use Rattle.definitions.specs.Name.{Name, eq_name}
 use Rattle.definitions.specs.Text.{occurs}
 use Rattle.definitions.specs.CallerNames.{pieces, names_in, well_formed, all_well_formed}
@@ -20,28 +20,28 @@ use Rattle.exercises.specs.Names.{Two, count_of}
 pub told : {r t b : Bool} → r ≡ t → r ≡ b → t ≡ b
 told e h = sym e ∙ h
 
-by_form : (many twice : Bool) (count : ℕ) → cond (many || not false || twice) Nowhere (At count) ≡ Nowhere
+by_form : (many twice : Bool) (count : ℕ) → cond (many || not false || twice) None (Some count) ≡ None
 by_form true twice count = refl
 by_form false twice count = refl
 
-by_repeat : (many good : Bool) (count : ℕ) → cond (many || not good || true) Nowhere (At count) ≡ Nowhere
+by_repeat : (many good : Bool) (count : ℕ) → cond (many || not good || true) None (Some count) ≡ None
 by_repeat true good count = refl
 by_repeat false true count = refl
 by_repeat false false count = refl
 
-malformed : (l : List Name) → all_well_formed l ≡ false → count_of l ≡ Nowhere
+malformed : (l : List Name) → all_well_formed l ≡ false → count_of l ≡ None
 unfolding count_of bad_names
 malformed l h = rw h (by_form (ltb exercise_name_limit (length l)) (repeated l) (length l))
 
-twice : (l : List Name) → repeated l ≡ true → count_of l ≡ Nowhere
+twice : (l : List Name) → repeated l ≡ true → count_of l ≡ None
 unfolding count_of bad_names
 twice l h = rw h (by_repeat (ltb exercise_name_limit (length l)) (all_well_formed l) (length l))
 
-too_many : (l : List Name) → 3 < length l → count_of l ≡ Nowhere
+too_many : (l : List Name) → 3 < length l → count_of l ≡ None
 unfolding count_of bad_names exercise_name_limit
 too_many l h = rw (lt-ltb 3 (length l) h)
 
-pub none : (text : List ℕ) → length text ≡ 0 → At 0 ≡ count_of (names_in text)
+pub none : (text : List ℕ) → length text ≡ 0 → Some 0 ≡ count_of (names_in text)
 unfolding count_of bad_names exercise_name_limit all_well_formed repeated
 none text h = rw (no_names text h)
 
@@ -56,11 +56,11 @@ module _ {text : List ℕ} where
     starts : names_in text ≡ piece text 0 first ∷ after text first
     starts = rw (names_pieces text some) f.is
 
-    pub bad_first : well_formed (piece text 0 first) ≡ false → Nowhere ≡ count_of (names_in text)
+    pub bad_first : well_formed (piece text 0 first) ≡ false → None ≡ count_of (names_in text)
     unfolding all_well_formed
     bad_first bad = rw starts (sym (malformed (piece text 0 first ∷ after text first) (rw bad)))
 
-    pub one : well_formed (piece text 0 first) ≡ true → length text ≤ first → At 1 ≡ count_of (names_in text)
+    pub one : well_formed (piece text 0 first) ≡ true → length text ≤ first → Some 1 ≡ count_of (names_in text)
     unfolding count_of bad_names exercise_name_limit all_well_formed repeated occurs
     one good h = rw (starts, after_last text first h, good)
 
@@ -71,16 +71,16 @@ module _ {text : List ℕ} where
     continues : names_in text ≡ piece text 0 first ∷ (piece text (first + 1) second ∷ after text second)
     continues = rw (o.is, s.is)
 
-    pub bad_second : well_formed (piece text (first + 1) second) ≡ false → Nowhere ≡ count_of (names_in text)
+    pub bad_second : well_formed (piece text (first + 1) second) ≡ false → None ≡ count_of (names_in text)
     unfolding all_well_formed
     bad_second bad = rw continues (sym (malformed (piece text 0 first ∷ (piece text (first + 1) second ∷ after text second)) (rw (o.good, bad))))
 
-    pub same_two : eq_name (piece text 0 first) (piece text (first + 1) second) ≡ true → Nowhere ≡ count_of (names_in text)
+    pub same_two : eq_name (piece text 0 first) (piece text (first + 1) second) ≡ true → None ≡ count_of (names_in text)
     unfolding repeated occurs
     same_two same = rw continues (sym (twice (piece text 0 first ∷ (piece text (first + 1) second ∷ after text second)) (rw same)))
 
     pub two : well_formed (piece text (first + 1) second) ≡ true → eq_name (piece text 0 first) (piece text (first + 1) second) ≡ false
-        → length text ≤ second → At 2 ≡ count_of (names_in text)
+        → length text ≤ second → Some 2 ≡ count_of (names_in text)
     unfolding count_of bad_names exercise_name_limit all_well_formed repeated occurs
     two good differ h = rw (continues, after_last text second h, o.good, good, differ)
 
@@ -100,7 +100,7 @@ module _ {text : List ℕ} where
     ends : names_in text ≡ piece text 0 first ∷ (piece text (first + 1) second ∷ (piece text (second + 1) third ∷ after text third))
     ends = rw (t.is, e.is)
 
-    pub many : third < length text → Nowhere ≡ count_of (names_in text)
+    pub many : third < length text → None ≡ count_of (names_in text)
     many h =
         let more : 0 < length (after text third) = rw (after_more text third h) (some_piece (drop (third + 1) text)) in
         rw ends (sym (too_many (piece text 0 first ∷ (piece text (first + 1) second ∷ (piece text (second + 1) third ∷ after text third))) (omega arith)))
@@ -109,19 +109,19 @@ module _ {text : List ℕ} where
       all : names_in text ≡ piece text 0 first ∷ (piece text (first + 1) second ∷ (piece text (second + 1) third ∷ []))
       all = rw (ends, after_last text third h)
 
-      pub bad_third : well_formed (piece text (second + 1) third) ≡ false → Nowhere ≡ count_of (names_in text)
+      pub bad_third : well_formed (piece text (second + 1) third) ≡ false → None ≡ count_of (names_in text)
       unfolding all_well_formed
       bad_third bad = rw all (sym (malformed (piece text 0 first ∷ (piece text (first + 1) second ∷ (piece text (second + 1) third ∷ []))) (rw (t.good, t.good_too, bad))))
 
-      pub same_outer : eq_name (piece text 0 first) (piece text (second + 1) third) ≡ true → Nowhere ≡ count_of (names_in text)
+      pub same_outer : eq_name (piece text 0 first) (piece text (second + 1) third) ≡ true → None ≡ count_of (names_in text)
       unfolding repeated occurs
       same_outer same = rw all (sym (twice (piece text 0 first ∷ (piece text (first + 1) second ∷ (piece text (second + 1) third ∷ []))) (rw (t.differ, same))))
 
       module _ (apart : eq_name (piece text 0 first) (piece text (second + 1) third) ≡ false) where
-        pub same_last : eq_name (piece text (first + 1) second) (piece text (second + 1) third) ≡ true → Nowhere ≡ count_of (names_in text)
+        pub same_last : eq_name (piece text (first + 1) second) (piece text (second + 1) third) ≡ true → None ≡ count_of (names_in text)
         unfolding repeated occurs
         same_last same = rw all (sym (twice (piece text 0 first ∷ (piece text (first + 1) second ∷ (piece text (second + 1) third ∷ []))) (rw (t.differ, apart, same))))
 
-        pub three : well_formed (piece text (second + 1) third) ≡ true → eq_name (piece text (first + 1) second) (piece text (second + 1) third) ≡ false → At 3 ≡ count_of (names_in text)
+        pub three : well_formed (piece text (second + 1) third) ≡ true → eq_name (piece text (first + 1) second) (piece text (second + 1) third) ≡ false → Some 3 ≡ count_of (names_in text)
         unfolding count_of bad_names exercise_name_limit all_well_formed repeated occurs
         three good differ = rw (all, t.good, t.good_too, good, t.differ, apart, differ)

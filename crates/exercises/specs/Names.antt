@@ -1,7 +1,5 @@
 -- How many of a caller's names there are.
-use Rattle.std.specs.Prelude.{ℕ, ◌+◌, ◌<◌, ◌≡◌, true, false, cond, List, ◌∷◌, length, drop}
-use Rattle.definitions.specs.declared.Found.{Found}
-use Rattle.definitions.specs.declared.Found.TheVariants.{Nowhere, At}
+use Rattle.std.specs.Prelude.{ℕ, ◌+◌, ◌<◌, ◌≡◌, true, false, cond, List, ◌∷◌, length, drop, Option, None, Some}
 use Rattle.definitions.specs.Name.{Name, eq_name}
 use Rattle.definitions.specs.CallerNames.{pieces, names_in, well_formed}
 use Rattle.definitions.specs.Exercises.{bad_names}
@@ -18,5 +16,5 @@ pub record Two (text : List ℕ) (first second : ℕ) : Type 0 where
   pub more : second < length text
 
 -- how many names there are, if they are names that may be asked about
-unfoldable pub count_of : List Name → Found
-count_of names = cond (bad_names names) Nowhere (At (length names))
+unfoldable pub count_of : List Name → Option ℕ
+count_of names = cond (bad_names names) None (Some (length names))

@@ -11,9 +11,9 @@ ghost use Rattle.output.specs.Written.{Fills};
 ghost use Rattle.exercise_laws.specs.Counts.{each};
 ghost use Rattle.exercises.specs.Sizes.{Few, size, CountOf, Located, Divided, root_of, code_at};
 
-use definitions::{Found, Refusal};
+use definitions::Refusal;
 use names::count_names;
-use output::{Written, put, put_all};
+use output::{put, put_all};
 
 // At most so many connectives.
 const CONNECTIVE_LIMIT: usize = 3;
@@ -146,35 +146,35 @@ fn put_sized(out: &mut [u8], to: usize, names: usize, k: usize, i: usize, write:
 
 // The code of the proposition at an ordinal among all of at most n connectives over names that are divided by newlines:
 // 29 for names that are too many, repeated or malformed, or an n past 3; 30 for an ordinal past the end; then 16.
-pub fn exercise(text: &[u8], n: usize, ordinal: usize, out: &mut [u8]) -> Written
+pub fn exercise(text: &[u8], n: usize, ordinal: usize, out: &mut [u8]) -> Result<usize, Refusal>
     ensures { Fills (exercise_answer text.now n ordinal (length out.old))
         out.old out.new result }
 {
-    let Found::At(names) = count_names(text) else {
-        return Written::Refused(Refusal {
+    let Some(names) = count_names(text) else {
+        return Err(Refusal {
             number: 29,
             place: 0,
         });
     };
     if CONNECTIVE_LIMIT < n {
-        return Written::Refused(Refusal {
+        return Err(Refusal {
             number: 29,
             place: 0,
         });
     }
     let Place::At { size, index } = locate(names, n, ordinal) else {
-        return Written::Refused(Refusal {
+        return Err(Refusal {
             number: 30,
             place: 0,
         });
     };
     let end = put_sized(out, 0, names, size, index, false);
     if out.len() < end {
-        return Written::Refused(Refusal {
+        return Err(Refusal {
             number: 16,
             place: 0,
         });
     }
     put_sized(out, 0, names, size, index, true);
-    Written::Length(end)
+    Ok(end)
 }

@@ -6,7 +6,6 @@ ghost use Rattle.caller_names.specs.Pieces.{piece, Bounds};
 ghost use Rattle.exercises.specs.Names.{Two, count_of};
 
 use caller_names::name_end;
-use definitions::Found;
 use identifier::same_name;
 
 // Whether a piece of the text is a name.
@@ -26,49 +25,49 @@ fn same_piece(text: &[u8], start: usize, end: usize, other: usize, stop: usize) 
 }
 
 // Three, if the last of three names is one and differs from both before it.
-fn third_name(text: &[u8], first: usize, second: usize) -> Found
+fn third_name(text: &[u8], first: usize, second: usize) -> Option<usize>
     requires { Two text.now first second }
     ensures { result ≡ count_of (names_in text.now) }
 {
     let third = name_end(text, second + 1);
     if third < text.len() {
-        return Found::Nowhere;
+        return None;
     }
     if !well_formed(text, second + 1, third) {
-        return Found::Nowhere;
+        return None;
     }
     if same_piece(text, 0, first, second + 1, third) {
-        return Found::Nowhere;
+        return None;
     }
     if same_piece(text, first + 1, second, second + 1, third) {
-        return Found::Nowhere;
+        return None;
     }
-    Found::At(3)
+    Some(3)
 }
 
 // How many names there are; nowhere, if they are more than three, repeated or malformed.
-pub fn count_names(text: &[u8]) -> Found
+pub fn count_names(text: &[u8]) -> Option<usize>
     ensures { result ≡ count_of (names_in text.now) }
 {
     if text.len() == 0 {
-        return Found::At(0);
+        return Some(0);
     }
     let first = name_end(text, 0);
     if !well_formed(text, 0, first) {
-        return Found::Nowhere;
+        return None;
     }
     if first == text.len() {
-        return Found::At(1);
+        return Some(1);
     }
     let second = name_end(text, first + 1);
     if !well_formed(text, first + 1, second) {
-        return Found::Nowhere;
+        return None;
     }
     if same_piece(text, 0, first, first + 1, second) {
-        return Found::Nowhere;
+        return None;
     }
     if second == text.len() {
-        return Found::At(2);
+        return Some(2);
     }
     third_name(text, first, second)
 }

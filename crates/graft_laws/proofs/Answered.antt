@@ -2,7 +2,7 @@
 use Prim.Native.Nat.{ℕ, ◌-◌}
 use mathlib.Core.Path.{◌≡◌, refl, sym, ap, ◌∙◌}
 use mathlib.Core.Bool.{Bool, false}
-use mathlib.Core.Option.{some}
+use Rattle.std.specs.Prelude.{Some}
 use mathlib.Core.List.{List}
 use native.Mathlib.Omega.{arith}
 use lib.ListN.{length}
@@ -83,7 +83,7 @@ module _ (h d : List ℕ) (k room : ℕ) (m : List ℕ) (host_bytes : Bytes h) (
 
   -- ticket 11's law
   pub answer_spliced : (u v : ProofTerm Name) (spot : Spot) → named_term h ≡ accepted u → named_term m ≡ accepted v
-      → reached k (root_of h) checking ≡ some spot → Spliced h d k u v spot
+      → reached k (root_of h) checking ≡ Some spot → Spliced h d k u v spot
   answer_spliced u v spot host joined there =
       let a = answered in
       graft_sheets a.grafts u v spot host (ap named_term (sym a.is_merged) ∙ joined) there

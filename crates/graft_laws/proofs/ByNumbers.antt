@@ -2,7 +2,7 @@
 use Prim.Native.Nat.{ℕ, ◌+◌, ◌<◌}
 use mathlib.Core.Path.{◌≡◌, refl, sym, ap, ◌∙◌}
 use mathlib.Core.Bool.{Bool, true, false, true≢false}
-use mathlib.Core.Option.{Option, none, some}
+use Rattle.std.specs.Prelude.{Option, None, Some}
 use mathlib.Core.List.{List, [], ◌++◌, append-nil}
 use native.Mathlib.Omega.{arith}
 use lib.ListN.{length, get_or}
@@ -38,8 +38,8 @@ module _ (h d : List ℕ) where
     where
       go : (o : Option ℕ) → plain_search merged_at count x ≡ o → LowestNumber merged_at count x o
           → (merged_number h d x < count) × (merged_at (merged_number h d x) ≡ x)
-      go none is (there_is_none absent) = absurd (absent i l same)
-      go (some j) is (is_lowest within here earlier) = let number : merged_number h d x ≡ j = rw is in (rw number within, rw number here)
+      go None is (there_is_none absent) = absurd (absent i l same)
+      go (Some j) is (is_lowest within here earlier) = let number : merged_number h d x ≡ j = rw is in (rw number within, rw number here)
 
   host_right : (i : ℕ) → i < sheet.names h → (host_number h d i < count) × (merged_at (host_number h d i) ≡ name_of h i)
   unfolding host_number
@@ -51,15 +51,15 @@ module _ (h d : List ℕ) where
   number_lowest x j l same earlier = go (plain_search merged_at count x) refl (plain_search_lowest merged_at count x)
     where
       go : (o : Option ℕ) → plain_search merged_at count x ≡ o → LowestNumber merged_at count x o → merged_number h d x ≡ j
-      go none is (there_is_none absent) = absurd (absent j l same)
-      go (some i) is (is_lowest within here before) =
+      go None is (there_is_none absent) = absurd (absent j l same)
+      go (Some i) is (is_lowest within here before) =
           let a : i < j → ⊥ = λ b. earlier i b here in
           let b : j < i → ⊥ = λ c. before j c same in
           let e : i ≡ j = omega arith in
           rw (is, e)
 
   -- so a host name's number is the lowest among the host's own
-  host_lowest : (i j : ℕ) → LowestNumber (name_of h) (sheet.names h) (name_of h i) (some j) → host_number h d i ≡ j
+  host_lowest : (i j : ℕ) → LowestNumber (name_of h) (sheet.names h) (name_of h i) (Some j) → host_number h d i ≡ j
   unfolding host_number
   host_lowest i j (is_lowest within here before) =
       number_lowest (name_of h i) j (omega (arith, length_merged h d)) (host_at h d j within ∙ here)
@@ -109,5 +109,5 @@ unfolding renumbered host_number merged_number
 host_renumbered h d i l = go (plain_search (name_of h) (sheet.names h) (name_of h i)) (plain_search_lowest (name_of h) (sheet.names h) (name_of h i))
   where
     go : (o : Option ℕ) → LowestNumber (name_of h) (sheet.names h) (name_of h i) o → host_number h h i ≡ host_number h d i
-    go none (there_is_none absent) = absurd (absent i l refl)
-    go (some j) lowest = host_lowest h h i j lowest ∙ sym (host_lowest h d i j lowest)
+    go None (there_is_none absent) = absurd (absent i l refl)
+    go (Some j) lowest = host_lowest h h i j lowest ∙ sym (host_lowest h d i j lowest)

@@ -2,7 +2,7 @@
 use Prim.Native.Nat.{ℕ, zero, suc, ◌+◌, ◌-◌, ◌≤◌, ◌<◌}
 use mathlib.Core.Path.{◌≡◌, refl, sym, ap, ◌∙◌}
 use mathlib.Core.Bool.{false, cond}
-use mathlib.Core.Option.{some}
+use Rattle.std.specs.Prelude.{Some}
 use mathlib.Core.List.{List, [], ◌∷◌, ◌++◌}
 use native.Mathlib.Omega.{arith}
 use native.Mathlib.Decide.{dec_lt, dec_le}
@@ -178,7 +178,7 @@ module _ {h d : List ℕ} {k : ℕ} (g : Grafts h d k) where
 
   -- the law
   pub graft_sheets : (u v : ProofTerm Name) (spot : Spot) → named_term h ≡ accepted u → named_term M ≡ accepted v
-      → reached k (root_of h) checking ≡ some spot → Spliced h d k u v spot
+      → reached k (root_of h) checking ≡ Some spot → Spliced h d k u v spot
   graft_sheets u v spot host merged is =
       let (_, host-exports) = exported h u host in
       let (cm, merged-exports) = exported M v merged in

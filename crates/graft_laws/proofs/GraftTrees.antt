@@ -1,7 +1,7 @@
 -- Ticket 11's law over the trees of three sheets: the merged term is the host's with the donor's in the sorry's position.
 use Prim.Native.Nat.{ℕ, ◌+◌, ◌-◌}
 use mathlib.Core.Path.{◌≡◌, refl, sym, ap, ◌∙◌}
-use mathlib.Core.Option.{some, some-injective}
+use Rattle.std.specs.Prelude.{Some}
 use mathlib.Core.List.{List, [], ◌∷◌, ◌++◌, map}
 use native.Mathlib.Omega.{arith}
 use Rattle.definitions.specs.Outcome.{Outcome, refused, accepted, refuse, map_outcome}
@@ -17,6 +17,7 @@ use Rattle.graft_laws.proofs.Renumbering.{export_moved}
 use Rattle.graft_laws.proofs.Tidy.{export_named, occurrences_same, reached_same, only_same}
 use Rattle.graft_laws.proofs.Stack.{stack}
 use Rattle.graft_laws.proofs.MergedTrees.{Rows, merged_change, host_change, donor_change, merged_stack, occurrences_in, once, OnlyIn, only}
+use Rattle.std.proofs.lemmas.Option.{same_Some}
 
 -- the merged term v is the host's term u with the donor's term, exported for the sorry's place, in the sorry's position
 pub record SplicedTrees (sorry : ProofTree Name) (donor_root : ProofTree Name) (u v : ProofTerm Name) (spot : Spot) : Type 0 where
@@ -71,7 +72,7 @@ module _ {step_h step_d step_m : ℕ → Step ℕ} {count_h count_d count_m : �
         ∙ (merged_stack w ∙ ap (map (host_change k ((donor_change k name_d).tree root_d) f name_h).tree) host_root))
 
     pub graft_law : (u v : ProofTerm Name) (spot : Spot) → export (rename_tree name_h root_h) checking ≡ accepted u
-        → export (rename_tree name_m root_m) checking ≡ accepted v → reached k root_h checking ≡ some spot
+        → export (rename_tree name_m root_m) checking ≡ accepted v → reached k root_h checking ≡ Some spot
         → SplicedTrees (over (renumber_step f (named_step name_h (step_h k))) none) (rename_tree name_d root_d) u v spot
     unfolding at_place named_tree
     graft_law u v spot host merged is =
@@ -83,7 +84,7 @@ module _ {step_h step_d step_m : ℕ → Step ℕ} {count_h count_d count_m : �
         (omega (arith, occurrences_same f name_h k w.fixed w.others root_h, occurs_once)) u-exported
         (reached_same f name_h k w.fixed w.others root_h checking ∙ is) in
         let same_spot : p.spot ≡ spot =
-        some-injective _ _ (sym p.is_reached ∙ (reached_same f name_h k w.fixed w.others root_h checking ∙ is)) in
+        same_Some _ _ (sym p.is_reached ∙ (reached_same f name_h k w.fixed w.others root_h checking ∙ is)) in
         let v-exported : map_outcome p.fill (export donor_tree p.spot.place) ≡ accepted v =
         sym p.is_merged ∙ (ap (λ t. export t checking) (sym root_merged) ∙ (export_named name_m root_m checking ∙ merged)) in
         let (t, is-t, fills) = was_accepted p.fill (export donor_tree p.spot.place) v v-exported in

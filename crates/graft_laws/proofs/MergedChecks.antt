@@ -2,7 +2,7 @@
 use Prim.Native.Nat.{ℕ, zero, suc, ◌+◌, ◌-◌, ◌≤◌, ◌<◌, max}
 use mathlib.Core.Path.{◌≡◌, refl, sym, ap, ◌∙◌}
 use mathlib.Core.Bool.{Bool, false}
-use mathlib.Core.Option as option
+use Rattle.std.specs.Prelude.{None}
 use mathlib.Core.List.{List, [], ◌∷◌, map}
 use native.Mathlib.Omega.{arith}
 use native.Mathlib.Decide.{dec_lt}
@@ -201,7 +201,7 @@ module _ (s : List ℕ) (c : Checks s) where
       length-take-le (sheet.pair_length (sheet.name_pairs s) i) (drop (sheet.pair_offset (sheet.name_pairs s) i) (sheet.text_bytes s))
       (rw (length-drop (sheet.pair_offset (sheet.name_pairs s) i) (sheet.text_bytes s)) (omega (arith, x.1, length_text s c)))
 
-pub no_lowest : (test : ℕ → Bool) (count : ℕ) → ((i : ℕ) → i < count → test i ≡ false) → lowest test count ≡ option.none
+pub no_lowest : (test : ℕ → Bool) (count : ℕ) → ((i : ℕ) → i < count → test i ≡ false) → lowest test count ≡ None
 unfolding lowest first_of
 no_lowest test zero h = refl
 no_lowest test (suc count) h = rw (no_lowest test count (λ i l. h i (omega arith)), h count (omega arith))

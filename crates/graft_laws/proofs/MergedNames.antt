@@ -2,7 +2,7 @@
 use Prim.Native.Nat.{ℕ, zero, suc, ◌+◌, ◌<◌}
 use mathlib.Core.Path.{◌≡◌, refl, sym, ap, ◌∙◌}
 use mathlib.Core.Bool.{Bool, true, false, ◌||◌, cond, true≢false}
-use mathlib.Core.Option.{Option, none, some}
+use Rattle.std.specs.Prelude.{Option, None, Some}
 use mathlib.Core.List.{List, [], ◌∷◌, ◌++◌, map}
 use native.Mathlib.Omega.{arith}
 use native.Mathlib.Decide.{ℕ_discrete}
@@ -125,8 +125,8 @@ module _ (h d : List ℕ) where
     where
       go : (o : Option ℕ) → plain_search merged_at (length (merged_names h d)) (name_of d n) ≡ o
           → LowestNumber merged_at (length (merged_names h d)) (name_of d n) o → Renumbered h d n
-      go none is (there_is_none absent) = absurd (absent i l same)
-      go (some j) is (is_lowest within here earlier) =
+      go None is (there_is_none absent) = absurd (absent i l same)
+      go (Some j) is (is_lowest within here earlier) =
           let number : renumbered h d n ≡ j = rw is in
           record { within = rw number within; same = rw number here; earlier = rw number earlier }
 

@@ -3,7 +3,7 @@
 use Prim.Native.Nat.{ℕ, zero, suc, ◌+◌, ◌-◌, ◌≤◌, ◌<◌}
 use mathlib.Core.Path.{◌≡◌, refl, sym, ap, ◌∙◌}
 use mathlib.Core.Bool.{Bool, true, false, ◌||◌, cond}
-use mathlib.Core.Option.{Option, none, some}
+use Rattle.std.specs.Prelude.{Option, None, Some}
 use mathlib.Core.List.{List, [], ◌∷◌, ◌++◌, map, append_assoc, append-nil}
 use native.Mathlib.Omega.{arith}
 use native.Mathlib.Decide.{dec_lt}
@@ -168,14 +168,14 @@ module _ (h d : List ℕ) where
       go false e = refl
 
   -- a name that the host holds has the host's number
-  module _ (n i : ℕ) (found : plain_search (name_of h) (sheet.names h) (name_of d n) ≡ some i) where
+  module _ (n i : ℕ) (found : plain_search (name_of h) (sheet.names h) (name_of d n) ≡ Some i) where
     is_lowest_there : (i < sheet.names h) × (name_of h i ≡ name_of d n) × ((j : ℕ) → j < i → name_of h j ≡ name_of d n → ⊥)
-    is_lowest_there = go (some i) (rw found at (plain_search_lowest (name_of h) (sheet.names h) (name_of d n))) i refl
+    is_lowest_there = go (Some i) (rw found at (plain_search_lowest (name_of h) (sheet.names h) (name_of d n))) i refl
       where
-        go : (o : Option ℕ) → LowestNumber (name_of h) (sheet.names h) (name_of d n) o → (i : ℕ) → o ≡ some i
+        go : (o : Option ℕ) → LowestNumber (name_of h) (sheet.names h) (name_of d n) o → (i : ℕ) → o ≡ Some i
             → (i < sheet.names h) × (name_of h i ≡ name_of d n) × ((j : ℕ) → j < i → name_of h j ≡ name_of d n → ⊥)
-        go (some j) (is_lowest l e f) i is = let z : j ≡ i = cc in rw (← z) (l, e, f)
-        go none (there_is_none f) i is = absurd (let z : ◌≡◌ {A = ℕ} 0 1 = cc in omega arith)
+        go (Some j) (is_lowest l e f) i is = let z : j ≡ i = cc in rw (← z) (l, e, f)
+        go None (there_is_none f) i is = absurd (let z : ◌≡◌ {A = ℕ} 0 1 = cc in omega arith)
 
     pub held_number : renumbered h d n ≡ i
     held_number =
@@ -203,15 +203,15 @@ module _ (h d : List ℕ) where
       go false = append-nil (missing_below h d n)
 
   -- and a new one comes next
-  module _ (n : ℕ) (below : n < sheet.names d) (absent : plain_search (name_of h) (sheet.names h) (name_of d n) ≡ none)
+  module _ (n : ℕ) (below : n < sheet.names d) (absent : plain_search (name_of h) (sheet.names h) (name_of d n) ≡ None)
       (new : (m : ℕ) → m < n → name_of d m ≡ name_of d n → ⊥) where
     not_there : (i : ℕ) → i < sheet.names h → name_of h i ≡ name_of d n → ⊥
-    not_there = go none (rw absent at (plain_search_lowest (name_of h) (sheet.names h) (name_of d n))) refl
+    not_there = go None (rw absent at (plain_search_lowest (name_of h) (sheet.names h) (name_of d n))) refl
       where
-        go : (o : Option ℕ) → LowestNumber (name_of h) (sheet.names h) (name_of d n) o → o ≡ none
+        go : (o : Option ℕ) → LowestNumber (name_of h) (sheet.names h) (name_of d n) o → o ≡ None
             → (i : ℕ) → i < sheet.names h → name_of h i ≡ name_of d n → ⊥
-        go (some j) (is_lowest l e f) is = absurd (let z : ◌≡◌ {A = ℕ} 0 1 = cc in omega arith)
-        go none (there_is_none f) is = f
+        go (Some j) (is_lowest l e f) is = absurd (let z : ◌≡◌ {A = ℕ} 0 1 = cc in omega arith)
+        go None (there_is_none f) is = f
 
     pub new_missing : missing_below h d (n + 1) ≡ missing_below h d n ++ (name_of d n ∷ [])
     unfolding met names_of
@@ -251,7 +251,7 @@ module _ (h d : List ℕ) where
 
   -- so each donor name has a number that was given before, or the next
   module _ (n : ℕ) (below : n < sheet.names d) where
-    new_below : (m : ℕ) → m < n → plain_search (name_of h) (sheet.names h) (name_of d m) ≡ none
+    new_below : (m : ℕ) → m < n → plain_search (name_of h) (sheet.names h) (name_of d m) ≡ None
         → ((i : ℕ) → i < m → name_of d i ≡ name_of d m → ⊥) → renumbered h d m < sheet.names h + length (missing_below h d n)
     new_below m l absent new =
         let (rest, e) = begins_more (m + 1) (n - (m + 1)) in
@@ -261,14 +261,14 @@ module _ (h d : List ℕ) where
         let more = ap length (new_missing m (omega arith) absent new) ∙ length-append (missing_below h d m) (name_of d m ∷ []) in
         omega (arith, new_number m (omega arith) absent new)
 
-    absent_too : (m : ℕ) → name_of d m ≡ name_of d n → plain_search (name_of h) (sheet.names h) (name_of d n) ≡ none
-        → plain_search (name_of h) (sheet.names h) (name_of d m) ≡ none
+    absent_too : (m : ℕ) → name_of d m ≡ name_of d n → plain_search (name_of h) (sheet.names h) (name_of d n) ≡ None
+        → plain_search (name_of h) (sheet.names h) (name_of d m) ≡ None
     absent_too m e f = ap (plain_search (name_of h) (sheet.names h)) e ∙ f
 
-    unheld : plain_search (name_of h) (sheet.names h) (name_of d n) ≡ none → (o : Option ℕ) → LowestNumber (name_of d) (sheet.names d) (name_of d n) o
+    unheld : plain_search (name_of h) (sheet.names h) (name_of d n) ≡ None → (o : Option ℕ) → LowestNumber (name_of d) (sheet.names d) (name_of d n) o
         → Numbering h d n
-    unheld absent none (there_is_none f) = absurd (f n below refl)
-    unheld absent (some m) (is_lowest within here before) = go (dec_lt m n)
+    unheld absent None (there_is_none f) = absurd (f n below refl)
+    unheld absent (Some m) (is_lowest within here before) = go (dec_lt m n)
       where
         go : Dec (m < n) → Numbering h d n
         go (yes l) =
@@ -282,7 +282,7 @@ module _ (h d : List ℕ) where
     numbering = go (plain_search (name_of h) (sheet.names h) (name_of d n)) refl
       where
         go : (o : Option ℕ) → plain_search (name_of h) (sheet.names h) (name_of d n) ≡ o → Numbering h d n
-        go (some i) found =
+        go (Some i) found =
             let (l, e, f) = is_lowest_there n i found in
             given_before (omega (arith, held_number n i found)) (held_missing n i found)
-        go none absent = unheld absent (plain_search (name_of d) (sheet.names d) (name_of d n)) (plain_search_lowest (name_of d) (sheet.names d) (name_of d n))
+        go None absent = unheld absent (plain_search (name_of d) (sheet.names d) (name_of d n)) (plain_search_lowest (name_of d) (sheet.names d) (name_of d n))

@@ -2,8 +2,7 @@
 use Prim.Native.Nat.{ℕ, zero, suc, ◌+◌, ◌*◌, ◌-◌, ◌≤◌, ◌<◌}
 use mathlib.Core.Path.{◌≡◌, refl, sym, ap, ap₂, ◌∙◌}
 use mathlib.Core.Bool.{false, not}
-use mathlib.Core.Option
-use mathlib.Core.Option.{Option, none, some}
+use Rattle.std.specs.Prelude.{unwrap_or, Option, None, Some}
 use mathlib.Core.List.{List, [], ◌∷◌, ◌++◌, map}
 use native.Mathlib.Omega.{arith}
 use native.Mathlib.Decide.{dec_lt}
@@ -138,13 +137,13 @@ module _ (s : List ℕ) (c : Checks s) where
       ltb-false (code_length s) (pair_end (sheet.proposition_pairs s) i)
       (neither (ltb (sheet.pair_offset (sheet.proposition_pairs s) i) (sheet.last_end (sheet.proposition_pairs s) i)) _ e₁).1
 
-  pub decoded : (i : ℕ) → i < sheet.propositions s → decode (sheet.names s) (marked (sheet.proposition_pairs s) (code_bytes s) i) ≡ some (prop_of s i)
+  pub decoded : (i : ℕ) → i < sheet.propositions s → decode (sheet.names s) (marked (sheet.proposition_pairs s) (code_bytes s) i) ≡ Some (prop_of s i)
   unfolding bad_code prop_of prop_in is_none
   decoded i l = go (decode (sheet.names s) (marked (sheet.proposition_pairs s) (code_bytes s) i)) (all_fail (bad_code (sheet.names s) (sheet.proposition_pairs s) (code_bytes s)) (sheet.propositions s) c.codes i l)
     where
-      go : (x : Option (Prop ℕ)) → is_none x ≡ false → x ≡ some (Option.get_or x False)
-      go none e = absurd (let z : ◌≡◌ {A = ℕ} 0 1 = cc in omega arith)
-      go (some p) e = refl
+      go : (x : Option (Prop ℕ)) → is_none x ≡ false → x ≡ Some (unwrap_or x False)
+      go None e = absurd (let z : ◌≡◌ {A = ℕ} 0 1 = cc in omega arith)
+      go (Some p) e = refl
 
   length_part : (from n : ℕ) → from + n ≤ length s → length (take n (drop from s)) ≡ n
   length_part from n h = length-take-le n (drop from s) (rw (length-drop from s) (omega arith))
@@ -336,7 +335,7 @@ module _ {h d : List ℕ} {k : ℕ} (g : Grafts h d k) where
       rw (rename_nothing (prop_of h i)) at
       (codable_renamed (sheet.names h) (length (merged_names h d)) (λ (x : ℕ). x) (λ x b. omega (arith, length_merged h d)) (prop_of h i) c.1) in
       prop_at_lem i
-      ∙ ap (λ (x : Option (Prop ℕ)). Option.get_or x False)
+      ∙ ap (λ (x : Option (Prop ℕ)). unwrap_or x False)
       (ap (decode (length (merged_names h d)))
       (marked_first (sheet.proposition_pairs h) _ (code_bytes h) _ i (omega (arith, proposition_pairs_length)) (rw (length_code h g.host) (proposition_within h g.host i l))
       ∙ sym c.0)
@@ -350,7 +349,7 @@ module _ {h d : List ℕ} {k : ℕ} (g : Grafts h d k) where
       let good : Codable (length (merged_names h d)) (rename_prop (renumbered h d) (prop_of d i)) =
       codable_renamed (sheet.names d) (length (merged_names h d)) (renumbered h d) (λ x b. (renumbered_right h d x b).within) (prop_of d i) c.1 in
       prop_at_lem (sheet.propositions h + i)
-      ∙ ap (λ (x : Option (Prop ℕ)). Option.get_or x False)
+      ∙ ap (λ (x : Option (Prop ℕ)). unwrap_or x False)
       (ap (decode (length (merged_names h d)))
       (marked_second (sheet.proposition_pairs h) _ _ (sheet.propositions h) i proposition_pairs_length
       ∙ (marked_written (code_bytes h) (donor_codes h d) i (rw codes_length l)
@@ -372,7 +371,7 @@ module _ {h d : List ℕ} {k : ℕ} (g : Grafts h d k) where
 
   -- what is read where a proposition stands
   pub host_decoded : (i : ℕ) → i < sheet.propositions h
-      → decode (sheet.names (merged_sheet h d k)) (marked (sheet.proposition_pairs (merged_sheet h d k)) (code_bytes (merged_sheet h d k)) i) ≡ some (prop_of h i)
+      → decode (sheet.names (merged_sheet h d k)) (marked (sheet.proposition_pairs (merged_sheet h d k)) (code_bytes (merged_sheet h d k)) i) ≡ Some (prop_of h i)
   unfolding pair_size
   host_decoded i l =
       let c = coded h g.host g.host_bytes i l in
@@ -387,7 +386,7 @@ module _ {h d : List ℕ} {k : ℕ} (g : Grafts h d k) where
 
   pub donor_decoded : (i : ℕ) → i < sheet.propositions d
       → decode (sheet.names (merged_sheet h d k)) (marked (sheet.proposition_pairs (merged_sheet h d k)) (code_bytes (merged_sheet h d k)) (sheet.propositions h + i))
-      ≡ some (rename_prop (renumbered h d) (prop_of d i))
+      ≡ Some (rename_prop (renumbered h d) (prop_of d i))
   unfolding donor_codes
   donor_decoded i l =
       let c = coded d g.donor g.donor_bytes i l in

@@ -2,8 +2,7 @@
 use Prim.Native.Nat.{ℕ, zero, suc, ◌+◌, ◌≤◌, ◌<◌, max}
 use mathlib.Core.Path.{◌≡◌, refl, sym, ap, ◌∙◌}
 use mathlib.Core.Bool.{Bool, true, false, not, cond}
-use mathlib.Core.Option as option
-use mathlib.Core.Option.{Option, some, none-ne-some}
+use Rattle.std.specs.Prelude.{None, Option, Some}
 use mathlib.Core.List.{List, [], ◌∷◌, ◌++◌, map, append_assoc, append-nil}
 use native.Mathlib.Omega.{arith}
 use lib.ListN.{length, get_or, set, take, drop, get_or-map, length-set, length-map}
@@ -22,6 +21,7 @@ use Rattle.definitions.proofs.Outcomes.{each_accepted, test_failed}
 use Rattle.graft_laws.specs.Splicing.{Spot, below, spot_below, reached, reached_among, labels, parts, part, with_parts, replace_at}
 use Rattle.graft_laws.specs.Levels.{is_step, occurrences, occurrences_among, above, above_among}
 use Rattle.graft_laws.proofs.Trees.{graft_tree, graft_premisses}
+use Rattle.std.proofs.lemmas.Option.{none-some}
 
 bind_known : {A B : Type 0} (o : Outcome A) (next : A → Outcome B) (a : A) → o ≡ accepted a → (o >>= next) ≡ next a
 unfolding ◌>>=◌
@@ -113,7 +113,7 @@ module _ {N : Type 0} where
 
   -- the bare term of a rule is the rule's over bare terms
   bare_rule : (r : ProofTreeRule) (x y : N) (l : Option (Label N)) (a b c : ProofTerm N)
-      → graft.bare (rule_term r x y l a b c) ≡ rule_term r x y option.none (graft.bare a) (graft.bare b) (graft.bare c)
+      → graft.bare (rule_term r x y l a b c) ≡ rule_term r x y None (graft.bare a) (graft.bare b) (graft.bare c)
   unfolding graft.bare rule_term
   bare_rule AndIntro x y l a b c = refl
   bare_rule AndElimFst x y l a b c = refl
@@ -138,7 +138,7 @@ module _ {N : Type 0} where
   bare_part ts i = get_or-map graft.bare ts i term.Unit
 
   bare_step : (z : Step N) (l : Option (Label N)) (ts : List (ProofTerm N))
-      → graft.bare (step_term z l ts) ≡ step_term z option.none (map graft.bare ts)
+      → graft.bare (step_term z l ts) ≡ step_term z None (map graft.bare ts)
   unfolding step_term
   bare_step z l ts =
       rw (bare_part ts 0, bare_part ts 1, bare_part ts 2)
@@ -163,16 +163,16 @@ module _ {N : Type 0} where
   labels_rule AndElimFst x y l a b c = simp append-nil
   labels_rule AndElimSnd x y l a b c = simp append-nil
   labels_rule TrueIntro x y l a b c = refl
-  labels_rule ImplIntro x y option.none a b c = simp append-nil
-  labels_rule ImplIntro x y (some l) a b c = simp append-nil
+  labels_rule ImplIntro x y None a b c = simp append-nil
+  labels_rule ImplIntro x y (Some l) a b c = simp append-nil
   labels_rule ImplElim x y l a b c = simp append-nil
   labels_rule tree.Ident x y l a b c = refl
   labels_rule OrIntroFst x y l a b c = simp append-nil
   labels_rule OrIntroSnd x y l a b c = simp append-nil
   labels_rule OrElim x y l a b c = simp append-nil
   labels_rule FalsumElim x y l a b c = simp append-nil
-  labels_rule ForAllIntro x y option.none a b c = simp append-nil
-  labels_rule ForAllIntro x y (some l) a b c = simp append-nil
+  labels_rule ForAllIntro x y None a b c = simp append-nil
+  labels_rule ForAllIntro x y (Some l) a b c = simp append-nil
   labels_rule ForAllElim x y l a b c = simp append-nil
   labels_rule ExistsIntro x y l a b c = simp append-nil
   labels_rule ExistsElim x y l a b c = simp append-nil
@@ -201,41 +201,41 @@ module _ {N : Type 0} where
   record Wrapping (m : Place) (z : Step N) : Type 0 where
     wrap : List (ProofTerm N) → ProofTerm N
     placed : (us : List (ProofTerm N)) → placed_term m z us ≡ accepted (wrap us)
-    bares : (us : List (ProofTerm N)) → graft.bare (wrap us) ≡ step_term z option.none (map graft.bare us)
+    bares : (us : List (ProofTerm N)) → graft.bare (wrap us) ≡ step_term z None (map graft.bare us)
     own : List (Label N)
     labelled : (us : List (ProofTerm N)) → length us ≡ arity z.rule → labels (wrap us) ≡ labels_all us ++ own
 
-  unlabelled : (m : Place) (z : Step N) → ((us : List (ProofTerm N)) → placed_term m z us ≡ accepted (step_term z option.none us)) → Wrapping m z
+  unlabelled : (m : Place) (z : Step N) → ((us : List (ProofTerm N)) → placed_term m z us ≡ accepted (step_term z None us)) → Wrapping m z
   unlabelled m z h =
       record {
-        wrap = λ us. step_term z option.none us;
+        wrap = λ us. step_term z None us;
         placed = h;
-        bares = λ us. bare_step z option.none us;
-        own = labels (step_term z option.none []);
-        labelled = λ us e. labels_step z option.none us e;
+        bares = λ us. bare_step z None us;
+        own = labels (step_term z None []);
+        labelled = λ us e. labels_step z None us e;
       }
 
   parameter_labelled : (m : Place) (z : Step N) (l : Label N)
-      → ((us : List (ProofTerm N)) → placed_term m z us ≡ accepted (step_term z (some l) us)) → Wrapping m z
+      → ((us : List (ProofTerm N)) → placed_term m z us ≡ accepted (step_term z (Some l) us)) → Wrapping m z
   parameter_labelled m z l h =
       record {
-        wrap = λ us. step_term z (some l) us;
+        wrap = λ us. step_term z (Some l) us;
         placed = h;
-        bares = λ us. bare_step z (some l) us;
-        own = labels (step_term z (some l) []);
-        labelled = λ us e. labels_step z (some l) us e;
+        bares = λ us. bare_step z (Some l) us;
+        own = labels (step_term z (Some l) []);
+        labelled = λ us e. labels_step z (Some l) us e;
       }
 
   ascription : (m : Place) (z : Step N) (l : Label N)
-      → ((us : List (ProofTerm N)) → placed_term m z us ≡ accepted (TypeAscription (step_term z option.none us) l)) → Wrapping m z
+      → ((us : List (ProofTerm N)) → placed_term m z us ≡ accepted (TypeAscription (step_term z None us) l)) → Wrapping m z
   unfolding graft.bare labels of_labels
   ascription m z l h =
       record {
-        wrap = λ us. TypeAscription (step_term z option.none us) l;
+        wrap = λ us. TypeAscription (step_term z None us) l;
         placed = h;
-        bares = λ us. bare_step z option.none us;
-        own = labels (step_term z option.none []) ++ (l ∷ []);
-        labelled = λ us e. ap (λ ls. ls ++ (l ∷ [])) (labels_step z option.none us e) ∙ append_assoc (labels_all us) (labels (step_term z option.none [])) (l ∷ []);
+        bares = λ us. bare_step z None us;
+        own = labels (step_term z None []) ++ (l ∷ []);
+        labelled = λ us e. ap (λ ls. ls ++ (l ∷ [])) (labels_step z None us e) ∙ append_assoc (labels_all us) (labels (step_term z None [])) (l ∷ []);
       }
 
   wrapping_inferring : (e : Ending) (z : Step N) (ts : List (ProofTerm N)) (u : ProofTerm N)
@@ -286,16 +286,16 @@ module _ {N : Type 0} where
   edit i p w us = set us i (replace_at p w (part us i))
 
   edited : (r : ProofTreeRule) (x y : N) (i : ℕ) (p : List ℕ) (w : ProofTerm N) {us vs : List (ProofTerm N)} → us ≡ vs
-      → rule_term r x y option.none (premiss_term (edit i p w us) 0) (premiss_term (edit i p w us) 1) (premiss_term (edit i p w us) 2)
-      ≡ rule_term r x y option.none (premiss_term (edit i p w vs) 0) (premiss_term (edit i p w vs) 1) (premiss_term (edit i p w vs) 2)
+      → rule_term r x y None (premiss_term (edit i p w us) 0) (premiss_term (edit i p w us) 1) (premiss_term (edit i p w us) 2)
+      ≡ rule_term r x y None (premiss_term (edit i p w vs) 0) (premiss_term (edit i p w vs) 1) (premiss_term (edit i p w vs) 2)
   edited r x y i p w q =
-      ap (λ ts. rule_term r x y option.none (premiss_term (edit i p w ts) 0) (premiss_term (edit i p w ts) 1) (premiss_term (edit i p w ts) 2)) q
+      ap (λ ts. rule_term r x y None (premiss_term (edit i p w ts) 0) (premiss_term (edit i p w ts) 1) (premiss_term (edit i p w ts) 2)) q
 
   -- a part of a rule's term is replaced in the premiss that it lies in
   replace_rule : (r : ProofTreeRule) (x y : N) (ts : List (ProofTerm N)) (i : ℕ) (p : List ℕ) (w : ProofTerm N)
       → length ts ≡ arity r → i < length ts
-      → replace_at (below r i p) w (rule_term r x y option.none (premiss_term ts 0) (premiss_term ts 1) (premiss_term ts 2))
-      ≡ rule_term r x y option.none (premiss_term (set ts i (replace_at p w (part ts i))) 0)
+      → replace_at (below r i p) w (rule_term r x y None (premiss_term ts 0) (premiss_term ts 1) (premiss_term ts 2))
+      ≡ rule_term r x y None (premiss_term (set ts i (replace_at p w (part ts i))) 0)
       (premiss_term (set ts i (replace_at p w (part ts i))) 1) (premiss_term (set ts i (replace_at p w (part ts i))) 2)
   unfolding edit rule_term below replace_at parts with_parts part premiss_term arity places row row_of
   replace_rule AndIntro x y ts i p w e h = edited AndIntro x y i p w (two_terms ts e)
@@ -317,7 +317,7 @@ module _ {N : Type 0} where
   replace_rule AlphaEquivalent x y ts i p w e h = alone (replace_at p w) ts i e h
 
   replace_step : (z : Step N) (ts : List (ProofTerm N)) (i : ℕ) (p : List ℕ) (w : ProofTerm N) → length ts ≡ arity z.rule → i < length ts
-      → replace_at (below z.rule i p) w (step_term z option.none ts) ≡ step_term z option.none (set ts i (replace_at p w (part ts i)))
+      → replace_at (below z.rule i p) w (step_term z None ts) ≡ step_term z None (set ts i (replace_at p w (part ts i)))
   unfolding step_term
   replace_step z ts i p w e h = replace_rule z.rule z.first.name z.second.name ts i p w e h
 
@@ -359,33 +359,33 @@ module _ {N : Type 0} (k : ℕ) (z₀ : Step N) (d : ProofTree N) where
   mutual
     unfolding reached occurrences is_step spot_below
 
-    reached_occurs : (t : ProofTree N) (m : Place) (s : Spot) → reached k t m ≡ some s → 1 ≤ occurrences k t
+    reached_occurs : (t : ProofTree N) (m : Place) (s : Spot) → reached k t m ≡ Some s → 1 ≤ occurrences k t
     reached_occurs (over z ps) m s e = go (eqb z.number k) e (λ f. reached_occurs_among z.rule 0 ps (places z.rule m) s f)
       where
-        go : (b : Bool) → cond b (some (record { place = m; position = [] })) (reached_among k z.rule 0 ps (places z.rule m)) ≡ some s
-            → (reached_among k z.rule 0 ps (places z.rule m) ≡ some s → 1 ≤ occurrences_among k ps)
+        go : (b : Bool) → cond b (Some (record { place = m; position = [] })) (reached_among k z.rule 0 ps (places z.rule m)) ≡ Some s
+            → (reached_among k z.rule 0 ps (places z.rule m) ≡ Some s → 1 ≤ occurrences_among k ps)
             → 1 ≤ cond b 1 0 + occurrences_among k ps
         go true f again = omega arith
         go false f again = omega (arith, again f)
 
-    reached_occurs_among : (r : ProofTreeRule) (i : ℕ) (ps : Premisses N) (ms : List Place) (s : Spot) → reached_among k r i ps ms ≡ some s
+    reached_occurs_among : (r : ProofTreeRule) (i : ℕ) (ps : Premisses N) (ms : List Place) (s : Spot) → reached_among k r i ps ms ≡ Some s
         → 1 ≤ occurrences_among k ps
-    reached_occurs_among r i none ms s e = absurd (none-ne-some s e)
-    reached_occurs_among r i (t and ps) [] s e = absurd (none-ne-some s e)
+    reached_occurs_among r i none ms s e = absurd (none-some s e)
+    reached_occurs_among r i (t and ps) [] s e = absurd (none-some s e)
     reached_occurs_among r i (t and ps) (m ∷ ms) s e =
         go (reached k t m) refl e (λ s' f. reached_occurs t m s' f) (λ f. reached_occurs_among r (suc i) ps ms s f)
       where
-        go : (x : Option Spot) → reached k t m ≡ x → spot_below r i x (reached_among k r (suc i) ps ms) ≡ some s
-            → ((s' : Spot) → reached k t m ≡ some s' → 1 ≤ occurrences k t)
-            → (reached_among k r (suc i) ps ms ≡ some s → 1 ≤ occurrences_among k ps)
+        go : (x : Option Spot) → reached k t m ≡ x → spot_below r i x (reached_among k r (suc i) ps ms) ≡ Some s
+            → ((s' : Spot) → reached k t m ≡ Some s' → 1 ≤ occurrences k t)
+            → (reached_among k r (suc i) ps ms ≡ Some s → 1 ≤ occurrences_among k ps)
             → 1 ≤ occurrences k t + occurrences_among k ps
-        go option.none is f first later = omega (arith, later f)
-        go (some s') is f first later = omega (arith, first s' is)
+        go None is f first later = omega (arith, later f)
+        go (Some s') is f first later = omega (arith, first s' is)
 
   -- The host's term u of a tree in a place, with any term in the position at which the walk reaches step k.
   pub record Plugged (t : ProofTree N) (m : Place) (u : ProofTerm N) : Type 0 where
     pub spot : Spot
-    pub is_reached : reached k t m ≡ some spot
+    pub is_reached : reached k t m ≡ Some spot
     -- the host's term around that position
     pub fill : ProofTerm N → ProofTerm N
     -- the step's own term in its place
@@ -405,7 +405,7 @@ module _ {N : Type 0} (k : ℕ) (z₀ : Step N) (d : ProofTree N) where
     number : ℕ
     within : number < length ts
     is_reached : (r : ProofTreeRule) (i : ℕ)
-        → reached_among k r i ps ms ≡ some (record { place = spot.place; position = below r (i + number) spot.position })
+        → reached_among k r i ps ms ≡ Some (record { place = spot.place; position = below r (i + number) spot.position })
     fill : ProofTerm N → ProofTerm N
     own : ProofTerm N
     is_own : export (over z₀ none) spot.place ≡ accepted own
@@ -452,7 +452,7 @@ module _ {N : Type 0} (k : ℕ) (z₀ : Step N) (d : ProofTree N) where
         let edited : graft.bare (a.fill v) ≡ replace_at a.spot.position (graft.bare v) (get_or bs i term.Unit) =
         a.is_bare v ∙ ap (replace_at a.spot.position (graft.bare v)) here in
         w.bares (set ts i (a.fill v))
-        ∙ (ap (step_term z option.none) (map_set graft.bare ts i (a.fill v) ∙ ap (λ b. set bs i b) edited)
+        ∙ (ap (step_term z None) (map_set graft.bare ts i (a.fill v) ∙ ap (λ b. set bs i b) edited)
         ∙ (sym (replace_step z bs i a.spot.position (graft.bare v) (length-map ts graft.bare ∙ size) (rw (length-map ts graft.bare) a.within))
         ∙ ap (replace_at (below z.rule i a.spot.position) (graft.bare v)) (sym (w.bares ts) ∙ ap graft.bare host)))
 
@@ -538,7 +538,7 @@ module _ {N : Type 0} (k : ℕ) (z₀ : Step N) (d : ProofTree N) where
 
   -- in a later one
   plug_later : (t : ProofTree N) (ps : Premisses N) (m : Place) (ms : List Place) (u : ProofTerm N) (us : List (ProofTerm N))
-      → export t m ≡ accepted u → occurrences k t ≡ 0 → reached k t m ≡ option.none → PluggedAmong ps ms us → PluggedAmong (t and ps) (m ∷ ms) (u ∷ us)
+      → export t m ≡ accepted u → occurrences k t ≡ 0 → reached k t m ≡ None → PluggedAmong ps ms us → PluggedAmong (t and ps) (m ∷ ms) (u ∷ us)
   unfolding graft_tree export_all reached spot_below ◌>>=◌ map_outcome part
   plug_later t ps m ms u us first absent missed p =
       record {
@@ -567,15 +567,15 @@ module _ {N : Type 0} (k : ℕ) (z₀ : Step N) (d : ProofTree N) where
 
   -- a step, where its premisses are done
   plug_step : (z : Step N) (ps : Premisses N) (m : Place) (u : ProofTerm N) (s : Spot) → OnlyStep k z₀ (over z ps)
-      → export (over z ps) m ≡ accepted u → reached k (over z ps) m ≡ some s
+      → export (over z ps) m ≡ accepted u → reached k (over z ps) m ≡ Some s
       → ((ts : List (ProofTerm N)) → export_all ps (places z.rule m) ≡ accepted ts
-      → reached_among k z.rule 0 ps (places z.rule m) ≡ some s → PluggedAmong ps (places z.rule m) ts)
+      → reached_among k z.rule 0 ps (places z.rule m) ≡ Some s → PluggedAmong ps (places z.rule m) ts)
       → Plugged (over z ps) m u
   unfolding OnlyStep export reached
   plug_step z ps m u s only e is again = go (eqb z.number k) refl is
     where
       go : (b : Bool) → eqb z.number k ≡ b
-          → cond b (some (record { place = m; position = [] })) (reached_among k z.rule 0 ps (places z.rule m)) ≡ some s
+          → cond b (Some (record { place = m; position = [] })) (reached_among k z.rule 0 ps (places z.rule m)) ≡ Some s
           → Plugged (over z ps) m u
       go true here f = plug_here z ps m u here (only.0 (eqb-true z.number k here)) e
       go false here f =
@@ -588,9 +588,9 @@ module _ {N : Type 0} (k : ℕ) (z₀ : Step N) (d : ProofTree N) where
 
   -- the premisses, where the first and the later ones are done
   plug_premisses : (r : ProofTreeRule) (i : ℕ) (t : ProofTree N) (ps : Premisses N) (m : Place) (ms : List Place) (ts : List (ProofTerm N)) (s : Spot)
-      → occurrences k t + occurrences_among k ps ≤ 1 → export_all (t and ps) (m ∷ ms) ≡ accepted ts → reached_among k r i (t and ps) (m ∷ ms) ≡ some s
-      → ((u : ProofTerm N) (s' : Spot) → export t m ≡ accepted u → reached k t m ≡ some s' → Plugged t m u)
-      → ((us : List (ProofTerm N)) → export_all ps ms ≡ accepted us → reached_among k r (suc i) ps ms ≡ some s → PluggedAmong ps ms us)
+      → occurrences k t + occurrences_among k ps ≤ 1 → export_all (t and ps) (m ∷ ms) ≡ accepted ts → reached_among k r i (t and ps) (m ∷ ms) ≡ Some s
+      → ((u : ProofTerm N) (s' : Spot) → export t m ≡ accepted u → reached k t m ≡ Some s' → Plugged t m u)
+      → ((us : List (ProofTerm N)) → export_all ps ms ≡ accepted us → reached_among k r (suc i) ps ms ≡ Some s → PluggedAmong ps ms us)
       → PluggedAmong (t and ps) (m ∷ ms) ts
   unfolding export_all reached spot_below
   plug_premisses r i t ps m ms ts s once e is first later =
@@ -600,31 +600,31 @@ module _ {N : Type 0} (k : ℕ) (z₀ : Step N) (d : ProofTree N) where
       rw z (go u us eu eus (reached k t m) refl is)
     where
       go : (u : ProofTerm N) (us : List (ProofTerm N)) → export t m ≡ accepted u → export_all ps ms ≡ accepted us
-          → (x : Option Spot) → reached k t m ≡ x → spot_below r i x (reached_among k r (suc i) ps ms) ≡ some s → PluggedAmong (t and ps) (m ∷ ms) (u ∷ us)
-      go u us eu eus option.none here f =
+          → (x : Option Spot) → reached k t m ≡ x → spot_below r i x (reached_among k r (suc i) ps ms) ≡ Some s → PluggedAmong (t and ps) (m ∷ ms) (u ∷ us)
+      go u us eu eus None here f =
           plug_later t ps m ms u us eu (omega (arith, reached_occurs_among r (suc i) ps ms s f)) here (later us eus f)
-      go u us eu eus (some s') here f =
+      go u us eu eus (Some s') here f =
           plug_first t ps m ms u us eus (omega (arith, reached_occurs t m s' here)) (first u s' eu here)
 
-  none_reached : (r : ProofTreeRule) (i : ℕ) (ms : List Place) (s : Spot) → reached_among {N = N} k r i none ms ≡ some s → ⊥
+  none_reached : (r : ProofTreeRule) (i : ℕ) (ms : List Place) (s : Spot) → reached_among {N = N} k r i none ms ≡ Some s → ⊥
   unfolding reached
-  none_reached r i ms s f = none-ne-some s f
+  none_reached r i ms s f = none-some s f
 
-  unread_reached : (r : ProofTreeRule) (i : ℕ) (t : ProofTree N) (ps : Premisses N) (s : Spot) → reached_among k r i (t and ps) [] ≡ some s → ⊥
+  unread_reached : (r : ProofTreeRule) (i : ℕ) (t : ProofTree N) (ps : Premisses N) (s : Spot) → reached_among k r i (t and ps) [] ≡ Some s → ⊥
   unfolding reached
-  unread_reached r i t ps s f = none-ne-some s f
+  unread_reached r i t ps s f = none-some s f
 
   -- the law: where the walk reaches step k of a tree that exports, the merged tree exports as the host's with the donor's term there
   mutual
     unfolding OnlyStep occurrences is_step
 
     pub plug : (t : ProofTree N) (m : Place) (u : ProofTerm N) (s : Spot) → OnlyStep k z₀ t → occurrences k t ≤ 1
-        → export t m ≡ accepted u → reached k t m ≡ some s → Plugged t m u
+        → export t m ≡ accepted u → reached k t m ≡ Some s → Plugged t m u
     plug (over z ps) m u s only once e is =
         plug_step z ps m u s only e is (λ ts all f. plug_among z.rule 0 ps (places z.rule m) ts s only.1 (omega arith) all f)
 
     plug_among : (r : ProofTreeRule) (i : ℕ) (ps : Premisses N) (ms : List Place) (ts : List (ProofTerm N)) (s : Spot) → OnlyAmong k z₀ ps
-        → occurrences_among k ps ≤ 1 → export_all ps ms ≡ accepted ts → reached_among k r i ps ms ≡ some s → PluggedAmong ps ms ts
+        → occurrences_among k ps ≤ 1 → export_all ps ms ≡ accepted ts → reached_among k r i ps ms ≡ Some s → PluggedAmong ps ms ts
     plug_among r i none ms ts s only once e is = absurd (none_reached r i ms s is)
     plug_among r i (t and ps) [] ts s only once e is = absurd (unread_reached r i t ps s is)
     plug_among r i (t and ps) (m ∷ ms) ts s only once e is =
@@ -636,31 +636,31 @@ module _ {N : Type 0} (k : ℕ) (z₀ : Step N) (d : ProofTree N) where
   mutual
     unfolding reached graft_tree export spot_below
 
-    pub unreached : (t : ProofTree N) (m : Place) → reached k t m ≡ option.none → export (graft_tree k d t) m ≡ export t m
+    pub unreached : (t : ProofTree N) (m : Place) → reached k t m ≡ None → export (graft_tree k d t) m ≡ export t m
     unreached (over z ps) m e =
         go (eqb z.number k) e (λ f. unreached_among z.rule 0 ps (places z.rule m) f)
       where
         go : (b : Bool)
-            → cond b (some (record { place = m; position = [] })) (reached_among k z.rule 0 ps (places z.rule m)) ≡ option.none
-            → (reached_among k z.rule 0 ps (places z.rule m) ≡ option.none
+            → cond b (Some (record { place = m; position = [] })) (reached_among k z.rule 0 ps (places z.rule m)) ≡ None
+            → (reached_among k z.rule 0 ps (places z.rule m) ≡ None
             → export_all (graft_premisses k d ps) (places z.rule m) ≡ export_all ps (places z.rule m))
             → export (cond b d (over z (graft_premisses k d ps))) m ≡ export (over z ps) m
-        go true f again = absurd (none-ne-some _ (sym f))
+        go true f again = absurd (none-some _ (sym f))
         go false f again = rw (count_grafted ps, again f)
 
-    unreached_among : (r : ProofTreeRule) (i : ℕ) (ps : Premisses N) (ms : List Place) → reached_among k r i ps ms ≡ option.none
+    unreached_among : (r : ProofTreeRule) (i : ℕ) (ps : Premisses N) (ms : List Place) → reached_among k r i ps ms ≡ None
         → export_all (graft_premisses k d ps) ms ≡ export_all ps ms
     unreached_among r i none ms e = refl
     unreached_among r i (t and ps) [] e = refl
     unreached_among r i (t and ps) (m ∷ ms) e =
         go (reached k t m) refl e (λ f. unreached t m f) (λ f. unreached_among r (suc i) ps ms f)
       where
-        go : (x : Option Spot) → reached k t m ≡ x → spot_below r i x (reached_among k r (suc i) ps ms) ≡ option.none
-            → (reached k t m ≡ option.none → export (graft_tree k d t) m ≡ export t m)
-            → (reached_among k r (suc i) ps ms ≡ option.none → export_all (graft_premisses k d ps) ms ≡ export_all ps ms)
+        go : (x : Option Spot) → reached k t m ≡ x → spot_below r i x (reached_among k r (suc i) ps ms) ≡ None
+            → (reached k t m ≡ None → export (graft_tree k d t) m ≡ export t m)
+            → (reached_among k r (suc i) ps ms ≡ None → export_all (graft_premisses k d ps) ms ≡ export_all ps ms)
             → export_all (graft_premisses k d (t and ps)) (m ∷ ms) ≡ export_all (t and ps) (m ∷ ms)
-        go option.none here f first later = rw (first here, later f)
-        go (some s) here f first later = absurd (none-ne-some _ (sym f))
+        go None here f first later = rw (first here, later f)
+        go (Some s) here f first later = absurd (none-some _ (sym f))
 
   -- the nesting of the merged tree: at least the steps above and the donor's levels, at most that or the host's
   mutual

@@ -2,8 +2,7 @@
 use Prim.Native.Nat.{ℕ, ◌+◌}
 use mathlib.Core.Path.{◌≡◌, refl, ap}
 use mathlib.Core.Bool.{Bool, true, false, not, cond}
-use mathlib.Core.Option as option
-use mathlib.Core.Option.{Option, some}
+use Rattle.std.specs.Prelude.{None, Option, Some}
 use mathlib.Core.List.{List, [], ◌∷◌}
 use Rattle.definitions.specs.Outcome.{Outcome, refused, accepted, refuse, ◌>>=◌, refuse_if}
 use Rattle.definitions.specs.Prop.{Sides, Scope, as_binary, as_quantified, eq_connective, eq_quantifier, impl, for_all}
@@ -36,13 +35,13 @@ module _ (f : ℕ → ℕ) where
 
     implication_label_moved : (k : ℕ) (s : Option (Sides N)) → implication_label (f k) s ≡ at_place f (implication_label k s)
     unfolding implication_label refuse at_place
-    implication_label_moved k option.none = refl
-    implication_label_moved k (some a) = cond_moved (eq_connective a.connective impl) _ _ _ _ refl refl
+    implication_label_moved k None = refl
+    implication_label_moved k (Some a) = cond_moved (eq_connective a.connective impl) _ _ _ _ refl refl
 
     universal_label_moved : (k : ℕ) (s : Option (Scope N)) → universal_label (f k) s ≡ at_place f (universal_label k s)
     unfolding universal_label refuse at_place
-    universal_label_moved k option.none = refl
-    universal_label_moved k (some a) = cond_moved (eq_quantifier a.quantifier for_all) _ _ _ _ refl refl
+    universal_label_moved k None = refl
+    universal_label_moved k (Some a) = cond_moved (eq_quantifier a.quantifier for_all) _ _ _ _ refl refl
 
     left_label_moved : (k : ℕ) (c : ProofTreeConclusion N) → left_label (f k) c ≡ at_place f (left_label k c)
     unfolding left_label refuse at_place

@@ -2,8 +2,7 @@
 use Prim.Native.Nat.{ℕ, suc, ◌+◌}
 use mathlib.Core.Path.{◌≡◌, refl, sym, ap, ◌∙◌}
 use mathlib.Core.Bool.{Bool, true, false, not, cond}
-use mathlib.Core.Option as option
-use mathlib.Core.Option.{Option, some}
+use Rattle.std.specs.Prelude.{None, Option, Some}
 use mathlib.Core.List.{List, [], ◌∷◌}
 use lib.Dec.{eqb, leb}
 use borrow.Author.Tests.{eqb-true, eq-eqb, ne_eqb, eqb-false}
@@ -50,15 +49,15 @@ after_same (accepted a) next next' h = h a
 
 tidy_inferring : (e : Ending) (z : Step Name) (ts : List (ProofTerm Name)) → inferring_term e (tidy_step z) ts ≡ inferring_term e z ts
 unfolding inferring_term tidy_step
-tidy_inferring bare z ts = ap accepted (tidy_term z option.none ts)
-tidy_inferring premiss_own z ts = ap accepted (tidy_term z option.none ts)
-tidy_inferring ascribed z ts = after_same _ _ _ (λ l. ap (λ u. accepted (TypeAscription u l)) (tidy_term z option.none ts))
-tidy_inferring left_labelled z ts = after_same _ _ _ (λ l. ap accepted (tidy_term z (some l) ts))
-tidy_inferring datatype_labelled z ts = after_same _ _ _ (λ l. ap accepted (tidy_term z (some l) ts))
+tidy_inferring bare z ts = ap accepted (tidy_term z None ts)
+tidy_inferring premiss_own z ts = ap accepted (tidy_term z None ts)
+tidy_inferring ascribed z ts = after_same _ _ _ (λ l. ap (λ u. accepted (TypeAscription u l)) (tidy_term z None ts))
+tidy_inferring left_labelled z ts = after_same _ _ _ (λ l. ap accepted (tidy_term z (Some l) ts))
+tidy_inferring datatype_labelled z ts = after_same _ _ _ (λ l. ap accepted (tidy_term z (Some l) ts))
 
 tidy_placed : (m : Place) (z : Step Name) (ts : List (ProofTerm Name)) → placed_term m (tidy_step z) ts ≡ placed_term m z ts
 unfolding placed_term tidy_step
-tidy_placed checking z ts = ap accepted (tidy_term z option.none ts)
+tidy_placed checking z ts = ap accepted (tidy_term z None ts)
 tidy_placed inferring z ts = tidy_inferring (ending z.rule) z ts
 
 module _ (f : ℕ → Name) where

@@ -1,6 +1,5 @@
 -- Document 02, ticket 11: what a merged sheet is. The host's parts are kept byte for byte, and what is appended has no gaps.
-use Rattle.std.specs.Prelude.{ℕ, ◌+◌, ◌*◌, ◌-◌, ◌≡◌, List, ◌++◌, length, take, drop}
-use Rattle.std.proofs.Math.Option.{some}
+use Rattle.std.specs.Prelude.{ℕ, ◌+◌, ◌*◌, ◌-◌, ◌≡◌, List, ◌++◌, length, take, drop, Some}
 use Rattle.definitions.specs.Name.{Name}
 use Rattle.definitions.specs.Outcome.{accepted}
 use Rattle.definitions.specs.Sheet as sheet
@@ -38,7 +37,7 @@ pub record Merges (h d : List ℕ) (k : ℕ) (m : List ℕ) : Type 0 where
   pub same_conclusion : named_conclusion h k ≡ named_conclusion d (sheet.steps d - 1)
   -- if the walk reaches the sorry and both export, the term and the labels are the host's with the donor's in its position
   pub spliced : (u v : ProofTerm Name) (spot : Spot) → named_term h ≡ accepted u → named_term m ≡ accepted v
-      → reached k (root_of h) checking ≡ some spot → Spliced h d k u v spot
+      → reached k (root_of h) checking ≡ Some spot → Spliced h d k u v spot
   -- the index is the host's with the missing names entered in order
   pub index : index_of m ≡ enter_more (name_of m) (index_of h) (sheet.names h) (length (missing h d))
   -- sound sheets merge soundly where names do not clash

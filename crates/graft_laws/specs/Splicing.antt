@@ -1,8 +1,6 @@
 -- Document 02, ticket 11, its law: where the walk reaches a step, a term with a part replaced, and the term and the labels of a
 -- merged sheet.
-use Rattle.std.specs.Prelude.{ℕ, suc, ◌≡◌, cond, List, [], ◌∷◌, ◌++◌, get_or, set, eqb}
-use Rattle.std.proofs.Math.Option as option
-use Rattle.std.proofs.Math.Option.{Option, some}
+use Rattle.std.specs.Prelude.{ℕ, suc, ◌≡◌, cond, List, [], ◌∷◌, ◌++◌, get_or, set, eqb, None, Option, Some}
 use Rattle.definitions.specs.Name.{Name}
 use Rattle.definitions.specs.Outcome.{accepted}
 use Rattle.definitions.specs.Sheet.{name_of}
@@ -41,20 +39,20 @@ below AlphaEquivalent i p = p
 
 -- the spot below premiss i of a step of a rule, if there is one; else what the later premisses give
 unfoldable pub spot_below : ProofTreeRule → ℕ → Option Spot → Option Spot → Option Spot
-spot_below r i option.none later = later
-spot_below r i (some s) later = some (record { place = s.place; position = below r i s.position })
+spot_below r i None later = later
+spot_below r i (Some s) later = Some (record { place = s.place; position = below r i s.position })
 
 -- where the walk reaches step k of a tree in a place, if it does: premisses that are not read are not reached
 module _ {N : Type 0} (k : ℕ) where
   unfoldable mutual
     pub reached : ProofTree N → Place → Option Spot
     reached (over z ps) m =
-        cond (eqb z.number k) (some (record { place = m; position = [] })) (reached_among z.rule 0 ps (places z.rule m))
+        cond (eqb z.number k) (Some (record { place = m; position = [] })) (reached_among z.rule 0 ps (places z.rule m))
 
     -- among the premisses of a step of a rule, from number i on
     pub reached_among : ProofTreeRule → ℕ → Premisses N → List Place → Option Spot
-    reached_among r i none ms = option.none
-    reached_among r i (t and ps) [] = option.none
+    reached_among r i none ms = None
+    reached_among r i (t and ps) [] = None
     reached_among r i (t and ps) (m ∷ ms) = spot_below r i (reached t m) (reached_among r (suc i) ps ms)
 
 module _ {N : Type 0} where
@@ -63,7 +61,7 @@ module _ {N : Type 0} where
   bare (term.Ident x) = term.Ident x
   bare (Pair a b) = Pair (bare a) (bare b)
   bare (Named f a) = Named f (bare a)
-  bare (Function x l a) = Function x option.none (bare a)
+  bare (Function x l a) = Function x None (bare a)
   bare (Application a b) = Application (bare a) (bare b)
   bare (LetIn x y a b) = LetIn x y (bare a) (bare b)
   bare (Case a x b y c) = Case (bare a) x (bare b) y (bare c)

@@ -17,14 +17,11 @@ use Rattle.definitions.proofs.Readings.{Bytes}
 use Rattle.graft_laws.specs.Merges.{Merges}
 use Rattle.graft_laws.proofs.Answered.{answer_admitted}
 use Rattle.graft_laws.proofs.AnswerMerges.{answer_merges}
-use Rattle.output.specs.declared.Written.{Written}
-use Rattle.output.specs.declared.Written.TheVariants as written
+use Rattle.std.specs.Prelude.{Result, Err, Ok, ℕ}
 use Rattle.output.specs.Written.{Fills, written_of, filled}
 use Rattle.vocabulary.specs.declared.Vocabulary.{Vocabulary}
 use Rattle.vocabulary.specs.Vocabulary.{pairs_in, text_in, name_in, Within}
 use Rattle.sheet.specs.declared.header.Sheet.{Sheet}
-use Rattle.sheet.specs.declared.Checked.{Checked}
-use Rattle.sheet.specs.declared.Checked.TheVariants as checked
 use Rattle.sheet.specs.Header.{header_of, layout_of, vocabulary_of, InRange, HasHeader}
 use Rattle.sheet.proofs.Admitted.{AcceptedSheet, admitted_sheet, has_header}
 use Rattle.sheet.proofs.NamesAndCode.{count_is, names_are, within}
@@ -85,15 +82,15 @@ module _ {s t : List ℕ} {h g : Sheet} (a : AcceptedSheet s h) (b : AcceptedShe
       let answer : graft_answer s t k room ≡ merged m = by-graft ∙ rw e in
       has_header (admitted_sheet m (answer_admitted s t k room m s-bytes t-bytes answer))
 
-  module _ {before after : List ℕ} {r : Checked} (f : Merging (graft s t k room) before after r) where
+  module _ {before after : List ℕ} {r : Result Sheet Refusal} (f : Merging (graft s t k room) before after r) where
     -- a refusal
-    pub stays-refused : {x : Refusal} → r ≡ checked.Refused x → (slots : List ℕ)
-        → Fills (graft s t k room) before after (written.Refused x) × (slots ≡ slots_after (graft s t k room) slots)
+    pub stays-refused : {x : Refusal} → r ≡ Err x → (slots : List ℕ)
+        → Fills (graft s t k room) before after (Err x) × (slots ≡ slots_after (graft s t k room) slots)
     unfolding headed filled written_of slots_after
     stays-refused {x} e slots = go (graft s t k room) refl
       where
         go : (o : Outcome (List ℕ)) → graft s t k room ≡ o
-            → Fills (graft s t k room) before after (written.Refused x) × (slots ≡ slots_after (graft s t k room) slots)
+            → Fills (graft s t k room) before after (Err x) × (slots ≡ slots_after (graft s t k room) slots)
         go (refused y) is =
             let answer = rw is at f.answer in
             let same : y ≡ x = cc in
@@ -108,7 +105,7 @@ module _ {s t : List ℕ} {h g : Sheet} (a : AcceptedSheet s h) (b : AcceptedShe
       pub has : HasHeader sheet (header_of sheet)
       pub memory : after ≡ sheet ++ drop (length sheet) before
 
-    pub stands : {m : Sheet} → r ≡ checked.Accepted m → Stands m
+    pub stands : {m : Sheet} → r ≡ Ok m → Stands m
     unfolding headed filled
     stands {m} e = go (graft s t k room) refl
       where
@@ -126,7 +123,7 @@ module _ {s t : List ℕ} {h g : Sheet} (a : AcceptedSheet s h) (b : AcceptedShe
       vocabulary-is e = e ∙ ap vocabulary_of o.header
 
       pub indexed : {l : ℕ} {slots : List ℕ} (old : List ℕ) → l ≡ (layout_of m).end → slots ≡ index_of o.sheet
-          → Fills (graft s t k room) before after (written.Length l) × (slots ≡ slots_after (graft s t k room) old)
+          → Fills (graft s t k room) before after (Ok l) × (slots ≡ slots_after (graft s t k room) old)
       unfolding written_of filled slots_after
       indexed old e f =
           let size : (layout_of m).end ≡ length o.sheet =
@@ -134,7 +131,7 @@ module _ {s t : List ℕ} {h g : Sheet} (a : AcceptedSheet s h) (b : AcceptedShe
           rw (o.is, e, size) (record { answer = refl; memory = o.memory }, f)
 
   -- an answer of neither sheet
-  pub neither : {before after : List ℕ} {w : Written} {r : Merged} → Fills (graft s t k room) before after w
+  pub neither : {before after : List ℕ} {w : Result ℕ Refusal} {r : Merged} → Fills (graft s t k room) before after w
       → ((o : Outcome (List ℕ)) → w ≡ written_of o → r ≡ merged_of (by Neither o merged)) → FillsBy (graft_answer s t k room) before after r
   unfolding by filled filled_by
   neither {before} {after} f e = rw by-graft (record { answered = e (graft s t k room) f.answer; memory = f.memory ∙ same (graft s t k room) })
@@ -178,12 +175,12 @@ module _ (s t : List ℕ) (k room : ℕ) where
           rw (memory, take_at m (drop (length m) before) n long) (answer_merges s t k room m s-bytes t-bytes is)
 
 -- an answer after both sheets' refusals
-pub length_merged : {n : ℕ} (o : Outcome (List ℕ)) → written.Length n ≡ written_of o → Length n ≡ merged_of (by Neither o merged)
+pub length_merged : {n : ℕ} (o : Outcome (List ℕ)) → Ok n ≡ written_of o → Length n ≡ merged_of (by Neither o merged)
 unfolding written_of merged_of by
 length_merged (accepted a) e = cc
 length_merged (refused r) e = cc
 
-pub refusal-merged : {x : Refusal} (o : Outcome (List ℕ)) → written.Refused x ≡ written_of o → Refused Neither x ≡ merged_of (by Neither o merged)
+pub refusal-merged : {x : Refusal} (o : Outcome (List ℕ)) → Err x ≡ written_of o → Refused Neither x ≡ merged_of (by Neither o merged)
 unfolding written_of merged_of by
 refusal-merged (accepted a) e = cc
 refusal-merged (refused r) e = cc

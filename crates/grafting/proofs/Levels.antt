@@ -9,9 +9,7 @@ use native.Mathlib.Numerals.{add-one}
 use lib.ListN.{length, get_or, drop}
 use lib.Dec.{ltb}
 use borrow.Author.Tests.{lt-ltb, le-ltb}
-use Rattle.definitions.specs.declared.Found.{Found}
-use Rattle.definitions.specs.declared.Found.TheVariants.{Nowhere}
-use Rattle.definitions.specs.Outcome.{found_at}
+use Rattle.std.specs.Prelude.{Option, None, ℕ}
 use Rattle.definitions.specs.Sheet.{step_limit, tree_nesting_limit, names, steps, proposition_pairs, code_bytes, step_records, premiss_count}
 use Rattle.definitions.specs.Tree.{step_in, height, tree_in, tree_of, root_of}
 use Rattle.definitions.specs.Admission.{deep_tree}
@@ -105,14 +103,14 @@ module _ {s : List ℕ} {h : Sheet} (a : AcceptedSheet s h) where
         )
 
   -- the last of the nestings is the root's
-  all_shallow : {r : Found} {before after : List ℕ} → FilledHeights (step_records s) (steps s) tree_nesting_limit before r after
+  all_shallow : {r : Option ℕ} {before after : List ℕ} → FilledHeights (step_records s) (steps s) tree_nesting_limit before r after
       → HeightTable (step_records s) (steps s) after
-  unfolding deep_tree found_at passed
+  unfolding deep_tree passed
   all_shallow {r} f =
-      let nowhere : r ≡ Nowhere = f.found (names s) (proposition_pairs s) (code_bytes s) ∙ ap found_at checks.nested in
+      let nowhere : r ≡ None = f.found (names s) (proposition_pairs s) (code_bytes s) ∙ ap checks.nested in
       rw nowhere at f.table
 
-  pub root_level : {records : List ℕ} {r : Found} {before after : List ℕ} → records ≡ step_records s
+  pub root_level : {records : List ℕ} {r : Option ℕ} {before after : List ℕ} → records ≡ step_records s
       → FilledHeights records h.steps tree_nesting_limit before r after → get_or after (h.steps - 1) 0 ≡ height (root_of s)
   unfolding header_of root_of tree_of
   root_level e f =

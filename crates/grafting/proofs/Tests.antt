@@ -23,13 +23,13 @@ use Rattle.vocabulary.specs.declared.Vocabulary.{Vocabulary}
 use Rattle.merged_names.specs.Numbered.{Indexed, Numbered}
 use Rattle.steps.specs.Records.{HasStep}
 use Rattle.sheet.specs.declared.header.Sheet.{Sheet}
-use Rattle.sheet.specs.declared.Checked.{Checked}
-use Rattle.sheet.specs.declared.Checked.TheVariants.{Refused}
+use Rattle.std.specs.Prelude.{Result, Err, ℕ}
 use Rattle.sheet.specs.Header.{header_of, vocabulary_of}
 use Rattle.sheet.proofs.Admitted.{AcceptedSheet, has_steps, its_header}
 use Rattle.sheet.proofs.NamesAndCode.{count_is, names_are, within, names_of}
 use Rattle.merged_sheet.specs.Merging.{limited, headed, Merging}
 use Rattle.grafting.specs.Answered.{equal_and_limited}
+use Rattle.definitions.specs.declared.Refusal.{Refusal}
 
 -- 26, of an accepted sheet
 module _ {s : List ℕ} {h : Sheet} (a : AcceptedSheet s h) (k : ℕ) where
@@ -59,23 +59,23 @@ module _ {s : List ℕ} {h : Sheet} (a : AcceptedSheet s h) (k : ℕ) where
 -- 27
 module _ (s t : List ℕ) (k : ℕ) (deep : Bool) (room : ℕ) {same : Bool}
     (is : same ≡ eq_conclusion (named_conclusion s k) (named_conclusion t (steps t - 1))) where
-  pub other_conclusions : same ≡ false → (before : List ℕ) → Merging (equal_and_limited s t k deep room) before before (Refused (record { number = 27; place = 0 }))
+  pub other_conclusions : same ≡ false → (before : List ℕ) → Merging (equal_and_limited s t k deep room) before before (Err (record { number = 27; place = 0 }))
   unfolding equal_and_limited differ refuse_if ◌>>=◌ refuse headed filled
   other_conclusions e before = rw (← is, e) (record { answer = refl; memory = refl })
 
-  pub same_conclusions : same ≡ true → {before after : List ℕ} {r : Checked} → Merging (limited s t k deep room) before after r
+  pub same_conclusions : same ≡ true → {before after : List ℕ} {r : Result Sheet Refusal} → Merging (limited s t k deep room) before after r
       → Merging (equal_and_limited s t k deep room) before after r
   unfolding equal_and_limited differ refuse_if ◌>>=◌
   same_conclusions e m = rw (← is, e) m
 
 -- 26, and then the others
 module _ (s t : List ℕ) (k room : ℕ) where
-  pub not_open_refused : not_open s k ≡ true → (before : List ℕ) → Merging (graft s t k room) before before (Refused (record { number = 26; place = 0 }))
+  pub not_open_refused : not_open s k ≡ true → (before : List ℕ) → Merging (graft s t k room) before before (Err (record { number = 26; place = 0 }))
   unfolding graft refuse_if ◌>>=◌ refuse headed filled
   not_open_refused e before = rw e (record { answer = refl; memory = refl })
 
   pub open_grafted : (g : Grafts s t k) {deep : Bool} → deep ≡ ltb tree_nesting_limit (above k (root_of s) + height (root_of t))
-      → {before after : List ℕ} {r : Checked} → Merging (equal_and_limited s t k deep room) before after r → Merging (graft s t k room) before after r
+      → {before after : List ℕ} {r : Result Sheet Refusal} → Merging (equal_and_limited s t k deep room) before after r → Merging (graft s t k room) before after r
   unfolding graft passes_limit equal_and_limited limited refuse_if ◌>>=◌
   open_grafted g is m = rw (g.is_open, merged_levels g, ← is) m
 

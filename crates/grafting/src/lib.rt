@@ -24,8 +24,7 @@ use equal_conclusions::same_conclusion;
 use merged_names::fill_numbers;
 use merged_sheet::merge;
 use name_index::{SLOT_COUNT, build};
-use output::Written;
-use sheet::{Checked, Sheet, check, step_records, vocabulary};
+use sheet::{Sheet, check, step_records, vocabulary};
 use steps::{first_deep_tree, premiss_count, rule_byte};
 
 // The byte of the rule Sorry.
@@ -150,7 +149,7 @@ fn merge_equal<'a>(
     g: Sheet,
     deep: bool,
     out: &mut [u8],
-) -> Checked
+) -> Result<Sheet, Refusal>
     requires { AcceptedSheet host.now h × AcceptedSheet donor.now g × (not_open host.now k ≡ false) }
     ensures { Merging (equal_and_limited host.now donor.now k deep (length out.old))
         out.old out.new result }
@@ -159,7 +158,7 @@ fn merge_equal<'a>(
     let mut donor_numbers = [0u16; Sheet::NAME_LIMIT];
     number_names(host, h, donor, g, &mut host_numbers, &mut donor_numbers);
     if !same_conclusion(host, h, &host_numbers, k, donor, g, &donor_numbers) {
-        return Checked::Refused(Refusal::at(27, 0));
+        return Err(Refusal::at(27, 0));
     }
     merge(host, h, k, donor, g, &donor_numbers, deep, out)
 }
@@ -174,7 +173,7 @@ fn graft_accepted<'a>(
     g: Sheet,
     donor_sizes: &[u16; Sheet::STEP_LIMIT],
     out: &mut [u8],
-) -> Checked
+) -> Result<Sheet, Refusal>
     requires accepted_sheet { AcceptedSheet host.now h × AcceptedSheet donor.now g }
     requires size_table { SizeTable (step_records host.now) (steps host.now) host_sizes.now }
     requires size_table_2 { SizeTable (step_records donor.now) (steps donor.now) donor_sizes.now }
@@ -182,7 +181,7 @@ fn graft_accepted<'a>(
         out.old out.new result }
 {
     if not_open(host, h, k) {
-        return Checked::Refused(Refusal::at(26, 0));
+        return Err(Refusal::at(26, 0));
     }
     let deep = too_deep(host, h, host_sizes, k, donor, g, donor_sizes);
     merge_equal(host, h, k, donor, g, deep, out)
@@ -199,7 +198,7 @@ fn graft_indexed<'a>(
     donor_sizes: &[u16; Sheet::STEP_LIMIT],
     slots: &mut [u16],
     out: &mut [u8],
-) -> Written
+) -> Result<usize, Refusal>
     requires accepted_sheet { AcceptedSheet host.now h × AcceptedSheet donor.now g × (length slots.old ≡ slot_count) }
     requires size_table { SizeTable (step_records host.now) (steps host.now) host_sizes.now }
     requires size_table_2 { SizeTable (step_records donor.now) (steps donor.now) donor_sizes.now }
@@ -210,12 +209,12 @@ fn graft_indexed<'a>(
 {
     let merged = graft_accepted(host, h, host_sizes, k, donor, g, donor_sizes, out);
     match merged {
-        Checked::Refused(refusal) => {
-            return Written::Refused(refusal);
+        Err(refusal) => {
+            return Err(refusal);
         }
-        Checked::Accepted(m) => {
+        Ok(m) => {
             build(slots, out, vocabulary(m));
-            return Written::Length(m.layout().end);
+            return Ok(m.layout().end);
         }
     }
 }
@@ -240,10 +239,10 @@ fn graft_donor<'a>(
     let mut donor_sizes = [0u16; Sheet::STEP_LIMIT];
     let checked = check(donor, &mut donor_sizes);
     match checked {
-        Checked::Refused(refusal) => {
+        Err(refusal) => {
             return Merged::Refused(Whose::Donor, refusal);
         }
-        Checked::Accepted(g) => {
+        Ok(g) => {
             let written = graft_indexed(host, h, host_sizes, k, donor, g, &donor_sizes, slots, out);
             return by_neither(written);
         }
@@ -251,12 +250,12 @@ fn graft_donor<'a>(
 }
 
 // An answer after both sheets' refusals.
-fn by_neither(written: Written) -> Merged
+fn by_neither(written: Result<usize, Refusal>) -> Merged
     ensures { (o : Outcome (List ℕ)) → written ≡ written_of o → result ≡ merged_of (by Neither o merged) }
 {
     match written {
-        Written::Length(length) => Merged::Length(length),
-        Written::Refused(refusal) => Merged::Refused(Whose::Neither, refusal),
+        Ok(length) => Merged::Length(length),
+        Err(refusal) => Merged::Refused(Whose::Neither, refusal),
     }
 }
 
@@ -279,10 +278,10 @@ pub fn graft<'a>(
     let mut host_sizes = [0u16; Sheet::STEP_LIMIT];
     let checked = check(host, &mut host_sizes);
     match checked {
-        Checked::Refused(refusal) => {
+        Err(refusal) => {
             return Merged::Refused(Whose::Host, refusal);
         }
-        Checked::Accepted(h) => {
+        Ok(h) => {
             return graft_donor(host, h, &host_sizes, k, donor, slots, out);
         }
     }

@@ -8,8 +8,8 @@ use native.Mathlib.Numerals.{add-one}
 use lib.ListN.{length, get_or, drop, drop_of_length-le}
 use lib.Seq.{drop-cons}
 use borrow.Author.Tests.{lt-ltb, le-ltb, eq-eqb, ne_eqb}
-use Rattle.definitions.specs.declared.Order.{Order}
-use Rattle.definitions.specs.declared.Order.TheVariants.{Less, Equal, Greater}
+use Rattle.std.specs.declared.cmp.Ordering.{Ordering}
+use Rattle.std.specs.declared.cmp.Ordering.TheVariants.{Less, Equal, Greater}
 use Rattle.definitions.specs.Outcome.{lowest}
 use Rattle.definitions.specs.Sheet.{marked}
 use Rattle.definitions.specs.Name.{compare_number, or_else, compare_name, is_equal, eq_name}
@@ -64,7 +64,7 @@ module _ {a b : List ℕ} {i : ℕ} (p : Alike a b i) where
   equal h k = rw (p.same, drop_of_length-le a h, drop_of_length-le b k)
 
 -- the answer equal is equality
-pub equals : (a b : List ℕ) {o : Order} {r : Bool} → o ≡ compare_name a b → r ≡ is_equal o → r ≡ eq_name a b
+pub equals : (a b : List ℕ) {o : Ordering} {r : Bool} → o ≡ compare_name a b → r ≡ is_equal o → r ≡ eq_name a b
 equals a b e h = h ∙ (ap is_equal e ∙ equal_name a b)
 
 -- the plain search by the comparison finds the lowest number with equal bytes

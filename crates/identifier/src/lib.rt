@@ -5,14 +5,14 @@ mod classes;
 
 ghost use Rattle.std.specs.Prelude.{◌≡◌};
 ghost use Rattle.definitions.specs.Name.{is_name, eq_name, compare_name, is_equal};
-ghost use Rattle.definitions.specs.Outcome.{lowest, found_at};
+ghost use Rattle.definitions.specs.Outcome.{lowest};
 ghost use Rattle.definitions.specs.Sheet.{marked};
 ghost use Rattle.number.specs.Pairs.{NameWithin};
 ghost use Rattle.identifier.specs.Pairs.{PairsWithin, same_bytes};
 
+use std::cmp::Ordering;
 use classes::LETTER;
 pub use classes::{CLASSES, OTHER, class};
-use definitions::{Found, Order};
 use number::marked_bytes;
 
 // Whether each byte is one that its position allows.
@@ -37,38 +37,38 @@ pub fn is_name(name: &[u8]) -> bool
 }
 
 // How two names stand to each other: by bytes, a name before its own extensions.
-pub fn compare_names(a: &[u8], b: &[u8]) -> Order
+pub fn compare_names(a: &[u8], b: &[u8]) -> Ordering
     ensures { result ≡ compare_name a.now b.now }
 {
     let mut i = 0;
     while i < a.len() {
         if b.len() <= i {
-            return Order::Greater;
+            return Ordering::Greater;
         }
         let byte = a[i];
         let other = b[i];
         if byte < other {
-            return Order::Less;
+            return Ordering::Less;
         }
         if other < byte {
-            return Order::Greater;
+            return Ordering::Greater;
         }
         i += 1;
     }
     if i < b.len() {
-        return Order::Less;
+        return Ordering::Less;
     }
-    Order::Equal
+    Ordering::Equal
 }
 
 // Whether a comparison says equal.
-pub fn is_equal(order: Order) -> bool
+pub fn is_equal(order: Ordering) -> bool
     ensures { result ≡ is_equal order }
 {
     match order {
-        Order::Less => false,
-        Order::Equal => true,
-        Order::Greater => false,
+        Ordering::Less => false,
+        Ordering::Equal => true,
+        Ordering::Greater => false,
     }
 }
 
@@ -80,7 +80,7 @@ pub fn same_name(a: &[u8], b: &[u8]) -> bool
 }
 
 // How the names of two numbers stand to each other.
-pub fn compare_bytes(pairs: &[u8], text: &[u8], a: usize, b: usize) -> Order
+pub fn compare_bytes(pairs: &[u8], text: &[u8], a: usize, b: usize) -> Ordering
     requires { NameWithin pairs.now text.now a × NameWithin pairs.now text.now b }
     ensures { result ≡ compare_name
         (marked pairs.now text.now a)
@@ -104,14 +104,14 @@ pub fn same_bytes(pairs: &[u8], text: &[u8], a: usize, b: usize) -> bool
 
 // The first name before number i with the same bytes as name i. No operation asks for it: it is the plain search that an index of
 // the names (document 02, ticket 14) has to agree with.
-pub fn first_equal(pairs: &[u8], text: &[u8], i: usize) -> Found
+pub fn first_equal(pairs: &[u8], text: &[u8], i: usize) -> Option<usize>
     requires { PairsWithin pairs.now text.now i }
-    ensures { result ≡ found_at (lowest (same_bytes pairs.now text.now i) i) }
+    ensures { result ≡ lowest (same_bytes pairs.now text.now i) i }
 {
     for j in 0..i {
         if is_equal(compare_bytes(pairs, text, j, i)) {
-            return Found::At(j);
+            return Some(j);
         }
     }
-    Found::Nowhere
+    None
 }

@@ -14,7 +14,7 @@ use Rattle.definitions.specs.Outcome.{accepted, ◌>>=◌, refuse, refuse_if}
 use Rattle.definitions.specs.IdentifierContext.{IdentifierContext, len}
 use Rattle.definitions.specs.IdentifierContext as definition
 use Rattle.identifier_context.specs.declared.Entry.{Entry}
-use Rattle.identifier_context.specs.declared.Inserted.TheVariants.{Refused, Len}
+use Rattle.std.specs.Prelude.{Err, Ok}
 use Rattle.number.specs.Pairs.{NameWithin}
 use Rattle.identifier_context.specs.Memory.{entry_size, name_at, entry_at, context_of, Holds}
 use Rattle.identifier_context.specs.Promises.{numbers_of, memory_after, context_after, Inserts}
@@ -23,7 +23,7 @@ use Rattle.identifier_context.proofs.Contexts.{context_length, entry_same, conte
 
 -- past the room nothing is stored
 pub inserts_nothing : {before : List ℕ} {n : ℕ} {e : Entry} → length before / entry_size ≤ n
-    → Inserts before before n e (Refused (record { number = 16; place = 0 }))
+    → Inserts before before n e (Err (record { number = 16; place = 0 }))
 unfolding memory_after context_after definition.insert len refuse_if refuse ◌>>=◌
 inserts_nothing {before} {n} full = record { memory = refl; context = rw (context_length before n, le-leb _ _ full) }
 
@@ -53,7 +53,7 @@ module _ (before : List ℕ) (n : ℕ) (e : Entry) (room : n < length before / e
       context_same stored before n
       (λ i h. entry_same stored before i i (λ k l. sets_before (numbers_of e) before (entry_size * n) (entry_size * i + k) (omega arith)))
 
-  pub inserts_entry : Inserts before (sets before (entry_size * n) (numbers_of e)) n e (Len (suc n))
+  pub inserts_entry : Inserts before (sets before (entry_size * n) (numbers_of e)) n e (Ok (suc n))
   unfolding stored memory_after context_after context_of definition.insert len refuse_if ◌>>=◌
   inserts_entry =
       let last = stored_last in
@@ -78,7 +78,7 @@ unrefused true h = (cc, cc)
 unrefused false h = (refl, cc)
 
 -- so it is after an insertion
-pub inserted_holds : {pairs text before after : List ℕ} {n m : ℕ} {e : Entry} → Inserts before after n e (Len m)
+pub inserted_holds : {pairs text before after : List ℕ} {n m : ℕ} {e : Entry} → Inserts before after n e (Ok m)
     → Holds pairs text before n → NameWithin pairs text e.name → Holds pairs text after m
 unfolding memory_after context_after definition.insert len stored
 inserted_holds {before} {after} {n} {m} {e} inserts holds named =

@@ -2,7 +2,7 @@
 use Prim.Native.Nat.{ℕ, ◌-◌}
 use mathlib.Core.Path.{◌≡◌, refl, sym, ap, ◌∙◌}
 use mathlib.Core.Bool.{Bool, true, false, true≢false}
-use mathlib.Core.Option.{none, some}
+use Rattle.std.specs.Prelude.{None, Some}
 use mathlib.Core.List.Memᴰ
 use mathlib.Core.List.{List, [], ◌∷◌, Memᴰ}
 use mathlib.Core.Logic.{⊎_elim}
@@ -28,7 +28,7 @@ module _ (room : ℕ) (e : Entry) (context after : IdentifierContext) (accepts :
 
   -- a test that admits it finds it, and without it there is the context as it was
   module _ (wanted : Entry → Bool) (admits : wanted e ≡ true) where
-    found_again : latest wanted after ≡ some e
+    found_again : latest wanted after ≡ Some e
     unfolding latest
     found_again = rw (latest_now, latest, admits)
 
@@ -49,11 +49,11 @@ module _ (room : ℕ) (e : Entry) (context after : IdentifierContext) (accepts :
     unfolding has_identifier eq_identifier rename_identifier
     has_identifier_lem = rw (eq_name_refl (name_of e.identifier.name), eq-eqb e.identifier.unique_id _ refl)
 
-    pub inserted_get_by_name : get_by_name name_of (name_of e.identifier.name) after ≡ some e
+    pub inserted_get_by_name : get_by_name name_of (name_of e.identifier.name) after ≡ Some e
     unfolding get_by_name name
     inserted_get_by_name = found_again (has_name name_of name) has_name_lem
 
-    pub inserted_get : get name_of (rename_identifier name_of e.identifier) after ≡ some e
+    pub inserted_get : get name_of (rename_identifier name_of e.identifier) after ≡ Some e
     unfolding get
     inserted_get = found_again (has_identifier name_of (rename_identifier name_of e.identifier)) has_identifier_lem
 
@@ -66,13 +66,13 @@ module _ (room : ℕ) (e : Entry) (context after : IdentifierContext) (accepts :
     inserted_remove = without_again (has_identifier name_of (rename_identifier name_of e.identifier)) has_identifier_lem
 
 -- what a test of likeness finds nowhere in a list does not occur there
-absent : (same : Entry → Entry → Bool) (e : Entry) (seen : List Entry) → latest (same e) seen ≡ none → occurs same e seen ≡ false
+absent : (same : Entry → Entry → Bool) (e : Entry) (seen : List Entry) → latest (same e) seen ≡ None → occurs same e seen ≡ false
 unfolding latest occurs
 absent same e [] missing = refl
 absent same e (s ∷ seen) missing = go (same e s) refl (absent same e seen)
   where
-    go : (t : Bool) → same e s ≡ t → (latest (same e) seen ≡ none → occurs same e seen ≡ false) → occurs same e (s ∷ seen) ≡ false
-    go true h again = let found : latest (same e) (s ∷ seen) ≡ some s = rw (latest, h) in cc
+    go : (t : Bool) → same e s ≡ t → (latest (same e) seen ≡ None → occurs same e seen ≡ false) → occurs same e (s ∷ seen) ≡ false
+    go true h again = let found : latest (same e) (s ∷ seen) ≡ Some s = rw (latest, h) in cc
     go false h again = rw (occurs, h) (again (rw (latest, h) at missing))
 
 -- Of the name of each number:
@@ -85,7 +85,7 @@ module _ (name_of : ℕ → Name) where
   -- a name that was not seen finds the same entry among the first occurrences as among all
   abbrev Finds-alike : Name → List Entry → List Entry → Type 0
   Finds-alike x seen context =
-      latest (has_name name_of x) seen ≡ none
+      latest (has_name name_of x) seen ≡ None
       → latest (has_name name_of x) (firsts_after (same_name name_of) seen context) ≡ latest (has_name name_of x) context
 
   finds_alike : (x : Name) (seen context : List Entry) → Finds-alike x seen context
@@ -106,7 +106,7 @@ module _ (name_of : ℕ → Name) where
   abbrev Found-there : Entry → List Entry → List Entry → Type 0
   Found-there e seen context =
       Memᴰ e (firsts_after (same_name name_of) seen context)
-      → (occurs (same_name name_of) e seen ≡ false) × (latest (same_name name_of e) context ≡ some e)
+      → (occurs (same_name name_of) e seen ≡ false) × (latest (same_name name_of e) context ≡ Some e)
 
   found_there : (e : Entry) (seen context : List Entry) → Found-there e seen context
   unfolding firsts_after latest occurs same_name has_name
@@ -116,14 +116,14 @@ module _ (name_of : ℕ → Name) where
     where
       go : (old here : Bool) → occurs (same_name name_of) a seen ≡ old → same_name name_of e a ≡ here
           → Found-there e seen context → Found-there e (a ∷ seen) context
-          → (occurs (same_name name_of) e seen ≡ false) × (latest (same_name name_of e) (a ∷ context) ≡ some e)
+          → (occurs (same_name name_of) e seen ≡ false) × (latest (same_name name_of e) (a ∷ context) ≡ Some e)
       go true true o h passed taken =
           let new = (passed (rw o at m)).0 in
           let alike = occurs_alike name_of e a (eq_name_true h) seen in
           absurd (true≢false (sym o ∙ (sym alike ∙ new)))
       go true false o h passed taken = let again = passed (rw o at m) in (again.0, rw h again.1)
       go false true o h passed taken =
-          ⊎_elim (λ p. (rw p o, rw h (ap some (sym p)))) (λ later. absurd (true≢false (rw h at (taken later).0)))
+          ⊎_elim (λ p. (rw p o, rw h (ap Some (sym p)))) (λ later. absurd (true≢false (rw h at (taken later).0)))
           (Memᴰ.cases_cons (rw o at m))
       go false false o h passed taken =
           ⊎_elim (λ p. absurd (true≢false (sym (same_self name_of a) ∙ rw p at h))) (λ later. let again = taken later in (rw h at again.0, rw h again.1))
@@ -136,6 +136,6 @@ module _ (name_of : ℕ → Name) where
 
   -- and each visible entry is the one that its name finds
   pub visible_get_by_name : (e : Entry) (context : IdentifierContext) → Memᴰ e (get_all_visible name_of context)
-      → get_by_name name_of (name_of e.identifier.name) context ≡ some e
+      → get_by_name name_of (name_of e.identifier.name) context ≡ Some e
   unfolding get_by_name get_all_visible firsts same_name
   visible_get_by_name e context m = (found_there e [] context m).1

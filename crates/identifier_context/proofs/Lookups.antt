@@ -2,12 +2,9 @@
 use Prim.Native.Nat.{ℕ}
 use mathlib.Core.Path.{◌≡◌, refl, sym, ◌∙◌}
 use mathlib.Core.Bool.{Bool, false, and-false, and-true}
-use mathlib.Core.Option.{Option, none, some}
+use Rattle.std.specs.Prelude.{Option, None, Some, ℕ}
 use mathlib.Core.List.{List}
 use borrow.Author.Tests.{eq-eqb, ne_eqb}
-use Rattle.definitions.specs.declared.Found.{Found}
-use Rattle.definitions.specs.declared.Found.TheVariants.{Nowhere, At}
-use Rattle.definitions.specs.Outcome.{found_at}
 use Rattle.definitions.specs.Name.{Name, compare_name, is_equal}
 use Rattle.definitions.proofs.NameOrder.{equal_name}
 use Rattle.definitions.specs.Tree.{rename_identifier}
@@ -33,19 +30,17 @@ left_without name_of (ByName n) context = refl
 left_without name_of (ByIdentifier n id) context = refl
 
 -- what an answer says of the index
-pub index_found : (found : Option ℕ) {r : Found} {i : ℕ} → r ≡ At i → r ≡ found_at found → found ≡ some i
-unfolding found_at
-index_found none told e = cc
-index_found (some j) told e = cc
+pub index_found : (found : Option ℕ) {r : Option ℕ} {i : ℕ} → r ≡ Some i → r ≡ found → found ≡ Some i
+index_found None told e = cc
+index_found (Some j) told e = cc
 
-pub index_missing : (found : Option ℕ) {r : Found} → r ≡ Nowhere → r ≡ found_at found → found ≡ none
-unfolding found_at
-index_missing none told e = refl
-index_missing (some j) told e = cc
+pub index_missing : (found : Option ℕ) {r : Option ℕ} → r ≡ None → r ≡ found → found ≡ None
+index_missing None told e = refl
+index_missing (Some j) told e = cc
 
 -- the index decides the answer
-pub finds : {name_of : ℕ → Name} {lookup : Lookup} {entries : List ℕ} {n : ℕ} {r : Found}
-    → r ≡ found_at (latest_at (admitted name_of lookup) (context_of entries n)) → Finds name_of lookup entries n r
+pub finds : {name_of : ℕ → Name} {lookup : Lookup} {entries : List ℕ} {n : ℕ} {r : Option ℕ}
+    → r ≡ (latest_at (admitted name_of lookup) (context_of entries n)) → Finds name_of lookup entries n r
 finds {name_of} {lookup} {entries} {n} index =
     let wanted = admitted name_of lookup in
     let search = searched wanted entries n in

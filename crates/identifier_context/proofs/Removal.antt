@@ -2,12 +2,11 @@
 use Prim.Native.Nat.{ℕ, zero, suc, ◌+◌, ◌-◌, ◌*◌, ◌≤◌, ◌<◌}
 use mathlib.Core.Path.{◌≡◌, sym, ap, ◌∙◌}
 use mathlib.Core.Bool.{Bool}
-use mathlib.Core.Option.{Option, none, some}
+use Rattle.std.specs.Prelude.{Option, None, Some}
 use mathlib.Core.List.{List}
 use native.Mathlib.Omega.{arith}
 use native.Mathlib.Decide.{dec_lt}
 use lib.ListN.{length}
-use Rattle.definitions.specs.Outcome.{found_at}
 use Rattle.definitions.specs.Name.{Name}
 use Rattle.definitions.specs.IdentifierContext as definition
 use Rattle.identifier_context.specs.declared.Entry.{Entry}
@@ -42,8 +41,8 @@ module _ (before : List ℕ) (n i : ℕ) (present : entry_size * suc n ≤ lengt
 
 module _ {name_of : ℕ → Name} {lookup : Lookup} {before : List ℕ} where
   -- where the lookup finds nothing the memory stays
-  pub removes_nothing : {n : ℕ} → latest_at (admitted name_of lookup) (context_of before n) ≡ none → Removes name_of lookup before before n Nothing
-  unfolding closed_at removed_at entry_removed length_after entry_found found_at
+  pub removes_nothing : {n : ℕ} → latest_at (admitted name_of lookup) (context_of before n) ≡ None → Removes name_of lookup before before n Nothing
+  unfolding closed_at removed_at entry_removed length_after entry_found
   removes_nothing {n} missing =
       let search = rw missing at (searched (admitted name_of lookup) before n) in
       record {
@@ -54,9 +53,9 @@ module _ {name_of : ℕ → Name} {lookup : Lookup} {before : List ℕ} where
       }
 
   -- else it is closed over the entry that is found
-  pub removes_entry : {n i : ℕ} → entry_size * n ≤ length before → latest_at (admitted name_of lookup) (context_of before n) ≡ some i
+  pub removes_entry : {n i : ℕ} → entry_size * n ≤ length before → latest_at (admitted name_of lookup) (context_of before n) ≡ Some i
       → Removes name_of lookup before (closed before n i) n (Latest (entry_at before i) (n - 1))
-  unfolding closed_at removed_at entry_removed length_after entry_found found_at
+  unfolding closed_at removed_at entry_removed length_after entry_found
   removes_entry {n = zero} present found =
       let below = found_below _ _ (rw found at (searched (admitted name_of lookup) before zero)) in absurd (omega arith)
   removes_entry {n = suc n} {i} present found =
@@ -98,9 +97,9 @@ module _ {pairs text before : List ℕ} where
   closed_at_holds : (wanted : definition.Entry → Bool) (n : ℕ) (found : Option ℕ) → Search wanted before n found
       → Holds pairs text before n → Holds pairs text (closed_at before n found) (length_after n (removed_at before n found))
   unfolding closed_at removed_at length_after
-  closed_at_holds wanted n none search holds = holds
-  closed_at_holds wanted zero (some i) search holds = let below = found_below wanted before search in absurd (omega arith)
-  closed_at_holds wanted (suc n) (some i) search holds =
+  closed_at_holds wanted n None search holds = holds
+  closed_at_holds wanted zero (Some i) search holds = let below = found_below wanted before search in absurd (omega arith)
+  closed_at_holds wanted (suc n) (Some i) search holds =
       let below : i < suc n = found_below wanted before search in
       let one_less : suc n - 1 ≡ n = omega arith in
       rw one_less (closed_holds n i (omega arith) holds)

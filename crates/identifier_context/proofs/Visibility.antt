@@ -2,7 +2,7 @@
 use Prim.Native.Nat.{ℕ, zero, suc, ◌-◌, ◌≤◌, ◌<◌}
 use mathlib.Core.Path.{◌≡◌, refl, sym, ◌∙◌}
 use mathlib.Core.Bool.{Bool, true, false, true≢false, ◌&&◌, not}
-use mathlib.Core.Option.{Option, none, some}
+use Rattle.std.specs.Prelude.{Option, None, Some}
 use mathlib.Core.List.{List, [], ◌∷◌, ◌++◌}
 use native.Mathlib.Omega.{arith}
 use native.Mathlib.Decide.{dec_lt}
@@ -23,8 +23,8 @@ use Rattle.identifier_context.proofs.LatestEntry.{Search, over, passes, ends, se
 
 -- an index was found, and it is this one
 unfoldable pub is_at : Option ℕ → ℕ → Bool
-is_at none i = false
-is_at (some j) i = eqb j i
+is_at None i = false
+is_at (Some j) i = eqb j i
 
 module _ (name_of : ℕ → Name) (entries : List ℕ) where
   entry_in : ℕ → definition.Entry

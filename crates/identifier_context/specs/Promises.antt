@@ -1,39 +1,35 @@
 -- What each operation promises of its answer, of the context, and of every number of the lent memory.
-use Rattle.std.specs.Prelude.{ℕ, zero, suc, min, ◌+◌, ◌-◌, ◌*◌, ◌/◌, ◌<◌, ◌≡◌, Bool, not, cond, List, [], ◌∷◌, length, take, drop}
-use Rattle.std.proofs.Math.Option.{Option, none, some}
+use Rattle.std.specs.Prelude.{ℕ, zero, suc, min, ◌+◌, ◌-◌, ◌*◌, ◌/◌, ◌<◌, ◌≡◌, Bool, not, cond, List, [], ◌∷◌, length, take, drop, Option, None, Some, Result, Err, Ok}
 use Rattle.std.proofs.lemmas.List.Edits.{sets}
 use Rattle.std.proofs.Math.Seq.{paste}
-use Rattle.definitions.specs.declared.Found.{Found}
-use Rattle.definitions.specs.declared.Found.TheVariants.{Nowhere, At}
-use Rattle.definitions.specs.Outcome.{Outcome, refused, accepted, found_at}
+use Rattle.definitions.specs.Outcome.{Outcome, refused, accepted}
 use Rattle.definitions.specs.Name.{Name}
 use Rattle.definitions.specs.Tree.{Identifier}
 use Rattle.definitions.specs.Text.{occurs, firsts_after}
 use Rattle.definitions.specs.IdentifierContext.{IdentifierContext, len, has_name, has_identifier, get_by_name, get, remove_by_name, remove, same_name}
 use Rattle.definitions.specs.IdentifierContext as definition
 use Rattle.identifier_context.specs.declared.Entry.{Entry}
-use Rattle.identifier_context.specs.declared.Inserted.{Inserted}
-use Rattle.identifier_context.specs.declared.Inserted.TheVariants.{Refused, Len}
 use Rattle.identifier_context.specs.declared.Lookup.{Lookup}
 use Rattle.identifier_context.specs.declared.Lookup.TheVariants.{ByName, ByIdentifier}
 use Rattle.identifier_context.specs.declared.Removed.{Removed}
 use Rattle.identifier_context.specs.declared.Removed.TheVariants.{Nothing, Latest}
 use Rattle.identifier_context.specs.Memory.{entry_size, entry_of, entry_at, context_of}
+use Rattle.definitions.specs.declared.Refusal.{Refusal}
 
 abbrev pub numbers_of : Entry → List ℕ
 numbers_of e = e.name ∷ e.id ∷ e.kind ∷ e.number ∷ []
 
 -- the memory after an insertion: as it was where that is refused, else with the entry's four numbers stored after n entries
-unfoldable pub memory_after : List ℕ → ℕ → Entry → Inserted → List ℕ
-memory_after before n e (Refused r) = before
-memory_after before n e (Len m) = sets before (entry_size * n) (numbers_of e)
+unfoldable pub memory_after : List ℕ → ℕ → Entry → Result ℕ Refusal → List ℕ
+memory_after before n e (Err r) = before
+memory_after before n e (Ok m) = sets before (entry_size * n) (numbers_of e)
 
 -- the context after it
-unfoldable pub context_after : List ℕ → Inserted → Outcome IdentifierContext
-context_after after (Refused r) = refused r
-context_after after (Len m) = accepted (context_of after m)
+unfoldable pub context_after : List ℕ → Result ℕ Refusal → Outcome IdentifierContext
+context_after after (Err r) = refused r
+context_after after (Ok m) = accepted (context_of after m)
 
-pub record Inserts (before after : List ℕ) (n : ℕ) (e : Entry) (r : Inserted) : Type 0 where
+pub record Inserts (before after : List ℕ) (n : ℕ) (e : Entry) (r : Result ℕ Refusal) : Type 0 where
   pub memory : after ≡ memory_after before n e r
   pub context : context_after after r ≡ definition.insert (length before / entry_size) (entry_of e) (context_of before n)
 
@@ -44,13 +40,13 @@ name_asked (ByIdentifier n id) = n
 
 -- the index of the latest entry that a test admits, counted from the oldest
 unfoldable pub latest_at : (definition.Entry → Bool) → IdentifierContext → Option ℕ
-latest_at wanted [] = none
-latest_at wanted (e ∷ context) = cond (wanted e) (some (len context)) (latest_at wanted context)
+latest_at wanted [] = None
+latest_at wanted (e ∷ context) = cond (wanted e) (Some (len context)) (latest_at wanted context)
 
 -- the entry of an answer's index
-unfoldable pub entry_found : List ℕ → Found → Option definition.Entry
-entry_found entries Nowhere = none
-entry_found entries (At i) = some (entry_of (entry_at entries i))
+unfoldable pub entry_found : List ℕ → Option ℕ → Option definition.Entry
+entry_found entries None = None
+entry_found entries (Some i) = Some (entry_of (entry_at entries i))
 
 -- the memory with so many numbers, from a place on, replaced by those that stand one entry later, and no other changed
 unfoldable pub shifted : List ℕ → ℕ → ℕ → List ℕ
@@ -61,17 +57,17 @@ unfoldable pub closed : List ℕ → ℕ → ℕ → List ℕ
 closed before n i = shifted before (entry_size * i) (entry_size * (n - (i + 1)))
 
 unfoldable pub closed_at : List ℕ → ℕ → Option ℕ → List ℕ
-closed_at before n none = before
-closed_at before n (some i) = closed before n i
+closed_at before n None = before
+closed_at before n (Some i) = closed before n i
 
 -- its answer, and what that says
 unfoldable pub removed_at : List ℕ → ℕ → Option ℕ → Removed
-removed_at before n none = Nothing
-removed_at before n (some i) = Latest (entry_at before i) (n - 1)
+removed_at before n None = Nothing
+removed_at before n (Some i) = Latest (entry_at before i) (n - 1)
 
 unfoldable pub entry_removed : Removed → Option definition.Entry
-entry_removed Nothing = none
-entry_removed (Latest e m) = some (entry_of e)
+entry_removed Nothing = None
+entry_removed (Latest e m) = Some (entry_of e)
 
 unfoldable pub length_after : ℕ → Removed → ℕ
 length_after n Nothing = n
@@ -96,9 +92,9 @@ module _ (name_of : ℕ → Name) where
   left (ByIdentifier n id) = remove name_of (identifier_of n id)
 
   -- a lookup answers the index of the entry that it seeks, the latest that it admits
-  pub record Finds (lookup : Lookup) (entries : List ℕ) (n : ℕ) (r : Found) : Type 0 where
-    pub index : r ≡ found_at (latest_at (admitted lookup) (context_of entries n))
-    pub below : (i : ℕ) → r ≡ At i → i < n
+  pub record Finds (lookup : Lookup) (entries : List ℕ) (n : ℕ) (r : Option ℕ) : Type 0 where
+    pub index : r ≡ (latest_at (admitted lookup) (context_of entries n))
+    pub below : (i : ℕ) → r ≡ Some i → i < n
     pub entry : entry_found entries r ≡ sought lookup (context_of entries n)
 
   -- a removal answers that entry and the length after it, and takes the entry out
@@ -117,16 +113,16 @@ module _ (name_of : ℕ → Name) where
   visible_before context i = firsts_after (same_name name_of) (take (len context - i) context) (drop (len context - i) context)
 
   -- an answer's entry, and what is listed after it
-  unfoldable pub visible_from : List ℕ → ℕ → Found → List definition.Entry
-  visible_from entries n Nowhere = []
-  visible_from entries n (At i) = entry_of (entry_at entries i) ∷ visible_before (context_of entries n) i
+  unfoldable pub visible_from : List ℕ → ℕ → Option ℕ → List definition.Entry
+  visible_from entries n None = []
+  visible_from entries n (Some i) = entry_of (entry_at entries i) ∷ visible_before (context_of entries n) i
 
   -- the index of the latest visible entry before one
   unfoldable pub latest_visible : List ℕ → ℕ → ℕ → Option ℕ
-  latest_visible entries n zero = none
-  latest_visible entries n (suc i) = cond (is_visible entries n i) (some i) (latest_visible entries n i)
+  latest_visible entries n zero = None
+  latest_visible entries n (suc i) = cond (is_visible entries n i) (Some i) (latest_visible entries n i)
 
   -- an answer is that index among the n entries: its entry is what `getAllVisible` lists next
-  pub record Shows (entries : List ℕ) (n before : ℕ) (r : Found) : Type 0 where
-    pub index : r ≡ found_at (latest_visible entries n (min before n))
+  pub record Shows (entries : List ℕ) (n before : ℕ) (r : Option ℕ) : Type 0 where
+    pub index : r ≡ (latest_visible entries n (min before n))
     pub listed : visible_from entries n r ≡ visible_before (context_of entries n) before

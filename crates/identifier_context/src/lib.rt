@@ -8,7 +8,7 @@ ghost use Rattle.number.specs.Pairs.{NameWithin};
 ghost use Rattle.identifier_context.specs.Memory.{Holds, entry_size, name_at, entry_of, entry_at};
 ghost use Rattle.identifier_context.specs.Promises.{Inserts, Finds, Removes, name_asked, admitted, shifted, closed, is_visible, Shows};
 
-use definitions::{Found, Refusal};
+use definitions::Refusal;
 use identifier::{compare_bytes, is_equal};
 
 // The numbers of an entry.
@@ -21,13 +21,6 @@ pub struct Entry {
     pub id: u16,
     pub kind: u16,
     pub number: u16,
-}
-
-// The length after an insertion, or why there was none.
-#[derive(Drop)]
-pub enum Inserted {
-    Refused(Refusal),
-    Len(usize),
 }
 
 // What is looked up: the latest entry of a name, or of a name and an id.
@@ -45,18 +38,18 @@ pub enum Removed {
 }
 
 // Makes an entry the latest, unless the lent memory has no room for it.
-pub fn insert(entries: &mut [u16], len: usize, entry: Entry) -> Inserted
+pub fn insert(entries: &mut [u16], len: usize, entry: Entry) -> Result<usize, Refusal>
     ensures { Inserts entries.old entries.new len entry result }
 {
     if entries.len() / ENTRY_SIZE <= len {
-        return Inserted::Refused(Refusal::at(16, 0));
+        return Err(Refusal::at(16, 0));
     }
     let at = ENTRY_SIZE * len;
     entries[at] = entry.name;
     entries[at + 1] = entry.id;
     entries[at + 2] = entry.kind;
     entries[at + 3] = entry.number;
-    Inserted::Len(len + 1)
+    Ok(len + 1)
 }
 
 // The entry of an index.
@@ -96,7 +89,7 @@ fn admits(entries: &[u16], i: usize, pairs: &[u8], text: &[u8], lookup: Lookup) 
 }
 
 // The index of the latest entry that a lookup admits.
-fn find(entries: &[u16], len: usize, pairs: &[u8], text: &[u8], lookup: Lookup) -> Found
+fn find(entries: &[u16], len: usize, pairs: &[u8], text: &[u8], lookup: Lookup) -> Option<usize>
     requires { Holds pairs.now text.now entries.now len
         × NameWithin pairs.now text.now (name_asked lookup) }
     ensures { Finds (marked pairs.now text.now) lookup entries.now len result }
@@ -105,15 +98,15 @@ fn find(entries: &[u16], len: usize, pairs: &[u8], text: &[u8], lookup: Lookup) 
     while 0 < left {
         let i = left - 1;
         if admits(entries, i, pairs, text, lookup) {
-            return Found::At(i);
+            return Some(i);
         }
         left -= 1;
     }
-    Found::Nowhere
+    None
 }
 
 // The index of the latest entry of a name.
-pub fn get_by_name(entries: &[u16], len: usize, pairs: &[u8], text: &[u8], name: u16) -> Found
+pub fn get_by_name(entries: &[u16], len: usize, pairs: &[u8], text: &[u8], name: u16) -> Option<usize>
     requires { Holds pairs.now text.now entries.now len × NameWithin pairs.now text.now name }
     ensures { Finds (marked pairs.now text.now) (Lookup.ByName name)
         entries.now len result }
@@ -122,7 +115,7 @@ pub fn get_by_name(entries: &[u16], len: usize, pairs: &[u8], text: &[u8], name:
 }
 
 // The index of the latest entry of a name and an id.
-pub fn get(entries: &[u16], len: usize, pairs: &[u8], text: &[u8], name: u16, id: u16) -> Found
+pub fn get(entries: &[u16], len: usize, pairs: &[u8], text: &[u8], name: u16, id: u16) -> Option<usize>
     requires { Holds pairs.now text.now entries.now len × NameWithin pairs.now text.now name }
     ensures { Finds (marked pairs.now text.now) (Lookup.ByIdentifier name id)
         entries.now len result }
@@ -166,7 +159,7 @@ fn remove_latest(
     ensures { Removes (marked pairs.now text.now) lookup
         entries.old entries.new len result }
 {
-    let Found::At(i) = find(entries, len, pairs, text, lookup) else {
+    let Some(i) = find(entries, len, pairs, text, lookup) else {
         return Removed::Nothing;
     };
     take_out(entries, len, i)
@@ -209,14 +202,14 @@ fn is_visible(entries: &[u16], len: usize, pairs: &[u8], text: &[u8], i: usize) 
     ensures { result ≡ is_visible (marked pairs.now text.now) entries.now len i }
 {
     let entry = entry_at(entries, i);
-    let Found::At(latest) = find(entries, len, pairs, text, Lookup::ByName(entry.name)) else {
+    let Some(latest) = find(entries, len, pairs, text, Lookup::ByName(entry.name)) else {
         return false;
     };
     latest == i
 }
 
 // The index of the latest visible entry before one: from the count on, this hands out what the Rust's get_all_visible collects.
-pub fn next_visible(entries: &[u16], len: usize, pairs: &[u8], text: &[u8], before: usize) -> Found
+pub fn next_visible(entries: &[u16], len: usize, pairs: &[u8], text: &[u8], before: usize) -> Option<usize>
     requires { Holds pairs.now text.now entries.now len }
     ensures { Shows (marked pairs.now text.now) entries.now len before result }
 {
@@ -227,9 +220,9 @@ pub fn next_visible(entries: &[u16], len: usize, pairs: &[u8], text: &[u8], befo
     while 0 < left {
         let next = left - 1;
         if is_visible(entries, len, pairs, text, next) {
-            return Found::At(next);
+            return Some(next);
         }
         left -= 1;
     }
-    Found::Nowhere
+    None
 }

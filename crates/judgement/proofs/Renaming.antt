@@ -2,8 +2,7 @@
 use Prim.Native.Nat.{ℕ, zero, suc, ◌+◌, ◌≤◌, ◌<◌}
 use mathlib.Core.Path.{◌≡◌, refl, ap, subst}
 use mathlib.Core.Bool.{Bool, true, false, cond}
-use mathlib.Core.Option as option
-use mathlib.Core.Option.{Option, some}
+use Rattle.std.specs.Prelude.{None, Option, Some}
 use mathlib.Core.List.{List, [], ◌∷◌, ◌++◌}
 use native.Mathlib.Omega.{arith}
 use lib.Dec.{eqb}
@@ -94,8 +93,8 @@ module _ (n : ℕ) where
     parameter_twice : (l : Option (Label ℕ)) → ParameterLabelBelow n l → Coded (of_label single l)
         → rename_parameter_label f (rename_parameter_label g l) ≡ rename_parameter_label e l
     unfolding rename_parameter_label ParameterLabelBelow of_label
-    parameter_twice option.none b c = refl
-    parameter_twice (some l) b c = ap some (label_twice l b (the_one c))
+    parameter_twice None b c = refl
+    parameter_twice (Some l) b c = ap Some (label_twice l b (the_one c))
 
     pub term_twice : (t : ProofTerm ℕ) → NamesBelow n t → Coded (term_labels t) → rename_term f (rename_term g t) ≡ rename_term e t
     unfolding rename_term NamesBelow of_labels

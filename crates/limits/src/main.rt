@@ -5,7 +5,7 @@
 ghost use Rattle.std.specs.Prelude.{◌≡◌, ◌≤◌, length};
 
 use definitions::Located;
-use skriduhol::{BOARD_ROOM, Filled};
+use skriduhol::BOARD_ROOM;
 use std::rt::Files;
 use std::{env, io};
 
@@ -50,8 +50,8 @@ fn write_refusal(rt: &impl Print, located: Located) -> io::Result<()> {
 // The answer in a line, and then the memory.
 fn write_answer(rt: &impl Print, s: &[u8], memory: &mut [u8]) -> io::Result<()> {
     match skriduhol::plain_text(s, memory) {
-        Filled::Length(length) => print!(rt; "{length} bytes")?,
-        Filled::Refused(located) => write_refusal(rt, located)?,
+        Ok(length) => print!(rt; "{length} bytes")?,
+        Err(located) => write_refusal(rt, located)?,
     }
     print!(rt; "\n")?;
     rt.write_all(memory)?;

@@ -12,7 +12,7 @@ use Rattle.definitions.specs.Outcome.{accepted, refused, map_outcome}
 use Rattle.definitions.specs.Prop.{AtomUse}
 use Rattle.definitions.specs.Term.{ProofTerm}
 use Rattle.definitions.specs.Answers.{atom_numbers, sheet_term}
-use Rattle.output.specs.declared.Written.TheVariants.{Length, Refused}
+use Rattle.std.specs.Prelude.{Ok, Err}
 use Rattle.output.specs.Written.{written_of}
 use Rattle.prop_lists.specs.Entries.{entry_numbers}
 use Rattle.vocabulary.specs.declared.Vocabulary.{Vocabulary}
@@ -38,14 +38,14 @@ datatype_numbers v (a ∷ uses) = omega (arith, datatype_numbers v uses)
 
 -- Of a list and a sheet's bytes:
 module _ (list : TermList) (s : List ℕ) where
-  pub refusal_told : {x : Refusal} → sheet_term s ≡ refused x → Refused x ≡ written_of (map_outcome (list_numbers list) (sheet_term s))
+  pub refusal_told : {x : Refusal} → sheet_term s ≡ refused x → Err x ≡ written_of (map_outcome (list_numbers list) (sheet_term s))
   unfolding map_outcome written_of
   refusal_told e = rw e
 
   -- the numbers of the entries that the labels of the term add
   pub length_told : {h : Sheet} → AcceptedSheet s h → {words : Vocabulary} → words ≡ vocabulary_of h → {terms : List ℕ} {n : ℕ} → HeldTerm s terms n
       → {entries r : ℕ} → TermCounts (term_uses list (term_in s words terms n)) entries → NumbersOf list entries r
-      → Length r ≡ written_of (map_outcome (list_numbers list) (sheet_term s))
+      → Ok r ≡ written_of (map_outcome (list_numbers list) (sheet_term s))
   unfolding map_outcome written_of
   length_told sheet {words} same {terms} {n} term counts numbers =
       let t : ProofTerm ℕ = term_in s words terms n in

@@ -12,7 +12,6 @@ ghost use Rattle.proof_term_lists.specs.Numbers.{list_numbers};
 ghost use Rattle.list_length.specs.Counts.{Counts, TermCounts, NumbersOf};
 
 use definitions::TermList;
-use output::Written;
 use prefix_code::scan;
 use proof_term_lists::{Added, record_adds};
 use prop_lists::{NextEntry, next_entry};
@@ -82,16 +81,16 @@ fn number_count(list: TermList, entries: usize) -> usize
 }
 
 // How many numbers a list of a sheet's term has, or the refusal of the term, for every sequence of bytes.
-pub fn list_length(s: &[u8], list: TermList) -> Written
+pub fn list_length(s: &[u8], list: TermList) -> Result<usize, Refusal>
     ensures { result ≡ written_of (map_outcome (list_numbers list) (sheet_term s.now)) }
 {
     let mut terms = [0u16; TERM_NUMBERS];
     let found = sheet_term(s, &mut terms);
     match found {
-        SheetTerm::Refused(refusal) => Written::Refused(refusal),
+        SheetTerm::Refused(refusal) => Err(refusal),
         SheetTerm::Held(h, n) => {
             let entries = list_count(&terms, n, list, s, vocabulary(h));
-            Written::Length(number_count(list, entries))
+            Ok(number_count(list, entries))
         }
     }
 }

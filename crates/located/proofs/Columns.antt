@@ -11,8 +11,7 @@ use Rattle.definitions.specs.Answers.{names_step, column_of, located}
 use Rattle.definitions.specs.Sheet.{header_size, step_size, number_at, step_number, column, steps, name_pairs_start, proposition_pairs_start, steps_start, text_start, code_start, sheet_length, step_records}
 use Rattle.steps.specs.Records.{HasStep}
 use Rattle.sheet.specs.declared.header.Sheet.{Sheet}
-use Rattle.sheet.specs.declared.Checked.{Checked}
-use Rattle.sheet.specs.declared.Checked.TheVariants.{Accepted}
+use Rattle.std.specs.Prelude.{Result, Ok, ℕ}
 use Rattle.sheet.specs.Header.{header_of, HasHeader}
 use Rattle.sheet.specs.Checks.{answered, short_check}
 use Rattle.sheet.proofs.Slices.{lengths}
@@ -38,7 +37,7 @@ module _ {s : List ℕ} (has : HasHeader s (header_of s)) where
   whole_header = omega (arith, has.whole)
 
   -- reading it finds no byte missing
-  pub header_accepted : {r : Checked} → r ≡ answered (header_of s) (short_check s) → r ≡ Accepted (header_of s)
+  pub header_accepted : {r : Result Sheet Refusal} → r ≡ answered (header_of s) (short_check s) → r ≡ Ok (header_of s)
   unfolding answered short_check
   header_accepted e = e ∙ ap (answered (header_of s)) (not_refused_if 1 0 (le-ltb _ _ whole_header))
 

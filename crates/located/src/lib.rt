@@ -10,7 +10,7 @@ ghost use Rattle.located.specs.AfterHeader.{AfterHeader};
 
 use definitions::{Located, Refusal};
 use output::{put, put_all, put_decimal};
-use sheet::{Checked, Sheet, step_records};
+use sheet::{Sheet, step_records};
 use steps::step_at;
 
 // The place of refusals 9 to 15 is a step.
@@ -26,7 +26,7 @@ fn column_at(s: &[u8], k: usize) -> u16
     ensures { result ≡ column (step_records s.now) k }
 {
     let read = Sheet::header(s);
-    let Checked::Accepted(h) = read else {
+    let Ok(h) = read else {
         return 0;
     };
     if h.steps <= k {

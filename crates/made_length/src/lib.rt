@@ -12,7 +12,6 @@ ghost use Rattle.made_length.specs.Whole.{whole_graft, whole_exercise};
 use exercises::exercise;
 use grafting::{Merged, graft};
 use name_index::SLOT_COUNT;
-use output::Written;
 use restating::{Given, restate};
 use sheet::Sheet;
 
@@ -20,7 +19,7 @@ use sheet::Sheet;
 const EXERCISE_LIMIT: usize = 19;
 
 // How long the sheet with one more step is, or its refusal.
-pub fn restate_length(s: &[u8], given: Given) -> Written
+pub fn restate_length(s: &[u8], given: Given) -> Result<usize, Refusal>
     ensures { result ≡ written_of (restated s.now (given_of given)) }
 {
     let mut slots = [0u16; SLOT_COUNT];
@@ -38,7 +37,7 @@ pub fn graft_length<'a>(host: &'a [u8], k: usize, donor: &'a [u8]) -> Merged
 }
 
 // How long the code of an exercise is, or its refusal.
-pub fn exercise_length(names: &[u8], n: usize, ordinal: usize) -> Written
+pub fn exercise_length(names: &[u8], n: usize, ordinal: usize) -> Result<usize, Refusal>
     ensures { result ≡ written_of (whole_exercise names.now n ordinal) }
 {
     let mut out = [0u8; EXERCISE_LIMIT];

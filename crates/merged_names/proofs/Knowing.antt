@@ -1,14 +1,11 @@
 -- What an index of each sheet says of a donor name: the host holds it, the donor had it before, or it is new.
 use Prim.Native.Nat.{ℕ, ◌≤◌, ◌<◌}
 use mathlib.Core.Path.{◌≡◌, refl, sym, ap, ◌∙◌}
-use mathlib.Core.Option.{Option, none, some}
+use Rattle.std.specs.Prelude.{Option, None, Some, ℕ}
 use mathlib.Core.List.{List, [], ◌∷◌}
 use native.Mathlib.Omega.{arith}
 use lib.ListN.{length, get_or, length-append}
-use Rattle.definitions.specs.declared.Found.{Found}
-use Rattle.definitions.specs.declared.Found.TheVariants.{Nowhere, At}
 use Rattle.definitions.specs.Name.{Name}
-use Rattle.definitions.specs.Outcome.{found_at}
 use Rattle.definitions.specs.Sheet.{names, name_of, name_limit}
 use Rattle.definitions.specs.NameIndex as index
 use Rattle.definitions.specs.NameIndex.{plain_search}
@@ -22,57 +19,55 @@ use Rattle.vocabulary.specs.declared.Vocabulary.{Vocabulary}
 use Rattle.vocabulary.specs.Vocabulary.{name_in}
 use Rattle.merged_names.specs.Numbered.{Indexed, Numbered, Known, known, new}
 
-found_some : (o : Option ℕ) (i : ℕ) → At i ≡ found_at o → o ≡ some i
-unfolding found_at
-found_some none i e = absurd (let z : ◌≡◌ {A = ℕ} 0 1 = cc in omega arith)
-found_some (some j) i e = cc
+found_some : (o : Option ℕ) (i : ℕ) → Some i ≡ o → o ≡ Some i
+found_some None i e = absurd (let z : ◌≡◌ {A = ℕ} 0 1 = cc in omega arith)
+found_some (Some j) i e = cc
 
-found_none : (o : Option ℕ) → Nowhere ≡ found_at o → o ≡ none
-unfolding found_at
-found_none none e = refl
-found_none (some j) e = absurd (let z : ◌≡◌ {A = ℕ} 0 1 = cc in omega arith)
+found_none : (o : Option ℕ) → None ≡ o → o ≡ None
+found_none None e = refl
+found_none (Some j) e = absurd (let z : ◌≡◌ {A = ℕ} 0 1 = cc in omega arith)
 
 -- the index of a sheet answers as the plain search
-pub searched : {s : List ℕ} {v : Vocabulary} {slots : List ℕ} → Indexed s v slots → {r : Found} {x y : Name} → x ≡ y
-    → r ≡ found_at (index.find (name_in s v) slots x) → r ≡ found_at (plain_search (name_of s) (names s) y)
-searched {s} {v} {slots} a {r} {x} {y} same e = e ∙ ap found_at (rw (a.are_names, a.index, same) (sheet_agrees s y a.few))
+pub searched : {s : List ℕ} {v : Vocabulary} {slots : List ℕ} → Indexed s v slots → {r : Option ℕ} {x y : Name} → x ≡ y
+    → r ≡ (index.find (name_in s v) slots x) → r ≡ (plain_search (name_of s) (names s) y)
+searched {s} {v} {slots} a {r} {x} {y} same e = e ∙ ap (rw (a.are_names, a.index, same) (sheet_agrees s y a.few))
 
 -- what the donor's own index says of its name n
-module _ (d : List ℕ) (n : ℕ) {q : Found} (searched-there : q ≡ found_at (plain_search (name_of d) (names d) (name_of d n))) where
+module _ (d : List ℕ) (n : ℕ) {q : Option ℕ} (searched-there : q ≡ (plain_search (name_of d) (names d) (name_of d n))) where
   abbrev there : Option ℕ
   there = plain_search (name_of d) (names d) (name_of d n)
 
   -- a lowest number of equal bytes
-  lowest_there : (m : ℕ) → q ≡ At m → (m < names d) × (name_of d m ≡ name_of d n) × ((i : ℕ) → i < m → name_of d i ≡ name_of d n → ⊥)
+  lowest_there : (m : ℕ) → q ≡ Some m → (m < names d) × (name_of d m ≡ name_of d n) × ((i : ℕ) → i < m → name_of d i ≡ name_of d n → ⊥)
   lowest_there m is = go there (plain_search_lowest (name_of d) (names d) (name_of d n)) (found_some there m (sym is ∙ searched-there))
     where
-      go : (o : Option ℕ) → LowestNumber (name_of d) (names d) (name_of d n) o → o ≡ some m
+      go : (o : Option ℕ) → LowestNumber (name_of d) (names d) (name_of d n) o → o ≡ Some m
           → (m < names d) × (name_of d m ≡ name_of d n) × ((i : ℕ) → i < m → name_of d i ≡ name_of d n → ⊥)
-      go (some j) (is_lowest l e f) same = let z : j ≡ m = cc in rw (← z) (l, e, f)
-      go none (there_is_none f) same = absurd (let z : ◌≡◌ {A = ℕ} 0 1 = cc in omega arith)
+      go (Some j) (is_lowest l e f) same = let z : j ≡ m = cc in rw (← z) (l, e, f)
+      go None (there_is_none f) same = absurd (let z : ◌≡◌ {A = ℕ} 0 1 = cc in omega arith)
 
-  pub lowest_below : (m : ℕ) → q ≡ At m → m < names d
+  pub lowest_below : (m : ℕ) → q ≡ Some m → m < names d
   lowest_below m is = (lowest_there m is).0
 
   -- it holds that name
-  pub held_by_donor : n < names d → q ≡ Nowhere → ⊥
+  pub held_by_donor : n < names d → q ≡ None → ⊥
   held_by_donor below is = go there (plain_search_lowest (name_of d) (names d) (name_of d n)) (found_none there (sym is ∙ searched-there))
     where
-      go : (o : Option ℕ) → LowestNumber (name_of d) (names d) (name_of d n) o → o ≡ none → ⊥
-      go (some j) (is_lowest l e f) same = let z : ◌≡◌ {A = ℕ} 0 1 = cc in omega arith
-      go none (there_is_none f) same = f n below refl
+      go : (o : Option ℕ) → LowestNumber (name_of d) (names d) (name_of d n) o → o ≡ None → ⊥
+      go (Some j) (is_lowest l e f) same = let z : ◌≡◌ {A = ℕ} 0 1 = cc in omega arith
+      go None (there_is_none f) same = f n below refl
 
 module _ (h d : List ℕ) (n : ℕ) (few : names h ≤ name_limit) (few-donor : names d ≤ name_limit) (below : n < names d) where
   -- the host holds it
-  pub is_held : {r : Found} {i : ℕ} → r ≡ found_at (plain_search (name_of h) (names h) (name_of d n)) → r ≡ At i → Known h d n r
+  pub is_held : {r : Option ℕ} {i : ℕ} → r ≡ (plain_search (name_of h) (names h) (name_of d n)) → r ≡ Some i → Known h d n r
   unfolding name_limit
   is_held {r} {i} e is =
       let found = found_some (plain_search (name_of h) (names h) (name_of d n)) i (sym is ∙ e) in
       rw is (known (held_number h d n i found) (omega (arith, held_number h d n i found, renumbered_few h d n below)) (held_missing h d n i found))
 
-  module _ {q : Found} (searched-there : q ≡ found_at (plain_search (name_of d) (names d) (name_of d n))) where
+  module _ {q : Option ℕ} (searched-there : q ≡ (plain_search (name_of d) (names d) (name_of d n))) where
     -- the donor had it before
-    pub is_earlier : {m : ℕ} {numbers : List ℕ} → q ≡ At m → m < n → Numbered h d n numbers → Known h d n (At (get_or numbers m 0))
+    pub is_earlier : {m : ℕ} {numbers : List ℕ} → q ≡ Some m → m < n → Numbered h d n numbers → Known h d n (Some (get_or numbers m 0))
     unfolding name_limit
     is_earlier {m} {numbers} is l stored =
         let (b, e, f) = lowest_there d n searched-there m is in
@@ -80,8 +75,8 @@ module _ (h d : List ℕ) (n : ℕ) (few : names h ≤ name_limit) (few-donor : 
         known same (omega (arith, same, renumbered_few h d n below)) (earlier_missing h d m n l e)
 
     -- it is new
-    pub is_new : {r : Found} {m : ℕ} → r ≡ found_at (plain_search (name_of h) (names h) (name_of d n)) → r ≡ Nowhere → q ≡ At m → n ≤ m
-        → Known h d n Nowhere
+    pub is_new : {r : Option ℕ} {m : ℕ} → r ≡ (plain_search (name_of h) (names h) (name_of d n)) → r ≡ None → q ≡ Some m → n ≤ m
+        → Known h d n None
     is_new {r} {m} absent nowhere is l =
         let not-held = found_none (plain_search (name_of h) (names h) (name_of d n)) (sym nowhere ∙ absent) in
         let (b, e, f) = lowest_there d n searched-there m is in

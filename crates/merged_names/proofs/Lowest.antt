@@ -1,7 +1,7 @@
 -- With one sheet for host and donor, the numbers are the lowest of equal bytes.
 use Prim.Native.Nat.{ℕ, ◌≤◌, ◌<◌}
 use mathlib.Core.Path.{◌≡◌, refl, sym, ◌∙◌}
-use mathlib.Core.Option.{Option, none, some}
+use Rattle.std.specs.Prelude.{Option, None, Some}
 use mathlib.Core.List.{List}
 use lib.ListN.{get_or}
 use Rattle.definitions.specs.Sheet.{names, name_of, name_limit}
@@ -21,8 +21,8 @@ module _ (s : List ℕ) {numbers : List ℕ} (filled : Numbered s s (names s) nu
   lowest n l = go (plain_search (name_of s) (names s) (name_of s n)) (plain_search_lowest (name_of s) (names s) (name_of s n)) refl
     where
       go : (o : Option ℕ) → LowestNumber (name_of s) (names s) (name_of s n) o → plain_search (name_of s) (names s) (name_of s n) ≡ o → Lowest n
-      go (some i) (is_lowest b e f) is = let number = filled.stored n l ∙ held_number s s n i is in record { below = rw number b; same = rw number e }
-      go none (there_is_none f) is = absurd (f n l refl)
+      go (Some i) (is_lowest b e f) is = let number = filled.stored n l ∙ held_number s s n i is in record { below = rw number b; same = rw number e }
+      go None (there_is_none f) is = absurd (f n l refl)
 
   -- names of the same bytes have one number
   pub one_number : (m n : ℕ) → m < names s → n < names s → name_of s m ≡ name_of s n → get_or numbers m 0 ≡ get_or numbers n 0

@@ -6,8 +6,7 @@ use native.Mathlib.Omega.{arith}
 use native.Mathlib.Decide.{ℕ_discrete}
 use lib.ListN.{length, get_or, set, length-set}
 use lib.Seq.{get_or-set_same, get_or-set_other}
-use Rattle.definitions.specs.declared.Found.{Found}
-use Rattle.definitions.specs.declared.Found.TheVariants.{Nowhere, At}
+use Rattle.std.specs.Prelude.{Option, None, Some, ℕ}
 use Rattle.definitions.specs.Sheet.{names, name_limit}
 use Rattle.definitions.specs.Graft.{renumbered, missing}
 use Rattle.graft_laws.specs.Missing.{missing_below}
@@ -16,15 +15,15 @@ use Rattle.merged_names.specs.Numbered.{Numbered, Known, known, new}
 
 module _ (h d : List ℕ) (n : ℕ) where
   -- a number that is known, and a name that is new
-  pub has_number : {r : Found} {i : ℕ} → Known h d n r → r ≡ At i → (renumbered h d n ≡ i) × (i < 65536) × (missing_below h d (n + 1) ≡ missing_below h d n)
+  pub has_number : {r : Option ℕ} {i : ℕ} → Known h d n r → r ≡ Some i → (renumbered h d n ≡ i) × (i < 65536) × (missing_below h d (n + 1) ≡ missing_below h d n)
   has_number (known e b m) is = from e b m is
     where
-      from : {i j : ℕ} → renumbered h d n ≡ j → j < 65536 → missing_below h d (n + 1) ≡ missing_below h d n → At j ≡ At i
+      from : {i j : ℕ} → renumbered h d n ≡ j → j < 65536 → missing_below h d (n + 1) ≡ missing_below h d n → Some j ≡ Some i
           → (renumbered h d n ≡ i) × (i < 65536) × (missing_below h d (n + 1) ≡ missing_below h d n)
       from {i} {j} e b m is = let same : j ≡ i = cc in rw (← same) (e, b, m)
   has_number (new e m) is = absurd (let z : ◌≡◌ {A = ℕ} 0 1 = cc in omega arith)
 
-  pub has_none : {r : Found} → Known h d n r → r ≡ Nowhere
+  pub has_none : {r : Option ℕ} → Known h d n r → r ≡ None
       → (renumbered h d n ≡ names h + length (missing_below h d n)) × (length (missing_below h d (n + 1)) ≡ length (missing_below h d n) + 1)
   has_none (known e b m) is = absurd (let z : ◌≡◌ {A = ℕ} 0 1 = cc in omega arith)
   has_none (new e m) is = (e, m)
@@ -44,11 +43,11 @@ module _ (h d : List ℕ) (n : ℕ) where
         at m l (yes s) = rw s (get_or-set_same numbers n i 0 in_room ∙ sym e)
         at m l (no s) = get_or-set_other numbers n m i 0 s ∙ stored.stored m (omega arith)
 
-    pub known_stored : {r : Found} {i count : ℕ} → Known h d n r → r ≡ At i → count ≡ length (missing_below h d n)
+    pub known_stored : {r : Option ℕ} {i count : ℕ} → Known h d n r → r ≡ Some i → count ≡ length (missing_below h d n)
         → (count ≡ length (missing_below h d (n + 1))) × Numbered h d (n + 1) (set numbers n i)
     known_stored k is c = let (e, b, m) = has_number k is in (c ∙ ap length (sym m), one_more e)
 
-    pub new_stored : {r : Found} {first count : ℕ} → Known h d n r → r ≡ Nowhere → first ≡ names h → count ≡ length (missing_below h d n)
+    pub new_stored : {r : Option ℕ} {first count : ℕ} → Known h d n r → r ≡ None → first ≡ names h → count ≡ length (missing_below h d n)
         → (count + 1 ≡ length (missing_below h d (n + 1))) × Numbered h d (n + 1) (set numbers n (first + count))
     new_stored {r} {first} {count} k is f c =
         let (e, m) = has_none k is in

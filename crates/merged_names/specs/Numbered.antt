@@ -1,7 +1,5 @@
 -- What is known of the donor's names below a number, and of the next one.
-use Rattle.std.specs.Prelude.{ℕ, ◌+◌, ◌<◌, ◌≤◌, ◌≡◌, List, length, get_or}
-use Rattle.definitions.specs.declared.Found.{Found}
-use Rattle.definitions.specs.declared.Found.TheVariants.{Nowhere, At}
+use Rattle.std.specs.Prelude.{ℕ, ◌+◌, ◌<◌, ◌≤◌, ◌≡◌, List, length, get_or, Option, None, Some}
 use Rattle.definitions.specs.Sheet.{names, name_of, name_limit}
 use Rattle.definitions.specs.NameIndex.{slot_count, index_of}
 use Rattle.definitions.specs.Graft.{renumbered}
@@ -25,7 +23,7 @@ pub record Numbered (h d : List ℕ) (n : ℕ) (numbers : List ℕ) : Type 0 whe
   pub stored : (m : ℕ) → m < n → get_or numbers m 0 ≡ renumbered h d m
 
 -- what is answered of name n: the number that it has already, and no more are missing; or it is new, and its number is the next
-pub data Known (h d : List ℕ) (n : ℕ) : Found → Type 0 where
-  known : {i : ℕ} → renumbered h d n ≡ i → i < 65536 → missing_below h d (n + 1) ≡ missing_below h d n → Known h d n (At i)
+pub data Known (h d : List ℕ) (n : ℕ) : Option ℕ → Type 0 where
+  known : {i : ℕ} → renumbered h d n ≡ i → i < 65536 → missing_below h d (n + 1) ≡ missing_below h d n → Known h d n (Some i)
   new : renumbered h d n ≡ names h + length (missing_below h d n) → length (missing_below h d (n + 1)) ≡ length (missing_below h d n) + 1
-      → Known h d n Nowhere
+      → Known h d n None

@@ -2,15 +2,13 @@
 // sheet has its index beside it, so that a name is found at once.
 #![tactic(auto)]
 
-ghost use Rattle.std.specs.Prelude.{◌≡◌, true, false, cond, ◌+◌, ◌<◌, length, get_or};
-ghost use Rattle.definitions.specs.declared.Found.TheVariants.{At};
+ghost use Rattle.std.specs.Prelude.{◌≡◌, true, false, cond, ◌+◌, ◌<◌, length, get_or, Some};
 ghost use Rattle.definitions.specs.Sheet.{names};
 ghost use Rattle.definitions.specs.Graft.{missing};
 ghost use Rattle.graft_laws.specs.Missing.{missing_below};
 ghost use Rattle.vocabulary.specs.Vocabulary.{name_in, Names};
 ghost use Rattle.merged_names.specs.Numbered.{Indexed, Numbered, Known};
 
-use definitions::Found;
 use name_index::find;
 use vocabulary::{Vocabulary, name};
 
@@ -33,11 +31,11 @@ pub fn name_bytes<'a>(
 }
 
 // The number that is stored for a name.
-fn stored_number(numbers: &[u16], m: usize) -> Found
+fn stored_number(numbers: &[u16], m: usize) -> Option<usize>
     requires { m < length numbers.now }
-    ensures { result ≡ At (get_or numbers.now m 0) }
+    ensures { result ≡ Some (get_or numbers.now m 0) }
 {
-    Found::At(numbers[m] as usize)
+    Some(numbers[m] as usize)
 }
 
 // The number that donor name n has already: the host's of equal bytes, or that of an earlier name of the donor. A new name has none.
@@ -50,24 +48,24 @@ fn known_number(
     donor_slots: &[u16],
     numbers: &[u16],
     n: usize,
-) -> Found
+) -> Option<usize>
     requires indexed { Indexed host.now v host_slots.now × Indexed donor.now w donor_slots.now }
     requires n_bound { (n < names donor.now) × Numbered host.now donor.now n numbers.now }
     ensures { Known host.now donor.now n result }
 {
     let bytes = name(donor, w, n);
     let in_host = find(host_slots, host, v, bytes);
-    let Found::Nowhere = in_host else {
+    let None = in_host else {
         return in_host;
     };
     let in_donor = find(donor_slots, donor, w, bytes);
-    let Found::At(m) = in_donor else {
+    let Some(m) = in_donor else {
         return in_donor;
     };
     if m < n {
         return stored_number(numbers, m);
     }
-    Found::Nowhere
+    None
 }
 
 // Stores the number of donor name n, and answers how many names are missing up to it, where so many are missing before it.
@@ -89,7 +87,7 @@ fn number_name(
     ensures numbered { Numbered host.now donor.now (n + 1) numbers.new }
 {
     let known = known_number(host, v, host_slots, donor, w, donor_slots, numbers, n);
-    let Found::At(i) = known else {
+    let Some(i) = known else {
         numbers[n] = (v.name_count + missing) as u16;
         return missing + 1;
     };

@@ -14,7 +14,7 @@ use Rattle.definitions.specs.Graft.{merged_sheet}
 use Rattle.output.specs.Wrote.{Wrote, puts}
 use Rattle.output.specs.Written.{filled}
 use Rattle.sheet.specs.declared.header.Sheet.{Sheet}
-use Rattle.sheet.specs.declared.Checked.TheVariants.{Accepted, Refused}
+use Rattle.std.specs.Prelude.{Ok, Err}
 use Rattle.sheet.specs.Header.{header_of}
 use Rattle.merged_sheet.specs.Merging.{limited, headed, Merging}
 
@@ -32,17 +32,17 @@ module _ (s t : List ℕ) (k : ℕ) (deep : Bool) where
   inside_both e f = rw (e, f)
 
   pub passes-limit : (header_out_of_range M || deep) ≡ true → (room : ℕ) (before : List ℕ)
-      → Merging (limited s t k deep room) before before (Refused (record { number = 28; place = 0 }))
+      → Merging (limited s t k deep room) before before (Err (record { number = 28; place = 0 }))
   unfolding limited refuse_if ◌>>=◌ refuse headed filled
   passes-limit e room before = rw e (record { answer = refl; memory = refl })
 
   module _ (inside : (header_out_of_range M || deep) ≡ false) (before : List ℕ) where
-    pub no_room : length before < length M → Merging (limited s t k deep (length before)) before before (Refused (record { number = 16; place = 0 }))
+    pub no_room : length before < length M → Merging (limited s t k deep (length before)) before before (Err (record { number = 16; place = 0 }))
     unfolding limited is_in_room refuse_if ◌>>=◌ refuse headed filled
     no_room l = rw (inside, lt-ltb (length before) (length M) l) (record { answer = refl; memory = refl })
 
     pub written : {m : Sheet} {after text : List ℕ} {next : ℕ} → length M ≤ length before → m ≡ header_of M → text ≡ M → Wrote text true before 0 after next
-        → Merging (limited s t k deep (length before)) before after (Accepted m)
+        → Merging (limited s t k deep (length before)) before after (Ok m)
     unfolding limited is_in_room refuse_if ◌>>=◌ headed filled puts
     written {m} {after} l e f w =
         let stored : Wrote M true before 0 after _ = rw f at w in

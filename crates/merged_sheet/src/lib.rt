@@ -20,7 +20,7 @@ use number::PAIR_SIZE;
 use output::put_all;
 use renumbering::put_steps;
 use restating::put_header;
-use sheet::{Checked, Sheet, code_bytes, name_pairs, proposition_pairs, step_records, text_bytes};
+use sheet::{Sheet, code_bytes, name_pairs, proposition_pairs, step_records, text_bytes};
 use steps::STEP_SIZE;
 
 // The room for the pairs of the most names or propositions.
@@ -170,7 +170,7 @@ pub fn merge<'a>(
     numbers: &[u16],
     deep: bool,
     out: &mut [u8],
-) -> Checked
+) -> Result<Sheet, Refusal>
     requires accepted_sheet { AcceptedSheet host.now h × AcceptedSheet donor.now g × (not_open host.now k ≡ false) }
     requires numbered { Numbered host.now donor.now (names donor.now) numbers.now }
     ensures { Merging (limited host.now donor.now k deep (length out.old))
@@ -192,16 +192,16 @@ pub fn merge<'a>(
         &mut new_code,
     );
     if m.out_of_range() {
-        return Checked::Refused(Refusal::at(28, 0));
+        return Err(Refusal::at(28, 0));
     }
     if deep {
-        return Checked::Refused(Refusal::at(28, 0));
+        return Err(Refusal::at(28, 0));
     }
     if out.len() < m.layout().end {
-        return Checked::Refused(Refusal::at(16, 0));
+        return Err(Refusal::at(16, 0));
     }
     let after_pairs = put_pairs(host, h, m, &new_names, &new_propositions, out);
     let after_records = put_records(host, h, k, donor, g, numbers, out, after_pairs);
     put_text_and_code(host, h, m, &new_text, &new_code, out, after_records);
-    Checked::Accepted(m)
+    Ok(m)
 }

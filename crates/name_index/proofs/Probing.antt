@@ -2,7 +2,7 @@
 use Rattle.std.proofs.Common.{◌≡◌, ℕ, zero, suc, ◌+◌, ◌-◌, ◌%◌, ◌<◌, ◌≤◌, Bool, true, false, cond, eqb, List, [], ◌∷◌, length, get_or, sym, refl, ◌∙◌, arith, eq-eqb, ne_eqb}
 use Rattle.definitions.specs.Name.{Name, eq_name}
 use Rattle.definitions.specs.NameIndex.{start_slot, slot_count, free, slot_at, find_from, find, free_from}
-use Rattle.name_index.specs.declared.Probed.TheVariants.{Held, Absent}
+use Rattle.std.specs.Prelude.{Ok, Err}
 use Rattle.name_index.specs.Probed.{held_or, probed}
 
 any_default : (l : List ℕ) (i d e : ℕ) → i < length l → get_or l i d ≡ get_or l i e
@@ -78,13 +78,13 @@ module _ (name : ℕ → Name) (slots : List ℕ) (x : Name) where
     taken_here taken = ne_eqb _ _ (λ e. taken (sym here ∙ e))
 
     -- a free slot: the name is absent, and would enter here
-    pub at_free : counter < slot_count → get_or slots at 0 ≡ free → Absent at ≡ probed name slots x
+    pub at_free : counter < slot_count → get_or slots at 0 ≡ free → Err at ≡ probed name slots x
     unfolding probed held_or find_from free_from
     at_free h e = rw (w.finds, w.frees, one_less h, eq-eqb _ _ (here ∙ e), own_place at w.below)
 
     -- the slot of an equal name
     pub at_equal : counter < slot_count → (get_or slots at 0 ≡ free → ⊥) → eq_name (name (get_or slots at 0)) x ≡ true
-        → Held (get_or slots at 0) ≡ probed name slots x
+        → Ok (get_or slots at 0) ≡ probed name slots x
     unfolding probed held_or find_from
     at_equal h taken same = rw (w.finds, one_less h, taken_here taken, here, same)
 
@@ -105,7 +105,7 @@ module _ (name : ℕ → Name) (slots : List ℕ) (x : Name) where
         }
 
     -- all slots hold other names
-    pub past_all : slot_count ≤ counter → Absent at ≡ probed name slots x
+    pub past_all : slot_count ≤ counter → Err at ≡ probed name slots x
     unfolding probed held_or find_from free_from
     past_all h = rw (w.finds, w.frees, none_left h, own_place at w.below)
 

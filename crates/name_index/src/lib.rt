@@ -2,14 +2,12 @@
 #![tactic(auto)]
 
 ghost use Rattle.std.specs.Prelude.{◌≡◌, ◌+◌, ◌*◌, ◌%◌, ◌<◌, ◌≤◌, length, take, drop, replicate};
-ghost use Rattle.definitions.specs.Outcome.{found_at};
 ghost use Rattle.definitions.specs.Sheet.{name_limit};
 ghost use Rattle.definitions.specs.NameIndex as names;
 ghost use Rattle.definitions.specs.NameIndex.{wrap, start_slot, slot_count, free, index};
 ghost use Rattle.vocabulary.specs.Vocabulary.{name_in, Within};
 ghost use Rattle.name_index.specs.Probed.{probed};
 
-use definitions::Found;
 use identifier::same_name;
 use number::{pair_length, pair_offset};
 use vocabulary::{Vocabulary, pairs_of, text_of};
@@ -78,15 +76,8 @@ fn any_name(bytes: &[u8], v: Vocabulary, i: usize) -> &[u8]
     )
 }
 
-// What probing comes to: the number of a name with equal bytes, or the slot that the name would enter.
-#[derive(Drop)]
-pub enum Probed {
-    Held(usize),
-    Absent(usize),
-}
-
 // Steps over taken slots from a name's start slot on, round the end, up to its equal or a free slot.
-pub fn probe(slots: &[u16], bytes: &[u8], v: Vocabulary, name: &[u8]) -> Probed
+pub fn probe(slots: &[u16], bytes: &[u8], v: Vocabulary, name: &[u8]) -> Result<usize, usize>
     requires { (length slots.now ≡ slot_count) × Within bytes.now v }
     ensures { result ≡ probed (name_in bytes.now v) slots.now name.now }
 {
@@ -94,25 +85,25 @@ pub fn probe(slots: &[u16], bytes: &[u8], v: Vocabulary, name: &[u8]) -> Probed
     for _ in 0..SLOT_COUNT {
         let number = slots[at];
         if number == FREE {
-            return Probed::Absent(at);
+            return Err(at);
         }
         let i = number as usize;
         if same_name(any_name(bytes, v, i), name) {
-            return Probed::Held(i);
+            return Ok(i);
         }
         at = (at + 1) % SLOT_COUNT;
     }
-    Probed::Absent(at)
+    Err(at)
 }
 
 // What an index answers: the number of a name with equal bytes, or that there is none.
-pub fn find(slots: &[u16], bytes: &[u8], v: Vocabulary, name: &[u8]) -> Found
+pub fn find(slots: &[u16], bytes: &[u8], v: Vocabulary, name: &[u8]) -> Option<usize>
     requires { (length slots.now ≡ slot_count) × Within bytes.now v }
-    ensures { result ≡ found_at (names.find (name_in bytes.now v) slots.now name.now) }
+    ensures { result ≡ (names.find (name_in bytes.now v) slots.now name.now) }
 {
     match probe(slots, bytes, v, name) {
-        Probed::Held(i) => Found::At(i),
-        Probed::Absent(_) => Found::Nowhere,
+        Ok(i) => Some(i),
+        Err(_) => None,
     }
 }
 
@@ -122,7 +113,7 @@ pub fn enter(slots: &mut [u16], bytes: &[u8], v: Vocabulary, i: usize)
     requires slots_value { slots.old ≡ index (name_in bytes.now v) i }
     ensures { slots.new ≡ index (name_in bytes.now v) (i + 1) }
 {
-    let Probed::Absent(at) = probe(slots, bytes, v, any_name(bytes, v, i)) else {
+    let Err(at) = probe(slots, bytes, v, any_name(bytes, v, i)) else {
         return;
     };
     slots[at] = i as u16;

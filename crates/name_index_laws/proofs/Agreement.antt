@@ -2,7 +2,7 @@
 use Prim.Native.Nat.{ℕ, zero, suc, ◌+◌, ◌≤◌, ◌<◌}
 use mathlib.Core.Path.{◌≡◌, refl, sym, ap, ◌∙◌}
 use mathlib.Core.Bool.{Bool, true, false, cond}
-use mathlib.Core.Option.{Option, none, some}
+use Rattle.std.specs.Prelude.{Option, None, Some}
 use mathlib.Core.List.{List}
 use native.Mathlib.Omega.{arith}
 use lib.Dec.{eqb}
@@ -19,13 +19,13 @@ use Rattle.name_index_laws.proofs.Entering.{indexed}
 module _ (name : ℕ → Name) where
   module _ {n : ℕ} {slots : List ℕ} (w : Indexed name n slots) (x : Name) where
     -- no name has these bytes
-    finds_none : ((i : ℕ) → i < n → name i ≡ x → ⊥) → (more at : ℕ) → find_from name slots x more at ≡ none
+    finds_none : ((i : ℕ) → i < n → name i ≡ x → ⊥) → (more at : ℕ) → find_from name slots x more at ≡ None
     unfolding find_from
     finds_none absent zero at = refl
     finds_none absent (suc more) at = go (eqb (slot_at slots at) free) refl (finds_none absent more (at + 1))
       where
-        go : (b : Bool) → eqb (slot_at slots at) free ≡ b → find_from name slots x more (at + 1) ≡ none
-            → cond b none (cond (eq_name (name (slot_at slots at)) x) (some (slot_at slots at)) (find_from name slots x more (at + 1))) ≡ none
+        go : (b : Bool) → eqb (slot_at slots at) free ≡ b → find_from name slots x more (at + 1) ≡ None
+            → cond b None (cond (eq_name (name (slot_at slots at)) x) (Some (slot_at slots at)) (find_from name slots x more (at + 1))) ≡ None
         go true is again = refl
         go false is again =
             let below = (w.entered at (eqb-false (slot_at slots at) free is)).0 in
@@ -34,7 +34,7 @@ module _ (name : ℕ → Name) where
     -- name j is the first with these bytes, and stands so many slots on
     module _ (j : ℕ) (small : j < free) (same : name j ≡ x) (first : First name j) where
       finds_it : (steps more at : ℕ) → steps < more → slot_at slots (at + steps) ≡ j → AllTaken slots at steps
-          → find_from name slots x more at ≡ some j
+          → find_from name slots x more at ≡ Some j
       unfolding find_from
       finds_it steps zero at h here before = absurd (omega arith)
       finds_it zero (suc more) at h here before =
@@ -51,8 +51,8 @@ module _ (name : ℕ → Name) where
           taken_here : slot_at slots at ≡ free → ⊥
           taken_here = let z : at + 0 ≡ at = omega arith in rw z at (before 0 (omega arith))
 
-          go : (b : Bool) → eq_name (name (slot_at slots at)) x ≡ b → find_from name slots x more (at + 1) ≡ some j
-              → cond (eqb (slot_at slots at) free) none (cond b (some (slot_at slots at)) (find_from name slots x more (at + 1))) ≡ some j
+          go : (b : Bool) → eq_name (name (slot_at slots at)) x ≡ b → find_from name slots x more (at + 1) ≡ Some j
+              → cond (eqb (slot_at slots at) free) None (cond b (Some (slot_at slots at)) (find_from name slots x more (at + 1))) ≡ Some j
           go true is again =
               let is-first = (w.entered at taken_here).1 in
               let z : slot_at slots at ≡ j = one_first name _ j is-first first (eq_name_true is ∙ sym same) in

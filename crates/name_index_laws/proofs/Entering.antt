@@ -1,7 +1,7 @@
 -- Names enter one after the other, and the index stays one.
 use Prim.Native.Nat.{ℕ, zero, suc, ◌+◌, ◌%◌, ◌≤◌, ◌<◌}
 use mathlib.Core.Path.{◌≡◌, refl, sym, ◌∙◌}
-use mathlib.Core.Option.{Option, none, some}
+use Rattle.std.specs.Prelude.{Option, None, Some}
 use mathlib.Core.Bool.{cond}
 use mathlib.Core.List.{List}
 use native.Mathlib.Omega.{arith}
@@ -130,8 +130,8 @@ module _ (name : ℕ → Name) where
       where
         go : (o : Option ℕ) → plain_search name n (name n) ≡ o
             → Indexed name (suc n) (cond (is_none o) (set slots place n) slots)
-        go none is = entering is
-        go (some i) is = repeating (λ f. let z : ◌≡◌ {A = ℕ} 0 1 = cc in omega arith)
+        go None is = entering is
+        go (Some i) is = repeating (λ f. let z : ◌≡◌ {A = ℕ} 0 1 = cc in omega arith)
 
   empty_slot : (at : ℕ) → slot_at (replicate slot_count free) at ≡ free
   unfolding slot_at slot_count

@@ -2,7 +2,7 @@
 use Prim.Native.Nat.{ℕ, zero, suc, ◌<◌}
 use mathlib.Core.Path.{◌≡◌, refl, sym, ◌∙◌}
 use mathlib.Core.Bool.{Bool, true, false}
-use mathlib.Core.Option.{Option, none, some}
+use Rattle.std.specs.Prelude.{Option, None, Some}
 use native.Mathlib.Omega.{arith}
 use Rattle.definitions.specs.Outcome.{first_of, lowest}
 use Rattle.definitions.specs.Name.{Name, eq_name}
@@ -18,20 +18,20 @@ pub record Found (test : ℕ → Bool) (count place : ℕ) : Type 0 where
   pub holds : test place ≡ true
   pub earlier : (i : ℕ) → i < place → test i ≡ false
 
-pub found : (test : ℕ → Bool) (count place : ℕ) → lowest test count ≡ some place → Found test count place
+pub found : (test : ℕ → Bool) (count place : ℕ) → lowest test count ≡ Some place → Found test count place
 unfolding lowest first_of
 found test zero place e = absurd (let z : ◌≡◌ {A = ℕ} 0 1 = cc in omega arith)
 found test (suc count) place e = go (lowest test count) (test count) refl refl e (found test count place)
   where
-    go : (o : Option ℕ) (b : Bool) → lowest test count ≡ o → test count ≡ b → first_of o b count ≡ some place
-        → (lowest test count ≡ some place → Found test count place) → Found test (suc count) place
-    go (some j) b is here f below =
+    go : (o : Option ℕ) (b : Bool) → lowest test count ≡ o → test count ≡ b → first_of o b count ≡ Some place
+        → (lowest test count ≡ Some place → Found test count place) → Found test (suc count) place
+    go (Some j) b is here f below =
         let w = below (is ∙ f) in
         record { within = omega (arith, w.within); holds = w.holds; earlier = w.earlier }
-    go none true is here f below =
+    go None true is here f below =
         let last : count ≡ place = cc in
         record { within = omega arith; holds = rw (← last) here; earlier = λ i l. all_fail test count is i (omega arith) }
-    go none false is here f below = absurd (let z : ◌≡◌ {A = ℕ} 0 1 = cc in omega arith)
+    go None false is here f below = absurd (let z : ◌≡◌ {A = ℕ} 0 1 = cc in omega arith)
 
 module _ (name : ℕ → Name) where
   -- the plain search answers the lowest number with equal bytes, or that there is none
@@ -40,8 +40,8 @@ module _ (name : ℕ → Name) where
   plain_search_lowest n x = go (lowest (λ i. eq_name (name i) x) n) refl
     where
       go : (o : Option ℕ) → lowest (λ i. eq_name (name i) x) n ≡ o → LowestNumber name n x o
-      go none is = there_is_none (λ i l. eq_name_false (all_fail _ n is i l))
-      go (some j) is =
+      go None is = there_is_none (λ i l. eq_name_false (all_fail _ n is i l))
+      go (Some j) is =
           let w = found (λ i. eq_name (name i) x) n j is in
           is_lowest w.within (eq_name_true w.holds) (λ i l. eq_name_false (w.earlier i l))
 
@@ -54,9 +54,9 @@ module _ (name : ℕ → Name) where
   unfolding First plain_search
   apart_first j apart = go (lowest (λ i. eq_name (name i) (name j)) j) refl
     where
-      go : (o : Option ℕ) → lowest (λ i. eq_name (name i) (name j)) j ≡ o → o ≡ none
-      go none is = refl
-      go (some i) is =
+      go : (o : Option ℕ) → lowest (λ i. eq_name (name i) (name j)) j ≡ o → o ≡ None
+      go None is = refl
+      go (Some i) is =
           let w = found (λ i. eq_name (name i) (name j)) j i is in
           absurd (apart i w.within (eq_name_true w.holds))
 

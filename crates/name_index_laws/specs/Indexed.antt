@@ -1,6 +1,5 @@
 -- Ticket 14: what holds of the index of the names below a count.
-use Rattle.std.specs.Prelude.{ℕ, ◌+◌, ◌≤◌, ◌<◌, ◌≡◌, cond, List, [], ◌∷◌, length, eqb}
-use Rattle.std.proofs.Math.Option.{none}
+use Rattle.std.specs.Prelude.{ℕ, ◌+◌, ◌≤◌, ◌<◌, ◌≡◌, cond, List, [], ◌∷◌, length, eqb, None}
 use Rattle.definitions.specs.Name.{Name}
 use Rattle.definitions.specs.NameIndex.{slot_count, free, start_slot, slot_at, plain_search}
 
@@ -16,7 +15,7 @@ AllTaken slots at more = (i : ℕ) → i < more → slot_at slots (at + i) ≡ f
 module _ (name : ℕ → Name) where
   -- no earlier name has its bytes
   unfoldable pub First : ℕ → Type 0
-  First i = plain_search name i (name i) ≡ none
+  First i = plain_search name i (name i) ≡ None
 
   -- where name j stands: so many slots on from its start slot, and those before it are taken
   pub record Stands (slots : List ℕ) (j : ℕ) : Type 0 where

@@ -2,8 +2,8 @@
 use mathlib.Core.Path.{◌≡◌, refl, ap, ◌∙◌}
 use mathlib.Core.Bool.{Bool, true, false, cond}
 use mathlib.Core.List.{List, [], ◌∷◌, map}
-use Rattle.definitions.specs.declared.Order.{Order}
-use Rattle.definitions.specs.declared.Order.TheVariants.{Less, Equal, Greater}
+use Rattle.std.specs.declared.cmp.Ordering.{Ordering}
+use Rattle.std.specs.declared.cmp.Ordering.TheVariants.{Less, Equal, Greater}
 use Rattle.definitions.specs.declared.Version.{Version}
 use Rattle.definitions.specs.declared.Version.TheVariants.{First, Second, Third}
 use Rattle.definitions.specs.Name.{Name, compare_number, or_else, compare_name, is_greater}
@@ -14,7 +14,7 @@ use Rattle.definitions.specs.Text.{compare_atom_use, arranged}
 abbrev pub as_use : Name → AtomUse Name
 as_use n = record { name = n; count = 0 }
 
-or_equal : (o : Order) → or_else o Equal ≡ o
+or_equal : (o : Ordering) → or_else o Equal ≡ o
 unfolding or_else
 or_equal Less = refl
 or_equal Equal = refl

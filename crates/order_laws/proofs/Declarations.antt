@@ -8,7 +8,7 @@ use mathlib.Core.List.{List, [], ◌∷◌}
 use native.Mathlib.Omega.{arith}
 use borrow.Author.Tests.{eqb-true, eq-eqb}
 use lib.Dec.{eqb}
-use Rattle.definitions.specs.declared.Order.{Order}
+use Rattle.std.specs.declared.cmp.Ordering.{Ordering}
 use Rattle.definitions.specs.Collection.{In, here, later, Once}
 use Rattle.definitions.specs.Name.{Name, eq_name, compare_name}
 use Rattle.definitions.specs.Prop.{AtomUse}
@@ -94,7 +94,7 @@ module _ {A : Type 0} (same : A → A → Bool) (decides : (a b : A) → (same a
   unfolding firsts SameCollection
   firsts_same l b = ((λ h. (after_in b [] l h).0), (λ h. in_after b [] l h nothing_in))
 
-  pub sorted_as : (compare : A → A → Order) → Lawful compare → (l : List A) → SortedAs same compare l
+  pub sorted_as : (compare : A → A → Ordering) → Lawful compare → (l : List A) → SortedAs same compare l
   unfolding arranged
   sorted_as compare order l =
       record {

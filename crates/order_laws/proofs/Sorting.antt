@@ -5,8 +5,8 @@ use mathlib.Core.Bool.{Bool, true, false, cond}
 use mathlib.Core.List.{List, [], ◌∷◌}
 use Prim.Native.Nat.{ℕ}
 use native.Mathlib.Omega.{arith}
-use Rattle.definitions.specs.declared.Order.{Order}
-use Rattle.definitions.specs.declared.Order.TheVariants.{Less, Equal, Greater}
+use Rattle.std.specs.declared.cmp.Ordering.{Ordering}
+use Rattle.std.specs.declared.cmp.Ordering.TheVariants.{Less, Equal, Greater}
 use Rattle.definitions.specs.Name.{is_greater}
 use Rattle.definitions.specs.Collection.{In, here, later, Once}
 use Rattle.definitions.specs.Sorting.{insert, sort}
@@ -14,7 +14,7 @@ use Rattle.definitions.proofs.Collections.{nothing_in}
 use Rattle.order_laws.specs.Ordered.{flip, LessThanFirst, Ascending, Lawful}
 use Rattle.order_laws.specs.Sorted.{SameCollection}
 
-module _ {A : Type 0} (compare : A → A → Order) where
+module _ {A : Type 0} (compare : A → A → Ordering) where
   -- what stands in a list after an insertion
   insert_new : (a : A) (l : List A) → In a (insert compare a l)
   unfolding insert
@@ -94,7 +94,7 @@ module _ {A : Type 0} (compare : A → A → Order) where
     insert_ascends a [] new s = (tt, tt)
     insert_ascends a (b ∷ l) new s = go (insert_ascends a l (λ h. new (later h)) s.1) (compare a b) refl
       where
-        go : Ascending compare (insert compare a l) → (o : Order) → compare a b ≡ o
+        go : Ascending compare (insert compare a l) → (o : Ordering) → compare a b ≡ o
             → Ascending compare (cond (is_greater o) (b ∷ insert compare a l) (a ∷ (b ∷ l)))
         go again Less e = (e, s)
         go again Equal e = absurd (new (here (order.same a b e)))

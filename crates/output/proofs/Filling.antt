@@ -7,19 +7,19 @@ use lib.ListN.{length}
 use Rattle.definitions.specs.declared.Refusal.{Refusal}
 use Rattle.definitions.specs.Outcome.{Outcome, accepted, refused, refuse, ◌>>=◌}
 use Rattle.definitions.specs.Answers.{is_in_room}
-use Rattle.output.specs.declared.Written.TheVariants.{Length, Refused}
+use Rattle.std.specs.Prelude.{Ok, Err}
 use Rattle.output.specs.Wrote.{Wrote}
 use Rattle.output.specs.Written.{written_of, filled, Fills}
 use Rattle.output.proofs.Writing.{measured}
 
 -- what is refused before anything is written
-pub refuses : {outcome : Outcome (List ℕ)} {r : Refusal} → outcome ≡ refused r → (room : ℕ) (before : List ℕ) → Fills (is_in_room room outcome) before before (Refused r)
+pub refuses : {outcome : Outcome (List ℕ)} {r : Refusal} → outcome ≡ refused r → (room : ℕ) (before : List ℕ) → Fills (is_in_room room outcome) before before (Err r)
 unfolding is_in_room ◌>>=◌ written_of filled
 refuses e room before = rw e (record { answer = refl; memory = refl })
 
 module _ {text before dry : List ℕ} {end : ℕ} (d : Wrote text false before 0 dry end) where
   -- the dry run ends past the memory
-  pub too_long : length before < end → Fills (is_in_room (length before) (accepted text)) before dry (Refused (record { number = 16; place = 0 }))
+  pub too_long : length before < end → Fills (is_in_room (length before) (accepted text)) before dry (Err (record { number = 16; place = 0 }))
   unfolding refuse written_of filled
   too_long h =
       let m = measured d in
@@ -27,7 +27,7 @@ module _ {text before dry : List ℕ} {end : ℕ} (d : Wrote text false before 0
 
   -- it ends within, and then the text is written
   pub fills : {after : List ℕ} {next : ℕ} → end ≤ length before → Wrote text true dry 0 after next
-      → Fills (is_in_room (length before) (accepted text)) before after (Length end)
+      → Fills (is_in_room (length before) (accepted text)) before after (Ok end)
   unfolding written_of filled
   fills h w =
       let m = measured d in

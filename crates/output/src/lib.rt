@@ -11,13 +11,6 @@ ghost use Rattle.output.specs.Wrote.{puts, Wrote};
 
 use definitions::Refusal;
 
-// What an operation answers that fills lent memory: the length of its answer, which stands at the start, or a refusal.
-#[derive(Drop)]
-pub enum Written {
-    Length(usize),
-    Refused(Refusal),
-}
-
 // One byte.
 pub fn put(out: &mut [u8], to: usize, b: u8, write: bool) -> usize
     ensures { Wrote (b ∷ []) write out.old to out.new result }

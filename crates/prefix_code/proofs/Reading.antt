@@ -3,8 +3,7 @@ use Prim.Native.Nat.{ℕ, ◌+◌, ◌≤◌, ◌<◌}
 use mathlib.Core.Path.{◌≡◌, refl, sym, ap, ◌∙◌}
 use mathlib.Core.Logic.{by_cases}
 use mathlib.Core.Bool.{false}
-use mathlib.Core.Option
-use mathlib.Core.Option.{Option, none, some}
+use Rattle.std.specs.Prelude.{unwrap_or, Option, None, Some}
 use mathlib.Core.List.{List}
 use native.Mathlib.Omega.{arith}
 use native.Mathlib.Decide.{dec_lt}
@@ -47,10 +46,10 @@ part_bytes n k l bytes i = by_cases (dec_lt i n)
     (λ h. rw (get_or-take n (drop k l) i 0 h, get_or-drop) (bytes (k + i)))
     (λ h. rw (get_or-eq_default (take n (drop k l)) 0 {n = i} (omega (arith, length-take n (drop k l)))) (omega arith))
 
-pub is_some : {A : Type 0} (o : Option A) → is_none o ≡ false → (a : A) × (o ≡ some a)
+pub is_some : {A : Type 0} (o : Option A) → is_none o ≡ false → (a : A) × (o ≡ Some a)
 unfolding is_none
-is_some none h = let z : ◌≡◌ {A = ℕ} 0 1 = cc in absurd (omega arith)
-is_some (some a) h = (a, refl)
+is_some None h = let z : ◌≡◌ {A = ℕ} 0 1 = cc in absurd (omega arith)
+is_some (Some a) h = (a, refl)
 
 -- Of a pair that marks the code of one proposition:
 module _ (names : ℕ) (pairs code : List ℕ) (i : ℕ) (bytes : Bytes code) (coded : is_none (decode names (marked pairs code i)) ≡ false) where
@@ -65,7 +64,7 @@ module _ (names : ℕ) (pairs code : List ℕ) (i : ℕ) (bytes : Bytes code) (c
   standing =
       let (p, e) = is_some (decode names (marked pairs code i)) coded in
       let (same, codable) = encode_decode names (marked pairs code i) p (part_bytes (pair_length pairs i) (pair_offset pairs i) code bytes) e in
-      let is : prop_in names pairs code i ≡ p = ap (λ (o : Option (Prop ℕ)). Option.get_or o False) e in
+      let is : prop_in names pairs code i ≡ p = ap (λ (o : Option (Prop ℕ)). unwrap_or o False) e in
       record {
         rest = drop (pair_length pairs i) (drop (pair_offset pairs i) code);
         stands = rw (is, same) (codable, sym (take-append-drop (pair_length pairs i) (drop (pair_offset pairs i) code)));

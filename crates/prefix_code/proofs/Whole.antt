@@ -2,7 +2,7 @@
 use Prim.Native.Nat.{ℕ, ◌*◌, ◌≤◌, ◌<◌}
 use mathlib.Core.Path.{◌≡◌, refl, sym, ap, ◌∙◌}
 use mathlib.Core.Bool.{false, not}
-use mathlib.Core.Option.{Option, none, some, get_or}
+use Rattle.std.specs.Prelude.{Option, None, Some, unwrap_or}
 use mathlib.Core.List.{List, [], ◌∷◌, append-nil}
 use native.Mathlib.Omega.{arith}
 use native.Mathlib.Decide.{dec_lt}
@@ -19,20 +19,20 @@ use Rattle.prefix_code.proofs.Reading.{is_some}
 
 module _ (names : ℕ) (l : List ℕ) (bytes : Bytes l) where
   -- bytes that decode are the code of what they decode to
-  decoded : (p : Prop ℕ) → decode names l ≡ some p → At names l 0 p []
+  decoded : (p : Prop ℕ) → decode names l ≡ Some p → At names l 0 p []
   unfolding Stands
   decoded p e =
       let w = encode_decode names l p bytes e in
       (w.1, sym (append-nil (encode p) ∙ w.0))
 
   -- a code over the whole length decodes
-  whole_decodes : (p : Prop ℕ) (rest : List ℕ) → At names l 0 p rest → length (encode p) ≡ length l → decode names l ≡ some p
+  whole_decodes : (p : Prop ℕ) (rest : List ℕ) → At names l 0 p rest → length (encode p) ≡ length l → decode names l ≡ Some p
   unfolding Stands
   whole_decodes p [] (g, e) h = rw (e, append-nil) (decode_encode names p g)
   whole_decodes p (x ∷ rest) (g, e) h = absurd (omega (arith, simp length-append at (ap length e)))
 
   -- the code of what they decode to is as long as they are
-  decoded_length : (p : Prop ℕ) → decode names l ≡ some p → length (encode p) ≡ length l
+  decoded_length : (p : Prop ℕ) → decode names l ≡ Some p → length (encode p) ≡ length l
   decoded_length p e = ap length (encode_decode names l p bytes e).0
 
   pub scanned_whole : (r : ℕ) → Scanned names l 0 r → eqb r (length l) ≡ not (is_none (decode names l))
@@ -40,20 +40,20 @@ module _ (names : ℕ) (l : List ℕ) (bytes : Bytes l) where
   scanned_whole r s = go (decode names l) refl
     where
       go : (d : Option (Prop ℕ)) → decode names l ≡ d → eqb r (length l) ≡ not (is_none d)
-      go none e = ne_eqb r (length l) λ h.
+      go None e = ne_eqb r (length l) λ h.
           let (p, rest, t, end) = s.only (omega arith) in
           let d = whole_decodes p rest t (omega arith) in
           let z : ◌≡◌ {A = ℕ} 0 1 = cc in
           omega arith
-      go (some p) e = eq-eqb r (length l) (omega (arith, s.found p [] (decoded p e), decoded_length p e))
+      go (Some p) e = eq-eqb r (length l) (omega (arith, s.found p [] (decoded p e), decoded_length p e))
 
   pub shallow_whole : (depth r : ℕ) → is_none (decode names l) ≡ false → Ends (shallow_coding names depth) l 0 r
-      → ltb (length l) r ≡ ltb depth (nesting (get_or (decode names l) False))
+      → ltb (length l) r ≡ ltb depth (nesting (unwrap_or (decode names l) False))
   unfolding Stands Shallow
   shallow_whole depth r is s =
       let (p, e) = is_some (decode names l) is in rw e (by p e (dec_lt (length l) r) (dec_lt depth (nesting p)))
     where
-      by : (p : Prop ℕ) → decode names l ≡ some p → Dec (length l < r) → Dec (depth < nesting p)
+      by : (p : Prop ℕ) → decode names l ≡ Some p → Dec (length l < r) → Dec (depth < nesting p)
           → ltb (length l) r ≡ ltb depth (nesting p)
       by p e (yes past) (yes deep) = lt-ltb (length l) r past ∙ sym (lt-ltb depth (nesting p) deep)
       by p e (no inside) (no flat) = le-ltb (length l) r (omega arith) ∙ sym (le-ltb depth (nesting p) (omega arith))
@@ -68,7 +68,7 @@ module _ (names : ℕ) (l : List ℕ) (bytes : Bytes l) where
 
   -- short code nests no deeper
   pub short_whole : (depth : ℕ) → is_none (decode names l) ≡ false → length l ≤ 2 * depth
-      → false ≡ ltb depth (nesting (get_or (decode names l) False))
+      → false ≡ ltb depth (nesting (unwrap_or (decode names l) False))
   short_whole depth is short =
       let (p, e) = is_some (decode names l) is in
       rw e (sym (le-ltb depth (nesting p) (omega (arith, two_bytes_a_level p, decoded_length p e))))

@@ -1,8 +1,7 @@
 // A proposition's prefix code: where it ends, whether it is one, and whether it nests too deep.
 #![tactic(auto)]
 
-ghost use Rattle.std.specs.Prelude.{◌≡◌, ℕ, ◌≤◌, ◌<◌, false, not, length, ltb};
-ghost use Rattle.std.proofs.Math.Option.{get_or};
+ghost use Rattle.std.specs.Prelude.{◌≡◌, ℕ, ◌≤◌, ◌<◌, false, not, length, ltb, unwrap_or};
 ghost use Rattle.definitions.specs.Prop.{False, nesting};
 ghost use Rattle.definitions.specs.Code.{decode};
 ghost use Rattle.definitions.specs.Admission.{is_none};
@@ -176,7 +175,7 @@ pub fn is_code(code: &[u8], names: usize) -> bool
 // least two bytes, so short code nests no deeper.
 pub fn is_deep(code: &[u8], names: usize, limit: usize) -> bool
     requires { is_none (decode names code.now) ≡ false }
-    ensures { result ≡ ltb limit (nesting (get_or (decode names code.now) False)) }
+    ensures { result ≡ ltb limit (nesting (unwrap_or (decode names code.now) False)) }
 {
     if code.len() / 2 < limit {
         return false;

@@ -2,7 +2,7 @@
 use Prim.Native.Nat.{ℕ, zero, suc, ◌+◌, ◌≤◌}
 use mathlib.Core.Path.{◌≡◌, refl, ap, ◌∙◌}
 use mathlib.Core.Bool.{Bool, true, false, cond}
-use mathlib.Core.Option.{Option, none, some}
+use Rattle.std.specs.Prelude.{Option, None, Some}
 use mathlib.Core.List.{List, []}
 use native.Mathlib.Omega.{arith}
 use lib.ListN.{length, length-append}
@@ -14,8 +14,8 @@ use Rattle.proof_term.specs.Labels.{has_label, of_own_label, of_records, single,
 -- the label count is the number of labels
 count_label : {N : Type 0} (l : Option (Label N)) → length (of_label single l) ≡ is_labelled l
 unfolding of_label is_labelled
-count_label none = refl
-count_label (some l) = refl
+count_label None = refl
+count_label (Some l) = refl
 
 pub count_labels : {N : Type 0} (t : ProofTerm N) → length (term_labels t) ≡ annotation_count t
 unfolding of_labels annotation_count

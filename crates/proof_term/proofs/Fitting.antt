@@ -2,8 +2,7 @@
 use Prim.Native.Nat.{ℕ, zero, suc, ◌+◌, ◌≤◌, ◌<◌}
 use mathlib.Core.Path.{◌≡◌}
 use mathlib.Core.Logic.{by_cases}
-use mathlib.Core.Option.{Option}
-use mathlib.Core.Option as option
+use Rattle.std.specs.Prelude.{Option, None, Some}
 use mathlib.Core.List.{List, [], ◌∷◌, ◌++◌}
 use native.Mathlib.Omega.{arith}
 use native.Mathlib.Decide.{dec_lt}
@@ -37,8 +36,8 @@ module _ {names : ℕ} where
 
   parameter_below : (l : Option (Label ℕ)) → ParameterLabelBelow names l → AllBelow names (of_label single l)
   unfolding ParameterLabelBelow of_label
-  parameter_below option.none h = none
-  parameter_below (option.some l) h = one h none
+  parameter_below None h = none
+  parameter_below (Some l) h = one h none
 
   -- the labels of a term whose names are
   labels_below : (t : ProofTerm ℕ) → NamesBelow names t → AllBelow names (term_labels t)

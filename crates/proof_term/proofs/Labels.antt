@@ -3,7 +3,7 @@ use Prim.Native.Nat.{ℕ, zero, suc, ◌+◌, ◌*◌, ◌<◌}
 use mathlib.Core.Path.{◌≡◌, refl, sym, ap, ◌∙◌}
 use mathlib.Core.Bool.{Bool, true, false, true≢false, not, cond}
 use mathlib.Core.Logic.{◌⊎◌, inl, inr, by_cases}
-use mathlib.Core.Option.{Option, none, some}
+use Rattle.std.specs.Prelude.{Option, None, Some}
 use mathlib.Core.List.{List, [], ◌∷◌, ◌++◌, append-nil, append_assoc}
 use native.Mathlib.Omega.{arith}
 use native.Mathlib.Decide.{ℕ_discrete}
@@ -52,7 +52,7 @@ module _ {A : Type 0} (add : Label ℕ → List A) (props : ℕ → Prop ℕ) wh
   unfolding of_label parameter_label of_own_label has_label
   of_parameter kind number = go (eqb kind 0)
     where
-      go : (b : Bool) → of_label add (cond b none (some (label_of props kind number))) ≡ cond (not b) (add (label_of props kind number)) []
+      go : (b : Bool) → of_label add (cond b None (Some (label_of props kind number))) ≡ cond (not b) (add (label_of props kind number)) []
       go true = refl
       go false = refl
 
@@ -119,8 +119,8 @@ module _ {N A : Type 0} (add : Label N → List A) where
 
   all_label : (l : Option (Label N)) → of_all (of_label single l) ≡ of_label add l
   unfolding of_label of_all
-  all_label none = refl
-  all_label (some l) = append-nil (add l)
+  all_label None = refl
+  all_label (Some l) = append-nil (add l)
 
   all_labels : (t : ProofTerm N) → of_all (term_labels t) ≡ of_labels add t
   unfolding of_labels of_all

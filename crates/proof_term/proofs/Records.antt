@@ -2,7 +2,7 @@
 use Prim.Native.Nat.{ℕ, zero, suc, ◌+◌, ◌*◌, ◌≤◌, ◌<◌}
 use mathlib.Core.Path.{◌≡◌, refl, sym, ap, ◌∙◌, fun_ext}
 use mathlib.Core.Logic.{by_cases}
-use mathlib.Core.Option.{none}
+use Rattle.std.specs.Prelude.{None}
 use mathlib.Core.List.{List, [], ◌∷◌}
 use native.Mathlib.Omega.{arith}
 use native.Mathlib.Decide.{dec_lt}
@@ -121,6 +121,6 @@ module _ (props : ℕ → Prop ℕ) (records : List ℕ) (n : ℕ) where
 drawn :
     (props : ℕ → Prop ℕ) → term_at props
     (0 ∷ 7 ∷ 0 ∷ 0 ∷ 0 ∷ 0 ∷ 0 ∷ 7 ∷ 0 ∷ 0 ∷ 0 ∷ 0 ∷ 0 ∷ 0 ∷ 4 ∷ 1 ∷ 7 ∷ 0 ∷ 0 ∷ 0 ∷ 0 ∷ []) 2
-    ≡ Function 7 none (OrLeft (Ident 7))
+    ≡ Function 7 None (OrLeft (Ident 7))
 unfolding term_at term_within record_term_at field_at earlier parameter_label
 drawn props = refl

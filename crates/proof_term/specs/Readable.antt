@@ -1,6 +1,5 @@
 -- What a reader of a term in records asks of its names.
-use Rattle.std.specs.Prelude.{ℕ, ◌<◌}
-use Rattle.std.proofs.Math.Option.{Option, none, some}
+use Rattle.std.specs.Prelude.{ℕ, ◌<◌, Option, None, Some}
 use Rattle.definitions.specs.Term.{Label, proposition, datatype, ProofTerm, Ident, Pair, Named, Function, Application, LetIn, Case, TypeAscription, Unit, Sorry}
 
 -- Each name of a term is below `names`. The names of its propositions are a matter of their code.
@@ -10,8 +9,8 @@ module _ (names : ℕ) where
   LabelBelow (datatype t) = t < names
 
   unfoldable pub ParameterLabelBelow : Option (Label ℕ) → Type 0
-  ParameterLabelBelow none = Prim.Unit {0}
-  ParameterLabelBelow (some l) = LabelBelow l
+  ParameterLabelBelow None = Prim.Unit {0}
+  ParameterLabelBelow (Some l) = LabelBelow l
 
   unfoldable pub NamesBelow : ProofTerm ℕ → Type 0
   NamesBelow (Ident x) = x < names

@@ -1,6 +1,5 @@
 -- Terms as numbered records in lent memory, a term's parts before the term: the term that the record of a number holds.
-use Rattle.std.specs.Prelude.{ℕ, zero, suc, ◌+◌, ◌*◌, cond, List, [], ◌∷◌, get_or, eqb, ltb}
-use Rattle.std.proofs.Math.Option.{Option, none, some}
+use Rattle.std.specs.Prelude.{ℕ, zero, suc, ◌+◌, ◌*◌, cond, List, [], ◌∷◌, get_or, eqb, ltb, Option, None, Some}
 use Rattle.definitions.specs.Prop.{Prop}
 use Rattle.definitions.specs.Term.{Label, proposition, datatype, ProofTerm, Ident, Pair, ProjectFst, ProjectSnd, Function, Application, LetIn, OrLeft, OrRight, Case, Abort, TypeAscription, Unit, Sorry}
 
@@ -34,7 +33,7 @@ module _ (props : ℕ → Prop ℕ) where
 
   -- a parameter has no label where the kind is 0
   unfoldable pub parameter_label : ℕ → ℕ → Option (Label ℕ)
-  parameter_label kind number = cond (eqb kind 0) none (some (label_of kind number))
+  parameter_label kind number = cond (eqb kind 0) None (Some (label_of kind number))
 
   -- the forms of the kinds, in the Rust's order, by a record's five numbers
   abbrev pub forms : ℕ → ℕ → ℕ → ℕ → ℕ → List Form

@@ -2,7 +2,7 @@
 use Prim.Native.Nat.{ℕ, zero, suc, ◌+◌, ◌-◌, ◌*◌, ◌≤◌, ◌<◌}
 use mathlib.Core.Path.{◌≡◌, refl, sym, ap, ◌∙◌}
 use mathlib.Core.Bool.{Bool, true, false, not, cond}
-use mathlib.Core.Option.{none, some}
+use Rattle.std.specs.Prelude.{None, Some}
 use mathlib.Core.List.{List, [], ◌∷◌, map}
 use native.Mathlib.Omega.{arith}
 use lib.ListN.{length, get_or, take, drop, length-append, length-take, get_or-eq_default}
@@ -83,14 +83,14 @@ module _ (bytes : List ℕ) (v : Vocabulary) (records : List ℕ) (n : ℕ) (s :
   unfolding part_size
   no_part_size = refl
 
-  module _ (k number : ℕ) (some : k ≡ 0 → ⊥) (is : number ≡ field_at records n (part_field (k - 1))) where
+  module _ (k number : ℕ) (Some : k ≡ 0 → ⊥) (is : number ≡ field_at records n (part_field (k - 1))) where
     pub unit_size : n ≤ number → 2 ≡ part_size bytes v records n s k
-    unit_size h = ap length (unit_text s bytes v records n (k - 1) number is h) ∙ sym (placed_size k some)
+    unit_size h = ap length (unit_text s bytes v records n (k - 1) number is h) ∙ sym (placed_size k Some)
 
     module _ (h : number < n) where
       text : part_size bytes v records n s k
           ≡ length (wrap (is_bracketed (position_of (part_position (k - 1))) s (form_at (name_in bytes v) (prop_in bytes v) records number)) (term_text s bytes v records number))
-      text = placed_size k some ∙ sym (ap length (part_text_lem s bytes v records n (k - 1) number is h))
+      text = placed_size k Some ∙ sym (ap length (part_text_lem s bytes v records n (k - 1) number is h))
 
       pub bracketed_size : {b : Bool} → b ≡ is_bracketed (position_of (part_position (k - 1))) s (form_at (name_in bytes v) (prop_in bytes v) records number)
           → b ≡ true → part_size bytes v records n s k ≡ 2 + term_length bytes v records s number
@@ -125,7 +125,7 @@ module _ (bytes : List ℕ) (v : Vocabulary) (records : List ℕ) (n : ℕ) (s :
   parameter_size = go (eqb (field_at records n 3) 0)
     where
       go : (b : Bool) →
-          length (display_parameter_label (rename_parameter_label (name_in bytes v) (cond b none (some (label_of (prop_in bytes v) (field_at records n 3) (field_at records n 4))))))
+          length (display_parameter_label (rename_parameter_label (name_in bytes v) (cond b None (Some (label_of (prop_in bytes v) (field_at records n 3) (field_at records n 4))))))
           ≡ cond (not b) (2 + length (label_text bytes v records n)) 0
       go true = refl
       go false = omega arith

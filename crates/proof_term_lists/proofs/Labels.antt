@@ -3,7 +3,7 @@ use Prim.Native.Nat.{ℕ, ◌+◌, ◌≤◌}
 use mathlib.Core.Path.{◌≡◌, refl, sym, ap, ◌∙◌}
 use mathlib.Core.Bool.{Bool, true, false, cond}
 use mathlib.Core.Logic.{by_cases}
-use mathlib.Core.Option.{Option, none, some}
+use Rattle.std.specs.Prelude.{Option, None, Some}
 use mathlib.Core.List.{List, [], ◌++◌, map-append}
 use native.Mathlib.Omega.{arith}
 use native.Mathlib.Decide.{ℕ_discrete}
@@ -94,8 +94,8 @@ module _ {bytes : List ℕ} {v : Vocabulary} {records : List ℕ} {n : ℕ} (her
 module _ {A B : Type 0} (f : List A → List B) (empty : f [] ≡ []) (joins : (a b : List A) → f (a ++ b) ≡ f a ++ f b) (add : Label ℕ → List A) where
   of_label_lem : (l : Option (Label ℕ)) → of_label (λ l. f (add l)) l ≡ f (of_label add l)
   unfolding of_label
-  of_label_lem none = sym empty
-  of_label_lem (some l) = refl
+  of_label_lem None = sym empty
+  of_label_lem (Some l) = refl
 
   of_labels_lem : (t : ProofTerm ℕ) → of_labels (λ l. f (add l)) t ≡ f (of_labels add t)
   unfolding of_labels

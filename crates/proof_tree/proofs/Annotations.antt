@@ -2,7 +2,7 @@
 use Prim.Native.Nat.{ℕ, ◌<◌}
 use mathlib.Core.Path.{◌≡◌, refl}
 use mathlib.Core.Logic.{◌⊎◌, inl, inr}
-use mathlib.Core.Option.{none, some}
+use Rattle.std.specs.Prelude.{None, Some}
 use mathlib.Core.List.{List}
 use native.Mathlib.Omega.{arith}
 use Rattle.definitions.specs.Outcome.{Outcome, accepted, map_outcome, refuse}
@@ -31,7 +31,7 @@ use Rattle.proof_tree.specs.Opening.{Readable}
 use Rattle.proof_tree.proofs.Conclusions.{shaped, left_fits, datatype_fits, implication_label_lem, other_connective, no_binary, universal_label_lem, other_quantifier, no_quantified}
 
 no_parameter : (e : Ending) (k : ℕ) (c : ProofTreeConclusion ℕ) → (e ≡ Bare) ⊎ ((e ≡ Ascribed) ⊎ (e ≡ PremissOwn))
-    → parameter_label_of (ending_of e) k c ≡ accepted none
+    → parameter_label_of (ending_of e) k c ≡ accepted None
 unfolding parameter_label_of ending_of
 no_parameter Bare k c h = refl
 no_parameter Ascribed k c h = refl
@@ -75,7 +75,7 @@ module _ {names : ℕ} {pairs code : List ℕ} {c : Conclusion} {m : ProofTreeCo
   stated is = stated_as (rw is at means)
 
   refused_label : {o : Outcome (term.Label ℕ)} {number k : ℕ} {r : Refusal} → o ≡ refuse number k → r ≡ record { number = number; place = k }
-      → Annotated names pairs code c (map_outcome some o) (Refused r)
+      → Annotated names pairs code c (map_outcome Some o) (Refused r)
   unfolding map_outcome refuse
   refused_label {r = r} e is = refuses {r = r} (rw (e, is))
 
@@ -96,7 +96,7 @@ module _ {names : ℕ} {pairs code : List ℕ} {c : Conclusion} {m : ProofTreeCo
 
     no_label : (label : ProofTreeConclusion ℕ → Outcome (term.Label ℕ)) {number k : ℕ} {r : Refusal}
         → label (tree.PropIsTrue (prop_at names code (pair_offset pairs p))) ≡ refuse number k
-        → r ≡ record { number = number; place = k } → Annotated names pairs code c (map_outcome some (label m)) (Refused r)
+        → r ≡ record { number = number; place = k } → Annotated names pairs code c (map_outcome Some (label m)) (Refused r)
     no_label label e is = rw (stated o.concludes).is (refused_label e is)
 
     pub no_left : {k : ℕ} {r : Refusal} → ((connective left : ℕ) → s ≡ Binary connective left → ⊥)

@@ -2,8 +2,7 @@
 use Prim.Native.Nat.{ℕ, zero, suc, ◌≤◌, ◌<◌}
 use mathlib.Core.Path.{◌≡◌, refl}
 use mathlib.Core.Bool.{Bool, true, false, not, cond}
-use mathlib.Core.Option as option
-use mathlib.Core.Option.{Option, some}
+use Rattle.std.specs.Prelude.{None, Option, Some}
 use mathlib.Core.List.{List, [], ◌∷◌}
 use native.Mathlib.Omega.{arith}
 use lib.ListN.{drop}
@@ -62,8 +61,8 @@ module _ (names : ℕ) where
 
   implication_below : (k : ℕ) (o : Option (Sides ℕ)) → Gives (LabelBelow names) (implication_label k o)
   unfolding implication_label LabelBelow refuse
-  implication_below k option.none = nothing
-  implication_below k (some a) = gives_either (eq_connective a.connective impl) (value tt) nothing
+  implication_below k None = nothing
+  implication_below k (Some a) = gives_either (eq_connective a.connective impl) (value tt) nothing
 
   left_below : (k : ℕ) (c : ProofTreeConclusion ℕ) → Gives (LabelBelow names) (left_label k c)
   unfolding left_label refuse
@@ -76,8 +75,8 @@ module _ (names : ℕ) where
   datatype_below k p codable = go (as_quantified p) refl
     where
       go : (o : Option (Scope ℕ)) → as_quantified p ≡ o → Gives (LabelBelow names) (universal_label k o)
-      go option.none e = nothing
-      go (some a) e = gives_either (eq_quantifier a.quantifier for_all) (value (rw (as_quantified_some a e) at codable).1) nothing
+      go None e = nothing
+      go (Some a) e = gives_either (eq_quantifier a.quantifier for_all) (value (rw (as_quantified_some a e) at codable).1) nothing
 
   -- the identifiers that a step's rule has are below `names`, and so is the datatype that its conclusion gives as a label
   record StepBelow (z : Step ℕ) : Type 0 where
@@ -120,15 +119,15 @@ module _ (names : ℕ) where
 
     inferring_below : (e : Ending) → Gives (NamesBelow names) (inferring_term e z ts)
     unfolding inferring_term ParameterLabelBelow NamesBelow
-    inferring_below bare = value (step_below option.none tt)
-    inferring_below premiss_own = value (step_below option.none tt)
-    inferring_below ascribed = gives_then (ascription_below z.number z.conclusion) (λ l label. value (step_below option.none tt, label))
-    inferring_below left_labelled = gives_then (left_below z.number z.conclusion) (λ l label. value (step_below (some l) label))
-    inferring_below datatype_labelled = gives_then step.datatype (λ l label. value (step_below (some l) label))
+    inferring_below bare = value (step_below None tt)
+    inferring_below premiss_own = value (step_below None tt)
+    inferring_below ascribed = gives_then (ascription_below z.number z.conclusion) (λ l label. value (step_below None tt, label))
+    inferring_below left_labelled = gives_then (left_below z.number z.conclusion) (λ l label. value (step_below (Some l) label))
+    inferring_below datatype_labelled = gives_then step.datatype (λ l label. value (step_below (Some l) label))
 
     placed_below : (m : Place) → Gives (NamesBelow names) (placed_term m z ts)
     unfolding placed_term ParameterLabelBelow
-    placed_below checking = value (step_below option.none tt)
+    placed_below checking = value (step_below None tt)
     placed_below inferring = inferring_below (ending z.rule)
 
   -- the term of a tree, in either mode

@@ -2,7 +2,7 @@
 use Prim.Native.Nat.{ℕ, ◌+◌, ◌-◌, ◌<◌, ◌≤◌}
 use mathlib.Core.Path.{◌≡◌, refl, sym, ap, ◌∙◌}
 use mathlib.Core.Logic.{by_cases}
-use mathlib.Core.Option.{Option, some}
+use Rattle.std.specs.Prelude.{Option, Some, Result, Ok, Err, ℕ}
 use mathlib.Core.List.{List, [], ◌∷◌}
 use native.Mathlib.Omega.{arith}
 use native.Mathlib.Decide.{dec_lt}
@@ -30,8 +30,6 @@ use Rattle.steps.specs.declared.Step as view
 use Rattle.steps.specs.StepAt.{identifier_at, step_at}
 use Rattle.proof_tree.specs.declared.conclusion.Annotation.{Annotation}
 use Rattle.proof_tree.specs.declared.conclusion.Annotation.TheVariants as annotation
-use Rattle.proof_tree.specs.declared.Exported.{Exported}
-use Rattle.proof_tree.specs.declared.Exported.TheVariants.{Term, Refused}
 use Rattle.proof_tree.specs.Table.{mode_of, ending_of, TableRow}
 use Rattle.prefix_code.specs.PropAt.{prop_at}
 use Rattle.proof_tree.specs.Terms.{HasProposition, term_over, part_terms, Ordered, MadeTerm}
@@ -63,12 +61,12 @@ module _ (z : Step ℕ) (ts : List (ProofTerm ℕ)) where
   inferring_parts ascribed = refl
   inferring_parts left_labelled = go (left_label z.number z.conclusion)
     where
-      go : (o : Outcome (Label ℕ)) → (o >>= λ l. accepted (step_term z (some l) ts)) ≡ (map_outcome some o >>= λ l. accepted (step_term z l ts))
+      go : (o : Outcome (Label ℕ)) → (o >>= λ l. accepted (step_term z (Some l) ts)) ≡ (map_outcome Some o >>= λ l. accepted (step_term z l ts))
       go (refused r) = refl
       go (accepted l) = refl
   inferring_parts datatype_labelled = go (datatype_label z.number z.conclusion)
     where
-      go : (o : Outcome (Label ℕ)) → (o >>= λ l. accepted (step_term z (some l) ts)) ≡ (map_outcome some o >>= λ l. accepted (step_term z l ts))
+      go : (o : Outcome (Label ℕ)) → (o >>= λ l. accepted (step_term z (Some l) ts)) ≡ (map_outcome Some o >>= λ l. accepted (step_term z l ts))
       go (refused r) = refl
       go (accepted l) = refl
 
@@ -89,17 +87,17 @@ unascribed PremissOwn z t h = refl
 -- the newest term ascribed with the proposition at its pair's offset
 pub wrapped : {pairs before after : List ℕ} {k used next p at : ℕ} {c : Conclusion} → c ≡ PropIsTrue p → at ≡ pair_offset pairs p
     → Made (λ props part. TypeAscription (part (used - 1)) (proposition (props at))) before used after next
-    → Wrapped pairs k before used after c (Term next)
+    → Wrapped pairs k before used after c (Ok next)
 wrapped concludes is made = rw concludes (ascribes (rw is at made))
 
 -- what ascribing a term comes to
-pub data Ascription (names : ℕ) (pairs code : List ℕ) (k : ℕ) (c : Conclusion) (m : ProofTreeConclusion ℕ) (before : List ℕ) (used : ℕ) (after : List ℕ) : Exported → Type 0 where
+pub data Ascription (names : ℕ) (pairs code : List ℕ) (k : ℕ) (c : Conclusion) (m : ProofTreeConclusion ℕ) (before : List ℕ) (used : ℕ) (after : List ℕ) : Result ℕ Refusal → Type 0 where
   is_ascribed : {p next : ℕ} → c ≡ PropIsTrue p → m ≡ tree.PropIsTrue (prop_at names code (pair_offset pairs p))
       → Made (λ props part. TypeAscription (part (used - 1)) (proposition (props (pair_offset pairs p)))) before used after next
-      → Ascription names pairs code k c m before used after (Term next)
-  is_refused : {r : Refusal} → ascription_label k m ≡ refuse 13 k → r ≡ record { number = 13; place = k } → Ascription names pairs code k c m before used after (Refused r)
+      → Ascription names pairs code k c m before used after (Ok next)
+  is_refused : {r : Refusal} → ascription_label k m ≡ refuse 13 k → r ≡ record { number = 13; place = k } → Ascription names pairs code k c m before used after (Err r)
 
-pub ascription : {names : ℕ} {pairs code : List ℕ} {k : ℕ} {c : Conclusion} {m : ProofTreeConclusion ℕ} {before : List ℕ} {used : ℕ} {after : List ℕ} {r : Exported}
+pub ascription : {names : ℕ} {pairs code : List ℕ} {k : ℕ} {c : Conclusion} {m : ProofTreeConclusion ℕ} {before : List ℕ} {used : ℕ} {after : List ℕ} {r : Result ℕ Refusal}
     → Means names pairs code c m → Wrapped pairs k before used after c r → Ascription names pairs code k c m before used after r
 unfolding ascription_label
 ascription (stands s) (ascribes made) = is_ascribed refl refl made
@@ -145,7 +143,7 @@ module _ {names : ℕ} {pairs code records : List ℕ} {k : ℕ} {mode : own.Rea
       ∙ rw (v.ends, v.is_row.ending_is) (inferring_parts (step_in names pairs code records k) ts (ending_at (mode_of mode) (ending (rule_in records k))))
 
   pub label_refused : {r : Refusal} {before : List ℕ} {used : ℕ} {parts : (ℕ → Prop ℕ) → List (ProofTerm ℕ)} {least most : ℕ} {after : List ℕ} (ts : List (ProofTerm ℕ)) → Annotated names pairs code c label (annotation.Refused r)
-      → Answered names pairs code records k (placed ts) before used parts least most after (Refused r)
+      → Answered names pairs code records k (placed ts) before used parts least most after (Err r)
   unfolding ◌>>=◌
   label_refused {r} ts a = refuses {r = r} (placed_is ts ∙ rw (refusal_of a))
 
@@ -175,7 +173,7 @@ module _ {names : ℕ} {pairs code records : List ℕ} {k : ℕ} {mode : own.Rea
     labels m offset h i has = let (one, same) = made.labels m offset h i has in rw same (left_offset v.good v.bytes concluded number (l.left one))
 
     pub term_answer : (e ≡ Ascribed → ⊥)
-        → Answered names pairs code records k (placed ts) before used parts (used + 1 - row.0) (used + 2) after (Term next)
+        → Answered names pairs code records k (placed ts) before used parts (used + 1 - row.0) (used + 2) after (Ok next)
     term_answer other =
         gives {next = next} (record {
           holds = placed_term_lem ∙ unascribed e (step_in names pairs code records k) (term_at (prop_at names code) after (next - 1)) other;
@@ -197,7 +195,7 @@ module _ {names : ℕ} {pairs code records : List ℕ} {k : ℕ} {mode : own.Rea
         λ props. let f = sym (more.label props) ∙ rw same at (has props) in cc in
         rw (same_number offset (pair_offset pairs p) number) (whole_offset v.good v.bytes concluded p hc))
 
-    pub ascribed_answer : {final : List ℕ} {r : Exported} → e ≡ Ascribed → Ascription names pairs code k c (conclusion_in names pairs code records k) after next final r
+    pub ascribed_answer : {final : List ℕ} {r : Result ℕ Refusal} → e ≡ Ascribed → Ascription names pairs code k c (conclusion_in names pairs code records k) after next final r
         → Answered names pairs code records k (placed ts) before used parts (used + 1 - row.0) (used + 2) final r
     unfolding finishing ending_of step_in ascription_label ◌>>=◌ refuse
     ascribed_answer {final} he (is_refused {r = r} none13 is) = refuses {r = r} (placed_term_lem ∙ rw (he, none13, is))

@@ -1,7 +1,7 @@
 -- The rows of a table are those of document 01 where one test, which antt computes over the whole table, finds them the same.
 use Prim.Native.Nat.{ℕ, zero, suc, ◌<◌, min}
 use mathlib.Core.Path.{◌≡◌, refl, ap, sym, ◌∙◌}
-use mathlib.Core.Option.{Option}
+use Rattle.std.specs.Prelude.{Option}
 use mathlib.Core.List.{List, [], ◌∷◌, map}
 use native.Mathlib.Omega.{arith}
 use lib.ListN.{length, get_or, take}

@@ -18,8 +18,7 @@ use Rattle.steps.specs.Size.{size, sizes}
 use Rattle.steps.proofs.Premisses.{seam, tree_steps, premisses_counted}
 use Rattle.steps.proofs.Tables.{size_table_shorter}
 use Rattle.proof_tree.specs.declared.table.Row.{Row}
-use Rattle.proof_tree.specs.declared.Exported.{Exported}
-use Rattle.proof_tree.specs.declared.Exported.TheVariants.{Term, Refused}
+use Rattle.std.specs.Prelude.{Result, Ok, Err, ℕ}
 use Rattle.proof_tree.specs.Table.{TableRow}
 use Rattle.proof_tree.specs.Premisses.{premisses_from}
 use Rattle.proof_tree.specs.Terms.{first_three}
@@ -38,14 +37,14 @@ exportable_shorter {records = records} {sizes} {m} {n} h e =
     }
 
 -- what an answer says, by its variant
-pub term_of : {names : ℕ} {pairs code records : List ℕ} {k : ℕ} {outcome : Outcome (ProofTerm ℕ)} {before : List ℕ} {used : ℕ} {parts : (ℕ → Prop ℕ) → List (ProofTerm ℕ)} {least most : ℕ} {after : List ℕ} {r : Exported} {next : ℕ}
-    → Answered names pairs code records k outcome before used parts least most after r → r ≡ Term next
+pub term_of : {names : ℕ} {pairs code records : List ℕ} {k : ℕ} {outcome : Outcome (ProofTerm ℕ)} {before : List ℕ} {used : ℕ} {parts : (ℕ → Prop ℕ) → List (ProofTerm ℕ)} {least most : ℕ} {after : List ℕ} {r : Result ℕ Refusal} {next : ℕ}
+    → Answered names pairs code records k outcome before used parts least most after r → r ≡ Ok next
     → ExportedTerm names pairs code records k outcome before used parts least most after next
 term_of {next = next} (gives {next = n} t) e = let same : n ≡ next = cc in rw same at t
 term_of (refuses h) e = let z : ◌≡◌ {A = ℕ} 0 1 = cc in absurd (omega arith)
 
-pub refusal_of : {names : ℕ} {pairs code records : List ℕ} {k : ℕ} {outcome : Outcome (ProofTerm ℕ)} {before : List ℕ} {used : ℕ} {parts : (ℕ → Prop ℕ) → List (ProofTerm ℕ)} {least most : ℕ} {after : List ℕ} {r : Exported} {x : Refusal}
-    → Answered names pairs code records k outcome before used parts least most after r → r ≡ Refused x → outcome ≡ refused x
+pub refusal_of : {names : ℕ} {pairs code records : List ℕ} {k : ℕ} {outcome : Outcome (ProofTerm ℕ)} {before : List ℕ} {used : ℕ} {parts : (ℕ → Prop ℕ) → List (ProofTerm ℕ)} {least most : ℕ} {after : List ℕ} {r : Result ℕ Refusal} {x : Refusal}
+    → Answered names pairs code records k outcome before used parts least most after r → r ≡ Err x → outcome ≡ refused x
 refusal_of (gives t) e = let z : ◌≡◌ {A = ℕ} 0 1 = cc in absurd (omega arith)
 refusal_of (refuses h) e = cc
 
@@ -80,7 +79,7 @@ module _ (names : ℕ) (pairs code records : List ℕ) (k : ℕ) where
 
 pub count_refused : {names : ℕ} {pairs code records : List ℕ} {k : ℕ} (mode : Place) {before : List ℕ} {used : ℕ} {after : List ℕ} {r : Refusal} → too_few_trees names pairs code records k ≡ false
     → admits_count (rule_in records k) (premiss_count records k) ≡ false → r ≡ record { number = 12; place = k }
-    → StepExported names pairs code records k mode before used after (Refused r)
+    → StepExported names pairs code records k mode before used after (Err r)
 unfolding refuse_if ◌>>=◌ refuse
 count_refused {names} {pairs} {code} {records} {k} mode {r = r} found wrong e = refuses {r = r} (export_is names pairs code records k found mode ∙ rw (wrong, e))
 
@@ -92,12 +91,12 @@ pub record Entered (names : ℕ) (pairs code records : List ℕ) (k : ℕ) (row 
 
 module _ {names : ℕ} {pairs code records : List ℕ} {k : ℕ} {row : Row} (mode : Place) {before : List ℕ} {used : ℕ} {after : List ℕ} (entered : Entered names pairs code records k row) where
   pub premiss_refused : {r : Refusal} → export_all (premisses_from names pairs code records k 0) (places (rule_in records k) mode) ≡ refused r
-      → StepExported names pairs code records k mode before used after (Refused r)
+      → StepExported names pairs code records k mode before used after (Err r)
   unfolding ◌>>=◌
   premiss_refused {r} e = refuses {r = r} (export_read names pairs code records k entered.found entered.right mode ∙ rw e)
 
   -- the premisses that are read have been, and the step's term is placed over theirs
-  pub step_placed : {i : ℕ} {parts terms : List ℕ} {next : ℕ} {r : Exported} → i ≡ row.0
+  pub step_placed : {i : ℕ} {parts terms : List ℕ} {next : ℕ} {r : Result ℕ Refusal} → i ≡ row.0
       → PremissesRead names pairs code records k mode row before used i parts terms next
       → StepPlaced names pairs code records k mode row.0 (first_three parts) terms next after r
       → StepExported names pairs code records k mode before used after r

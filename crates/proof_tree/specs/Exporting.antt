@@ -1,5 +1,5 @@
 -- What the exporter answers, and what it makes of the lent memory.
-use Rattle.std.specs.Prelude.{ℕ, ◌+◌, ◌*◌, ◌-◌, ◌≤◌, ◌<◌, ◌≡◌, ◌⊎◌, List, [], length}
+use Rattle.std.specs.Prelude.{ℕ, ◌+◌, ◌*◌, ◌-◌, ◌≤◌, ◌<◌, ◌≡◌, ◌⊎◌, List, [], length, Result, Ok, Err}
 use Rattle.definitions.specs.Outcome.{Outcome, accepted, refused}
 use Rattle.definitions.specs.declared.Refusal.{Refusal}
 use Rattle.definitions.specs.Prop.{Prop}
@@ -13,8 +13,6 @@ use Rattle.steps.specs.StepAt.{step_at}
 use Rattle.proof_term.specs.Records.{record_size, term_at}
 use Rattle.proof_term.specs.Tally.{Tallied}
 use Rattle.proof_term.specs.Making.{Kept}
-use Rattle.proof_tree.specs.declared.Exported.{Exported}
-use Rattle.proof_tree.specs.declared.Exported.TheVariants.{Term, Refused}
 use Rattle.prefix_code.specs.PropAt.{prop_at}
 use Rattle.prefix_code.specs.Shape.{ImplicationAt}
 use Rattle.proof_tree.specs.Exportable.{GoodStep}
@@ -44,9 +42,9 @@ pub record ExportedTerm (names : ℕ) (pairs code records : List ℕ) (k : ℕ) 
   pub grown : Grown pairs code records k before used after next
 
 -- what each answer says of the outcome for step k: a term, by the count of the records used after it, or the refusal
-pub data Answered (names : ℕ) (pairs code records : List ℕ) (k : ℕ) (outcome : Outcome (ProofTerm ℕ)) (before : List ℕ) (used : ℕ) (parts : (ℕ → Prop ℕ) → List (ProofTerm ℕ)) (least most : ℕ) (after : List ℕ) : Exported → Type 0 where
-  gives : {next : ℕ} → ExportedTerm names pairs code records k outcome before used parts least most after next → Answered names pairs code records k outcome before used parts least most after (Term next)
-  refuses : {r : Refusal} → outcome ≡ refused r → Answered names pairs code records k outcome before used parts least most after (Refused r)
+pub data Answered (names : ℕ) (pairs code records : List ℕ) (k : ℕ) (outcome : Outcome (ProofTerm ℕ)) (before : List ℕ) (used : ℕ) (parts : (ℕ → Prop ℕ) → List (ProofTerm ℕ)) (least most : ℕ) (after : List ℕ) : Result ℕ Refusal → Type 0 where
+  gives : {next : ℕ} → ExportedTerm names pairs code records k outcome before used parts least most after next → Answered names pairs code records k outcome before used parts least most after (Ok next)
+  refuses : {r : Refusal} → outcome ≡ refused r → Answered names pairs code records k outcome before used parts least most after (Err r)
 
 -- there is room for so many records, whose numbers fit a u16
 pub record RoomFor (terms : List ℕ) (count : ℕ) : Type 0 where
@@ -54,20 +52,20 @@ pub record RoomFor (terms : List ℕ) (count : ℕ) : Type 0 where
   pub few : count ≤ 65536
 
 -- the outcome for the tree of step k in a mode, in at most two records for each of its steps
-abbrev pub StepExported : ℕ → List ℕ → List ℕ → List ℕ → ℕ → Place → List ℕ → ℕ → List ℕ → Exported → Type 0
+abbrev pub StepExported : ℕ → List ℕ → List ℕ → List ℕ → ℕ → Place → List ℕ → ℕ → List ℕ → Result ℕ Refusal → Type 0
 StepExported names pairs code records k mode before used after r =
     Answered names pairs code records k (export (tree_in names pairs code records k) mode) before used (λ props. []) (used + 1)
     (used + 2 * size (tree_in names pairs code records k))
     after r
 
 -- the outcome for step k in a mode, over the terms of its parts, in at most two records
-abbrev pub StepPlaced : ℕ → List ℕ → List ℕ → List ℕ → ℕ → Place → ℕ → List ℕ → List ℕ → ℕ → List ℕ → Exported → Type 0
+abbrev pub StepPlaced : ℕ → List ℕ → List ℕ → List ℕ → ℕ → Place → ℕ → List ℕ → List ℕ → ℕ → List ℕ → Result ℕ Refusal → Type 0
 StepPlaced names pairs code records k mode reads parts before used after r =
     let ts : (ℕ → Prop ℕ) → List (ProofTerm ℕ) = λ props. part_terms (term_at props before) reads parts in
     Answered names pairs code records k (placed_term mode (step_in names pairs code records k) (ts (prop_at names code))) before used ts
     (used + 1 - reads) (used + 2) after r
 
 -- the same with whatever count of names the step is good
-abbrev pub GoodStepPlaced : List ℕ → List ℕ → List ℕ → ℕ → Place → ℕ → List ℕ → List ℕ → ℕ → List ℕ → Exported → Type 0
+abbrev pub GoodStepPlaced : List ℕ → List ℕ → List ℕ → ℕ → Place → ℕ → List ℕ → List ℕ → ℕ → List ℕ → Result ℕ Refusal → Type 0
 GoodStepPlaced pairs code records k mode reads parts before used after r =
     (names : ℕ) → GoodStep names pairs code records k → StepPlaced names pairs code records k mode reads parts before used after r

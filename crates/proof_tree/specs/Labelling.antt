@@ -1,6 +1,5 @@
 -- Which label a step's term has: document 01's last column in two parts, a function's parameter's and an ascription.
-use Rattle.std.specs.Prelude.{ℕ, ◌≤◌, ◌≡◌, List}
-use Rattle.std.proofs.Math.Option.{Option, none, some}
+use Rattle.std.specs.Prelude.{ℕ, ◌≤◌, ◌≡◌, List, Option, None, Some}
 use Rattle.definitions.specs.Outcome.{Outcome, accepted, refused, map_outcome}
 use Rattle.definitions.specs.declared.Refusal.{Refusal}
 use Rattle.definitions.specs.Sheet.{pair_offset}
@@ -24,15 +23,15 @@ ending_at inferring e = e
 
 -- the label of a function's parameter: the left side of an implication, or the datatype of a ∀
 unfoldable pub left_label_of : ℕ → ProofTreeConclusion ℕ → Outcome (Option (Label ℕ))
-left_label_of k c = map_outcome some (left_label k c)
+left_label_of k c = map_outcome Some (left_label k c)
 
 unfoldable pub datatype_label_of : ℕ → ProofTreeConclusion ℕ → Outcome (Option (Label ℕ))
-datatype_label_of k c = map_outcome some (datatype_label k c)
+datatype_label_of k c = map_outcome Some (datatype_label k c)
 
 unfoldable pub parameter_label_of : Ending → ℕ → ProofTreeConclusion ℕ → Outcome (Option (Label ℕ))
-parameter_label_of bare k c = accepted none
-parameter_label_of premiss_own k c = accepted none
-parameter_label_of ascribed k c = accepted none
+parameter_label_of bare k c = accepted None
+parameter_label_of premiss_own k c = accepted None
+parameter_label_of ascribed k c = accepted None
 parameter_label_of left_labelled k c = left_label_of k c
 parameter_label_of datatype_labelled k c = datatype_label_of k c
 

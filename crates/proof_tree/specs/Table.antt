@@ -1,6 +1,5 @@
 -- Document 01's table of places and labels, as the program's rows have it.
-use Rattle.std.specs.Prelude.{ℕ, ◌≤◌, ◌≡◌, [], ◌∷◌, map, length, get_or, take}
-use Rattle.std.proofs.Math.Option.{Option}
+use Rattle.std.specs.Prelude.{ℕ, ◌≤◌, ◌≡◌, [], ◌∷◌, map, length, get_or, take, Option}
 use Rattle.definitions.specs.Tree.{ProofTreeRule}
 use Rattle.definitions.specs.Term as term
 use Rattle.definitions.specs.Term.{Label, ProofTerm}

@@ -1,5 +1,5 @@
 -- What it is to ascribe the newest term with a conclusion: 13 at the step where that is a type judgement.
-use Rattle.std.specs.Prelude.{ℕ, ◌-◌, ◌≡◌, List}
+use Rattle.std.specs.Prelude.{ℕ, ◌-◌, ◌≡◌, List, Result, Ok, Err}
 use Rattle.definitions.specs.declared.Refusal.{Refusal}
 use Rattle.definitions.specs.Sheet.{pair_offset}
 use Rattle.definitions.specs.Term.{proposition, TypeAscription}
@@ -7,11 +7,9 @@ use Rattle.proof_term.specs.Making.{Made}
 use Rattle.steps.specs.declared.Judgement.{Judgement}
 use Rattle.steps.specs.declared.Conclusion.{Conclusion}
 use Rattle.steps.specs.declared.Conclusion.TheVariants.{PropIsTrue, TypeJudgement}
-use Rattle.proof_tree.specs.declared.Exported.{Exported}
-use Rattle.proof_tree.specs.declared.Exported.TheVariants.{Term, Refused}
 
-pub data Wrapped (pairs : List ℕ) (k : ℕ) (before : List ℕ) (used : ℕ) (after : List ℕ) : Conclusion → Exported → Type 0 where
+pub data Wrapped (pairs : List ℕ) (k : ℕ) (before : List ℕ) (used : ℕ) (after : List ℕ) : Conclusion → Result ℕ Refusal → Type 0 where
   ascribes : {p next : ℕ}
       → Made (λ props part. TypeAscription (part (used - 1)) (proposition (props (pair_offset pairs p)))) before used after next
-      → Wrapped pairs k before used after (PropIsTrue p) (Term next)
-  refuses : {x : Judgement} {r : Refusal} → r ≡ record { number = 13; place = k } → Wrapped pairs k before used after (TypeJudgement x) (Refused r)
+      → Wrapped pairs k before used after (PropIsTrue p) (Ok next)
+  refuses : {x : Judgement} {r : Refusal} → r ≡ record { number = 13; place = k } → Wrapped pairs k before used after (TypeJudgement x) (Err r)

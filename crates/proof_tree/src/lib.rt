@@ -30,13 +30,6 @@ pub use table::ReasoningMode;
 use table::{Ending, Row, admits_count, expected_premisse_mode, row_of};
 use term::rule_term;
 
-// A term, by the count of the records that are used after it, of which its own is the last; or a refusal.
-#[derive(Drop)]
-pub enum Exported {
-    Term(usize),
-    Refused(Refusal),
-}
-
 // Ascribes the newest term with the conclusion of its step k.
 fn wrap_into_type_ascription(
     pairs: &[u8],
@@ -44,16 +37,16 @@ fn wrap_into_type_ascription(
     k: usize,
     term_records: &mut [u16],
     used: usize,
-) -> Exported
+) -> Result<usize, Refusal>
     requires { (k < 65536) × Room term_records.old used × (0 < used) × Paired pairs.now conclusion }
     ensures { Wrapped pairs.now k term_records.old used
         term_records.new conclusion result }
 {
     let Conclusion::PropIsTrue(p) = conclusion else {
-        return Exported::Refused(Refusal::at(13, k));
+        return Err(Refusal::at(13, k));
     };
     let at = pair_offset(pairs, p as usize);
-    Exported::Term(type_ascription(term_records, used, used - 1, PROPOSITION as u16, at as u16))
+    Ok(type_ascription(term_records, used, used - 1, PROPOSITION as u16, at as u16))
 }
 
 // The ending of a step's term in its mode: in checking mode no term is labelled.
@@ -77,7 +70,7 @@ fn placed_term(
     parts: [usize; 3],
     term_records: &mut [u16],
     used: usize,
-) -> Exported
+) -> Result<usize, Refusal>
     requires some_good_step { SomeGoodStep pairs.now code.now step_records.now k
         × TableRow (rule_in step_records.now k) row }
     requires parts { Parts row.4 (get_or parts 0 0) (get_or parts 1 0) (get_or parts 2 0) term_records.old used
@@ -92,13 +85,13 @@ fn placed_term(
     let conclusion = step.conclusion;
     let annotation = annotation_of(pairs, code, ending, conclusion, k);
     match annotation {
-        Annotation::Refused(r) => Exported::Refused(r),
+        Annotation::Refused(r) => Err(r),
         Annotation::Label(kind, label) => {
             let first = step.first.name;
             let second = step.second.name;
             let next = rule_term(term, first, second, kind, label, parts, term_records, used);
             let Ending::Ascribed = ending else {
-                return Exported::Term(next);
+                return Ok(next);
             };
             wrap_into_type_ascription(pairs, conclusion, k, term_records, next)
         }
@@ -116,7 +109,7 @@ fn do_export_as_proof_term(
     mode: ReasoningMode,
     term_records: &mut [u16],
     used: usize,
-) -> Exported
+) -> Result<usize, Refusal>
     requires exportable { Exportable names pairs.now code.now step_records.now sizes.now (k + 1) }
     requires room_for { RoomFor term_records.old
         (used + 2 * size (tree_in names pairs.now code.now step_records.now k)) }
@@ -125,7 +118,7 @@ fn do_export_as_proof_term(
 {
     let row = row_of(rule_byte(step_records, k));
     if !admits_count(row, premiss_count(step_records, k)) {
-        return Exported::Refused(Refusal::at(12, k));
+        return Err(Refusal::at(12, k));
     }
     let reads = row.0 as usize;
     let modes = row.2;
@@ -143,7 +136,7 @@ fn do_export_as_proof_term(
             term_records,
             next,
         );
-        let Exported::Term(after) = exported else {
+        let Ok(after) = exported else {
             return exported;
         };
         parts[i] = after - 1;
@@ -171,7 +164,7 @@ pub fn export_as_proof_term(
     sizes: &[u16],
     steps: usize,
     term_records: &mut [u16],
-) -> Exported
+) -> Result<usize, Refusal>
     requires exportable { Exportable names pairs.now code.now step_records.now sizes.now steps × (0 < steps) }
     requires room_for { RoomFor term_records.old (2 * steps) }
     ensures { StepExported names pairs.now code.now step_records.now

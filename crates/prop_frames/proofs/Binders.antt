@@ -2,7 +2,7 @@
 use Prim.Native.Nat.{ℕ, ◌+◌, ◌≤◌, ◌<◌}
 use mathlib.Core.Path.{◌≡◌, refl, sym, ap, ◌∙◌}
 use mathlib.Core.Bool.{Bool, false}
-use mathlib.Core.Option.{Option, none, some}
+use Rattle.std.specs.Prelude.{Option, None, Some}
 use mathlib.Core.List.{List, [], ◌∷◌}
 use native.Mathlib.Omega.{arith}
 use lib.ListN.{length, drop, set}
@@ -126,8 +126,8 @@ is_binder h k l (binder q) e = (q, refl)
 splits_on : {A B C : Type 0} (m : Option (Read A)) (f : A → Reading C) (f' : A → Reading B) (next : B → Reading C)
     → ((a : A) (s : List ℕ) → f a s ≡ followed_by (f' a s) next) → followed_by m f ≡ followed_by (followed_by m f') next
 unfolding followed_by
-splits_on none f f' next h = refl
-splits_on (some r) f f' next h = h r.value r.rest
+splits_on None f f' next h = refl
+splits_on (Some r) f f' next h = h r.value r.rest
 
 -- a quantifier's names are read, and then the part
 binder_splits : (part : ℕ → List Name → Reading (Shown (Prop Name))) (names : List Name) (q : Quantifier) (s : List ℕ)

@@ -2,7 +2,7 @@
 use Prim.Native.Nat.{ℕ, ◌+◌, ◌≤◌, ◌<◌}
 use mathlib.Core.Path.{◌≡◌, refl, sym, ap, ◌∙◌}
 use mathlib.Core.Bool.{Bool, true, false}
-use mathlib.Core.Option.{none}
+use Rattle.std.specs.Prelude.{None}
 use mathlib.Core.List.{List, [], ◌∷◌}
 use native.Mathlib.Omega.{arith}
 use lib.ListN.{length, drop}
@@ -45,7 +45,7 @@ least_other h bracketed e = refl
 least_other h (quantified q x t) e = refl
 
 -- brackets that are not due, and those that are
-pub due_not : {A : Type 0} (own asked : Bool) (next : Reading A) (s : List ℕ) → same own asked ≡ false → due own asked next s ≡ none
+pub due_not : {A : Type 0} (own asked : Bool) (next : Reading A) (s : List ℕ) → same own asked ≡ false → due own asked next s ≡ None
 unfolding due
 due_not own asked next s e = rw e refl
 
@@ -76,7 +76,7 @@ module _ {q : Prop Name} {part : PropRead} (m : Measured part q) where
 
 module _ {q : Prop Name} {text code : List ℕ} {to : ℕ} {write : Bool} {part r : PropRead} where
   -- the whole does not stand there
-  pub closes_not : {f : Front} → length text < r.end → closing f (standing part.own q) (drop part.end text) ≡ none
+  pub closes_not : {f : Front} → length text < r.end → closing f (standing part.own q) (drop part.end text) ≡ None
       → Closes f q text code to write part code r
   closes_not h e = record { fails = λ k. e; gives = λ k. absurd (omega arith); dry = λ k. refl }
 

@@ -1,6 +1,5 @@
 -- What stands in front of a part and after it: a negation's sign, a bracket, a quantifier with its names.
-use Rattle.std.specs.Prelude.{ℕ, ◌+◌, ◌*◌, ◌<◌, ◌≤◌, ◌≡◌, Bool, true, false, List, [], ◌∷◌, ◌++◌, length, drop, ltb}
-use Rattle.std.proofs.Math.Option.{none}
+use Rattle.std.specs.Prelude.{ℕ, ◌+◌, ◌*◌, ◌<◌, ◌≤◌, ◌≡◌, Bool, true, false, List, [], ◌∷◌, ◌++◌, length, drop, ltb, None}
 use Rattle.definitions.specs.Utf8.{utf8}
 use Rattle.definitions.specs.Name.{Name}
 use Rattle.definitions.specs.Prop.{Prop, False, Binary, Quantified, impl, Quantifier, quantifier_byte}
@@ -171,6 +170,6 @@ pub record ClosedGiven (f : Front) (q : Prop Name) (text code : List ℕ) (to : 
 
 -- the whole, or a place past the end of the text where the part stands in other brackets than are due
 pub record Closes (f : Front) (q : Prop Name) (text code : List ℕ) (to : ℕ) (write : Bool) (part : PropRead) (code' : List ℕ) (r : PropRead) : Type 0 where
-  pub fails : length text < r.end → closing f (standing part.own q) (drop part.end text) ≡ none
+  pub fails : length text < r.end → closing f (standing part.own q) (drop part.end text) ≡ None
   pub gives : r.end ≤ length text → ClosedGiven f q text code to write part code' r
   pub dry : write ≡ false → code' ≡ code

@@ -1,6 +1,5 @@
 -- Propositions whose codes stand in a row. What is left of a proposition's code behind any of its heads is such a row.
-use Rattle.std.specs.Prelude.{ℕ, zero, suc, ◌-◌, ◌≤◌, length, take, drop}
-use Rattle.std.proofs.Math.Option.{Option, none, some}
+use Rattle.std.specs.Prelude.{ℕ, zero, suc, ◌-◌, ◌≤◌, length, take, drop, Option, None, Some}
 use mathlib.Core.List.{List, [], ◌∷◌, flat_map}
 use Rattle.definitions.specs.Prop.{Prop}
 use Rattle.definitions.specs.Code.{Read, proposition, encode, Codable}
@@ -26,8 +25,8 @@ module _ (names : ℕ) where
 
   -- the proposition that was read, and those that are read after it
   unfoldable pub and_after : Option (Read (Prop ℕ)) → (List ℕ → List (Prop ℕ)) → List (Prop ℕ)
-  and_after none next = []
-  and_after (some r) next = r.value ∷ next r.rest
+  and_after None next = []
+  and_after (Some r) next = r.value ∷ next r.rest
 
   -- the propositions in a row, of at most so many bytes
   unfoldable pub read_row : ℕ → List ℕ → List (Prop ℕ)

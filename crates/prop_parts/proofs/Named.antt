@@ -2,7 +2,7 @@
 use Prim.Native.Nat.{ℕ, zero, suc, ◌+◌, ◌-◌, ◌≤◌, ◌<◌}
 use mathlib.Core.Path.{◌≡◌, refl, sym, ap, ◌∙◌}
 use mathlib.Core.Bool.{Bool, true, false, ◌||◌}
-use mathlib.Core.Option.{Option, none, some, none-ne-some, some-injective}
+use Rattle.std.specs.Prelude.{Option, None, Some}
 use mathlib.Core.List.{List, [], ◌∷◌}
 use native.Mathlib.Omega.{arith}
 use native.Mathlib.Numerals.{add-one}
@@ -18,12 +18,14 @@ use Rattle.words.specs.Places.{between, NameEnds}
 use Rattle.words.specs.Table.{add_name, table_names, NamePlace, NumberOf}
 use Rattle.words.specs.declared.Numbered.{Numbered}
 use Rattle.prop_parts.specs.Found.{NameGiven, bound_numbers}
+use Rattle.std.proofs.lemmas.Option.{same_Some}
+use Rattle.std.proofs.lemmas.Option.{none-some}
 
 module _ {text : List ℕ} {at end : ℕ} (ends : NameEnds text at end) where
   pub no_name : {pairs : List ℕ} {count number : ℕ} → length text < end
       → NameGiven text at pairs count pairs (record { end = length text + 1; number = number; count = count })
   no_name h = record {
-    fails = λ l x e. absurd (none-ne-some x (sym (ends.ends.fails h) ∙ e));
+    fails = λ l x e. absurd (none-some x (sym (ends.ends.fails h) ∙ e));
     gives = λ l. absurd (omega arith);
     from = λ l. absurd (omega arith);
     noted = λ l. absurd (omega arith);
@@ -34,14 +36,14 @@ module _ {text : List ℕ} {at end : ℕ} (ends : NameEnds text at end) where
 
   module _ (h : end ≤ length text) where
     pub name_place : length text ≤ term_text_limit → NamePlace text at end
-    name_place l = record { short = l; some = ends.from h; few = ends.short h; within = h }
+    name_place l = record { short = l; Some = ends.from h; few = ends.short h; within = h }
 
     module _ {pairs after : List ℕ} {count : ℕ} {r : Numbered} (number : NumberOf (between at end text) text pairs count after r) where
       pub too_many : {n : ℕ} → name_limit ≤ r.number
           → NameGiven text at pairs count after (record { end = length text + 1; number = n; count = count })
       too_many f = record {
         fails = λ l x e.
-            rw (← (ap (λ (w : Read Name). w.value) (some-injective _ x (sym (ends.ends.gives h) ∙ e)))) (number.full f);
+            rw (← (ap (λ (w : Read Name). w.value) (same_Some _ x (sym (ends.ends.gives h) ∙ e)))) (number.full f);
         gives = λ l. absurd (omega arith);
         from = λ l. absurd (omega arith);
         noted = λ l. absurd (omega arith);

@@ -1,6 +1,5 @@
 -- What stands at a place of the text, as the reader of propositions finds it.
-use Rattle.std.specs.Prelude.{ℕ, zero, suc, ◌+◌, ◌<◌, ◌≤◌, ◌≡◌, Bool, true, false, cond, List, [], ◌∷◌, length, get_or, drop, eqb}
-use Rattle.std.proofs.Math.Option.{Option, none, some}
+use Rattle.std.specs.Prelude.{ℕ, zero, suc, ◌+◌, ◌<◌, ◌≤◌, ◌≡◌, Bool, true, false, cond, List, [], ◌∷◌, length, get_or, drop, eqb, Option, None, Some}
 use Rattle.definitions.specs.Name.{Name}
 use Rattle.definitions.specs.Prop.{Connective, connective_byte, PropParameter, Uninstantiated, Instantiated, Quantifier, quantifier_byte}
 use Rattle.definitions.specs.Sheet.{name_limit, marked}
@@ -16,7 +15,7 @@ use Rattle.prop_parts.specs.declared.NameRead.{NameRead}
 -- the connective at a place: its byte, and 9 for none
 pub data ConnectiveAt (text : List ℕ) (at : ℕ) : ℕ → Type 0 where
   joins : (c : Connective) → at + 5 ≤ length text → connective (drop at text) ≡ given c (drop (at + 5) text) → ConnectiveAt text at (connective_byte c)
-  joins_not : connective (drop at text) ≡ none → ConnectiveAt text at 9
+  joins_not : connective (drop at text) ≡ None → ConnectiveAt text at 9
 
 -- the number of a sign: a head byte, 4 for a negation and 8 for a bracket; and how many bytes it has
 unfoldable pub sign_number : Sign → ℕ
@@ -36,11 +35,11 @@ sign_size (binder q) = 3
 -- the sign at a place: its number, and 9 for none
 pub data SignAt (text : List ℕ) (at : ℕ) : ℕ → Type 0 where
   signs : (g : Sign) → at + sign_size g ≤ length text → sign (drop at text) ≡ given g (drop (at + sign_size g) text) → SignAt text at (sign_number g)
-  signs_not : sign (drop at text) ≡ none → SignAt text at 9
+  signs_not : sign (drop at text) ≡ None → SignAt text at 9
 
 -- the name at a place, with its number; past the end where there is none, or one too many
 pub record NameGiven (text : List ℕ) (at : ℕ) (pairs : List ℕ) (count : ℕ) (after : List ℕ) (r : NameRead) : Type 0 where
-  pub fails : length text < r.end → (x : Read Name) → name (drop at text) ≡ some x → name_limit < length (add_name (table_names pairs text count) x.value)
+  pub fails : length text < r.end → (x : Read Name) → name (drop at text) ≡ Some x → name_limit < length (add_name (table_names pairs text count) x.value)
   pub gives : r.end ≤ length text → name (drop at text) ≡ given (between at r.end text) (drop r.end text)
   pub from : r.end ≤ length text → at < r.end
   pub noted : r.end ≤ length text → Noted (between at r.end text ∷ []) text pairs count after r.count

@@ -2,7 +2,7 @@
 use Prim.Native.Nat.{ℕ, zero, suc, ◌+◌, ◌-◌, ◌≤◌, ◌<◌}
 use mathlib.Core.Path.{◌≡◌, refl, sym, ap, ◌∙◌}
 use mathlib.Core.Bool.{Bool, true, false, ◌&&◌, cond}
-use mathlib.Core.Option.{Option, none, some}
+use Rattle.std.specs.Prelude.{Option, None, Some}
 use mathlib.Core.List.{List, ◌∷◌, ◌++◌}
 use native.Mathlib.Omega.{arith}
 use lib.ListN.{length, drop, length-append}
@@ -49,19 +49,19 @@ module _ (part : Part) (names : List Name) where
       (gives_yield _ p s h)
 
   -- none follows
-  joined_ends : (most least : ℕ) (p : Shown (Prop Name)) (s : List ℕ) → goes_on least s ≡ none → joined part names (suc most) least p s ≡ given p s
+  joined_ends : (most least : ℕ) (p : Shown (Prop Name)) (s : List ℕ) → goes_on least s ≡ None → joined part names (suc most) least p s ≡ given p s
   unfolding joined if_read yield
   joined_ends most least p s e = rw e refl
 
   -- one follows, and its right side
   joined_step : (most least : ℕ) (p q : Shown (Prop Name)) (s t u : List ℕ) (c : Connective) → goes_on least s ≡ given c t → part (right_least c) names t ≡ given q u
       → joined part names (suc most) least p s
-      ≡ cond (sides_agree c p q) (joined part names most least (standing false (Binary c p.shown q.shown)) u) none
+      ≡ cond (sides_agree c p q) (joined part names most least (standing false (Binary c p.shown q.shown)) u) None
   unfolding joined if_read ◌>>=◌ followed_by due sides_agree
   joined_step most least p q s t u c e f =
       rw (e, f) (go (same p.own (wraps_left c (precedence p.shown))) (same q.own (wraps_right c (precedence q.shown))) (same (is_negation c q.shown) false) _)
     where
-      go : (a b d : Bool) (x : Option (Read (Shown (Prop Name)))) → cond a (cond b (cond d x none) none) none ≡ cond (a && (b && d)) x none
+      go : (a b d : Bool) (x : Option (Read (Shown (Prop Name)))) → cond a (cond b (cond d x None) None) None ≡ cond (a && (b && d)) x None
       go true true d x = refl
       go true false d x = refl
       go false b d x = refl
@@ -87,7 +87,7 @@ module _ {text : List ℕ} {at least : ℕ} where
   goes_found (goes_on_lem c h e) k = (c, refl, h, e)
   goes_found (ends_here e) k = absurd (k refl)
 
-  goes_lacks : {b : ℕ} → GoesOnAt text at least b → b ≡ 9 → goes_on least (drop at text) ≡ none
+  goes_lacks : {b : ℕ} → GoesOnAt text at least b → b ≡ 9 → goes_on least (drop at text) ≡ None
   goes_lacks (goes_on_lem c h e) k = absurd (omega (arith, connective_below c))
   goes_lacks (ends_here e) k = e
 
@@ -132,13 +132,13 @@ pub record Joining
 
 -- The first unit.
 module _ (names : List Name) {text pairs bound code after bound' code' : List ℕ} {p : Place} {levels : ℕ} (least : ℕ) {write : Bool} {left : PropRead}
-    (some : levels ≡ 0 → ⊥)
+    (Some : levels ≡ 0 → ⊥)
     (answer : PropAnswer (unit (read_prop (levels - 1)) names (drop p.at text)) text pairs bound code p write after bound' code' left) where
   pub unit_fails : length text < left.end
       → PropAnswer (read_prop levels least names (drop p.at text)) text pairs bound code p write after bound' code' left
   unit_fails h = record {
     fails = λ l.
-        rw (level levels least names (drop p.at text) some)
+        rw (level levels least names (drop p.at text) Some)
         (gives_then _ _ (unit (read_prop (levels - 1)) names (drop p.at text)) _ (answer.fails h) λ q t k.
         joined_crowded (read_prop (levels - 1)) names (table_names pairs text p.count) (levels - 1) least q t k);
     gives = λ l. absurd (omega arith);
@@ -152,7 +152,7 @@ module _ (names : List Name) {text pairs bound code after bound' code' : List �
       let (q, reads, read) = answer.gives h in
       record {
         prop = q;
-        reads = level levels least names (drop p.at text) some ∙ rw reads refl;
+        reads = level levels least names (drop p.at text) Some ∙ rw reads refl;
         read = read;
         bound_kept = answer.bound_kept;
         dry = answer.dry;
@@ -178,8 +178,8 @@ module _ {names : List Name} {text pairs bound code after bound' code' : List �
   pub joining_ends : {b : ℕ} → 0 < most → GoesOnAt text left.end least b → b ≡ 9
       → PropAnswer (read_prop levels least names (drop p.at text)) text pairs bound code p write after bound' code' left
   joining_ends h found e =
-      let some : most ≡ suc (most - 1) = omega arith in
-      ends (j.reads ∙ rw some (joined_ends (read_prop (levels - 1)) names (most - 1) least _ _ (goes_lacks found e)))
+      let Some : most ≡ suc (most - 1) = omega arith in
+      ends (j.reads ∙ rw Some (joined_ends (read_prop (levels - 1)) names (most - 1) least _ _ (goes_lacks found e)))
 
   -- where the right side may begin
   pub right_begins : Begins text pairs bound p levels 0 → Binds names (table_names pairs text p.count) bound p.depth → (levels ≡ 0 → ⊥)
@@ -194,7 +194,7 @@ module _ {names : List Name} {text pairs bound code after bound' code' : List �
     binds = (names, binds_noted b j.read.noted j.bound_kept);
   }
 
-  module _ (some : 0 < most) {c : Connective} (goes : goes_on least (drop left.end text) ≡ given c (drop (left.end + 5) text))
+  module _ (Some : 0 < most) {c : Connective} (goes : goes_on least (drop left.end text) ≡ given c (drop (left.end + 5) text))
       {asked : ℕ} (Asked-is : asked ≡ right_least c) {after₂ bound₂ code₂ : List ℕ} {right : PropRead}
       (read : PropAnswer (read_prop (levels - 1) asked names (drop (left.end + 5) text)) text after bound' code'
       (record { at = left.end + 5; count = left.count; depth = p.depth; to = p.to + left.size }) write after₂ bound₂ code₂ right) where
@@ -232,7 +232,7 @@ module _ {names : List Name} {text pairs bound code after bound' code' : List �
       steps : (q : Prop Name) → read_prop (levels - 1) (right_least c) names (drop (left.end + 5) text) ≡ given (standing right.own q) (drop right.end text)
           → read_prop levels least names (drop p.at text)
           ≡ cond (sides_agree c (standing left.own j.prop) (standing right.own q))
-          (joined (read_prop (levels - 1)) names (most - 1) least (standing false (Binary c j.prop q)) (drop right.end text)) none
+          (joined (read_prop (levels - 1)) names (most - 1) least (standing false (Binary c j.prop q)) (drop right.end text)) None
       unfolding standing
       steps q reads =
           let more : most ≡ suc (most - 1) = omega arith in
@@ -285,7 +285,7 @@ module _ {names : List Name} {text pairs bound code after bound' code' : List �
           }
 
 -- no level is left
-pub no_level : {levels : ℕ} (least : ℕ) (names : List Name) (s : List ℕ) → levels ≡ 0 → read_prop levels least names s ≡ none
+pub no_level : {levels : ℕ} (least : ℕ) (names : List Name) (s : List ℕ) → levels ≡ 0 → read_prop levels least names s ≡ None
 unfolding read_prop fail
 no_level least names s e = rw e refl
 

@@ -2,7 +2,7 @@
 use Prim.Native.Nat.{ℕ, ◌+◌, ◌/◌, ◌%◌, ◌≤◌, ◌<◌}
 use mathlib.Core.Path.{◌≡◌, refl, sym, ap, ◌∙◌}
 use mathlib.Core.Bool.{Bool, true, false, ◌&&◌, and-false, true≢false}
-use mathlib.Core.Option.{Option, none, some, none-ne-some, some-injective}
+use Rattle.std.specs.Prelude.{Option, None, Some}
 use mathlib.Core.List.{List, [], ◌∷◌}
 use native.Mathlib.Omega.{arith}
 use lib.ListN.{length, drop}
@@ -34,12 +34,14 @@ use Rattle.prop_reader.specs.Answer.{LabelBegins, of_proposition, of_datatype, L
 use Rattle.atom_reader.proofs.Readings.{gives_from, gives_holds}
 use Rattle.prop_reader.proofs.Lone.{is_lone, label_other, lone_reads, lone_only}
 use Rattle.prop_frames.proofs.Sides.{connective_below}
+use Rattle.std.proofs.lemmas.Option.{same_Some}
+use Rattle.std.proofs.lemmas.Option.{none-some}
 
 -- Where a lone name ends.
 module _ {text : List ℕ} {at end : ℕ} (ends : NameEnds text at end) where
   pub lone_no_name : length text < end → LoneEnds text at end
   lone_no_name h = record {
-    fails = λ l a s e f g. none-ne-some _ (sym (ends.ends.fails h) ∙ e);
+    fails = λ l a s e f g. none-some _ (sym (ends.ends.fails h) ∙ e);
     gives = λ l. absurd (omega arith);
     no_bracket = λ l. absurd (omega arith);
     no_connective = λ l. absurd (omega arith);
@@ -50,11 +52,11 @@ module _ {text : List ℕ} {at end : ℕ} (ends : NameEnds text at end) where
   module _ (h : end ≤ length text) where
     rest_is : {a : Name} {s : List ℕ} → name (drop at text) ≡ given a s → s ≡ drop end text
     rest_is {a} {s} e =
-        ap (λ (r : Read Name). r.rest) (some-injective (record { value = a; rest = s }) (record { value = between at end text; rest = drop end text }) (sym e ∙ ends.ends.gives h))
+        ap (λ (r : Read Name). r.rest) (same_Some (record { value = a; rest = s }) (record { value = between at end text; rest = drop end text }) (sym e ∙ ends.ends.gives h))
 
     pub lone_bracket : {after r : ℕ} → Expected (utf8 "(") text end after → after ≤ length text → length text < r → LoneEnds text at r
     lone_bracket found k past = record {
-      fails = λ l a s e f g. none-ne-some _ (sym (rw (rest_is e) at f) ∙ found.ends.gives k);
+      fails = λ l a s e f g. none-some _ (sym (rw (rest_is e) at f) ∙ found.ends.gives k);
       gives = λ l. absurd (omega arith);
       no_bracket = λ l. absurd (omega arith);
       no_connective = λ l. absurd (omega arith);
@@ -64,7 +66,7 @@ module _ {text : List ℕ} {at end : ℕ} (ends : NameEnds text at end) where
 
     pub lone_connective : {b r : ℕ} → ConnectiveAt text end b → (b ≡ 9 → ⊥) → length text < r → LoneEnds text at r
     lone_connective (joins c l e) k past = record {
-      fails = λ l a s e' f g. none-ne-some _ (sym (rw (rest_is e') at g) ∙ e);
+      fails = λ l a s e' f g. none-some _ (sym (rw (rest_is e') at g) ∙ e);
       gives = λ l. absurd (omega arith);
       no_bracket = λ l. absurd (omega arith);
       no_connective = λ l. absurd (omega arith);
@@ -73,7 +75,7 @@ module _ {text : List ℕ} {at end : ℕ} (ends : NameEnds text at end) where
     }
     lone_connective (joins_not e) k past = absurd (k refl)
 
-    lacks_connective : {b : ℕ} → ConnectiveAt text end b → b ≡ 9 → connective (drop end text) ≡ none
+    lacks_connective : {b : ℕ} → ConnectiveAt text end b → b ≡ 9 → connective (drop end text) ≡ None
     lacks_connective (joins c l e) k = absurd (omega (arith, connective_below c))
     lacks_connective (joins_not e) k = e
 
@@ -167,7 +169,7 @@ few_noted {text = text} {after = after} {next = next} noted = rw (← noted.name
 
 -- what was read, taken apart
 shown_same : {p q : Shown (Prop Name)} {s t : List ℕ} → given p s ≡ given q t → p ≡ q
-shown_same {p} {q} {s} {t} e = ap (λ (r : Read (Shown (Prop Name))). r.value) (some-injective (record { value = p; rest = s }) (record { value = q; rest = t }) e)
+shown_same {p} {q} {s} {t} e = ap (λ (r : Read (Shown (Prop Name))). r.value) (same_Some (record { value = p; rest = s }) (record { value = q; rest = t }) e)
 
 -- The proposition of a label.
 module _ {text pairs code after bound bound' code' : List ℕ} {at count to : ℕ} {write : Bool} {read : PropRead}
@@ -249,7 +251,7 @@ label_gives types levels s =
     gives_due _ p.own false _ t λ own.
     gives_yield _ (label_for types p.shown) t (p.shown, h ∙ ap (λ b. given (standing b p.shown) t) own, refl)
 
-labelled : (types : List Name) (levels : ℕ) (s : List ℕ) (x : Read (Label Name)) → label types levels s ≡ some x
+labelled : (types : List Name) (levels : ℕ) (s : List ℕ) (x : Read (Label Name)) → label types levels s ≡ Some x
     → (p : Prop Name) × (read_prop levels 0 [] s ≡ given (standing false p) x.rest) × (x.value ≡ label_for types p)
 labelled types levels s x e = gives_holds (label types levels s) _ x.value x.rest (label_gives types levels s) e
 
@@ -267,7 +269,7 @@ module _ (types : List Name) {text pairs code after code' : List ℕ} {at count 
         let (p, given) = answer.gives l in (
           proposition p,
           record {
-            reads = rw given.reads (ap (λ x. some (record { value = x; rest = drop r.end text })) (unlisted p (drop r.end text) given.reads));
+            reads = rw given.reads (ap (λ x. Some (record { value = x; rest = drop r.end text })) (unlisted p (drop r.end text) given.reads));
             fits = given.fits;
             noted = given.noted;
             kept = of_proposition given.kind_is given.number_is given.stored given.to_is;
@@ -306,7 +308,7 @@ module _ {text : List ℕ} {at r : ℕ} (ends : LoneEnds text at r) (h : r ≤ l
   lone_prop = lone_reads 128 (between at r text) _ _ (λ e. absurd (omega arith)) (ends.gives h) (ends.no_bracket h) (ends.no_connective h)
 
   pub lone_place : length text ≤ term_text_limit → NamePlace text at r
-  lone_place short = record { short = short; some = ends.from h; few = ends.short h; within = h }
+  lone_place short = record { short = short; Some = ends.from h; few = ends.short h; within = h }
 
   module _ (types : List Name) {t : Bool} (tested : t ≡ occurs eq_name (between at r text) types) where
     -- which is not listed
@@ -323,11 +325,11 @@ module _ {text : List ℕ} {at r : ℕ} (ends : LoneEnds text at r) (h : r ≤ l
     unfolding label ◌>>=◌ followed_by due same yield standing label_names
     lone_listed {pairs} {code} {after} {count} {to} {write} {w} e even answer =
         let reads : label types prop_levels (drop at text) ≡ given (datatype (between at r text)) (drop r text) =
-        rw lone_prop (ap (λ x. some (record { value = x; rest = drop r text })) (listed_label types (between at r text) (sym tested ∙ e))) in
+        rw lone_prop (ap (λ x. Some (record { value = x; rest = drop r text })) (listed_label types (between at r text) (sym tested ∙ e))) in
         record {
           fails = λ l x f.
               let is : datatype (between at r text) ≡ x.value =
-              ap (λ (y : Read (Label Name)). y.value) (some-injective (record { value = datatype (between at r text); rest = drop r text }) x (sym reads ∙ f)) in
+              ap (λ (y : Read (Label Name)). y.value) (same_Some (record { value = datatype (between at r text); rest = drop r text }) x (sym reads ∙ f)) in
               rw (← is) (crowded_datatype (table_names pairs text count) (between at r text) (answer.fails l));
           gives = λ l. (
             datatype (between at r text),

@@ -2,7 +2,7 @@
 use Prim.Native.Nat.{ℕ, zero, suc, ◌-◌, ◌<◌}
 use mathlib.Core.Path.{◌≡◌, refl, sym, ◌∙◌}
 use mathlib.Core.Bool.{Bool, true, false, true≢false}
-use mathlib.Core.Option.{Option, none, some, none-ne-some}
+use Rattle.std.specs.Prelude.{Option, None, Some}
 use mathlib.Core.List.{List, [], ◌∷◌}
 use native.Mathlib.Omega.{arith}
 use borrow.Author.Tests.{le-leb}
@@ -19,6 +19,7 @@ use Rattle.reading_laws.proofs.TermConventions.{Gives, gives_yield, gives_then, 
 use Rattle.prop_frames.specs.Fronts.{Part}
 use Rattle.atom_reader.proofs.Readings.{gives_from, gives_more, gives_any}
 use Rattle.prop_reader.proofs.Chains.{level}
+use Rattle.std.proofs.lemmas.Option.{none-some}
 
 pub is_lone : Prop Name → Bool
 is_lone True = false
@@ -39,29 +40,29 @@ label_other types (Atom a (p ∷ ps)) e = refl
 label_other types (Quantified q x t p) e = refl
 
 -- where no connective stands, none goes on, and where any does, one that binds at least 0 strongly does
-goes_none : (least : ℕ) (s : List ℕ) → connective s ≡ none → goes_on least s ≡ none
+goes_none : (least : ℕ) (s : List ℕ) → connective s ≡ None → goes_on least s ≡ None
 unfolding goes_on strong_enough
 goes_none least s e = rw e refl
 
-strong_any : (r : Read Connective) → strong_enough 0 (some r) ≡ some r
+strong_any : (r : Read Connective) → strong_enough 0 (Some r) ≡ Some r
 unfolding strong_enough
 strong_any r = rw (le-leb 0 (connective_precedence r.value) (omega arith)) refl
 
-none_goes : (s : List ℕ) → goes_on 0 s ≡ none → connective s ≡ none
+none_goes : (s : List ℕ) → goes_on 0 s ≡ None → connective s ≡ None
 unfolding goes_on
 none_goes s e = go (connective s) e
   where
-    go : (x : Option (Read Connective)) → strong_enough 0 x ≡ none → x ≡ none
-    go none e = refl
-    go (some r) e = absurd (none-ne-some r (sym e ∙ strong_any r))
+    go : (x : Option (Read Connective)) → strong_enough 0 x ≡ None → x ≡ None
+    go None e = refl
+    go (Some r) e = absurd (none-some r (sym e ∙ strong_any r))
 
 -- a lone name reads as one
-joined_lone : (part : Part) (names : List Name) (most least : ℕ) (p : Shown (Prop Name)) (s : List ℕ) → connective s ≡ none → joined part names most least p s ≡ given p s
+joined_lone : (part : Part) (names : List Name) (most least : ℕ) (p : Shown (Prop Name)) (s : List ℕ) → connective s ≡ None → joined part names most least p s ≡ given p s
 unfolding joined if_read yield
 joined_lone part names zero least p s e = refl
 joined_lone part names (suc most) least p s e = rw (goes_none least s e) refl
 
-pub lone_reads : (levels : ℕ) (a : Name) (s t : List ℕ) → (levels ≡ 0 → ⊥) → name s ≡ given a t → expect (utf8 "(") t ≡ none → connective t ≡ none
+pub lone_reads : (levels : ℕ) (a : Name) (s t : List ℕ) → (levels ≡ 0 → ⊥) → name s ≡ given a t → expect (utf8 "(") t ≡ None → connective t ≡ None
     → read_prop levels 0 [] s ≡ given (standing false (Atom a [])) t
 unfolding unit if_read atom_named parameters_of ◌>>=◌ followed_by yield
 lone_reads levels a s t some_level e f g =
@@ -71,23 +72,23 @@ lone_reads levels a s t some_level e f g =
 
 -- a name at the start, and no bracket after it
 abbrev NameAlone : List ℕ → List ℕ → Type 0
-NameAlone s t = (a : Name) × (name s ≡ given a t) × (expect (utf8 "(") t ≡ none)
+NameAlone s t = (a : Name) × (name s ≡ given a t) × (expect (utf8 "(") t ≡ None)
 
 -- and no connective either
 abbrev LoneName : List ℕ → Type 0
-LoneName s = (t : List ℕ) × NameAlone s t × (connective t ≡ none)
+LoneName s = (t : List ℕ) × NameAlone s t × (connective t ≡ None)
 
 -- without parameters no bracket follows
 parameters_alone : (names : List Name) (a : Name) (t : List ℕ)
-    → Gives (parameters_of names t) (λ ps rest. is_lone (Atom a ps) ≡ true → (rest ≡ t) × (expect (utf8 "(") t ≡ none))
+    → Gives (parameters_of names t) (λ ps rest. is_lone (Atom a ps) ≡ true → (rest ≡ t) × (expect (utf8 "(") t ≡ None))
 unfolding parameters_of if_read ◌>>=◌ is_lone
 parameters_alone names a t = go (expect (utf8 "(") t) refl
   where
     go : (x : Option (Read (Prim.Unit {0}))) → expect (utf8 "(") t ≡ x
         → Gives (if_read x (λ u rest. (name >>= λ y. later_parameters names parameter_limit >>= λ ps. yield (parameter_named names y ∷ ps)) rest) (yield [] t))
-        (λ ps rest. is_lone (Atom a ps) ≡ true → (rest ≡ t) × (expect (utf8 "(") t ≡ none))
-    go none e = gives_yield _ [] t (λ h. (refl, e))
-    go (some r) e =
+        (λ ps rest. is_lone (Atom a ps) ≡ true → (rest ≡ t) × (expect (utf8 "(") t ≡ None))
+    go None e = gives_yield _ [] t (λ h. (refl, e))
+    go (Some r) e =
         gives_then _ _ (name r.rest) _ (gives_any _) λ y u i.
         gives_then _ _ (later_parameters names parameter_limit u) _ (gives_any _) λ ps v j.
         gives_yield _ (parameter_named names y ∷ ps) v (λ h. absurd (true≢false (sym h)))
@@ -152,8 +153,8 @@ module _ (part : Part) (names : List Name) where
           due q.own (wraps_right c (precedence q.shown))
           (due (is_negation c q.shown) false (joined part names most 0 (standing false (Binary c p.shown q.shown))))))
           (yield p t)) (λ q rest. is_lone q.shown ≡ true → q.own ≡ false → LoneName s)
-      go none e = gives_yield _ p t (λ l o. (t, h l o, none_goes t e))
-      go (some r) e =
+      go None e = gives_yield _ p t (λ l o. (t, h l o, none_goes t e))
+      go (Some r) e =
           gives_due _ p.own _ _ r.rest λ d.
           gives_then _ _ (part (right_least r.value) names r.rest) _ (gives_any _) λ q u j.
           gives_due _ q.own _ _ u λ f.

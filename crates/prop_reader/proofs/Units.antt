@@ -2,7 +2,7 @@
 use Prim.Native.Nat.{ℕ, zero, suc, ◌+◌, ◌*◌, ◌≤◌, ◌<◌}
 use mathlib.Core.Path.{◌≡◌, refl, sym, ap, ◌∙◌}
 use mathlib.Core.Bool.{Bool, true, false}
-use mathlib.Core.Option.{Option, none}
+use Rattle.std.specs.Prelude.{Option, None}
 use mathlib.Core.List.{List, ◌++◌, append-nil}
 use mathlib.Core.Logic.{by_cases}
 use native.Mathlib.Omega.{arith}
@@ -45,7 +45,7 @@ sign_below bracket = omega arith
 sign_below (binder for_all) = omega arith
 sign_below (binder exists) = omega arith
 
-sign_lacks : {text : List ℕ} {at n : ℕ} → SignAt text at n → n ≡ 9 → sign (drop at text) ≡ none
+sign_lacks : {text : List ℕ} {at n : ℕ} → SignAt text at n → n ≡ 9 → sign (drop at text) ≡ None
 sign_lacks (signs g h e) k = absurd (omega (arith, sign_below g))
 sign_lacks (signs_not e) k = e
 
@@ -55,17 +55,17 @@ module _ (part : Part) (names : List Name) (s : List ℕ) where
   unfolding unit if_read atom_named atom_from
   unit_atom e = rw e refl
 
-  pub unit_signed : {g : Sign} {t : List ℕ} → name s ≡ none → sign s ≡ given g t → unit part names s ≡ signed part names g t
+  pub unit_signed : {g : Sign} {t : List ℕ} → name s ≡ None → sign s ≡ given g t → unit part names s ≡ signed part names g t
   unfolding unit if_read followed_by
   unit_signed e f = rw (e, f) refl
 
-  unit_lacks : name s ≡ none → sign s ≡ none → unit part names s ≡ none
+  unit_lacks : name s ≡ None → sign s ≡ None → unit part names s ≡ None
   unfolding unit if_read followed_by
   unit_lacks e f = rw (e, f) refl
 
 -- nothing stands there
 pub answers_none : {reading : Option (Read (Shown (Prop Name)))} {text pairs bound code after : List ℕ} {p : Place} {write : Bool} {r : PropRead}
-    → reading ≡ none → length text < r.end → PropAnswer reading text pairs bound code p write after bound code r
+    → reading ≡ None → length text < r.end → PropAnswer reading text pairs bound code p write after bound code r
 answers_none e h = record {
   fails = λ l. rw e (gives_none _);
   gives = λ l. absurd (omega arith);
@@ -73,7 +73,7 @@ answers_none e h = record {
   dry = λ l. refl;
 }
 
-pub no_unit : (part : Part) (names : List Name) {text : List ℕ} {at n : ℕ} → name (drop at text) ≡ none → SignAt text at n → n ≡ 9 → unit part names (drop at text) ≡ none
+pub no_unit : (part : Part) (names : List Name) {text : List ℕ} {at n : ℕ} → name (drop at text) ≡ None → SignAt text at n → n ≡ 9 → unit part names (drop at text) ≡ None
 no_unit part names e found k = unit_lacks part names _ e (sign_lacks found k)
 
 -- What belongs to a front.
@@ -121,8 +121,8 @@ gives_closing (quantified g x d) q t Q h = gives_due Q q.own false _ t λ e. giv
 pub bound_less : (a b : List ℕ) (m n : ℕ) → m ≤ n → bound_numbers a n ≡ bound_numbers b n → bound_numbers a m ≡ bound_numbers b m
 unfolding bound_numbers
 bound_less a b m zero h e =
-    let none : m ≡ 0 = omega arith in
-    rw none refl
+    let None : m ≡ 0 = omega arith in
+    rw None refl
 bound_less a b m (suc n) h e = by_cases (dec_le m n)
     (λ k. let tail : bound_numbers a n ≡ bound_numbers b n = cc in bound_less a b m n k tail)
     (λ k. let all : m ≡ suc n = omega arith in rw all e)

@@ -1,6 +1,5 @@
 -- What the reader of labels answers, in both directions.
-use Rattle.std.specs.Prelude.{ℕ, ◌+◌, ◌*◌, ◌/◌, ◌%◌, ◌<◌, ◌≤◌, ◌≡◌, Bool, true, false, List, [], ◌∷◌, length, drop}
-use Rattle.std.proofs.Math.Option.{none, some}
+use Rattle.std.specs.Prelude.{ℕ, ◌+◌, ◌*◌, ◌/◌, ◌%◌, ◌<◌, ◌≤◌, ◌≡◌, Bool, true, false, List, [], ◌∷◌, length, drop, None, Some}
 use Rattle.definitions.specs.Utf8.{utf8}
 use Rattle.definitions.specs.Name.{Name}
 use Rattle.definitions.specs.Prop.{Prop}
@@ -29,10 +28,10 @@ pub record LabelBegins (text : List ℕ) (at : ℕ) (pairs : List ℕ) (count to
 
 -- a lone name at `at` ends at `r`: neither a bracket nor a connective follows it; past the end where none stands there
 pub record LoneEnds (text : List ℕ) (at r : ℕ) : Type 0 where
-  pub fails : length text < r → (a : Name) (s : List ℕ) → name (drop at text) ≡ given a s → expect (utf8 "(") s ≡ none → connective s ≡ none → ⊥
+  pub fails : length text < r → (a : Name) (s : List ℕ) → name (drop at text) ≡ given a s → expect (utf8 "(") s ≡ None → connective s ≡ None → ⊥
   pub gives : r ≤ length text → name (drop at text) ≡ given (between at r text) (drop r text)
-  pub no_bracket : r ≤ length text → expect (utf8 "(") (drop r text) ≡ none
-  pub no_connective : r ≤ length text → connective (drop r text) ≡ none
+  pub no_bracket : r ≤ length text → expect (utf8 "(") (drop r text) ≡ None
+  pub no_connective : r ≤ length text → connective (drop r text) ≡ None
   pub from : r ≤ length text → at < r
   pub short : r ≤ length text → r ≤ at + name_length_limit
 
@@ -90,7 +89,7 @@ pub record LabelGiven
 pub record LabelAnswer
     (text : List ℕ) (at : ℕ) (types : List Name) (pairs : List ℕ) (count : ℕ) (code : List ℕ) (to : ℕ) (write : Bool)
     (after code' : List ℕ) (r : LabelRead) : Type 0 where
-  pub fails : length text < r.end → (x : Read (Label Name)) → label types prop_levels (drop at text) ≡ some x
+  pub fails : length text < r.end → (x : Read (Label Name)) → label types prop_levels (drop at text) ≡ Some x
       → fits_label (table_names pairs text count) x.value ≡ false
   pub gives : r.end ≤ length text → (l : Label Name) × LabelGiven text at types pairs count code to write after code' r l
   pub dry : write ≡ false → code' ≡ code

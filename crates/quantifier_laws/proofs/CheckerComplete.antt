@@ -3,8 +3,7 @@
 use Prim.Native.Nat.{ℕ, ◌+◌}
 use mathlib.Core.Path.{◌≡◌, refl, sym, ap, ◌∙◌}
 use mathlib.Core.Bool.{true}
-use mathlib.Core.Option as option
-use mathlib.Core.Option.{Option, some}
+use Rattle.std.specs.Prelude.{None, Option, Some}
 use Rattle.definitions.specs.Name.{Name}
 use Rattle.definitions.specs.AlphaEquality.{Nameless, True}
 use Rattle.definitions.specs.Term as term
@@ -20,18 +19,18 @@ use Rattle.quantifier_laws.proofs.NewNames.{new_complete}
 
 label_proposition : (g : Context) (l : Option (Label Name)) (a : Nameless) → LabelSays g l (proves a) → label_is_proposition g l a ≡ true
 unfolding LabelSays label_fact label_is_proposition
-label_proposition g option.none a e = refl
-label_proposition g (some (proposition p)) a e = let same : reading g p ≡ a = cc in rw same (eq_nameless_refl a)
-label_proposition g (some (datatype d)) a e = cc
+label_proposition g None a e = refl
+label_proposition g (Some (proposition p)) a e = let same : reading g p ≡ a = cc in rw same (eq_nameless_refl a)
+label_proposition g (Some (datatype d)) a e = cc
 
 label_datatype : (g : Context) (l : Option (Label Name)) (d : Name) → LabelSays g l (object_of d) → label_is_datatype l d ≡ true
 unfolding LabelSays label_fact label_is_datatype
-label_datatype g option.none d e = refl
-label_datatype g (some (proposition p)) d e = cc
-label_datatype g (some (datatype c)) d e = let same : c ≡ d = cc in eq_name_of_eq same
+label_datatype g None d e = refl
+label_datatype g (Some (proposition p)) d e = cc
+label_datatype g (Some (datatype c)) d e = let same : c ≡ d = cc in eq_name_of_eq same
 
 -- a bare name of that datatype is its object
-object_found : (x : Name) (g : Context) (d : Name) → lookup x g ≡ some (object_of d) → (n : ℕ) → object (term.Ident x) g n d ≡ derived x
+object_found : (x : Name) (g : Context) (d : Name) → lookup x g ≡ Some (object_of d) → (n : ℕ) → object (term.Ident x) g n d ≡ derived x
 unfolding object in_scope is_object_of ensure ◌>>=◌
 object_found x g d l n = rw (l, eq_name_refl d)
 

@@ -2,8 +2,7 @@
 use Prim.Native.Nat.{ℕ}
 use Prim.Native.String.{String}
 use mathlib.Core.Path.{◌≡◌, refl}
-use mathlib.Core.Option as option
-use mathlib.Core.Option.{some}
+use Rattle.std.specs.Prelude.{None, Some}
 use mathlib.Core.List.{List, [], ◌∷◌}
 use Rattle.definitions.specs.Utf8.{utf8}
 use Rattle.definitions.specs.Name.{Name}
@@ -43,20 +42,20 @@ unfolding everything inst.instantiate_object inst.instantiate_at inst.instantiat
 all = tt
 
 -- a label's x is the term's object in its whole scope, though a hypothesis hides it: `fn x => fn x => fst (sorry: P(x) ∧ A)`
-pub hidden_object : check (Function (utf8 "x") option.none (Function (utf8 "x") option.none
+pub hidden_object : check (Function (utf8 "x") None (Function (utf8 "x") None
     (ProjectFst (TypeAscription Sorry (proposition (prop.And (label_p "x" 3) (prop.Atom (utf8 "A") [])))))))
     [] 0 (ForAll (utf8 "T") (Impl (letter "A") (P (bound 0 ∷ [])))) ≡ derived tt
 unfolding all
 hidden_object = refl
 
 -- an object hides a hypothesis: `fn h => fn x => sorry` from h: P(x)
-pub hiding_object : check (Function (utf8 "h") option.none (Function (utf8 "x") option.none Sorry))
+pub hiding_object : check (Function (utf8 "h") None (Function (utf8 "x") None Sorry))
     (bind (utf8 "h") (proves (P (obj "x" 1 ∷ []))) []) 0 (ForAll (utf8 "T") (ForAll (utf8 "T") (letter "A"))) ≡ derived tt
 unfolding all
 hiding_object = refl
 
 -- an object that stands in a hypothesis is not new: `fn x => sorry` from h: P(x)
-pub not_new : check (Function (utf8 "x") option.none Sorry)
+pub not_new : check (Function (utf8 "x") None Sorry)
     (bind (utf8 "h") (proves (P (obj "x" 1 ∷ []))) []) 0 (ForAll (utf8 "T") (letter "A")) ≡ stopped 0
 unfolding all
 not_new = refl
@@ -85,7 +84,7 @@ unfolding all
 of_another = refl
 
 -- nothing is captured: with h: ∀a:T. ∀x:T. P(a, x), `fn x: T => h x` infers ∀T. ∀T. P over the outer and the inner object
-pub no_capture : infer (Function (utf8 "x") (some (datatype (utf8 "T"))) (Application (the "h") (the "x")))
+pub no_capture : infer (Function (utf8 "x") (Some (datatype (utf8 "T"))) (Application (the "h") (the "x")))
     (bind (utf8 "h") (proves (ForAll (utf8 "T") (ForAll (utf8 "T") (P (bound 1 ∷ bound 0 ∷ []))))) []) 0
     ≡ derived (proves (ForAll (utf8 "T") (ForAll (utf8 "T") (P (bound 1 ∷ bound 0 ∷ [])))))
 unfolding all

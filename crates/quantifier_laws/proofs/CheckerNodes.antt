@@ -1,8 +1,7 @@
 -- The node at which the checker stops is a node of the term.
 use Prim.Native.Nat.{ℕ, ◌+◌, ◌≤◌, ◌<◌}
 use mathlib.Core.Bool.{not}
-use mathlib.Core.Option as option
-use mathlib.Core.Option.{Option, some}
+use Rattle.std.specs.Prelude.{None, Option, Some}
 use native.Mathlib.Omega.{arith}
 use Rattle.definitions.specs.Name.{Name}
 use Rattle.definitions.specs.Prop.{Connective, Quantifier}
@@ -24,8 +23,8 @@ module _ (n hi : ℕ) (h : n < hi) where
 
   scope_within : (o : Option Fact) → Within n hi (in_scope n o)
   unfolding in_scope
-  scope_within option.none = stops self h
-  scope_within (some f) = goes
+  scope_within None = stops self h
+  scope_within (Some f) = goes
 
   proposed_within : (f : Fact) → Within n hi (proposed n f)
   unfolding proposed
@@ -134,9 +133,9 @@ module _ (n hi : ℕ) (h : n < hi) where
   abstraction_within : (g : Context) (x : Name) (l : Option (Label Name)) {k : Fact → Judged Fact}
       → ((f : Fact) → Within n hi (k f)) → Within n hi (infer_function n g x l k)
   unfolding infer_function
-  abstraction_within g x option.none k = stops self h
-  abstraction_within g x (some (proposition p)) k = inferred_within (k (proves (reading g p))) (λ b. goes)
-  abstraction_within g x (some (datatype d)) k =
+  abstraction_within g x None k = stops self h
+  abstraction_within g x (Some (proposition p)) k = inferred_within (k (proves (reading g p))) (λ b. goes)
+  abstraction_within g x (Some (datatype d)) k =
       then (ensure_within n h (is_new x g))
       (λ u. inferred_within (k (object_of d)) (λ b. then (ensure_within n h (not (stands x (generalise x b)))) (λ u. goes)))
 

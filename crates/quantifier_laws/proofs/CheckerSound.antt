@@ -3,8 +3,7 @@ use Prim.Native.Nat.{ℕ, ◌+◌}
 use mathlib.Core.Path.{◌≡◌, refl, ap}
 use mathlib.Core.Logic.{◌⊎◌, inl, inr, ◌↔◌}
 use mathlib.Core.Bool.{Bool, true, false, not, cond}
-use mathlib.Core.Option as option
-use mathlib.Core.Option.{Option, some}
+use Rattle.std.specs.Prelude.{None, Option, Some}
 use mathlib.Core.List.{[], ◌∷◌}
 use native.Mathlib.Omega.{arith}
 use Rattle.definitions.specs.Name.{Name, eq_name}
@@ -41,10 +40,10 @@ module _ (n : ℕ) where
   outside true next b e = clash (cc)
   outside false next b e = (refl, e)
 
-  scope_derived : (v : Option Fact) (f : Fact) → in_scope n v ≡ derived f → v ≡ some f
+  scope_derived : (v : Option Fact) (f : Fact) → in_scope n v ≡ derived f → v ≡ Some f
   unfolding in_scope
-  scope_derived option.none f e = clash (cc)
-  scope_derived (some g) f e = cc
+  scope_derived None f e = clash (cc)
+  scope_derived (Some g) f e = cc
 
   -- a proposition that was inferred, and what came next
   inferred : {B : Type 0} (o : Judged Fact) (next : Nameless → Judged B) (b : B) → (o >>= (λ f. proposed n f >>= next)) ≡ derived b
@@ -128,15 +127,15 @@ module _ (n : ℕ) where
 -- a label that says this
 label_proposition : (g : Context) (l : Option (Label Name)) (a : Nameless) → label_is_proposition g l a ≡ true → LabelSays g l (proves a)
 unfolding LabelSays label_fact label_is_proposition
-label_proposition g option.none a e = tt
-label_proposition g (some (proposition p)) a e = ap proves (eq_nameless_true (reading g p) a e)
-label_proposition g (some (datatype d)) a e = clash (cc)
+label_proposition g None a e = tt
+label_proposition g (Some (proposition p)) a e = ap proves (eq_nameless_true (reading g p) a e)
+label_proposition g (Some (datatype d)) a e = clash (cc)
 
 label_datatype : (g : Context) (l : Option (Label Name)) (d : Name) → label_is_datatype l d ≡ true → LabelSays g l (object_of d)
 unfolding LabelSays label_fact label_is_datatype
-label_datatype g option.none d e = tt
-label_datatype g (some (proposition p)) d e = clash (cc)
-label_datatype g (some (datatype c)) d e = ap object_of (eq_name_true e)
+label_datatype g None d e = tt
+label_datatype g (Some (proposition p)) d e = clash (cc)
+label_datatype g (Some (datatype c)) d e = ap object_of (eq_name_true e)
 
 is_object : (d : Name) (f : Fact) → is_object_of d f ≡ true → f ≡ object_of d
 unfolding is_object_of
@@ -152,13 +151,13 @@ abbrev pub ScopedContext : Context → Type 0
 ScopedContext [] = Unit {0}
 ScopedContext (e ∷ g) = ScopedFact e.fact × ScopedContext g
 
-found_scoped : (x : Name) (g : Context) → ScopedContext g → (a : Nameless) → lookup x g ≡ some (proves a) → Scoped 0 a
+found_scoped : (x : Name) (g : Context) → ScopedContext g → (a : Nameless) → lookup x g ≡ Some (proves a) → Scoped 0 a
 unfolding lookup
 found_scoped x [] h a e = clash (cc)
 found_scoped x (f ∷ g) h a e = go (eq_name f.name x) f.fact h.0 (λ k. found_scoped x g h.1 a k) e
   where
-    go : (b : Bool) (k : Fact) → ScopedFact k → (lookup x g ≡ some (proves a) → Scoped 0 a)
-        → cond b (some k) (lookup x g) ≡ some (proves a) → Scoped 0 a
+    go : (b : Bool) (k : Fact) → ScopedFact k → (lookup x g ≡ Some (proves a) → Scoped 0 a)
+        → cond b (Some k) (lookup x g) ≡ Some (proves a) → Scoped 0 a
     go true (proves c) s rest e = let same : c ≡ a = cc in rw same at s
     go true (object_of d) s rest e = clash (cc)
     go false k s rest e = rest e
@@ -179,7 +178,7 @@ same_fact : {a b : Nameless} → ◌≡◌ {A = Judged Fact} (derived (proves a)
 same_fact e = cc
 
 abbrev Named-object : Context → ProofTerm Name → Name → Name → Type 0
-Named-object g t d x = (t ≡ Ident x) × (lookup x g ≡ some (object_of d))
+Named-object g t d x = (t ≡ Ident x) × (lookup x g ≡ Some (object_of d))
 
 -- What is derived by a form, over what its parts derive.
 module _ (g : Context) (n : ℕ) where
@@ -252,12 +251,12 @@ module _ (g : Context) (n : ℕ) where
       → ((f : Fact) → ScopedFact f → (b : Nameless) → k f ≡ derived (proves b) → Derives (bind x f g) t b)
       → (a : Nameless) → infer_function n g x l k ≡ derived (proves a) → Derives g (Function x l t) a
   unfolding infer_function
-  function_inferred x option.none t k body a e = clash (cc)
-  function_inferred x (some (proposition p)) t k body a e =
+  function_inferred x None t k body a e = clash (cc)
+  function_inferred x (Some (proposition p)) t k body a e =
       let y = inferred n (k (proves (reading g p))) _ (proves a) e in
       let q = body (proves (reading g p)) (reading_scoped g p) y.0 y.1 in
       derives (same_fact y.2) (infer_function_lem refl q.rule) (reading_scoped g p, q.scoped)
-  function_inferred x (some (datatype d)) t k body a e =
+  function_inferred x (Some (datatype d)) t k body a e =
       let u = tested n (is_new x g) _ (proves a) e in
       let y = inferred n (k (object_of d)) _ (proves a) u.1 in
       let q = body (object_of d) tt y.0 y.1 in

@@ -3,8 +3,7 @@ use Prim.Native.Nat.{ℕ}
 use mathlib.Core.Path.{◌≡◌, refl, sym, ◌∙◌, ap}
 use mathlib.Core.Logic.{◌↔◌}
 use mathlib.Core.Bool.{Bool, true, false, cond, and-eq-true_iff}
-use mathlib.Core.Option as option
-use mathlib.Core.Option.{Option, some}
+use Rattle.std.specs.Prelude.{None, Option, Some}
 use mathlib.Core.List.{[]}
 use native.Mathlib.Omega.{arith}
 use Rattle.definitions.specs.Name.{Name, eq_name}
@@ -25,8 +24,8 @@ FreeLabel (proposition p) = Free p
 FreeLabel (datatype d) = ⊥
 
 abbrev pub FreeParameter : {N : Type 0} → Option (Label N) → Type 0
-FreeParameter option.none = Unit {0}
-FreeParameter (some l) = FreeLabel l
+FreeParameter None = Unit {0}
+FreeParameter (Some l) = FreeLabel l
 
 abbrev pub FreeTerm : {N : Type 0} → ProofTerm N → Type 0
 FreeTerm (Ident x) = Unit {0}
@@ -61,15 +60,15 @@ record Found (x : Name) (h : plain.Context) (a : Nameless) : Type 0 where
   prop : Prop Name
   is : nameless [] prop ≡ a
   is_free : Free prop
-  found : plain.lookup x h ≡ some prop
+  found : plain.lookup x h ≡ Some prop
 
-found : (x : Name) {h : plain.Context} {g : Context} {a : Nameless} → Same h g → lookup x g ≡ some (proves a) → Found x h a
+found : (x : Name) {h : plain.Context} {g : Context} {a : Nameless} → Same h g → lookup x g ≡ Some (proves a) → Found x h a
 unfolding lookup plain.lookup
 found x none l = absurd (let z : ◌≡◌ {A = ℕ} 0 1 = cc in omega arith)
 found x {a = a} (one {x = y} {p = p} {a = b} {h = h} {g = g} e f s) l = go (eq_name y x) refl (λ k. found x s k) l
   where
-    go : (t : Bool) → eq_name y x ≡ t → (lookup x g ≡ some (proves a) → Found x h a)
-        → cond t (some (proves b)) (lookup x g) ≡ some (proves a) → Found x (plain.bind y p h) a
+    go : (t : Bool) → eq_name y x ≡ t → (lookup x g ≡ Some (proves a) → Found x h a)
+        → cond t (Some (proves b)) (lookup x g) ≡ Some (proves a) → Found x (plain.bind y p h) a
     go true same rest l = record { prop = p; is = cc; is_free = f; found = rw same }
     go false same rest l =
         let r = rest l in
@@ -97,11 +96,11 @@ exactly i p e = rw (← same_prop i.prop p i.is_free (i.is ∙ sym e)) i.infers
 says_plain : (l : Option (Label Name)) (p : Prop Name) {h : plain.Context} {g : Context} {a : Nameless}
     → Same h g → FreeParameter l → nameless [] p ≡ a → LabelSays g l (proves a) → plain.LabelIs l p
 unfolding LabelSays label_fact plain.LabelIs
-says_plain option.none p s f e l = tt
-says_plain (some (proposition q)) p s f e l =
+says_plain None p s f e l = tt
+says_plain (Some (proposition q)) p s f e l =
     let read = read_plain q s in
     ap proposition (same_prop q p f (cc))
-says_plain (some (datatype d)) p s f e l = absurd f
+says_plain (Some (datatype d)) p s f e l = absurd f
 
 unit : nameless [] prop.True ≡ Nameless.True
 unfolding nameless
@@ -214,24 +213,24 @@ mutual
   checks_plain s f p e k (check_inferred d) = plain.check_inferred (exactly (infers_plain s f d) p e)
 
 -- The other way: document 01's rules are among the rules.
-pub found_too : (x : Name) {h : plain.Context} {g : Context} {p : Prop Name} → Same h g → plain.lookup x h ≡ some p
-    → (lookup x g ≡ some (proves (nameless [] p))) × Free p
+pub found_too : (x : Name) {h : plain.Context} {g : Context} {p : Prop Name} → Same h g → plain.lookup x h ≡ Some p
+    → (lookup x g ≡ Some (proves (nameless [] p))) × Free p
 unfolding lookup plain.lookup
 found_too x none l = absurd (let z : ◌≡◌ {A = ℕ} 0 1 = cc in omega arith)
 found_too x {p = p} (one {x = y} {p = q} {a = a} {h = h} {g = g} e f s) l = go (eq_name y x) (λ k. found_too x s k) l
   where
-    go : (t : Bool) → (plain.lookup x h ≡ some p → (lookup x g ≡ some (proves (nameless [] p))) × Free p)
-        → cond t (some q) (plain.lookup x h) ≡ some p
-        → (cond t (some (proves a)) (lookup x g) ≡ some (proves (nameless [] p))) × Free p
+    go : (t : Bool) → (plain.lookup x h ≡ Some p → (lookup x g ≡ Some (proves (nameless [] p))) × Free p)
+        → cond t (Some q) (plain.lookup x h) ≡ Some p
+        → (cond t (Some (proves a)) (lookup x g) ≡ Some (proves (nameless [] p))) × Free p
     go true rest l = let same : q ≡ p = cc in (rw (← e, same), rw same at f)
     go false rest l = rest l
 
 says_too : (l : Option (Label Name)) (p : Prop Name) {h : plain.Context} {g : Context}
     → Same h g → plain.LabelIs l p → LabelSays g l (proves (nameless [] p))
 unfolding LabelSays label_fact plain.LabelIs
-says_too option.none p s e = tt
-says_too (some (proposition q)) p s e = let same : q ≡ p = cc in rw same (ap proves (read_plain p s))
-says_too (some (datatype d)) p s e = absurd (let z : ◌≡◌ {A = ℕ} 0 1 = cc in omega arith)
+says_too None p s e = tt
+says_too (Some (proposition q)) p s e = let same : q ≡ p = cc in rw same (ap proves (read_plain p s))
+says_too (Some (datatype d)) p s e = absurd (let z : ◌≡◌ {A = ℕ} 0 1 = cc in omega arith)
 
 pub free_left : (c : Connective) (p q : Prop Name) → Free (prop.Binary c p q) → Free p
 unfolding is_quantifier_free

@@ -3,7 +3,7 @@
 use Prim.Native.Nat.{ℕ}
 use mathlib.Core.Path.{◌≡◌}
 use mathlib.Core.Bool.{false}
-use mathlib.Core.Option.{some}
+use Rattle.std.specs.Prelude.{Some}
 use mathlib.Core.List.{List, [], Memᴰ}
 use Rattle.definitions.specs.Name.{Name, eq_name}
 use Rattle.definitions.specs.AlphaEquality.{Nameless, nameless}
@@ -28,14 +28,14 @@ apart x f (Memᴰ.tail i) = apart x f.1 i
 
 -- what is in scope is the latest of its name
 found : (xs : List Name) {hs : Scope} {h : Assumption} → Distinct hs → Memᴰ h hs
-    → lookup h.identifier.name (among_entries xs (entries hs)) ≡ some (among_fact xs h.fact)
+    → lookup h.identifier.name (among_entries xs (entries hs)) ≡ Some (among_fact xs h.fact)
 unfolding lookup entries among_entries
 found xs {h = h} nothing x3 = elim x3 [ ]
 found xs {h = h} (added f d) (Memᴰ.head p) = rw (p, eq_name_refl)
 found xs {h = h} (added {x = x} f d) (Memᴰ.tail i) = rw (apart x f i) (found xs d i)
 
 latest : {hs : Scope} {h : Assumption} → Distinct hs → Memᴰ h hs
-    → lookup h.identifier.name (context hs) ≡ some (among_fact (objects_of hs) h.fact)
+    → lookup h.identifier.name (context hs) ≡ Some (among_fact (objects_of hs) h.fact)
 unfolding context
 latest {hs = hs} d i = found (objects_of hs) d i
 

@@ -5,8 +5,7 @@ use native.Mathlib.Omega.{arith}
 use borrow.Author.Tests.{le-leb}
 use mathlib.Core.Path.{◌≡◌, refl, sym, ap, ◌∙◌}
 use mathlib.Core.Bool.{true, false}
-use mathlib.Core.Option as option
-use mathlib.Core.Option.{some}
+use Rattle.std.specs.Prelude.{None, Some}
 use mathlib.Core.List.{List, [], ◌∷◌}
 use Rattle.definitions.specs.Outcome.{accepted, ◌>>=◌, refuse_if}
 use Rattle.definitions.specs.Name.{Name}
@@ -87,13 +86,13 @@ module _ (z : Step Name) (ps : Premisses Name) (us : List (ProofTerm Name)) (adm
   placed m d = rw (admitted, d.exported)
 
   -- a step in a checking place
-  checking_step : AllExported (places z.rule checking) ps us → Exported checking (over z ps) (step_term z option.none us)
+  checking_step : AllExported (places z.rule checking) ps us → Exported checking (over z ps) (step_term z None us)
   unfolding placed_term placed_tally total tally_of
   checking_step d = record { exported = placed checking d; labelled = labels.unlabelled refl d.labelled refl }
 
   -- a step without a label of its own
-  bare_step : (m : Place) → total (tally z.rule) ≡ 0 → inferring_term (ending z.rule) z us ≡ accepted (step_term z option.none us)
-      → AllExported (places z.rule m) ps us → Exported m (over z ps) (step_term z option.none us)
+  bare_step : (m : Place) → total (tally z.rule) ≡ 0 → inferring_term (ending z.rule) z us ≡ accepted (step_term z None us)
+      → AllExported (places z.rule m) ps us → Exported m (over z ps) (step_term z None us)
   unfolding placed_term placed_tally total tally_of
   bare_step checking n e d = checking_step d
   bare_step inferring n e d = record { exported = rw (placed inferring d) e; labelled = labels.unlabelled n d.labelled refl }
@@ -102,7 +101,7 @@ module _ (z : Step Name) (ps : Premisses Name) (us : List (ProofTerm Name)) (adm
   ascribed_step : (a : Prop Name) → z.conclusion ≡ PropIsTrue a
       → ending z.rule ≡ ascribed → total (tally z.rule) ≡ 1 → (tally z.rule).functions ≡ 0
       → AllExported (places z.rule inferring) ps us
-      → Exported inferring (over z ps) (TypeAscription (step_term z option.none us) (proposition a))
+      → Exported inferring (over z ps) (TypeAscription (step_term z None us) (proposition a))
   unfolding placed_term placed_tally inferring_term ascription_label ◌>>=◌
   ascribed_step a c e n f d =
       record {
@@ -114,7 +113,7 @@ module _ (z : Step Name) (ps : Premisses Name) (us : List (ProofTerm Name)) (adm
   function_step : (a b : Prop Name) → z.conclusion ≡ PropIsTrue (prop.Impl a b)
       → ending z.rule ≡ left_labelled → total (tally z.rule) ≡ 1 → (tally z.rule).functions ≡ 1
       → AllExported (places z.rule inferring) ps us
-      → Exported inferring (over z ps) (step_term z (some (proposition a)) us)
+      → Exported inferring (over z ps) (step_term z (Some (proposition a)) us)
   unfolding placed_term placed_tally inferring_term left_label implication_label as_binary eq_connective connective_byte ◌>>=◌
   function_step a b c e n f d =
       record {
@@ -126,7 +125,7 @@ module _ (z : Step Name) (ps : Premisses Name) (us : List (ProofTerm Name)) (adm
   generalisation_step : (x d : Name) (p : Prop Name) → z.conclusion ≡ PropIsTrue (prop.ForAll x d p)
       → ending z.rule ≡ datatype_labelled → total (tally z.rule) ≡ 1 → (tally z.rule).functions ≡ 1
       → AllExported (places z.rule inferring) ps us
-      → Exported inferring (over z ps) (step_term z (some (datatype d)) us)
+      → Exported inferring (over z ps) (step_term z (Some (datatype d)) us)
   unfolding placed_term placed_tally inferring_term datatype_label universal_label as_quantified eq_quantifier quantifier_byte ◌>>=◌
   generalisation_step x d p c e n f parts =
       record {
@@ -144,17 +143,17 @@ pub record Exports (hs : Scope) (t : ProofTree Name) (a : Nameless) (m : Place) 
 module _ (m : Place) (hs : Scope) (z : Step Name) (r : ProofTreeRule) (is_rule : z.rule ≡ r) where
   -- the step's term, with the rule in place of the step
   abbrev Term : List (ProofTerm Name) → ProofTerm Name
-  Term us = rule_term r z.first.name z.second.name option.none (premiss_term us 0) (premiss_term us 1) (premiss_term us 2)
+  Term us = rule_term r z.first.name z.second.name None (premiss_term us 0) (premiss_term us 1) (premiss_term us 2)
 
   -- a step without a label of its own
   unlabelled : {ps : Premisses Name} {us : List (ProofTerm Name)} {a : Nameless}
       → admits_count r (count ps) ≡ true → total (tally r) ≡ 0
-      → {e : Ending} → ending r ≡ e → inferring_term e z us ≡ accepted (step_term z option.none us)
+      → {e : Ending} → ending r ≡ e → inferring_term e z us ≡ accepted (step_term z None us)
       → AllExported (places r m) ps us → Accepts m (context hs) (Term us) (among (objects_of hs) a) → Exports hs (over z ps) a m
   unfolding step_term
   unlabelled {ps} {us} k n {e} is_ending is_bare d accepts =
       record {
-        term = step_term z option.none us;
+        term = step_term z None us;
         result = bare_step z ps us (rw is_rule k) m (rw is_rule n)
             (ap (λ x. inferring_term x z us) (ap ending is_rule ∙ is_ending) ∙ is_bare) (rw is_rule d);
         accepts = rw is_rule accepts;
@@ -169,13 +168,13 @@ module _ (hs : Scope) (z : Step Name) (r : ProofTreeRule) (a : Nameless) (c : Co
   unfolding step_term
   ascribe {ps} {us} checking e n f k d checked =
       record {
-        term = step_term z option.none us;
+        term = step_term z None us;
         result = checking_step z ps us (rw c.rule k) (rw c.rule d);
         accepts = rw c.rule (checks checked);
       }
   ascribe {ps} {us} inferring e n f k d checked =
       record {
-        term = TypeAscription (step_term z option.none us) (proposition c.prop);
+        term = TypeAscription (step_term z None us) (proposition c.prop);
         result = ascribed_step z ps us (rw c.rule k) c.prop c.conclusion (rw c.rule e) (rw c.rule n) (rw c.rule f)
             (rw c.rule d);
         accepts = rw c.rule (infers (infer_ascribed_lem (reading_scope hs c.prop c.form) checked));
@@ -215,14 +214,14 @@ abstraction : {t : ProofTree Name} (hs : Scope) (z : Step Name) (a b : Nameless)
 unfolding context sound.entries sound.among_entries sound.among_fact rules.objects rules.object_before among admits_count admits count places ending row row_of step_term rule_term premiss_term total tally tally_of LabelSays
 abstraction {t} hs z a b checking c x =
     record {
-      term = step_term z option.none (x.term ∷ []);
+      term = step_term z None (x.term ∷ []);
       result = checking_step z (t and none) (x.term ∷ []) (rw c.rule) (rw c.rule (read x.result (unread none)));
       accepts = rw c.rule (checks (check_function tt (check x.accepts)));
     }
 abstraction {t} hs z a b inferring c x =
     let i = is_implication c.prop c.form in
     record {
-      term = step_term z (some (proposition i.left)) (x.term ∷ []);
+      term = step_term z (Some (proposition i.left)) (x.term ∷ []);
       result =
           function_step z (t and none) (x.term ∷ []) (rw c.rule) i.left i.right (c.conclusion ∙ ap PropIsTrue i.is_impl)
           (rw c.rule) (rw c.rule) (rw c.rule) (rw c.rule (read x.result (unread none)));
@@ -253,14 +252,14 @@ generalisation {t} hs z d c m concludes absent out x = go m x
         → Exports hs (over z (t and none)) (ForAll d c) m
     go checking x =
         record {
-          term = step_term z option.none (x.term ∷ []);
+          term = step_term z None (x.term ∷ []);
           result = checking_step z (t and none) (x.term ∷ []) (rw concludes.rule) (rw concludes.rule (read x.result (unread none)));
           accepts = rw concludes.rule (checks (check_generalisation tt new outside refl (check (inside x.accepts))));
         }
     go inferring x =
         let i = is_universal concludes.prop concludes.form in
         record {
-          term = step_term z (some (datatype d)) (x.term ∷ []);
+          term = step_term z (Some (datatype d)) (x.term ∷ []);
           result =
               generalisation_step z (t and none) (x.term ∷ []) (rw concludes.rule) i.object d i.body
               (concludes.conclusion ∙ ap PropIsTrue i.is_for_all)
@@ -271,12 +270,12 @@ generalisation {t} hs z d c m concludes absent out x = go m x
 -- a datatype judgement exports, in a checking place, to the name of an object in scope
 record Names (hs : Scope) (t : ProofTree Name) (x : Identifier Name) (d : Name) : Type 0 where
   exported : Exported checking t (term.Ident x.name)
-  found : lookup x.name (context hs) ≡ some (object_of d)
+  found : lookup x.name (context hs) ≡ Some (object_of d)
 
 names : {hs : Scope} {t : ProofTree Name} {x : Identifier Name} {d : Name} → Judgement shadowing hs t x d → Names hs t x d
 unfolding shadowing among_fact admits_count admits places row row_of step_term rule_term
 names (sound.Judgement.ident {z = z} {ps = ps} {x = x} r first c l p) =
-    let whole : step_term z option.none [] ≡ term.Ident x.name = rw (r, first) in
+    let whole : step_term z None [] ≡ term.Ident x.name = rw (r, first) in
     record {
       exported = rw whole at (checking_step z ps [] (rw r) (rw r (unread ps)));
       found = l;

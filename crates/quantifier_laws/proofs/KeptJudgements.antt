@@ -2,8 +2,7 @@
 use Prim.Native.Nat.{ℕ}
 use mathlib.Core.Path.{◌≡◌, refl, ap, ◌∙◌}
 use mathlib.Core.Bool.{Bool, true, false, ◌&&◌, ◌||◌, not, and-eq-true_iff}
-use mathlib.Core.Option as option
-use mathlib.Core.Option.{Option, some}
+use Rattle.std.specs.Prelude.{None, Option, Some}
 use mathlib.Core.List.{List, [], ◌∷◌}
 use lib.Dec.{leb}
 use native.Mathlib.Omega.{arith}
@@ -50,8 +49,8 @@ record PlainParameter (l : Option (Label Name)) : Type 0 where
 
 plain_parameter : (l : Option (Label Name)) → is_checkable_parameter_label l ≡ true → PlainParameter l
 unfolding is_checkable_parameter_label unbound_parameter
-plain_parameter option.none e = record { is_free = tt; is_bound = refl }
-plain_parameter (some l) e = let x = plain_label l e in record { is_free = x.is_free; is_bound = x.is_bound }
+plain_parameter None e = record { is_free = tt; is_bound = refl }
+plain_parameter (Some l) e = let x = plain_label l e in record { is_free = x.is_free; is_bound = x.is_bound }
 
 record PlainTerm (t : ProofTerm Name) : Type 0 where
   is_free : FreeTerm t

@@ -2,8 +2,7 @@
 -- inferring places.
 use Prim.Native.Nat.{ℕ, ◌+◌, ◌*◌}
 use mathlib.Core.Path.{◌≡◌, refl, ap}
-use mathlib.Core.Option as option
-use mathlib.Core.Option.{Option, some}
+use Rattle.std.specs.Prelude.{None, Option, Some}
 use mathlib.Core.List.{List, [], ◌∷◌}
 use native.Mathlib.Omega.{arith}
 use Rattle.definitions.specs.Tree as tree
@@ -61,13 +60,13 @@ mutual
 
   pub labels_counted : {N : Type 0} {m : Place} {t : ProofTree N} {u : ProofTerm N}
       → Labelled m t u → annotation_count u ≡ total (inferring_tally t m)
-  labels_counted (unlabelled {m = m} {z = z} e d v) = let own = step_count m z option.none d (all_labels_counted d) in rw v (omega arith)
-  labels_counted (ascribed {m = m} {z = z} e f h d v) = let own = step_count m z option.none d (all_labels_counted d) in rw v (omega arith)
+  labels_counted (unlabelled {m = m} {z = z} e d v) = let own = step_count m z None d (all_labels_counted d) in rw v (omega arith)
+  labels_counted (ascribed {m = m} {z = z} e f h d v) = let own = step_count m z None d (all_labels_counted d) in rw v (omega arith)
   labels_counted (function {m = m} {z = z} {p = p} e f h d v) =
-      let own = step_count m z (some (proposition p)) d (all_labels_counted d) in
+      let own = step_count m z (Some (proposition p)) d (all_labels_counted d) in
       rw v (omega arith)
   labels_counted (generalisation {m = m} {z = z} {d = t} e f h d v) =
-      let own = step_count m z (some (datatype t)) d (all_labels_counted d) in
+      let own = step_count m z (Some (datatype t)) d (all_labels_counted d) in
       rw v (omega arith)
 
   all_labels_counted : {N : Type 0} {ms : List Place} {ps : Premisses N} {us : List (ProofTerm N)}

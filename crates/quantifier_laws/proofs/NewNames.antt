@@ -2,7 +2,7 @@
 use Prim.Native.Nat.{ℕ}
 use mathlib.Core.Path.{◌≡◌, refl, ap}
 use mathlib.Core.Bool.{Bool, true, false, ◌||◌, not, cond, and-eq-true_iff}
-use mathlib.Core.Option.{Option, some}
+use Rattle.std.specs.Prelude.{Option, Some}
 use mathlib.Core.List.{List, [], ◌∷◌}
 use native.Mathlib.Omega.{arith}
 use Rattle.definitions.specs.Name.{Name, eq_name}
@@ -15,14 +15,14 @@ use Rattle.quantifier_laws.proofs.Instantiation.{left_false, right_false}
 
 -- the name stands in no hypothesis that is found by a name other than these
 abbrev NewAfter : List Name → Name → Context → Type 0
-NewAfter hidden x g = (y : Name) (a : Nameless) → is_among y hidden ≡ false → lookup y g ≡ some (proves a) → stands x a ≡ false
+NewAfter hidden x g = (y : Name) (a : Nameless) → is_among y hidden ≡ false → lookup y g ≡ Some (proves a) → stands x a ≡ false
 
 clash : {A : Type 0} → ◌≡◌ {A = ℕ} 0 1 → A
 clash e = absurd (omega arith)
 
 -- the entry itself
 here : (hidden : List Name) (x : Name) (f : Fact) (a : Nameless) (b : Bool) → b ≡ false → (b || not (stands_in x f)) ≡ true
-    → ◌≡◌ {A = Option Fact} (some f) (some (proves a)) → stands x a ≡ false
+    → ◌≡◌ {A = Option Fact} (Some f) (Some (proves a)) → stands x a ≡ false
 unfolding stands_in
 here hidden x (proves c) a true h e l = clash (cc)
 here hidden x (proves c) a false h e l = let same : c ≡ a = cc in rw same at (not_true (stands x c) e)
@@ -40,8 +40,8 @@ sound hidden x (f ∷ g) e y a h l =
     go (eq_name f.name y) refl both.0 (λ k m. sound (f.name ∷ hidden) x g both.1 y a k m) l
   where
     go : (b : Bool) → eq_name f.name y ≡ b → (is_among f.name hidden || not (stands_in x f.fact)) ≡ true
-        → (is_among y (f.name ∷ hidden) ≡ false → lookup y g ≡ some (proves a) → stands x a ≡ false)
-        → cond b (some f.fact) (lookup y g) ≡ some (proves a) → stands x a ≡ false
+        → (is_among y (f.name ∷ hidden) ≡ false → lookup y g ≡ Some (proves a) → stands x a ≡ false)
+        → cond b (Some f.fact) (lookup y g) ≡ Some (proves a) → stands x a ≡ false
     go true same own rest l = here hidden x f.fact a (is_among f.name hidden) (rw (eq_name_true same) h) own l
     go false same own rest l = rest (rw same h) l
 
@@ -53,7 +53,7 @@ own_true : (hidden : List Name) (x : Name) (f : Entry) (g : Context) → NewAfte
     → (b : Bool) → is_among f.name hidden ≡ b → (k : Fact) → f.fact ≡ k → (b || not (stands_in x k)) ≡ true
 unfolding lookup stands_in
 own_true hidden x f g h true e k s = refl
-own_true hidden x f g h false e (proves a) s = rw (h f.name a e (rw (eq_name_refl f.name) (ap some s)))
+own_true hidden x f g h false e (proves a) s = rw (h f.name a e (rw (eq_name_refl f.name) (ap Some s)))
 own_true hidden x f g h false e (object_of d) s = refl
 
 complete : (hidden : List Name) (x : Name) (g : Context) → NewAfter hidden x g → is_new_after hidden x g ≡ true

@@ -3,8 +3,7 @@
 use Prim.Native.Nat.{ℕ, zero, suc, ◌+◌}
 use mathlib.Core.Path.{◌≡◌, refl, sym, ◌∙◌}
 use mathlib.Core.Bool.{true, and-eq-true_iff}
-use mathlib.Core.Option as option
-use mathlib.Core.Option.{Option, some}
+use Rattle.std.specs.Prelude.{None, Option, Some}
 use mathlib.Core.List.{List, [], ◌∷◌}
 use native.Mathlib.Omega.{arith}
 use Rattle.definitions.specs.Prop as prop
@@ -155,20 +154,20 @@ mutual
       let p = all_plain_labels h.1 d in
       record {
         labelled = plain.unlabelled (sym (placed_same m z.rule h.0.rule) ∙ e) p.labelled v;
-        is_free = rw v (step_free z option.none us tt p.are_free);
+        is_free = rw v (step_free z None us tt p.are_free);
       }
   plain_labels h (labels.ascribed {m = m} {z = z} {us = us} e f c d v) =
       let p = all_plain_labels h.1 d in
       record {
         labelled = plain.ascribed (sym (placed_same m z.rule h.0.rule) ∙ e) (sym (functions_same z.rule) ∙ f) c p.labelled v;
-        is_free = rw v (step_free z option.none us tt p.are_free, rw c at h.0.conclusion);
+        is_free = rw v (step_free z None us tt p.are_free, rw c at h.0.conclusion);
       }
   plain_labels h (labels.function {m = m} {z = z} {us = us} {p = a} {q = b} e f c d v) =
       let p = all_plain_labels h.1 d in
       let whole : Free (prop.Impl a b) = rw c at h.0.conclusion in
       record {
         labelled = plain.function (sym (placed_same m z.rule h.0.rule) ∙ e) (sym (functions_same z.rule) ∙ f) c p.labelled v;
-        is_free = rw v (step_free z (some (proposition a)) us ((and-eq-true_iff (is_quantifier_free a) (is_quantifier_free b)).0 whole).0 p.are_free);
+        is_free = rw v (step_free z (Some (proposition a)) us ((and-eq-true_iff (is_quantifier_free a) (is_quantifier_free b)).0 whole).0 p.are_free);
       }
   plain_labels h (labels.generalisation {z = z} {x = x} {d = t} {p = a} e f c d v) =
       let whole : Free (prop.ForAll x t a) = rw c at h.0.conclusion in

@@ -2,7 +2,7 @@
 use Prim.Native.Nat.{ℕ}
 use mathlib.Core.Path.{◌≡◌, refl, ◌∙◌, ap}
 use mathlib.Core.Bool.{Bool, true, false, cond}
-use mathlib.Core.Option.{some}
+use Rattle.std.specs.Prelude.{Some}
 use mathlib.Core.List.{List, [], ◌∷◌}
 use Rattle.definitions.specs.Outcome.{accepted}
 use Rattle.definitions.specs.Name.{Name, eq_name}
@@ -39,20 +39,20 @@ unfolding embed entries objects object_before
 no_objects [] = refl
 no_objects (h ∷ hs) = no_objects hs
 
-found : (x : Name) (hs : plain.Hypotheses) {a : Prop Name} → rules.lookup x (plain.context hs) ≡ some a
-    → lookup x (among_entries [] (entries (embed hs))) ≡ some (proves (nameless [] a))
+found : (x : Name) (hs : plain.Hypotheses) {a : Prop Name} → rules.lookup x (plain.context hs) ≡ Some a
+    → lookup x (among_entries [] (entries (embed hs))) ≡ Some (proves (nameless [] a))
 unfolding plain.context rules.lookup embed entries among_entries lookup among_fact
 found x [] l = cc
 found x (h ∷ hs) {a} l = go (eq_name h.identifier.name x) (λ k. found x hs k) l
   where
-    go : (b : Bool) → (rules.lookup x (plain.context hs) ≡ some a → lookup x (among_entries [] (entries (embed hs))) ≡ some (proves (nameless [] a)))
-        → cond b (some h.prop) (rules.lookup x (plain.context hs)) ≡ some a
-        → cond b (some (proves (among [] (nameless [] h.prop)))) (lookup x (among_entries [] (entries (embed hs)))) ≡ some (proves (nameless [] a))
+    go : (b : Bool) → (rules.lookup x (plain.context hs) ≡ Some a → lookup x (among_entries [] (entries (embed hs))) ≡ Some (proves (nameless [] a)))
+        → cond b (Some h.prop) (rules.lookup x (plain.context hs)) ≡ Some a
+        → cond b (Some (proves (among [] (nameless [] h.prop)))) (lookup x (among_entries [] (entries (embed hs)))) ≡ Some (proves (nameless [] a))
     go true rest l = rw among_none (let same : h.prop ≡ a = cc in cc)
     go false rest l = rest l
 
-latest : (x : Name) (hs : plain.Hypotheses) {a : Prop Name} → rules.lookup x (plain.context hs) ≡ some a
-    → lookup x (context (embed hs)) ≡ some (among_fact (objects_of (embed hs)) (proves (nameless [] a)))
+latest : (x : Name) (hs : plain.Hypotheses) {a : Prop Name} → rules.lookup x (plain.context hs) ≡ Some a
+    → lookup x (context (embed hs)) ≡ Some (among_fact (objects_of (embed hs)) (proves (nameless [] a)))
 unfolding context among_fact
 latest x hs {a} l = rw (no_objects hs, among_none (nameless [] a)) (found x hs l)
 

@@ -3,8 +3,7 @@
 use Prim.Native.Nat.{ℕ, ◌+◌}
 use mathlib.Core.Path.{◌≡◌, refl, sym, ap, ◌∙◌}
 use mathlib.Core.Bool.{Bool, true, false, cond}
-use mathlib.Core.Option as option
-use mathlib.Core.Option.{Option, some}
+use Rattle.std.specs.Prelude.{None, Option, Some}
 use mathlib.Core.List.{[]}
 use native.Mathlib.Omega.{arith}
 use Rattle.definitions.specs.Name.{Name, eq_name}
@@ -142,7 +141,7 @@ in_scope n x Same.none = halt
 in_scope n x (one {x = y} {p = p} {a = a} {h = h} {g = g} e f s) = cases (eq_name y x) (in_scope n x s)
   where
     cases : (b : Bool) → Agree Proved (five.in_scope n (plain.lookup x h)) (grown.in_scope n (lookup x g))
-        → Agree Proved (five.in_scope n (cond b (some p) (plain.lookup x h))) (grown.in_scope n (cond b (some (proves a)) (lookup x g)))
+        → Agree Proved (five.in_scope n (cond b (Some p) (plain.lookup x h))) (grown.in_scope n (cond b (Some (proves a)) (lookup x g)))
     cases true r = go (ap proves (sym e), f)
     cases false r = r
 
@@ -192,19 +191,19 @@ module _ (n : ℕ) where
       → ((q : Prop Name) → Free q → Agree Proved (k q) (k' (proves (nameless [] q))))
       → Agree Proved (five.◌>>=◌ (five.labelled n l) (λ p. five.◌>>=◌ (k p) (λ q. five.derived (prop.Impl p q)))) (grown.infer_function n g x l k')
   unfolding five.labelled five.◌>>=◌ grown.infer_function nameless
-  infer_function_lem s x option.none f k' c = halt
-  infer_function_lem s x (some (proposition p)) f k' c =
+  infer_function_lem s x None f k' c = halt
+  infer_function_lem s x (Some (proposition p)) f k' c =
       rw (read_plain p s) (inferred n _ (c p f) (λ q m. go (refl, free_binary impl p q f m)))
-  infer_function_lem s x (some (datatype d)) f k' c = absurd f
+  infer_function_lem s x (Some (datatype d)) f k' c = absurd f
 
   label_is : {h : plain.Context} {g : Context} → Same h g → (l : Option (Label Name)) → FreeParameter l → (p : Prop Name)
       → {S T : Type 0} {R : S → T → Type 0} (next : Unit {0} → five.Judged S) (next' : Unit {0} → five.Judged T) → Agree R (next tt) (next' tt)
       → Agree R (five.◌>>=◌ (five.label_is n l p) next) (five.◌>>=◌ (five.ensure n (grown.label_is_proposition g l (nameless [] p))) next')
   unfolding five.label_is five.◌>>=◌ five.ensure grown.label_is_proposition
-  label_is s option.none f p next next' r = r
-  label_is s (some (proposition q)) f p next next' r =
+  label_is s None f p next next' r = r
+  label_is s (Some (proposition q)) f p next next' r =
       rw (read_plain q s) (tested n (eq_prop q p) (grown.eq_nameless (nameless [] q) (nameless [] p)) next next' (same_test q p f) r)
-  label_is s (some (datatype d)) f p next next' r = absurd f
+  label_is s (Some (datatype d)) f p next next' r = absurd f
 
 -- without a let, which ticket 5 refuses with 22
 abbrev pub NoLet : ProofTerm Name → Type 0

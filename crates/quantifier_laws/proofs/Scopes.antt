@@ -2,7 +2,7 @@
 use Prim.Native.Nat.{ℕ}
 use mathlib.Core.Path.{◌≡◌, refl, ◌∙◌, ap}
 use mathlib.Core.Bool.{Bool, true, false, cond}
-use mathlib.Core.Option.{Option, some}
+use Rattle.std.specs.Prelude.{Option, Some}
 use mathlib.Core.List.{List, [], ◌∷◌}
 use native.Mathlib.Omega.{arith}
 use Rattle.definitions.specs.Name.{Name, eq_name}
@@ -73,7 +73,7 @@ pub instance_read : (x : Identifier Name) (xs : List Name) (c : Nameless) → is
 instance_read x xs c e = among_instantiated xs c (identified x) ∙ rw (object_among_lem xs x.name x.unique_id e)
 
 -- a name that stands in no hypothesis is new in the context
-same_proves : {a b : Nameless} → ◌≡◌ {A = Option Fact} (some (proves a)) (some (proves b)) → a ≡ b
+same_proves : {a b : Nameless} → ◌≡◌ {A = Option Fact} (Some (proves a)) (Some (proves b)) → a ≡ b
 same_proves e = cc
 
 absent_new : (x : Name) (xs : List Name) (hs : Scope) → Absent x hs → New x (among_entries xs (entries hs))
@@ -81,8 +81,8 @@ unfolding New Absent entries among_entries lookup AbsentFact among_fact
 absent_new x xs [] e y a l = absurd (let z : ◌≡◌ {A = ℕ} 0 1 = cc in omega arith)
 absent_new x xs (h ∷ hs) e y a l = go (eq_name h.identifier.name y) h.fact e.0 (absent_new x xs hs e.1 y a) l
   where
-    go : (b : Bool) (f : Fact) → AbsentFact x f → (lookup y (among_entries xs (entries hs)) ≡ some (proves a) → stands x a ≡ false)
-        → cond b (some (among_fact xs f)) (lookup y (among_entries xs (entries hs))) ≡ some (proves a) → stands x a ≡ false
+    go : (b : Bool) (f : Fact) → AbsentFact x f → (lookup y (among_entries xs (entries hs)) ≡ Some (proves a) → stands x a ≡ false)
+        → cond b (Some (among_fact xs f)) (lookup y (among_entries xs (entries hs))) ≡ Some (proves a) → stands x a ≡ false
     go true (proves c) absent rest l = rw (← same_proves l) (among_stands xs x c ∙ absent)
     go true (object_of d) absent rest l = absurd (let z : ◌≡◌ {A = ℕ} 0 1 = cc in omega arith)
     go false f absent rest l = rest l
@@ -92,18 +92,18 @@ unfolding context
 scope_new x hs e = absent_new x (objects_of hs) hs e
 
 -- an object that is found is one of the objects in scope
-pub lookup_object : (x : Name) (g : Context) {d : Name} → lookup x g ≡ some (object_of d) → is_among x (objects g) ≡ true
+pub lookup_object : (x : Name) (g : Context) {d : Name} → lookup x g ≡ Some (object_of d) → is_among x (objects g) ≡ true
 unfolding lookup objects object_before is_among
 lookup_object x [] l = absurd (let z : ◌≡◌ {A = ℕ} 0 1 = cc in omega arith)
 lookup_object x (e ∷ g) {d} l = go e.fact (eq_name e.name x) refl (lookup_object x g) l
   where
-    go : (f : Fact) (b : Bool) → eq_name e.name x ≡ b → (lookup x g ≡ some (object_of d) → is_among x (objects g) ≡ true) → cond b (some f) (lookup x g) ≡ some (object_of d)
+    go : (f : Fact) (b : Bool) → eq_name e.name x ≡ b → (lookup x g ≡ Some (object_of d) → is_among x (objects g) ≡ true) → cond b (Some f) (lookup x g) ≡ Some (object_of d)
         → is_among x (object_before e.name f (objects g)) ≡ true
     go (proves a) true same rest l = absurd (let z : ◌≡◌ {A = ℕ} 0 1 = cc in omega arith)
     go (proves a) false same rest l = rest l
     go (object_of d) true same rest l = rw same
     go (object_of d) false same rest l = rw same (rest l)
 
-pub scope_object : (x : Name) (hs : Scope) {d : Name} → lookup x (context hs) ≡ some (object_of d) → is_among x (objects_of hs) ≡ true
+pub scope_object : (x : Name) (hs : Scope) {d : Name} → lookup x (context hs) ≡ Some (object_of d) → is_among x (objects_of hs) ≡ true
 unfolding context
 scope_object x hs l = rw (objects_same (objects_of hs) (entries hs)) at (lookup_object x (context hs) l)

@@ -3,8 +3,7 @@
 use Prim.Native.Nat.{ℕ, zero, suc, ◌<◌}
 use mathlib.Core.Path.{◌≡◌, refl}
 use mathlib.Core.Bool.{Bool, false, ◌||◌}
-use mathlib.Core.Option as option
-use mathlib.Core.Option.{Option, some}
+use Rattle.std.specs.Prelude.{None, Option, Some}
 use mathlib.Core.List.{List, [], ◌∷◌}
 use borrow.Author.Tests.{lt-leb}
 use Rattle.definitions.specs.Outcome.{accepted, ◌>>=◌, refuse_if}
@@ -96,15 +95,15 @@ mutual
   unfolding unbound_term unbound_parameter unbound_label
 
   term_bound : {m : Place} {t : ProofTree Name} {u : ProofTerm Name} → Every BoundStep t → labels.Labelled m t u → BoundTerm u
-  term_bound h (labels.unlabelled {z = z} {us = us} e d v) = rw v (step_bound z option.none us refl (terms_bound h.1 d))
+  term_bound h (labels.unlabelled {z = z} {us = us} e d v) = rw v (step_bound z None us refl (terms_bound h.1 d))
   term_bound h (labels.ascribed {z = z} {us = us} {p = p} e f c d v) =
       rw v
-      (neither (holds_unbound (nameless [] p)) (unbound_term (step_term z option.none us)) (rw c at h.0)
-      (step_bound z option.none us refl (terms_bound h.1 d)))
+      (neither (holds_unbound (nameless [] p)) (unbound_term (step_term z None us)) (rw c at h.0)
+      (step_bound z None us refl (terms_bound h.1 d)))
   term_bound h (labels.function {z = z} {us = us} {p = p} {q = q} e f c d v) =
-      rw v (step_bound z (some (proposition p)) us (left_bound p q (rw c at h.0)) (terms_bound h.1 d))
+      rw v (step_bound z (Some (proposition p)) us (left_bound p q (rw c at h.0)) (terms_bound h.1 d))
   term_bound h (labels.generalisation {z = z} {us = us} {d = t} e f c d v) =
-      rw v (step_bound z (some (datatype t)) us refl (terms_bound h.1 d))
+      rw v (step_bound z (Some (datatype t)) us refl (terms_bound h.1 d))
 
   terms_bound : {ms : List Place} {ps : Premisses Name} {us : List (ProofTerm Name)}
       → EveryPremiss BoundStep ps → labels.AllLabelled ms ps us → AllBound us

@@ -1,8 +1,6 @@
 -- The answer to the question whether a term checks against a proposition of a sheet, for every sequence of bytes.
 -- Document 02, tickets 5 and 12. The proposition and the hypotheses are numbers of the sheet; the term is the sheet's or one read beside it.
-use Rattle.std.specs.Prelude.{ℕ, Bool, false, ◌||◌, List, [], ◌∷◌, leb}
-use Rattle.std.proofs.Math.Option as option
-use Rattle.std.proofs.Math.Option.{Option, some}
+use Rattle.std.specs.Prelude.{ℕ, Bool, false, ◌||◌, List, [], ◌∷◌, leb, None, Option, Some}
 use Rattle.definitions.specs.Outcome.{Outcome, accepted, ◌>>=◌, refuse_if}
 use Rattle.definitions.specs.Name.{Name}
 use Rattle.definitions.specs.AlphaEquality.{nameless}
@@ -25,8 +23,8 @@ unbound_label (proposition p) = holds_unbound (nameless [] p)
 unbound_label (datatype d) = false
 
 unfoldable pub unbound_parameter : Option (Label Name) → Bool
-unbound_parameter option.none = false
-unbound_parameter (some l) = unbound_label l
+unbound_parameter None = false
+unbound_parameter (Some l) = unbound_label l
 
 -- 22, of a term: of its labels
 unfoldable pub unbound_term : ProofTerm Name → Bool

@@ -1,7 +1,5 @@
 -- Checking and inferring as functions that call each other as the rules do, with the node at which they stop. Tickets 5 and 12.
-use Rattle.std.specs.Prelude.{ℕ, ◌+◌, Bool, true, false, ◌&&◌, ◌||◌, not, cond, List, [], ◌∷◌, map, eqb}
-use Rattle.std.proofs.Math.Option as option
-use Rattle.std.proofs.Math.Option.{Option, some}
+use Rattle.std.specs.Prelude.{ℕ, ◌+◌, Bool, true, false, ◌&&◌, ◌||◌, not, cond, List, [], ◌∷◌, map, eqb, None, Option, Some}
 use Rattle.definitions.specs.Name.{Name, eq_name}
 use Rattle.definitions.specs.Prop.{Connective, Quantifier, eq_connective, eq_quantifier}
 use Rattle.definitions.specs.AlphaEquality.{Object, bound, free, constant, Nameless, True, False, Binary, Atom, Quantified}
@@ -87,14 +85,14 @@ is_new x g = is_new_after [] x g
 
 -- a label, if there is one, says this
 unfoldable pub label_is_proposition : Context → Option (Label Name) → Nameless → Bool
-label_is_proposition g option.none a = true
-label_is_proposition g (some (proposition p)) a = eq_nameless (reading g p) a
-label_is_proposition g (some (datatype d)) a = false
+label_is_proposition g None a = true
+label_is_proposition g (Some (proposition p)) a = eq_nameless (reading g p) a
+label_is_proposition g (Some (datatype d)) a = false
 
 unfoldable pub label_is_datatype : Option (Label Name) → Name → Bool
-label_is_datatype option.none d = true
-label_is_datatype (some (proposition p)) d = false
-label_is_datatype (some (datatype e)) d = eq_name e d
+label_is_datatype None d = true
+label_is_datatype (Some (proposition p)) d = false
+label_is_datatype (Some (datatype e)) d = eq_name e d
 
 unfoldable pub is_object_of : Name → Fact → Bool
 is_object_of d (proves a) = false
@@ -104,8 +102,8 @@ is_object_of d (object_of e) = eq_name e d
 module _ (n : ℕ) where
   -- a name must be in scope
   unfoldable pub in_scope : Option Fact → Judged Fact
-  in_scope option.none = stopped n
-  in_scope (some f) = derived f
+  in_scope None = stopped n
+  in_scope (Some f) = derived f
 
   -- it must be a proposition
   unfoldable pub proposed : Fact → Judged Nameless
@@ -218,12 +216,12 @@ module _ (n : ℕ) where
 
   -- what a function infers, over what its body infers under its parameter
   unfoldable pub infer_function : Context → Name → Option (Label Name) → (Fact → Judged Fact) → Judged Fact
-  infer_function g x option.none body = stopped n
-  infer_function g x (some (proposition p)) body = do
+  infer_function g x None body = stopped n
+  infer_function g x (Some (proposition p)) body = do
     f ← body (proves (reading g p))
     b ← proposed f
     derived (proves (Impl (reading g p) b))
-  infer_function g x (some (datatype d)) body = do
+  infer_function g x (Some (datatype d)) body = do
     _ ← ensure n (is_new x g)
     f ← body (object_of d)
     b ← proposed f

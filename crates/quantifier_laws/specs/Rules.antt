@@ -1,8 +1,6 @@
 -- The checking rules with quantifiers, as two judgements. Document 01, "Sound steps and the checking rules", its second
 -- paragraph, and ticket 12. Propositions are nameless, so that equality up to alpha is plain equality.
-use Rattle.std.specs.Prelude.{◌≡◌, false, cond, List, [], ◌∷◌}
-use Rattle.std.proofs.Math.Option as option
-use Rattle.std.proofs.Math.Option.{Option, some}
+use Rattle.std.specs.Prelude.{◌≡◌, false, cond, List, [], ◌∷◌, None, Option, Some}
 use Rattle.definitions.specs.Name.{Name, eq_name}
 use Rattle.definitions.specs.Prop.{Prop}
 use Rattle.definitions.specs.AlphaEquality.{Nameless, True, False, nameless}
@@ -28,8 +26,8 @@ bind x f g = record { name = x; fact = f } ∷ g
 
 -- the latest binding of a name
 unfoldable pub lookup : Name → Context → Option Fact
-lookup x [] = option.none
-lookup x (e ∷ g) = cond (eq_name e.name x) (some e.fact) (lookup x g)
+lookup x [] = None
+lookup x (e ∷ g) = cond (eq_name e.name x) (Some e.fact) (lookup x g)
 
 -- the name in front of the others, if it is that of an object
 unfoldable pub object_before : Name → Fact → List Name → List Name
@@ -52,17 +50,17 @@ label_fact g (datatype d) = object_of d
 
 -- a label, if there is one, says this
 unfoldable pub LabelSays : Context → Option (Label Name) → Fact → Type 0
-LabelSays g option.none f = Unit {0}
-LabelSays g (some l) f = label_fact g l ≡ f
+LabelSays g None f = Unit {0}
+LabelSays g (Some l) f = label_fact g l ≡ f
 
 -- the name stands instantiated in no hypothesis that a later one does not hide
 unfoldable pub New : Name → Context → Type 0
-New x g = (y : Name) (a : Nameless) → lookup y g ≡ some (proves a) → stands x a ≡ false
+New x g = (y : Name) (a : Nameless) → lookup y g ≡ Some (proves a) → stands x a ≡ false
 
 mutual
   -- a term infers a proposition
   pub data Infers : Context → ProofTerm Name → Nameless → Type 0 where
-    infer_name : {g : Context} {x : Name} {a : Nameless} → lookup x g ≡ some (proves a) → Infers g (Ident x) a
+    infer_name : {g : Context} {x : Name} {a : Nameless} → lookup x g ≡ Some (proves a) → Infers g (Ident x) a
     infer_unit : {g : Context} → Infers g term.Unit True
     infer_fst : {g : Context} {t : ProofTerm Name} {a b : Nameless} → Infers g t (And a b) → Infers g (ProjectFst t) a
     infer_snd : {g : Context} {t : ProofTerm Name} {a b : Nameless} → Infers g t (And a b) → Infers g (ProjectSnd t) b
@@ -70,15 +68,15 @@ mutual
         → Infers g f (Impl a b) → Checks g t a → Infers g (Application f t) b
     -- only a bare name is an object
     infer_instance : {g : Context} {f : ProofTerm Name} {x d : Name} {c b : Nameless}
-        → Infers g f (ForAll d c) → lookup x g ≡ some (object_of d) → instantiate c (named x) ≡ b
+        → Infers g f (ForAll d c) → lookup x g ≡ Some (object_of d) → instantiate c (named x) ≡ b
         → Infers g (Application f (Ident x)) b
     infer_ascribed_lem : {g : Context} {t : ProofTerm Name} {p : Prop Name} {a : Nameless}
         → reading g p ≡ a → Checks g t a → Infers g (TypeAscription t (proposition p)) a
     infer_function_lem : {g : Context} {x : Name} {t : ProofTerm Name} {p : Prop Name} {a b : Nameless}
-        → reading g p ≡ a → Infers (bind x (proves a) g) t b → Infers g (Function x (some (proposition p)) t) (Impl a b)
+        → reading g p ≡ a → Infers (bind x (proves a) g) t b → Infers g (Function x (Some (proposition p)) t) (Impl a b)
     infer_generalisation : {g : Context} {x d : Name} {t : ProofTerm Name} {c b : Nameless}
         → New x g → stands x c ≡ false → instantiate c (named x) ≡ b → Infers (bind x (object_of d) g) t b
-        → Infers g (Function x (some (datatype d)) t) (ForAll d c)
+        → Infers g (Function x (Some (datatype d)) t) (ForAll d c)
     infer_pair : {g : Context} {s t : ProofTerm Name} {a b : Nameless}
         → Infers g s a → Infers g t b → Infers g (Pair s t) (And a b)
     infer_case : {g : Context} {h s t : ProofTerm Name} {x y : Name} {a b c : Nameless}
@@ -99,7 +97,7 @@ mutual
         → Checks g s a → Checks g t b → Checks g (Pair s t) (And a b)
     -- only a bare name is an object
     check_witness : {g : Context} {t : ProofTerm Name} {x d : Name} {c b : Nameless}
-        → lookup x g ≡ some (object_of d) → instantiate c (named x) ≡ b → Checks g t b
+        → lookup x g ≡ Some (object_of d) → instantiate c (named x) ≡ b → Checks g t b
         → Checks g (Pair (Ident x) t) (Exists d c)
     check_inl : {g : Context} {t : ProofTerm Name} {a b : Nameless} → Checks g t a → Checks g (OrLeft t) (Or a b)
     check_inr : {g : Context} {t : ProofTerm Name} {a b : Nameless} → Checks g t b → Checks g (OrRight t) (Or a b)

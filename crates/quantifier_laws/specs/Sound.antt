@@ -1,7 +1,6 @@
 -- Sound steps with quantifiers. Document 01, "Sound steps and the checking rules", its first paragraph, and document 02, ticket 12.
 -- Propositions are nameless and names are bytes, so that equality up to alpha is plain equality.
-use Rattle.std.specs.Prelude.{ℕ, ◌<◌, ◌≡◌, false}
-use Rattle.std.proofs.Math.Option.{some}
+use Rattle.std.specs.Prelude.{ℕ, ◌<◌, ◌≡◌, false, Some}
 use mathlib.Core.List.{List, [], ◌∷◌, map, Memᴰ}
 use Rattle.definitions.specs.Outcome.{accepted}
 use Rattle.definitions.specs.Name.{Name, eq_name}
@@ -161,7 +160,7 @@ context hs = among_entries (objects_of hs) (entries hs)
 unfoldable pub shadowing : Convention
 shadowing =
     record {
-      Concluded = λ x f hs. lookup x.name (context hs) ≡ some (among_fact (objects_of hs) f);
+      Concluded = λ x f hs. lookup x.name (context hs) ≡ Some (among_fact (objects_of hs) f);
       Added = λ x hs. Unit {0};
       Unread = λ ps. Unit {0};
     }

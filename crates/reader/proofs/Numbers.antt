@@ -9,7 +9,7 @@ use lib.ListN.{length}
 use borrow.Author.Tests.{ltb-true, ltb-false}
 use Rattle.definitions.specs.Sheet.{number_at}
 use Rattle.reader.specs.Reading.{number_after}
-use Rattle.reader.specs.declared.Number.TheVariants.{At, End}
+use Rattle.std.specs.Prelude.{Some, None}
 
 -- a number that is read stands whole before the end
 pub record Stands (s : List ℕ) (at n : ℕ) : Type 0 where
@@ -18,20 +18,20 @@ pub record Stands (s : List ℕ) (at n : ℕ) : Type 0 where
 
 module _ (s : List ℕ) (at : ℕ) where
   -- the definition's test, both ways
-  tested_end : (t : Bool) → ltb (length s - at) 2 ≡ t → End ≡ cond t End (At (number_at s at)) → length s < at + 2
+  tested_end : (t : Bool) → ltb (length s - at) 2 ≡ t → None ≡ cond t None (Some (number_at s at)) → length s < at + 2
   tested_end true e h = let left : length s - at < 2 = ltb-true _ _ e in omega arith
   tested_end false e h = let z : ◌≡◌ {A = ℕ} 0 1 = cc in omega arith
 
-  tested_there : (n : ℕ) (t : Bool) → ltb (length s - at) 2 ≡ t → At n ≡ cond t End (At (number_at s at)) → Stands s at n
+  tested_there : (n : ℕ) (t : Bool) → ltb (length s - at) 2 ≡ t → Some n ≡ cond t None (Some (number_at s at)) → Stands s at n
   tested_there n true e h = let z : ◌≡◌ {A = ℕ} 0 1 = cc in absurd (omega arith)
   tested_there n false e h = let left : 2 ≤ length s - at = ltb-false _ _ e in record { before = omega arith; is = cc }
 
   -- where no number stands, fewer than its two bytes are left
-  pub missing : End ≡ number_after s at → length s < at + 2
+  pub missing : None ≡ number_after s at → length s < at + 2
   unfolding number_after
   missing = tested_end (ltb (length s - at) 2) refl
 
   -- where a number is read, it stands there
-  pub there : {n : ℕ} → At n ≡ number_after s at → Stands s at n
+  pub there : {n : ℕ} → Some n ≡ number_after s at → Stands s at n
   unfolding number_after
   there {n} = tested_there n (ltb (length s - at) 2) refl

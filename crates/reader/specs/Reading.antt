@@ -1,16 +1,14 @@
 -- What is read at a position of a sheet. Document 01, "The sheet".
-use Rattle.std.specs.Prelude.{ℕ, ◌+◌, ◌-◌, ◌*◌, cond, List, length, ltb, leb}
+use Rattle.std.specs.Prelude.{ℕ, ◌+◌, ◌-◌, ◌*◌, cond, List, length, ltb, leb, Option, Some, None}
 use Rattle.definitions.specs.Sheet.{number_at}
-use Rattle.reader.specs.declared.Number.{Number}
-use Rattle.reader.specs.declared.Number.TheVariants.{At, End}
 
 -- how many bytes are left at a position
 abbrev pub bytes_after : List ℕ → ℕ → ℕ
 bytes_after s at = length s - at
 
 -- the number at a position, if two bytes are left
-unfoldable pub number_after : List ℕ → ℕ → Number
-number_after s at = cond (ltb (bytes_after s at) 2) End (At (number_at s at))
+unfoldable pub number_after : List ℕ → ℕ → Option ℕ
+number_after s at = cond (ltb (bytes_after s at) 2) None (Some (number_at s at))
 
 -- the position so many numbers on, or the end where fewer are left
 unfoldable pub position_after : List ℕ → ℕ → ℕ → ℕ

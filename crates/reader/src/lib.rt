@@ -12,13 +12,6 @@ pub struct Reader<'a> {
     pub at: usize,
 }
 
-// What stands at a position: a number, or fewer bytes than its two.
-#[derive(Drop)]
-pub enum Number {
-    At(usize),
-    End,
-}
-
 // How many bytes are left at a position.
 pub fn bytes_after(s: &[u8], at: usize) -> usize
     ensures { result ≡ bytes_after s.now at }
@@ -27,13 +20,13 @@ pub fn bytes_after(s: &[u8], at: usize) -> usize
 }
 
 // The number at a position, low byte first.
-pub fn number_after(s: &[u8], at: usize) -> Number
+pub fn number_after(s: &[u8], at: usize) -> Option<usize>
     ensures { result ≡ number_after s.now at }
 {
     if bytes_after(s, at) < 2 {
-        return Number::End;
+        return None;
     }
-    Number::At(number_at(s, at))
+    Some(number_at(s, at))
 }
 
 // The position so many numbers on, or the end where fewer are left.
@@ -55,7 +48,7 @@ impl<'a> Reader<'a> {
     }
 
     // The number at the position; the reader past it is `moved(1)`.
-    pub fn next_number(self) -> Number
+    pub fn next_number(self) -> Option<usize>
         ensures { result ≡ number_after self.entry.sheet.now self.entry.at }
     {
         number_after(self.sheet, self.at)
@@ -80,7 +73,7 @@ impl<'a> Reader<'a> {
 }
 
 // The number k of a header, counted from 0, read through a reader. Its parameters are plain, so its callers meet no reader.
-pub fn header_number(s: &[u8], k: usize) -> Number
+pub fn header_number(s: &[u8], k: usize) -> Option<usize>
     ensures { result ≡ number_after s.now (2 * k) }
 {
     Reader::new(s).moved(k).next_number()

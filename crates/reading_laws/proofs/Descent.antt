@@ -2,7 +2,7 @@
 use Prim.Native.Nat.{ℕ, zero, suc, ◌+◌, ◌*◌, ◌<◌, ◌≤◌}
 use mathlib.Core.Path.{◌≡◌, refl, sym, ap, ◌∙◌}
 use mathlib.Core.Bool.{Bool, true, false, ◌&&◌, cond, true≢false}
-use mathlib.Core.Option.{Option, none, some, none-ne-some, some-injective}
+use Rattle.std.specs.Prelude.{Option, None, Some}
 use mathlib.Core.List.{List, [], ◌∷◌, ◌++◌}
 use native.Mathlib.Omega.{arith}
 use lib.ListN.{length, length-append}
@@ -20,6 +20,8 @@ use Rattle.reading_laws.specs.TermMachine.{Purpose, as_head, as_argument, as_bod
 use Rattle.reading_laws.proofs.MachineReads.{Steps, done, next as turned}
 use Rattle.reading_laws.proofs.TermConventions.{Gives, NameIn, gives_name, word_is, Spelled, spelled, spelled_sorry, LabelIn, ParameterLabelIn, gives_label, gives_parameter_label}
 use Rattle.reading_laws.proofs.Turns.{Next, next_then, next_if, next_after, next_or, next_due, next_cond, next_some}
+use Rattle.std.proofs.lemmas.Option.{same_Some}
+use Rattle.std.proofs.lemmas.Option.{none-some}
 
 -- three for a byte that is left, two for an entry, and one for a term in hand to which more may belong
 unfoldable pub left : State → ℕ
@@ -147,7 +149,7 @@ module _ (types : List Name) where
   below_give n k (let_body x y b) a s h = next_due (Below n) a.own (wraps Strict within a.shown) _ λ d. omega (arith, h)
 
   -- a turn leaves less
-  pub turn_descends : (σ τ : State) → turn types σ ≡ onward (some τ) → left τ < left σ
+  pub turn_descends : (σ τ : State) → turn types σ ≡ onward (Some τ) → left τ < left σ
   unfolding turn left
   turn_descends (reading k s) τ e =
       next_some (Below (left (reading k s))) _ τ e (below_start (left (reading k s)) k (start_of (word s).value) s (word s).rest (word s).value (word_is s) (omega arith))
@@ -169,20 +171,20 @@ module _ (types : List Name) where
     comes_on : (σ : State) (x : Option State) → turn types σ ≡ onward x → ((τ : State) → run types turns τ ≡ yield a s → Steps types τ (giving [] a s))
         → after_turn (λ τ. run types turns τ) (onward x) ≡ yield a s → Steps types σ (giving [] a s)
     unfolding after_turn yield
-    comes_on σ none f go e = absurd (none-ne-some _ e)
-    comes_on σ (some τ) f go e = turned f (go τ e)
+    comes_on σ None f go e = absurd (none-some _ e)
+    comes_on σ (Some τ) f go e = turned f (go τ e)
 
     comes_last : (b : Shown (ProofTerm Name)) (t : List ℕ) → yield b t ≡ yield a s → Steps types (giving [] b t) (giving [] a s)
     unfolding yield
     comes_last b t e =
-        let same = some-injective _ _ e in
+        let same = same_Some _ _ e in
         let values : b ≡ a = ap (λ r. r.value) same in
         let rests : t ≡ s = ap (λ r. r.rest) same in
         rw (values, rests) done
 
   pub run_comes : (turns : ℕ) (σ : State) (a : Shown (ProofTerm Name)) (s : List ℕ) → run types turns σ ≡ yield a s → Steps types σ (giving [] a s)
   unfolding run turn after_turn yield
-  run_comes zero σ a s e = absurd (none-ne-some _ e)
+  run_comes zero σ a s e = absurd (none-some _ e)
   run_comes (suc turns) (reading k t) a s e = comes_on turns a s (reading k t) _ refl (λ τ f. run_comes turns τ a s f) e
   run_comes (suc turns) (holding k b t) a s e = comes_on turns a s (holding k b t) _ refl (λ τ f. run_comes turns τ a s f) e
   run_comes (suc turns) (giving [] b t) a s e = comes_last turns a s b t e

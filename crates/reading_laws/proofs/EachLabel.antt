@@ -1,5 +1,5 @@
 -- Facts of each label and each name of a term make others.
-use mathlib.Core.Option.{Option, none, some}
+use Rattle.std.specs.Prelude.{Option, None, Some}
 use Rattle.definitions.specs.Name.{Name}
 use Rattle.definitions.specs.Term.{Label, ProofTerm, Ident, Pair, Named, Function, Application, LetIn, Case, TypeAscription, Unit, Sorry}
 use Rattle.definitions.specs.TermText.{OfParameterLabel, Each}
@@ -8,8 +8,8 @@ use Rattle.definitions.specs.TermText.{OfParameterLabel, Each}
 module _ {P Q R : Label Name → Type 0} {A B C : Name → Type 0} (join : (l : Label Name) → P l → Q l → R l) (name : (x : Name) → A x → B x → C x) where
   join_label : (l : Option (Label Name)) → OfParameterLabel P A l → OfParameterLabel Q B l → OfParameterLabel R C l
   unfolding OfParameterLabel
-  join_label none p q = tt
-  join_label (some l) p q = join l p q
+  join_label None p q = tt
+  join_label (Some l) p q = join l p q
 
   pub join_each : (t : ProofTerm Name) → Each P A t → Each Q B t → Each R C t
   unfolding Each

@@ -2,7 +2,7 @@
 use Prim.Native.Nat.{ℕ, zero, suc, ◌+◌, ◌*◌, max, ◌<◌, ◌≤◌}
 use mathlib.Core.Path.{◌≡◌, refl, sym, ap, ◌∙◌}
 use mathlib.Core.Bool.{Bool, true, false, not, cond, true≢false}
-use mathlib.Core.Option.{Option, none, some}
+use Rattle.std.specs.Prelude.{Option, None, Some}
 use mathlib.Core.List.{List, [], ◌∷◌, ◌++◌}
 use native.Mathlib.Omega.{arith}
 use lib.ListN.{length}
@@ -284,7 +284,7 @@ module _ (types : List Name) where
       onto (let_body x y h) k a _ refl d (omega arith)
 
   -- a turn never makes the whole less deep
-  pub turn_deepens : (σ τ : State) → turn types σ ≡ onward (some τ) → deepest σ ≤ deepest τ
+  pub turn_deepens : (σ τ : State) → turn types σ ≡ onward (Some τ) → deepest σ ≤ deepest τ
   unfolding turn deepest
   turn_deepens (reading k s) τ e = next_some (Above (deep k 1 false)) _ τ e (above_start k (start_of (word s).value) s (word s).rest)
   turn_deepens (holding k a s) τ e = next_some (Above (deep_with k a)) _ τ e (above_chain k a s)

@@ -2,8 +2,7 @@
 use Prim.Native.Nat.{ℕ, zero, suc, ◌+◌, ◌*◌, max, ◌≤◌}
 use mathlib.Core.Path.{◌≡◌, refl, sym, ap, ◌∙◌}
 use mathlib.Core.Bool.{Bool, true, false, not, true≢false}
-use mathlib.Core.Option as option
-use mathlib.Core.Option.{Option, some}
+use Rattle.std.specs.Prelude.{None, Option, Some}
 use mathlib.Core.List.{List, [], ◌∷◌}
 use native.Mathlib.Omega.{arith}
 use lib.ListN.{length, get_or}
@@ -140,10 +139,10 @@ rule_small AlphaEquivalent m x y l us e = omega (arith, one us e)
 
 -- what a step gives in its place: its term, with a label of its conclusion or without, perhaps ascribed
 pub data Placed (z : Step Name) (us : List (ProofTerm Name)) : ProofTerm Name → Type 0 where
-  plain : Placed z us (step_term z option.none us)
-  labelled : (l : Label Name) → left_label z.number z.conclusion ≡ accepted l → Placed z us (step_term z (some l) us)
-  typed : (l : Label Name) → datatype_label z.number z.conclusion ≡ accepted l → Placed z us (step_term z (some l) us)
-  ascription : (l : Label Name) → ascription_label z.number z.conclusion ≡ accepted l → Placed z us (TypeAscription (step_term z option.none us) l)
+  plain : Placed z us (step_term z None us)
+  labelled : (l : Label Name) → left_label z.number z.conclusion ≡ accepted l → Placed z us (step_term z (Some l) us)
+  typed : (l : Label Name) → datatype_label z.number z.conclusion ≡ accepted l → Placed z us (step_term z (Some l) us)
+  ascription : (l : Label Name) → ascription_label z.number z.conclusion ≡ accepted l → Placed z us (TypeAscription (step_term z None us) l)
 
 same_placed : (z : Step Name) (us : List (ProofTerm Name)) (v u : ProofTerm Name) → accepted v ≡ accepted u → Placed z us v → Placed z us u
 same_placed z us v u e p = let same : v ≡ u = cc in rw (← same) p
@@ -167,10 +166,10 @@ placed inferring z us u e = inferring_placed (ending z.rule) z us u e
 placed_small : (z : Step Name) (m : Place) (us : List (ProofTerm Name)) (u : ProofTerm Name) → length us ≡ length (places z.rule m) → Placed z us u
     → (nodes u ≤ 2 + nodes_of us) × (term_nesting u ≤ 2 + deepest us)
 unfolding step_term nodes term_nesting
-placed_small z m us u e plain = omega (arith, rule_small z.rule m z.first.name z.second.name option.none us e)
-placed_small z m us u e (labelled l h) = omega (arith, rule_small z.rule m z.first.name z.second.name (some l) us e)
-placed_small z m us u e (typed l h) = omega (arith, rule_small z.rule m z.first.name z.second.name (some l) us e)
-placed_small z m us u e (ascription l h) = omega (arith, rule_small z.rule m z.first.name z.second.name option.none us e)
+placed_small z m us u e plain = omega (arith, rule_small z.rule m z.first.name z.second.name None us e)
+placed_small z m us u e (labelled l h) = omega (arith, rule_small z.rule m z.first.name z.second.name (Some l) us e)
+placed_small z m us u e (typed l h) = omega (arith, rule_small z.rule m z.first.name z.second.name (Some l) us e)
+placed_small z m us u e (ascription l h) = omega (arith, rule_small z.rule m z.first.name z.second.name None us e)
 
 -- the parts of an export: the terms of the premisses that are read, and what the step gives over them
 pub record Exported (z : Step Name) (ps : Premisses Name) (m : Place) (u : ProofTerm Name) : Type 0 where
@@ -267,10 +266,10 @@ module _ (P : Label Name → Type 0) (A : Name → Type 0) where
 
   placed_each : (z : Step Name) (us : List (ProofTerm Name)) (u : ProofTerm Name) → GoodStep z → EachOf us → Placed z us u → Each P A u
   unfolding step_term Each OfParameterLabel
-  placed_each z us u g h plain = rule_each z.rule _ _ option.none us g.first_name g.second_name tt h
-  placed_each z us u g h (labelled l e) = rule_each z.rule _ _ (some l) us g.first_name g.second_name (g.left l e) h
-  placed_each z us u g h (typed l e) = rule_each z.rule _ _ (some l) us g.first_name g.second_name (g.object l e) h
-  placed_each z us u g h (ascription l e) = (rule_each z.rule _ _ option.none us g.first_name g.second_name tt h, g.own l e)
+  placed_each z us u g h plain = rule_each z.rule _ _ None us g.first_name g.second_name tt h
+  placed_each z us u g h (labelled l e) = rule_each z.rule _ _ (Some l) us g.first_name g.second_name (g.left l e) h
+  placed_each z us u g h (typed l e) = rule_each z.rule _ _ (Some l) us g.first_name g.second_name (g.object l e) h
+  placed_each z us u g h (ascription l e) = (rule_each z.rule _ _ None us g.first_name g.second_name tt h, g.own l e)
 
   mutual
     unfolding export_all GoodTree GoodTrees EachOf

@@ -2,7 +2,7 @@
 use Prim.Native.Nat.{ℕ, ◌+◌, ◌*◌, ◌<◌, ◌≤◌}
 use mathlib.Core.Path.{◌≡◌, refl, sym, ap, ◌∙◌}
 use mathlib.Core.Bool.{Bool, true, false, ◌&&◌, cond, true≢false, and-eq-true_iff}
-use mathlib.Core.Option.{Option, none, some}
+use Rattle.std.specs.Prelude.{Option, None, Some}
 use mathlib.Core.List.{List, [], ◌∷◌, ◌++◌, append-nil}
 use native.Mathlib.Omega.{arith}
 use lib.ListN.{length}
@@ -48,8 +48,8 @@ module _ (types : List Name) (text : List ℕ) where
   settled_run : (x : Option (Shown (ProofTerm Name))) → whole (run types turns (reading [] text)) ≡ x → length text ≤ term_text_limit → all_admitted types ≡ true
       → machine_answer types text ≡ settled x → ReadsAs types text (settled x)
   unfolding settled yield
-  settled_run none e short listed is = refuses (λ t h. clash t (sym is ∙ readable_run t h))
-  settled_run (some a) e short listed is = go (same a.own false && is_limited a.shown) refl is
+  settled_run None e short listed is = refuses (λ t h. clash t (sym is ∙ readable_run t h))
+  settled_run (Some a) e short listed is = go (same a.own false && is_limited a.shown) refl is
     where
       go : (b : Bool) → same a.own false && is_limited a.shown ≡ b
           → machine_answer types text ≡ cond b (accepted a.shown) (refuse 20 0) → ReadsAs types text (cond b (accepted a.shown) (refuse 20 0))

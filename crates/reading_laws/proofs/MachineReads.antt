@@ -2,7 +2,7 @@
 use Prim.Native.Nat.{ℕ, ◌*◌, ◌≤◌}
 use mathlib.Core.Path.{◌≡◌, refl, sym, ap, ◌∙◌}
 use mathlib.Core.Bool.{Bool, true, false, cond}
-use mathlib.Core.Option.{Option, none, some}
+use Rattle.std.specs.Prelude.{Option, None, Some}
 use mathlib.Core.List.{List, [], ◌∷◌, ◌++◌, append_assoc}
 use Rattle.definitions.specs.declared.Style.TheVariants.{Strict}
 use Rattle.definitions.specs.Utf8.{utf8}
@@ -23,7 +23,7 @@ module _ (types : List Name) where
   -- turns that lead from one state to another
   pub data Steps : State → State → Type 0 where
     done : {σ : State} → Steps σ σ
-    next : {σ τ υ : State} → turn types σ ≡ onward (some τ) → Steps τ υ → Steps σ υ
+    next : {σ τ υ : State} → turn types σ ≡ onward (Some τ) → Steps τ υ → Steps σ υ
 
   steps : {σ τ υ : State} → Steps σ τ → Steps τ υ → Steps σ υ
   steps done w = w
@@ -32,7 +32,7 @@ module _ (types : List Name) where
   -- a state that a reading comes to, and the turns from there
   record Leads (x : Option State) (τ : State) : Type 0 where
     state : State
-    comes : x ≡ some state
+    comes : x ≡ Some state
     way : Steps state τ
 
   abbrev G : ProofTerm Name → Type 0
@@ -45,7 +45,7 @@ module _ (types : List Name) where
   abbrev Closed : ProofTerm Name → Type 0
   Closed t =
       (k : List Entry) (p : Purpose) (rest : List ℕ) (τ : State) → G t → stops rest ≡ true
-      → used k p (standing (wraps Strict argument_of t) t) rest ≡ some τ
+      → used k p (standing (wraps Strict argument_of t) t) rest ≡ Some τ
       → Leads (closed_for k p (wrap (wraps Strict argument_of t) (display_term Strict t) ++ rest)) τ
 
   abbrev Called : ProofTerm Name → Type 0
@@ -63,12 +63,12 @@ module _ (types : List Name) where
 
   -- an open bracket before a term
   opens : (k : List Entry) (p : Purpose) (t : ProofTerm Name) (s : List ℕ) → G t
-      → closed_for k p (40 ∷ (display_term Strict t ++ s)) ≡ some (reading (in_bracket p ∷ k) (display_term Strict t ++ s))
+      → closed_for k p (40 ∷ (display_term Strict t ++ s)) ≡ Some (reading (in_bracket p ∷ k) (display_term Strict t ++ s))
   unfolding closed_for and_then name named word is_admitted well_formed name_length_limit is_name byte_class may_follow start_of eq_name is_sorry if_read expect Rattle.definitions.specs.Code.yield is_next
   opens k p t s ok = rw (not_read (expect (utf8 ")") (display_term Strict t ++ s)) _ _ (unopened types prop_levels t ok s))
 
   -- a term in brackets
-  bracketed_closed : (t : ProofTerm Name) → Bare t → (k : List Entry) (p : Purpose) (rest : List ℕ) (τ : State) → G t → used k p (standing true t) rest ≡ some τ
+  bracketed_closed : (t : ProofTerm Name) → Bare t → (k : List Entry) (p : Purpose) (rest : List ℕ) (τ : State) → G t → used k p (standing true t) rest ≡ Some τ
       → Leads (closed_for k p (wrap true (display_term Strict t) ++ rest)) τ
   unfolding wrap turn give if_due same standing and_then if_read expect Rattle.definitions.specs.Code.yield
   bracketed_closed t bare k p rest τ ok e =
@@ -134,7 +134,7 @@ module _ (types : List Name) where
   unfolding wrap used
   called_closed t is is' starts closed k rest ok ends =
       let w = closed k as_head rest (holding k (standing false t) rest) ok ends (rw is') in
-      let comes : closed_for k as_head (display_term Strict t ++ rest) ≡ some w.state = rw is' at w.comes in
+      let comes : closed_for k as_head (display_term Strict t ++ rest) ≡ Some w.state = rw is' at w.comes in
       rw is (next (starts rest ok ends k ∙ ap onward comes) w.way)
 
   called_other : (t : ProofTerm Name) → wraps Strict function_of t ≡ true → Bare t → Called t
@@ -171,8 +171,8 @@ module _ (types : List Name) where
       let w = closed k (as_body f) rest (holding k (standing false (Named f a)) rest) ok ends (rw (as_argument_lem (form a), same_same (bracketed (brackets argument_of Strict) (form a)))) in
       next {τ = w.state} (starts f w.state w.comes) w.way
     where
-      starts : (f : NamedFunction) (τ : State) → closed_for k (as_body f) (wrap (wraps Strict argument_of a) (display_term Strict a) ++ rest) ≡ some τ
-          → turn types (reading k (display_term Strict (Named f a) ++ rest)) ≡ onward (some τ)
+      starts : (f : NamedFunction) (τ : State) → closed_for k (as_body f) (wrap (wraps Strict argument_of a) (display_term Strict a) ++ rest) ≡ Some τ
+          → turn types (reading k (display_term Strict (Named f a) ++ rest)) ≡ onward (Some τ)
       starts fst τ e = rw (as_argument_lem (form a)) (ap onward e)
       starts snd τ e = rw (as_argument_lem (form a)) (ap onward e)
       starts inl τ e = rw (as_argument_lem (form a)) (ap onward e)

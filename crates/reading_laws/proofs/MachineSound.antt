@@ -2,7 +2,7 @@
 use Prim.Native.Nat.{ℕ}
 use mathlib.Core.Path.{◌≡◌, refl, sym, ap, ◌∙◌}
 use mathlib.Core.Bool.{Bool, true, false, cond}
-use mathlib.Core.Option.{Option, none, some}
+use Rattle.std.specs.Prelude.{Option, None, Some}
 use mathlib.Core.List.{List, [], ◌∷◌, ◌++◌, append_assoc, append-nil}
 use native.Mathlib.Omega.{arith}
 use Rattle.definitions.specs.declared.Style.TheVariants.{Strict}
@@ -81,20 +81,20 @@ module _ (types : List Name) where
     Fine (giving k a s) = FineEntries k × T a.shown × (whole ≡ before k ++ (wrap a.own (display_term Strict a.shown) ++ s))
 
     FineNext : Option State → Type 0
-    FineNext none = Prim.Unit {0}
-    FineNext (some σ) = Fine σ
+    FineNext None = Prim.Unit {0}
+    FineNext (Some σ) = Fine σ
 
     fine_then : {A : Type 0} (P : A → List ℕ → Type 0) (x : Option (Read A)) (next : A → List ℕ → Option State) → Gives x P
         → ((a : A) (t : List ℕ) → P a t → FineNext (next a t)) → FineNext (and_then x next)
     unfolding Gives and_then FineNext
-    fine_then P none next h k = tt
-    fine_then P (some r) next h k = k r.value r.rest h
+    fine_then P None next h k = tt
+    fine_then P (Some r) next h k = k r.value r.rest h
 
     fine_if : {A : Type 0} (P : A → List ℕ → Type 0) (x : Option (Read A)) (then : A → List ℕ → Option State) (else : Option State) → Gives x P
         → ((a : A) (t : List ℕ) → P a t → FineNext (then a t)) → FineNext else → FineNext (if_read x then else)
     unfolding Gives if_read FineNext
-    fine_if P none then else h k e = e
-    fine_if P (some r) then else h k e = k r.value r.rest h
+    fine_if P None then else h k e = e
+    fine_if P (Some r) then else h k e = k r.value r.rest h
 
     fine_after : (bs s : List ℕ) (next : Prim.Unit {0} → List ℕ → Option State) → ((t : List ℕ) → s ≡ bs ++ t → FineNext (next tt t)) → FineNext (and_then (expect bs s) next)
     fine_after bs s next k = fine_then (λ u t. s ≡ bs ++ t) (expect bs s) next (expected bs s) (λ a t h. k t h)
@@ -129,7 +129,7 @@ module _ (types : List Name) where
         (hk, ha, rw (← d) (cc (append_assoc (function_text f) (wrap a.own (display_term Strict a.shown)) s)))
 
     fine_opened : (k : List Entry) (p : Purpose) (s t : List ℕ) → FineEntries k → FinePurpose p → whole ≡ before k ++ (purpose_text p ++ s) → s ≡ 40 ∷ t
-        → FineNext (some (reading (in_bracket p ∷ k) t))
+        → FineNext (Some (reading (in_bracket p ∷ k) t))
     unfolding FineNext Fine FineEntries FineEntry before entry_text
     fine_opened k p s t hk hp e d =
         ((hp, hk), cc (append_assoc (before k) (purpose_text p ++ (40 ∷ [])) t, append_assoc (purpose_text p) (40 ∷ []) t))
@@ -142,7 +142,7 @@ module _ (types : List Name) where
       where
         sorry_or : (b : Bool) → is_sorry (start_of (word s).value) ≡ b
             → FineNext (cond b (used k p (standing false Sorry) (word s).rest)
-            (and_then (expect (utf8 "(") s) (λ u t. if_read (expect (utf8 ")") t) (λ u v. used k p (standing false Unit) v) (some (reading (in_bracket p ∷ k) t)))))
+            (and_then (expect (utf8 "(") s) (λ u t. if_read (expect (utf8 ")") t) (λ u v. used k p (standing false Unit) v) (Some (reading (in_bracket p ∷ k) t)))))
         sorry_or true b =
             let d : s ≡ utf8 "sorry" ++ (word s).rest = rw (spelled_sorry (word s).value (start_of (word s).value) b (spelled (word s).value)) at (word_is s) in
             fine_used k p (standing false Sorry) (word s).rest hk hp tt (cc)
@@ -198,8 +198,8 @@ module _ (types : List Name) where
             (if_due a.own (wraps Strict function_of a.shown) (and_then (expect (utf8 " ") s) λ u t. closed_for k (as_argument a.shown) t))
             (if_read (expect (utf8 ": ") s)
             (λ u t. if_due a.own (wraps Strict ascribed_by a.shown)
-            (and_then (label types prop_levels t) λ l v. some (giving k (standing false (TypeAscription a.shown l)) v)))
-            (some (giving k a s))))
+            (and_then (label types prop_levels t) λ l v. Some (giving k (standing false (TypeAscription a.shown l)) v)))
+            (Some (giving k a s))))
         follows true =
             fine_due a.own (wraps Strict function_of a.shown) _ λ d.
             fine_after (utf8 " ") s _ λ t f.
@@ -353,12 +353,12 @@ module _ (types : List Name) where
         )
 
     -- A turn keeps it.
-    fine_some : (x : Option State) (τ : State) → onward x ≡ onward (some τ) → FineNext x → Fine τ
+    fine_some : (x : Option State) (τ : State) → onward x ≡ onward (Some τ) → FineNext x → Fine τ
     unfolding FineNext
-    fine_some none τ e h = absurd (let z : ◌≡◌ {A = ℕ} 0 1 = cc in omega arith)
-    fine_some (some σ) τ e h = let same : σ ≡ τ = cc in rw (← same) h
+    fine_some None τ e h = absurd (let z : ◌≡◌ {A = ℕ} 0 1 = cc in omega arith)
+    fine_some (Some σ) τ e h = let same : σ ≡ τ = cc in rw (← same) h
 
-    fine_turn : (σ τ : State) → turn types σ ≡ onward (some τ) → Fine σ → Fine τ
+    fine_turn : (σ τ : State) → turn types σ ≡ onward (Some τ) → Fine σ → Fine τ
     unfolding turn Fine FineEntries before
     fine_turn (reading k s) τ e h =
         fine_some _ τ e (fine_start k (start_of (word s).value) s (word s).rest (word s).value h.0 h.1 (word_is s) (spelled (word s).value))

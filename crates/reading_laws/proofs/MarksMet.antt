@@ -2,7 +2,7 @@
 use Prim.Native.Nat.{ℕ, zero, suc, ◌+◌, ◌≤◌}
 use mathlib.Core.Path.{◌≡◌, refl, sym, ap, ◌∙◌}
 use mathlib.Core.Bool.{Bool, true, false, ◌&&◌, cond, and-eq-true_iff}
-use mathlib.Core.Option.{Option, none, some}
+use Rattle.std.specs.Prelude.{Option, None, Some}
 use mathlib.Core.List.{List, [], ◌∷◌, ◌++◌, append_assoc, append-nil}
 use native.Mathlib.Omega.{arith}
 use lib.ListN.{length, length-append}
@@ -195,7 +195,7 @@ module _ (types : List Name) where
       }
 
   -- a turn adds to what was met
-  pub turn_adds : (σ τ : State) → turn types σ ≡ onward (some τ) → Begins (met σ) (met τ)
+  pub turn_adds : (σ τ : State) → turn types σ ≡ onward (Some τ) → Begins (met σ) (met τ)
   unfolding turn met entries_marks
   turn_adds (reading k s) τ e = next_some (After (entries_marks k)) _ τ e (after_start k (start_of (word s).value) s (word s).rest)
   turn_adds (holding k a s) τ e = next_some (After (met (holding k a s))) _ τ e (after_chain k a s)

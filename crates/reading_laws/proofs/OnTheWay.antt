@@ -2,7 +2,7 @@
 use Prim.Native.Nat.{ℕ, zero, suc, ◌+◌, ◌≤◌}
 use mathlib.Core.Path.{◌≡◌, refl, sym, ap, ◌∙◌}
 use mathlib.Core.Bool.{Bool, true, false, ◌&&◌, cond, true≢false, and-eq-true_iff}
-use mathlib.Core.Option.{Option, none, some}
+use Rattle.std.specs.Prelude.{Option, None, Some}
 use mathlib.Core.List.{List, [], ◌∷◌, ◌++◌, append_assoc, append-nil}
 use native.Mathlib.Omega.{arith}
 use lib.ListN.{length}
@@ -63,8 +63,8 @@ limited_second (node ∷ a) b h = limited_second a b h
 
 nodes_label : (l : Option (Label Name)) → nodes_met (label_marks l) ≡ 0
 unfolding nodes_met label_marks
-nodes_label none = refl
-nodes_label (some l) = refl
+nodes_label None = refl
+nodes_label (Some l) = refl
 
 pub nodes_met_lem : (t : ProofTerm Name) → nodes_met (marks t) ≡ nodes t
 unfolding nodes_met marks nodes
@@ -89,8 +89,8 @@ nodes_met_lem Sorry = refl
 
 names_label : (l : Option (Label Name)) → names_met (label_marks l) ≡ parameter_label_names l
 unfolding names_met label_marks parameter_label_names
-names_label none = refl
-names_label (some l) = append-nil (label_names l)
+names_label None = refl
+names_label (Some l) = append-nil (label_names l)
 
 names_node : (ms : List Mark) → names_met (ms ++ (node ∷ [])) ≡ names_met ms
 unfolding names_met
@@ -119,13 +119,13 @@ names_met_lem Sorry = refl
 
 limited_label : (l : Option (Label Name)) → limited_met (label_marks l) ≡ true → is_limited_parameter_label l ≡ true
 unfolding limited_met label_marks is_limited_parameter_label
-limited_label none h = refl
-limited_label (some l) h = ((and-eq-true_iff (is_limited_label l) true).0 h).0
+limited_label None h = refl
+limited_label (Some l) h = ((and-eq-true_iff (is_limited_label l) true).0 h).0
 
 label_limited : (l : Option (Label Name)) → is_limited_parameter_label l ≡ true → limited_met (label_marks l) ≡ true
 unfolding limited_met label_marks is_limited_parameter_label
-label_limited none h = refl
-label_limited (some l) h = both h refl
+label_limited None h = refl
+label_limited (Some l) h = both h refl
 
 pub limited_met_lem : (t : ProofTerm Name) → limited_met (marks t) ≡ true → has_limited_labels t ≡ true
 unfolding limited_met marks has_limited_labels
@@ -222,28 +222,28 @@ module _ (types : List Name) (text : List ℕ) where
   pub reached_first : length text ≤ term_text_limit → all_admitted types ≡ true → Reached (reading [] text)
   reached_first short listed = record { short = short; listed = listed; turns = done }
 
-  one_more : {σ τ υ : State} → Steps types σ τ → turn types τ ≡ onward (some υ) → Steps types σ υ
+  one_more : {σ τ υ : State} → Steps types σ τ → turn types τ ≡ onward (Some υ) → Steps types σ υ
   one_more done e = turned e done
   one_more (turned f w) e = turned f (one_more w e)
 
-  pub reached_next : {σ τ : State} → Reached σ → turn types σ ≡ onward (some τ) → Reached τ
+  pub reached_next : {σ τ : State} → Reached σ → turn types σ ≡ onward (Some τ) → Reached τ
   reached_next h e = record { short = h.short; listed = h.listed; turns = one_more h.turns e }
 
   ends : (a : Shown (ProofTerm Name)) (s : List ℕ) (x : Option State) → turn types (giving [] a s) ≡ onward x → ⊥
   unfolding turn
   ends a s x e = absurd (let z : ◌≡◌ {A = ℕ} 0 1 = cc in omega arith)
 
-  same_next : (σ τ υ : State) → turn types σ ≡ onward (some τ) → turn types σ ≡ onward (some υ) → τ ≡ υ
+  same_next : (σ τ υ : State) → turn types σ ≡ onward (Some τ) → turn types σ ≡ onward (Some υ) → τ ≡ υ
   same_next σ τ υ e f = cc
 
   -- the turns to the end pass every state that is reached
   onwards : {s σ υ : State} (a : Shown (ProofTerm Name)) (r : List ℕ) → Steps types s σ → Steps types s υ → υ ≡ giving [] a r → Steps types σ (giving [] a r)
   onwards a r done w e = rw (← e) w
-  onwards a r (turned {σ = s} {τ = τ} f v) done e = absurd (ends a r (some τ) (rw (← e) f))
+  onwards a r (turned {σ = s} {τ = τ} f v) done e = absurd (ends a r (Some τ) (rw (← e) f))
   onwards a r (turned {σ = s} {τ = τ} f v) (turned {τ = ρ} g w) e = let q : ρ ≡ τ = same_next s ρ τ g f in onwards a r v (rw q at w) e
 
-  stuck : {σ υ : State} (a : Shown (ProofTerm Name)) → Steps types σ υ → υ ≡ giving [] a [] → turn types σ ≡ onward none → ⊥
-  stuck a done q e = ends a [] none (rw q at e)
+  stuck : {σ υ : State} (a : Shown (ProofTerm Name)) → Steps types σ υ → υ ≡ giving [] a [] → turn types σ ≡ onward None → ⊥
+  stuck a done q e = ends a [] None (rw q at e)
   stuck a (turned {τ = τ} f w) q e = absurd (let z : ◌≡◌ {A = ℕ} 0 1 = cc in omega arith)
 
   module _ {σ : State} (h : Reached σ) where
@@ -274,7 +274,7 @@ module _ (types : List Name) (text : List ℕ) where
     pub unfit_refused : (Fits σ → ⊥) → read_answer types text ≡ refuse 20 0
     unfit_refused no-fit = none_refused (λ t of. no-fit (fits t of))
 
-    pub stuck_refused : turn types σ ≡ onward none → read_answer types text ≡ refuse 20 0
+    pub stuck_refused : turn types σ ≡ onward None → read_answer types text ≡ refuse 20 0
     stuck_refused e = none_refused (λ t of. stuck (standing false t) (to_term t of) refl e)
 
   -- the end that is reached is the end of the way
@@ -283,7 +283,7 @@ module _ (types : List Name) (text : List ℕ) where
     where
       only : {υ : State} → Steps types (giving [] a s) υ → giving [] a s ≡ υ
       only done = refl
-      only (turned {τ = τ} f w) = absurd (ends a s (some τ) f)
+      only (turned {τ = τ} f w) = absurd (ends a s (Some τ) f)
 
   unfoldable left : State → List ℕ
   left (reading k s) = s
@@ -316,7 +316,7 @@ module _ (types : List Name) (text : List ℕ) where
       one_answer types text (answer_is types text) (reads a.shown (record { short = h.short; listed = h.listed; the_term = the_term types text a.shown of }))
 
   -- 20 also where a turn leads on to nothing but a state that passes a limit
-  pub unturned_refused : {σ : State} → Reached σ → (x : Option State) → turn types σ ≡ onward x → ((τ : State) → turn types σ ≡ onward (some τ) → Fits τ → ⊥)
+  pub unturned_refused : {σ : State} → Reached σ → (x : Option State) → turn types σ ≡ onward x → ((τ : State) → turn types σ ≡ onward (Some τ) → Fits τ → ⊥)
       → read_answer types text ≡ refuse 20 0
-  unturned_refused h none e no-fit = stuck_refused h e
-  unturned_refused h (some τ) e no-fit = unfit_refused (reached_next h e) (λ f. no-fit τ e f)
+  unturned_refused h None e no-fit = stuck_refused h e
+  unturned_refused h (Some τ) e no-fit = unfit_refused (reached_next h e) (λ f. no-fit τ e f)

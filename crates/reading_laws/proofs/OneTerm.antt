@@ -2,7 +2,7 @@
 use Prim.Native.Nat.{ℕ, ◌+◌, ◌*◌, max, ◌≤◌}
 use mathlib.Core.Path.{◌≡◌, refl, sym, ap, ◌∙◌}
 use mathlib.Core.Bool.{Bool, true, false, cond}
-use mathlib.Core.Option.{Option, none, some, some-injective}
+use Rattle.std.specs.Prelude.{Option, None, Some}
 use mathlib.Core.List.{List, [], ◌∷◌, ◌++◌, map, append-nil}
 use native.Mathlib.Omega.{arith}
 use lib.ListN.{length, length-append}
@@ -24,6 +24,7 @@ use Rattle.reading_laws.proofs.EachLabel.{join_each}
 use Rattle.reading_laws.proofs.WordsRead.{stops}
 use Rattle.reading_laws.proofs.PropTexts.{extra}
 use Rattle.reading_laws.proofs.TermTexts.{is_next, Ends, Shallow, Good, read_term_lem}
+use Rattle.std.proofs.lemmas.Option.{same_Some}
 
 module _ (types : List Name) where
   shallow_label : (l : Label Name) → ConventionalLabel types l → LimitedLabel l → ConventionalLabel types l × Shallow types prop_levels l
@@ -48,7 +49,7 @@ module _ (types : List Name) where
   -- so a text has one term at most
   pub one_term : (text : List ℕ) (t u : ProofTerm Name) → TermOf types text t → TermOf types text u → u ≡ t
   unfolding standing
-  one_term text t u h k = ap (λ r. r.value.shown) (some-injective _ _ (sym (read_strict text u k) ∙ read_strict text t h))
+  one_term text t u h k = ap (λ r. r.value.shown) (same_Some _ _ (sym (read_strict text u k) ∙ read_strict text t h))
 
   pub the_term : (text : List ℕ) (t : ProofTerm Name) → TermOf types text t → TheTermOf types text t
   the_term text t h = record { one = h; only = λ u k. one_term text t u h k }
@@ -116,8 +117,8 @@ label_kept (datatype t) = refl
 
 parameter_label_kept : (l : Option (Label Name)) → display_parameter_label (parameter_label_without_ids l) ≡ display_parameter_label l
 unfolding display_parameter_label parameter_label_without_ids
-parameter_label_kept none = refl
-parameter_label_kept (some l) = rw (label_kept l)
+parameter_label_kept None = refl
+parameter_label_kept (Some l) = rw (label_kept l)
 
 form_kept : (t : ProofTerm Name) → form (without_ids t) ≡ form t
 unfolding form without_ids
@@ -194,8 +195,8 @@ label_names_kept (datatype t) = refl
 
 parameter_label_names_kept : (l : Option (Label Name)) → parameter_label_names (parameter_label_without_ids l) ≡ parameter_label_names l
 unfolding parameter_label_names parameter_label_without_ids
-parameter_label_names_kept none = refl
-parameter_label_names_kept (some l) = label_names_kept l
+parameter_label_names_kept None = refl
+parameter_label_names_kept (Some l) = label_names_kept l
 
 term_names_kept : (t : ProofTerm Name) → term_names (without_ids t) ≡ term_names t
 unfolding term_names without_ids
@@ -240,8 +241,8 @@ term_nesting_kept Sorry = refl
 module _ {P Q : Label Name → Type 0} (R : Label Name → Type 0) (A B : Name → Type 0) (carry : (l : Label Name) → P l → Q l → R (label_without_ids l)) where
   carry_label : (l : Option (Label Name)) → OfParameterLabel P A l → OfParameterLabel Q B l → OfParameterLabel R A (parameter_label_without_ids l)
   unfolding OfParameterLabel parameter_label_without_ids
-  carry_label none p q = tt
-  carry_label (some l) p q = carry l p q
+  carry_label None p q = tt
+  carry_label (Some l) p q = carry l p q
 
   carry_each : (t : ProofTerm Name) → Each P A t → Each Q B t → Each R A (without_ids t)
   unfolding Each without_ids

@@ -2,7 +2,7 @@
 use Prim.Native.Nat.{ℕ, zero, suc, ◌+◌, ◌-◌, ◌*◌, max, ◌<◌, ◌≤◌}
 use mathlib.Core.Path.{◌≡◌, refl, sym, ap, ◌∙◌}
 use mathlib.Core.Bool.{Bool, true, false, cond, true≢false}
-use mathlib.Core.Option.{Option, none, some, none-ne-some}
+use Rattle.std.specs.Prelude.{Option, None, Some}
 use mathlib.Core.List.{List, [], ◌∷◌, ◌++◌, append_assoc}
 use native.Mathlib.Omega.{arith}
 use lib.ListN.{length}
@@ -19,6 +19,7 @@ use Rattle.definitions.specs.TermText.{is_admitted, Admitted, parameter_named, C
 use Rattle.definitions.specs.TermReader.{Shown, standing, same, due, longer, word, named, name, expect, if_read, or_read, means, connective, right_least, strong_enough, goes_on, Sign, top, bottom, negation, bracket, binder, sign, later_parameters, parameters_of, signed, atom_named, unit, joined, read_prop, is_open}
 use Rattle.definitions.proofs.Readings.{given}
 use Rattle.reading_laws.proofs.WordsRead.{stops, read_name}
+use Rattle.std.proofs.lemmas.Option.{none-some}
 
 -- Connectives in front.
 
@@ -38,33 +39,33 @@ pub goes_on_lem : (least : ℕ) (c : Connective) (s : List ℕ) → least ≤ co
 unfolding goes_on strong_enough
 goes_on_lem least c s h = rw (read_connective c s, le-leb _ _ h)
 
-stops_before : (least : ℕ) (c : Connective) (s : List ℕ) → connective_precedence c < least → goes_on least (connective_text c ++ s) ≡ none
+stops_before : (least : ℕ) (c : Connective) (s : List ℕ) → connective_precedence c < least → goes_on least (connective_text c ++ s) ≡ None
 unfolding goes_on strong_enough
 stops_before least c s h = rw (read_connective c s, lt-leb _ _ h)
 
 -- what stops at a strength stops at a higher one
-weaker : (least more : ℕ) (x : Option (Read Connective)) → least ≤ more → strong_enough least x ≡ none → strong_enough more x ≡ none
+weaker : (least more : ℕ) (x : Option (Read Connective)) → least ≤ more → strong_enough least x ≡ None → strong_enough more x ≡ None
 unfolding strong_enough
-weaker least more none h e = refl
-weaker least more (some r) h e = go (leb least (connective_precedence r.value)) refl e
+weaker least more None h e = refl
+weaker least more (Some r) h e = go (leb least (connective_precedence r.value)) refl e
   where
-    go : (b : Bool) → leb least (connective_precedence r.value) ≡ b → cond b (some r) none ≡ none
-        → cond (leb more (connective_precedence r.value)) (some r) none ≡ none
-    go true is e = absurd (none-ne-some r (sym e))
+    go : (b : Bool) → leb least (connective_precedence r.value) ≡ b → cond b (Some r) None ≡ None
+        → cond (leb more (connective_precedence r.value)) (Some r) None ≡ None
+    go true is e = absurd (none-some r (sym e))
     go false is e = let far = leb-false least (connective_precedence r.value) is in rw (lt-leb more (connective_precedence r.value) (omega arith))
 
-pub stays_stopped : (least more : ℕ) (s : List ℕ) → least ≤ more → goes_on least s ≡ none → goes_on more s ≡ none
+pub stays_stopped : (least more : ℕ) (s : List ℕ) → least ≤ more → goes_on least s ≡ None → goes_on more s ≡ None
 unfolding goes_on
 stays_stopped least more s h e = weaker least more (connective s) h e
 
 -- no connective is so strong
-pub strong_stops : (least : ℕ) (s : List ℕ) → 4 < least → goes_on least s ≡ none
+pub strong_stops : (least : ℕ) (s : List ℕ) → 4 < least → goes_on least s ≡ None
 unfolding goes_on strong_enough
 strong_stops least s h = go (connective s)
   where
-    go : (x : Option (Read Connective)) → strong_enough least x ≡ none
-    go none = refl
-    go (some r) = let weak = connective_weak r.value in rw (lt-leb least (connective_precedence r.value) (omega arith))
+    go : (x : Option (Read Connective)) → strong_enough least x ≡ None
+    go None = refl
+    go (Some r) = let weak = connective_weak r.value in rw (lt-leb least (connective_precedence r.value) (omega arith))
 
 -- How strongly a proposition binds, and what may not follow it without brackets: no connective of at least this strength.
 unfoldable pub demand : Prop Name → ℕ
@@ -142,7 +143,7 @@ negated_fits binds e = absurd (true≢false e)
 pub record After (least : ℕ) (rest : List ℕ) : Type 0 where
   pub ends : stops rest ≡ true
   pub bare : is_open rest ≡ false
-  pub weak : goes_on least rest ≡ none
+  pub weak : goes_on least rest ≡ None
 
 -- brackets take a level
 unfoldable pub extra : Bool → ℕ
@@ -162,8 +163,8 @@ extra_small false = omega arith
 -- what is done where a test says that nothing stands in front
 pub not_read : {A B : Type 0} (x : Option (Read A)) (then : A → List ℕ → B) (else : B) → if_read x (λ u rest. true) false ≡ false → if_read x then else ≡ else
 unfolding if_read
-not_read none then else e = refl
-not_read (some r) then else e = absurd (true≢false e)
+not_read None then else e = refl
+not_read (Some r) then else e = absurd (true≢false e)
 
 -- Parameters.
 module _ (bound : List Name) where
@@ -200,7 +201,7 @@ module _ (bound : List Name) where
 abbrev pub Reads : (ℕ → List Name → Reading (Shown (Prop Name))) → ℕ → Type 0
 Reads part levels =
     (least : ℕ) (flag : Bool) (p : Prop Name) (bound : List Name) (rest : List ℕ)
-    → ConventionalProp bound p → (flag ≡ false → least ≤ precedence p) → (flag ≡ false → goes_on (demand p) rest ≡ none)
+    → ConventionalProp bound p → (flag ≡ false → least ≤ precedence p) → (flag ≡ false → goes_on (demand p) rest ≡ None)
     → After least rest → 2 * nesting p + extra flag ≤ levels
     → part least bound (wrap flag (display_prop p) ++ rest) ≡ given (standing flag p) rest
 
@@ -223,13 +224,13 @@ module _ (part : ℕ → List Name → Reading (Shown (Prop Name))) (levels : �
   read_binder for_all s = refl
   read_binder exists s = refl
 
-  name_binder : (q : Quantifier) (s : List ℕ) → name (quantifier_text q ++ s) ≡ none
+  name_binder : (q : Quantifier) (s : List ℕ) → name (quantifier_text q ++ s) ≡ None
   unfolding name named word is_admitted well_formed name_length_limit is_name byte_class may_follow quantifier_text
   name_binder for_all s = refl
   name_binder exists s = refl
 
   unit_quantified : (q : Quantifier) (x t : Name) (p : Prop Name) (rest : List ℕ) → ConventionalProp bound (Quantified q x t p)
-      → stops rest ≡ true → is_open rest ≡ false → goes_on 0 rest ≡ none → 2 * nesting (Quantified q x t p) ≤ suc levels
+      → stops rest ≡ true → is_open rest ≡ false → goes_on 0 rest ≡ None → 2 * nesting (Quantified q x t p) ≤ suc levels
       → unit part bound (display_prop (Quantified q x t p) ++ rest) ≡ given (standing false (Quantified q x t p)) rest
   unfolding standing same due unit signed display_prop ConventionalProp nesting if_read expect yield followed_by ◌>>=◌ wrap extra stops byte_class may_follow
   unit_quantified q x t p rest ok ends bare free fits =
@@ -292,7 +293,7 @@ module _ (part : ℕ → List Name → Reading (Shown (Prop Name))) (levels : �
   -- a text is read and then what follows goes on from there
   abbrev Continues : Bool → Prop Name → Type 0
   Continues flag p =
-      (least k : ℕ) (rest : List ℕ) → ConventionalProp bound p → (flag ≡ false → least ≤ precedence p) → (flag ≡ false → goes_on (demand p) rest ≡ none)
+      (least k : ℕ) (rest : List ℕ) → ConventionalProp bound p → (flag ≡ false → least ≤ precedence p) → (flag ≡ false → goes_on (demand p) rest ≡ None)
       → stops rest ≡ true → is_open rest ≡ false → 2 * nesting p + extra flag ≤ suc levels
       → followed_by (unit part bound (wrap flag (display_prop p) ++ rest)) (joined part bound (spine p flag + k) least) ≡ joined part bound k least (standing flag p) rest
 
@@ -327,7 +328,7 @@ module _ (part : ℕ → List Name → Reading (Shown (Prop Name))) (levels : �
 
   -- a text that is read at once
   at_once : (p : Prop Name) → spine p false ≡ 0
-      → ((rest : List ℕ) → ConventionalProp bound p → goes_on (demand p) rest ≡ none → stops rest ≡ true → is_open rest ≡ false → 2 * nesting p ≤ suc levels
+      → ((rest : List ℕ) → ConventionalProp bound p → goes_on (demand p) rest ≡ None → stops rest ≡ true → is_open rest ≡ false → 2 * nesting p ≤ suc levels
       → unit part bound (display_prop p ++ rest) ≡ given (standing false p) rest)
       → Continues false p
   unfolding extra wrap followed_by
@@ -341,7 +342,7 @@ module _ (part : ℕ → List Name → Reading (Shown (Prop Name))) (levels : �
 
   -- a connective in front and its right side
   next : (c : Connective) (a b : Prop Name) (least k : ℕ) (rest : List ℕ) → ConventionalProp bound (Binary c a b) → least ≤ connective_precedence c
-      → goes_on (right_least c) rest ≡ none → stops rest ≡ true → is_open rest ≡ false → 2 * nesting b + 1 ≤ levels
+      → goes_on (right_least c) rest ≡ None → stops rest ≡ true → is_open rest ≡ false → 2 * nesting b + 1 ≤ levels
       → is_negation c b ≡ false
       → joined part bound (suc k) least (standing (wraps_left c (precedence a)) a) (connective_text c ++ (wrap (wraps_right c (precedence b)) (display_prop b) ++ rest))
       ≡ joined part bound k least (standing false (Binary c a b)) rest
@@ -368,7 +369,7 @@ module _ (part : ℕ → List Name → Reading (Shown (Prop Name))) (levels : �
       let fr = wraps_right c (precedence b) in
       let after = wrap fr (display_prop b) ++ rest in
       let enough : least ≤ connective_precedence c = rw is at (strong refl) in
-      let stopped : goes_on (right_least c) rest ≡ none = rw is at (free refl) in
+      let stopped : goes_on (right_least c) rest ≡ None = rw is at (free refl) in
       let count : suc (spine a fl) + k ≡ spine a fl + suc k = omega arith in
       let first = left least (suc k) (connective_text c ++ after) ok.0
       (λ e. let far = (left_fits c (rank a) e).0 in omega arith)
@@ -407,7 +408,7 @@ module _ (part : ℕ → List Name → Reading (Shown (Prop Name))) (levels : �
       either flag (Quantified q x t p) (at_once (Quantified q x t p) refl (λ rest ok free ends bare fits. unit_quantified q x t p rest ok ends bare free fits))
 
   -- nothing is joined where no connective follows
-  stop : (least k : ℕ) (p : Shown (Prop Name)) (rest : List ℕ) → goes_on least rest ≡ none → joined part bound k least p rest ≡ given p rest
+  stop : (least k : ℕ) (p : Shown (Prop Name)) (rest : List ℕ) → goes_on least rest ≡ None → joined part bound k least p rest ≡ given p rest
   unfolding joined if_read yield
   stop least zero p rest e = refl
   stop least (suc k) p rest e = rw e

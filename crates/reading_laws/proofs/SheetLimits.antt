@@ -2,8 +2,7 @@
 use Prim.Native.Nat.{ℕ, zero, suc, ◌+◌, ◌-◌, ◌*◌, max, ◌<◌, ◌≤◌}
 use mathlib.Core.Path.{◌≡◌, refl, sym, ap, ◌∙◌}
 use mathlib.Core.Bool.{Bool, true, false, ◌||◌, not, cond, true≢false}
-use mathlib.Core.Option as option
-use mathlib.Core.Option.{Option, some}
+use Rattle.std.specs.Prelude.{unwrap_or, None, Option, Some}
 use mathlib.Core.List.{List, [], ◌∷◌, ◌++◌, map}
 use native.Mathlib.Omega.{arith}
 use native.Mathlib.Decide.{dec_lt}
@@ -32,23 +31,23 @@ use Rattle.reading_laws.proofs.FewNames.{Value, All, all_both, few_names}
 
 -- A lowest place that is not there.
 module _ (test : ℕ → Bool) where
-  first_none : (x : Option ℕ) (b : Bool) (place : ℕ) → first_of x b place ≡ option.none → (x ≡ option.none) × (b ≡ false)
+  first_none : (x : Option ℕ) (b : Bool) (place : ℕ) → first_of x b place ≡ None → (x ≡ None) × (b ≡ false)
   unfolding first_of
-  first_none (some p) b place e = absurd (let z : ◌≡◌ {A = ℕ} 0 1 = cc in omega arith)
-  first_none option.none true place e = absurd (let z : ◌≡◌ {A = ℕ} 0 1 = cc in omega arith)
-  first_none option.none false place e = (refl, refl)
+  first_none (Some p) b place e = absurd (let z : ◌≡◌ {A = ℕ} 0 1 = cc in omega arith)
+  first_none None true place e = absurd (let z : ◌≡◌ {A = ℕ} 0 1 = cc in omega arith)
+  first_none None false place e = (refl, refl)
 
-  none_lowest : (count : ℕ) → lowest test count ≡ option.none → (i : ℕ) → i < count → test i ≡ false
+  none_lowest : (count : ℕ) → lowest test count ≡ None → (i : ℕ) → i < count → test i ≡ false
   unfolding lowest
   none_lowest zero e i h = absurd (omega arith)
   none_lowest (suc count) e i h =
       let parts = first_none (lowest test count) (test count) count e in
       by_cases (dec_lt i count) (λ k. none_lowest count parts.0 i k) (λ k. let same : i ≡ count = omega arith in rw same parts.1)
 
-  passed_at : (x : Option ℕ) (number : ℕ) (a : Prim.Unit {0}) → refuse_at x number ≡ accepted a → x ≡ option.none
+  passed_at : (x : Option ℕ) (number : ℕ) (a : Prim.Unit {0}) → refuse_at x number ≡ accepted a → x ≡ None
   unfolding refuse_at refuse
-  passed_at option.none number a e = refl
-  passed_at (some place) number a e = absurd (apart a e)
+  passed_at None number a e = refl
+  passed_at (Some place) number a e = absurd (apart a e)
 
   passed_lowest : (count number : ℕ) (a : Prim.Unit {0}) → refuse_lowest test count number ≡ accepted a → (i : ℕ) → i < count → test i ≡ false
   unfolding refuse_lowest
@@ -301,8 +300,8 @@ module _ (f : ℕ → Name) (n : ℕ) where
 
   parameter_label_values : (l : Option (Label Name)) → OfParameterLabel (Fine f n) Known l → All Known (parameter_label_names l)
   unfolding OfParameterLabel parameter_label_names All
-  parameter_label_values option.none h = tt
-  parameter_label_values (some l) h = h.1
+  parameter_label_values None h = tt
+  parameter_label_values (Some l) h = h.1
 
   term_values : (t : ProofTerm Name) → Each (Fine f n) Known t → All Known (term_names t)
   unfolding Each term_names All
@@ -341,10 +340,10 @@ bytes_drop zero l h = h
 bytes_drop (suc k) [] h = λ i. omega arith
 bytes_drop (suc k) (b ∷ l) h = bytes_drop k l (λ j. h (suc j))
 
-is_some : {A : Type 0} (o : Option A) (d : A) → is_none o ≡ false → o ≡ some (option.get_or o d)
+is_some : {A : Type 0} (o : Option A) (d : A) → is_none o ≡ false → o ≡ Some (unwrap_or o d)
 unfolding is_none
-is_some option.none d e = absurd (true≢false e)
-is_some (some a) d e = refl
+is_some None d e = absurd (true≢false e)
+is_some (Some a) d e = refl
 
 mapped_accepted : {A B : Type 0} (g : A → B) (o : Outcome A) (b : B) → map_outcome g o ≡ accepted b → (a : A) × (o ≡ accepted a)
 unfolding map_outcome
@@ -377,7 +376,7 @@ module _ (s : List ℕ) (bytes : Bytes s) where
   unfolding FineConclusion bad_code deep_proposition prop_in proposition_nesting_limit
   fine_proposition i small seven eight =
       let m = marked (proposition_pairs s) (sheet.code_bytes s) i in
-      let p = option.get_or (decode (names s) m) False in
+      let p = unwrap_or (decode (names s) m) False in
       let both = encode_decode (names s) m p (marked_bytes i) (is_some (decode (names s) m) False seven) in
       let same : length (encode p) ≡ length m = ap length both.0 in
       (both.1, ltb-false _ _ eight, omega (arith, marked_short i))

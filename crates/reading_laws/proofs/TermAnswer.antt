@@ -2,7 +2,7 @@
 use Prim.Native.Nat.{ℕ, ◌≤◌}
 use mathlib.Core.Path.{◌≡◌, refl, sym, ap, ◌∙◌}
 use mathlib.Core.Bool.{Bool, true, false, ◌&&◌, cond, true≢false, and-eq-true_iff}
-use mathlib.Core.Option.{Option, none, some, none-ne-some, some-injective}
+use Rattle.std.specs.Prelude.{Option, None, Some}
 use mathlib.Core.List.{List, [], ◌∷◌, ◌++◌, append-nil}
 use native.Mathlib.Omega.{arith}
 use lib.ListN.{length}
@@ -23,6 +23,8 @@ use Rattle.definitions.proofs.Readings.{given, whole_read}
 use Rattle.reading_laws.specs.Coded.{Coded}
 use Rattle.reading_laws.proofs.TermConventions.{Gives, TermIn, gives_term}
 use Rattle.reading_laws.proofs.OneTerm.{read_strict, the_term, restores}
+use Rattle.std.proofs.lemmas.Option.{same_Some}
+use Rattle.std.proofs.lemmas.Option.{none-some}
 
 -- both of two
 pub both : {a b : Bool} → a ≡ true → b ≡ true → a && b ≡ true
@@ -46,8 +48,8 @@ label_test (datatype t) h = refl
 
 parameter_label_test : (l : Option (Label Name)) → OfParameterLabel LimitedLabel (λ x. Prim.Unit {0}) l → is_limited_parameter_label l ≡ true
 unfolding OfParameterLabel is_limited_parameter_label
-parameter_label_test none h = refl
-parameter_label_test (some l) h = label_test l h
+parameter_label_test None h = refl
+parameter_label_test (Some l) h = label_test l h
 
 labels_test : (t : ProofTerm Name) → Each LimitedLabel (λ x. Prim.Unit {0}) t → has_limited_labels t ≡ true
 unfolding Each has_limited_labels
@@ -75,8 +77,8 @@ label_passed (datatype t) h = tt
 
 parameter_label_passed : (l : Option (Label Name)) → is_limited_parameter_label l ≡ true → OfParameterLabel LimitedLabel (λ x. Prim.Unit {0}) l
 unfolding OfParameterLabel is_limited_parameter_label
-parameter_label_passed none h = tt
-parameter_label_passed (some l) h = label_passed l h
+parameter_label_passed None h = tt
+parameter_label_passed (Some l) h = label_passed l h
 
 labels_passed : (t : ProofTerm Name) → has_limited_labels t ≡ true → Each LimitedLabel (λ x. Prim.Unit {0}) t
 unfolding Each has_limited_labels
@@ -129,8 +131,8 @@ module _ (types : List Name) where
     settled_is : (x : Option (Shown (ProofTerm Name))) → whole (read_term types prop_levels term_levels text) ≡ x → length text ≤ term_text_limit → all_admitted types ≡ true
         → read_answer types text ≡ settled x → ReadsAs types text (settled x)
     unfolding settled
-    settled_is none e short listed is = refuses (λ t h. clash t (sym is ∙ readable_accepted t h))
-    settled_is (some a) e short listed is = go (same a.own false && is_limited a.shown) refl is
+    settled_is None e short listed is = refuses (λ t h. clash t (sym is ∙ readable_accepted t h))
+    settled_is (Some a) e short listed is = go (same a.own false && is_limited a.shown) refl is
       where
         go : (b : Bool) → same a.own false && is_limited a.shown ≡ b
             → read_answer types text ≡ cond b (accepted a.shown) (refuse 20 0) → ReadsAs types text (cond b (accepted a.shown) (refuse 20 0))

@@ -2,7 +2,7 @@
 use Prim.Native.Nat.{ℕ, zero, suc, ◌<◌, ◌≤◌}
 use mathlib.Core.Path.{◌≡◌, refl, sym, ap, ◌∙◌}
 use mathlib.Core.Bool.{Bool, true, false, not, cond, true≢false}
-use mathlib.Core.Option.{Option, none, some}
+use Rattle.std.specs.Prelude.{Option, None, Some}
 use mathlib.Core.List.{List, [], ◌∷◌, ◌++◌, append_assoc, append-nil}
 use native.Mathlib.Omega.{arith}
 use lib.ListN.{length}
@@ -23,15 +23,15 @@ use Rattle.definitions.proofs.Names.{eq_name_true}
 
 -- P holds of what is read and of the bytes after it, if anything is read
 unfoldable pub Gives : {A : Type 0} → Option (Read A) → (A → List ℕ → Type 0) → Type 0
-Gives none P = Prim.Unit {0}
-Gives (some r) P = P r.value r.rest
+Gives None P = Prim.Unit {0}
+Gives (Some r) P = P r.value r.rest
 
 module _ {A : Type 0} where
   pub gives_yield : (P : A → List ℕ → Type 0) (a : A) (s : List ℕ) → P a s → Gives (yield a s) P
   unfolding Gives yield
   gives_yield P a s h = h
 
-  pub gives_none : (P : A → List ℕ → Type 0) → Gives none P
+  pub gives_none : (P : A → List ℕ → Type 0) → Gives None P
   unfolding Gives
   gives_none P = tt
 
@@ -50,25 +50,25 @@ module _ {A : Type 0} where
   module _ {B : Type 0} (P : A → List ℕ → Type 0) (Q : B → List ℕ → Type 0) where
     pub gives_then : (x : Option (Read A)) (next : A → Reading B) → Gives x P → ((a : A) (s : List ℕ) → P a s → Gives (next a s) Q) → Gives (followed_by x next) Q
     unfolding Gives followed_by
-    gives_then none next h k = tt
-    gives_then (some r) next h k = k r.value r.rest h
+    gives_then None next h k = tt
+    gives_then (Some r) next h k = k r.value r.rest h
 
     pub gives_if_read : (x : Option (Read A)) (then : A → Reading B) (else : Option (Read B)) → Gives x P → ((a : A) (s : List ℕ) → P a s → Gives (then a s) Q)
         → Gives else Q → Gives (if_read x then else) Q
     unfolding Gives if_read
-    gives_if_read none then else h k e = e
-    gives_if_read (some r) then else h k e = k r.value r.rest h
+    gives_if_read None then else h k e = e
+    gives_if_read (Some r) then else h k e = k r.value r.rest h
 
 -- Bytes that are expected stand there.
 pub expected : (bs s : List ℕ) → Gives (expect bs s) (λ u t. s ≡ bs ++ t)
 unfolding Gives expect yield
 expected [] s = refl
 expected (b ∷ bs) [] = tt
-expected (b ∷ bs) (c ∷ s) = gives_if (λ u t. c ∷ s ≡ (b ∷ bs) ++ t) (eqb b c) (expect bs s) none (λ e. more (expect bs s) (eqb-true b c e) (expected bs s)) tt
+expected (b ∷ bs) (c ∷ s) = gives_if (λ u t. c ∷ s ≡ (b ∷ bs) ++ t) (eqb b c) (expect bs s) None (λ e. more (expect bs s) (eqb-true b c e) (expected bs s)) tt
   where
     more : (x : Option (Read (Prim.Unit {0}))) → b ≡ c → Gives x (λ u t. s ≡ bs ++ t) → Gives x (λ u t. c ∷ s ≡ (b ∷ bs) ++ t)
-    more none e h = tt
-    more (some r) e h = cc
+    more None e h = tt
+    more (Some r) e h = cc
 
 module _ {B : Type 0} (Q : B → List ℕ → Type 0) where
   pub gives_after : (bs s : List ℕ) (next : Prim.Unit {0} → Reading B) → ((t : List ℕ) → s ≡ bs ++ t → Gives (next tt t) Q) → Gives (followed_by (expect bs s) next) Q
@@ -95,7 +95,7 @@ NameIn s x t = Admitted x × (s ≡ x ++ t)
 
 pub gives_name : (s : List ℕ) → Gives (name s) (NameIn s)
 unfolding name named Gives
-gives_name s = gives_if (NameIn s) (is_admitted (word s).value) (some (word s)) none (λ e. (e, word_is s)) tt
+gives_name s = gives_if (NameIn s) (is_admitted (word s).value) (Some (word s)) None (λ e. (e, word_is s)) tt
 
 -- Parameters.
 module _ (bound : List Name) where
@@ -153,8 +153,8 @@ module _ {A : Type 0} (Q : A → List ℕ → Type 0) where
 
   gives_or_read : (x y : Option (Read A)) → Gives x Q → Gives y Q → Gives (or_read x y) Q
   unfolding Gives or_read
-  gives_or_read none y h k = k
-  gives_or_read (some r) y h k = h
+  gives_or_read None y h k = k
+  gives_or_read (Some r) y h k = h
 
 gives_connective : (s : List ℕ) → Gives (connective s) (λ c t. s ≡ connective_text c ++ t)
 unfolding connective connective_text
@@ -165,8 +165,8 @@ gives_connective s =
 
 strong : (least : ℕ) (x : Option (Read Connective)) (Q : Connective → List ℕ → Type 0) → Gives x Q → Gives (strong_enough least x) Q
 unfolding Gives strong_enough
-strong least none Q h = tt
-strong least (some r) Q h = gives_if Q (leb least (connective_precedence r.value)) (some r) none (λ e. h) tt
+strong least None Q h = tt
+strong least (Some r) Q h = gives_if Q (leb least (connective_precedence r.value)) (Some r) None (λ e. h) tt
 
 gives_goes_on : (least : ℕ) (s : List ℕ) → Gives (goes_on least s) (λ c t. s ≡ connective_text c ++ t)
 unfolding goes_on
@@ -375,8 +375,8 @@ module _ (types : List Name) (levels : ℕ) where
   gives_parameter_label s =
       gives_next (ParameterLabelIn s) (utf8 ": ") s _ _
       (λ t e. gives_then (LabelIn t) (ParameterLabelIn s) (label types levels t) _ (gives_label t) λ l u h.
-      gives_yield (ParameterLabelIn s) (some l) u (h.0, (let k = h.1 in cc)))
-      (gives_yield (ParameterLabelIn s) none s (tt, refl))
+      gives_yield (ParameterLabelIn s) (Some l) u (h.0, (let k = h.1 in cc)))
+      (gives_yield (ParameterLabelIn s) None s (tt, refl))
 
   -- Terms.
 

@@ -2,7 +2,7 @@
 use Prim.Native.Nat.{ℕ, zero, suc, ◌+◌, ◌-◌, ◌*◌, max, ◌<◌, ◌≤◌}
 use mathlib.Core.Path.{◌≡◌, refl, sym, ap, ◌∙◌}
 use mathlib.Core.Bool.{Bool, true, false, ◌||◌, cond, true≢false, and-eq-true_iff}
-use mathlib.Core.Option.{Option, none, some}
+use Rattle.std.specs.Prelude.{Option, None, Some}
 use mathlib.Core.List.{List, [], ◌∷◌, ◌++◌, append_assoc, append-nil}
 use native.Mathlib.Omega.{arith}
 use lib.ListN.{length}
@@ -36,7 +36,7 @@ pub record Ends (rest : List ℕ) : Type 0 where
   pub no_argument : argument_follows rest ≡ false
   pub no_label : is_next (utf8 ": ") rest ≡ false
   pub no_bracket : is_open rest ≡ false
-  pub no_connective : goes_on 0 rest ≡ none
+  pub no_connective : goes_on 0 rest ≡ None
 
 pub after_label : {rest : List ℕ} → Ends rest → After 0 rest
 after_label e = record { ends = e.no_name; bare = e.no_bracket; weak = e.no_connective }
@@ -99,13 +99,13 @@ module _ (types : List Name) (levels : ℕ) where
   pub read_parameter_label : (l : Option (Label Name)) (s : List ℕ) → OfParameterLabel (λ l. ConventionalLabel types l × Shallow l) Admitted l
       → parameter_label types levels (display_parameter_label l ++ (utf8 " => " ++ s)) ≡ given l (utf8 " => " ++ s)
   unfolding parameter_label display_parameter_label OfParameterLabel if_read expect yield followed_by ◌>>=◌ stops byte_class may_follow is_open goes_on strong_enough connective means or_read
-  read_parameter_label none s ok = refl
-  read_parameter_label (some l) s ok = rw (read_label l (utf8 " => " ++ s) ok.0 ok.1 (record { ends = refl; bare = refl; weak = refl }))
+  read_parameter_label None s ok = refl
+  read_parameter_label (Some l) s ok = rw (read_label l (utf8 " => " ++ s) ok.0 ok.1 (record { ends = refl; bare = refl; weak = refl }))
 
   pub stops_parameter_label : (l : Option (Label Name)) (s : List ℕ) → stops (display_parameter_label l ++ (utf8 " => " ++ s)) ≡ true
   unfolding display_parameter_label stops byte_class may_follow
-  stops_parameter_label none s = refl
-  stops_parameter_label (some l) s = refl
+  stops_parameter_label None s = refl
+  stops_parameter_label (Some l) s = refl
 
   -- No text of a term begins with a closing bracket.
   unopened_name : (x s : List ℕ) → is_name x ≡ true → is_next (utf8 ")") (x ++ s) ≡ false

@@ -2,7 +2,7 @@
 use Prim.Native.Nat.{ℕ}
 use mathlib.Core.Path.{◌≡◌, refl, sym, ap, ◌∙◌}
 use mathlib.Core.Bool.{Bool, true, false, cond}
-use mathlib.Core.Option.{Option, none, some}
+use Rattle.std.specs.Prelude.{Option, None, Some}
 use mathlib.Core.List.{List, [], ◌∷◌, ◌++◌}
 use native.Mathlib.Omega.{arith}
 use Rattle.definitions.specs.Name.{Name}
@@ -15,20 +15,20 @@ use Rattle.reading_laws.proofs.TermConventions.{Gives, expected}
 module _ (P : State → Type 0) where
   -- of the next state, if there is one
   unfoldable pub Next : Option State → Type 0
-  Next none = Prim.Unit {0}
-  Next (some σ) = P σ
+  Next None = Prim.Unit {0}
+  Next (Some σ) = P σ
 
   pub next_then : {A : Type 0} (Q : A → List ℕ → Type 0) (x : Option (Read A)) (go : A → List ℕ → Option State) → Gives x Q
       → ((a : A) (t : List ℕ) → Q a t → Next (go a t)) → Next (and_then x go)
   unfolding Next Gives and_then
-  next_then Q none go h k = tt
-  next_then Q (some r) go h k = k r.value r.rest h
+  next_then Q None go h k = tt
+  next_then Q (Some r) go h k = k r.value r.rest h
 
   pub next_if : {A : Type 0} (Q : A → List ℕ → Type 0) (x : Option (Read A)) (then : A → List ℕ → Option State) (else : Option State) → Gives x Q
       → ((a : A) (t : List ℕ) → Q a t → Next (then a t)) → Next else → Next (if_read x then else)
   unfolding Next Gives if_read
-  next_if Q none then else h k e = e
-  next_if Q (some r) then else h k e = k r.value r.rest h
+  next_if Q None then else h k e = e
+  next_if Q (Some r) then else h k e = k r.value r.rest h
 
   pub next_after : (bs s : List ℕ) (go : Prim.Unit {0} → List ℕ → Option State) → ((t : List ℕ) → s ≡ bs ++ t → Next (go tt t))
       → Next (and_then (expect bs s) go)
@@ -49,7 +49,7 @@ module _ (P : State → Type 0) where
   next_cond true x y h k = h refl
   next_cond false x y h k = k refl
 
-  pub next_some : (x : Option State) (τ : State) → onward x ≡ onward (some τ) → Next x → P τ
+  pub next_some : (x : Option State) (τ : State) → onward x ≡ onward (Some τ) → Next x → P τ
   unfolding Next
-  next_some none τ e h = absurd (let z : ◌≡◌ {A = ℕ} 0 1 = cc in omega arith)
-  next_some (some σ) τ e h = let same : σ ≡ τ = cc in rw (← same) h
+  next_some None τ e h = absurd (let z : ◌≡◌ {A = ℕ} 0 1 = cc in omega arith)
+  next_some (Some σ) τ e h = let same : σ ≡ τ = cc in rw (← same) h

@@ -1,6 +1,5 @@
 -- What the reading of a term meets, in this order: its names, its labels, and each node when its last part is read.
-use Rattle.std.specs.Prelude.{ℕ, ◌+◌, Bool, true, false, ◌&&◌, List, [], ◌∷◌, ◌++◌}
-use Rattle.std.proofs.Math.Option.{Option, none, some}
+use Rattle.std.specs.Prelude.{ℕ, ◌+◌, Bool, true, false, ◌&&◌, List, [], ◌∷◌, ◌++◌, Option, None, Some}
 use Rattle.definitions.specs.Name.{Name}
 use Rattle.definitions.specs.Term.{Label, ProofTerm, Ident, Pair, Named, Function, Application, LetIn, Case, TypeAscription, Unit, Sorry}
 use Rattle.definitions.specs.TermText.{label_names}
@@ -13,8 +12,8 @@ pub data Mark : Type 0 where
   node : Mark
 
 unfoldable pub label_marks : Option (Label Name) → List Mark
-label_marks none = []
-label_marks (some l) = labelled l ∷ []
+label_marks None = []
+label_marks (Some l) = labelled l ∷ []
 
 unfoldable pub marks : ProofTerm Name → List Mark
 marks (Ident x) = called x ∷ node ∷ []

@@ -1,6 +1,5 @@
 -- The reader of terms with a stack of its own: what is still to be finished stands in entries, so that no call nests.
-use Rattle.std.specs.Prelude.{ℕ, zero, suc, ◌+◌, ◌*◌, Bool, true, false, ◌&&◌, cond, List, [], ◌∷◌, length, leb}
-use Rattle.std.proofs.Math.Option.{Option, none, some}
+use Rattle.std.specs.Prelude.{ℕ, zero, suc, ◌+◌, ◌*◌, Bool, true, false, ◌&&◌, cond, List, [], ◌∷◌, length, leb, Option, None, Some}
 use Rattle.definitions.specs.declared.Style.TheVariants.{Strict}
 use Rattle.definitions.specs.Utf8.{utf8}
 use Rattle.definitions.specs.Outcome.{Outcome, refuse}
@@ -39,23 +38,23 @@ pub data State : Type 0 where
 
 -- goes on after what is read, or where the brackets are those that are due
 unfoldable pub and_then : {A : Type 0} → Option (Read A) → (A → List ℕ → Option State) → Option State
-and_then none next = none
-and_then (some r) next = next r.value r.rest
+and_then None next = None
+and_then (Some r) next = next r.value r.rest
 
 unfoldable pub if_due : Bool → Bool → Option State → Option State
-if_due own asked next = cond (same own asked) next none
+if_due own asked next = cond (same own asked) next None
 
 unfoldable pub used : List Entry → Purpose → Shown (ProofTerm Name) → List ℕ → Option State
-used k as_head a s = some (holding k a s)
-used k (as_argument f) a s = if_due a.own (wraps Strict argument_of a.shown) (some (holding k (standing false (Application f a.shown)) s))
-used k (as_body f) a s = if_due a.own (wraps Strict body_of a.shown) (some (holding k (standing false (Named f a.shown)) s))
+used k as_head a s = Some (holding k a s)
+used k (as_argument f) a s = if_due a.own (wraps Strict argument_of a.shown) (Some (holding k (standing false (Application f a.shown)) s))
+used k (as_body f) a s = if_due a.own (wraps Strict body_of a.shown) (Some (holding k (standing false (Named f a.shown)) s))
 
 -- a name, sorry, unit, or a bracket that opens
 unfoldable pub closed_for : List Entry → Purpose → List ℕ → Option State
 closed_for k p s =
     if_read (name s) (λ x t. used k p (standing false (Ident x)) t)
     (cond (is_sorry (start_of (word s).value)) (used k p (standing false Sorry) (word s).rest)
-    (and_then (expect (utf8 "(") s) (λ u t. if_read (expect (utf8 ")") t) (λ u v. used k p (standing false Unit) v) (some (reading (in_bracket p ∷ k) t)))))
+    (and_then (expect (utf8 "(") s) (λ u t. if_read (expect (utf8 ")") t) (λ u v. used k p (standing false Unit) v) (Some (reading (in_bracket p ∷ k) t)))))
 
 -- what was read, or the next state
 pub data Turn : Type 0 where
@@ -64,8 +63,8 @@ pub data Turn : Type 0 where
 
 unfoldable pub after_turn : (State → Option (Read (Shown (ProofTerm Name)))) → Turn → Option (Read (Shown (ProofTerm Name)))
 after_turn go (last a s) = yield a s
-after_turn go (onward none) = none
-after_turn go (onward (some σ)) = go σ
+after_turn go (onward None) = None
+after_turn go (onward (Some σ)) = go σ
 
 -- With the caller's list of datatype names:
 module _ (types : List Name) where
@@ -75,15 +74,15 @@ module _ (types : List Name) where
       and_then (name s₁) λ x s₂.
       and_then (parameter_label types prop_levels s₂) λ l s₃.
       and_then (expect (utf8 " => ") s₃) λ u s₄.
-      some (reading (function_body x l ∷ k) s₄)
-  start k case_word s rest = and_then (expect (utf8 " ") rest) λ u s₁. some (reading (case_head ∷ k) s₁)
+      Some (reading (function_body x l ∷ k) s₄)
+  start k case_word s rest = and_then (expect (utf8 " ") rest) λ u s₁. Some (reading (case_head ∷ k) s₁)
   start k let_word s rest =
       and_then (expect (utf8 " (") rest) λ u s₁.
       and_then (name s₁) λ x s₂.
       and_then (expect (utf8 ", ") s₂) λ u s₃.
       and_then (name s₃) λ y s₄.
       and_then (expect (utf8 ") = ") s₄) λ u s₅.
-      some (reading (let_head x y ∷ k) s₅)
+      Some (reading (let_head x y ∷ k) s₅)
   start k (call_word f) s rest = and_then (expect (utf8 " ") rest) λ u s₁. closed_for k (as_body f) s₁
   start k sorry_word s rest = closed_for k as_head s
   start k no_word s rest = closed_for k as_head s
@@ -94,26 +93,26 @@ module _ (types : List Name) where
       (if_due a.own (wraps Strict function_of a.shown) (and_then (expect (utf8 " ") s) λ u t. closed_for k (as_argument a.shown) t))
       (if_read (expect (utf8 ": ") s)
       (λ u t. if_due a.own (wraps Strict ascribed_by a.shown)
-      (and_then (label types prop_levels t) λ l v. some (giving k (standing false (TypeAscription a.shown l)) v)))
-      (some (giving k a s)))
+      (and_then (label types prop_levels t) λ l v. Some (giving k (standing false (TypeAscription a.shown l)) v)))
+      (Some (giving k a s)))
 
   unfoldable pub give : List Entry → Entry → Shown (ProofTerm Name) → List ℕ → Option State
   give k (in_bracket p) a s =
       if_due a.own false
-      (if_read (expect (utf8 ", ") s) (λ u t. some (reading (second p a.shown ∷ k) t))
+      (if_read (expect (utf8 ", ") s) (λ u t. Some (reading (second p a.shown ∷ k) t))
       (and_then (expect (utf8 ")") s) λ u t. used k p (standing true a.shown) t))
   give k (second p b) a s = if_due a.own false (and_then (expect (utf8 ")") s) λ u t. used k p (standing false (Pair b a.shown)) t)
-  give k (function_body x l) a s = if_due a.own (wraps Strict within a.shown) (some (holding k (standing false (Function x l a.shown)) s))
+  give k (function_body x l) a s = if_due a.own (wraps Strict within a.shown) (Some (holding k (standing false (Function x l a.shown)) s))
   give k case_head a s =
       if_due a.own (wraps Strict within a.shown)
-      (and_then (expect (utf8 " of inl ") s) λ u s₁. and_then (name s₁) λ x s₂. and_then (expect (utf8 " => ") s₂) λ u s₃. some (reading (case_first a.shown x ∷ k) s₃))
+      (and_then (expect (utf8 " of inl ") s) λ u s₁. and_then (name s₁) λ x s₂. and_then (expect (utf8 " => ") s₂) λ u s₃. Some (reading (case_first a.shown x ∷ k) s₃))
   give k (case_first h x) a s =
       if_due a.own (wraps Strict within a.shown)
-      (and_then (expect (utf8 ", inr ") s) λ u s₁. and_then (name s₁) λ y s₂. and_then (expect (utf8 " => ") s₂) λ u s₃. some (reading (case_second h x a.shown y ∷ k) s₃))
-  give k (case_second h x b y) a s = if_due a.own (wraps Strict within a.shown) (some (holding k (standing false (Case h x b y a.shown)) s))
+      (and_then (expect (utf8 ", inr ") s) λ u s₁. and_then (name s₁) λ y s₂. and_then (expect (utf8 " => ") s₂) λ u s₃. Some (reading (case_second h x a.shown y ∷ k) s₃))
+  give k (case_second h x b y) a s = if_due a.own (wraps Strict within a.shown) (Some (holding k (standing false (Case h x b y a.shown)) s))
   give k (let_head x y) a s =
-      if_due a.own (wraps Strict within a.shown) (and_then (expect (utf8 " in ") s) λ u t. some (reading (let_body x y a.shown ∷ k) t))
-  give k (let_body x y h) a s = if_due a.own (wraps Strict within a.shown) (some (holding k (standing false (LetIn x y h a.shown)) s))
+      if_due a.own (wraps Strict within a.shown) (and_then (expect (utf8 " in ") s) λ u t. Some (reading (let_body x y a.shown ∷ k) t))
+  give k (let_body x y h) a s = if_due a.own (wraps Strict within a.shown) (Some (holding k (standing false (LetIn x y h a.shown)) s))
 
   unfoldable pub turn : State → Turn
   turn (reading k s) = onward (start k (start_of (word s).value) s (word s).rest)
@@ -122,7 +121,7 @@ module _ (types : List Name) where
   turn (giving (e ∷ k) a s) = onward (give k e a s)
 
   unfoldable pub run : ℕ → State → Option (Read (Shown (ProofTerm Name)))
-  run zero σ = none
+  run zero σ = None
   run (suc turns) σ = after_turn (λ τ. run turns τ) (turn σ)
 
   -- each turn moves in the text, or ends a chain, or takes an entry off

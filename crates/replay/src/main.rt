@@ -9,8 +9,8 @@ use definitions::{Located, Style, Whose};
 use name_index::{FREE, SLOT_COUNT};
 use number::number_at;
 use restating::Given;
-use skriduhol::{Count, Filled, Grafted, Searched, Verdict};
-use skriduhol_terms::{Judged, Reading};
+use skriduhol::{Grafted, Searched, Verdict};
+use skriduhol_terms::Judged;
 use std::{fs, io};
 
 // The kinds of questions; any other asks for the board's output.
@@ -174,17 +174,17 @@ fn accepted(value: usize) -> Result {
     }
 }
 
-fn filled_result(filled: Filled) -> Result {
+fn filled_result(filled: Result<usize, Located>) -> Result {
     match filled {
-        Filled::Length(length) => accepted(length),
-        Filled::Refused(located) => refused(located),
+        Ok(length) => accepted(length),
+        Err(located) => refused(located),
     }
 }
 
-fn count_result(count: Count) -> Result {
+fn count_result(count: Result<usize, Located>) -> Result {
     match count {
-        Count::Labels(labels) => accepted(labels),
-        Count::Refused(located) => refused(located),
+        Ok(labels) => accepted(labels),
+        Err(located) => refused(located),
     }
 }
 
@@ -247,7 +247,7 @@ enum AskedText {
     Restate(Given),
 }
 
-fn text(s: &[u8], asked: AskedText, room: usize, out: &mut [u8]) -> Filled {
+fn text(s: &[u8], asked: AskedText, room: usize, out: &mut [u8]) -> Result<usize, Located> {
     let lent = bytes_within(room, out);
     match asked {
         AskedText::Plain => {
@@ -292,7 +292,7 @@ enum AskedList {
     HandoutDatatypes(usize),
 }
 
-fn list(s: &[u8], asked: AskedList, room: usize, out: &mut [u16]) -> Filled {
+fn list(s: &[u8], asked: AskedList, room: usize, out: &mut [u16]) -> Result<usize, Located> {
     let lent = numbers_within(room, out);
     match asked {
         AskedList::Atoms => {
@@ -457,14 +457,14 @@ struct TermResult {
     code: usize,
 }
 
-fn term_result(reading: Reading) -> TermResult {
+fn term_result(reading: Result<TermSize, Located>) -> TermResult {
     match reading {
-        Reading::Read(term) => TermResult {
+        Ok(term) => TermResult {
             result: accepted(term.nodes),
             names: term.names,
             code: term.code,
         },
-        Reading::Refused(located) => TermResult {
+        Err(located) => TermResult {
             result: refused(located),
             names: 0,
             code: 0,

@@ -1,9 +1,8 @@
 -- How many entries a context has after an operation, by the operation's answer.
-use Rattle.std.specs.Prelude.{ℕ}
-use Rattle.identifier_context.specs.declared.Inserted.{Inserted}
-use Rattle.identifier_context.specs.declared.Inserted.TheVariants.{Refused, Len}
+use Rattle.std.specs.Prelude.{ℕ, Result, Err, Ok}
+use Rattle.definitions.specs.declared.Refusal.{Refusal}
 
 -- after an insertion into n entries
-unfoldable pub length_inserted : ℕ → Inserted → ℕ
-length_inserted n (Refused r) = n
-length_inserted n (Len m) = m
+unfoldable pub length_inserted : ℕ → Result ℕ Refusal → ℕ
+length_inserted n (Err r) = n
+length_inserted n (Ok m) = m

@@ -8,8 +8,7 @@ ghost use Rattle.identifier_context.specs.Memory.{Holds};
 ghost use Rattle.identifier_context.specs.Promises.{length_after};
 ghost use Rattle.replay_context.specs.Lengths.{length_inserted};
 
-use definitions::Found;
-use identifier_context::{ENTRY_SIZE, Entry, Inserted, Removed};
+use identifier_context::{ENTRY_SIZE, Entry, Removed};
 use number::{PAIR_SIZE, number_at, pair_length, pair_offset};
 use std::{fs, io};
 
@@ -136,8 +135,8 @@ fn with_entry(entry: Entry) -> Answer {
 }
 
 // The entry of an index that an operation found.
-fn found_entry(entries: &[u16], found: Found) -> Answer {
-    let Found::At(i) = found else {
+fn found_entry(entries: &[u16], found: Option<usize>) -> Answer {
+    let Some(i) = found else {
         return without_entry(NOTHING);
     };
     if entries.len() / ENTRY_SIZE <= i {
@@ -173,16 +172,16 @@ fn is_name(pairs: &[u8], text: &[u8], name: usize) -> bool
     true
 }
 
-fn inserted_turn(len: usize, inserted: Inserted) -> Turn
+fn inserted_turn(len: usize, inserted: Result<usize, Refusal>) -> Turn
     ensures { result.«len» ≡ length_inserted len inserted }
 {
     match inserted {
-        Inserted::Len(longer) => Turn {
+        Ok(longer) => Turn {
             len: longer,
             before: longer,
             answer: without_entry(NOTHING),
         },
-        Inserted::Refused(refusal) => Turn {
+        Err(refusal) => Turn {
             len: len,
             before: len,
             answer: without_entry(refusal.number as u16),
@@ -263,7 +262,7 @@ fn visible(entries: &[u16], len: usize, pairs: &[u8], text: &[u8], before: usize
     requires { Holds pairs.now text.now entries.now len }
     ensures { Holds pairs.now text.now entries.now result.«len» }
 {
-    let Found::At(i) = identifier_context::next_visible(entries, len, pairs, text, before) else {
+    let Some(i) = identifier_context::next_visible(entries, len, pairs, text, before) else {
         return Turn {
             len: len,
             before: 0,
@@ -273,7 +272,7 @@ fn visible(entries: &[u16], len: usize, pairs: &[u8], text: &[u8], before: usize
     Turn {
         len: len,
         before: i,
-        answer: found_entry(entries, Found::At(i)),
+        answer: found_entry(entries, Some(i)),
     }
 }
 

@@ -13,8 +13,7 @@ use Rattle.definitions.specs.NameIndex.{index, index_of}
 use Rattle.definitions.specs.Restate.{Given, restated, restate_answer}
 use Rattle.writer_laws.specs.Restates.{Restates}
 use Rattle.writer_laws.proofs.Restating.{answer_restates}
-use Rattle.output.specs.declared.Written.{Written}
-use Rattle.output.specs.declared.Written.TheVariants.{Length, Refused}
+use Rattle.std.specs.Prelude.{Result, Ok, Err, ℕ}
 use Rattle.output.specs.Written.{Fills, written_of, filled}
 use Rattle.output.proofs.Filling.{refuses}
 use Rattle.vocabulary.specs.declared.Vocabulary.{Vocabulary}
@@ -27,7 +26,7 @@ use Rattle.restating.specs.Slots.{slots_after}
 
 -- a refused sheet
 pub sheet-refused : (s : List ℕ) (g : Given) {r : Refusal} → admitted s ≡ refused r → (room : ℕ) (before : List ℕ)
-    → Fills (restate_answer s g room) before before (Refused r)
+    → Fills (restate_answer s g room) before before (Err r)
 unfolding restate_answer restated ◌>>=◌
 sheet-refused s g e = refuses (rw e)
 
@@ -47,11 +46,11 @@ module _ {s : List ℕ} {h : Sheet} (a : AcceptedSheet s h) {v : Vocabulary} (is
       e ∙ ap₂ index (ap (name_in s) is ∙ names_are has) (ap (λ w. w.name_count) is ∙ count_is has)
 
 -- an answer told by its kind
-pub told : {o : Outcome (List ℕ)} {before after : List ℕ} {r x : Written} → Fills o before after r → r ≡ x → Fills o before after x
+pub told : {o : Outcome (List ℕ)} {before after : List ℕ} {r x : Result ℕ Refusal} → Fills o before after r → r ≡ x → Fills o before after x
 told f e = rw e at f
 
 -- Of an answer in lent memory:
-module _ (s : List ℕ) (g : Given) (room : ℕ) {before after : List ℕ} {r : Written} (f : Fills (restate_answer s g room) before after r) where
+module _ (s : List ℕ) (g : Given) (room : ℕ) {before after : List ℕ} {r : Result ℕ Refusal} (f : Fills (restate_answer s g room) before after r) where
   -- what a refusal says, and what a length says
   abbrev Said : Outcome (List ℕ) → Type 0
   Said o = (restate_answer s g room ≡ o) × (r ≡ written_of o) × (after ≡ filled o before)
@@ -60,7 +59,7 @@ module _ (s : List ℕ) (g : Given) (room : ℕ) {before after : List ℕ} {r : 
   said o e = (e, rw e at f.answer, rw e at f.memory)
 
   -- the slots stay where there is no new sheet
-  pub slots_kept : {x : Refusal} → r ≡ Refused x → (slots : List ℕ) → slots ≡ slots_after (restate_answer s g room) slots
+  pub slots_kept : {x : Refusal} → r ≡ Err x → (slots : List ℕ) → slots ≡ slots_after (restate_answer s g room) slots
   unfolding slots_after written_of
   slots_kept e slots = go (restate_answer s g room) refl
     where
@@ -69,7 +68,7 @@ module _ (s : List ℕ) (g : Given) (room : ℕ) {before after : List ℕ} {r : 
       go (accepted a) is = let answer = (said (accepted a) is).1 in absurd (let z : ◌≡◌ {A = ℕ} 0 1 = cc in omega arith)
 
   -- an index of the old names is that of the new sheet's
-  pub slots-built : {n : ℕ} → r ≡ Length n → (old : List ℕ) {slots : List ℕ} → slots ≡ index_of s → slots ≡ slots_after (restate_answer s g room) old
+  pub slots-built : {n : ℕ} → r ≡ Ok n → (old : List ℕ) {slots : List ℕ} → slots ≡ index_of s → slots ≡ slots_after (restate_answer s g room) old
   unfolding slots_after written_of
   slots-built e old {slots} built = go (restate_answer s g room) refl
     where
@@ -78,7 +77,7 @@ module _ (s : List ℕ) (g : Given) (room : ℕ) {before after : List ℕ} {r : 
       go (accepted a) is = rw is (built ∙ sym (answer_restates s g room a is).answers.same_index)
 
   -- the bytes of an accepted answer are those of a sheet that restates the old one
-  pub bytes-restate : (n : ℕ) → r ≡ Length n → Restates s g (take n after)
+  pub bytes-restate : (n : ℕ) → r ≡ Ok n → Restates s g (take n after)
   unfolding written_of filled
   bytes-restate n e = go (restate_answer s g room) refl
     where

@@ -8,9 +8,8 @@ use lib.ListN.{get_or}
 use lib.Dec.{leb}
 use borrow.Author.Tests.{le-leb, lt-leb, leb-false}
 use Rattle.definitions.specs.declared.Refusal.{Refusal}
-use Rattle.definitions.specs.declared.Found.{Found}
-use Rattle.definitions.specs.declared.Found.TheVariants.{Nowhere}
-use Rattle.definitions.specs.Outcome.{Outcome, refused, accepted, refuse, ◌>>=◌, refuse_if, found_at}
+use Rattle.std.specs.Prelude.{Option, None, Result, Err, ℕ}
+use Rattle.definitions.specs.Outcome.{Outcome, refused, accepted, refuse, ◌>>=◌, refuse_if}
 use Rattle.definitions.specs.Sheet.{step_size, step_limit, tree_nesting_limit, names, propositions, steps, proposition_pairs, code_bytes, step_records, name_of}
 use Rattle.definitions.specs.Tree.{height, tree_of, root_of, rename_conclusion}
 use Rattle.definitions.specs.Admission.{admitted, bad_step, deep_tree}
@@ -18,8 +17,6 @@ use Rattle.definitions.specs.Answers.{is_in_room}
 use Rattle.definitions.specs.Restate.{Given, new_record, bad_given, no_step_left, given_conclusion, restated_sheet, restated, restate_answer}
 use Rattle.writer_laws.proofs.Checks.{admitted_checks}
 use Rattle.writer_laws.proofs.Restating.{new_step_bad}
-use Rattle.output.specs.declared.Written.{Written}
-use Rattle.output.specs.declared.Written.TheVariants.{Refused}
 use Rattle.output.specs.Written.{Fills}
 use Rattle.output.proofs.Filling.{refuses}
 use Rattle.steps.specs.Records.{HasStep, HasSteps}
@@ -64,15 +61,15 @@ module _ {s : List ℕ} {h : Sheet} (a : AcceptedSheet s h) where
   unfolding no_step_left header_of
   steps_full l = let l : step_limit ≤ steps s = rw a.header at l in rw (le-leb step_limit (steps s) l)
 
-  all_shallow : {r : Found} {before after : List ℕ} → FilledHeights (step_records s) (steps s) tree_nesting_limit before r after
+  all_shallow : {r : Option ℕ} {before after : List ℕ} → FilledHeights (step_records s) (steps s) tree_nesting_limit before r after
       → HeightTable (step_records s) (steps s) after
-  unfolding deep_tree found_at passed
+  unfolding deep_tree passed
   all_shallow {r} f =
       let shallow = (admitted_checks s (root_of s) a.root).0.nested in
-      let nowhere : r ≡ Nowhere = f.found (names s) (proposition_pairs s) (code_bytes s) ∙ ap found_at shallow in
+      let nowhere : r ≡ None = f.found (names s) (proposition_pairs s) (code_bytes s) ∙ ap shallow in
       rw nowhere at f.table
 
-  pub levels_decide : {records : List ℕ} {r : Found} {before after : List ℕ} → records ≡ step_records s → h.steps < step_limit
+  pub levels_decide : {records : List ℕ} {r : Option ℕ} {before after : List ℕ} → records ≡ step_records s → h.steps < step_limit
       → FilledHeights records h.steps tree_nesting_limit before r after
       → leb tree_nesting_limit (get_or after (h.steps - 1) 0) ≡ no_step_left s (root_of s)
   unfolding no_step_left header_of root_of tree_of
@@ -125,15 +122,15 @@ module _ (s : List ℕ) (g : Given) (root : admitted s ≡ accepted (root_of s))
       go false true o = refl
       go false false o = refl
 
-  pub tests_refused : {r : Refusal} → refused r ≡ judged s step → (room : ℕ) (before : List ℕ) → Fills (restate_answer s g room) before before (Refused r)
+  pub tests_refused : {r : Refusal} → refused r ≡ judged s step → (room : ℕ) (before : List ℕ) → Fills (restate_answer s g room) before before (Err r)
   unfolding restate_answer ◌>>=◌
   tests_refused e = refuses (by_tests ∙ rw (← e))
 
-  pub tests_no : accepted false ≡ judged s step → (room : ℕ) (before : List ℕ) → Fills (restate_answer s g room) before before (Refused (record { number = 25; place = 0 }))
+  pub tests_no : accepted false ≡ judged s step → (room : ℕ) (before : List ℕ) → Fills (restate_answer s g room) before before (Err (record { number = 25; place = 0 }))
   unfolding restate_answer ◌>>=◌ refuse_if refuse
   tests_no e = refuses (by_tests ∙ rw (← e))
 
-  pub tests_yes : accepted true ≡ judged s step → (room : ℕ) {before after : List ℕ} {r : Written}
+  pub tests_yes : accepted true ≡ judged s step → (room : ℕ) {before after : List ℕ} {r : Result ℕ Refusal}
       → Fills (is_in_room room (accepted (sheet_with s step))) before after r → Fills (restate_answer s g room) before after r
   unfolding restate_answer ◌>>=◌ refuse_if
   tests_yes e room f = let yes : restated s g ≡ accepted (sheet_with s step) = by_tests ∙ rw (← e) in rw yes f

@@ -2,7 +2,7 @@
 // for every sequence of bytes and every room; 1 to 11, 23, 24, 19 or 25, 16.
 #![tactic(auto)]
 
-ghost use Rattle.std.specs.Prelude.{◌≡◌, false, true, ℕ, ◌<◌, length, take};
+ghost use Rattle.std.specs.Prelude.{◌≡◌, false, true, ℕ, ◌<◌, length, take, Ok};
 ghost use Rattle.definitions.specs.Outcome.{accepted};
 ghost use Rattle.definitions.specs.Sheet.{step_size, step_limit, names, propositions, steps, step_records};
 ghost use Rattle.definitions.specs.Tree.{root_of};
@@ -26,8 +26,8 @@ use alpha_eq::Answer;
 use comparison::compare_conclusions;
 use definitions::Refusal;
 use name_index::{SLOT_COUNT, build};
-use output::{Written, put_all, put_u16s};
-use sheet::{Checked, Sheet, check, step_records, vocabulary};
+use output::{put_all, put_u16s};
+use sheet::{Sheet, check, step_records, vocabulary};
 use steps::{bad_step, first_deep_tree, step_at};
 
 // A conclusion in the form of a step record, and a column.
@@ -142,17 +142,17 @@ fn judge(s: &[u8], h: Sheet, sizes: &[u16; Sheet::STEP_LIMIT], step: &[u8]) -> A
 }
 
 // The sheet with one more step, where it fits.
-fn write_sheet(s: &[u8], h: Sheet, step: &[u8], out: &mut [u8]) -> Written
+fn write_sheet(s: &[u8], h: Sheet, step: &[u8], out: &mut [u8]) -> Result<usize, Refusal>
     requires { AcceptedSheet s.now h × (steps s.now < step_limit) }
     ensures { Fills (is_in_room (length out.old) (accepted (sheet_with s.now step.now)))
         out.old out.new result }
 {
     let end = put_sheet(out, s, h, step, false);
     if out.len() < end {
-        return Written::Refused(Refusal::at(16, 0));
+        return Err(Refusal::at(16, 0));
     }
     put_sheet(out, s, h, step, true);
-    Written::Length(end)
+    Ok(end)
 }
 
 // The new sheet of an accepted one, after the tests.
@@ -162,7 +162,7 @@ fn restate_accepted(
     sizes: &[u16; Sheet::STEP_LIMIT],
     given: Given,
     out: &mut [u8],
-) -> Written
+) -> Result<usize, Refusal>
     requires accepted_sheet { AcceptedSheet s.now h }
     requires size_table { SizeTable (step_records s.now) (steps s.now) sizes.now }
     ensures { Fills (restate_answer s.now (given_of given) (length out.old))
@@ -173,10 +173,10 @@ fn restate_accepted(
     let answer = judge(s, h, sizes, &step);
     match answer {
         Answer::Refused(refusal) => {
-            return Written::Refused(refusal);
+            return Err(refusal);
         }
         Answer::No => {
-            return Written::Refused(Refusal::at(25, 0));
+            return Err(Refusal::at(25, 0));
         }
         Answer::Yes => {
             return write_sheet(s, h, &step, out);
@@ -192,7 +192,7 @@ fn restate_indexed(
     given: Given,
     slots: &mut [u16],
     out: &mut [u8],
-) -> Written
+) -> Result<usize, Refusal>
     requires accepted_sheet { AcceptedSheet s.now h × (length slots.old ≡ slot_count) }
     requires size_table { SizeTable (step_records s.now) (steps s.now) sizes.now }
     ensures fills { Fills (restate_answer s.now (given_of given) (length out.old))
@@ -202,33 +202,33 @@ fn restate_indexed(
 {
     let written = restate_accepted(s, h, sizes, given, out);
     match written {
-        Written::Refused(refusal) => {
-            return Written::Refused(refusal);
+        Err(refusal) => {
+            return Err(refusal);
         }
-        Written::Length(length) => {
+        Ok(length) => {
             build(slots, s, vocabulary(h));
-            return Written::Length(length);
+            return Ok(length);
         }
     }
 }
 
 // The old sheet with one more step, AlphaEquivalent over the old root. The slots are the index of the new sheet's names, or what
 // they were where it is refused.
-pub fn restate(s: &[u8], given: Given, slots: &mut [u16; SLOT_COUNT], out: &mut [u8]) -> Written
+pub fn restate(s: &[u8], given: Given, slots: &mut [u16; SLOT_COUNT], out: &mut [u8]) -> Result<usize, Refusal>
     ensures fills { Fills (restate_answer s.now (given_of given) (length out.old))
         out.old out.new result }
     ensures slots_after { slots.new ≡ slots_after
         (restate_answer s.now (given_of given) (length out.old)) slots.old }
-    ensures by_index { (n : ℕ) → result ≡ Written.Length n
+    ensures by_index { (n : ℕ) → result ≡ Ok n
         → Restates s.now (given_of given) (take n out.new) }
 {
     let mut sizes = [0u16; Sheet::STEP_LIMIT];
     let checked = check(s, &mut sizes);
     match checked {
-        Checked::Refused(refusal) => {
-            return Written::Refused(refusal);
+        Err(refusal) => {
+            return Err(refusal);
         }
-        Checked::Accepted(h) => {
+        Ok(h) => {
             return restate_indexed(s, h, &sizes, given, slots, out);
         }
     }

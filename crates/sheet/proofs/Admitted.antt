@@ -2,7 +2,7 @@
 use Prim.Native.Nat.{ℕ, zero, suc, ◌-◌, ◌≤◌, ◌<◌}
 use mathlib.Core.Path.{◌≡◌, refl, ap, ◌∙◌}
 use mathlib.Core.Bool.{true, false}
-use mathlib.Core.Option.{Option, none, some, get_or}
+use Rattle.std.specs.Prelude.{Option, None, Some, unwrap_or, Ok, Err}
 use mathlib.Core.List.{List, [], ◌∷◌}
 use native.Mathlib.Omega.{arith}
 use lib.ListN.{length, drop}
@@ -11,7 +11,7 @@ use Rattle.definitions.specs.declared.Refusal.{Refusal}
 use Rattle.definitions.specs.Name.{is_name}
 use Rattle.definitions.specs.Prop.{nesting}
 use Rattle.definitions.specs.Code.{decode}
-use Rattle.definitions.specs.Outcome.{refused, accepted, found_at}
+use Rattle.definitions.specs.Outcome.{refused, accepted}
 use Rattle.definitions.specs.Sheet.{pair_size, code_length, code_start, names, propositions, steps, name_pairs, text_bytes, proposition_pairs, step_records, code_bytes, name_of, marked, premiss_count, proposition_nesting_limit, tree_nesting_limit}
 use Rattle.definitions.specs.Tree.{ProofTree, height, trees_before, tree_in, prop_in, prop_of, tree_of, root_of}
 use Rattle.definitions.specs.Admission.{is_none, bad_name, bad_code, deep_proposition, too_few_trees, trees_left, deep_tree, admitted}
@@ -21,7 +21,6 @@ use Rattle.prefix_code.proofs.Reading.{part_bytes}
 use Rattle.steps.specs.Records.{HasSteps}
 use Rattle.steps.specs.Tables.{SizeTable, passed}
 use Rattle.sheet.specs.declared.header.Sheet.{Sheet}
-use Rattle.sheet.specs.declared.Checked.TheVariants.{Accepted, Refused}
 use Rattle.sheet.specs.Header.{header_of, InRange, HasHeader}
 use Rattle.sheet.specs.Pairs.{HasPairs, HasCodes}
 use Rattle.sheet.specs.Checks.{checked_of, tree_checks}
@@ -36,10 +35,10 @@ use Rattle.sheet.proofs.Stages.{stage_accepted, stage_refuses}
 use Rattle.sheet.proofs.Order.{from_names, from_propositions, from_steps, from_trees, in_stages, header_given}
 use Rattle.sheet.proofs.Slices.{lengths}
 
-is_some : {A : Type 0} (o : Option A) (d : A) → is_none o ≡ false → o ≡ some (get_or o d)
+is_some : {A : Type 0} (o : Option A) (d : A) → is_none o ≡ false → o ≡ Some (unwrap_or o d)
 unfolding is_none
-is_some none d e = absurd (let z : ◌≡◌ {A = ℕ} 0 1 = cc in omega arith)
-is_some (some a) d e = refl
+is_some None d e = absurd (let z : ◌≡◌ {A = ℕ} 0 1 = cc in omega arith)
+is_some (Some a) d e = refl
 
 empty : {A : Type 0} (l : List A) → length l ≤ 0 → l ≡ []
 empty [] h = refl
@@ -64,7 +63,7 @@ module _ (s : List ℕ) (i : ℕ) where
   is_name_lem e = not-false _ e
 
   is_proposition : bad_code (names s) (proposition_pairs s) (code_bytes s) i ≡ false
-      → decode (names s) (marked (proposition_pairs s) (code_bytes s) i) ≡ some (prop_of s i)
+      → decode (names s) (marked (proposition_pairs s) (code_bytes s) i) ≡ Some (prop_of s i)
   unfolding bad_code prop_of prop_in
   is_proposition e = is_some _ _ e
 
@@ -133,7 +132,7 @@ pub record AcceptedSheet (s : List ℕ) (h : Sheet) : Type 0 where
   pub root : admitted s ≡ accepted (root_of s)
   pub sheet : Admitted s
 
-pub accepted_sheet : (s : List ℕ) {h : Sheet} → checked_of s ≡ Accepted h → AcceptedSheet s h
+pub accepted_sheet : (s : List ℕ) {h : Sheet} → checked_of s ≡ Ok h → AcceptedSheet s h
 unfolding checked_of
 accepted_sheet s {h} e =
     let (same, root, passed) = stage_accepted _ (admitted s) refl e in
@@ -143,13 +142,13 @@ accepted_sheet s {h} e =
       sheet = admitted_sheet s passed;
     }
 
-pub refused_sheet : (s : List ℕ) {x : Refusal} → checked_of s ≡ Refused x → admitted s ≡ refused x
+pub refused_sheet : (s : List ℕ) {x : Refusal} → checked_of s ≡ Err x → admitted s ≡ refused x
 unfolding checked_of
 refused_sheet s e = stage_refuses _ _ refl e
 
 -- where no stage refuses, every step's tree is sized
-all_sized : (s : List ℕ) {h : Sheet} → checked_of s ≡ Accepted h → sized_steps s ≡ steps s
-unfolding checked_of from_names from_propositions from_steps from_trees tree_checks sized_steps unless_refused steps_finding_trees passed found_at
+all_sized : (s : List ℕ) {h : Sheet} → checked_of s ≡ Ok h → sized_steps s ≡ steps s
+unfolding checked_of from_names from_propositions from_steps from_trees tree_checks sized_steps unless_refused steps_finding_trees passed
 all_sized s e =
     let (_, _, whole) = stage_accepted _ (admitted s) refl e in
     let (_, header, e) = each_accepted _ _ (in_stages s ∙ whole) in
@@ -161,7 +160,7 @@ all_sized s e =
     rw (header, names, propositions, steps, none_lowest _ _ _ ten)
 
 -- so the table of an accepted sheet has all the sizes
-pub accepted_sizes : (s : List ℕ) {h : Sheet} {before after : List ℕ} → checked_of s ≡ Accepted h
+pub accepted_sizes : (s : List ℕ) {h : Sheet} {before after : List ℕ} → checked_of s ≡ Ok h
     → Sized s (sized_steps s) before after → SizeTable (step_records s) (steps s) after
 accepted_sizes s e sized = rw (all_sized s e) at sized.table
 

@@ -7,11 +7,12 @@ use Rattle.definitions.specs.Outcome.{Outcome, accepted, ◌>>=◌}
 use Rattle.definitions.specs.Tree.{ProofTree, root_of}
 use Rattle.definitions.specs.Admission.{header_checks, admitted}
 use Rattle.sheet.specs.declared.header.Sheet.{Sheet}
-use Rattle.sheet.specs.declared.Checked.{Checked}
+use Rattle.std.specs.Prelude.{Result, ℕ}
 use Rattle.sheet.specs.Header.{header_of, HasHeader}
 use Rattle.sheet.specs.Checks.{answered, checked_of, name_checks, proposition_checks, step_checks, tree_checks}
 use Rattle.definitions.proofs.Outcomes.{bind_assoc, each_accepted, test_failed}
 use Rattle.sheet.proofs.Ranges.{in_range}
+use Rattle.definitions.specs.declared.Refusal.{Refusal}
 
 module _ (s : List ℕ) where
   -- what is left of the checks after the stages before
@@ -31,7 +32,7 @@ module _ (s : List ℕ) where
   unfolding admitted header_checks name_checks proposition_checks step_checks tree_checks from_trees from_steps from_propositions from_names
   in_stages = simp bind_assoc
 
-  pub from_header : {h : Sheet} {r : Checked} → h ≡ header_of s → r ≡ answered h (◌>>=◌ (header_checks s) (λ _. from_names))
+  pub from_header : {h : Sheet} {r : Result Sheet Refusal} → h ≡ header_of s → r ≡ answered h (◌>>=◌ (header_checks s) (λ _. from_names))
       → r ≡ checked_of s
   unfolding checked_of
   from_header same e = rw (same, in_stages) at e

@@ -1,6 +1,5 @@
 -- What a sheet is that refusals 1 to 11 let pass.
-use Rattle.std.specs.Prelude.{ℕ, ◌<◌, ◌≤◌, ◌≡◌, true, false, List, [], ◌∷◌, length}
-use Rattle.std.proofs.Math.Option.{some}
+use Rattle.std.specs.Prelude.{ℕ, ◌<◌, ◌≤◌, ◌≡◌, true, false, List, [], ◌∷◌, length, Some}
 use Rattle.definitions.specs.Name.{is_name}
 use Rattle.definitions.specs.Prop.{nesting}
 use Rattle.definitions.specs.Code.{decode}
@@ -19,7 +18,7 @@ pub record Admitted (s : List ℕ) : Type 0 where
   pub name : (i : ℕ) → i < names s → is_name (name_of s i) ≡ true
   -- each proposition's pair lies in the code, after the one before it, and marks one proposition, which nests at most 64
   pub proposition_pair : (i : ℕ) → i < propositions s → GoodPair (proposition_pairs s) (code_length s) (code_length s) i
-  pub decoded : (i : ℕ) → i < propositions s → decode (names s) (marked (proposition_pairs s) (code_bytes s) i) ≡ some (prop_of s i)
+  pub decoded : (i : ℕ) → i < propositions s → decode (names s) (marked (proposition_pairs s) (code_bytes s) i) ≡ Some (prop_of s i)
   pub shallow_proposition : (i : ℕ) → i < propositions s → nesting (prop_of s i) ≤ proposition_nesting_limit
   -- each step's fields are in range
   pub good_step : (k : ℕ) → k < steps s → bad_step (names s) (propositions s) (step_records s) k ≡ false

@@ -1,20 +1,19 @@
 -- Refusals 1 to 11 in five stages, of which the definitions have the first, and what the checks answer.
-use Rattle.std.specs.Prelude.{ℕ, ◌-◌, List, length, ltb}
+use Rattle.std.specs.Prelude.{ℕ, ◌-◌, List, length, ltb, Result, Ok, Err}
 use Rattle.definitions.specs.Outcome.{Outcome, refused, accepted, ◌>>=◌, refuse_if, refuse_lowest}
 use Rattle.definitions.specs.Sheet.{header_size, names, text_length, code_length, propositions, steps, name_pairs, proposition_pairs, step_records, text_bytes, code_bytes}
 use Rattle.definitions.specs.Admission.{bad_name_pair, bad_name, bad_proposition_pair, bad_code, deep_proposition, bad_step, too_few_trees, trees_left, deep_tree, admitted}
 use Rattle.sheet.specs.declared.header.Sheet.{Sheet}
-use Rattle.sheet.specs.declared.Checked.{Checked}
-use Rattle.sheet.specs.declared.Checked.TheVariants.{Accepted, Refused}
 use Rattle.sheet.specs.Header.{header_of}
+use Rattle.definitions.specs.declared.Refusal.{Refusal}
 
 -- the header where the checks accept, else the refusal
-unfoldable pub answered : {A : Type 0} → Sheet → Outcome A → Checked
-answered h (refused r) = Refused r
-answered h (accepted a) = Accepted h
+unfoldable pub answered : {A : Type 0} → Sheet → Outcome A → Result Sheet Refusal
+answered h (refused r) = Err r
+answered h (accepted a) = Ok h
 
 -- the header of an admitted sheet, or the first of refusals 1 to 11
-unfoldable pub checked_of : List ℕ → Checked
+unfoldable pub checked_of : List ℕ → Result Sheet Refusal
 checked_of s = answered (header_of s) (admitted s)
 
 -- Of a sheet's bytes:

@@ -1,6 +1,6 @@
 -- What the checks leave in the table of sizes that is lent to them.
 use Rattle.std.specs.Prelude.{ℕ, ◌≡◌, List, drop}
-use Rattle.definitions.specs.Outcome.{Outcome, refused, accepted, lowest, found_at}
+use Rattle.definitions.specs.Outcome.{Outcome, refused, accepted, lowest}
 use Rattle.definitions.specs.Sheet.{names, steps, proposition_pairs, step_records, code_bytes}
 use Rattle.definitions.specs.Admission.{header_checks, too_few_trees}
 use Rattle.steps.specs.Tables.{SizeTable, passed}
@@ -9,7 +9,7 @@ use Rattle.sheet.specs.Checks.{name_checks, proposition_checks, step_checks}
 -- the steps before the first that finds too few trees, or else all
 unfoldable pub steps_finding_trees : List ℕ → ℕ
 steps_finding_trees s =
-    passed (found_at (lowest (too_few_trees (names s) (proposition_pairs s) (code_bytes s) (step_records s)) (steps s))) (steps s)
+    passed ((lowest (too_few_trees (names s) (proposition_pairs s) (code_bytes s) (step_records s)) (steps s))) (steps s)
 
 -- so many steps where a stage accepts, and none where it refuses
 unfoldable pub unless_refused : {A : Type 0} → Outcome A → ℕ → ℕ

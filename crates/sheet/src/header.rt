@@ -1,11 +1,11 @@
 // The header of a sheet, and where the parts lie that follow it.
-ghost use Rattle.std.specs.Prelude.{◌≡◌, List, ℕ};
+ghost use Rattle.std.specs.Prelude.{◌≡◌, List, ℕ, Err};
 ghost use Rattle.definitions.specs.Sheet.{header_out_of_range};
 ghost use Rattle.sheet.specs.Header.{header_of, InRange, layout_of};
 ghost use Rattle.sheet.specs.Checks.{answered, short_check};
 
-use crate::{Checked, refuse};
-use reader::{Number, header_number};
+use crate::refuse;
+use reader::header_number;
 
 // The six header numbers: T, N, C, P, S and the goal.
 #[derive(Clone, Copy)]
@@ -29,8 +29,8 @@ pub struct Layout {
 }
 
 // Refusal 1: fewer bytes came than a header has.
-fn too_short() -> Checked
-    ensures { result ≡ Checked.Refused (record { number = 1; place = 0 }) }
+fn too_short() -> Result<Sheet, Refusal>
+    ensures { result ≡ Err (record { number = 1; place = 0 }) }
 {
     refuse(1, 0)
 }
@@ -73,28 +73,28 @@ impl Sheet {
         + Self::CODE_LIMIT;
 
     // The header of these bytes, number by number through a reader.
-    pub fn header(s: &[u8]) -> Checked
+    pub fn header(s: &[u8]) -> Result<Sheet, Refusal>
         ensures { result ≡ answered (header_of s.now) (short_check s.now) }
     {
-        let Number::At(text_length) = header_number(s, 0) else {
+        let Some(text_length) = header_number(s, 0) else {
             return too_short();
         };
-        let Number::At(names) = header_number(s, 1) else {
+        let Some(names) = header_number(s, 1) else {
             return too_short();
         };
-        let Number::At(code_length) = header_number(s, 2) else {
+        let Some(code_length) = header_number(s, 2) else {
             return too_short();
         };
-        let Number::At(propositions) = header_number(s, 3) else {
+        let Some(propositions) = header_number(s, 3) else {
             return too_short();
         };
-        let Number::At(steps) = header_number(s, 4) else {
+        let Some(steps) = header_number(s, 4) else {
             return too_short();
         };
-        let Number::At(goal) = header_number(s, 5) else {
+        let Some(goal) = header_number(s, 5) else {
             return too_short();
         };
-        Checked::Accepted(Self {
+        Ok(Self {
             text_length,
             names,
             code_length,

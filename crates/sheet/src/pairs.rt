@@ -1,20 +1,19 @@
 // Pairs of offset and length, and what stands in the bytes that they mark.
 ghost use Rattle.std.specs.Prelude.{◌≡◌, ◌*◌, ◌≤◌, length};
-ghost use Rattle.definitions.specs.Outcome.{lowest, found_at};
+ghost use Rattle.definitions.specs.Outcome.{lowest};
 ghost use Rattle.definitions.specs.Sheet.{pair_size};
 ghost use Rattle.definitions.specs.Admission.{bad_name, bad_code, deep_proposition};
 ghost use Rattle.sheet.specs.Pairs.{bad_pair, HasPairs, HasCodes};
 
 use crate::header::Sheet;
-use definitions::Found;
 use identifier::is_name;
 use number::{marked_bytes, pair_length, pair_offset};
 use prefix_code::{is_code, is_deep};
 
 // Refusals 4 and 6: the lowest pair that starts before the last one's end, ends past so many bytes, or is empty or too long.
-pub fn first_bad_pair(pairs: &[u8], count: usize, bytes: usize, longest: usize) -> Found
+pub fn first_bad_pair(pairs: &[u8], count: usize, bytes: usize, longest: usize) -> Option<usize>
     requires { pair_size * count ≤ length pairs.now }
-    ensures { result ≡ found_at (lowest (bad_pair pairs.now bytes longest) count) }
+    ensures { result ≡ lowest (bad_pair pairs.now bytes longest) count }
 {
     let mut last_end = 0;
     for i in 0..count {
@@ -22,51 +21,51 @@ pub fn first_bad_pair(pairs: &[u8], count: usize, bytes: usize, longest: usize) 
         let length = pair_length(pairs, i);
         let end = offset + length;
         if offset < last_end || bytes < end || length < 1 || longest < length {
-            return Found::At(i);
+            return Some(i);
         }
         last_end = end;
     }
-    Found::Nowhere
+    None
 }
 
 // Refusal 5: the lowest name with a byte that its position does not allow.
-pub fn first_bad_name(pairs: &[u8], text: &[u8], count: usize) -> Found
+pub fn first_bad_name(pairs: &[u8], text: &[u8], count: usize) -> Option<usize>
     requires { HasPairs pairs.now text.now count }
-    ensures { result ≡ found_at (lowest (bad_name pairs.now text.now) count) }
+    ensures { result ≡ lowest (bad_name pairs.now text.now) count }
 {
     for i in 0..count {
         let name = marked_bytes(pairs, text, i);
         if !is_name(name) {
-            return Found::At(i);
+            return Some(i);
         }
     }
-    Found::Nowhere
+    None
 }
 
 // Refusal 7: the lowest proposition whose code is not exactly one proposition.
-pub fn first_bad_code(pairs: &[u8], code: &[u8], count: usize, names: usize) -> Found
+pub fn first_bad_code(pairs: &[u8], code: &[u8], count: usize, names: usize) -> Option<usize>
     requires { HasPairs pairs.now code.now count }
-    ensures { result ≡ found_at (lowest (bad_code names pairs.now code.now) count) }
+    ensures { result ≡ lowest (bad_code names pairs.now code.now) count }
 {
     for i in 0..count {
         let proposition = marked_bytes(pairs, code, i);
         if !is_code(proposition, names) {
-            return Found::At(i);
+            return Some(i);
         }
     }
-    Found::Nowhere
+    None
 }
 
 // Refusal 8: the lowest proposition that nests too deep.
-pub fn first_deep_proposition(pairs: &[u8], code: &[u8], count: usize, names: usize) -> Found
+pub fn first_deep_proposition(pairs: &[u8], code: &[u8], count: usize, names: usize) -> Option<usize>
     requires { HasCodes names pairs.now code.now count }
-    ensures { result ≡ found_at (lowest (deep_proposition names pairs.now code.now) count) }
+    ensures { result ≡ lowest (deep_proposition names pairs.now code.now) count }
 {
     for i in 0..count {
         let proposition = marked_bytes(pairs, code, i);
         if is_deep(proposition, names, Sheet::PROPOSITION_NESTING_LIMIT) {
-            return Found::At(i);
+            return Some(i);
         }
     }
-    Found::Nowhere
+    None
 }

@@ -28,8 +28,7 @@ use Rattle.proof_term.proofs.Tally.{nodes_tallied}
 use Rattle.sheet.specs.Header.{header_of}
 use Rattle.sheet.specs.declared.header.Sheet.{Sheet}
 use Rattle.sheet.proofs.Admitted.{AcceptedSheet, code_of_bytes, has_codes}
-use Rattle.proof_tree.specs.declared.Exported.{Exported}
-use Rattle.proof_tree.specs.declared.Exported.TheVariants.{Term, Refused}
+use Rattle.std.specs.Prelude.{Result, Ok, Err, ℕ}
 use Rattle.proof_tree.specs.Terms.{terms_labels, Ordered}
 use Rattle.proof_tree.specs.Exporting.{LabelOffset, StepExported}
 use Rattle.proof_tree.proofs.Labels.{has_proposition}
@@ -86,9 +85,9 @@ module _ {s : List ℕ} {h : Sheet} (a : AcceptedSheet s h) where
         (λ j l. a.sheet.good_step j (omega (arith, a.sheet.in_range.some_step))) checking t e
 
     -- Of the walk's answer at the last step:
-    module _ {before after : List ℕ} {r : Exported} (room : length after ≡ 2 * record_size * step_limit)
+    module _ {before after : List ℕ} {r : Result ℕ Refusal} (room : length after ≡ 2 * record_size * step_limit)
         (walked : StepExported h.names (proposition_pairs s) (code_bytes s) (step_records s) (h.steps - 1) checking before 0 after r) where
-      held : {next : ℕ} → r ≡ Term next → HeldTerm s after (next - 1)
+      held : {next : ℕ} → r ≡ Ok next → HeldTerm s after (next - 1)
       unfolding header_of step_limit
       held {next} e =
           let t = term_of (rw a.header at walked) e in
@@ -110,9 +109,9 @@ module _ {s : List ℕ} {h : Sheet} (a : AcceptedSheet s h) where
             };
           }
 
-      pub gives_term : {next : ℕ} → r ≡ Term next → Gives s after (answer.Held h (next - 1))
+      pub gives_term : {next : ℕ} → r ≡ Ok next → Gives s after (answer.Held h (next - 1))
       gives_term {next} e = holds {h = h} {n = next - 1} a (held e)
 
-      pub gives_refusal : {x : Refusal} → r ≡ Refused x → Gives s after (answer.Refused x)
+      pub gives_refusal : {x : Refusal} → r ≡ Err x → Gives s after (answer.Refused x)
       unfolding header_of
       gives_refusal {x} e = refuses {r = x} (root_outcome ∙ refusal_of (rw a.header at walked) e)

@@ -1,9 +1,8 @@
 -- A label count as the program answers it.
-use Rattle.std.specs.Prelude.{ℕ}
+use Rattle.std.specs.Prelude.{ℕ, Result, Ok, Err}
 use Rattle.definitions.specs.Outcome.{Outcome, accepted, refused}
-use Rattle.sheet_term.specs.declared.Counted.{Counted}
-use Rattle.sheet_term.specs.declared.Counted.TheVariants.{Labels, Refused}
+use Rattle.definitions.specs.declared.Refusal.{Refusal}
 
-unfoldable pub counted_of : Outcome ℕ → Counted
-counted_of (accepted n) = Labels n
-counted_of (refused r) = Refused r
+unfoldable pub counted_of : Outcome ℕ → Result ℕ Refusal
+counted_of (accepted n) = Ok n
+counted_of (refused r) = Err r

@@ -11,8 +11,8 @@ ghost use Rattle.sheet_term.specs.Counted.{counted_of};
 
 use definitions::Refusal;
 use proof_term::{RECORD_SIZE, annotation_count};
-use proof_tree::{Exported, export_as_proof_term};
-use sheet::{Checked, Sheet, code_bytes, proposition_pairs, step_records};
+use proof_tree::export_as_proof_term;
+use sheet::{Sheet, code_bytes, proposition_pairs, step_records};
 
 // Room for two term records for each step.
 pub const TERM_NUMBERS: usize = 2 * RECORD_SIZE * Sheet::STEP_LIMIT;
@@ -21,13 +21,6 @@ pub const TERM_NUMBERS: usize = 2 * RECORD_SIZE * Sheet::STEP_LIMIT;
 #[derive(Drop)]
 pub enum SheetTerm {
     Held(Sheet, usize),
-    Refused(Refusal),
-}
-
-// The label count of a sheet's term, the number of its ascriptions and labelled functions; or the first of refusals 1 to 15.
-#[derive(Drop)]
-pub enum Counted {
-    Labels(usize),
     Refused(Refusal),
 }
 
@@ -47,11 +40,11 @@ fn export(
     let records = step_records(s, h);
     let exported = export_as_proof_term(h.names, pairs, code, records, sizes, h.steps, terms);
     match exported {
-        Exported::Term(next) => {
+        Ok(next) => {
             let last = next - 1;
             SheetTerm::Held(h, last)
         }
-        Exported::Refused(refusal) => SheetTerm::Refused(refusal),
+        Err(refusal) => SheetTerm::Refused(refusal),
     }
 }
 
@@ -62,19 +55,19 @@ pub fn sheet_term(s: &[u8], terms: &mut [u16; TERM_NUMBERS]) -> SheetTerm
     let mut sizes = [0u16; Sheet::STEP_LIMIT];
     let checked = sheet::check(s, &mut sizes);
     match checked {
-        Checked::Refused(refusal) => SheetTerm::Refused(refusal),
-        Checked::Accepted(h) => export(s, h, &sizes, terms),
+        Err(refusal) => SheetTerm::Refused(refusal),
+        Ok(h) => export(s, h, &sizes, terms),
     }
 }
 
 // The label count of any bytes.
-pub fn label_count(s: &[u8]) -> Counted
+pub fn label_count(s: &[u8]) -> Result<usize, Refusal>
     ensures { result ≡ counted_of (label_count s.now) }
 {
     let mut terms = [0u16; TERM_NUMBERS];
     let found = sheet_term(s, &mut terms);
     match found {
-        SheetTerm::Refused(refusal) => Counted::Refused(refusal),
-        SheetTerm::Held(_, n) => Counted::Labels(annotation_count(&terms, n)),
+        SheetTerm::Refused(refusal) => Err(refusal),
+        SheetTerm::Held(_, n) => Ok(annotation_count(&terms, n)),
     }
 }

@@ -12,8 +12,7 @@ use Rattle.definitions.specs.Outcome.{Outcome, refused, accepted}
 use Rattle.definitions.specs.Answers.{text_answer, board_room, located, refusal_line, printed, board_output}
 use Rattle.output.specs.Written.{filled}
 use Rattle.output.specs.Wrote.{puts, Wrote}
-use Rattle.skriduhol.specs.declared.Filled.{Filled}
-use Rattle.skriduhol.specs.declared.Filled.TheVariants.{Length, Refused}
+use Rattle.std.specs.Prelude.{Result, Ok, Err, ℕ}
 use Rattle.skriduhol.specs.Board.{Prints}
 use Rattle.skriduhol.specs.Located.{filled_of, FillsOf}
 
@@ -28,16 +27,16 @@ prints {text} {before} fits w =
     }
 
 -- an accepted answer is printed as it was filled in
-text_printed : (s : List ℕ) (o : Outcome (List ℕ)) {before after : List ℕ} {r : Filled} {n : ℕ} → FillsOf s o before after r → r ≡ Length n
+text_printed : (s : List ℕ) (o : Outcome (List ℕ)) {before after : List ℕ} {r : Result ℕ Located} {n : ℕ} → FillsOf s o before after r → r ≡ Ok n
     → Prints (printed s o) before after n
 unfolding printed filled_of filled
 text_printed s (accepted a) fills e = record { size = cc; memory = fills.memory }
 text_printed s (refused x) fills e = absurd (let y : ◌≡◌ {A = ℕ} 0 1 = cc in omega arith)
 
 -- a refused one leaves the memory for the refusal's line, which is short
-line_printed : (s : List ℕ) (o : Outcome (List ℕ)) {before mid after : List ℕ} {r : Filled} {l : Located} {n : ℕ} → 34 ≤ length before
+line_printed : (s : List ℕ) (o : Outcome (List ℕ)) {before mid after : List ℕ} {r : Result ℕ Located} {l : Located} {n : ℕ} → 34 ≤ length before
     → FillsOf s o before mid r
-    → r ≡ Refused l
+    → r ≡ Err l
     → Wrote (refusal_line l) true mid 0 after n
     → length (refusal_line l) ≤ 34
     → Prints (printed s o) before after n
@@ -52,15 +51,15 @@ line_printed s (refused y) {before} {l = l} room fills e line short =
 module _
     (s : List ℕ)
     {before mid : List ℕ}
-    {r : Filled}
+    {r : Result ℕ Located}
     (room : length before ≡ board_room)
     (fills : FillsOf s (text_answer s 1 Plain (length before)) before mid r)
   where
-    pub prints_text : {n : ℕ} → r ≡ Length n → Prints (board_output s) before mid n
+    pub prints_text : {n : ℕ} → r ≡ Ok n → Prints (board_output s) before mid n
     unfolding board_output
     prints_text e = text_printed s _ (rw room at fills) e
 
-    pub prints_line : {after : List ℕ} {l : Located} {n : ℕ} → r ≡ Refused l
+    pub prints_line : {after : List ℕ} {l : Located} {n : ℕ} → r ≡ Err l
         → (Wrote (refusal_line l) true mid 0 after n) × (length (refusal_line l) ≤ 34)
         → Prints (board_output s) before after n
     unfolding board_output board_room

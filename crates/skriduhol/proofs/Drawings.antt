@@ -9,10 +9,10 @@ use Rattle.definitions.specs.Outcome.{accepted}
 use Rattle.definitions.specs.Answers.{board_output, label_count}
 use Rattle.definitions.specs.Drawings.{second, two_labels}
 use Rattle.definitions.proofs.Everything.{everything}
-use Rattle.skriduhol.specs.declared.Count.{Count}
-use Rattle.skriduhol.specs.declared.Count.TheVariants.{Labels}
+use Rattle.std.specs.Prelude.{Result, Ok, ℕ}
 use Rattle.skriduhol.specs.Located.{count_of}
 use Rattle.skriduhol.specs.Board.{Prints}
+use Rattle.definitions.specs.declared.Located.{Located}
 
 -- what is handed over, once the output is known as a text
 printed : {output text before after : List ℕ} {r : ℕ} → output ≡ text → Prints output before after r
@@ -39,6 +39,6 @@ two_labels_lem : label_count two_labels ≡ accepted 2
 unfolding everything
 two_labels_lem = refl
 
-pub two_labels_counted : {r : Count} → r ≡ count_of two_labels (label_count two_labels) → r ≡ Labels 2
+pub two_labels_counted : {r : Result ℕ Located} → r ≡ count_of two_labels (label_count two_labels) → r ≡ Ok 2
 unfolding count_of
 two_labels_counted e = e ∙ ap (count_of two_labels) two_labels_lem

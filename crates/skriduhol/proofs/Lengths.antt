@@ -18,8 +18,7 @@ use Rattle.definitions.specs.Graft.{refused_by, merged, graft_answer, located_by
 use Rattle.definitions.proofs.PrefixCode.{Bytes}
 use Rattle.definitions.proofs.Refusals.{refused_kind, exercise_uses}
 use Rattle.definitions.specs.Restate.{Given, restated, restate_answer}
-use Rattle.output.specs.declared.Written.{Written}
-use Rattle.output.specs.declared.Written.TheVariants as written
+use Rattle.std.specs.Prelude.{Result, Err, Ok, ℕ}
 use Rattle.output.specs.Written.{written_of}
 use Rattle.proof_term_lists.specs.Numbers.{list_numbers}
 use Rattle.grafting.specs.declared.Merged.{Merged}
@@ -30,11 +29,6 @@ use Rattle.made_length.proofs.Rooms.{graft_in_room_lem, exercise_in_room}
 use Rattle.made_length.proofs.Enough.{merged_whole}
 use Rattle.located.specs.AfterHeader.{AfterHeader}
 use Rattle.located.proofs.AfterHeader.{text_after_header, list_after_header, restatement_after_header}
-use Rattle.skriduhol.specs.declared.Asked.{Asked}
-use Rattle.skriduhol.specs.declared.Asked.TheVariants.{Of, Refused as NoVersion}
-use Rattle.skriduhol.specs.declared.Filled.{Filled}
-use Rattle.skriduhol.specs.declared.Filled.TheVariants.{Refused}
-use Rattle.skriduhol.specs.declared.Filled.TheVariants as filled
 use Rattle.skriduhol.specs.declared.Grafted.TheVariants as handed
 use Rattle.skriduhol.specs.Asked.{asked_of}
 use Rattle.skriduhol.specs.Located.{filled_of}
@@ -45,7 +39,7 @@ use Rattle.skriduhol.proofs.Grafts.{after_headers}
 use Rattle.skriduhol.proofs.Handouts.{version_of_lem, refusal_of}
 
 -- a refusal that a layer below answers is the outcome, and so it is in every room
-pub length_refused : {w : Written} {r : Refusal} (o : Outcome (List ℕ)) → w ≡ written_of o → w ≡ written.Refused r → is_in_room 0 o ≡ refused r
+pub length_refused : {w : Result ℕ Refusal} {r : Refusal} (o : Outcome (List ℕ)) → w ≡ written_of o → w ≡ Err r → is_in_room 0 o ≡ refused r
 unfolding written_of is_in_room ◌>>=◌
 length_refused (accepted a) is e = cc
 length_refused (refused x) is e = cc
@@ -57,12 +51,12 @@ by_version (accepted v) answer room = refl
 by_version (refused r) answer room = refl
 
 -- Of a number and what the program answers of it, a sheet's bytes, and what a version of it has:
-module _ (version : ℕ) {a : Asked} (asked : a ≡ asked_of (version_of version)) (s : List ℕ) (of : Version → Outcome (List ℕ)) where
-  abbrev Measured : Filled → Type 0
+module _ (version : ℕ) {a : Result Version Refusal} (asked : a ≡ asked_of (version_of version)) (s : List ℕ) (of : Version → Outcome (List ℕ)) where
+  abbrev Measured : Result ℕ Located → Type 0
   Measured r = Measures s (λ room. version_of version >>= λ v. is_in_room room (of v)) (version_of version >>= of) r
 
   -- the length of what its version has is the answer
-  pub measured : {v : Version} → a ≡ Of v → {w : Written} {r : Filled} → w ≡ written_of (of v)
+  pub measured : {v : Version} → a ≡ Ok v → {w : Result ℕ Refusal} {r : Result ℕ Located} → w ≡ written_of (of v)
       → ((o : Outcome (List ℕ)) → w ≡ written_of o → r ≡ filled_of s o) → Measured r
   unfolding ◌>>=◌
   measured {v} e is back = record {
@@ -71,7 +65,7 @@ module _ (version : ℕ) {a : Asked} (asked : a ≡ asked_of (version_of version
   }
 
   -- its refusal, located, is the answer
-  pub unmeasured : {x : Refusal} → a ≡ NoVersion x → {l : Located} → l ≡ located s x → Measured (Refused l)
+  pub unmeasured : {x : Refusal} → a ≡ Err x → {l : Located} → l ≡ located s x → Measured (Err l)
   unfolding ◌>>=◌ filled_of
   unmeasured e at = record {
     told = rw (refusal_of (version_of version) (sym asked ∙ e), at);
@@ -79,15 +73,15 @@ module _ (version : ℕ) {a : Asked} (asked : a ≡ asked_of (version_of version
   }
 
 -- Of a sheet's bytes and what a layer below answers: the refusal of a text, of a list or of a restatement comes after 1 to 3
-module _ (s : List ℕ) {w : Written} {r : Refusal} where
-  pub text_locatable : (v : Version) (style : Style) → w ≡ written_of (sheet_text s v style) → w ≡ written.Refused r → AfterHeader s r
+module _ (s : List ℕ) {w : Result ℕ Refusal} {r : Refusal} where
+  pub text_locatable : (v : Version) (style : Style) → w ≡ written_of (sheet_text s v style) → w ≡ Err r → AfterHeader s r
   text_locatable v style is e = text_after_header s v style 0 (length_refused (sheet_text s v style) is e)
 
-  pub restatement_locatable : (g : Given) → w ≡ written_of (restated s g) → w ≡ written.Refused r → AfterHeader s r
+  pub restatement_locatable : (g : Given) → w ≡ written_of (restated s g) → w ≡ Err r → AfterHeader s r
   unfolding restate_answer
   restatement_locatable g is e = restatement_after_header s g 0 (length_refused (restated s g) is e)
 
-  pub list_locatable : (list : TermList) → w ≡ written_of (map_outcome (list_numbers list) (sheet_term s)) → w ≡ written.Refused r → AfterHeader s r
+  pub list_locatable : (list : TermList) → w ≡ written_of (map_outcome (list_numbers list) (sheet_term s)) → w ≡ Err r → AfterHeader s r
   list_locatable list is e = list_after_header s (list_numbers list) 0 (length_refused (map_outcome (list_numbers list) (sheet_term s)) is e)
 
 -- Of two sheets and a step of the first, by what the layer below answers:
@@ -118,15 +112,15 @@ module _ (h d : List ℕ) (k : ℕ) {m : Merged} (is : m ≡ merged_of (whole_gr
       go (merged a) g = absurd (let z : ◌≡◌ {A = ℕ} 0 1 = cc in omega arith)
 
 -- Of an exercise, by what the layer below answers:
-module _ (text : List ℕ) (n ordinal : ℕ) {w : Written} (is : w ≡ written_of (whole_exercise text n ordinal)) where
-  pub exercise_measured : {l : ℕ} → w ≡ written.Length l → Measures [] (exercise_answer text n ordinal) (whole_exercise text n ordinal) (filled.Length l)
+module _ (text : List ℕ) (n ordinal : ℕ) {w : Result ℕ Refusal} (is : w ≡ written_of (whole_exercise text n ordinal)) where
+  pub exercise_measured : {l : ℕ} → w ≡ Ok l → Measures [] (exercise_answer text n ordinal) (whole_exercise text n ordinal) (Ok l)
   exercise_measured e = record {
     told = length_back [] (whole_exercise text n ordinal) (sym e ∙ is);
     in_room = exercise_in_room text n ordinal;
   }
 
-  pub exercise_unmeasured : {r : Refusal} → w ≡ written.Refused r
-      → Measures [] (exercise_answer text n ordinal) (whole_exercise text n ordinal) (Refused (record { refusal = r; column = 0 }))
+  pub exercise_unmeasured : {r : Refusal} → w ≡ Err r
+      → Measures [] (exercise_answer text n ordinal) (whole_exercise text n ordinal) (Err (record { refusal = r; column = 0 }))
   exercise_unmeasured {r} e =
       let at = exercise_in_room text n ordinal 0 ∙ length_refused (whole_exercise text n ordinal) is e in
       let none = no_step r (refused_kind (exercise_uses text n ordinal 0) at) in

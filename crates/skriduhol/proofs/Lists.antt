@@ -9,7 +9,7 @@ use Rattle.definitions.specs.declared.TermList.{TermList}
 use Rattle.definitions.specs.Outcome.{refused, accepted, map_outcome}
 use Rattle.definitions.specs.Term.{ProofTerm}
 use Rattle.definitions.specs.Answers.{is_in_room, sheet_term}
-use Rattle.output.specs.declared.Written.TheVariants.{Length, Refused}
+use Rattle.std.specs.Prelude.{Ok, Err}
 use Rattle.output.specs.Wrote.{Wrote}
 use Rattle.output.specs.Written.{Fills}
 use Rattle.output.proofs.Filling as filling
@@ -26,7 +26,7 @@ use Rattle.skriduhol.specs.Lists.{list_answer}
 -- Whichever list is asked for:
 module _ (list : TermList) (s : List ℕ) where
   -- the refusal of a term is the answer
-  pub no_list : {x : Refusal} → sheet_term s ≡ refused x → (before : List ℕ) → Fills (list_answer list s (length before)) before before (Refused x)
+  pub no_list : {x : Refusal} → sheet_term s ≡ refused x → (before : List ℕ) → Fills (list_answer list s (length before)) before before (Err x)
   unfolding list_answer map_outcome
   no_list e before = filling.refuses (rw e) (length before) before
 
@@ -43,9 +43,9 @@ module _ {s : List ℕ} {h : Sheet} (a : AcceptedSheet s h) {words : Vocabulary}
 
   -- the list is measured by a dry run, and then written where it fits
   module _ (list : TermList) {before dry : List ℕ} {end : ℕ} (d : Wrote (list_numbers list (term_in s words terms n)) false before 0 dry end) where
-    pub too_long : length before < end → Fills (list_answer list s (length before)) before dry (Refused (record { number = 16; place = 0 }))
+    pub too_long : length before < end → Fills (list_answer list s (length before)) before dry (Err (record { number = 16; place = 0 }))
     too_long l = rw (list_of list s term_is (length before)) (filling.too_long d l)
 
     pub fills : end ≤ length before → {after : List ℕ} {next : ℕ} → Wrote (list_numbers list (term_in s words terms n)) true dry 0 after next
-        → Fills (list_answer list s (length before)) before after (Length end)
+        → Fills (list_answer list s (length before)) before after (Ok end)
     fills l w = rw (list_of list s term_is (length before)) (filling.fills d l w)

@@ -1,15 +1,14 @@
 -- The index of a sheet's names in lent memory, and what a search in slots answers.
 use Prim.Native.Nat.{ℕ, ◌≤◌}
 use mathlib.Core.Path.{◌≡◌, refl, sym, ap, ap₂, ◌∙◌}
-use mathlib.Core.Option.{Option, none, some}
+use Rattle.std.specs.Prelude.{Option, None, Some, Err, Ok}
 use mathlib.Core.List.{List, [], append-nil}
 use native.Mathlib.Omega.{arith}
 use lib.ListN.{length, drop}
 use lib.Seq.{drop-length}
 use Rattle.definitions.specs.declared.Refusal.{Refusal}
 use Rattle.definitions.specs.declared.Located.{Located}
-use Rattle.definitions.specs.declared.Found.TheVariants as found
-use Rattle.definitions.specs.Outcome.{Outcome, accepted, refused, map_outcome, found_at}
+use Rattle.definitions.specs.Outcome.{Outcome, accepted, refused, map_outcome}
 use Rattle.definitions.specs.Name.{Name}
 use Rattle.definitions.specs.Sheet.{name_limit, names, name_of}
 use Rattle.definitions.specs.Admission.{header_checks, admitted}
@@ -24,7 +23,6 @@ use Rattle.sheet.proofs.Admitted.{AcceptedSheet, its_header}
 use Rattle.sheet.proofs.Order.{header_given}
 use Rattle.sheet.proofs.NamesAndCode.{count_is, names_are}
 use Rattle.vocabulary.specs.Vocabulary.{name_in}
-use Rattle.skriduhol.specs.declared.Filled.TheVariants as answer
 use Rattle.skriduhol.specs.declared.Searched.{Searched}
 use Rattle.skriduhol.specs.declared.Searched.TheVariants as searched
 use Rattle.skriduhol.specs.Located.{filled_of, FillsOf}
@@ -52,7 +50,7 @@ module _ {s : List ℕ} {h : Sheet} (a : AcceptedSheet s h) where
   -- so it fills the lent slots
   pub index_filled : {before after : List ℕ} → length before ≡ slot_count
       → after ≡ index (name_in s (vocabulary_of h)) (vocabulary_of h).name_count
-      → FillsOf s (index_answer s) before after (answer.Length slot_count)
+      → FillsOf s (index_answer s) before after (Ok slot_count)
   unfolding index_answer map_outcome filled_of filled
   index_filled {before} size e =
       let none_left : drop (length (index_of s)) before ≡ [] = rw (index_length ∙ sym size) (drop-length before) in
@@ -63,20 +61,20 @@ module _ {s : List ℕ} {h : Sheet} (a : AcceptedSheet s h) where
 
 -- a refused sheet leaves them as they were
 pub index_refused : {s before : List ℕ} {r : Refusal} {l : Located} → admitted s ≡ refused r → l ≡ located s r
-    → FillsOf s (index_answer s) before before (answer.Refused l)
+    → FillsOf s (index_answer s) before before (Err l)
 unfolding index_answer map_outcome filled_of filled
 index_refused e at = record { answer = rw (e, at); memory = rw e }
 
 -- a number that was found, or none, as it is handed back
-at_number : (s : List ℕ) (o : Option ℕ) {i : ℕ} → found.At i ≡ found_at o → searched.At i ≡ searched_of s (accepted o)
-unfolding found_at searched_of
-at_number s none e = cc
-at_number s (some j) e = cc
+at_number : (s : List ℕ) (o : Option ℕ) {i : ℕ} → Some i ≡ o → searched.At i ≡ searched_of s (accepted o)
+unfolding searched_of
+at_number s None e = cc
+at_number s (Some j) e = cc
 
-at_none : (s : List ℕ) (o : Option ℕ) → found.Nowhere ≡ found_at o → searched.Nowhere ≡ searched_of s (accepted o)
-unfolding found_at searched_of
-at_none s none e = refl
-at_none s (some j) e = cc
+at_none : (s : List ℕ) (o : Option ℕ) → None ≡ o → searched.Nowhere ≡ searched_of s (accepted o)
+unfolding searched_of
+at_none s None e = refl
+at_none s (Some j) e = cc
 
 -- Of a search in slots for a name:
 module _ (s slots : List ℕ) (x : Name) where
@@ -102,10 +100,10 @@ module _ (s slots : List ℕ) (x : Name) where
     unfolding find_answer map_outcome
     answered = rw (passed, names_are has)
 
-    pub search_found : {i : ℕ} → found.At i ≡ found_at (find (name_in s (vocabulary_of h)) slots x)
+    pub search_found : {i : ℕ} → Some i ≡ (find (name_in s (vocabulary_of h)) slots x)
         → searched.At i ≡ searched_of s (find_answer s slots x)
     search_found e = rw answered (at_number s _ e)
 
-    pub search_missed : found.Nowhere ≡ found_at (find (name_in s (vocabulary_of h)) slots x)
+    pub search_missed : None ≡ (find (name_in s (vocabulary_of h)) slots x)
         → searched.Nowhere ≡ searched_of s (find_answer s slots x)
     search_missed e = rw answered (at_none s _ e)

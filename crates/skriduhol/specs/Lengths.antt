@@ -1,15 +1,15 @@
 -- How long an answer is: the answer in every room is one whole answer where that fits, and its length is told.
-use Rattle.std.specs.Prelude.{ℕ, ◌≡◌, List}
+use Rattle.std.specs.Prelude.{ℕ, ◌≡◌, List, Result}
 use Rattle.definitions.specs.declared.Style.{Style}
 use Rattle.definitions.specs.Outcome.{Outcome, ◌>>=◌, map_outcome}
 use Rattle.definitions.specs.Term.{atom_list, datatype_list}
 use Rattle.definitions.specs.Answers.{atom_numbers, is_in_room, version_of, sheet_term, sheet_text}
 use Rattle.definitions.specs.Graft.{graft_answer}
 use Rattle.made_length.specs.Whole.{whole_graft, graft_in_room}
-use Rattle.skriduhol.specs.declared.Filled.{Filled}
 use Rattle.skriduhol.specs.declared.Grafted.{Grafted}
 use Rattle.skriduhol.specs.Located.{filled_of}
 use Rattle.skriduhol.specs.Grafts.{grafted_of}
+use Rattle.definitions.specs.declared.Located.{Located}
 
 -- Of a sheet's bytes, given room:
 module _ (s : List ℕ) where
@@ -29,7 +29,7 @@ module _ (s : List ℕ) where
     map_outcome (datatype_list v) (sheet_term s)
 
   -- r is the length of the whole answer, or its refusal, and the answer in a room is the whole one or 16
-  pub record Measures (answer : ℕ → Outcome (List ℕ)) (whole : Outcome (List ℕ)) (r : Filled) : Type 0 where
+  pub record Measures (answer : ℕ → Outcome (List ℕ)) (whole : Outcome (List ℕ)) (r : Result ℕ Located) : Type 0 where
     pub told : r ≡ filled_of s whole
     pub in_room : (room : ℕ) → answer room ≡ is_in_room room whole
 

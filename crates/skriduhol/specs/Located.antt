@@ -1,29 +1,27 @@
 -- Each answer as it is handed back: a refusal with its column.
-use Rattle.std.specs.Prelude.{ℕ, ◌≡◌, Bool, true, false, List, length}
+use Rattle.std.specs.Prelude.{ℕ, ◌≡◌, Bool, true, false, List, length, Err, Ok, Result}
 use Rattle.definitions.specs.Outcome.{Outcome, accepted, refused}
 use Rattle.definitions.specs.Answers.{located}
 use Rattle.output.specs.Written.{filled}
 use Rattle.skriduhol.specs.declared.Filled as filled-type
-use Rattle.skriduhol.specs.declared.Filled.TheVariants as answer
-use Rattle.skriduhol.specs.declared.Count.{Count}
-use Rattle.skriduhol.specs.declared.Count.TheVariants as count
 use Rattle.skriduhol.specs.declared.Verdict.{Verdict}
 use Rattle.skriduhol.specs.declared.Verdict.TheVariants as verdict
+use Rattle.definitions.specs.declared.Located.{Located}
 
 -- Of a sheet's bytes:
 module _ (s : List ℕ) where
   unfoldable pub filled_of : Outcome (List ℕ) → filled-type.Filled
-  filled_of (accepted a) = answer.Length (length a)
-  filled_of (refused r) = answer.Refused (located s r)
+  filled_of (accepted a) = Ok (length a)
+  filled_of (refused r) = Err (located s r)
 
   -- an accepted answer stands at the start of the lent memory, and a refusal leaves all as it was
   pub record FillsOf (outcome : Outcome (List ℕ)) (before after : List ℕ) (r : filled-type.Filled) : Type 0 where
     pub answer : r ≡ filled_of outcome
     pub memory : after ≡ filled outcome before
 
-  unfoldable pub count_of : Outcome ℕ → Count
-  count_of (accepted n) = count.Labels n
-  count_of (refused r) = count.Refused (located s r)
+  unfoldable pub count_of : Outcome ℕ → Result ℕ Located
+  count_of (accepted n) = Ok n
+  count_of (refused r) = Err (located s r)
 
   unfoldable pub verdict_of : Outcome Bool → Verdict
   verdict_of (accepted true) = verdict.Yes

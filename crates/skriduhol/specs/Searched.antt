@@ -1,6 +1,5 @@
 -- What a search for a name of a sheet answers, as it is handed back.
-use Rattle.std.specs.Prelude.{ℕ, List}
-use Rattle.std.proofs.Math.Option.{Option, none, some}
+use Rattle.std.specs.Prelude.{ℕ, List, Option, None, Some}
 use Rattle.definitions.specs.Outcome.{Outcome, accepted, refused, map_outcome}
 use Rattle.definitions.specs.Name.{Name}
 use Rattle.definitions.specs.Sheet.{names, name_of}
@@ -13,8 +12,8 @@ use Rattle.skriduhol.specs.declared.Searched.TheVariants.{At, Nowhere, Refused}
 -- Of a sheet's bytes:
 module _ (s : List ℕ) where
   unfoldable pub searched_of : Outcome (Option ℕ) → Searched
-  searched_of (accepted (some i)) = At i
-  searched_of (accepted none) = Nowhere
+  searched_of (accepted (Some i)) = At i
+  searched_of (accepted None) = Nowhere
   searched_of (refused r) = Refused (located s r)
 
   -- the plain search's answer, or the first of refusals 1 to 3

@@ -2,7 +2,7 @@
 // as it was, save that the board's output is then the refusal's line.
 #![tactic(auto)]
 
-ghost use Rattle.std.specs.Prelude.{◌≡◌, List, [], ℕ, length, take};
+ghost use Rattle.std.specs.Prelude.{◌≡◌, List, [], ℕ, length, take, Ok, Err};
 ghost use Rattle.definitions.specs.Outcome.{Outcome};
 ghost use Rattle.definitions.specs.declared.Style.TheVariants.{Plain, Strict};
 ghost use Rattle.definitions.specs.Answers.{is_in_room, sheet_text, version_of, text_answer, atoms_answer, datatypes_answer, label_count, comparison, board_output};
@@ -31,31 +31,16 @@ ghost use Rattle.skriduhol.specs.Board.{Prints};
 ghost use Rattle.skriduhol.specs.Searched.{searched_of, plain_answer};
 
 use alpha_eq::Answer;
-use definitions::{Found, Located, Refusal, Style, TermList, Version, Whose};
+use definitions::{Located, Refusal, Style, TermList, Version, Whose};
 use grafting::Merged;
 use list_length::list_length;
 use located::{locate, put_refusal};
 use name_index::SLOT_COUNT;
-use output::Written;
 use proof_term_lists::put_list;
 use restating::Given;
-use sheet::{Checked, Sheet, check_header, vocabulary};
-use sheet_term::{Counted, SheetTerm, TERM_NUMBERS, sheet_term};
+use sheet::{Sheet, check_header, vocabulary};
+use sheet_term::{SheetTerm, TERM_NUMBERS, sheet_term};
 use text::{sheet_text_length, text};
-
-// The length of an answer, in lent memory or not, or a refusal with its column.
-#[derive(Drop)]
-pub enum Filled {
-    Length(usize),
-    Refused(Located),
-}
-
-// A label count, or a refusal with its column.
-#[derive(Drop)]
-pub enum Count {
-    Labels(usize),
-    Refused(Located),
-}
 
 // A comparison, or a refusal with its column.
 #[derive(Drop)]
@@ -81,59 +66,52 @@ pub enum Grafted {
 }
 
 // An answer in lent memory as it is handed back.
-fn locate_written(s: &[u8], written: Written) -> Filled
-    requires { (r : Refusal) → written ≡ Written.Refused r → AfterHeader s.now r }
+fn locate_written(s: &[u8], written: Result<usize, Refusal>) -> Result<usize, Located>
+    requires { (r : Refusal) → written ≡ Err r → AfterHeader s.now r }
     ensures { (o : Outcome (List ℕ)) → written ≡ written_of o → result ≡ filled_of s.now o }
 {
     match written {
-        Written::Length(length) => Filled::Length(length),
-        Written::Refused(refusal) => Filled::Refused(locate(s, refusal)),
+        Ok(length) => Ok(length),
+        Err(refusal) => Err(locate(s, refusal)),
     }
 }
 
-// The version of the handout that a number asks for, or refusal 21.
-#[derive(Drop)]
-enum Asked {
-    Of(Version),
-    Refused(Refusal),
-}
-
-fn asked_version(number: usize) -> Asked
+fn asked_version(number: usize) -> Result<Version, Refusal>
     ensures { result ≡ asked_of (version_of number) }
 {
     if number == 1 {
-        return Asked::Of(Version::First);
+        return Ok(Version::First);
     }
     if number == 2 {
-        return Asked::Of(Version::Second);
+        return Ok(Version::Second);
     }
     if number == 3 {
-        return Asked::Of(Version::Third);
+        return Ok(Version::Third);
     }
-    Asked::Refused(Refusal::at(21, 0))
+    Err(Refusal::at(21, 0))
 }
 
 // The text of a version in a style: the sheet's term, and then its declarations and the term as printed.
-fn styled_text(s: &[u8], version: Version, style: Style, out: &mut [u8]) -> Written
+fn styled_text(s: &[u8], version: Version, style: Style, out: &mut [u8]) -> Result<usize, Refusal>
     ensures { Fills (is_in_room (length out.old) (sheet_text s.now version style)) out.old out.new result }
 {
     let mut terms = [0u16; TERM_NUMBERS];
     let found = sheet_term(s, &mut terms);
     match found {
-        SheetTerm::Refused(refusal) => Written::Refused(refusal),
+        SheetTerm::Refused(refusal) => Err(refusal),
         SheetTerm::Held(h, n) => text(s, h, &terms, n, version, style, out),
     }
 }
 
 // The text of a version of the handout, 1 to 3, in a style.
-pub fn handout(s: &[u8], version: usize, style: Style, out: &mut [u8]) -> Filled
+pub fn handout(s: &[u8], version: usize, style: Style, out: &mut [u8]) -> Result<usize, Located>
     ensures fills_of { FillsOf s.now (text_answer s.now version style (length out.old)) out.old out.new result }
     ensures accurate_text { AccurateText version style s.now out.old out.new result }
 {
     let asked = asked_version(version);
     match asked {
-        Asked::Refused(refusal) => Filled::Refused(locate(s, refusal)),
-        Asked::Of(v) => {
+        Err(refusal) => Err(locate(s, refusal)),
+        Ok(v) => {
             let written = styled_text(s, v, style, out);
             locate_written(s, written)
         }
@@ -141,7 +119,7 @@ pub fn handout(s: &[u8], version: usize, style: Style, out: &mut [u8]) -> Filled
 }
 
 // The plain text: that of version 1.
-pub fn plain_text(s: &[u8], out: &mut [u8]) -> Filled
+pub fn plain_text(s: &[u8], out: &mut [u8]) -> Result<usize, Located>
     ensures fills_of { FillsOf s.now (text_answer s.now 1 Plain (length out.old)) out.old out.new result }
     ensures accurate_text { AccurateText 1 Plain s.now out.old out.new result }
 {
@@ -149,7 +127,7 @@ pub fn plain_text(s: &[u8], out: &mut [u8]) -> Filled
 }
 
 // The strict text: that of version 1.
-pub fn strict_text(s: &[u8], out: &mut [u8]) -> Filled
+pub fn strict_text(s: &[u8], out: &mut [u8]) -> Result<usize, Located>
     ensures fills_of { FillsOf s.now (text_answer s.now 1 Strict (length out.old)) out.old out.new result }
     ensures accurate_text { AccurateText 1 Strict s.now out.old out.new result }
 {
@@ -157,14 +135,14 @@ pub fn strict_text(s: &[u8], out: &mut [u8]) -> Filled
 }
 
 // How long the text of a version of the handout is, in a style.
-pub fn handout_length(s: &[u8], version: usize, style: Style) -> Filled
+pub fn handout_length(s: &[u8], version: usize, style: Style) -> Result<usize, Located>
     ensures { Measures s.now (text_answer s.now version style)
         (whole_text s.now version style) result }
 {
     let asked = asked_version(version);
     match asked {
-        Asked::Refused(refusal) => Filled::Refused(locate(s, refusal)),
-        Asked::Of(v) => {
+        Err(refusal) => Err(locate(s, refusal)),
+        Ok(v) => {
             let written = sheet_text_length(s, v, style);
             locate_written(s, written)
         }
@@ -172,33 +150,33 @@ pub fn handout_length(s: &[u8], version: usize, style: Style) -> Filled
 }
 
 // A list of the sheet's term in lent memory: measured by a dry run, and then written where it fits.
-fn list(s: &[u8], h: Sheet, terms: &[u16], n: usize, which: TermList, out: &mut [u16]) -> Written
+fn list(s: &[u8], h: Sheet, terms: &[u16], n: usize, which: TermList, out: &mut [u16]) -> Result<usize, Refusal>
     requires { AcceptedSheet s.now h × HeldTerm s.now terms.now n }
     ensures { Fills (list_answer which s.now (length out.old)) out.old out.new result }
 {
     let v = vocabulary(h);
     let end = put_list(terms, n, which, s, v, out, 0, false);
     if out.len() < end {
-        return Written::Refused(Refusal::at(16, 0));
+        return Err(Refusal::at(16, 0));
     }
     put_list(terms, n, which, s, v, out, 0, true);
-    Written::Length(end)
+    Ok(end)
 }
 
 // A list of the sheet: the sheet's term, and then what its labels add.
-fn label_list(s: &[u8], which: TermList, out: &mut [u16]) -> Written
+fn label_list(s: &[u8], which: TermList, out: &mut [u16]) -> Result<usize, Refusal>
     ensures { Fills (list_answer which s.now (length out.old)) out.old out.new result }
 {
     let mut terms = [0u16; TERM_NUMBERS];
     let found = sheet_term(s, &mut terms);
     match found {
-        SheetTerm::Refused(refusal) => Written::Refused(refusal),
+        SheetTerm::Refused(refusal) => Err(refusal),
         SheetTerm::Held(h, n) => list(s, h, &terms, n, which, out),
     }
 }
 
 // The atom list, in every version the same: the number of a name and a parameter count for each atom.
-pub fn atom_list(s: &[u8], out: &mut [u16]) -> Filled
+pub fn atom_list(s: &[u8], out: &mut [u16]) -> Result<usize, Located>
     ensures { FillsOf s.now (atoms_answer s.now (length out.old)) out.old out.new result }
 {
     let written = label_list(s, TermList::Atoms, out);
@@ -206,13 +184,13 @@ pub fn atom_list(s: &[u8], out: &mut [u16]) -> Filled
 }
 
 // The datatype list of a version of the handout, 1 to 3: the number of a name for each datatype.
-pub fn handout_datatypes(s: &[u8], version: usize, out: &mut [u16]) -> Filled
+pub fn handout_datatypes(s: &[u8], version: usize, out: &mut [u16]) -> Result<usize, Located>
     ensures { FillsOf s.now (datatypes_answer s.now version (length out.old)) out.old out.new result }
 {
     let asked = asked_version(version);
     match asked {
-        Asked::Refused(refusal) => Filled::Refused(locate(s, refusal)),
-        Asked::Of(v) => {
+        Err(refusal) => Err(locate(s, refusal)),
+        Ok(v) => {
             let written = label_list(s, TermList::Datatypes(v), out);
             locate_written(s, written)
         }
@@ -220,14 +198,14 @@ pub fn handout_datatypes(s: &[u8], version: usize, out: &mut [u16]) -> Filled
 }
 
 // The datatype list: that of version 1.
-pub fn datatype_list(s: &[u8], out: &mut [u16]) -> Filled
+pub fn datatype_list(s: &[u8], out: &mut [u16]) -> Result<usize, Located>
     ensures { FillsOf s.now (datatypes_answer s.now 1 (length out.old)) out.old out.new result }
 {
     handout_datatypes(s, 1, out)
 }
 
 // How many numbers the atom list has.
-pub fn atom_list_length(s: &[u8]) -> Filled
+pub fn atom_list_length(s: &[u8]) -> Result<usize, Located>
     ensures { Measures s.now (atoms_answer s.now) (whole_atoms s.now) result }
 {
     let written = list_length(s, TermList::Atoms);
@@ -235,14 +213,14 @@ pub fn atom_list_length(s: &[u8]) -> Filled
 }
 
 // How many numbers the datatype list of a version of the handout has.
-pub fn handout_datatypes_length(s: &[u8], version: usize) -> Filled
+pub fn handout_datatypes_length(s: &[u8], version: usize) -> Result<usize, Located>
     ensures { Measures s.now (datatypes_answer s.now version)
         (whole_datatypes s.now version) result }
 {
     let asked = asked_version(version);
     match asked {
-        Asked::Refused(refusal) => Filled::Refused(locate(s, refusal)),
-        Asked::Of(v) => {
+        Err(refusal) => Err(locate(s, refusal)),
+        Ok(v) => {
             let written = list_length(s, TermList::Datatypes(v));
             locate_written(s, written)
         }
@@ -250,14 +228,14 @@ pub fn handout_datatypes_length(s: &[u8], version: usize) -> Filled
 }
 
 // The label count.
-pub fn label_count(s: &[u8]) -> Count
+pub fn label_count(s: &[u8]) -> Result<usize, Located>
     ensures value { result ≡ count_of s.now (label_count s.now) }
     ensures accurate_count { AccurateCount s.now result }
 {
     let counted = sheet_term::label_count(s);
     match counted {
-        Counted::Labels(labels) => Count::Labels(labels),
-        Counted::Refused(refusal) => Count::Refused(locate(s, refusal)),
+        Ok(labels) => Ok(labels),
+        Err(refusal) => Err(locate(s, refusal)),
     }
 }
 
@@ -275,12 +253,12 @@ pub fn compare(s: &[u8], i: usize, j: usize) -> Verdict
 
 // The old sheet with one more step, AlphaEquivalent over the old root: its conclusion and its column are given. The slots are the
 // index of the new sheet's names. The bytes handed over are a sheet with the old one's parts, answers and index.
-pub fn restate(s: &[u8], given: Given, slots: &mut [u16; SLOT_COUNT], out: &mut [u8]) -> Filled
+pub fn restate(s: &[u8], given: Given, slots: &mut [u16; SLOT_COUNT], out: &mut [u8]) -> Result<usize, Located>
     ensures fills_of { FillsOf s.now (restate_answer s.now (given_of given) (length out.old))
         out.old out.new result }
     ensures slots_after { slots.new ≡ slots_after
         (restate_answer s.now (given_of given) (length out.old)) slots.old }
-    ensures by_index { (n : ℕ) → result ≡ Filled.Length n
+    ensures by_index { (n : ℕ) → result ≡ Ok n
         → Restates s.now (given_of given) (take n out.new) }
 {
     let written = restating::restate(s, given, slots, out);
@@ -288,7 +266,7 @@ pub fn restate(s: &[u8], given: Given, slots: &mut [u16; SLOT_COUNT], out: &mut 
 }
 
 // How long the sheet with one more step is.
-pub fn restate_length(s: &[u8], given: Given) -> Filled
+pub fn restate_length(s: &[u8], given: Given) -> Result<usize, Located>
     ensures { Measures s.now (restate_answer s.now (given_of given))
         (restated s.now (given_of given)) result }
 {
@@ -355,46 +333,46 @@ pub fn board_output(s: &[u8], out: &mut [u8; BOARD_ROOM]) -> usize
 {
     let filled = plain_text(s, out);
     match filled {
-        Filled::Length(length) => length,
-        Filled::Refused(located) => put_refusal(out, located),
+        Ok(length) => length,
+        Err(located) => put_refusal(out, located),
     }
 }
 
 // The code of the proposition at an ordinal among all of at most n connectives over a caller's names, which are divided by
 // newlines. No sheet is asked about, so a refusal has no column.
-pub fn exercise(names: &[u8], n: usize, ordinal: usize, out: &mut [u8]) -> Filled
+pub fn exercise(names: &[u8], n: usize, ordinal: usize, out: &mut [u8]) -> Result<usize, Located>
     ensures { FillsOf [] (exercise_answer names.now n ordinal (length out.old))
         out.old out.new result }
 {
     let written = exercises::exercise(names, n, ordinal, out);
     match written {
-        Written::Length(length) => Filled::Length(length),
-        Written::Refused(refusal) => Filled::Refused(Located { refusal, column: 0 }),
+        Ok(length) => Ok(length),
+        Err(refusal) => Err(Located { refusal, column: 0 }),
     }
 }
 
 // How long the code of an exercise is.
-pub fn exercise_length(names: &[u8], n: usize, ordinal: usize) -> Filled
+pub fn exercise_length(names: &[u8], n: usize, ordinal: usize) -> Result<usize, Located>
     ensures { Measures [] (exercise_answer names.now n ordinal)
         (whole_exercise names.now n ordinal) result }
 {
     let written = made_length::exercise_length(names, n, ordinal);
     match written {
-        Written::Length(length) => Filled::Length(length),
-        Written::Refused(refusal) => Filled::Refused(Located { refusal, column: 0 }),
+        Ok(length) => Ok(length),
+        Err(refusal) => Err(Located { refusal, column: 0 }),
     }
 }
 
 // The index of the sheet's names.
-pub fn name_index(s: &[u8], slots: &mut [u16; SLOT_COUNT]) -> Filled
+pub fn name_index(s: &[u8], slots: &mut [u16; SLOT_COUNT]) -> Result<usize, Located>
     ensures { FillsOf s.now (index_answer s.now) slots.old slots.new result }
 {
     let checked = sheet::answer(s);
     match checked {
-        Checked::Refused(refusal) => Filled::Refused(locate(s, refusal)),
-        Checked::Accepted(h) => {
+        Err(refusal) => Err(locate(s, refusal)),
+        Ok(h) => {
             name_index::build(slots, s, vocabulary(h));
-            Filled::Length(SLOT_COUNT)
+            Ok(SLOT_COUNT)
         }
     }
 }
@@ -408,10 +386,10 @@ pub fn find_name(s: &[u8], slots: &[u16; SLOT_COUNT], name: &[u8]) -> Searched
 {
     let checked = check_header(s);
     match checked {
-        Checked::Refused(refusal) => Searched::Refused(locate(s, refusal)),
-        Checked::Accepted(h) => match name_index::find(slots, s, vocabulary(h), name) {
-            Found::At(i) => Searched::At(i),
-            Found::Nowhere => Searched::Nowhere,
+        Err(refusal) => Searched::Refused(locate(s, refusal)),
+        Ok(h) => match name_index::find(slots, s, vocabulary(h), name) {
+            Some(i) => Searched::At(i),
+            None => Searched::Nowhere,
         },
     }
 }

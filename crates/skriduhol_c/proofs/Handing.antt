@@ -2,16 +2,13 @@
 use Prim.Native.Nat.{ℕ}
 use mathlib.Core.Path.{◌≡◌, refl}
 use mathlib.Core.Bool.{Bool, true, false}
-use mathlib.Core.Option.{Option, none, some}
+use Rattle.std.specs.Prelude.{Option, None, Some, Result, Err, Ok, ℕ}
 use mathlib.Core.List.{List}
 use lib.ListN.{length}
 use Rattle.definitions.specs.declared.Refusal.{Refusal}
 use Rattle.definitions.specs.declared.Located.{Located}
 use Rattle.definitions.specs.Outcome.{Outcome, accepted, refused}
 use Rattle.definitions.specs.Answers.{located}
-use Rattle.skriduhol.specs.declared.Filled.{Filled}
-use Rattle.skriduhol.specs.declared.Filled.TheVariants as filled
-use Rattle.skriduhol.specs.declared.Count.TheVariants as count
 use Rattle.skriduhol.specs.declared.Verdict.TheVariants as verdict
 use Rattle.skriduhol.specs.declared.Searched.TheVariants as searched
 use Rattle.skriduhol.specs.Searched.{searched_of}
@@ -40,22 +37,22 @@ module _ {A : Type 0} (s : List ℕ) where
 
 -- what each answer was given for
 module _ (s : List ℕ) where
-  pub filled_accepts : {n : ℕ} (o : Outcome (List ℕ)) → filled.Length n ≡ filled_of s o → Hands length s o n 0 0
+  pub filled_accepts : {n : ℕ} (o : Outcome (List ℕ)) → Ok n ≡ filled_of s o → Hands length s o n 0 0
   unfolding number_of value_of column_for filled_of
   filled_accepts (accepted a) e = record { number = refl; said = cc; drawn = refl }
   filled_accepts (refused r) e = record { number = cc; said = cc; drawn = cc }
 
-  pub filled_refused : {l : Located} (o : Outcome (List ℕ)) → filled.Refused l ≡ filled_of s o → RefusedAs s o l
+  pub filled_refused : {l : Located} (o : Outcome (List ℕ)) → Err l ≡ filled_of s o → RefusedAs s o l
   unfolding filled_of
   filled_refused (accepted a) e = record { refusal = record { number = 0; place = 0 }; is = cc; at = cc }
   filled_refused (refused r) e = record { refusal = r; is = refl; at = cc }
 
-  pub count_accepted : {n : ℕ} (o : Outcome ℕ) → count.Labels n ≡ count_of s o → o ≡ accepted n
+  pub count_accepted : {n : ℕ} (o : Outcome ℕ) → Ok n ≡ count_of s o → o ≡ accepted n
   unfolding count_of
   count_accepted (accepted n) e = cc
   count_accepted (refused r) e = cc
 
-  pub count_refused : {l : Located} (o : Outcome ℕ) → count.Refused l ≡ count_of s o → RefusedAs s o l
+  pub count_refused : {l : Located} (o : Outcome ℕ) → Err l ≡ count_of s o → RefusedAs s o l
   unfolding count_of
   count_refused (accepted n) e = record { refusal = record { number = 0; place = 0 }; is = cc; at = cc }
   count_refused (refused r) e = record { refusal = r; is = refl; at = cc }
@@ -78,33 +75,33 @@ module _ (s : List ℕ) where
   verdict_refused (accepted false) e = record { refusal = record { number = 0; place = 0 }; is = cc; at = cc }
   verdict_refused (refused r) e = record { refusal = r; is = refl; at = cc }
 
-  pub number_found : {i : ℕ} (o : Outcome (Option ℕ)) → searched.At i ≡ searched_of s o → o ≡ accepted (some i)
+  pub number_found : {i : ℕ} (o : Outcome (Option ℕ)) → searched.At i ≡ searched_of s o → o ≡ accepted (Some i)
   unfolding searched_of
-  number_found (accepted (some i)) e = cc
-  number_found (accepted none) e = cc
+  number_found (accepted (Some i)) e = cc
+  number_found (accepted None) e = cc
   number_found (refused r) e = cc
 
-  pub none_found : (o : Outcome (Option ℕ)) → searched.Nowhere ≡ searched_of s o → o ≡ accepted none
+  pub none_found : (o : Outcome (Option ℕ)) → searched.Nowhere ≡ searched_of s o → o ≡ accepted None
   unfolding searched_of
-  none_found (accepted (some i)) e = cc
-  none_found (accepted none) e = refl
+  none_found (accepted (Some i)) e = cc
+  none_found (accepted None) e = refl
   none_found (refused r) e = cc
 
   pub search_refused : {l : Located} (o : Outcome (Option ℕ)) → searched.Refused l ≡ searched_of s o → RefusedAs s o l
   unfolding searched_of
-  search_refused (accepted (some i)) e = record { refusal = record { number = 0; place = 0 }; is = cc; at = cc }
-  search_refused (accepted none) e = record { refusal = record { number = 0; place = 0 }; is = cc; at = cc }
+  search_refused (accepted (Some i)) e = record { refusal = record { number = 0; place = 0 }; is = cc; at = cc }
+  search_refused (accepted None) e = record { refusal = record { number = 0; place = 0 }; is = cc; at = cc }
   search_refused (refused r) e = record { refusal = r; is = refl; at = cc }
 
   -- an answer that fills lent memory, handed over
-  pub fills : {answer : List ℕ → ℕ → Outcome (List ℕ)} {before after : List ℕ} {r : Filled} {value column result : ℕ}
+  pub fills : {answer : List ℕ → ℕ → Outcome (List ℕ)} {before after : List ℕ} {r : Result ℕ Located} {value column result : ℕ}
       → FillsOf s (answer s (length before)) before after r
       → ((t : List ℕ) (o : Outcome (List ℕ)) → r ≡ filled_of t o → Hands length t o value column result)
       → HandsFilled answer s before after value column result
   fills f hands = record { handed = hands _ _ f.answer; memory = f.memory }
 
   -- the length of an answer, handed over
-  pub lengths : {answer : List ℕ → ℕ → Outcome (List ℕ)} {whole : List ℕ → Outcome (List ℕ)} {r : Filled} {value column result : ℕ}
+  pub lengths : {answer : List ℕ → ℕ → Outcome (List ℕ)} {whole : List ℕ → Outcome (List ℕ)} {r : Result ℕ Located} {value column result : ℕ}
       → Measures s (answer s) (whole s) r
       → ((t : List ℕ) (o : Outcome (List ℕ)) → r ≡ filled_of t o → Hands length t o value column result)
       → HandsLength answer whole s value column result

@@ -9,8 +9,7 @@ use Rattle.definitions.specs.Term.{ProofTerm}
 use Rattle.definitions.specs.TermText.{nodes}
 use Rattle.term_reader.specs.declared.TermSize.{TermSize}
 use Rattle.term_reader.specs.Answered.{size_of}
-use Rattle.skriduhol_terms.specs.declared.Reading.{Reading}
-use Rattle.skriduhol_terms.specs.declared.Reading.TheVariants.{Read, Refused}
+use Rattle.std.specs.Prelude.{Result, Ok, Err, ℕ}
 use Rattle.skriduhol_terms.specs.Reading.{reading_of, HandsTerm}
 use Rattle.skriduhol_c.specs.Handed.{number_of, value_of, HandsRefusal}
 use Rattle.skriduhol_c.specs.TermsRead.{count_by, names_of, code_of, HandsSizes, HandsOutcome}
@@ -21,7 +20,7 @@ record Accepts (o : Outcome (ProofTerm Name)) (size : TermSize) : Type 0 where
   is : o ≡ accepted term
   sizes : size ≡ size_of term
 
-accepts : (o : Outcome (ProofTerm Name)) {size : TermSize} → Read size ≡ reading_of o → Accepts o size
+accepts : (o : Outcome (ProofTerm Name)) {size : TermSize} → Ok size ≡ reading_of o → Accepts o size
 unfolding reading_of
 accepts (accepted t) e = record { term = t; is = refl; sizes = cc }
 accepts (refused r) e = record { term = Rattle.definitions.specs.Term.Unit; is = cc; sizes = cc }
@@ -31,7 +30,7 @@ record Refuses (o : Outcome (ProofTerm Name)) (l : Located) : Type 0 where
   is : o ≡ refused l.refusal
   nowhere : l.column ≡ 0
 
-refuses : (o : Outcome (ProofTerm Name)) {l : Located} → Refused l ≡ reading_of o → Refuses o l
+refuses : (o : Outcome (ProofTerm Name)) {l : Located} → Err l ≡ reading_of o → Refuses o l
 unfolding reading_of
 refuses (accepted t) e = record { is = cc; nowhere = cc }
 refuses (refused r) {l} e =
@@ -40,7 +39,7 @@ refuses (refused r) {l} e =
 
 -- the answer of the reader, handed over
 module _ (o : Outcome (ProofTerm Name)) where
-  pub sizes_handed : {size : TermSize} → Read size ≡ reading_of o → HandsSizes o size.nodes 0 size.names size.code 0
+  pub sizes_handed : {size : TermSize} → Ok size ≡ reading_of o → HandsSizes o size.nodes 0 size.names size.code 0
   unfolding number_of value_of count_by names_of code_of size_of
   sizes_handed e =
       let a = accepts o e in
@@ -52,7 +51,7 @@ module _ (o : Outcome (ProofTerm Name)) where
         coded = ap (λ (z : TermSize). z.code) a.sizes ∙ sym (ap (count_by code_of) a.is);
       }
 
-  pub refusal_handed : {l : Located} {value column result : ℕ} → Refused l ≡ reading_of o → HandsRefusal l value column result
+  pub refusal_handed : {l : Located} {value column result : ℕ} → Err l ≡ reading_of o → HandsRefusal l value column result
       → HandsSizes o value column 0 0 result
   unfolding number_of value_of count_by
   refusal_handed e parts =
@@ -66,7 +65,7 @@ module _ (o : Outcome (ProofTerm Name)) where
       }
 
 -- and what became of the lent memory
-pub memory_handed : {o : Outcome (ProofTerm Name)} {text records names code records' names' code' : List ℕ} {x : Reading}
+pub memory_handed : {o : Outcome (ProofTerm Name)} {text records names code records' names' code' : List ℕ} {x : Result TermSize Located}
     {value column name_count code_length_lem result : ℕ} → HandsTerm o text records names code records' names' code' x
     → ((o : Outcome (ProofTerm Name)) → x ≡ reading_of o → HandsSizes o value column name_count code_length_lem result)
     → HandsOutcome o text records names code records' names' code' value column name_count code_length_lem result

@@ -1,6 +1,5 @@
 -- What a caller in C is handed of each outcome: a number as the result, a value and a column behind pointers, and the lent memory.
-use Rattle.std.specs.Prelude.{ℕ, ◌≡◌, Bool, true, false, List, length, get_or}
-use Rattle.std.proofs.Math.Option.{Option, none, some}
+use Rattle.std.specs.Prelude.{ℕ, ◌≡◌, Bool, true, false, List, length, get_or, Option, None, Some}
 use Rattle.definitions.specs.declared.Located.{Located}
 use Rattle.definitions.specs.Outcome.{Outcome, accepted, refused}
 use Rattle.definitions.specs.Answers.{is_in_room, column_of}
@@ -30,8 +29,8 @@ yes_or_no false = 0
 
 -- the number of a name, or that of a free slot for none
 unfoldable pub number_or_free : Option ℕ → ℕ
-number_or_free (some i) = i
-number_or_free none = free
+number_or_free (Some i) = i
+number_or_free None = free
 
 -- what is given for a restatement: a kind, three numbers and a column, in the order of a step record
 unfoldable pub given_in : List ℕ → Given

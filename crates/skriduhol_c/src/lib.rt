@@ -32,8 +32,8 @@ ghost use Rattle.skriduhol_c.specs.TermsRead.{HandsSizes, HandsRead, HandsReadLe
 use definitions::{Located, Style, Whose};
 use name_index::{FREE, SLOT_COUNT};
 use restating::Given;
-use skriduhol::{BOARD_ROOM, Count, Filled, Grafted, Searched, Verdict};
-use skriduhol_terms::{Judged, Reading};
+use skriduhol::{BOARD_ROOM, Grafted, Searched, Verdict};
+use skriduhol_terms::Judged;
 
 // A refusal's place is the value, and its column the column.
 fn hand_refusal(located: Located, value: &mut usize, column: &mut usize) -> u8
@@ -46,16 +46,16 @@ fn hand_refusal(located: Located, value: &mut usize, column: &mut usize) -> u8
 }
 
 // The length of an answer in lent memory is the value.
-fn hand_filled(filled: Filled, value: &mut usize, column: &mut usize) -> u8
+fn hand_filled(filled: Result<usize, Located>, value: &mut usize, column: &mut usize) -> u8
     ensures { (s : List ℕ) (o : Outcome (List ℕ)) → filled ≡ filled_of s o → Hands length s o value.new column.new result }
 {
     match filled {
-        Filled::Length(length) => {
+        Ok(length) => {
             *value = length;
             *column = 0;
             return 0;
         }
-        Filled::Refused(located) => {
+        Err(located) => {
             return hand_refusal(located, value, column);
         }
     }
@@ -294,12 +294,12 @@ pub extern "C" fn skriduhol_label_count(sheet: &[u8], value: &mut usize, column:
 {
     let count = skriduhol::label_count(sheet);
     match count {
-        Count::Labels(labels) => {
+        Ok(labels) => {
             *value = labels;
             *column = 0;
             return 0;
         }
-        Count::Refused(located) => {
+        Err(located) => {
             return hand_refusal(located, value, column);
         }
     }
@@ -586,7 +586,7 @@ pub extern "C" fn skriduhol_judge(
 // The value is how many nodes a term has, and behind two pointers of their own are its names and the bytes of its labels' code. A
 // refusal has 0 for both.
 fn hand_reading(
-    reading: Reading,
+    reading: Result<TermSize, Located>,
     value: &mut usize,
     column: &mut usize,
     name_count: &mut usize,
@@ -596,14 +596,14 @@ fn hand_reading(
         column.new name_count.new code_length.new result }
 {
     match reading {
-        Reading::Read(size) => {
+        Ok(size) => {
             *value = size.nodes;
             *column = 0;
             *name_count = size.names;
             *code_length = size.code;
             return 0;
         }
-        Reading::Refused(located) => {
+        Err(located) => {
             *name_count = 0;
             *code_length = 0;
             return hand_refusal(located, value, column);

@@ -23,8 +23,10 @@ use Rattle.term_meaning.specs.Memory.{Stored, MarksAll}
 use Rattle.term_meaning.proofs.Meaning.{records_length}
 use Rattle.term_meaning.proofs.ReadTerm.{reads_by_place}
 use Rattle.term_reader.specs.Answered.{size_of, records_by, PairsOf, NamesBy, code_by, room_of}
-use Rattle.skriduhol_terms.specs.declared.Reading.{Reading}
+use Rattle.std.specs.Prelude.{Result, ℕ}
 use Rattle.skriduhol_terms.specs.Reading.{reading_of, HandsTerm, ReadsOf, memory_of, MeansTerm}
+use Rattle.term_reader.specs.declared.TermSize.{TermSize}
+use Rattle.definitions.specs.declared.Located.{Located}
 
 -- an answer that accepts a term read it, and had room for it
 accepts : (room : TermRoom) (types : List Name) (text : List ℕ) {t : ProofTerm Name} → term_answer room types text ≡ accepted t
@@ -49,7 +51,7 @@ enough records names code t e =
     record { for_names = ltb-false _ _ second; for_code = ltb-false _ _ third }
 
 -- Of a term that was handed over into memory with room for it:
-module _ {t : ProofTerm Name} {text records names code records' names' code' : List ℕ} {r : Reading}
+module _ {t : ProofTerm Name} {text records names code records' names' code' : List ℕ} {r : Result TermSize Located}
     (h : HandsTerm (accepted t) text records names code records' names' code' r) (room : Room names code t) where
   stored : Stored t (place (different_names t)) code (memory_of text records' names' code' (size_of t))
   unfolding memory_of records_by code_by record_numbers
@@ -75,7 +77,7 @@ module _ {t : ProofTerm Name} {text records names code records' names' code' : L
   }
 
 -- Of the lent memory before and after, and the datatypes and the text:
-module _ (list text records names code : List ℕ) {records' names' code' : List ℕ} {r : Reading} where
+module _ (list text records names code : List ℕ) {records' names' code' : List ℕ} {r : Result TermSize Located} where
   by_outcome : (o : Outcome (ProofTerm Name)) → term_answer (room_of records names code) (names_in list) text ≡ o
       → HandsTerm o text records names code records' names' code' r → MeansTerm list text records' names' code' r
   unfolding MeansTerm reading_of memory_of size_of

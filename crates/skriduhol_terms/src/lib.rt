@@ -14,7 +14,7 @@ ghost use Rattle.skriduhol_terms.specs.Reading.{reading_of, ReadsOf, RestoresOf,
 use definitions::Located;
 use judgement::Judgement;
 use located::locate;
-use term_reader::{TermRead, TermSize};
+use term_reader::TermSize;
 
 // The rules derive the judgement, or they stop at a node of the term; or a refusal with its column.
 #[derive(Drop)]
@@ -37,25 +37,18 @@ pub fn judge(s: &[u8], hypotheses: &[u16], k: usize) -> Judged
     }
 }
 
-// How many nodes, names, bytes of code and labels the term that was read has; or a refusal, which names no step and has no column.
-#[derive(Drop)]
-pub enum Reading {
-    Read(TermSize),
-    Refused(Located),
-}
-
 // What the reader answers as it is handed back.
-fn hand_back(read: TermRead) -> Reading
+fn hand_back(read: Result<TermSize, Refusal>) -> Result<TermSize, Located>
     ensures { (o : Outcome (ProofTerm Name)) → read ≡ answer_of o → result ≡ reading_of o }
 {
     match read {
-        TermRead::Accepted(size) => Reading::Read(size),
-        TermRead::Refused(refusal) => Reading::Refused(Located { refusal, column: 0 }),
+        Ok(size) => Ok(size),
+        Err(refusal) => Err(Located { refusal, column: 0 }),
     }
 }
 
 // How large the term is whose strict text these bytes are: what `read_term` answers given room, and never 16.
-pub fn read_term_length(text: &[u8], types: &[u8]) -> Reading
+pub fn read_term_length(text: &[u8], types: &[u8]) -> Result<TermSize, Located>
     ensures { result ≡ reading_of (read_answer (names_in types.now) text.now) }
 {
     hand_back(term_reader::term_size(text, types))
@@ -69,7 +62,7 @@ pub fn read_term(
     records: &mut [u16],
     names: &mut [u8],
     code: &mut [u8],
-) -> Reading
+) -> Result<TermSize, Located>
     ensures reads_of { ReadsOf types.now text.now
         records.old names.old code.old
         records.new names.new code.new result }

@@ -2,15 +2,13 @@
 use Prim.Native.Nat.{ℕ, ◌+◌, ◌≤◌, ◌<◌}
 use mathlib.Core.Path.{◌≡◌, refl, ◌∙◌}
 use mathlib.Core.Bool.{Bool, true, false}
-use mathlib.Core.Option.{none}
+use Rattle.std.specs.Prelude.{None, Option, Some, ℕ}
 use mathlib.Core.List.{List}
 use native.Mathlib.Omega.{arith}
 use native.Mathlib.Nat.{le_refl}
 use lib.ListN.{length, drop, set, length-set}
 use lib.Seq.{drop-set-lt}
-use Rattle.definitions.specs.declared.Found.{Found}
-use Rattle.definitions.specs.declared.Found.TheVariants.{Nowhere, At}
-use Rattle.definitions.specs.Outcome.{lowest, found_at}
+use Rattle.definitions.specs.Outcome.{lowest}
 use Rattle.definitions.proofs.Lowest.{lowest_passed, found_here, found_nowhere}
 use Rattle.steps.specs.Tables.{passed}
 
@@ -19,13 +17,13 @@ module _ (test : ℕ → List ℕ → List ℕ → ℕ → Bool) (Table : ℕ �
   pub record Filling (now : List ℕ) (k : ℕ) : Type 0 where
     pub inside : k ≤ steps
     pub long : length now ≡ length before
-    pub found : (names : ℕ) (pairs code : List ℕ) → lowest (test names pairs code) k ≡ none
+    pub found : (names : ℕ) (pairs code : List ℕ) → lowest (test names pairs code) k ≡ None
     pub table : Table k now
     pub past : (j : ℕ) → k ≤ j → drop j now ≡ drop j before
 
   -- what the search answers, and the entries of the steps that it passed
-  pub record Filled (r : Found) (after : List ℕ) : Type 0 where
-    pub found : (names : ℕ) (pairs code : List ℕ) → r ≡ found_at (lowest (test names pairs code) steps)
+  pub record Filled (r : Option ℕ) (after : List ℕ) : Type 0 where
+    pub found : (names : ℕ) (pairs code : List ℕ) → r ≡ (lowest (test names pairs code) steps)
     pub table : Table (passed r steps) after
     pub kept : drop (passed r steps) after ≡ drop (passed r steps) before
 
@@ -55,7 +53,7 @@ module _
 
     -- it holds there
     pub filling_stopped : k < steps → ((names : ℕ) (pairs code : List ℕ) → test names pairs code k ≡ true)
-        → Filled test Table steps before (At k) now
+        → Filled test Table steps before (Some k) now
     unfolding passed
     filling_stopped l holds =
         record {
@@ -65,7 +63,7 @@ module _
         }
 
     -- no step is left
-    pub filling_done : k ≡ steps → Filled test Table steps before Nowhere now
+    pub filling_done : k ≡ steps → Filled test Table steps before None now
     unfolding passed
     filling_done e =
         record {

@@ -6,7 +6,7 @@ use native.Mathlib.Omega.{arith}
 use lib.ListN.{length, get_or, set}
 use lib.Seq.{get_or-set_same, get_or-set_other}
 use borrow.Author.Count.{below_more}
-use Rattle.definitions.specs.declared.Found.TheVariants.{At}
+use Rattle.std.specs.Prelude.{Some}
 use Rattle.definitions.specs.Tree.{height, tree_in}
 use Rattle.steps.specs.Size.{size}
 use Rattle.steps.specs.Tables.{TreeStart, SizeTable, HeightTable}
@@ -24,7 +24,7 @@ module _ (records table : List ℕ) where
       record { enough = λ names pairs code k h. absurd (omega arith); sizes = λ names pairs code k h. absurd (omega arith) }
 
   -- the tree that starts at a step and ends with step k has the steps between
-  pub size_table_more : (k start : ℕ) → k < length table → SizeTable records k table → TreeStart records k (At start)
+  pub size_table_more : (k start : ℕ) → k < length table → SizeTable records k table → TreeStart records k (Some start)
       → SizeTable records (k + 1) (set table k (k + 1 - start))
   unfolding TreeStart
   size_table_more k start h t s =

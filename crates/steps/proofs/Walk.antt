@@ -7,7 +7,7 @@ use mathlib.Core.List.{List, []}
 use native.Mathlib.Omega.{arith}
 use lib.ListN.{length, get_or}
 use borrow.Author.Tests.{lt-ltb, le-ltb}
-use Rattle.definitions.specs.declared.Found.TheVariants.{Nowhere, At}
+use Rattle.std.specs.Prelude.{None, Some}
 use Rattle.definitions.specs.Sheet.{premiss_count}
 use Rattle.definitions.specs.Tree.{trees_before}
 use Rattle.definitions.specs.Admission.{too_few_trees}
@@ -48,14 +48,14 @@ module _ {records : List ℕ} {k j p : ℕ} (w : Walk records k j p) where
         }
 
   -- at step 0 with premisses still to pass: the step finds too few trees
-  pub walk_out : p ≡ 0 → j < premiss_count records k → TreeStart records k Nowhere
+  pub walk_out : p ≡ 0 → j < premiss_count records k → TreeStart records k None
   unfolding TreeStart too_few_trees
   walk_out z h names pairs code =
       let n = no_tree_left names pairs code records k j (rw z at (w.seam names pairs code)) in
       lt-ltb (length (trees_before names pairs code records k)) (premiss_count records k) (omega arith)
 
   -- past all premisses: here the tree starts
-  pub walk_done : j ≡ premiss_count records k → TreeStart records k (At p)
+  pub walk_done : j ≡ premiss_count records k → TreeStart records k (Some p)
   unfolding TreeStart too_few_trees
   walk_done e names pairs code =
       let n = w.passed names pairs code in (

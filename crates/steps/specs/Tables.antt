@@ -1,17 +1,15 @@
 -- What is kept of the steps' trees: the size and the nesting of each. They are the same for all names, pairs and code, since
 -- the premiss counts alone say which steps a tree has.
-use Rattle.std.specs.Prelude.{ℕ, ◌+◌, ◌<◌, ◌≡◌, true, false, List, get_or, drop, ltb}
-use Rattle.definitions.specs.declared.Found.{Found}
-use Rattle.definitions.specs.declared.Found.TheVariants.{Nowhere, At}
-use Rattle.definitions.specs.Outcome.{lowest, found_at}
+use Rattle.std.specs.Prelude.{ℕ, ◌+◌, ◌<◌, ◌≡◌, true, false, List, get_or, drop, ltb, Option, None, Some}
+use Rattle.definitions.specs.Outcome.{lowest}
 use Rattle.definitions.specs.Tree.{height, tree_in}
 use Rattle.definitions.specs.Admission.{too_few_trees}
 use Rattle.steps.specs.Size.{size}
 
 -- where the tree of step k starts: nowhere if the step finds too few trees, else so that the tree has the steps up to k
-unfoldable pub TreeStart : List ℕ → ℕ → Found → Type 0
-TreeStart records k Nowhere = (names : ℕ) (pairs code : List ℕ) → too_few_trees names pairs code records k ≡ true
-TreeStart records k (At start) =
+unfoldable pub TreeStart : List ℕ → ℕ → Option ℕ → Type 0
+TreeStart records k None = (names : ℕ) (pairs code : List ℕ) → too_few_trees names pairs code records k ≡ true
+TreeStart records k (Some start) =
     (names : ℕ) (pairs code : List ℕ)
     → (too_few_trees names pairs code records k ≡ false) × (start + size (tree_in names pairs code records k) ≡ k + 1)
 
@@ -23,13 +21,13 @@ pub record SizeTable (records : List ℕ) (steps : ℕ) (table : List ℕ) : Typ
       → k < steps → get_or table k 0 ≡ size (tree_in names pairs code records k)
 
 -- how many steps a search passes: those before the one that it finds, or else all
-unfoldable pub passed : Found → ℕ → ℕ
-passed Nowhere steps = steps
-passed (At k) steps = k
+unfoldable pub passed : Option ℕ → ℕ → ℕ
+passed None steps = steps
+passed (Some k) steps = k
 
 -- refusal 10's first part; of the steps that it passes the table has the sizes, and past them it is as before
-pub record FilledSizes (records : List ℕ) (steps : ℕ) (before : List ℕ) (r : Found) (after : List ℕ) : Type 0 where
-  pub found : (names : ℕ) (pairs code : List ℕ) → r ≡ found_at (lowest (too_few_trees names pairs code records) steps)
+pub record FilledSizes (records : List ℕ) (steps : ℕ) (before : List ℕ) (r : Option ℕ) (after : List ℕ) : Type 0 where
+  pub found : (names : ℕ) (pairs code : List ℕ) → r ≡ (lowest (too_few_trees names pairs code records) steps)
   pub table : SizeTable records (passed r steps) after
   pub kept : drop (passed r steps) after ≡ drop (passed r steps) before
 
@@ -39,8 +37,8 @@ pub record HeightTable (records : List ℕ) (steps : ℕ) (table : List ℕ) : T
       → k < steps → get_or table k 0 ≡ height (tree_in names pairs code records k)
 
 -- the lowest step whose tree nests deeper than a limit; of the steps passed the table has the nestings, and past them it is as before
-pub record FilledHeights (records : List ℕ) (steps limit : ℕ) (before : List ℕ) (r : Found) (after : List ℕ) : Type 0 where
+pub record FilledHeights (records : List ℕ) (steps limit : ℕ) (before : List ℕ) (r : Option ℕ) (after : List ℕ) : Type 0 where
   pub found : (names : ℕ) (pairs code : List ℕ)
-      → r ≡ found_at (lowest (λ k. ltb limit (height (tree_in names pairs code records k))) steps)
+      → r ≡ (lowest (λ k. ltb limit (height (tree_in names pairs code records k))) steps)
   pub table : HeightTable records (passed r steps) after
   pub kept : drop (passed r steps) after ≡ drop (passed r steps) before

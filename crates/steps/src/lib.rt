@@ -2,7 +2,7 @@
 #![tactic(auto)]
 
 ghost use Rattle.std.specs.Prelude.{ℕ, ◌+◌, ◌≤◌, ◌<◌, max, ◌≡◌, List, length, get_or};
-ghost use Rattle.definitions.specs.Outcome.{lowest, found_at};
+ghost use Rattle.definitions.specs.Outcome.{lowest};
 ghost use Rattle.definitions.specs.Sheet.{step_size, step_limit, rule_byte, premiss_count, step_number, column};
 ghost use Rattle.definitions.specs.Tree.{rules, Sorry, identifier_count, height, tree_in};
 ghost use Rattle.definitions.specs.Admission.{no_name, not_zero, bad_identifier, bad_prop_is_true, bad_type_judgement, bad_conclusion, bad_column};
@@ -11,7 +11,6 @@ ghost use Rattle.steps.specs.Records.{HasStep, HasSteps};
 ghost use Rattle.steps.specs.StepAt.{identifier_at, conclusion_at, step_at};
 ghost use Rattle.steps.specs.Tables.{TreeStart, SizeTable, FilledSizes, HeightTable, FilledHeights};
 
-use definitions::Found;
 use number::number_at;
 
 // The bytes of a step.
@@ -217,20 +216,20 @@ pub fn bad_step(step_records: &[u8], k: usize, names: usize, propositions: usize
 }
 
 // Refusal 9: the lowest of the steps that is bad.
-pub fn first_bad_step(step_records: &[u8], steps: usize, names: usize, propositions: usize) -> Found
+pub fn first_bad_step(step_records: &[u8], steps: usize, names: usize, propositions: usize) -> Option<usize>
     requires { HasSteps step_records.now steps }
-    ensures { result ≡ found_at (lowest (bad_step names propositions step_records.now) steps) }
+    ensures { result ≡ lowest (bad_step names propositions step_records.now) steps }
 {
     for k in 0..steps {
         if bad_step(step_records, k, names, propositions) {
-            return Found::At(k);
+            return Some(k);
         }
     }
-    Found::Nowhere
+    None
 }
 
 // Where the tree of step k starts, if the step finds its premisses: back over each of them by its size.
-fn tree_start(step_records: &[u8], k: usize, sizes: &[u16]) -> Found
+fn tree_start(step_records: &[u8], k: usize, sizes: &[u16]) -> Option<usize>
     requires { (HasStep step_records.now k) × (k ≤ length sizes.now)
         × SizeTable step_records.now k sizes.now }
     ensures { TreeStart step_records.now k result }
@@ -239,25 +238,25 @@ fn tree_start(step_records: &[u8], k: usize, sizes: &[u16]) -> Found
     let mut start = k;
     for _ in 0..needed {
         if start == 0 {
-            return Found::Nowhere;
+            return None;
         }
         start -= sizes[start - 1] as usize;
     }
-    Found::At(start)
+    Some(start)
 }
 
 // Refusal 10, its first part: the lowest step that finds too few trees. The sizes are those of the steps' trees.
-pub fn fill_sizes(step_records: &[u8], steps: usize, sizes: &mut [u16]) -> Found
+pub fn fill_sizes(step_records: &[u8], steps: usize, sizes: &mut [u16]) -> Option<usize>
     requires { (HasSteps step_records.now steps) × (steps ≤ step_limit) × (steps ≤ length sizes.old) }
     ensures { FilledSizes step_records.now steps sizes.old result sizes.new }
 {
     for k in 0..steps {
-        let Found::At(start) = tree_start(step_records, k, sizes) else {
-            return Found::At(k);
+        let Some(start) = tree_start(step_records, k, sizes) else {
+            return Some(k);
         };
         sizes[k] = (k + 1 - start) as u16;
     }
-    Found::Nowhere
+    None
 }
 
 // Refusal 10, its second part: the last step's tree has not all the steps.
@@ -303,7 +302,7 @@ pub fn first_deep_tree(
     sizes: &[u16],
     heights: &mut [u16],
     limit: u16,
-) -> Found
+) -> Option<usize>
     requires has_steps { (HasSteps step_records.now steps) × (steps ≤ step_limit) }
     requires steps_in_bounds { (steps ≤ length sizes.now) × (steps ≤ length heights.old)
         × SizeTable step_records.now steps sizes.now }
@@ -313,9 +312,9 @@ pub fn first_deep_tree(
     for k in 0..steps {
         let height = tree_height(step_records, k, sizes, heights);
         if limit < height {
-            return Found::At(k);
+            return Some(k);
         }
         heights[k] = height;
     }
-    Found::Nowhere
+    None
 }

@@ -2,7 +2,7 @@
 use Prim.Native.Nat.{ℕ, ◌+◌, ◌-◌, ◌*◌, ◌<◌, ◌≤◌}
 use mathlib.Core.Path.{◌≡◌, refl, ap}
 use mathlib.Core.Bool.{true, false}
-use mathlib.Core.Option.{Option, some}
+use Rattle.std.specs.Prelude.{Option, Some}
 use mathlib.Core.List.{List, [], ◌∷◌, ◌++◌, append_assoc, append-nil}
 use native.Mathlib.Omega.{arith}
 use lib.ListN.{length, get_or, drop}
@@ -75,7 +75,7 @@ whole r = record {
 -- A record is made over the term in hand, and nothing more belongs to its term.
 module _ {k : List Entry} {t : ProofTerm Name} {z : Scene} {work after : List ℕ} {s r : Progress} {row : Row} {nest tally : ℕ}
     (g : Grows k t z work s row nest tally) (makes : Makes s row nest tally work after r)
-    (comes : Comes z.types z.text (some (giving k (standing false t) (drop s.at z.text)))) where
+    (comes : Comes z.types z.text (Some (giving k (standing false t) (drop s.at z.text)))) where
   too_large : Unmade s.used nest → Fits (giving k (standing false t) (drop s.at z.text)) → ⊥
   unfolding met nodes_met hand_nesting standing node_limit term_nesting_limit
   too_large (nodes h) f =
@@ -119,13 +119,13 @@ kind_small (datatype t) = omega arith
 
 -- what the machine does with the label
 abbrev ascription : List Entry → Shown (ProofTerm Name) → Label Name → List ℕ → Option State
-ascription k a l v = some (giving k (standing false (TypeAscription a.shown l)) v)
+ascription k a l v = Some (giving k (standing false (TypeAscription a.shown l)) v)
 
 -- and behind a term that no argument follows
 abbrev pub after_last : List Name → List Entry → Shown (ProofTerm Name) → List ℕ → Option State
 after_last types k a s =
     if_read (expect (utf8 ": ") s) (λ u t. if_due a.own (wraps Strict ascribed_by a.shown) (and_then (label types prop_levels t) (ascription k a)))
-    (some (giving k a s))
+    (Some (giving k a s))
 
 pub comes_last : {z : Scene} {work : List ℕ} {s : Progress} (held : AtTerm holding z work s) → argument_follows (drop s.at z.text) ≡ false
     → Comes z.types z.text (after_last z.types held.entries held.term (drop s.at z.text))

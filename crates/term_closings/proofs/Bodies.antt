@@ -2,7 +2,7 @@
 use Prim.Native.Nat.{ℕ, ◌-◌, ◌<◌, ◌≤◌}
 use mathlib.Core.Path.{◌≡◌, sym, ◌∙◌}
 use mathlib.Core.Bool.{true, false}
-use mathlib.Core.Option.{some}
+use Rattle.std.specs.Prelude.{Some}
 use mathlib.Core.List.{List, [], ◌∷◌, ◌++◌, append_assoc}
 use native.Mathlib.Omega.{arith}
 use lib.ListN.{length, get_or, drop}
@@ -46,7 +46,7 @@ module _ {z : Scene} {work : List ℕ} {s : Progress} {e : reader.Entry} where
 
   module _ (due : same s.own (leb 4 (get_or form_table s.kind 0)) ≡ true) {end : ℕ} (found : Expected (utf8 " in ") z.text s.at end) where
     comes_in : {k : List Entry} {x y : Name} {a : Shown (ProofTerm Name)} → GivesTo k (let_head x y) a z work s e
-        → Comes z.types z.text (and_then (expect (utf8 " in ") (drop s.at z.text)) λ u t. some (reading (let_body x y a.shown ∷ k) t))
+        → Comes z.types z.text (and_then (expect (utf8 " in ") (drop s.at z.text)) λ u t. Some (reading (let_body x y a.shown ∷ k) t))
     unfolding give least_form
     comes_in g = as_due _ _ _ (comes_given g) (due_at within g.behind.hand due)
 

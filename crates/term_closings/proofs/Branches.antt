@@ -2,7 +2,7 @@
 use Prim.Native.Nat.{ℕ, ◌+◌, ◌-◌, max, ◌<◌, ◌≤◌}
 use mathlib.Core.Path.{◌≡◌, refl, sym, ap, ◌∙◌}
 use mathlib.Core.Bool.{true, false}
-use mathlib.Core.Option.{Option, none, some}
+use Rattle.std.specs.Prelude.{Option, None, Some}
 use mathlib.Core.List.{List, [], ◌∷◌, ◌++◌, append_assoc, append-nil}
 use native.Mathlib.Omega.{arith}
 use lib.ListN.{length, get_or, drop}
@@ -95,8 +95,8 @@ branch_small answer there = let (x, given) = answer.gives there in omega (arith,
 then_on : {A B : Type 0} (m : Option (Read A)) (first : A → Reading B) (next : B → List ℕ → Option State) (both : A → List ℕ → Option State)
     → ((a : A) (s : List ℕ) → both a s ≡ and_then (first a s) next) → and_then m both ≡ and_then (followed_by m first) next
 unfolding and_then followed_by
-then_on none first next both is = refl
-then_on (some r) first next both is = is r.value r.rest
+then_on None first next both is = refl
+then_on (Some r) first next both is = is r.value r.rest
 
 branch_steps : (what s : List ℕ) (next : Name → List ℕ → Option State)
     → (and_then (expect what s) λ u s₁. and_then (name s₁) λ x s₂. and_then (expect (utf8 " => ") s₂) λ u s₃. next x s₃) ≡ and_then (branch what s) next
@@ -109,7 +109,7 @@ branch_steps what s next =
 -- where the machine turns to behind the head of a case or its first branch
 unfoldable branch_turn : List ℕ → (Name → Entry) → List Entry → Shown (ProofTerm Name) → List ℕ → Option State
 branch_turn what waiting k a s =
-    if_due a.own (wraps Strict within a.shown) (and_then (branch what s) λ x t. some (reading (waiting x ∷ k) t))
+    if_due a.own (wraps Strict within a.shown) (and_then (branch what s) λ x t. Some (reading (waiting x ∷ k) t))
 
 -- an entry of this kind is followed by another that holds the term in hand and a name
 record Branches (kind : ℕ) (waiting : Name → Entry) (k : List Entry) (entry : Entry) (a : Shown (ProofTerm Name)) : Type 0 where
@@ -126,7 +126,7 @@ record Branches (kind : ℕ) (waiting : Name → Entry) (k : List Entry) (entry 
 first_branch : (k : List Entry) (a : Shown (ProofTerm Name)) → Branches 7 (case_first a.shown) k case_head a
 unfolding give branch_turn branch_word branch_row entry_marks entry_records entry_numbers row_numbers seven
 first_branch k a = record {
-  turns = λ types s. ap (if_due a.own (wraps Strict within a.shown)) (branch_steps (utf8 " of inl ") s (λ x t. some (reading (case_first a.shown x ∷ k) t)));
+  turns = λ types s. ap (if_due a.own (wraps Strict within a.shown)) (branch_steps (utf8 " of inl ") s (λ x t. Some (reading (case_first a.shown x ∷ k) t)));
   marks_are = λ x. rw (append-nil (entries_marks k)) (append_assoc (entries_marks k) (marks a.shown) (called x ∷ []));
   records_are = λ x number. rw (append-nil (entries_marks k), append-nil (stack_records number k)) refl;
   row_is = λ x number e top.
@@ -141,7 +141,7 @@ first_branch k a = record {
 second_branch : (b : ProofTerm Name) (x : Name) (k : List Entry) (a : Shown (ProofTerm Name)) → Branches 8 (case_second b x a.shown) k (case_first b x) a
 unfolding give branch_turn branch_word branch_row entry_marks entry_records entry_numbers row_numbers seven
 second_branch b x k a = record {
-  turns = λ types s. ap (if_due a.own (wraps Strict within a.shown)) (branch_steps (utf8 ", inr ") s (λ y t. some (reading (case_second b x a.shown y ∷ k) t)));
+  turns = λ types s. ap (if_due a.own (wraps Strict within a.shown)) (branch_steps (utf8 ", inr ") s (λ y t. Some (reading (case_second b x a.shown y ∷ k) t)));
   marks_are = λ y. simp append_assoc;
   records_are = λ y number. append_assoc (stack_records number k) (records_after number (entries_marks k) b) (records_after number (entries_marks k ++ (marks b ++ (called x ∷ []))) a.shown);
   row_is = λ y number e top.
@@ -160,7 +160,7 @@ module _ {z : Scene} {work : List ℕ} {s : Progress} {e : reader.Entry} {waitin
 
   module _ (due : same s.own (leb 4 (get_or form_table s.kind 0)) ≡ true) {after : List ℕ} {r : NameRead}
       (answer : BranchAnswer (branch_word e.kind) z.text s.at z.names s.count after r) where
-    comes_due : Comes z.types z.text (and_then (branch (branch_word e.kind) (drop s.at z.text)) λ x t. some (reading (waiting x ∷ k) t))
+    comes_due : Comes z.types z.text (and_then (branch (branch_word e.kind) (drop s.at z.text)) λ x t. Some (reading (waiting x ∷ k) t))
     unfolding branch_turn least_form
     comes_due = as_due _ _ _ comes_branch (due_at within g.behind.hand due)
 

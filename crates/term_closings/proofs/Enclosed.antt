@@ -2,7 +2,7 @@
 use Prim.Native.Nat.{ℕ, ◌+◌, ◌-◌, ◌<◌, ◌≤◌}
 use mathlib.Core.Path.{◌≡◌, refl, sym, ◌∙◌}
 use mathlib.Core.Bool.{Bool, true, false}
-use mathlib.Core.Option.{Option, some}
+use Rattle.std.specs.Prelude.{Option, Some}
 use mathlib.Core.List.{List, ◌∷◌, ◌++◌, append_assoc}
 use native.Mathlib.Omega.{arith}
 use lib.ListN.{length, drop}
@@ -66,7 +66,7 @@ bare_due own e = rw e refl
 -- where the machine turns to behind the first term after a bracket
 abbrev after_first : List Entry → Purpose → ProofTerm Name → List ℕ → Option State
 after_first k p a s =
-    if_read (expect (utf8 ", ") s) (λ u t. some (reading (second p a ∷ k) t))
+    if_read (expect (utf8 ", ") s) (λ u t. Some (reading (second p a ∷ k) t))
     (and_then (expect (utf8 ")") s) λ u t. used k p (standing true a) t)
 
 module _ {z : Scene} {work : List ℕ} {s : Progress} {e : reader.Entry} where

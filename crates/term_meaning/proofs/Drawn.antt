@@ -2,7 +2,7 @@
 -- before. The law has what it asks.
 use Prim.Native.Nat.{ℕ, zero, suc, ◌<◌}
 use mathlib.Core.Path.{◌≡◌, refl}
-use mathlib.Core.Option.{some}
+use Rattle.std.specs.Prelude.{Some}
 use mathlib.Core.List.{[], ◌∷◌}
 use native.Mathlib.Omega.{arith}
 use lib.ListN.{get_or}
@@ -21,7 +21,7 @@ use Rattle.term_meaning.specs.Memory.{Memory, name_in, label_offset, meant_term,
 use Rattle.term_meaning.proofs.ReadTerm.{reads_by_place}
 
 abbrev drawn_term : ProofTerm Name
-drawn_term = Function (utf8 "x") (some (proposition True)) (TypeAscription (Ident (utf8 "x")) (proposition False))
+drawn_term = Function (utf8 "x") (Some (proposition True)) (TypeAscription (Ident (utf8 "x")) (proposition False))
 
 abbrev drawn_memory : Memory
 drawn_memory = record {

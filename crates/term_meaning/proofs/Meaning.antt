@@ -2,7 +2,7 @@
 use Prim.Native.Nat.{ℕ, ◌+◌, ◌-◌, ◌*◌, ◌/◌, ◌<◌}
 use mathlib.Core.Path.{◌≡◌, refl, sym, ap, ◌∙◌}
 use mathlib.Core.Bool.{true, false, true≢false}
-use mathlib.Core.Option.{Option, none, some}
+use Rattle.std.specs.Prelude.{Option, None, Some}
 use mathlib.Core.List.{List, [], ◌∷◌, ◌++◌}
 use native.Mathlib.Omega.{arith}
 use lib.ListN.{length, drop, length-append}
@@ -73,22 +73,22 @@ module _ (number : Name → ℕ) (records : List ℕ) (Fits : ℕ → Type 0) (t
 
   parameter : (to : ℕ) (l : Option (Label Name)) → AllFit to (parameter_labels l) → Parameter to l
   unfolding of_own_label has_label of_label parameter_label parameter_label_kind is_labelled rename_parameter_label parameter_label_number parameter_labels label_kind
-  parameter to none fit = record {
+  parameter to None fit = record {
     own = λ props n. refl;
     counts = λ props n. refl;
     means = refl;
     fits = λ h other. absurd (true≢false (sym h));
   }
-  parameter to (some (proposition p)) fit = record {
+  parameter to (Some (proposition p)) fit = record {
     own = λ props n. refl;
     counts = λ props n. refl;
-    means = ap some (label_means to (proposition p) fit);
+    means = ap Some (label_means to (proposition p) fit);
     fits = λ h other. label_fits to (proposition p) fit other;
   }
-  parameter to (some (datatype t)) fit = record {
+  parameter to (Some (datatype t)) fit = record {
     own = λ props n. refl;
     counts = λ props n. refl;
-    means = ap some (label_means to (datatype t) fit);
+    means = ap Some (label_means to (datatype t) fit);
     fits = λ h other. label_fits to (datatype t) fit other;
   }
 

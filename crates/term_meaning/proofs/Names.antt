@@ -4,7 +4,7 @@ use Prim.Native.Nat.{ℕ, ◌<◌}
 use mathlib.Core.Path.{◌≡◌, refl, ap}
 use mathlib.Core.Bool.{Bool, true, false, cond}
 use mathlib.Core.Logic.{⊎_elim}
-use mathlib.Core.Option.{Option, none, some}
+use Rattle.std.specs.Prelude.{Option, None, Some}
 use mathlib.Core.List.{List, [], ◌∷◌, ◌++◌, map}
 use native.Mathlib.Omega.{arith}
 use lib.ListN.{length-map}
@@ -38,8 +38,8 @@ module _ {Q : Name → Type 0} where
 
   of_parameter : (l : Option (Label Name)) → All Q (parameter_label_names l) → OfParameterLabel (λ l. All Q (label_names l)) Q l
   unfolding parameter_label_names OfParameterLabel
-  of_parameter none h = tt
-  of_parameter (some l) h = h
+  of_parameter None h = tt
+  of_parameter (Some l) h = h
 
   -- in the places of the term: its labels, and its names outside them
   pub each_name : (t : ProofTerm Name) → All Q (term_names t) → Each (λ l. All Q (label_names l)) Q t
@@ -69,8 +69,8 @@ module _ (P : Label Name → Type 0) (A : Name → Type 0) where
 
   the_parameter : {l : Label Name} (m : Option (Label Name)) → OfParameterLabel P A m → In l (parameter_labels m) → P l
   unfolding OfParameterLabel parameter_labels
-  the_parameter none h k = absurd (nothing_in k)
-  the_parameter (some m) h k = the_label h k
+  the_parameter None h k = absurd (nothing_in k)
+  the_parameter (Some m) h k = the_label h k
 
   pub of_text_label : (t : ProofTerm Name) {l : Label Name} → Each P A t → In l (text_labels t) → P l
   unfolding Each text_labels
@@ -103,8 +103,8 @@ module _ (number : Name → ℕ) (count : ℕ) where
   parameter_below : (l : Option (Label Name)) → OfParameterLabel (λ l. Below (label_names l)) (λ x. number x < count) l
       → ParameterLabelBelow count (rename_parameter_label number l)
   unfolding OfParameterLabel ParameterLabelBelow rename_parameter_label
-  parameter_below none h = tt
-  parameter_below (some l) h = label_below l h
+  parameter_below None h = tt
+  parameter_below (Some l) h = label_below l h
 
   each_below : (t : ProofTerm Name) → EachBelow t → NamesBelow count (rename_term number t)
   unfolding Each NamesBelow rename_term
@@ -182,8 +182,8 @@ module _ (number : Name → ℕ) (name : ℕ → Name) where
   parameter_label_back : (l : Option (Label Name)) → OfParameterLabel (λ l. Back (label_names l)) (λ x. name (number x) ≡ x) l
       → rename_parameter_label name (rename_parameter_label number l) ≡ l
   unfolding OfParameterLabel rename_parameter_label
-  parameter_label_back none h = refl
-  parameter_label_back (some l) h = ap some (label_back l h)
+  parameter_label_back None h = refl
+  parameter_label_back (Some l) h = ap Some (label_back l h)
 
   each_back : (t : ProofTerm Name) → EachBack t → rename_term name (rename_term number t) ≡ t
   unfolding Each rename_term

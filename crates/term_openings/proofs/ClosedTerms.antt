@@ -2,7 +2,7 @@
 use Prim.Native.Nat.{ℕ, ◌<◌, ◌≤◌}
 use mathlib.Core.Path.{◌≡◌, refl, sym, ap, ◌∙◌}
 use mathlib.Core.Bool.{true, false}
-use mathlib.Core.Option.{Option, none, some}
+use Rattle.std.specs.Prelude.{Option, None, Some}
 use mathlib.Core.List.{List, [], ◌∷◌, ◌++◌, append_assoc, append-nil}
 use native.Mathlib.Omega.{arith}
 use lib.ListN.{length, drop}
@@ -87,7 +87,7 @@ module _ {text : List ℕ} {at end : ℕ} (ends : WordEnds text at end) where
 
 -- what the machine does behind a bracket that opens
 unfoldable opening : List Entry → machine.Purpose → Prim.Unit {0} → List ℕ → Option State
-opening k p u t = if_read (expect (utf8 ")") t) (λ u v. used k p (standing false Unit) v) (some (reading (in_bracket p ∷ k) t))
+opening k p u t = if_read (expect (utf8 ")") t) (λ u v. used k p (standing false Unit) v) (Some (reading (in_bracket p ∷ k) t))
 
 -- the number of a name that was noted, and then others
 pub number_noted : (x : Name) (seen others now : List Name) (number : Name → ℕ) {n : ℕ} → now ≡ added (added seen (x ∷ [])) others
@@ -104,7 +104,7 @@ module _ {z : Scene} {work : List ℕ} {s : Progress} {q : Purpose} (c : Closed 
   placed_at end count from within = record { within = within; near = let n = c.for.placed.near in omega (arith, n, from) }
 
   pub name_place : {end : ℕ} → NameEnds z.text s.at end → end ≤ length z.text → NamePlace z.text s.at end
-  name_place ends within = record { short = c.for.comes.reached.short; some = ends.from within; few = ends.short within; within = within }
+  name_place ends within = record { short = c.for.comes.reached.short; Some = ends.from within; few = ends.short within; within = within }
 
   -- a name
   module _ {end : ℕ} {after : List ℕ} {n : Numbered} (ends : NameEnds z.text s.at end) (within : end ≤ length z.text)
@@ -166,7 +166,7 @@ module _ {z : Scene} {work : List ℕ} {s : Progress} {q : Purpose} (c : Closed 
     tally_is = tally_is;
   }
 
-  pub sorry_leaf : {end : ℕ} → name (drop s.at z.text) ≡ none → is_sorry (start_of (word (drop s.at z.text)).value) ≡ true
+  pub sorry_leaf : {end : ℕ} → name (drop s.at z.text) ≡ None → is_sorry (start_of (word (drop s.at z.text)).value) ≡ true
       → WordEnds z.text s.at end → Leaf z work (further s end s.count s.to) 13 0 q
   unfolding closed_for marks records_after kind_of term_nesting annotation_count
   sorry_leaf {end} no_name is ends =
@@ -207,6 +207,6 @@ module _ {z : Scene} {work : List ℕ} {s : Progress} {q : Purpose} (c : Closed 
         row_is = λ number e. let p = c.for.purpose_is in rw (p.kind, p.value, p.nest, p.tally) refl;
       }
 
-      pub bracket_enters : length z.text < end → Comes z.types z.text (some (reading (in_bracket c.purpose ∷ c.entries) (drop inside z.text)))
+      pub bracket_enters : length z.text < end → Comes z.types z.text (Some (reading (in_bracket c.purpose ∷ c.entries) (drop inside z.text)))
       unfolding opening
       bracket_enters h = reads_else (expect (utf8 ")") (drop inside z.text)) _ _ opened_comes (close.ends.fails h)

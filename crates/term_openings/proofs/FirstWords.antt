@@ -1,7 +1,7 @@
 -- What follows the first word of a term, piece by piece: the machine goes on to an entry or to a closed term, or there is no term.
 use Prim.Native.Nat.{ℕ, ◌+◌, ◌<◌, ◌≤◌}
 use mathlib.Core.Path.{◌≡◌, refl, sym, ap, ◌∙◌}
-use mathlib.Core.Option.{Option, some, none-ne-some, some-injective}
+use Rattle.std.specs.Prelude.{Option, Some}
 use mathlib.Core.List.{List, [], ◌∷◌, ◌++◌, append_assoc, append-nil}
 use native.Mathlib.Omega.{arith}
 use lib.ListN.{length, drop}
@@ -33,6 +33,8 @@ use Rattle.term_stack.proofs.Stores.{stored_as}
 use Rattle.term_openings.specs.Beginning.{Started, AtCall, Closed, NameThere, NameAfter}
 use Rattle.term_openings.proofs.Noting.{noting, stored_name, crowded_met, too_many_names}
 use Rattle.term_openings.proofs.ClosedTerms.{further, number_noted}
+use Rattle.std.proofs.lemmas.Option.{same_Some}
+use Rattle.std.proofs.lemmas.Option.{none-some}
 
 -- A case.
 module _ {z : Scene} {work : List ℕ} {s : Progress} {head : ℕ} (c : Started case_word z work s) (blank : Expected (utf8 " ") z.text s.at head) where
@@ -41,7 +43,7 @@ module _ {z : Scene} {work : List ℕ} {s : Progress} {head : ℕ} (c : Started 
   case_not h = ends_here (expect (utf8 " ") (drop s.at z.text)) _ c.comes (blank.ends.fails h)
 
   module _ (within : head ≤ length z.text) where
-    pub case_comes : Comes z.types z.text (some (reading (case_head ∷ c.entries) (drop head z.text)))
+    pub case_comes : Comes z.types z.text (Some (reading (case_head ∷ c.entries) (drop head z.text)))
     unfolding start
     case_comes = goes_on (expect (utf8 " ") (drop s.at z.text)) _ tt (drop head z.text) c.comes (blank.ends.gives within)
 
@@ -83,7 +85,7 @@ module _ {what text pairs after : List ℕ} {at count : ℕ} where
   pub bytes_not : {start : ℕ} {r : reader.NameRead} → Expected what text at start → length text < start → r.end ≡ start
       → NameAfter what text at pairs count after r
   bytes_not expected h e = record {
-    fails = λ l t x rest front there. absurd (none-ne-some _ (sym (expected.ends.fails h) ∙ front));
+    fails = λ l t x rest front there. absurd (none-some _ (sym (expected.ends.fails h) ∙ front));
     gives = λ l. absurd (omega (arith, h, e, l));
   }
 
@@ -94,7 +96,7 @@ module _ {what text pairs after : List ℕ} {at count : ℕ} where
       let place : start ≡ at + length what = expected.after h in
       record {
         fails = λ l t x rest before there.
-            let same : t ≡ drop start text = ap (λ (r : Read (Prim.Unit {0})). r.rest) (some-injective _ _ (sym before ∙ front)) in
+            let same : t ≡ drop start text = ap (λ (r : Read (Prim.Unit {0})). r.rest) (same_Some _ _ (sym before ∙ front)) in
             read.fails l (record { value = x; rest = rest }) (rw same at there);
         gives = λ l. record {
           value = between start r.end text;
@@ -138,7 +140,7 @@ entry_crowded {ms} st more others h k entry rest e =
 
 -- A let.
 unfoldable let_rest : List Entry → Name → Name → List ℕ → Option State
-let_rest k x y t = and_then (expect (utf8 ") = ") t) (λ u rest. some (reading (let_head x y ∷ k) rest))
+let_rest k x y t = and_then (expect (utf8 ") = ") t) (λ u rest. Some (reading (let_head x y ∷ k) rest))
 
 module _ {z : Scene} {work after : List ℕ} {s : Progress} {first : reader.NameRead} (c : Started let_word z work s)
     (one : NameAfter (utf8 " (") z.text s.at z.names s.count after first) where
@@ -185,7 +187,7 @@ module _ {z : Scene} {work after : List ℕ} {s : Progress} {first : reader.Name
       let_not h = ends_here (expect (utf8 ") = ") (drop second.end z.text)) _ second_comes (bracket.ends.fails h)
 
       module _ (there : head ≤ length z.text) where
-        pub let_comes : Comes z.types z.text (some (reading (let_head x y ∷ c.entries) (drop head z.text)))
+        pub let_comes : Comes z.types z.text (Some (reading (let_head x y ∷ c.entries) (drop head z.text)))
         unfolding let_rest
         let_comes = goes_on (expect (utf8 ") = ") (drop second.end z.text)) _ tt (drop head z.text) second_comes (bracket.ends.gives there)
 

@@ -2,7 +2,7 @@
 use Prim.Native.Nat.{ℕ, ◌<◌, ◌≤◌}
 use mathlib.Core.Path.{◌≡◌, refl, sym, ap, ◌∙◌}
 use mathlib.Core.Bool.{true, false, true≢false}
-use mathlib.Core.Option.{Option, none, some}
+use Rattle.std.specs.Prelude.{Option, None, Some}
 use mathlib.Core.List.{List, [], ◌∷◌, ◌++◌, append_assoc, append-nil}
 use native.Mathlib.Omega.{arith}
 use lib.ListN.{length, drop}
@@ -43,29 +43,29 @@ use Rattle.term_openings.proofs.StoredLabels.{label_unfit}
 
 label_nodes : (l : Option (Label Name)) → nodes_met (label_marks l) ≡ 0
 unfolding label_marks nodes_met
-label_nodes none = refl
-label_nodes (some l) = refl
+label_nodes None = refl
+label_nodes (Some l) = refl
 
 label_names_lem : (l : Option (Label Name)) → names_met (label_marks l) ≡ parameter_label_names l
 unfolding label_marks names_met parameter_label_names
-label_names_lem none = refl
-label_names_lem (some l) = append-nil (label_names l)
+label_names_lem None = refl
+label_names_lem (Some l) = append-nil (label_names l)
 
 label_marks_lem : (l : Option (Label Name)) → labels_met (label_marks l) ≡ parameter_labels l
 unfolding label_marks labels_met parameter_labels
-label_marks_lem none = refl
-label_marks_lem (some l) = refl
+label_marks_lem None = refl
+label_marks_lem (Some l) = refl
 
 marks_limited : (l : Option (Label Name)) → is_limited_parameter_label l ≡ true → limited_met (label_marks l) ≡ true
 unfolding label_marks limited_met is_limited_parameter_label
-marks_limited none h = refl
-marks_limited (some l) h = both h refl
+marks_limited None h = refl
+marks_limited (Some l) h = both h refl
 
 pub label_kinds : (l : Option (Label Name)) → parameter_label_kind l ≤ 2
 unfolding parameter_label_kind label_kind
-label_kinds none = omega arith
-label_kinds (some (proposition p)) = omega arith
-label_kinds (some (datatype t)) = omega arith
+label_kinds None = omega arith
+label_kinds (Some (proposition p)) = omega arith
+label_kinds (Some (datatype t)) = omega arith
 
 -- what is stored with it
 stored_label : {ms : List Mark} {records stack : (Name → ℕ) → List ℕ} {z : Scene} {work : List ℕ} {used depth count to at : ℕ} {types : List Name}
@@ -82,13 +82,13 @@ unfit_parameter : {ms : List Mark} {records stack : (Name → ℕ) → List ℕ}
     → Stored ms records stack z work used depth count to → (l : Option (Label Name)) → fits_parameter (table_names z.names z.text count) l ≡ false
     → (k : List Entry) (entry : Entry) (rest : List ℕ) → entries_marks (entry ∷ k) ≡ ms ++ label_marks l → Fits (reading (entry ∷ k) rest) → ⊥
 unfolding fits_parameter label_marks met
-unfit_parameter st none h k entry rest e = absurd (true≢false h)
-unfit_parameter {ms} st (some l) h k entry rest e =
+unfit_parameter st None h k entry rest e = absurd (true≢false h)
+unfit_parameter {ms} st (Some l) h k entry rest e =
     label_unfit st l h (reading (entry ∷ k) rest) (record { more = []; is = e ∙ sym (append-nil (ms ++ (labelled l ∷ []))) })
 
 -- what the machine does behind the parameter and behind its label
 unfoldable body_rest : List Entry → Name → Option (Label Name) → List ℕ → Option State
-body_rest k x l t = and_then (expect (utf8 " => ") t) (λ u rest. some (reading (function_body x l ∷ k) rest))
+body_rest k x l t = and_then (expect (utf8 " => ") t) (λ u rest. Some (reading (function_body x l ∷ k) rest))
 
 unfoldable label_rest : List Name → List Entry → Name → List ℕ → Option State
 label_rest types k x t = and_then (parameter_label types prop_levels t) (body_rest k x)
@@ -156,7 +156,7 @@ module _ {z : Scene} {work after : List ℕ} {s : Progress} {named : NameRead} (
         arrow_not h = ends_here (expect (utf8 " => ") (drop label.end z.text)) _ body_comes (arrow.ends.fails h)
 
         module _ (there : body ≤ length z.text) where
-          pub function_comes : Comes z.types z.text (some (reading (function_body x l ∷ c.entries) (drop body z.text)))
+          pub function_comes : Comes z.types z.text (Some (reading (function_body x l ∷ c.entries) (drop body z.text)))
           unfolding body_rest
           function_comes = goes_on (expect (utf8 " => ") (drop label.end z.text)) _ tt (drop body z.text) body_comes (arrow.ends.gives there)
 

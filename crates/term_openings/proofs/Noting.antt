@@ -3,7 +3,7 @@
 use Prim.Native.Nat.{ℕ, ◌+◌}
 use mathlib.Core.Path.{◌≡◌, refl, sym, ap, ◌∙◌}
 use mathlib.Core.Bool.{true}
-use mathlib.Core.Option.{Option, none, some}
+use Rattle.std.specs.Prelude.{Option, None, Some}
 use mathlib.Core.List.{List, [], ◌∷◌, ◌++◌}
 use native.Mathlib.Omega.{arith}
 use lib.ListN.{length}
@@ -88,5 +88,5 @@ too_many_names ms τ h b f =
 
 pub many_names : (ms : List Mark) (x : Option State) → Crowded [] (names_met ms) → Next (After ms) x → Next (λ τ. Fits τ → ⊥) x
 unfolding Next
-many_names ms none h b = tt
-many_names ms (some τ) h b = too_many_names ms τ h b
+many_names ms None h b = tt
+many_names ms (Some τ) h b = too_many_names ms τ h b

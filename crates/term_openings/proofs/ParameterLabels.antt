@@ -2,7 +2,7 @@
 use Prim.Native.Nat.{ℕ, ◌<◌, ◌≤◌}
 use mathlib.Core.Path.{◌≡◌, refl, ap}
 use mathlib.Core.Bool.{true, false}
-use mathlib.Core.Option.{Option, none, some, none-ne-some, some-injective}
+use Rattle.std.specs.Prelude.{Option, None, Some}
 use mathlib.Core.List.{List}
 use native.Mathlib.Omega.{arith}
 use lib.ListN.{length, drop}
@@ -21,14 +21,16 @@ use Rattle.prop_reader.specs.declared.LabelRead.{LabelRead}
 use Rattle.prop_reader.specs.Answer.{LabelBegins, LabelAnswer}
 use Rattle.term_openings.specs.Parameters.{fits_parameter, ParameterAnswer}
 use Rattle.term_openings.proofs.StoredLabels.{label_limited, label_kind_lem, label_to, label_small, label_number_lem, label_stored}
+use Rattle.std.proofs.lemmas.Option.{same_Some}
+use Rattle.std.proofs.lemmas.Option.{none-some}
 
 -- what is read behind the colon
 behind_colon : (m : Option (Read (Label Name))) (l : Option (Label Name)) (rest : List ℕ) (P : Option (Label Name) → Type 0)
-    → ((x : Read (Label Name)) → m ≡ some x → P (some x.value)) → followed_by m (λ l. yield (some l)) ≡ given l rest → P l
+    → ((x : Read (Label Name)) → m ≡ Some x → P (Some x.value)) → followed_by m (λ l. yield (Some l)) ≡ given l rest → P l
 unfolding followed_by yield
-behind_colon none l rest P h e = absurd (none-ne-some _ e)
-behind_colon (some x) l rest P h e =
-    let same : some x.value ≡ l = ap (λ (r : Read (Option (Label Name))). r.value) (some-injective _ _ e) in
+behind_colon None l rest P h e = absurd (none-some _ e)
+behind_colon (Some x) l rest P h e =
+    let same : Some x.value ≡ l = ap (λ (r : Read (Option (Label Name))). r.value) (same_Some _ _ e) in
     rw (← same) (h x refl)
 
 -- a label may begin behind the colon
@@ -49,7 +51,7 @@ module _ {text : List ℕ} {at : ℕ} {types : List Name} {pairs : List ℕ} {co
   no_label h = record {
     fails = λ l. absurd (omega (arith, l, begins.within));
     gives = λ l. record {
-      value = none;
+      value = None;
       holds = record {
         reads = rw (colon.ends.fails h);
         limited = refl;
@@ -79,9 +81,9 @@ module _ {text : List ℕ} {at : ℕ} {types : List Name} {pairs : List ℕ} {co
           let f = g.from in
           let n = g.near in
           record {
-            value = some l;
+            value = Some l;
             holds = record {
-              reads = rw (colon.ends.gives there) (ap (λ m. followed_by m (λ l. yield (some l))) g.reads);
+              reads = rw (colon.ends.gives there) (ap (λ m. followed_by m (λ l. yield (Some l))) g.reads);
               limited = label_limited g;
               noted = g.noted;
               kind_is = label_kind_lem g;

@@ -1,6 +1,5 @@
 -- What is known where a term begins: a closed term that is read for a purpose, and what follows the first word.
-use Rattle.std.specs.Prelude.{ℕ, ◌+◌, ◌<◌, ◌≤◌, ◌≡◌, false, List, [], ◌∷◌, ◌++◌, length, drop}
-use Rattle.std.proofs.Math.Option.{none}
+use Rattle.std.specs.Prelude.{ℕ, ◌+◌, ◌<◌, ◌≤◌, ◌≡◌, false, List, [], ◌∷◌, ◌++◌, length, drop, None}
 use Rattle.definitions.specs.Name.{Name}
 use Rattle.definitions.specs.Sheet.{name_limit}
 use Rattle.definitions.specs.Term.{NamedFunction}
@@ -39,7 +38,7 @@ AtClosed q z work s = Closed z work s q
 
 -- neither a name nor sorry stands there
 pub record Wordless (text : List ℕ) (at : ℕ) : Type 0 where
-  pub no_name : name (drop at text) ≡ none
+  pub no_name : name (drop at text) ≡ None
   pub no_sorry : is_sorry (start_of (word (drop at text)).value) ≡ false
 
 -- the first word of a term is read, and the machine goes on behind it

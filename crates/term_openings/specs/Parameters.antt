@@ -1,6 +1,5 @@
 -- The label of a function's parameter, if one follows its name.
-use Rattle.std.specs.Prelude.{ℕ, ◌+◌, ◌*◌, ◌<◌, ◌≤◌, ◌≡◌, Bool, true, false, List, length, drop}
-use Rattle.std.proofs.Math.Option.{Option, none, some}
+use Rattle.std.specs.Prelude.{ℕ, ◌+◌, ◌*◌, ◌<◌, ◌≤◌, ◌≡◌, Bool, true, false, List, length, drop, Option, None, Some}
 use Rattle.definitions.specs.Name.{Name}
 use Rattle.definitions.specs.Term.{Label}
 use Rattle.definitions.specs.TermText.{parameter_label_names}
@@ -13,8 +12,8 @@ use Rattle.prop_reader.specs.Limits.{fits_label}
 use Rattle.term_stack.specs.Standing.{Some, Extends}
 
 unfoldable pub fits_parameter : List Name → Option (Label Name) → Bool
-fits_parameter seen none = true
-fits_parameter seen (some l) = fits_label seen l
+fits_parameter seen None = true
+fits_parameter seen (Some l) = fits_label seen l
 
 -- the label that was read, or none, and what became of the names and the code
 pub record ParameterGiven

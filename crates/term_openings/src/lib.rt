@@ -1,8 +1,7 @@
 // What a turn of the reader of terms does before a term: a word, a name, a bracket that opens.
 #![tactic(auto)]
 
-ghost use Rattle.std.specs.Prelude.{◌≡◌, ◌≤◌, length};
-ghost use Rattle.std.proofs.Math.Option.{Option};
+ghost use Rattle.std.specs.Prelude.{◌≡◌, ◌≤◌, length, Option};
 ghost use Rattle.definitions.specs.CallerNames.{names_in};
 ghost use Rattle.definitions.specs.Name.{Name};
 ghost use Rattle.definitions.specs.Term.{Label, NamedFunction, is_labelled};
@@ -19,15 +18,10 @@ ghost use Rattle.term_openings.specs.Beginning.{AtClosed, Wordless, Started, AtC
 ghost use Rattle.term_openings.specs.Parameters.{ParameterAnswer};
 
 use identifier::same_name;
-use proof_term::{
-    ABORT, IDENT, NO_LABEL, OR_LEFT, OR_RIGHT, PROJECT_FST, PROJECT_SND, SORRY, UNIT,
-};
+use proof_term::{ABORT, IDENT, NO_LABEL, OR_LEFT, OR_RIGHT, PROJECT_FST, PROJECT_SND, SORRY, UNIT};
 use prop_parts::{NameRead, read_name};
 use prop_reader::{LabelRead, read_label};
-use term_stack::{
-    AS_BODY, AS_HEAD, CASE_HEAD, FUNCTION_BODY, LET_HEAD, Progress, Purpose, Row, enter, refused,
-    use_leaf,
-};
+use term_stack::{AS_BODY, AS_HEAD, CASE_HEAD, FUNCTION_BODY, LET_HEAD, Progress, Purpose, Row, enter, refused, use_leaf};
 use words::{NAME_LIMIT, Start, expect, name_end, number_of_name, start_of, word_end};
 
 // A name as a closed term, from `s.at` to `end`, read for a purpose.

@@ -26,10 +26,11 @@ use Rattle.words.specs.Table.{slot_size, slot_offset, table_size}
 use Rattle.term_stack.specs.declared.Progress.{Progress}
 use Rattle.term_stack.specs.Standing.{Scene}
 use Rattle.term_stack.specs.Turning.{scene_of}
-use Rattle.term_reader.specs.declared.TermRead.{TermRead}
-use Rattle.term_reader.specs.declared.TermRead.TheVariants.{Accepted, Refused}
+use Rattle.std.specs.Prelude.{Result, Ok, Err, ℕ}
 use Rattle.term_reader.specs.Whole.{WholeTerm, CountsOf, Read}
 use Rattle.term_reader.specs.Answered.{size_of, answer_of, records_by, code_by, PairsOf, NamesBy, Answers, Copyable, short_for, Fitting, room_of, ReadsTerm, RestoresTerm}
+use Rattle.term_reader.specs.declared.TermSize.{TermSize}
+use Rattle.definitions.specs.declared.Refusal.{Refusal}
 
 -- The definitions' answer, step by step.
 module _ (room : TermRoom) (types : List Name) (text : List ℕ) where
@@ -48,7 +49,7 @@ module _ (room : TermRoom) (types : List Name) (text : List ℕ) where
 
 -- a refusal leaves all as it was
 pub refused_all : {o : Outcome (ProofTerm Name)} {number : ℕ} (text records names code : List ℕ) → o ≡ refuse number 0
-    → Answers o text records names code records names code (Refused (record { number = number; place = 0 }))
+    → Answers o text records names code records names code (Err (record { number = number; place = 0 }))
 unfolding refuse answer_of records_by code_by NamesBy
 refused_all text records names code e = rw e (record { answer = refl; records_are = refl; names_are = refl; code_is = refl })
 
@@ -130,7 +131,7 @@ pub handed : {t : ProofTerm Name} {list text pairs work records names code : Lis
     → WholeTerm t (scene_of list text pairs' code code') work'
     → records' ≡ paste records 0 work' (7 * s.used) → names' ≡ sets names 0 (take (4 * s.count) pairs')
     → Answers (accepted t) text records names code records' names' code'
-    (Accepted (record { nodes = s.used; names = s.count; code = s.to; labels = s.tally }))
+    (Ok (record { nodes = s.used; names = s.count; code = s.to; labels = s.tally }))
 unfolding answer_of size_of code_by NamesBy scene_of
 handed {t} {records = records} {names = names} {code = code} {s = s} fitting pairs' code' {work'} whole copied stored =
     let counts = fitting.counts in
@@ -179,7 +180,7 @@ unfolding read_answer
 unlisted_refused types text e = rw (e, and-false (leb (length text) term_text_limit))
 
 -- the ticket's sentence, of every answer
-pub restores : (list text records names code : List ℕ) {records' names' code' : List ℕ} {r : TermRead}
+pub restores : (list text records names code : List ℕ) {records' names' code' : List ℕ} {r : Result TermSize Refusal}
     → ReadsTerm list text records names code records' names' code' r → RestoresTerm list text records names code records' names' code' r
 unfolding RestoresTerm Restores
 restores list text records names code answers s t bytes exports shown short listed restorable enough =
@@ -189,11 +190,11 @@ restores list text records names code answers s t bytes exports shown short list
     rw (answers_term (room_of records names code) types text read enough) at answers
 
 -- and where there is no term
-pub no_term : (list text records names code : List ℕ) {r : TermRead} → read_answer (names_in list) text ≡ refuse 20 0
-    → r ≡ Refused (record { number = 20; place = 0 })
+pub no_term : (list text records names code : List ℕ) {r : Result TermSize Refusal} → read_answer (names_in list) text ≡ refuse 20 0
+    → r ≡ Err (record { number = 20; place = 0 })
     → ReadsTerm list text records names code records names code r × RestoresTerm list text records names code records names code r
 no_term list text records names code none e =
     let lent = room_of records names code in
-    let answers : ReadsTerm list text records names code records names code (Refused (record { number = 20; place = 0 })) =
+    let answers : ReadsTerm list text records names code records names code (Err (record { number = 20; place = 0 })) =
     refused_all text records names code (answers_20 lent (names_in list) text none) in
     rw e (answers, restores list text records names code answers)

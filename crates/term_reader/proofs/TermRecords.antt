@@ -1,7 +1,7 @@
 -- The records of a term that is read after these marks are those of the definitions, behind as many records and bytes of code.
 use Prim.Native.Nat.{ℕ, ◌+◌, ◌-◌}
 use mathlib.Core.Path.{◌≡◌, refl, ap, ◌∙◌}
-use mathlib.Core.Option.{Option, none, some}
+use Rattle.std.specs.Prelude.{Option, None, Some}
 use mathlib.Core.List.{List, [], ◌∷◌, ◌++◌, append_assoc, append-nil}
 use native.Mathlib.Omega.{arith}
 use Rattle.definitions.specs.Name.{Name}
@@ -17,8 +17,8 @@ use Rattle.term_stack.proofs.Marked.{labels_both, code_both, code_called}
 
 labels_of : (l : Option (Label Name)) → labels_met (label_marks l) ≡ parameter_labels l
 unfolding labels_met label_marks parameter_labels
-labels_of none = refl
-labels_of (some l) = refl
+labels_of None = refl
+labels_of (Some l) = refl
 
 labels_node : (ms : List Mark) → labels_met (ms ++ (node ∷ [])) ≡ labels_met ms
 unfolding labels_met
@@ -75,8 +75,8 @@ two_code ms x y = code_both ms (called x ∷ called y ∷ []) ∙ omega arith
 
 nodes_of : (l : Option (Label Name)) → nodes_met (label_marks l) ≡ 0
 unfolding nodes_met label_marks
-nodes_of none = refl
-nodes_of (some l) = refl
+nodes_of None = refl
+nodes_of (Some l) = refl
 
 nodes_parameter : (ms : List Mark) (x : Name) (l : Option (Label Name)) → nodes_met (ms ++ (called x ∷ label_marks l)) ≡ nodes_met ms
 unfolding nodes_met

@@ -1,5 +1,5 @@
 -- What is answered of a text, and what becomes of every number and byte of the lent memory.
-use Rattle.std.specs.Prelude.{ℕ, ◌*◌, ◌<◌, ◌≤◌, ◌≡◌, Bool, true, false, ◌||◌, List, [], ◌++◌, length, get_or, drop, ltb}
+use Rattle.std.specs.Prelude.{ℕ, ◌*◌, ◌<◌, ◌≤◌, ◌≡◌, Bool, true, false, ◌||◌, List, [], ◌++◌, length, get_or, drop, ltb, Result, Ok, Err}
 use Rattle.definitions.specs.declared.Style.TheVariants.{Strict}
 use Rattle.definitions.specs.Outcome.{Outcome, accepted, refused}
 use Rattle.definitions.specs.Name.{Name}
@@ -15,15 +15,14 @@ use Rattle.term_stack.specs.declared.Progress.{Progress}
 use Rattle.term_stack.specs.Standing.{Some}
 use Rattle.term_reader.specs.Whole.{CountsOf, Measured}
 use Rattle.term_reader.specs.declared.TermSize.{TermSize}
-use Rattle.term_reader.specs.declared.TermRead.{TermRead}
-use Rattle.term_reader.specs.declared.TermRead.TheVariants.{Accepted, Refused}
+use Rattle.definitions.specs.declared.Refusal.{Refusal}
 
 unfoldable pub size_of : ProofTerm Name → TermSize
 size_of t = record { nodes = nodes t; names = length (different_names t); code = labels_size (text_labels t); labels = annotation_count t }
 
-unfoldable pub answer_of : Outcome (ProofTerm Name) → TermRead
-answer_of (accepted t) = Accepted (size_of t)
-answer_of (refused r) = Refused r
+unfoldable pub answer_of : Outcome (ProofTerm Name) → Result TermSize Refusal
+answer_of (accepted t) = Ok (size_of t)
+answer_of (refused r) = Err r
 
 -- the records stand at the start
 unfoldable pub records_by : Outcome (ProofTerm Name) → List ℕ → List ℕ
@@ -45,7 +44,7 @@ unfoldable pub NamesBy : Outcome (ProofTerm Name) → List ℕ → List ℕ → 
 NamesBy (accepted t) text before after = PairsOf (different_names t) text before after
 NamesBy (refused r) text before after = after ≡ before
 
-pub record Answers (outcome : Outcome (ProofTerm Name)) (text records names code records' names' code' : List ℕ) (r : TermRead) : Type 0 where
+pub record Answers (outcome : Outcome (ProofTerm Name)) (text records names code records' names' code' : List ℕ) (r : Result TermSize Refusal) : Type 0 where
   pub answer : r ≡ answer_of outcome
   pub records_are : records' ≡ records_by outcome records
   pub names_are : NamesBy outcome text names names'
@@ -72,7 +71,7 @@ HasRoom list text pairs work records names code s =
 
 -- and then it is handed over
 unfoldable pub HandsOver
-    : List ℕ → List ℕ → List ℕ → List ℕ → List ℕ → List ℕ → List ℕ → Progress → List ℕ → List ℕ → List ℕ → TermRead → Type 0
+    : List ℕ → List ℕ → List ℕ → List ℕ → List ℕ → List ℕ → List ℕ → Progress → List ℕ → List ℕ → List ℕ → Result TermSize Refusal → Type 0
 HandsOver list text pairs work records names code s records' names' code' r =
     (t : ProofTerm Name) → Fitting t list text pairs work records names code s
     → Answers (accepted t) text records names code records' names' code' r
@@ -81,13 +80,13 @@ unfoldable pub room_of : List ℕ → List ℕ → List ℕ → TermRoom
 room_of records names code = record { records = length records; names = length names; code = length code }
 
 -- the answer of the definitions, in the lent memory
-abbrev pub ReadsTerm : List ℕ → List ℕ → List ℕ → List ℕ → List ℕ → List ℕ → List ℕ → List ℕ → TermRead → Type 0
+abbrev pub ReadsTerm : List ℕ → List ℕ → List ℕ → List ℕ → List ℕ → List ℕ → List ℕ → List ℕ → Result TermSize Refusal → Type 0
 ReadsTerm list text records names code records' names' code' r =
     Answers (term_answer (room_of records names code) (names_in list) text) text records names code records' names' code' r
 
 -- Given room, the strict text of a sheet's term, no longer than is read, is read as that term with its ids set to 0, provided that the
 -- listed names are admitted and the term is restorable.
-unfoldable pub RestoresTerm : List ℕ → List ℕ → List ℕ → List ℕ → List ℕ → List ℕ → List ℕ → List ℕ → TermRead → Type 0
+unfoldable pub RestoresTerm : List ℕ → List ℕ → List ℕ → List ℕ → List ℕ → List ℕ → List ℕ → List ℕ → Result TermSize Refusal → Type 0
 RestoresTerm list text records names code records' names' code' r =
     (s : List ℕ) (t : ProofTerm Name) → Bytes s → named_term s ≡ accepted t → display_term Strict t ≡ text → length text ≤ term_text_limit
     → all_admitted (names_in list) ≡ true → Restorable (names_in list) t → too_short (room_of records names code) (without_ids t) ≡ false

@@ -107,13 +107,6 @@ pub struct TermSize {
     pub labels: usize,
 }
 
-// The term that was read stands in the lent memory, or why none does.
-#[derive(Drop)]
-pub enum TermRead {
-    Accepted(TermSize),
-    Refused(Refusal),
-}
-
 // Whether a room is too short for the records, the names or the code.
 fn too_short(records: usize, names: usize, code: usize, s: Progress) -> bool
     requires { (s.used ≤ 2048) × (s.count ≤ 512) }
@@ -197,7 +190,7 @@ fn hand_over(
     names: &mut [u8],
     code: &mut [u8],
     s: Progress,
-) -> TermRead
+) -> Result<TermSize, Refusal>
     requires { HasRoom types.now text.now pairs.old work.old records.old names.old code.old s }
     ensures { HandsOver types.now text.now pairs.old work.old
         records.old names.old code.old s
@@ -205,7 +198,7 @@ fn hand_over(
 {
     store_code(text, types, pairs, code, work, s.to);
     copy_out(records, names, work, pairs, s);
-    TermRead::Accepted(TermSize {
+    Ok(TermSize {
         nodes: s.used,
         names: s.count,
         code: s.to,
@@ -220,7 +213,7 @@ fn read_admitted(
     records: &mut [u16],
     names: &mut [u8],
     code: &mut [u8],
-) -> TermRead
+) -> Result<TermSize, Refusal>
     requires { (length text.now ≤ term_text_limit) × (all_admitted (names_in types.now) ≡ true) }
     ensures { ReadsTerm types.now text.now
         records.old names.old code.old
@@ -230,16 +223,16 @@ fn read_admitted(
     let mut pairs = [0u8; TABLE_SIZE];
     let s = measure(text, types, &mut pairs, &mut work);
     if s.mode == REFUSED {
-        return TermRead::Refused(Refusal::at(20, 0));
+        return Err(Refusal::at(20, 0));
     }
     if too_short(records.len(), names.len(), code.len(), s) {
-        return TermRead::Refused(Refusal::at(16, 0));
+        return Err(Refusal::at(16, 0));
     }
     hand_over(text, types, &mut pairs, &mut work, records, names, code, s)
 }
 
 // How large the term of a text is that is short enough, with an admitted list, or 20.
-fn size_admitted(text: &[u8], types: &[u8]) -> TermRead
+fn size_admitted(text: &[u8], types: &[u8]) -> Result<TermSize, Refusal>
     requires { (length text.now ≤ term_text_limit) × (all_admitted (names_in types.now) ≡ true) }
     ensures { result ≡ answer_of (read_answer (names_in types.now) text.now) }
 {
@@ -247,9 +240,9 @@ fn size_admitted(text: &[u8], types: &[u8]) -> TermRead
     let mut pairs = [0u8; TABLE_SIZE];
     let s = measure(text, types, &mut pairs, &mut work);
     if s.mode == term_stack::REFUSED {
-        return TermRead::Refused(Refusal::at(20, 0));
+        return Err(Refusal::at(20, 0));
     }
-    TermRead::Accepted(TermSize {
+    Ok(TermSize {
         nodes: s.used,
         names: s.count,
         code: s.to,
@@ -258,14 +251,14 @@ fn size_admitted(text: &[u8], types: &[u8]) -> TermRead
 }
 
 // How large the term is whose strict text these bytes are, or 20: what `read_term` answers given room.
-pub fn term_size(text: &[u8], types: &[u8]) -> TermRead
+pub fn term_size(text: &[u8], types: &[u8]) -> Result<TermSize, Refusal>
     ensures { result ≡ answer_of (read_answer (names_in types.now) text.now) }
 {
     if TEXT_LIMIT < text.len() {
-        return TermRead::Refused(Refusal::at(20, 0));
+        return Err(Refusal::at(20, 0));
     }
     if !all_admitted(types) {
-        return TermRead::Refused(Refusal::at(20, 0));
+        return Err(Refusal::at(20, 0));
     }
     size_admitted(text, types)
 }
@@ -279,7 +272,7 @@ pub fn read_term(
     records: &mut [u16],
     names: &mut [u8],
     code: &mut [u8],
-) -> TermRead
+) -> Result<TermSize, Refusal>
     ensures reads_term { ReadsTerm types.now text.now
         records.old names.old code.old
         records.new names.new code.new result }
@@ -288,10 +281,10 @@ pub fn read_term(
         records.new names.new code.new result }
 {
     if TEXT_LIMIT < text.len() {
-        return TermRead::Refused(Refusal::at(20, 0));
+        return Err(Refusal::at(20, 0));
     }
     if !all_admitted(types) {
-        return TermRead::Refused(Refusal::at(20, 0));
+        return Err(Refusal::at(20, 0));
     }
     read_admitted(text, types, records, names, code)
 }

@@ -3,7 +3,7 @@ use Prim.Native.Nat.{ℕ, zero, suc, ◌≤◌, ◌<◌}
 use mathlib.Core.Path.{◌≡◌, refl, sym, ap, ◌∙◌, fun_ext}
 use mathlib.Core.Logic.{◌⊎◌, inl, inr, by_cases}
 use mathlib.Core.Bool.{Bool, true, false, cond}
-use mathlib.Core.Option.{none, some}
+use Rattle.std.specs.Prelude.{None, Some}
 use mathlib.Core.List.{List}
 use native.Mathlib.Omega.{arith}
 use native.Mathlib.Decide.{dec_lt}
@@ -41,10 +41,10 @@ module _ (f : ℕ → ℕ) where
     parameter_over h = go (eqb label 0) refl
       where
         go : (b : Bool) → eqb label 0 ≡ b
-            → cond b none (some (label_of renamed label (cond (eqb label 2) (f number) number)))
-            ≡ rename_parameter_label f (cond b none (some (label_of props label number)))
+            → cond b None (Some (label_of renamed label (cond (eqb label 2) (f number) number)))
+            ≡ rename_parameter_label f (cond b None (Some (label_of props label number)))
         go true e = refl
-        go false e = ap some (label_over (h (eqb-false label 0 e)))
+        go false e = ap Some (label_over (h (eqb-false label 0 e)))
 
   -- a record of each kind makes of its parts over other names what it made of them, over other names
   module _ (props renamed : ℕ → Prop ℕ) (part : ℕ → ProofTerm ℕ) (a b c d e : ℕ) where

@@ -2,7 +2,7 @@
 use Prim.Native.Nat.{ℕ, ◌+◌, ◌-◌, ◌*◌, max, ◌<◌, ◌≤◌}
 use mathlib.Core.Path.{◌≡◌, refl, sym, ap, ◌∙◌}
 use mathlib.Core.Bool.{Bool, true, false, true≢false}
-use mathlib.Core.Option.{Option, none, some}
+use Rattle.std.specs.Prelude.{Option, None, Some}
 use mathlib.Core.List.{List, [], ◌∷◌, ◌++◌, append_assoc}
 use native.Mathlib.Omega.{arith}
 use lib.ListN.{length, get_or, drop}
@@ -80,8 +80,8 @@ entry_few : (number : Name → ℕ) (ms : List Mark) (e : Entry) → get_or (ent
 unfolding entry_numbers entry_marks nodes_met seven is_labelled
 entry_few number ms (in_bracket p) = let l = purpose_few p in omega (arith, l)
 entry_few number ms (second p a) = let l = few_labels a in let n = nodes_met_lem a in let m = nodes_both (purpose_marks p) (marks a) in omega (arith, l, n, m)
-entry_few number ms (function_body x none) = omega arith
-entry_few number ms (function_body x (some l)) = omega arith
+entry_few number ms (function_body x None) = omega arith
+entry_few number ms (function_body x (Some l)) = omega arith
 entry_few number ms case_head = omega arith
 entry_few number ms (case_first a x) = let l = few_labels a in let n = nodes_met_lem a in let m = nodes_both (marks a) (called x ∷ []) in omega (arith, l, n, m)
 entry_few number ms (case_second a x b y) =

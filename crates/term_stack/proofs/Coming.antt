@@ -2,7 +2,7 @@
 use Prim.Native.Nat.{ℕ, ◌+◌, ◌*◌, ◌<◌, ◌≤◌}
 use mathlib.Core.Path.{◌≡◌, refl, sym, ap, ◌∙◌}
 use mathlib.Core.Bool.{Bool, true, false}
-use mathlib.Core.Option.{Option, none, some}
+use Rattle.std.specs.Prelude.{Option, None, Some}
 use mathlib.Core.List.{List, [], ◌∷◌, ◌++◌}
 use native.Mathlib.Omega.{arith}
 use Rattle.definitions.specs.Outcome.{refuse}
@@ -21,11 +21,11 @@ module _ {types : List Name} {text : List ℕ} where
   comes_as c e = record { from = c.from; reached = c.reached; turns = c.turns ∙ ap onward e }
 
   -- the next state is reached
-  pub arrives : {τ : State} → Comes types text (some τ) → Reached types text τ
+  pub arrives : {τ : State} → Comes types text (Some τ) → Reached types text τ
   arrives c = reached_next types text c.reached c.turns
 
   -- there is no next state
-  pub fails : {x : Option State} → Comes types text x → x ≡ none → read_answer types text ≡ refuse 20 0
+  pub fails : {x : Option State} → Comes types text x → x ≡ None → read_answer types text ≡ refuse 20 0
   fails c e = stuck_refused types text c.reached (c.turns ∙ ap onward e)
 
   -- no next state is within the limits
@@ -40,7 +40,7 @@ module _ {types : List Name} {text : List ℕ} where
     unfolding and_then
     goes_on r next a rest c e = comes_as c (rw e)
 
-    pub ends_here : (r : Option (Read A)) (next : A → List ℕ → Option State) → Comes types text (and_then r next) → r ≡ none → read_answer types text ≡ refuse 20 0
+    pub ends_here : (r : Option (Read A)) (next : A → List ℕ → Option State) → Comes types text (and_then r next) → r ≡ None → read_answer types text ≡ refuse 20 0
     unfolding and_then
     ends_here r next c e = fails c (rw e)
 
@@ -50,7 +50,7 @@ module _ {types : List Name} {text : List ℕ} where
     reads_on r then else a rest c e = comes_as c (rw e)
 
     pub reads_else : (r : Option (Read A)) (then : A → List ℕ → Option State) (else : Option State) → Comes types text (if_read r then else)
-        → r ≡ none → Comes types text else
+        → r ≡ None → Comes types text else
     unfolding if_read
     reads_else r then else c e = comes_as c (rw e)
 

@@ -2,7 +2,7 @@
 use Prim.Native.Nat.{ℕ, ◌+◌, ◌-◌, ◌*◌, ◌<◌, ◌≤◌}
 use mathlib.Core.Path.{◌≡◌, refl, sym, ap, ◌∙◌}
 use mathlib.Core.Bool.{Bool, true, false}
-use mathlib.Core.Option.{some}
+use Rattle.std.specs.Prelude.{Some}
 use mathlib.Core.List.{List, [], ◌∷◌, ◌++◌}
 use native.Mathlib.Omega.{arith}
 use lib.ListN.{length, get_or, drop}
@@ -63,7 +63,7 @@ module _ {k : List Entry} {t : ProofTerm Name} {z : Scene} {work after : List �
       omega (arith, n, m, u, w, h)
   too_large (nesting h) f = let n = g.nest_is in let w = f.shallow in omega (arith, n, w, h)
 
-  module _ (comes : Comes z.types z.text (some (holding k (standing false t) (drop s.at z.text)))) where
+  module _ (comes : Comes z.types z.text (Some (holding k (standing false t) (drop s.at z.text)))) where
     behind : MadeOf s row nest tally work after r → Behind holding k (standing false t) z after r
     unfolding standing row_numbers seven
     behind m = rw (m.is, m.stored) (record {

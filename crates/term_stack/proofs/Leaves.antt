@@ -2,7 +2,7 @@
 use Prim.Native.Nat.{ℕ, ◌+◌, ◌-◌, ◌*◌, ◌<◌, ◌≤◌}
 use mathlib.Core.Path.{◌≡◌, refl, sym, ap, ◌∙◌}
 use mathlib.Core.Bool.{false}
-use mathlib.Core.Option.{Option, none, some}
+use Rattle.std.specs.Prelude.{Option, None, Some}
 use mathlib.Core.List.{List, [], ◌∷◌, ◌++◌, append_assoc}
 use native.Mathlib.Omega.{arith}
 use lib.ListN.{length, drop}
@@ -28,8 +28,8 @@ use Rattle.term_stack.proofs.Coming.{unfit}
 -- where too many nodes were met, nothing that goes on from there is within the limits
 pub many_nodes : (ms : List Mark) (x : Option State) → node_limit < nodes_met ms → Next (After ms) x → Next (λ τ. Fits τ → ⊥) x
 unfolding Next
-many_nodes ms none h b = tt
-many_nodes ms (some τ) h b = λ f. let n = ap nodes_met b.is ∙ nodes_both ms b.more in let w = f.few_nodes in omega (arith, n, w, h)
+many_nodes ms None h b = tt
+many_nodes ms (Some τ) h b = λ f. let n = ap nodes_met b.is ∙ nodes_both ms b.more in let w = f.few_nodes in omega (arith, n, w, h)
 
 module _ {z : Scene} {work after : List ℕ} {s r : Progress} {kind a : ℕ} {q : Purpose} (l : Leaf z work s kind a q)
     (makes : Makes s (record { kind = kind; a = a; b = 0; c = 0; d = 0; e = 0 }) 1 0 work after r) where

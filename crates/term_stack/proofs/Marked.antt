@@ -2,7 +2,7 @@
 use Prim.Native.Nat.{ℕ, ◌+◌, ◌*◌, ◌/◌, ◌%◌, ◌≤◌}
 use mathlib.Core.Path.{◌≡◌, refl, sym, ap, ◌∙◌}
 use mathlib.Core.Bool.{true}
-use mathlib.Core.Option.{Option, none, some}
+use Rattle.std.specs.Prelude.{Option, None, Some}
 use mathlib.Core.List.{List, [], ◌∷◌, ◌++◌, append_assoc, append-nil}
 use native.Mathlib.Omega.{arith}
 use Rattle.definitions.specs.Name.{Name, eq_name}
@@ -71,8 +71,8 @@ extends_itself seen x e = refl
 
 label_once : (l : Option (Label Name)) → is_labelled l ≤ 1
 unfolding is_labelled
-label_once none = omega arith
-label_once (some l) = omega arith
+label_once None = omega arith
+label_once (Some l) = omega arith
 
 -- a term has no more labels than nodes, and one node at least
 pub few_labels : (t : ProofTerm Name) → annotation_count t + 1 ≤ 2 * nodes t

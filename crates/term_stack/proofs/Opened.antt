@@ -1,7 +1,7 @@
 -- An entry is put on the stack: the machine is before a term then, or there is no term within the limits.
 use Prim.Native.Nat.{ℕ, ◌+◌, ◌-◌, ◌*◌, ◌<◌, ◌≤◌}
 use mathlib.Core.Path.{◌≡◌, refl, sym, ap, ◌∙◌}
-use mathlib.Core.Option.{some}
+use Rattle.std.specs.Prelude.{Some}
 use mathlib.Core.List.{List, [], ◌∷◌, ◌++◌}
 use native.Mathlib.Omega.{arith}
 use lib.ListN.{length, drop}
@@ -35,7 +35,7 @@ pub record Opens (k : List Entry) (entry : Entry) (z : Scene) (work : List ℕ) 
 
 module _ {k : List Entry} {entry : Entry} {z : Scene} {work after : List ℕ} {s r : Progress} {row : Row} {tally : ℕ}
     (o : Opens k entry z work s row tally) (enters : Enters s row tally work after r)
-    (comes : Comes z.types z.text (some (reading (entry ∷ k) (drop s.at z.text)))) where
+    (comes : Comes z.types z.text (Some (reading (entry ∷ k) (drop s.at z.text)))) where
   too_deep : {rest : List ℕ} → 767 ≤ s.depth → Fits (reading (entry ∷ k) rest) → ⊥
   unfolding entries
   too_deep h f = let w = f.few_entries in let d = o.deep in omega (arith, w, d, h)

@@ -1,6 +1,5 @@
 -- A turn of the machine: what is known within it, and where it ends.
-use Rattle.std.specs.Prelude.{ℕ, ◌+◌, ◌-◌, ◌*◌, ◌<◌, ◌≤◌, ◌≡◌, Bool, false, ◌||◌, List, [], ◌∷◌, ◌++◌, length, drop, eqb}
-use Rattle.std.proofs.Math.Option.{Option}
+use Rattle.std.specs.Prelude.{ℕ, ◌+◌, ◌-◌, ◌*◌, ◌<◌, ◌≤◌, ◌≡◌, Bool, false, ◌||◌, List, [], ◌∷◌, ◌++◌, length, drop, eqb, Option}
 use Rattle.definitions.specs.Outcome.{refuse}
 use Rattle.definitions.specs.Name.{Name}
 use Rattle.definitions.specs.Term.{ProofTerm, annotation_count}

@@ -19,7 +19,7 @@ use Rattle.definitions.specs.Term.{ProofTerm, atom_list, datatype_list}
 use Rattle.definitions.specs.Display.{display_term}
 use Rattle.definitions.specs.Text.{firsts, eq_atom_use, compare_atom_use, arranged, declarations, first_list, second_list, heading, text}
 use Rattle.definitions.specs.Answers.{is_in_room, sheet_term, named_term, goal_prop, sheet_text}
-use Rattle.output.specs.declared.Written.TheVariants.{Length, Refused}
+use Rattle.std.specs.Prelude.{Ok, Err}
 use Rattle.output.specs.Wrote.{Wrote}
 use Rattle.output.specs.Written.{written_of, Fills}
 use Rattle.output.proofs.Writing.{then, dry_run}
@@ -115,7 +115,7 @@ module _ {s : List ℕ} {h : Sheet} {words : Vocabulary} (same : words ≡ vocab
   }
 
 -- the refusal of a sheet's term is that of its text
-pub refusal_told : (s : List ℕ) (v : Version) (style : Style) {x : Refusal} → sheet_term s ≡ refused x → Refused x ≡ written_of (sheet_text s v style)
+pub refusal_told : (s : List ℕ) (v : Version) (style : Style) {x : Refusal} → sheet_term s ≡ refused x → Err x ≡ written_of (sheet_text s v style)
 unfolding sheet_text named_term map_outcome written_of
 refusal_told s v style e = rw e
 
@@ -131,7 +131,7 @@ module _ {s terms : List ℕ} {n : ℕ} (held : HeldTerm s terms n) where
     sheet_text_lem = rw named_term_lem
 
     -- the length of the sheet's text is the answer to how long it is
-    pub length_told : {r : ℕ} → ((a : List ℕ) → sheet_text s v style ≡ accepted a → r ≡ length a) → Length r ≡ written_of (sheet_text s v style)
+    pub length_told : {r : ℕ} → ((a : List ℕ) → sheet_text s v style ≡ accepted a → r ≡ length a) → Ok r ≡ written_of (sheet_text s v style)
     unfolding written_of
     length_told long = let is = long _ sheet_text_lem in rw (sheet_text_lem, is)
 
@@ -145,7 +145,7 @@ module _ {s terms : List ℕ} {n : ℕ} (held : HeldTerm s terms n) where
 
     -- the text is refused for want of room: the term alone is too long, or the whole text is
     no_room : {before : List ℕ} → length before < length (text v style (term_of s terms n) (goal_prop s))
-        → Fills (is_in_room (length before) (sheet_text s v style)) before before (Refused (record { number = 16; place = 0 }))
+        → Fills (is_in_room (length before) (sheet_text s v style)) before before (Err (record { number = 16; place = 0 }))
     no_room {before} past =
         let whole : List ℕ = text v style (term_of s terms n) (goal_prop s) in
         let dry : Wrote whole false before 0 before (length whole) = dry_run refl (λ k. omega arith) (λ k. omega arith) in
@@ -154,7 +154,7 @@ module _ {s terms : List ℕ} {n : ℕ} (held : HeldTerm s terms n) where
     -- Of the length of the term:
     module _ {size : ℕ} (term : TermLength (display_term style (term_of s terms n)) size) where
       pub term_too_long : {before : List ℕ} → length before < size
-          → Fills (is_in_room (length before) (sheet_text s v style)) before before (Refused (record { number = 16; place = 0 }))
+          → Fills (is_in_room (length before) (sheet_text s v style)) before before (Err (record { number = 16; place = 0 }))
       unfolding text
       term_too_long {before} past =
           let sum = length-append (heading v (term_of s terms n) (goal_prop s)) (display_term style (term_of s terms n)) in
@@ -172,13 +172,13 @@ module _ {s terms : List ℕ} {n : ℕ} (held : HeldTerm s terms n) where
         text_long a is = let whole = sheet_text_lem in whole_length ∙ (let same : text v style (term_of s terms n) (goal_prop s) ≡ a = cc in ap length same)
 
         pub text_too_long : {before : List ℕ} → length before < start + size
-            → Fills (is_in_room (length before) (sheet_text s v style)) before before (Refused (record { number = 16; place = 0 }))
+            → Fills (is_in_room (length before) (sheet_text s v style)) before before (Err (record { number = 16; place = 0 }))
         text_too_long {before} past = no_room {before = before} (omega (arith, whole_length))
 
         pub text_fills : {before middle after : List ℕ} {to next : ℕ} → start + size ≤ length before
             → ((t : ProofTerm Name) → named_term s ≡ accepted t → Wrote (heading v t (goal_prop s)) true before 0 middle to)
             → Wrote (display_term style (term_of s terms n)) true middle to after next
-            → Fills (is_in_room (length before) (sheet_text s v style)) before after (Length (start + size))
+            → Fills (is_in_room (length before) (sheet_text s v style)) before after (Ok (start + size))
         text_fills {before} within upper lower =
             let whole : List ℕ = text v style (term_of s terms n) (goal_prop s) in
             let dry : Wrote whole false before 0 before (start + size) =

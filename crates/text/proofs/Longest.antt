@@ -2,7 +2,7 @@
 use Prim.Native.Nat.{ℕ, zero, suc, ◌+◌, ◌*◌, ◌≤◌, ◌<◌}
 use mathlib.Core.Path.{◌≡◌, refl, ap}
 use mathlib.Core.Bool.{Bool, true, false, cond}
-use mathlib.Core.Option.{Option, none, some}
+use Rattle.std.specs.Prelude.{Option, None, Some}
 use mathlib.Core.List.{List, [], ◌∷◌}
 use native.Mathlib.Omega.{arith}
 use lib.ListN.{length, get_or, length-append}
@@ -59,8 +59,8 @@ module _ (f : ℕ → Name) (short : (x : ℕ) → length (f x) ≤ 65535) (styl
 
   parameter_most : (l : Option (Label ℕ)) → length (display_parameter_label (rename_parameter_label f l)) ≤ 2 + length (of_label label_text l)
   unfolding display_parameter_label rename_parameter_label of_label
-  parameter_most none = omega arith
-  parameter_most (some l) = omega arith
+  parameter_most None = omega arith
+  parameter_most (Some l) = omega arith
 
   -- the most bytes of a term: so many for each node, and those of the labels
   abbrev most : ProofTerm ℕ → ℕ

@@ -1,7 +1,7 @@
 -- The lists of a term and of a proposition go through a change of names.
 use Prim.Native.Nat.{ℕ}
 use mathlib.Core.Path.{◌≡◌, refl, sym}
-use mathlib.Core.Option.{Option, none, some}
+use Rattle.std.specs.Prelude.{Option, None, Some}
 use mathlib.Core.List.{List, map, map-append}
 use lib.ListN.{length-map}
 use Rattle.definitions.specs.declared.Version.{Version}
@@ -32,8 +32,8 @@ module _ (f : ℕ → Name) where
   module _ {A B : Type 0} (g : A → B) (add : Label ℕ → List A) (over : Label Name → List B) (same : (l : Label ℕ) → over (rename_label f l) ≡ map g (add l)) where
     label_renamed : (l : Option (Label ℕ)) → of_label over (rename_parameter_label f l) ≡ map g (of_label add l)
     unfolding of_label rename_parameter_label
-    label_renamed none = refl
-    label_renamed (some l) = same l
+    label_renamed None = refl
+    label_renamed (Some l) = same l
 
     labels_renamed : (t : ProofTerm ℕ) → of_labels over (rename_term f t) ≡ map g (of_labels add t)
     unfolding of_labels rename_term

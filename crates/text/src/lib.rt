@@ -23,7 +23,7 @@ use declarations::{note_entries, note_term, put_declarations};
 use definitions::{Refusal, Style, TermList, Version};
 use name_index::SLOT_COUNT;
 use number::pair_offset;
-use output::{Written, put, put_all};
+use output::{put, put_all};
 use proof_term_display::print_term;
 use proof_term_length::term_length;
 use prop::fill_all_ends;
@@ -239,14 +239,14 @@ fn text_length(s: &[u8], h: Sheet, terms: &[u16], n: usize, version: Version, st
 }
 
 // How long the text of a sheet is in a version and a style, or the refusal of the sheet's term, for every sequence of bytes.
-pub fn sheet_text_length(s: &[u8], version: Version, style: Style) -> Written
+pub fn sheet_text_length(s: &[u8], version: Version, style: Style) -> Result<usize, Refusal>
     ensures { result ≡ written_of (sheet_text s.now version style) }
 {
     let mut terms = [0u16; TERM_NUMBERS];
     let found = sheet_term(s, &mut terms);
     match found {
-        SheetTerm::Refused(refusal) => Written::Refused(refusal),
-        SheetTerm::Held(h, n) => { Written::Length(text_length(s, h, &terms, n, version, style)) }
+        SheetTerm::Refused(refusal) => Err(refusal),
+        SheetTerm::Held(h, n) => { Ok(text_length(s, h, &terms, n, version, style)) }
     }
 }
 
@@ -260,7 +260,7 @@ pub fn text(
     version: Version,
     style: Style,
     out: &mut [u8],
-) -> Written
+) -> Result<usize, Refusal>
     requires accepted_sheet { AcceptedSheet s.now h }
     requires held_term { HeldTerm s.now terms.now n }
     ensures { Fills (is_in_room (length out.old) (sheet_text s.now version style))
@@ -270,7 +270,7 @@ pub fn text(
     fill_sheet_ends(s, h, &mut ends);
     let term = measure_term(s, h, terms, n, style, &ends);
     if out.len() < term {
-        return Written::Refused(Refusal::at(16, 0));
+        return Err(Refusal::at(16, 0));
     }
     let mut first = [0u16; DECLARED_NUMBERS];
     let mut second = [0u16; DECLARED_NUMBERS];
@@ -278,7 +278,7 @@ pub fn text(
     let second_count = declare(s, h, terms, n, second_list(version), &mut second);
     let end = heading_length(s, h, version, &first, first_count, &second, second_count) + term;
     if out.len() < end {
-        return Written::Refused(Refusal::at(16, 0));
+        return Err(Refusal::at(16, 0));
     }
     arrange(s, h, version, &mut first, first_count);
     arrange(s, h, version, &mut second, second_count);
@@ -293,5 +293,5 @@ pub fn text(
         second_count,
     );
     put_term(out, start, s, h, terms, n, style, &ends);
-    Written::Length(end)
+    Ok(end)
 }

@@ -1,7 +1,7 @@
 -- The slots of the table are the index of its names: what they hold, what probing finds by them, and the table without names.
 use Prim.Native.Nat.{ℕ, ◌+◌, ◌%◌, ◌≤◌, ◌<◌}
 use mathlib.Core.Path.{◌≡◌, sym, ap, ◌∙◌}
-use mathlib.Core.Option.{Option}
+use Rattle.std.specs.Prelude.{Option, Ok, Err}
 use mathlib.Core.List.{List}
 use native.Mathlib.Omega.{arith}
 use native.Mathlib.Decide.{ℕ_discrete}
@@ -16,7 +16,6 @@ use Rattle.name_index_laws.proofs.Agreement.{index_agrees, index_answers}
 use Rattle.name_index_laws.proofs.Entering.{indexed}
 use Rattle.name_index_laws.proofs.Onward.{same_index}
 use Rattle.name_index.specs.Probed.{held_or, probed}
-use Rattle.name_index.specs.declared.Probed.TheVariants.{Held, Absent}
 use Rattle.name_index.proofs.Entering.{absent_below}
 use Rattle.words.specs.Table.{Table, searched, slot_size, slot_offset, table_size}
 
@@ -28,14 +27,14 @@ module _ (name : ℕ → Name) (n : ℕ) (x : Name) where
     pub same : name i ≡ x
     pub earlier : (j : ℕ) → j < i → name j ≡ x → ⊥
 
-  held : {o : Option ℕ} (slot i : ℕ) → LowestNumber name n x o → held_or o slot ≡ Held i → FirstName i
+  held : {o : Option ℕ} (slot i : ℕ) → LowestNumber name n x o → held_or o slot ≡ Ok i → FirstName i
   unfolding held_or
   held slot i (is_lowest {j} l same earlier) e =
       let here : j ≡ i = cc in
       rw (← here) (record { below = l; same = same; earlier = earlier })
   held slot i (there_is_none absent) e = absurd (let z : ◌≡◌ {A = ℕ} 0 1 = cc in omega arith)
 
-  absent : {o : Option ℕ} (slot place : ℕ) → LowestNumber name n x o → held_or o slot ≡ Absent place → (i : ℕ) → i < n → name i ≡ x → ⊥
+  absent : {o : Option ℕ} (slot place : ℕ) → LowestNumber name n x o → held_or o slot ≡ Err place → (i : ℕ) → i < n → name i ≡ x → ⊥
   unfolding held_or
   absent slot place (is_lowest l same earlier) e = absurd (let z : ◌≡◌ {A = ℕ} 0 1 = cc in omega arith)
   absent slot place (there_is_none all) e = all
@@ -88,15 +87,15 @@ module _ {pairs text : List ℕ} {count : ℕ} (table : Table pairs text count) 
 
   -- what probing says of the names
   module _ (x : Name) where
-    pub first_held : {i : ℕ} → searched pairs text count x ≡ Held i → FirstName name count x i
+    pub first_held : {i : ℕ} → searched pairs text count x ≡ Ok i → FirstName name count x i
     unfolding searched probed
     first_held {i} e = held name count x _ i (index_answers name count x few_names) e
 
-    pub none_held : {slot : ℕ} → searched pairs text count x ≡ Absent slot → (i : ℕ) → i < count → name i ≡ x → ⊥
+    pub none_held : {slot : ℕ} → searched pairs text count x ≡ Err slot → (i : ℕ) → i < count → name i ≡ x → ⊥
     unfolding searched probed
     none_held {slot} e = absent name count x _ slot (index_answers name count x few_names) e
 
-    pub slot_inside : {slot : ℕ} → searched pairs text count x ≡ Absent slot → slot < slot_count
+    pub slot_inside : {slot : ℕ} → searched pairs text count x ≡ Err slot → slot < slot_count
     unfolding searched
     slot_inside e = absent_below _ _ _ e
 

@@ -11,7 +11,7 @@ use lib.Seq.{get_or-set_same, get_or-set_other}
 use Rattle.definitions.specs.Sheet.{name_limit, pair_size, number_at, pair_offset, pair_length, pair_end, marked}
 use Rattle.definitions.specs.NameIndex.{slot_count, index}
 use Rattle.name_index_laws.proofs.Onward.{same_index}
-use Rattle.name_index.specs.declared.Probed.TheVariants.{Absent}
+use Rattle.std.specs.Prelude.{Err}
 use Rattle.name_index.proofs.Entering.{entered}
 use Rattle.words.specs.Places.{between}
 use Rattle.words.specs.Table.{add_name, added, number_in, table_names, Table, NamePlace, searched, NumberOf}
@@ -82,7 +82,7 @@ module _ {pairs text : List ℕ} {count at end : ℕ} (table : Table pairs text 
       other_number _ _ _ _ (λ h. absurd (omega arith)) ∙ other_number _ _ _ _ (λ h. absurd (omega arith))
 
   -- and the number
-  module _ {slot : ℕ} (absent : searched pairs text count (between at end text) ≡ Absent slot) where
+  module _ {slot : ℕ} (absent : searched pairs text count (between at end text) ≡ Err slot) where
     abbrev after : List ℕ
     after = with_slot paired slot count
 

@@ -12,7 +12,7 @@ use Rattle.definitions.specs.Name.{Name, eq_name}
 use Rattle.definitions.specs.Sheet.{name_limit, pair_size, number_at, pair_offset, pair_length, pair_end, marked}
 use Rattle.definitions.specs.Text.{occurs}
 use Rattle.definitions.proofs.Names.{eq_name_of_eq, eq_name_of_ne}
-use Rattle.name_index.specs.declared.Probed.TheVariants.{Held, Absent}
+use Rattle.std.specs.Prelude.{Ok, Err}
 use Rattle.words.specs.Table.{add_name, added, number_in, table_names, Table, searched, NumberOf}
 use Rattle.words.proofs.Indexing.{first_held, none_held}
 
@@ -73,7 +73,7 @@ module _ (pairs after text : List ℕ) (count : ℕ) (kept : take (pair_size * c
 
 -- The name was met before, or there is room for no more.
 module _ {pairs text : List ℕ} {count : ℕ} (table : Table pairs text count) (x : Name) where
-  pub found_again : {i : ℕ} → searched pairs text count x ≡ Held i
+  pub found_again : {i : ℕ} → searched pairs text count x ≡ Ok i
       → NumberOf x text pairs count pairs (record { number = i; count = count })
   unfolding added add_name
   found_again {i} e =
@@ -87,10 +87,10 @@ module _ {pairs text : List ℕ} {count : ℕ} (table : Table pairs text count) 
         marks = λ l. found.same;
       }
 
-  pub unmet_name : {slot : ℕ} → searched pairs text count x ≡ Absent slot → occurs eq_name x (table_names pairs text count) ≡ false
+  pub unmet_name : {slot : ℕ} → searched pairs text count x ≡ Err slot → occurs eq_name x (table_names pairs text count) ≡ false
   unmet_name e = unmet pairs text x count (none_held table x e)
 
-  pub none_more : {slot : ℕ} → searched pairs text count x ≡ Absent slot → count ≡ name_limit
+  pub none_more : {slot : ℕ} → searched pairs text count x ≡ Err slot → count ≡ name_limit
       → NumberOf x text pairs count pairs (record { number = count; count = count })
   unfolding add_name
   none_more e all = record {

@@ -2,7 +2,7 @@
 use Prim.Native.Nat.{ℕ, zero, suc, ◌+◌, ◌-◌, ◌<◌, ◌≤◌}
 use mathlib.Core.Path.{◌≡◌, refl, sym, ap, ◌∙◌}
 use mathlib.Core.Bool.{Bool, true, false, cond}
-use mathlib.Core.Option.{Option, none}
+use Rattle.std.specs.Prelude.{Option, None}
 use mathlib.Core.List.{List, [], ◌∷◌}
 use native.Mathlib.Omega.{arith}
 use lib.ListN.{length, get_or, take, drop, length-drop}
@@ -36,20 +36,20 @@ expect_all (b ∷ what) (c ∷ s) le same =
     rw (eq-eqb b c (sym (same 0 (omega arith))), expect_all what s (omega arith) (λ k h. same (suc k) (omega arith)))
 
 -- none on either side
-pub none_either : {A : Type 0} (t : Bool) {x : Option A} → x ≡ none → cond t x none ≡ none
+pub none_either : {A : Type 0} (t : Bool) {x : Option A} → x ≡ None → cond t x None ≡ None
 none_either true e = e
 none_either false e = refl
 
 -- a byte that differs, and too few bytes
 expect_other : (what s : List ℕ) (k : ℕ) → k < length what → (get_or s k 0 ≡ get_or what k 0 → ⊥) → k < length s
-    → expect what s ≡ none
+    → expect what s ≡ None
 unfolding expect
 expect_other [] s k h d l = absurd (omega arith)
 expect_other (b ∷ what) [] k h d l = refl
 expect_other (b ∷ what) (c ∷ s) zero h d l = rw (ne_eqb b c (λ e. d (sym e)))
 expect_other (b ∷ what) (c ∷ s) (suc k) h d l = none_either (eqb b c) (expect_other what s k (omega arith) d (omega arith))
 
-expect_short : (what s : List ℕ) → length s < length what → expect what s ≡ none
+expect_short : (what s : List ℕ) → length s < length what → expect what s ≡ None
 unfolding expect
 expect_short [] s h = absurd (omega arith)
 expect_short (b ∷ what) [] h = refl
@@ -94,7 +94,7 @@ module _ (text : List ℕ) (at : ℕ) (start : at ≤ length text) where
     after = λ h. refl;
   }
 
-  expect_fails : (what : List ℕ) → expect what (drop at text) ≡ none → Expected what text at (length text + 1)
+  expect_fails : (what : List ℕ) → expect what (drop at text) ≡ None → Expected what text at (length text + 1)
   expect_fails what e = record {
     ends = record { fails = λ h. e; gives = λ h. absurd (omega arith) };
     after = λ h. absurd (omega arith);

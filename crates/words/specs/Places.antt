@@ -1,6 +1,5 @@
 -- Places in the text that is read: where a word, a name or expected bytes end, and a place past the end where they do not stand.
-use Rattle.std.specs.Prelude.{ℕ, ◌+◌, ◌-◌, ◌<◌, ◌≤◌, ◌≡◌, List, length, take, drop}
-use Rattle.std.proofs.Math.Option.{Option, none}
+use Rattle.std.specs.Prelude.{ℕ, ◌+◌, ◌-◌, ◌<◌, ◌≤◌, ◌≡◌, List, length, take, drop, Option, None}
 use Rattle.definitions.specs.Code.{Read}
 use Rattle.definitions.specs.Sheet.{name_length_limit}
 use Rattle.definitions.specs.TermReader.{word, name, expect}
@@ -12,7 +11,7 @@ between at r text = take (r - at) (drop at text)
 
 -- the reading gives `a` and ends at `r`, or it fails and `r` lies past the end
 pub record Ends {A : Type 0} (reading : Option (Read A)) (a : A) (text : List ℕ) (r : ℕ) : Type 0 where
-  pub fails : length text < r → reading ≡ none
+  pub fails : length text < r → reading ≡ None
   pub gives : r ≤ length text → reading ≡ given a (drop r text)
 
 -- the word at `at` ends at `r`

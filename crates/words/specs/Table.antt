@@ -1,11 +1,10 @@
 -- The names met in a text: a list with the latest in front, and in lent memory their pairs of offset and length, and their index.
-use Rattle.std.specs.Prelude.{ℕ, zero, suc, ◌+◌, ◌-◌, ◌*◌, ◌/◌, ◌%◌, ◌<◌, ◌≤◌, ◌≡◌, cond, List, [], ◌∷◌, length, get_or, take, set}
+use Rattle.std.specs.Prelude.{ℕ, zero, suc, ◌+◌, ◌-◌, ◌*◌, ◌/◌, ◌%◌, ◌<◌, ◌≤◌, ◌≡◌, cond, List, [], ◌∷◌, length, get_or, take, set, Result}
 use Rattle.definitions.specs.Name.{Name, eq_name}
 use Rattle.definitions.specs.Sheet.{name_limit, name_length_limit, pair_size, number_at, pair_end, marked}
 use Rattle.definitions.specs.NameIndex.{slot_count, index}
 use Rattle.definitions.specs.Text.{occurs}
 use Rattle.definitions.specs.TermText.{term_text_limit}
-use Rattle.name_index.specs.declared.Probed.{Probed}
 use Rattle.name_index.specs.Probed.{probed}
 use Rattle.words.specs.declared.Numbered.{Numbered}
 
@@ -80,7 +79,7 @@ pub record Table (pairs text : List ℕ) (count : ℕ) : Type 0 where
       → number_at pairs (slot_offset slot) ≡ get_or (index (marked pairs text) count) slot 0
 
 -- what probing for a name in the index of the names comes to
-unfoldable pub searched : List ℕ → List ℕ → ℕ → Name → Probed
+unfoldable pub searched : List ℕ → List ℕ → ℕ → Name → Result ℕ ℕ
 searched pairs text count x = probed (marked pairs text) (index (marked pairs text) count) x
 
 -- the names xs were looked up, and are in the table now

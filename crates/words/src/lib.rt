@@ -13,7 +13,7 @@ ghost use Rattle.words.specs.Table.{table_size, searched, with_number, with_pair
 
 use caller_names::{is_listed, well_formed};
 use identifier::{CLASSES, OTHER, class, same_name};
-use name_index::{Probed, SLOT_COUNT, start_slot};
+use name_index::{SLOT_COUNT, start_slot};
 use number::{PAIR_SIZE, marked_bytes, number_at};
 
 // Where the name bytes from `at` on end.
@@ -199,7 +199,7 @@ pub struct Numbered {
 
 // The number of the name with these bytes, or the slot that it would enter. Taken slots are stepped over from its start slot on,
 // round the end, up to its equal or a free slot, which holds more than the number of any name.
-pub fn find_name(text: &[u8], at: usize, end: usize, names: &[u8], count: usize) -> Probed
+pub fn find_name(text: &[u8], at: usize, end: usize, names: &[u8], count: usize) -> Result<usize, usize>
     requires { Table names.now text.now count × (at ≤ end) × (end ≤ length text.now) }
     ensures { result ≡ searched names.now text.now count
         (between at end text.now) }
@@ -209,14 +209,14 @@ pub fn find_name(text: &[u8], at: usize, end: usize, names: &[u8], count: usize)
     for _ in 0..SLOT_COUNT {
         let number = number_at(names, SLOTS + SLOT_SIZE * slot);
         if count <= number {
-            return Probed::Absent(slot);
+            return Err(slot);
         }
         if same_name(marked_bytes(names, text, number), name) {
-            return Probed::Held(number);
+            return Ok(number);
         }
         slot = (slot + 1) % SLOT_COUNT;
     }
-    Probed::Absent(slot)
+    Err(slot)
 }
 
 // Stores a number at an offset, low byte first.
@@ -258,8 +258,8 @@ pub fn number_of_name(
         text.now names.old count names.new result }
 {
     match find_name(text, at, end, names, count) {
-        Probed::Held(number) => Numbered { number, count },
-        Probed::Absent(slot) => {
+        Ok(number) => Numbered { number, count },
+        Err(slot) => {
             if count == NAME_LIMIT {
                 return Numbered {
                     number: count,

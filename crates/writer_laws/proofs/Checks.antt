@@ -2,7 +2,7 @@
 use Prim.Native.Nat.{ℕ, ◌-◌, ◌≤◌, ◌<◌}
 use mathlib.Core.Path.{◌≡◌}
 use mathlib.Core.Bool.{false, not}
-use mathlib.Core.Option.{none}
+use Rattle.std.specs.Prelude.{None}
 use mathlib.Core.List.{List}
 use lib.ListN.{length}
 use lib.Dec.{ltb, eqb}
@@ -20,15 +20,15 @@ pub record Checks (s : List ℕ) : Type 0 where
   pub header : ltb (length s) header_size ≡ false
   pub range : header_out_of_range s ≡ false
   pub whole : not (eqb (length s) (sheet_length s)) ≡ false
-  pub good_name_pairs : lowest (bad_name_pair (name_pairs s) (text_length s)) (names s) ≡ none
-  pub named : lowest (bad_name (name_pairs s) (text_bytes s)) (names s) ≡ none
-  pub good_proposition_pairs : lowest (bad_proposition_pair (proposition_pairs s) (code_length s)) (propositions s) ≡ none
-  pub codes : lowest (bad_code (names s) (proposition_pairs s) (code_bytes s)) (propositions s) ≡ none
-  pub shallow : lowest (deep_proposition (names s) (proposition_pairs s) (code_bytes s)) (propositions s) ≡ none
-  pub fields : lowest (bad_step (names s) (propositions s) (step_records s)) (steps s) ≡ none
-  pub enough : lowest (too_few_trees (names s) (proposition_pairs s) (code_bytes s) (step_records s)) (steps s) ≡ none
+  pub good_name_pairs : lowest (bad_name_pair (name_pairs s) (text_length s)) (names s) ≡ None
+  pub named : lowest (bad_name (name_pairs s) (text_bytes s)) (names s) ≡ None
+  pub good_proposition_pairs : lowest (bad_proposition_pair (proposition_pairs s) (code_length s)) (propositions s) ≡ None
+  pub codes : lowest (bad_code (names s) (proposition_pairs s) (code_bytes s)) (propositions s) ≡ None
+  pub shallow : lowest (deep_proposition (names s) (proposition_pairs s) (code_bytes s)) (propositions s) ≡ None
+  pub fields : lowest (bad_step (names s) (propositions s) (step_records s)) (steps s) ≡ None
+  pub enough : lowest (too_few_trees (names s) (proposition_pairs s) (code_bytes s) (step_records s)) (steps s) ≡ None
   pub one : trees_left (names s) (proposition_pairs s) (code_bytes s) (step_records s) (steps s) ≡ false
-  pub nested : lowest (deep_tree (names s) (proposition_pairs s) (code_bytes s) (step_records s)) (steps s) ≡ none
+  pub nested : lowest (deep_tree (names s) (proposition_pairs s) (code_bytes s) (step_records s)) (steps s) ≡ None
 
 pub checks_admitted : (s : List ℕ) → Checks s → admitted s ≡ accepted (root_of s)
 unfolding admitted header_checks refuse_if refuse_lowest refuse_at ◌>>=◌

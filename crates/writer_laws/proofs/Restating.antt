@@ -2,7 +2,7 @@
 use Prim.Native.Nat.{ℕ, zero, suc, ◌+◌, ◌*◌, ◌-◌, ◌≤◌, ◌<◌}
 use mathlib.Core.Path.{◌≡◌, refl, ap, ap₂, ◌∙◌}
 use mathlib.Core.Bool.{Bool, true, false}
-use mathlib.Core.Option as option
+use Rattle.std.specs.Prelude.{None}
 use mathlib.Core.List.{List, [], ◌∷◌, ◌++◌}
 use native.Mathlib.Omega.{arith}
 use native.Mathlib.Numerals.{add-one}
@@ -55,7 +55,7 @@ export_alpha z t inferring is = rw is (bound (export t inferring))
     bound (accepted u) = refl
 
 -- one more place at which a test fails
-one_more : (test : ℕ → Bool) (places : ℕ) → lowest test places ≡ option.none → test places ≡ false → lowest test (suc places) ≡ option.none
+one_more : (test : ℕ → Bool) (places : ℕ) → lowest test places ≡ None → test places ≡ false → lowest test (suc places) ≡ None
 one_more test places e f = rw (← add-one places) (lowest_passed test places e f)
 
 -- the parts of a sheet that passes its checks have the lengths that their counts say

@@ -7,8 +7,8 @@ use borrow.Author.Rules.{rules}
 use Rattle.comparison.proofs.compare.Goals as goal
 
 pub compare_steps-requires : goal.compare_steps-requires
-compare_steps-requires c = accepted_sheet _ (sym c.answer-checked.ensures ∙ c.in-Accepted.is)
+compare_steps-requires c = accepted_sheet _ (sym c.answer-checked.ensures ∙ c.in-Ok.is)
 
-pub returns-in-Refused : goal.returns-in-Refused
+pub returns-in-Err : goal.returns-in-Err
 unfolding outcome_of
-returns-in-Refused c = not_a_sheet _ _ _ (refused_sheet _ (sym c.answer-checked.ensures ∙ c.in-Refused.is))
+returns-in-Err c = not_a_sheet _ _ _ (refused_sheet _ (sym c.answer-checked.ensures ∙ c.in-Err.is))

@@ -15,30 +15,30 @@ host_bytes c = λ i. omega (arith, c.type_inv.host i)
 donor_bytes : (c : After-slice_known-1) → Bytes c.args.donor.now
 donor_bytes c = λ i. omega (arith, c.type_inv.donor i)
 
-pub returns-in-Refused : goal.returns-in-Refused
-returns-in-Refused c =
-    let (answer, slots) = host-refused _ _ _ _ (refused_sheet _ (sym c.check-checked.ensures.value ∙ c.in-Refused.is)) _ _ in
+pub returns-in-Err : goal.returns-in-Err
+returns-in-Err c =
+    let (answer, slots) = host-refused _ _ _ _ (refused_sheet _ (sym c.check-checked.ensures.value ∙ c.in-Err.is)) _ _ in
     record {
       fills_by = answer;
       slots_after = slots;
-      by_index = bytes-merge _ _ _ _ (host_bytes (goal.at.returns-in-Refused c).After-slice_known-1) (donor_bytes (goal.at.returns-in-Refused c).After-slice_known-1) answer;
+      by_index = bytes-merge _ _ _ _ (host_bytes (goal.at.returns-in-Err c).After-slice_known-1) (donor_bytes (goal.at.returns-in-Err c).After-slice_known-1) answer;
     }
 
 pub graft_donor-requires : goal.graft_donor-requires
 unfolding slot_count
 graft_donor-requires c =
     let check = c.check-checked in
-    let accepts = sym check.ensures.value ∙ c.in-Accepted.is in
+    let accepts = sym check.ensures.value ∙ c.in-Ok.is in
     record {
       accepted_sheet = (accepted_sheet _ accepts, search rules);
       size_table = accepted_sizes _ accepts check.ensures.sized;
     }
 
-pub returns-in-Accepted : goal.returns-in-Accepted
-returns-in-Accepted c =
+pub returns-in-Ok : goal.returns-in-Ok
+returns-in-Ok c =
     let record { fills_by = answer; slots_after = slots } = c.graft_donor.ensures in
     record {
       fills_by = answer;
       slots_after = slots;
-      by_index = bytes-merge _ _ _ _ (host_bytes (goal.at.returns-in-Accepted c).After-slice_known-1) (donor_bytes (goal.at.returns-in-Accepted c).After-slice_known-1) answer;
+      by_index = bytes-merge _ _ _ _ (host_bytes (goal.at.returns-in-Ok c).After-slice_known-1) (donor_bytes (goal.at.returns-in-Ok c).After-slice_known-1) answer;
     }

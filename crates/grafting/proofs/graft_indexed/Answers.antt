@@ -7,7 +7,7 @@ use borrow.Author.Rules.{rules}
 use Rattle.definitions.proofs.Readings.{Bytes}
 use Rattle.grafting.proofs.Answers.{within_both, few_names, built, stays-refused, Stands, stands, in_range, vocabulary-is, indexed}
 use Rattle.grafting.proofs.graft_indexed.Goals as goal
-use Rattle.grafting.proofs.graft_indexed.Goals.{After-slice_known-2-1, In-Accepted}
+use Rattle.grafting.proofs.graft_indexed.Goals.{After-slice_known-2-1, In-Ok}
 
 host_bytes : (c : After-slice_known-2-1) → Bytes c.args.host.now
 host_bytes c = λ i. omega (arith, c.type_inv.host i)
@@ -23,35 +23,35 @@ graft_accepted-merged-requires c =
       size_table_2 = c.requires.size_table_2;
     }
 
-pub returns-in-Refused : goal.returns-in-Refused
-returns-in-Refused c =
+pub returns-in-Err : goal.returns-in-Err
+returns-in-Err c =
     let p = let record { accepted_sheet = (host, donor, _); size_table = _; size_table_2 = _ } = c.requires in
-    stays-refused host donor (host_bytes (goal.at.returns-in-Refused c).After-slice_known-2-1) (donor_bytes (goal.at.returns-in-Refused c).After-slice_known-2-1) _ _ c.graft_accepted-merged.ensures c.in-Refused.is _ in
+    stays-refused host donor (host_bytes (goal.at.returns-in-Err c).After-slice_known-2-1) (donor_bytes (goal.at.returns-in-Err c).After-slice_known-2-1) _ _ c.graft_accepted-merged.ensures c.in-Err.is _ in
     record { fills = p.0; slots_after = p.1 }
 
 -- the merged sheet
-sheet_here : (c : In-Accepted)
-    → Stands c.requires.accepted_sheet.0 c.requires.accepted_sheet.1 (host_bytes (goal.at.In-Accepted c).After-slice_known-2-1)
-    (donor_bytes (goal.at.In-Accepted c).After-slice_known-2-1) _ _ c.graft_accepted-merged.ensures c.in-Accepted.m
-sheet_here c = stands _ _ _ _ _ _ c.graft_accepted-merged.ensures c.in-Accepted.is
+sheet_here : (c : In-Ok)
+    → Stands c.requires.accepted_sheet.0 c.requires.accepted_sheet.1 (host_bytes (goal.at.In-Ok c).After-slice_known-2-1)
+    (donor_bytes (goal.at.In-Ok c).After-slice_known-2-1) _ _ c.graft_accepted-merged.ensures c.in-Ok.m
+sheet_here c = stands _ _ _ _ _ _ c.graft_accepted-merged.ensures c.in-Ok.is
 
 pub vocabulary-requires : goal.vocabulary-requires
-vocabulary-requires c = in_range _ _ _ _ _ _ _ (sheet_here (goal.at.vocabulary-requires c).In-Accepted)
+vocabulary-requires c = in_range _ _ _ _ _ _ _ (sheet_here (goal.at.vocabulary-requires c).In-Ok)
 
 pub build-requires : goal.build-requires
 build-requires c =
-    let o = sheet_here (goal.at.build-requires c).In-Accepted in
+    let o = sheet_here (goal.at.build-requires c).In-Ok in
     let is = vocabulary-is _ _ _ _ _ _ _ o c.vocabulary.ensures in
     let rest = drop (length o.sheet) c.args.out.now in
     let record { accepted_sheet = (_, _, size); size_table = _; size_table_2 = _ } = c.requires in
     record { slots_len = (size, within_both o.has rest is o.memory); name_count_bound = few_names o.has rest is }
 
 pub layout-requires : goal.layout-requires
-layout-requires c = in_range _ _ _ _ _ _ _ (sheet_here (goal.at.layout-requires c).In-Accepted)
+layout-requires c = in_range _ _ _ _ _ _ _ (sheet_here (goal.at.layout-requires c).In-Ok)
 
-pub returns-in-Accepted : goal.returns-in-Accepted
-returns-in-Accepted c =
-    let p = let o = sheet_here (goal.at.returns-in-Accepted c).In-Accepted in
+pub returns-in-Ok : goal.returns-in-Ok
+returns-in-Ok c =
+    let p = let o = sheet_here (goal.at.returns-in-Ok c).In-Ok in
     let is = vocabulary-is _ _ _ _ _ _ _ o c.vocabulary.ensures in
     indexed _ _ _ _ _ _ _ o _ (ap (λ l. l.end) c.layout.ensures) (built o.has _ is o.memory c.build.ensures) in
     record { fills = p.0; slots_after = p.1 }

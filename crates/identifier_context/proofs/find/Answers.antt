@@ -3,7 +3,6 @@ use Prim.Native.Nat.{◌≤◌}
 use mathlib.Core.Path.{◌≡◌, refl, sym, ap, ◌∙◌}
 use native.Mathlib.Omega.{arith}
 use borrow.Author.Rules.{rules}
-use Rattle.definitions.specs.Outcome.{found_at}
 use Rattle.definitions.specs.Sheet.{marked}
 use Rattle.identifier_context.specs.Memory.{context_of}
 use Rattle.identifier_context.specs.Promises.{latest_at, admitted}
@@ -17,10 +16,9 @@ admits-requires c =
     (omega (arith, holds.present), holds.named _ (omega arith), c.requires.1)
 
 pub returns-then-admits : goal.returns-then-admits
-unfolding found_at
 returns-then-admits c =
     let admitted = sym c.admits.ensures ∙ c.if-admits.true in
-    finds (sym (ap found_at (c.loop-left.invariant.1 ∙ search_ends _ _ (omega arith) admitted)))
+    finds (sym (ap (c.loop-left.invariant.1 ∙ search_ends _ _ (omega arith) admitted)))
 
 pub loop-left-preserved : goal.loop-left-preserved
 loop-left-preserved c =
@@ -28,10 +26,10 @@ loop-left-preserved c =
     (omega arith, c.loop-left.invariant.1 ∙ search_passes _ _ (omega arith) passed)
 
 pub returns : goal.returns
-unfolding found_at latest_at context_of
+unfolding latest_at context_of
 returns c =
     let none_left : c.loop-left.left ≡ 0 = omega arith in
-    finds (sym (ap found_at (rw none_left at c.loop-left.invariant.1)))
+    finds (sym (ap (rw none_left at c.loop-left.invariant.1)))
 
 pub loop-left-init : goal.loop-left-init
 loop-left-init c = (omega arith, refl)

@@ -19,4 +19,4 @@ pub returns : goal.returns
 unfolding is_at entry_at
 returns c =
     let index = rw c.entry_at-entry.ensures at c.find.ensures.index in
-    visible_at _ _ c.requires.1 (index_found _ c.in-At.is index)
+    visible_at _ _ c.requires.1 (index_found _ c.in-Some.is index)

@@ -2,13 +2,11 @@
 use Prim.Native.Nat.{ℕ, suc, min, ◌≤◌, ◌<◌}
 use mathlib.Core.Path.{◌≡◌, refl, sym, ap, ◌∙◌}
 use mathlib.Core.Bool.{true, false}
-use mathlib.Core.Option.{some}
+use Rattle.std.specs.Prelude.{Some, None}
 use mathlib.Core.List.{List}
 use mathlib.Core.Logic.{⊎_elim}
 use native.Mathlib.Omega.{arith}
 use borrow.Author.Rules.{rules}
-use Rattle.definitions.specs.declared.Found.TheVariants.{Nowhere, At}
-use Rattle.definitions.specs.Outcome.{found_at}
 use Rattle.definitions.specs.Name.{Name}
 use Rattle.definitions.specs.Sheet.{marked}
 use Rattle.identifier_context.specs.Memory.{context_of}
@@ -42,20 +40,20 @@ left_less e hidden l =
 
 -- one is met that is visible
 left_met : {name_of : ℕ → Name} {entries : List ℕ} {len before left next : ℕ} → left ≡ suc next
-    → is_visible name_of entries len next ≡ true → Left name_of entries len before left → Shows name_of entries len before (At next)
-unfolding latest_visible visible_from found_at
+    → is_visible name_of entries len next ≡ true → Left name_of entries len before left → Shows name_of entries len before (Some next)
+unfolding latest_visible visible_from
 left_met {name_of} {entries} {len} {left} {next} e shown l =
-    let met : latest_visible name_of entries len left ≡ some next = rw (e, shown) in
+    let met : latest_visible name_of entries len left ≡ Some next = rw (e, shown) in
     record {
-      index = sym (ap found_at (l.index ∙ met));
+      index = sym (ap (l.index ∙ met));
       listed = sym (l.listed ∙ visible_listed _ _ _ e (omega (arith, l.inside)) shown);
     }
 
 -- none is left
 left_none : {name_of : ℕ → Name} {entries : List ℕ} {len before : ℕ} → Left name_of entries len before 0
-    → Shows name_of entries len before Nowhere
-unfolding latest_visible visible_from found_at
-left_none l = record { index = sym (ap found_at l.index); listed = sym (l.listed ∙ visible_none _ _ _) }
+    → Shows name_of entries len before None
+unfolding latest_visible visible_from
+left_none l = record { index = sym (ap l.index); listed = sym (l.listed ∙ visible_none _ _ _) }
 
 pub loop-left-init : goal.loop-left-init
 loop-left-init c =

@@ -2,13 +2,11 @@
 use Prim.Native.Nat.{ℕ, suc, min, ◌≤◌, ◌<◌}
 use mathlib.Core.Path.{◌≡◌, refl, sym, ap, ◌∙◌}
 use mathlib.Core.Bool.{true, false}
-use mathlib.Core.Option.{some}
+use Rattle.std.specs.Prelude.{Some, None}
 use mathlib.Core.List.{List}
 use mathlib.Core.Logic.{⊎_elim}
 use native.Mathlib.Omega.{arith}
 use borrow.Author.Rules.{rules}
-use Rattle.definitions.specs.declared.Found.TheVariants.{Nowhere, At}
-use Rattle.definitions.specs.Outcome.{found_at}
 use Rattle.definitions.specs.Name.{Name}
 use Rattle.definitions.specs.Sheet.{marked}
 use Rattle.identifier_context.specs.Memory.{context_of}

@@ -6,10 +6,10 @@ use Rattle.sheet.specs.Header.{header_of}
 use Rattle.sheet.proofs.Stages.{stage_accepted, refused_not_accepted}
 use Rattle.located.proofs.Columns.{header_accepted, read_header, no_step, has_step}
 use Rattle.located.proofs.column_at.Goals as goal
-use Rattle.located.proofs.column_at.Goals.{In-Accepted}
+use Rattle.located.proofs.column_at.Goals.{In-Ok}
 
-is_header : (c : In-Accepted) → c.in-Accepted.h ≡ header_of c.args.s.now
-is_header c = (stage_accepted _ _ c.header-read.ensures c.in-Accepted.is).0
+is_header : (c : In-Ok) → c.in-Ok.h ≡ header_of c.args.s.now
+is_header c = (stage_accepted _ _ c.header-read.ensures c.in-Ok.is).0
 
 pub returns-in_default : goal.returns-in_default
 returns-in_default c =
@@ -17,14 +17,14 @@ returns-in_default c =
 
 pub returns-then-h-k : goal.returns-then-h-k
 returns-then-h-k c =
-    sym (no_step c.requires (is_header (goal.at.returns-then-h-k c).In-Accepted) _ c.if-h-k.true)
+    sym (no_step c.requires (is_header (goal.at.returns-then-h-k c).In-Ok) _ c.if-h-k.true)
 
 pub step_records-requires : goal.step_records-requires
-step_records-requires c = read_header c.requires (is_header (goal.at.step_records-requires c).In-Accepted)
+step_records-requires c = read_header c.requires (is_header (goal.at.step_records-requires c).In-Ok)
 
 pub step_at-step-requires : goal.step_at-step-requires
 step_at-step-requires c =
-    rw c.step_records.ensures (has_step c.requires (is_header (goal.at.step_at-step-requires c).In-Accepted) _ c.if-h-k.false)
+    rw c.step_records.ensures (has_step c.requires (is_header (goal.at.step_at-step-requires c).In-Ok) _ c.if-h-k.false)
 
 pub returns : goal.returns
 unfolding step_at

@@ -33,7 +33,7 @@ pub stored_number-requires : goal.stored_number-requires
 unfolding name_limit
 stored_number-requires c =
     let same = c.name-bytes.ensures ∙ ap (λ (f : ℕ → Name). f c.args.n) c.requires.indexed.1.are_names in
-    let below = lowest_below _ _ (searched c.requires.indexed.1 same c.find-in_donor.ensures) _ c.in-At.is in
+    let below = lowest_below _ _ (searched c.requires.indexed.1 same c.find-in_donor.ensures) _ c.in-Some.is in
     omega (arith, below, c.requires.indexed.1.few, c.requires.n_bound.1.room)
 
 pub returns-then-m-n : goal.returns-then-m-n
@@ -41,11 +41,11 @@ returns-then-m-n c =
     let same = c.name-bytes.ensures ∙ ap (λ (f : ℕ → Name). f c.args.n) c.requires.indexed.1.are_names in
     rw c.stored_number.ensures
     (is_earlier _ _ _ c.requires.indexed.0.few c.requires.indexed.1.few c.requires.n_bound.0 (searched c.requires.indexed.1 same c.find-in_donor.ensures)
-    c.in-At.is c.if-m-n.true c.requires.n_bound.1)
+    c.in-Some.is c.if-m-n.true c.requires.n_bound.1)
 
 pub returns : goal.returns
 returns c =
     let same = c.name-bytes.ensures ∙ ap (λ (f : ℕ → Name). f c.args.n) c.requires.indexed.1.are_names in
     is_new _ _ _ c.requires.indexed.0.few c.requires.indexed.1.few c.requires.n_bound.0 (searched c.requires.indexed.1 same c.find-in_donor.ensures)
-    (searched c.requires.indexed.0 same c.find-in_host.ensures) c.in-Nowhere.is c.in-At.is
+    (searched c.requires.indexed.0 same c.find-in_host.ensures) c.in-None.is c.in-Some.is
     c.if-m-n.false

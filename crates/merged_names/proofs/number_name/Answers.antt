@@ -27,10 +27,10 @@ returns-in_default c =
     record { value = p.0; numbered = p.1 }
 
 pub overflow_cast-numbers-2 : goal.overflow_cast-numbers-2
-overflow_cast-numbers-2 c = omega (arith, (has_number _ _ _ c.known_number-known.ensures c.in-At.is).1)
+overflow_cast-numbers-2 c = omega (arith, (has_number _ _ _ c.known_number-known.ensures c.in-Some.is).1)
 
 pub returns : goal.returns
 returns c =
-    let p = known_stored _ _ _ c.requires.indexed.1.few c.requires.n_bound.0 c.requires.n_bound.1 c.known_number-known.ensures c.in-At.is
+    let p = known_stored _ _ _ c.requires.indexed.1.few c.requires.n_bound.0 c.requires.n_bound.1 c.known_number-known.ensures c.in-Some.is
     c.requires.missing_value in
     record { value = p.0; numbered = p.1 }

@@ -4,10 +4,10 @@ use Rattle.definitions.specs.Sheet.{name_limit}
 use Rattle.definitions.specs.NameIndex.{slot_count}
 use Rattle.vocabulary.specs.Vocabulary.{name_in}
 use Rattle.name_index.specs.Probed.{probed}
-use Rattle.name_index.specs.declared.Probed.TheVariants.{Absent}
+use Rattle.std.specs.Prelude.{Err}
 use Rattle.name_index.proofs.Entering.{index_size, repeated, entered, absent_below}
 use Rattle.name_index.proofs.enter.Goals as goal
-use Rattle.name_index.proofs.enter.Goals.{After-any_name, In-Absent}
+use Rattle.name_index.proofs.enter.Goals.{After-any_name, In-Err}
 
 -- there are 1,024 slots
 size : (c : After-any_name) → length c.args.slots.now ≡ slot_count
@@ -15,10 +15,10 @@ unfolding name_limit
 size c = index_size _ _ c.requires.slots_value (omega (arith, c.requires.i_lt_name_limit.0))
 
 -- the name is absent: the slot that it would enter
-would_enter : (c : In-Absent) →
+would_enter : (c : In-Err) →
     let a = c.args in
-    probed (name_in a.bytes.now a.v) a.slots.now c.any_name.result.now ≡ Absent c.in-Absent.at
-would_enter c = sym c.probe.ensures ∙ c.in-Absent.is
+    probed (name_in a.bytes.now a.v) a.slots.now c.any_name.result.now ≡ Err c.in-Err.at
+would_enter c = sym c.probe.ensures ∙ c.in-Err.is
 
 pub probe-requires : goal.probe-requires
 probe-requires c = (size c, c.requires.i_lt_name_limit.1)

@@ -6,5 +6,5 @@ use Rattle.name_index.proofs.find.Goals as goal
 pub returns-in-Held : goal.returns-in-Held
 returns-in-Held c = found_held _ _ _ (sym c.probe.ensures ∙ c.in-Held.is)
 
-pub returns-in-Absent : goal.returns-in-Absent
-returns-in-Absent c = found_absent _ _ _ (sym c.probe.ensures ∙ c.in-Absent.is)
+pub returns-in-Err : goal.returns-in-Err
+returns-in-Err c = found_absent _ _ _ (sym c.probe.ensures ∙ c.in-Err.is)

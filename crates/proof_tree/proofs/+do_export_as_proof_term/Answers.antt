@@ -86,7 +86,7 @@ returns-in_default t c =
     (refusal_of c.do_export_as_proof_term-exported.ensures c.in_default.is)))
 
 pub overflow_sub-parts : goal.overflow_sub-parts
-overflow_sub-parts t c = omega (arith, (term_of c.do_export_as_proof_term-exported.ensures c.in-Term.is).low)
+overflow_sub-parts t c = omega (arith, (term_of c.do_export_as_proof_term-exported.ensures c.in-Ok.is).low)
 
 pub loop-i-preserved : goal.loop-i-preserved
 loop-i-preserved t c =
@@ -94,7 +94,7 @@ loop-i-preserved t c =
     let step = c.premiss.ensures in
     read_more there.is_row c.loop-i.invariant c.loop-i-test.true step
     c.expected_premisse_mode.ensures
-    (term_of c.do_export_as_proof_term-exported.ensures c.in-Term.is)
+    (term_of c.do_export_as_proof_term-exported.ensures c.in-Ok.is)
     (omega (arith, step.earlier)) c.do_export_as_proof_term-exported.auto.term_records
 
 pub placed_term-requires-clause-some_good_step : goal.placed_term-requires-clause-some_good_step

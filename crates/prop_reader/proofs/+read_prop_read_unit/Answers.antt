@@ -1,7 +1,7 @@
 -- The calls end by the levels: a unit's parts are a level deeper than it, and so are the sides after it.
 use Prim.Native.Nat.{ℕ, ◌+◌, ◌-◌, ◌*◌, ◌≤◌, ◌<◌}
 use mathlib.Core.Path.{◌≡◌, ◌∙◌}
-use mathlib.Core.Option.{none}
+use Rattle.std.specs.Prelude.{None}
 use mathlib.Core.List.{List}
 use native.Mathlib.Omega.{arith}
 use lib.ListN.{length, drop}
@@ -206,7 +206,7 @@ sign_there : (t : ℕ) → (c : read_unit-Else-sign-eq-NO_HEAD t) → let s = c.
     × (sign (drop s.p.at s.text.now) ≡ given g (drop (s.p.at + sign_size g) s.text.now))
 sign_there t c = sign_found c.sign_at-sign.ensures c.if-sign-eq-NO_HEAD.false
 
-nameless : (t : ℕ) → (c : read_unit-Else-end-text t) → let s = c.args in name (drop s.p.at s.text.now) ≡ none
+nameless : (t : ℕ) → (c : read_unit-Else-end-text t) → let s = c.args in name (drop s.p.at s.text.now) ≡ None
 nameless t c = c.name_end-end.ensures.ends.fails c.if-end-text.false
 
 pub read_unit-read_constant-requires : goal.read_unit-read_constant-requires

@@ -2,10 +2,10 @@
 use Rattle.replay_context.specs.Lengths.{length_inserted}
 use Rattle.replay_context.proofs.inserted_turn.Goals as goal
 
-pub returns-in-Len : goal.returns-in-Len
+pub returns-in-Ok : goal.returns-in-Ok
 unfolding length_inserted
-returns-in-Len c = rw c.in-Len.is
+returns-in-Ok c = rw c.in-Ok.is
 
-pub returns-in-Refused : goal.returns-in-Refused
+pub returns-in-Err : goal.returns-in-Err
 unfolding length_inserted
-returns-in-Refused c = rw c.in-Refused.is
+returns-in-Err c = rw c.in-Err.is

@@ -6,9 +6,9 @@ use Rattle.sheet.proofs.Admitted.{accepted_sheet, accepted_sizes, refused_sheet}
 use Rattle.restating.proofs.Answers.{sheet-refused, slots_kept, bytes-restate}
 use Rattle.restating.proofs.restate.Goals as goal
 
-pub returns-in-Refused : goal.returns-in-Refused
-returns-in-Refused c =
-    let refuses = refused_sheet _ (sym c.check-checked.ensures.value ∙ c.in-Refused.is) in
+pub returns-in-Err : goal.returns-in-Err
+returns-in-Err c =
+    let refuses = refused_sheet _ (sym c.check-checked.ensures.value ∙ c.in-Err.is) in
     let answer = sheet-refused _ _ refuses _ _ in
     record { fills = answer; slots_after = slots_kept _ _ _ answer refl _; by_index = bytes-restate _ _ _ answer }
 
@@ -16,13 +16,13 @@ pub restate_indexed-requires : goal.restate_indexed-requires
 unfolding slot_count
 restate_indexed-requires c =
     let check = c.check-checked in
-    let accepts = sym check.ensures.value ∙ c.in-Accepted.is in
+    let accepts = sym check.ensures.value ∙ c.in-Ok.is in
     record {
       accepted_sheet = (accepted_sheet _ accepts, search rules);
       size_table = accepted_sizes _ accepts check.ensures.sized;
     }
 
-pub returns-in-Accepted : goal.returns-in-Accepted
-returns-in-Accepted c =
+pub returns-in-Ok : goal.returns-in-Ok
+returns-in-Ok c =
     let record { fills = answer; slots_after = slots } = c.restate_indexed.ensures in
     record { fills = answer; slots_after = slots; by_index = bytes-restate _ _ _ answer }

@@ -4,9 +4,9 @@ use Rattle.sheet.proofs.Admitted.{its_header}
 use Rattle.restating.proofs.Answers.{told, vocabulary-within, few_names, built, slots_kept, slots-built}
 use Rattle.restating.proofs.restate_indexed.Goals as goal
 
-pub returns-in-Refused : goal.returns-in-Refused
-returns-in-Refused c =
-    let is = c.in-Refused.is in
+pub returns-in-Err : goal.returns-in-Err
+returns-in-Err c =
+    let is = c.in-Err.is in
     let answer = c.restate_accepted-written.ensures in
     record { fills = told answer is; slots_after = slots_kept _ _ _ answer is _ }
 
@@ -21,9 +21,9 @@ build-requires c =
       name_count_bound = few_names sheet c.vocabulary.ensures;
     }
 
-pub returns-in-Length : goal.returns-in-Length
-returns-in-Length c =
-    let is = c.in-Length.is in
+pub returns-in-Ok : goal.returns-in-Ok
+returns-in-Ok c =
+    let is = c.in-Ok.is in
     let answer = c.restate_accepted-written.ensures in
     let sheet = c.requires.accepted_sheet.0 in
     record {

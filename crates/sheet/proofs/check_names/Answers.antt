@@ -1,7 +1,7 @@
 -- The pairs are judged before the names that they mark.
 use mathlib.Core.Path.{◌≡◌}
 use borrow.Author.Rules.{rules}
-use Rattle.definitions.specs.Outcome.{accepted, lowest, found_at, refuse_lowest}
+use Rattle.definitions.specs.Outcome.{accepted, lowest, refuse_lowest}
 use Rattle.definitions.specs.Sheet.{name_length_limit, text_length, names, name_pairs, text_bytes}
 use Rattle.definitions.specs.Admission.{bad_name_pair, bad_name}
 use Rattle.sheet.specs.Header.{header_of}
@@ -15,7 +15,7 @@ use Rattle.sheet.proofs.check_names.Goals.{After-first_bad_name, After-first_bad
 
 pair_search : (c : After-first_bad_pair) →
     let s = c.args.s.now in
-    c.first_bad_pair.result ≡ found_at (lowest (bad_name_pair (name_pairs s) (text_length s)) (names s))
+    c.first_bad_pair.result ≡ (lowest (bad_name_pair (name_pairs s) (text_length s)) (names s))
 unfolding header_of name_length_limit
 pair_search c =
     rw (c.name_pairs-pairs.ensures, c.requires.header, name_pairs_alike) at c.first_bad_pair.ensures
@@ -27,7 +27,7 @@ pairs_passed c = not_refused _ _ (pair_search (goal.at.In_default c).After-first
 
 name_search : (c : After-first_bad_name) →
     let s = c.args.s.now in
-    c.first_bad_name.result ≡ found_at (lowest (bad_name (name_pairs s) (text_bytes s)) (names s))
+    c.first_bad_name.result ≡ (lowest (bad_name (name_pairs s) (text_bytes s)) (names s))
 unfolding header_of
 name_search c =
     rw (c.name_pairs-pairs.ensures, c.text_bytes.ensures, c.requires.header)
@@ -35,12 +35,12 @@ name_search c =
 
 pub refuse-requires : goal.refuse-requires
 refuse-requires c =
-    name_place c.requires (found_below _ _ (pair_search (goal.at.refuse-requires c).After-first_bad_pair) c.in-At.is)
+    name_place c.requires (found_below _ _ (pair_search (goal.at.refuse-requires c).After-first_bad_pair) c.in-Some.is)
 
-pub returns-in-At : goal.returns-in-At
+pub returns-in-Some : goal.returns-in-Some
 unfolding name_checks
-returns-in-At c =
-    refused_now _ _ (refused_at _ _ (pair_search (goal.at.returns-in-At c).After-first_bad_pair) 4 c.in-At.is)
+returns-in-Some c =
+    refused_now _ _ (refused_at _ _ (pair_search (goal.at.returns-in-Some c).After-first_bad_pair) 4 c.in-Some.is)
     c.refuse.ensures
 
 pub first_bad_name-requires : goal.first_bad_name-requires
@@ -48,15 +48,15 @@ first_bad_name-requires c =
     rw (c.name_pairs-pairs.ensures, c.text_bytes.ensures)
     (has_name_pairs c.requires (none_bad _ _ (pair_search (goal.at.first_bad_name-requires c).After-first_bad_pair) c.in_default.is))
 
-pub refuse-requires-in-At-first_bad_name : goal.refuse-requires-in-At-first_bad_name
-refuse-requires-in-At-first_bad_name c =
-    name_place c.requires (found_below _ _ (name_search (goal.at.refuse-requires-in-At-first_bad_name c).After-first_bad_name) c.in-At-first_bad_name.is)
+pub refuse-requires-in-Some-first_bad_name : goal.refuse-requires-in-Some-first_bad_name
+refuse-requires-in-Some-first_bad_name c =
+    name_place c.requires (found_below _ _ (name_search (goal.at.refuse-requires-in-Some-first_bad_name c).After-first_bad_name) c.in-Some-first_bad_name.is)
 
-pub returns-in-At-first_bad_name : goal.returns-in-At-first_bad_name
+pub returns-in-Some-first_bad_name : goal.returns-in-Some-first_bad_name
 unfolding name_checks
-returns-in-At-first_bad_name c =
-    passed_on _ _ (pairs_passed (goal.at.returns-in-At-first_bad_name c).In_default)
-    (refused_last _ (refused_at _ _ (name_search (goal.at.returns-in-At-first_bad_name c).After-first_bad_name) 5 c.in-At-first_bad_name.is) c.refuse-in-At-first_bad_name.ensures)
+returns-in-Some-first_bad_name c =
+    passed_on _ _ (pairs_passed (goal.at.returns-in-Some-first_bad_name c).In_default)
+    (refused_last _ (refused_at _ _ (name_search (goal.at.returns-in-Some-first_bad_name c).After-first_bad_name) 5 c.in-Some-first_bad_name.is) c.refuse-in-Some-first_bad_name.ensures)
 
 pub returns : goal.returns
 unfolding name_checks

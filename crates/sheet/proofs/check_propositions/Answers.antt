@@ -2,7 +2,7 @@
 use mathlib.Core.Path.{◌≡◌}
 use native.Mathlib.Nat.{le_refl}
 use borrow.Author.Rules.{rules}
-use Rattle.definitions.specs.Outcome.{accepted, lowest, found_at, refuse_lowest}
+use Rattle.definitions.specs.Outcome.{accepted, lowest, refuse_lowest}
 use Rattle.definitions.specs.Sheet.{code_length, names, propositions, proposition_pairs, code_bytes}
 use Rattle.definitions.specs.Admission.{bad_proposition_pair, bad_code, deep_proposition}
 use Rattle.sheet.specs.Header.{header_of}
@@ -18,7 +18,7 @@ use Rattle.sheet.proofs.check_propositions.Goals.{After-first_bad_code, After-fi
 pair_search : (c : After-first_bad_pair) →
     let s = c.args.s.now in
     c.first_bad_pair.result
-    ≡ found_at (lowest (bad_proposition_pair (proposition_pairs s) (code_length s)) (propositions s))
+    ≡ (lowest (bad_proposition_pair (proposition_pairs s) (code_length s)) (propositions s))
 unfolding header_of
 pair_search c =
     rw (c.proposition_pairs-pairs.ensures, c.requires.header, proposition_pairs_alike _ _ _ (le_refl _))
@@ -38,7 +38,7 @@ pairs_good c =
 code_search : (c : After-first_bad_code) →
     let s = c.args.s.now in
     c.first_bad_code.result
-    ≡ found_at (lowest (bad_code (names s) (proposition_pairs s) (code_bytes s)) (propositions s))
+    ≡ (lowest (bad_code (names s) (proposition_pairs s) (code_bytes s)) (propositions s))
 unfolding header_of
 code_search c =
     rw (c.proposition_pairs-pairs.ensures, c.code_bytes-code.ensures, c.requires.header)
@@ -52,7 +52,7 @@ codes_passed c = not_refused _ _ (code_search (goal.at.In_default-first_bad_code
 nesting_search : (c : After-first_deep_proposition) →
     let s = c.args.s.now in
     c.first_deep_proposition.result
-    ≡ found_at (lowest (deep_proposition (names s) (proposition_pairs s) (code_bytes s)) (propositions s))
+    ≡ (lowest (deep_proposition (names s) (proposition_pairs s) (code_bytes s)) (propositions s))
 unfolding header_of
 nesting_search c =
     rw (c.proposition_pairs-pairs.ensures, c.code_bytes-code.ensures, c.requires.header)
@@ -60,28 +60,28 @@ nesting_search c =
 
 pub refuse-requires : goal.refuse-requires
 refuse-requires c =
-    proposition_place c.requires (found_below _ _ (pair_search (goal.at.refuse-requires c).After-first_bad_pair) c.in-At.is)
+    proposition_place c.requires (found_below _ _ (pair_search (goal.at.refuse-requires c).After-first_bad_pair) c.in-Some.is)
 
-pub returns-in-At : goal.returns-in-At
+pub returns-in-Some : goal.returns-in-Some
 unfolding proposition_checks
-returns-in-At c =
-    refused_now _ _ (refused_at _ _ (pair_search (goal.at.returns-in-At c).After-first_bad_pair) 6 c.in-At.is)
+returns-in-Some c =
+    refused_now _ _ (refused_at _ _ (pair_search (goal.at.returns-in-Some c).After-first_bad_pair) 6 c.in-Some.is)
     c.refuse.ensures
 
 pub first_bad_code-requires : goal.first_bad_code-requires
 first_bad_code-requires c =
     rw (c.proposition_pairs-pairs.ensures, c.code_bytes-code.ensures) (pairs_good c)
 
-pub refuse-requires-in-At-first_bad_code : goal.refuse-requires-in-At-first_bad_code
-refuse-requires-in-At-first_bad_code c =
+pub refuse-requires-in-Some-first_bad_code : goal.refuse-requires-in-Some-first_bad_code
+refuse-requires-in-Some-first_bad_code c =
     proposition_place c.requires
-    (found_below _ _ (code_search (goal.at.refuse-requires-in-At-first_bad_code c).After-first_bad_code) c.in-At-first_bad_code.is)
+    (found_below _ _ (code_search (goal.at.refuse-requires-in-Some-first_bad_code c).After-first_bad_code) c.in-Some-first_bad_code.is)
 
-pub returns-in-At-first_bad_code : goal.returns-in-At-first_bad_code
+pub returns-in-Some-first_bad_code : goal.returns-in-Some-first_bad_code
 unfolding proposition_checks
-returns-in-At-first_bad_code c =
-    passed_on _ _ (pairs_passed (goal.at.returns-in-At-first_bad_code c).In_default)
-    (refused_now _ _ (refused_at _ _ (code_search (goal.at.returns-in-At-first_bad_code c).After-first_bad_code) 7 c.in-At-first_bad_code.is) c.refuse-in-At-first_bad_code.ensures)
+returns-in-Some-first_bad_code c =
+    passed_on _ _ (pairs_passed (goal.at.returns-in-Some-first_bad_code c).In_default)
+    (refused_now _ _ (refused_at _ _ (code_search (goal.at.returns-in-Some-first_bad_code c).After-first_bad_code) 7 c.in-Some-first_bad_code.is) c.refuse-in-Some-first_bad_code.ensures)
 
 pub first_deep_proposition-requires : goal.first_deep_proposition-requires
 first_deep_proposition-requires c =
@@ -89,18 +89,18 @@ first_deep_proposition-requires c =
     (has_codes c.requires (pairs_good (goal.at.first_deep_proposition-requires c).In_default)
     (none_bad _ _ (code_search (goal.at.first_deep_proposition-requires c).After-first_bad_code) c.in_default-first_bad_code.is))
 
-pub refuse-requires-in-At-first_deep_proposition : goal.refuse-requires-in-At-first_deep_proposition
-refuse-requires-in-At-first_deep_proposition c =
+pub refuse-requires-in-Some-first_deep_proposition : goal.refuse-requires-in-Some-first_deep_proposition
+refuse-requires-in-Some-first_deep_proposition c =
     proposition_place c.requires
-    (found_below _ _ (nesting_search (goal.at.refuse-requires-in-At-first_deep_proposition c).After-first_deep_proposition) c.in-At-first_deep_proposition.is)
+    (found_below _ _ (nesting_search (goal.at.refuse-requires-in-Some-first_deep_proposition c).After-first_deep_proposition) c.in-Some-first_deep_proposition.is)
 
-pub returns-in-At-first_deep_proposition : goal.returns-in-At-first_deep_proposition
+pub returns-in-Some-first_deep_proposition : goal.returns-in-Some-first_deep_proposition
 unfolding proposition_checks
-returns-in-At-first_deep_proposition c =
-    passed_on _ _ (pairs_passed (goal.at.returns-in-At-first_deep_proposition c).In_default)
-    (passed_on _ _ (codes_passed (goal.at.returns-in-At-first_deep_proposition c).In_default-first_bad_code)
-    (refused_last _ (refused_at _ _ (nesting_search (goal.at.returns-in-At-first_deep_proposition c).After-first_deep_proposition) 8 c.in-At-first_deep_proposition.is)
-    c.refuse-in-At-first_deep_proposition.ensures))
+returns-in-Some-first_deep_proposition c =
+    passed_on _ _ (pairs_passed (goal.at.returns-in-Some-first_deep_proposition c).In_default)
+    (passed_on _ _ (codes_passed (goal.at.returns-in-Some-first_deep_proposition c).In_default-first_bad_code)
+    (refused_last _ (refused_at _ _ (nesting_search (goal.at.returns-in-Some-first_deep_proposition c).After-first_deep_proposition) 8 c.in-Some-first_deep_proposition.is)
+    c.refuse-in-Some-first_deep_proposition.ensures))
 
 pub returns : goal.returns
 unfolding proposition_checks

@@ -1,7 +1,7 @@
 -- The lowest bad step is refused.
 use mathlib.Core.Path.{◌≡◌}
 use borrow.Author.Rules.{rules}
-use Rattle.definitions.specs.Outcome.{lowest, found_at}
+use Rattle.definitions.specs.Outcome.{lowest}
 use Rattle.definitions.specs.Sheet.{names, propositions, steps, step_records}
 use Rattle.definitions.specs.Admission.{bad_step}
 use Rattle.sheet.specs.Header.{header_of}
@@ -14,7 +14,7 @@ use Rattle.sheet.proofs.check_steps.Goals.{After-first_bad_step}
 
 step_search : (c : After-first_bad_step) →
     let s = c.args.s.now in
-    c.first_bad_step.result ≡ found_at (lowest (bad_step (names s) (propositions s) (step_records s)) (steps s))
+    c.first_bad_step.result ≡ (lowest (bad_step (names s) (propositions s) (step_records s)) (steps s))
 unfolding header_of
 step_search c =
     rw (c.step_records-records.ensures, c.requires.header) at c.first_bad_step.ensures
@@ -24,12 +24,12 @@ first_bad_step-requires c = rw c.step_records-records.ensures (steps_present c.r
 
 pub refuse-requires : goal.refuse-requires
 refuse-requires c =
-    step_place c.requires (found_below _ _ (step_search (goal.at.refuse-requires c).After-first_bad_step) c.in-At.is)
+    step_place c.requires (found_below _ _ (step_search (goal.at.refuse-requires c).After-first_bad_step) c.in-Some.is)
 
-pub returns-in-At : goal.returns-in-At
+pub returns-in-Some : goal.returns-in-Some
 unfolding step_checks
-returns-in-At c =
-    refused_last _ (refused_at _ _ (step_search (goal.at.returns-in-At c).After-first_bad_step) 9 c.in-At.is) c.refuse.ensures
+returns-in-Some c =
+    refused_last _ (refused_at _ _ (step_search (goal.at.returns-in-Some c).After-first_bad_step) 9 c.in-Some.is) c.refuse.ensures
 
 pub returns : goal.returns
 unfolding step_checks

@@ -7,9 +7,8 @@ use native.Mathlib.Omega.{arith}
 use lib.ListN.{length}
 use lib.Dec.{ltb}
 use borrow.Author.Rules.{rules}
-use Rattle.definitions.specs.declared.Found.{Found}
-use Rattle.definitions.specs.declared.Found.TheVariants.{Nowhere}
-use Rattle.definitions.specs.Outcome.{accepted, lowest, found_at, refuse_if, refuse_lowest}
+use Rattle.std.specs.Prelude.{Option, None, ℕ}
+use Rattle.definitions.specs.Outcome.{accepted, lowest, refuse_if, refuse_lowest}
 use Rattle.definitions.specs.Sheet.{step_limit, tree_nesting_limit, names, steps, proposition_pairs, step_records, code_bytes}
 use Rattle.definitions.specs.Tree.{height, tree_in}
 use Rattle.definitions.specs.Admission.{too_few_trees, trees_left, deep_tree}
@@ -26,7 +25,7 @@ use Rattle.sheet.proofs.check_trees.Goals.{After-fill_sizes, After-first_deep_tr
 
 -- What holds of the step records and the steps as the program has them holds of the sheet's.
 module _ (s : List ℕ) {records : List ℕ} {h : Sheet} (same : records ≡ step_records s) (header : h ≡ header_of s) where
-  filled_of : {before after : List ℕ} {r : Found} → FilledSizes records h.steps before r after
+  filled_of : {before after : List ℕ} {r : Option ℕ} → FilledSizes records h.steps before r after
       → FilledSizes (step_records s) (steps s) before r after
   unfolding header_of
   filled_of f = rw (same, header) at f
@@ -40,21 +39,21 @@ module _ (s : List ℕ) {records : List ℕ} {h : Sheet} (same : records ≡ ste
   unfolding header_of
   left-of e = sym (rw (same, header) at e)
 
-  deep_of : {r : Found}
-      → r ≡ found_at (lowest (λ k. ltb 256 (height (tree_in (names s) (proposition_pairs s) (code_bytes s) records k))) h.steps)
-      → r ≡ found_at (lowest (deep_tree (names s) (proposition_pairs s) (code_bytes s) (step_records s)) (steps s))
+  deep_of : {r : Option ℕ}
+      → r ≡ (lowest (λ k. ltb 256 (height (tree_in (names s) (proposition_pairs s) (code_bytes s) records k))) h.steps)
+      → r ≡ (lowest (deep_tree (names s) (proposition_pairs s) (code_bytes s) (step_records s)) (steps s))
   unfolding header_of deep_tree tree_nesting_limit
   deep_of e = rw (same, header) at e
 
 -- What the filled table is.
-module _ (s : List ℕ) {before after : List ℕ} {r : Found} (f : FilledSizes (step_records s) (steps s) before r after) where
+module _ (s : List ℕ) {before after : List ℕ} {r : Option ℕ} (f : FilledSizes (step_records s) (steps s) before r after) where
   sized_of : Sized s (steps_finding_trees s) before after
   unfolding steps_finding_trees
   sized_of =
       let search = f.found (names s) (proposition_pairs s) (code_bytes s) in
       record { table = rw search at f.table; kept = rw search at f.kept }
 
-  all_of : r ≡ Nowhere → SizeTable (step_records s) (steps s) after
+  all_of : r ≡ None → SizeTable (step_records s) (steps s) after
   unfolding passed
   all_of e = rw e at f.table
 
@@ -75,7 +74,7 @@ filled c = filled_of _ c.step_records-records.ensures c.requires.0.header c.fill
 tree_search : (c : After-fill_sizes) →
     let s = sheet c in
     c.fill_sizes.result
-    ≡ found_at (lowest (too_few_trees (names s) (proposition_pairs s) (code_bytes s) (step_records s)) (steps s))
+    ≡ (lowest (too_few_trees (names s) (proposition_pairs s) (code_bytes s) (step_records s)) (steps s))
 tree_search c = (filled c).found _ _ _
 
 sized : (c : After-fill_sizes) → Sized (sheet c) (steps_finding_trees (sheet c)) c.args.sizes.now (table c)
@@ -116,7 +115,7 @@ one_left c = not_refused_if _ _ (trees_test (goal.at.Else-leaves_trees c).After-
 height_search : (c : After-first_deep_tree) →
     let s = sheet_filled (goal.at.After-first_deep_tree c).In_default in
     c.first_deep_tree.result
-    ≡ found_at (lowest (deep_tree (names s) (proposition_pairs s) (code_bytes s) (step_records s)) (steps s))
+    ≡ (lowest (deep_tree (names s) (proposition_pairs s) (code_bytes s) (step_records s)) (steps s))
 height_search c =
     deep_of _ c.step_records-records.ensures c.requires.0.header
     (c.first_deep_tree.ensures.found _ _ _)
@@ -132,14 +131,14 @@ fill_sizes-requires c =
 
 pub refuse-requires : goal.refuse-requires
 refuse-requires c =
-    step_place c.requires.0 (found_below _ _ (tree_search (goal.at.refuse-requires c).After-fill_sizes) c.in-At.is)
+    step_place c.requires.0 (found_below _ _ (tree_search (goal.at.refuse-requires c).After-fill_sizes) c.in-Some.is)
 
-pub returns-in-At : goal.returns-in-At
+pub returns-in-Some : goal.returns-in-Some
 unfolding tree_checks
-returns-in-At c =
+returns-in-Some c =
     record {
-      value = refused_now _ _ (refused_at _ _ (tree_search (goal.at.returns-in-At c).After-fill_sizes) 10 c.in-At.is) c.refuse.ensures;
-      sized = sized (goal.at.returns-in-At c).After-fill_sizes;
+      value = refused_now _ _ (refused_at _ _ (tree_search (goal.at.returns-in-Some c).After-fill_sizes) 10 c.in-Some.is) c.refuse.ensures;
+      sized = sized (goal.at.returns-in-Some c).After-fill_sizes;
     }
 
 pub leaves_trees-requires : goal.leaves_trees-requires
@@ -169,18 +168,18 @@ first_deep_tree-requires c =
       steps_in_bounds = (table_long_enough (goal.at.first_deep_tree-requires c).In_default, has.in_range.steps, program_table (goal.at.first_deep_tree-requires c).In_default);
     }
 
-pub refuse-requires-in-At-first_deep_tree : goal.refuse-requires-in-At-first_deep_tree
-refuse-requires-in-At-first_deep_tree c =
-    step_place c.requires.0 (found_below _ _ (height_search (goal.at.refuse-requires-in-At-first_deep_tree c).After-first_deep_tree) c.in-At-first_deep_tree.is)
+pub refuse-requires-in-Some-first_deep_tree : goal.refuse-requires-in-Some-first_deep_tree
+refuse-requires-in-Some-first_deep_tree c =
+    step_place c.requires.0 (found_below _ _ (height_search (goal.at.refuse-requires-in-Some-first_deep_tree c).After-first_deep_tree) c.in-Some-first_deep_tree.is)
 
-pub returns-in-At-first_deep_tree : goal.returns-in-At-first_deep_tree
+pub returns-in-Some-first_deep_tree : goal.returns-in-Some-first_deep_tree
 unfolding tree_checks
-returns-in-At-first_deep_tree c =
+returns-in-Some-first_deep_tree c =
     record {
-      value = passed_on _ _ (trees_passed (goal.at.returns-in-At-first_deep_tree c).In_default)
-          (passed_on _ _ (one_left (goal.at.returns-in-At-first_deep_tree c).Else-leaves_trees)
-          (refused_last _ (refused_at _ _ (height_search (goal.at.returns-in-At-first_deep_tree c).After-first_deep_tree) 11 c.in-At-first_deep_tree.is) c.refuse-in-At-first_deep_tree.ensures));
-      sized = sized (goal.at.returns-in-At-first_deep_tree c).After-fill_sizes;
+      value = passed_on _ _ (trees_passed (goal.at.returns-in-Some-first_deep_tree c).In_default)
+          (passed_on _ _ (one_left (goal.at.returns-in-Some-first_deep_tree c).Else-leaves_trees)
+          (refused_last _ (refused_at _ _ (height_search (goal.at.returns-in-Some-first_deep_tree c).After-first_deep_tree) 11 c.in-Some-first_deep_tree.is) c.refuse-in-Some-first_deep_tree.ensures));
+      sized = sized (goal.at.returns-in-Some-first_deep_tree c).After-fill_sizes;
     }
 
 pub returns : goal.returns

@@ -20,11 +20,11 @@ export_as_proof_term-exported-requires-clause-room_for c =
     (ready c.requires.accepted_sheet {sizes = c.args.sizes.now} (search rules) (search rules) c.requires.size_table).1
 
 pub overflow_sub-last : goal.overflow_sub-last
-overflow_sub-last c = omega (arith, (term_of c.export_as_proof_term-exported.ensures c.in-Term.is).low)
+overflow_sub-last c = omega (arith, (term_of c.export_as_proof_term-exported.ensures c.in-Ok.is).low)
 
-pub returns-in-Term : goal.returns-in-Term
+pub returns-in-Ok : goal.returns-in-Ok
 unfolding step_limit
-returns-in-Term c =
+returns-in-Ok c =
     gives_term c.requires.accepted_sheet
     (λ i. omega (arith, c.type_inv.s i)) (search rules)
     (rw (
@@ -32,11 +32,11 @@ returns-in-Term c =
       c.code_bytes-code.ensures,
       c.step_records-records.ensures,
     ) at c.export_as_proof_term-exported.ensures)
-    c.in-Term.is
+    c.in-Ok.is
 
-pub returns-in-Refused : goal.returns-in-Refused
+pub returns-in-Err : goal.returns-in-Err
 unfolding step_limit
-returns-in-Refused c =
+returns-in-Err c =
     gives_refusal c.requires.accepted_sheet
     (λ i. omega (arith, c.type_inv.s i)) (search rules)
     (rw (
@@ -44,7 +44,7 @@ returns-in-Refused c =
       c.code_bytes-code.ensures,
       c.step_records-records.ensures,
     ) at c.export_as_proof_term-exported.ensures)
-    c.in-Refused.is
+    c.in-Err.is
 
 pub proposition_pairs-pairs-requires : goal.proposition_pairs-pairs-requires
 proposition_pairs-pairs-requires c = its_header c.requires.accepted_sheet

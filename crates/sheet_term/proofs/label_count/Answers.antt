@@ -4,7 +4,7 @@ use borrow.Author.Rules.{rules}
 use Rattle.definitions.specs.Outcome.{map_outcome}
 use Rattle.definitions.specs.Sheet.{step_limit}
 use Rattle.definitions.specs.Answers.{label_count}
-use Rattle.sheet_term.specs.declared.Counted.TheVariants.{Labels}
+use Rattle.std.specs.Prelude.{Ok}
 use Rattle.sheet_term.specs.Counted.{counted_of}
 use Rattle.sheet_term.proofs.Answers.{term_of, refusal_of}
 use Rattle.sheet_term.proofs.label_count.Goals as goal
@@ -18,10 +18,10 @@ annotation_count-requires c =
     let t = term_of c.sheet_term-found.ensures c.in-Held.is in
     (t.held, t.tallied)
 
-pub returns-in-Refused : goal.returns-in-Refused
+pub returns-in-Err : goal.returns-in-Err
 unfolding label_count map_outcome counted_of
-returns-in-Refused c = rw (refusal_of c.sheet_term-found.ensures c.in-Refused.is)
+returns-in-Err c = rw (refusal_of c.sheet_term-found.ensures c.in-Err.is)
 
 pub returns-in-Held : goal.returns-in-Held
 unfolding label_count map_outcome counted_of
-returns-in-Held c = rw (term_of c.sheet_term-found.ensures c.in-Held.is).is_term (ap Labels (c.annotation_count.ensures _))
+returns-in-Held c = rw (term_of c.sheet_term-found.ensures c.in-Held.is).is_term (ap Ok (c.annotation_count.ensures _))

@@ -9,9 +9,9 @@ use Rattle.sheet_term.proofs.sheet_term.Goals as goal
 pub export-requires : goal.export-requires
 export-requires c =
     let check = c.check-checked in
-    let given = c.in-Accepted.is in
+    let given = c.in-Ok.is in
     let accepts = sym check.ensures.value ∙ given in
     record { accepted_sheet = accepted_sheet _ accepts; size_table = accepted_sizes _ accepts check.ensures.sized }
 
-pub returns-in-Refused : goal.returns-in-Refused
-returns-in-Refused c = refuses (not_a_sheet _ (refused_sheet _ (sym c.check-checked.ensures.value ∙ c.in-Refused.is)))
+pub returns-in-Err : goal.returns-in-Err
+returns-in-Err c = refuses (not_a_sheet _ (refused_sheet _ (sym c.check-checked.ensures.value ∙ c.in-Err.is)))

@@ -5,11 +5,11 @@ use Rattle.definitions.specs.Answers.{board_room}
 use Rattle.skriduhol.proofs.Board.{prints_text, prints_line}
 use Rattle.skriduhol.proofs.board_output.Goals as goal
 
-pub returns-in-Length : goal.returns-in-Length
+pub returns-in-Ok : goal.returns-in-Ok
 unfolding board_room
-returns-in-Length c = prints_text _ (omega arith) c.plain_text-filled.ensures.fills_of c.in-Length.is
+returns-in-Ok c = prints_text _ (omega arith) c.plain_text-filled.ensures.fills_of c.in-Ok.is
 
-pub returns-in-Refused : goal.returns-in-Refused
+pub returns-in-Err : goal.returns-in-Err
 unfolding board_room
-returns-in-Refused c =
-    prints_line _ (omega arith) c.plain_text-filled.ensures.fills_of c.in-Refused.is (c.put_refusal.ensures.wrote, c.put_refusal.ensures.located_len_bound)
+returns-in-Err c =
+    prints_line _ (omega arith) c.plain_text-filled.ensures.fills_of c.in-Err.is (c.put_refusal.ensures.wrote, c.put_refusal.ensures.located_len_bound)

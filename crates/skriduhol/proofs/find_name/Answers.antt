@@ -12,42 +12,42 @@ use Rattle.sheet.proofs.NamesAndCode.{within}
 use Rattle.located.proofs.AfterHeader.{header_after_header}
 use Rattle.skriduhol.proofs.Names.{own_too, search_refused, search_found, search_missed}
 use Rattle.skriduhol.proofs.find_name.Goals as goal
-use Rattle.skriduhol.proofs.find_name.Goals.{In-Accepted, In-Refused}
+use Rattle.skriduhol.proofs.find_name.Goals.{In-Ok, In-Err}
 
-is_refused : (c : In-Refused) → header_checks c.args.s.now ≡ refused c.in-Refused.refusal
-is_refused c = stage_refuses _ _ c.check_header-checked.ensures c.in-Refused.is
+is_refused : (c : In-Err) → header_checks c.args.s.now ≡ refused c.in-Err.refusal
+is_refused c = stage_refuses _ _ c.check_header-checked.ensures c.in-Err.is
 
-has_passed : (c : In-Accepted) → header_checks c.args.s.now ≡ accepted tt
-has_passed c = (stage_accepted _ _ c.check_header-checked.ensures c.in-Accepted.is).2
+has_passed : (c : In-Ok) → header_checks c.args.s.now ≡ accepted tt
+has_passed c = (stage_accepted _ _ c.check_header-checked.ensures c.in-Ok.is).2
 
-has_header : (c : In-Accepted) → HasHeader c.args.s.now c.in-Accepted.h
-has_header c = header_given _ (stage_accepted _ _ c.check_header-checked.ensures c.in-Accepted.is).0 (has_passed c)
+has_header : (c : In-Ok) → HasHeader c.args.s.now c.in-Ok.h
+has_header c = header_given _ (stage_accepted _ _ c.check_header-checked.ensures c.in-Ok.is).0 (has_passed c)
 
 pub locate-requires : goal.locate-requires
 locate-requires c = header_after_header _ (is_refused c)
 
 pub vocabulary-requires : goal.vocabulary-requires
-vocabulary-requires c = (has_header (goal.at.vocabulary-requires c).In-Accepted).in_range
+vocabulary-requires c = (has_header (goal.at.vocabulary-requires c).In-Ok).in_range
 
 pub find-requires : goal.find-requires
 unfolding slot_count
-find-requires c = rw c.vocabulary.ensures (omega arith, within (has_header (goal.at.find-requires c).In-Accepted))
+find-requires c = rw c.vocabulary.ensures (omega arith, within (has_header (goal.at.find-requires c).In-Ok))
 
-pub returns-in-Refused : goal.returns-in-Refused
-returns-in-Refused c =
-    let p = own_too _ _ _ (search_refused _ _ _ (is_refused (goal.at.returns-in-Refused c).In-Refused) c.locate.ensures) in
+pub returns-in-Err : goal.returns-in-Err
+returns-in-Err c =
+    let p = own_too _ _ _ (search_refused _ _ _ (is_refused (goal.at.returns-in-Err c).In-Err) c.locate.ensures) in
     record { value = p.0; value_2 = p.1 }
 
-pub returns-in-At : goal.returns-in-At
-returns-in-At c =
+pub returns-in-Some : goal.returns-in-Some
+returns-in-Some c =
     let p = own_too _ _ _
-    (search_found _ _ _ (has_header (goal.at.returns-in-At c).In-Accepted) (has_passed (goal.at.returns-in-At c).In-Accepted)
-    (sym c.in-At.is ∙ (rw c.vocabulary.ensures at c.find.ensures))) in
+    (search_found _ _ _ (has_header (goal.at.returns-in-Some c).In-Ok) (has_passed (goal.at.returns-in-Some c).In-Ok)
+    (sym c.in-Some.is ∙ (rw c.vocabulary.ensures at c.find.ensures))) in
     record { value = p.0; value_2 = p.1 }
 
-pub returns-in-Nowhere : goal.returns-in-Nowhere
-returns-in-Nowhere c =
+pub returns-in-None : goal.returns-in-None
+returns-in-None c =
     let p = own_too _ _ _
-    (search_missed _ _ _ (has_header (goal.at.returns-in-Nowhere c).In-Accepted) (has_passed (goal.at.returns-in-Nowhere c).In-Accepted)
-    (sym c.in-Nowhere.is ∙ (rw c.vocabulary.ensures at c.find.ensures))) in
+    (search_missed _ _ _ (has_header (goal.at.returns-in-None c).In-Ok) (has_passed (goal.at.returns-in-None c).In-Ok)
+    (sym c.in-None.is ∙ (rw c.vocabulary.ensures at c.find.ensures))) in
     record { value = p.0; value_2 = p.1 }

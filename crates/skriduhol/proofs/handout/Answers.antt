@@ -7,18 +7,18 @@ use Rattle.skriduhol.proofs.Handouts.{locatable, text_refused, text_asked}
 use Rattle.skriduhol.proofs.handout.Goals as goal
 
 pub locate-requires : goal.locate-requires
-locate-requires c = locatable _ c.asked_version-asked.ensures _ c.in-Refused.is
+locate-requires c = locatable _ c.asked_version-asked.ensures _ c.in-Err.is
 
 pub locate_written-requires : goal.locate_written-requires
 locate_written-requires c = λ r e. text_after_header _ _ _ _ (written_refused c.styled_text-written.ensures e)
 
-pub returns-in-Refused : goal.returns-in-Refused
-returns-in-Refused c =
-    let fills = text_refused _ c.asked_version-asked.ensures _ c.in-Refused.is c.locate.ensures _ _ in
+pub returns-in-Err : goal.returns-in-Err
+returns-in-Err c =
+    let fills = text_refused _ c.asked_version-asked.ensures _ c.in-Err.is c.locate.ensures _ _ in
     record { fills_of = fills; accurate_text = accurate_text _ _ _ fills }
 
-pub returns-in-Of : goal.returns-in-Of
-returns-in-Of c =
+pub returns-in-Ok : goal.returns-in-Ok
+returns-in-Ok c =
     let fills = fills_back _ c.styled_text-written.ensures c.locate_written.ensures in
-    let answer = text_asked _ c.asked_version-asked.ensures _ c.in-Of.is _ fills in
+    let answer = text_asked _ c.asked_version-asked.ensures _ c.in-Ok.is _ fills in
     record { fills_of = answer; accurate_text = accurate_text _ _ _ answer }

@@ -6,19 +6,19 @@ use Rattle.skriduhol.proofs.Handouts.{locatable}
 use Rattle.skriduhol.proofs.Lengths.{measured, unmeasured, text_locatable}
 use Rattle.skriduhol.proofs.handout_length.Goals as goal
 
-pub returns-in-Refused : goal.returns-in-Refused
+pub returns-in-Err : goal.returns-in-Err
 unfolding text_answer whole_text
-returns-in-Refused c =
-    unmeasured _ c.asked_version-asked.ensures _ _ c.in-Refused.is c.locate.ensures
+returns-in-Err c =
+    unmeasured _ c.asked_version-asked.ensures _ _ c.in-Err.is c.locate.ensures
 
-pub returns-in-Of : goal.returns-in-Of
+pub returns-in-Ok : goal.returns-in-Ok
 unfolding text_answer whole_text
-returns-in-Of c =
-    measured _ c.asked_version-asked.ensures _ _ c.in-Of.is
+returns-in-Ok c =
+    measured _ c.asked_version-asked.ensures _ _ c.in-Ok.is
     c.sheet_text_length-written.ensures c.locate_written.ensures
 
 pub locate-requires : goal.locate-requires
-locate-requires c = locatable _ c.asked_version-asked.ensures _ c.in-Refused.is
+locate-requires c = locatable _ c.asked_version-asked.ensures _ c.in-Err.is
 
 pub locate_written-requires : goal.locate_written-requires
 locate_written-requires c = λ r e. text_locatable _ _ _ c.sheet_text_length-written.ensures e

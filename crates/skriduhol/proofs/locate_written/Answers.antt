@@ -5,10 +5,10 @@ use Rattle.skriduhol.proofs.Located.{length_back, refusal_back}
 use Rattle.skriduhol.proofs.locate_written.Goals as goal
 
 pub locate-requires : goal.locate-requires
-locate-requires c = c.requires _ c.in-Refused.is
+locate-requires c = c.requires _ c.in-Err.is
 
-pub returns-in-Length : goal.returns-in-Length
-returns-in-Length c = λ o e. length_back _ o (sym c.in-Length.is ∙ e)
+pub returns-in-Ok : goal.returns-in-Ok
+returns-in-Ok c = λ o e. length_back _ o (sym c.in-Ok.is ∙ e)
 
-pub returns-in-Refused : goal.returns-in-Refused
-returns-in-Refused c = λ o e. refusal_back _ o c.locate.ensures (sym c.in-Refused.is ∙ e)
+pub returns-in-Err : goal.returns-in-Err
+returns-in-Err c = λ o e. refusal_back _ o c.locate.ensures (sym c.in-Err.is ∙ e)

@@ -4,10 +4,10 @@ use borrow.Author.Rules.{rules}
 use Rattle.skriduhol_c.proofs.Handing.{accepts, refuses, count_accepted, count_refused}
 use Rattle.skriduhol_c.proofs.skriduhol_label_count.Goals as goal
 
-pub returns-in-Labels : goal.returns-in-Labels
-returns-in-Labels c = accepts _ _ (count_accepted _ _ (sym c.in-Labels.is ∙ c.label_count-count.ensures.value))
+pub returns-in-Ok : goal.returns-in-Ok
+returns-in-Ok c = accepts _ _ (count_accepted _ _ (sym c.in-Ok.is ∙ c.label_count-count.ensures.value))
 
-pub returns-in-Refused : goal.returns-in-Refused
-returns-in-Refused c =
-    refuses _ (count_refused _ _ (sym c.in-Refused.is ∙ c.label_count-count.ensures.value))
+pub returns-in-Err : goal.returns-in-Err
+returns-in-Err c =
+    refuses _ (count_refused _ _ (sym c.in-Err.is ∙ c.label_count-count.ensures.value))
     c.hand_refusal.ensures

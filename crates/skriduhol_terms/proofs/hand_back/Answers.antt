@@ -4,8 +4,8 @@ use borrow.Author.Rules.{rules}
 use Rattle.skriduhol_terms.proofs.TermsRead.{size_handed, refusal_handed}
 use Rattle.skriduhol_terms.proofs.hand_back.Goals as goal
 
-pub returns-in-Accepted : goal.returns-in-Accepted
-returns-in-Accepted c = λ o is. size_handed o (sym c.in-Accepted.is ∙ is)
+pub returns-in-Ok : goal.returns-in-Ok
+returns-in-Ok c = λ o is. size_handed o (sym c.in-Ok.is ∙ is)
 
-pub returns-in-Refused : goal.returns-in-Refused
-returns-in-Refused c = λ o is. refusal_handed o (sym c.in-Refused.is ∙ is)
+pub returns-in-Err : goal.returns-in-Err
+returns-in-Err c = λ o is. refusal_handed o (sym c.in-Err.is ∙ is)

@@ -3,7 +3,7 @@ use Prim.Native.Nat.{ℕ, ◌-◌}
 use mathlib.Core.List.{List, []}
 use native.Mathlib.Omega.{arith}
 use borrow.Author.Rules.{rules}
-use Rattle.definitions.specs.declared.Found.{Found}
+use Rattle.std.specs.Prelude.{Option, ℕ}
 use Rattle.definitions.specs.Sheet.{step_size, step_limit}
 use Rattle.definitions.specs.Admission.{too_few_trees}
 use Rattle.steps.specs.Tables.{TreeStart, SizeTable, FilledSizes}
@@ -11,7 +11,7 @@ use Rattle.steps.proofs.Tables.{size_table_none, size_table_more}
 use Rattle.steps.proofs.Filling.{Filling, Filled, filling_none, filling_more, filling_stopped, filling_done}
 use Rattle.steps.proofs.fill_sizes.Goals as goal
 
-answer : {records : List ℕ} {steps : ℕ} {before after : List ℕ} {r : Found}
+answer : {records : List ℕ} {steps : ℕ} {before after : List ℕ} {r : Option ℕ}
     → Filled (λ names pairs code. too_few_trees names pairs code records) (SizeTable records) steps before r after
     → FilledSizes records steps before r after
 answer f = record { found = f.found; table = f.table; kept = f.kept }
@@ -29,7 +29,7 @@ returns-in_default c =
 pub overflow_sub-sizes : goal.overflow_sub-sizes
 unfolding TreeStart
 overflow_sub-sizes c =
-    let s = rw c.in-At.is at c.tree_start.ensures in
+    let s = rw c.in-Some.is at c.tree_start.ensures in
     omega (arith, (s 0 [] []).1)
 
 pub bounds-sizes-k : goal.bounds-sizes-k
@@ -39,7 +39,7 @@ pub loop-k-preserved : goal.loop-k-preserved
 unfolding TreeStart
 loop-k-preserved c =
     let f = c.loop-k.invariant in
-    let s = rw c.in-At.is at c.tree_start.ensures in
+    let s = rw c.in-Some.is at c.tree_start.ensures in
     filling_more f _ c.loop-k-test.true (λ names pairs code. (s names pairs code).0)
     (size_table_more _ _ _ _ (omega arith) f.table s)
 

@@ -3,7 +3,7 @@ use Prim.Native.Nat.{ℕ, ◌-◌}
 use mathlib.Core.List.{List, []}
 use native.Mathlib.Omega.{arith}
 use borrow.Author.Rules.{rules}
-use Rattle.definitions.specs.declared.Found.{Found}
+use Rattle.std.specs.Prelude.{Option, ℕ}
 use Rattle.definitions.specs.Sheet.{step_size, step_limit}
 use Rattle.definitions.specs.Admission.{too_few_trees}
 use Rattle.steps.specs.Tables.{TreeStart, SizeTable, FilledSizes}

@@ -5,7 +5,7 @@ use mathlib.Core.List.{List}
 use native.Mathlib.Omega.{arith}
 use lib.Dec.{ltb}
 use borrow.Author.Tests.{lt-ltb, le-ltb}
-use Rattle.definitions.specs.declared.Found.{Found}
+use Rattle.std.specs.Prelude.{Option, ℕ}
 use Rattle.definitions.specs.Sheet.{step_size}
 use Rattle.definitions.specs.Tree.{height, tree_in}
 use Rattle.steps.specs.Tables.{HeightTable, FilledHeights}
@@ -14,7 +14,7 @@ use Rattle.steps.proofs.Filling.{Filling, Filled, filling_none, filling_more, fi
 use Rattle.steps.proofs.first_deep_tree.Goals as goal
 use Rattle.steps.proofs.first_deep_tree.Invariants.{deeper}
 
-answer : {records : List ℕ} {steps limit : ℕ} {before after : List ℕ} {r : Found}
+answer : {records : List ℕ} {steps limit : ℕ} {before after : List ℕ} {r : Option ℕ}
     → Filled (deeper records limit) (HeightTable records) steps before r after
     → FilledHeights records steps limit before r after
 answer f = record { found = f.found; table = f.table; kept = f.kept }

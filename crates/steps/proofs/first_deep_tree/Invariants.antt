@@ -5,7 +5,7 @@ use mathlib.Core.List.{List}
 use native.Mathlib.Omega.{arith}
 use lib.Dec.{ltb}
 use borrow.Author.Tests.{lt-ltb, le-ltb}
-use Rattle.definitions.specs.declared.Found.{Found}
+use Rattle.std.specs.Prelude.{Option, ℕ}
 use Rattle.definitions.specs.Sheet.{step_size}
 use Rattle.definitions.specs.Tree.{height, tree_in}
 use Rattle.steps.specs.Tables.{HeightTable, FilledHeights}

@@ -6,7 +6,7 @@ use Rattle.definitions.specs.Sheet.{name_limit, pair_size}
 use Rattle.definitions.specs.NameIndex.{slot_count}
 use Rattle.words.specs.Table.{slot_size, slot_offset, table_size}
 use Rattle.term_stack.specs.Turning.{scene_of}
-use Rattle.term_reader.specs.declared.TermRead.TheVariants.{Refused}
+use Rattle.std.specs.Prelude.{Err}
 use Rattle.term_reader.proofs.Sized.{counted_size, no_size}
 use Rattle.term_reader.proofs.size_admitted.Goals as goal
 
@@ -19,7 +19,7 @@ measure-s-requires c =
 pub returns-then-s-eq-REFUSED : goal.returns-then-s-eq-REFUSED
 unfolding scene_of
 returns-then-s-eq-REFUSED c =
-    no_size (c.measure-s.ensures.refused c.if-s-eq-REFUSED.true) (ap Refused c.at.ensures)
+    no_size (c.measure-s.ensures.refused c.if-s-eq-REFUSED.true) (ap Err c.at.ensures)
 
 pub returns : goal.returns
 unfolding scene_of

@@ -4,26 +4,26 @@ use native.Mathlib.Omega.{arith}
 use borrow.Author.Rules.{rules}
 use Rattle.definitions.specs.Sheet.{name_limit}
 use Rattle.definitions.specs.NameIndex.{slot_count}
-use Rattle.name_index.specs.declared.Probed.TheVariants.{Held, Absent}
+use Rattle.std.specs.Prelude.{Ok, Err}
 use Rattle.words.specs.Places.{between}
 use Rattle.words.specs.Table.{searched}
 use Rattle.words.proofs.Indexing.{slot_inside}
 use Rattle.words.proofs.Numbers.{found_again, none_more}
 use Rattle.words.proofs.NewName.{pair_fits, paired_length, one_more}
 use Rattle.words.proofs.number_of_name.Goals as goal
-use Rattle.words.proofs.number_of_name.Goals.{In-Absent, In-Held}
+use Rattle.words.proofs.number_of_name.Goals.{In-Err, In-Held}
 
 -- the name has this number
 held : (c : In-Held) →
     let a = c.args in
-    searched a.names.now a.text.now a.count (between a.at a.end a.text.now) ≡ Held c.in-Held.number
+    searched a.names.now a.text.now a.count (between a.at a.end a.text.now) ≡ Ok c.in-Held.number
 held c = sym c.find_name.ensures ∙ c.in-Held.is
 
 -- the name is absent, and would enter this slot
-absent : (c : In-Absent) →
+absent : (c : In-Err) →
     let a = c.args in
-    searched a.names.now a.text.now a.count (between a.at a.end a.text.now) ≡ Absent c.in-Absent.slot
-absent c = sym c.find_name.ensures ∙ c.in-Absent.is
+    searched a.names.now a.text.now a.count (between a.at a.end a.text.now) ≡ Err c.in-Err.slot
+absent c = sym c.find_name.ensures ∙ c.in-Err.is
 
 pub find_name-requires : goal.find_name-requires
 find_name-requires c =
@@ -32,7 +32,7 @@ find_name-requires c =
 
 pub returns-then-count-eq-NAME_LIMIT : goal.returns-then-count-eq-NAME_LIMIT
 unfolding name_limit
-returns-then-count-eq-NAME_LIMIT c = none_more c.requires.0 _ (absent (goal.at.returns-then-count-eq-NAME_LIMIT c).In-Absent) c.if-count-eq-NAME_LIMIT.true
+returns-then-count-eq-NAME_LIMIT c = none_more c.requires.0 _ (absent (goal.at.returns-then-count-eq-NAME_LIMIT c).In-Err) c.if-count-eq-NAME_LIMIT.true
 
 pub put_pair-requires : goal.put_pair-requires
 unfolding name_limit
@@ -46,7 +46,7 @@ put_slot-requires c =
     let pre = c.requires in
     record {
       room = rw c.put_pair.ensures (paired_length pre.0 c.if-count-eq-NAME_LIMIT.false pre.1);
-      inside = omega (arith, slot_inside pre.0 _ (absent (goal.at.put_slot-requires c).In-Absent));
+      inside = omega (arith, slot_inside pre.0 _ (absent (goal.at.put_slot-requires c).In-Err));
       few = omega (arith, pre.0.few, c.if-count-eq-NAME_LIMIT.false);
     }
 
@@ -62,4 +62,4 @@ pub returns-else-count-eq-NAME_LIMIT : goal.returns-else-count-eq-NAME_LIMIT
 unfolding name_limit
 returns-else-count-eq-NAME_LIMIT c =
     let pre = c.requires in
-    rw (c.put_slot.ensures, c.put_pair.ensures) (one_more pre.0 c.if-count-eq-NAME_LIMIT.false pre.1 (absent (goal.at.returns-else-count-eq-NAME_LIMIT c).In-Absent))
+    rw (c.put_slot.ensures, c.put_pair.ensures) (one_more pre.0 c.if-count-eq-NAME_LIMIT.false pre.1 (absent (goal.at.returns-else-count-eq-NAME_LIMIT c).In-Err))

@@ -9,28 +9,27 @@ use borrow.Author.Rules.{rules}
 use borrow.Author.Tests.{lt-ltb, le-ltb}
 use Rattle.definitions.specs.Sheet.{header_size, text_length, names, code_length, propositions, steps, goal}
 use Rattle.reader.specs.Reading.{number_after}
-use Rattle.reader.specs.declared.Number.{Number}
-use Rattle.reader.specs.declared.Number.TheVariants.{At, End}
+use Rattle.std.specs.Prelude.{Option, Some, None, Result, Ok, Err, ℕ}
 use Rattle.reader.proofs.Numbers.{missing, there}
-use Rattle.sheet.specs.declared.Checked.{Checked}
-use Rattle.sheet.specs.declared.Checked.TheVariants.{Accepted, Refused}
 use Rattle.sheet.specs.Header.{header_of}
 use Rattle.sheet.specs.Checks.{answered, short_check}
 use Rattle.sheet.proofs.Stages.{refused_if, not_refused_if, refused_last, accepted_last}
 use Rattle.sheet.proofs.header.Sheet.header.Goals as goal
+use Rattle.sheet.specs.declared.header.Sheet.{Sheet}
+use Rattle.definitions.specs.declared.Refusal.{Refusal}
 
 module _ (s : List ℕ) where
   -- one of the six is missing
-  refused : (k : ℕ) → k < 6 → {r : Checked} {found : Number} → r ≡ Refused (record { number = 1; place = 0 })
-      → found ≡ End → found ≡ number_after s (2 * k) → r ≡ answered (header_of s) (short_check s)
+  refused : (k : ℕ) → k < 6 → {r : Result Sheet Refusal} {found : Option ℕ} → r ≡ Err (record { number = 1; place = 0 })
+      → found ≡ None → found ≡ number_after s (2 * k) → r ≡ answered (header_of s) (short_check s)
   unfolding short_check header_size
   refused k few is end after =
       refused_last _ (refused_if _ _ (lt-ltb (length s) 12 (omega (arith, missing s (2 * k) (sym end ∙ after))))) is
 
   -- the six are there
-  read : {t n c p k g : ℕ} → At t ≡ number_after s 0 → At n ≡ number_after s 2 → At c ≡ number_after s 4
-      → At p ≡ number_after s 6 → At k ≡ number_after s 8 → At g ≡ number_after s 10
-      → Accepted (record { text_length = t; names = n; code_length = c; propositions = p; steps = k; goal = g })
+  read : {t n c p k g : ℕ} → Some t ≡ number_after s 0 → Some n ≡ number_after s 2 → Some c ≡ number_after s 4
+      → Some p ≡ number_after s 6 → Some k ≡ number_after s 8 → Some g ≡ number_after s 10
+      → Ok (record { text_length = t; names = n; code_length = c; propositions = p; steps = k; goal = g })
       ≡ answered (header_of s) (short_check s)
   unfolding header_of header_size short_check text_length names code_length propositions steps goal
   read t n c p k g =
@@ -40,12 +39,12 @@ module _ (s : List ℕ) where
 pub returns : goal.returns
 returns c =
     read _
-    (sym c.in-At.is ∙ c.header_number.ensures)
-    (sym c.in-At-header_number.is ∙ c.header_number-2.ensures)
-    (sym c.in-At-header_number-2.is ∙ c.header_number-3.ensures)
-    (sym c.in-At-header_number-3.is ∙ c.header_number-4.ensures)
-    (sym c.in-At-header_number-4.is ∙ c.header_number-5.ensures)
-    (sym c.in-At-header_number-5.is ∙ c.header_number-6.ensures)
+    (sym c.in-Some.is ∙ c.header_number.ensures)
+    (sym c.in-Some-header_number.is ∙ c.header_number-2.ensures)
+    (sym c.in-Some-header_number-2.is ∙ c.header_number-3.ensures)
+    (sym c.in-Some-header_number-3.is ∙ c.header_number-4.ensures)
+    (sym c.in-Some-header_number-4.is ∙ c.header_number-5.ensures)
+    (sym c.in-Some-header_number-5.is ∙ c.header_number-6.ensures)
 
 pub returns-in_default : goal.returns-in_default
 returns-in_default c =
