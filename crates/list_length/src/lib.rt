@@ -11,7 +11,7 @@ ghost use Rattle.proof_term_lists.specs.Labels.{term_uses, added_uses, AddedStan
 ghost use Rattle.proof_term_lists.specs.Numbers.{list_numbers};
 ghost use Rattle.list_length.specs.Counts.{Counts, TermCounts, NumbersOf};
 
-use definitions::TermList;
+use definitions::{Refusal, TermList};
 use prefix_code::scan;
 use proof_term_lists::{Added, record_adds};
 use prop_lists::{NextEntry, next_entry};

@@ -9,6 +9,7 @@ ghost use Rattle.restating.specs.Step.{given_of};
 ghost use Rattle.grafting.specs.Answered.{merged_of};
 ghost use Rattle.made_length.specs.Whole.{whole_graft, whole_exercise};
 
+use definitions::Refusal;
 use exercises::exercise;
 use grafting::{Merged, graft};
 use name_index::SLOT_COUNT;

@@ -11,6 +11,7 @@ use number::number_at;
 use restating::Given;
 use skriduhol::{Grafted, Searched, Verdict};
 use skriduhol_terms::Judged;
+use term_reader::TermSize;
 use std::{fs, io};
 
 // The kinds of questions; any other asks for the board's output.
@@ -61,7 +62,7 @@ const YES: usize = 65535;
 // 0 for an accepted answer, its length, its count, a name's number, 1 for yes and 0 for no, or of a judgement the node of a no, and 0;
 // or a refusal's number, place and column.
 #[derive(Clone, Copy)]
-struct Result {
+struct Answer {
     number: usize,
     value: usize,
     column: usize,
@@ -137,17 +138,17 @@ fn read_column(rest: &mut &[u8], number: usize) -> usize {
     read_u16(rest)
 }
 
-fn read_result(rest: &mut &[u8]) -> Result {
+fn read_result(rest: &mut &[u8]) -> Answer {
     let number = wide(read_byte(rest));
     let value = read_u32(rest);
-    Result {
+    Answer {
         number: number,
         value: value,
         column: read_column(rest, number),
     }
 }
 
-fn same_result(a: Result, b: Result) -> bool {
+fn same_result(a: Answer, b: Answer) -> bool {
     if a.number != b.number {
         return false;
     }
@@ -157,38 +158,38 @@ fn same_result(a: Result, b: Result) -> bool {
     a.column == b.column
 }
 
-fn refused(located: Located) -> Result {
+fn refused(located: Located) -> Answer {
     let refusal = located.refusal;
-    Result {
+    Answer {
         number: refusal.number as usize,
         value: refusal.place as usize,
         column: located.column as usize,
     }
 }
 
-fn accepted(value: usize) -> Result {
-    Result {
+fn accepted(value: usize) -> Answer {
+    Answer {
         number: 0,
         value: value,
         column: 0,
     }
 }
 
-fn filled_result(filled: Result<usize, Located>) -> Result {
+fn filled_result(filled: Result<usize, Located>) -> Answer {
     match filled {
         Ok(length) => accepted(length),
         Err(located) => refused(located),
     }
 }
 
-fn count_result(count: Result<usize, Located>) -> Result {
+fn count_result(count: Result<usize, Located>) -> Answer {
     match count {
         Ok(labels) => accepted(labels),
         Err(located) => refused(located),
     }
 }
 
-fn verdict_result(verdict: Verdict) -> Result {
+fn verdict_result(verdict: Verdict) -> Answer {
     match verdict {
         Verdict::Yes => accepted(1),
         Verdict::No => accepted(0),
@@ -196,7 +197,7 @@ fn verdict_result(verdict: Verdict) -> Result {
     }
 }
 
-fn searched_result(searched: Searched) -> Result {
+fn searched_result(searched: Searched) -> Answer {
     match searched {
         Searched::At(i) => accepted(i),
         Searched::Nowhere => accepted(FREE as usize),
@@ -204,7 +205,7 @@ fn searched_result(searched: Searched) -> Result {
     }
 }
 
-fn judged_result(judged: Judged) -> Result {
+fn judged_result(judged: Judged) -> Answer {
     match judged {
         Judged::Yes => accepted(YES),
         Judged::No(node) => accepted(node),
@@ -213,7 +214,7 @@ fn judged_result(judged: Judged) -> Result {
 }
 
 // How many bytes or numbers the list holds of an answer: none of a refusal.
-fn elements(answer: Result) -> usize
+fn elements(answer: Answer) -> usize
     ensures { result ≤ 65536 }
 {
     if answer.number != 0 {
@@ -395,7 +396,7 @@ fn search_agrees(rest: &mut &[u8], s: &[u8], name: &mut [u8]) -> bool {
     input::read_full(rest, name);
     let expected = read_result(rest);
     let mut slots = [0u16; SLOT_COUNT];
-    skriduhol::name_index(s, &mut slots);
+    let _ = skriduhol::name_index(s, &mut slots);
     same_result(
         expected,
         searched_result(skriduhol::find_name(s, &slots, name)),
@@ -452,7 +453,7 @@ fn judge_agrees(rest: &mut &[u8], s: &[u8]) -> bool {
 // What a text answers: its nodes or a refusal, and of a term also its names and its bytes of code.
 #[derive(Drop)]
 struct TermResult {
-    result: Result,
+    result: Answer,
     names: usize,
     code: usize,
 }
@@ -575,7 +576,7 @@ fn reading_agrees(rest: &mut &[u8], text: &[u8]) -> bool {
 // What a graft answers, and whose a refusal is: 0 neither's, 1 the host's, 2 the donor's.
 #[derive(Drop)]
 struct GraftResult {
-    result: Result,
+    result: Answer,
     whose: usize,
 }
 

@@ -8,6 +8,7 @@ ghost use Rattle.identifier_context.specs.Memory.{Holds};
 ghost use Rattle.identifier_context.specs.Promises.{length_after};
 ghost use Rattle.replay_context.specs.Lengths.{length_inserted};
 
+use definitions::Refusal;
 use identifier_context::{ENTRY_SIZE, Entry, Removed};
 use number::{PAIR_SIZE, number_at, pair_length, pair_offset};
 use std::{fs, io};

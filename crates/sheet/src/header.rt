@@ -5,6 +5,7 @@ ghost use Rattle.sheet.specs.Header.{header_of, InRange, layout_of};
 ghost use Rattle.sheet.specs.Checks.{answered, short_check};
 
 use crate::refuse;
+use definitions::Refusal;
 use reader::header_number;
 
 // The six header numbers: T, N, C, P, S and the goal.

@@ -34,6 +34,7 @@ use name_index::{FREE, SLOT_COUNT};
 use restating::Given;
 use skriduhol::{BOARD_ROOM, Grafted, Searched, Verdict};
 use skriduhol_terms::Judged;
+use term_reader::TermSize;
 
 // A refusal's place is the value, and its column the column.
 fn hand_refusal(located: Located, value: &mut usize, column: &mut usize) -> u8

@@ -11,7 +11,7 @@ ghost use Rattle.term_reader.specs.Answered.{answer_of};
 ghost use Rattle.skriduhol_terms.specs.Judged.{JudgesOf};
 ghost use Rattle.skriduhol_terms.specs.Reading.{reading_of, ReadsOf, RestoresOf, MeansTerm};
 
-use definitions::Located;
+use definitions::{Located, Refusal};
 use judgement::Judgement;
 use located::locate;
 use term_reader::TermSize;

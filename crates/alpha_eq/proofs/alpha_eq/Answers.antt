@@ -23,6 +23,6 @@ pub returns-in-Different : goal.returns-in-Different
 unfolding outcome_of
 returns-in-Different c = decides _ _ _ _ _ _ (sym (ap told c.in-Different.is)) c.alpha_eq_under-compared.ensures.answers
 
-pub returns-in-Err : goal.returns-in-Err
+pub returns-in-Refused : goal.returns-in-Refused
 unfolding outcome_of
-returns-in-Err c = decides _ _ _ _ _ _ (sym (ap told c.in-Err.is)) c.alpha_eq_under-compared.ensures.answers
+returns-in-Refused c = decides _ _ _ _ _ _ (sym (ap told c.in-Refused.is)) c.alpha_eq_under-compared.ensures.answers

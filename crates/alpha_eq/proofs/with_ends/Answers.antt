@@ -10,6 +10,6 @@ pub returns-in-No : goal.returns-in-No
 unfolding compared outcome_of
 returns-in-No c = rw c.in-No.is
 
-pub returns-in-Err : goal.returns-in-Err
+pub returns-in-Refused : goal.returns-in-Refused
 unfolding compared outcome_of
-returns-in-Err c = rw c.in-Err.is
+returns-in-Refused c = rw c.in-Refused.is

@@ -18,7 +18,7 @@ admits-requires c =
 pub returns-then-admits : goal.returns-then-admits
 returns-then-admits c =
     let admitted = sym c.admits.ensures ∙ c.if-admits.true in
-    finds (sym (ap (c.loop-left.invariant.1 ∙ search_ends _ _ (omega arith) admitted)))
+    finds (sym (c.loop-left.invariant.1 ∙ search_ends _ _ (omega arith) admitted))
 
 pub loop-left-preserved : goal.loop-left-preserved
 loop-left-preserved c =
@@ -29,7 +29,7 @@ pub returns : goal.returns
 unfolding latest_at context_of
 returns c =
     let none_left : c.loop-left.left ≡ 0 = omega arith in
-    finds (sym (ap (rw none_left at c.loop-left.invariant.1)))
+    finds (sym (rw none_left at c.loop-left.invariant.1))
 
 pub loop-left-init : goal.loop-left-init
 loop-left-init c = (omega arith, refl)

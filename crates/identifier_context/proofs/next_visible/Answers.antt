@@ -45,7 +45,7 @@ unfolding latest_visible visible_from
 left_met {name_of} {entries} {len} {left} {next} e shown l =
     let met : latest_visible name_of entries len left ≡ Some next = rw (e, shown) in
     record {
-      index = sym (ap (l.index ∙ met));
+      index = sym (l.index ∙ met);
       listed = sym (l.listed ∙ visible_listed _ _ _ e (omega (arith, l.inside)) shown);
     }
 
@@ -53,7 +53,7 @@ left_met {name_of} {entries} {len} {left} {next} e shown l =
 left_none : {name_of : ℕ → Name} {entries : List ℕ} {len before : ℕ} → Left name_of entries len before 0
     → Shows name_of entries len before None
 unfolding latest_visible visible_from
-left_none l = record { index = sym (ap l.index); listed = sym (l.listed ∙ visible_none _ _ _) }
+left_none l = record { index = sym l.index; listed = sym (l.listed ∙ visible_none _ _ _) }
 
 pub loop-left-init : goal.loop-left-init
 loop-left-init c =

@@ -56,10 +56,10 @@ wrap_into_type_ascription-requires c =
       (readable v.good v.bytes (concluded v)).paired,
     )
 
-pub returns-in-Err : goal.returns-in-Err
-returns-in-Err c names good =
-    let v = visited (goal.at.returns-in-Err c).After-step_at-step good in
-    label_refused v _ (rw c.in-Err.is at (c.annotation_of-annotation.ensures _ _ (means v.good v.bytes (concluded v))))
+pub returns-in-Refused : goal.returns-in-Refused
+returns-in-Refused c names good =
+    let v = visited (goal.at.returns-in-Refused c).After-step_at-step good in
+    label_refused v _ (rw c.in-Refused.is at (c.annotation_of-annotation.ensures _ _ (means v.good v.bytes (concluded v))))
 
 pub returns-in-Ascribed : goal.returns-in-Ascribed
 returns-in-Ascribed c names good =
