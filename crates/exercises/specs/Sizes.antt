@@ -1,11 +1,10 @@
 -- Propositions by their number of connectives.
-use Rattle.std.specs.Prelude.{ℕ, zero, suc, ◌+◌, ◌*◌, ◌-◌, ◌≤◌, ◌<◌, ◌≡◌, List, length, get_or}
+use Rattle.std.specs.Prelude.{ℕ, zero, suc, ◌+◌, ◌*◌, ◌-◌, ◌≤◌, ◌<◌, ◌≡◌, List, length, get_or, Option, Some, None}
 use Rattle.definitions.specs.Prop.{Prop, True, Connective, and, or, impl}
 use Rattle.definitions.specs.Code.{encode}
 use Rattle.definitions.specs.Exercises.{of_size, exercises}
 use Rattle.exercise_laws.specs.Counts.{before}
 use Rattle.exercises.specs.declared.Place.{Place}
-use Rattle.exercises.specs.declared.Place.TheVariants.{At, Past}
 use Rattle.exercises.specs.declared.Parts.{Parts}
 
 -- at most three names, and at most three connectives
@@ -37,9 +36,9 @@ pub record LocatedAt (names n ordinal k index : ℕ) : Type 0 where
   pub within : ordinal < length (exercises names n)
   pub same : get_or (exercises names n) ordinal True ≡ prop_at names k index
 
-abbrev pub Located : ℕ → ℕ → ℕ → Place → Type 0
-Located names n ordinal (At k index) = LocatedAt names n ordinal k index
-Located names n ordinal Past = length (exercises names n) ≤ ordinal
+abbrev pub Located : ℕ → ℕ → ℕ → Option Place → Type 0
+Located names n ordinal (Some p) = LocatedAt names n ordinal p.size p.index
+Located names n ordinal None = length (exercises names n) ≤ ordinal
 
 -- the parts of what stands at an index among those of one root
 pub record Divided (names k i : ℕ) (r : Parts) : Type 0 where

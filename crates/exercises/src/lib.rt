@@ -50,12 +50,13 @@ fn count(names: usize, k: usize) -> usize
 
 // The number of connectives of the proposition at an ordinal, and its index among those of as many.
 #[derive(Drop)]
-enum Place {
-    At { size: usize, index: usize },
-    Past,
+struct Place {
+    size: usize,
+    index: usize,
 }
 
-fn locate(names: usize, n: usize, ordinal: usize) -> Place
+// The place of the proposition at an ordinal, if the list is not past its end there.
+fn locate(names: usize, n: usize, ordinal: usize) -> Option<Place>
     requires { Few names n }
     ensures { Located names n ordinal result }
 {
@@ -64,12 +65,12 @@ fn locate(names: usize, n: usize, ordinal: usize) -> Place
     while size <= n {
         let c = count(names, size);
         if index < c {
-            return Place::At { size, index };
+            return Some(Place { size, index });
         }
         index -= c;
         size += 1;
     }
-    Place::Past
+    None
 }
 
 // The left part's number of connectives, and the index of each part among those of as many.
@@ -162,19 +163,19 @@ pub fn exercise(text: &[u8], n: usize, ordinal: usize, out: &mut [u8]) -> Result
             place: 0,
         });
     }
-    let Place::At { size, index } = locate(names, n, ordinal) else {
+    let Some(place) = locate(names, n, ordinal) else {
         return Err(Refusal {
             number: 30,
             place: 0,
         });
     };
-    let end = put_sized(out, 0, names, size, index, false);
+    let end = put_sized(out, 0, names, place.size, place.index, false);
     if out.len() < end {
         return Err(Refusal {
             number: 16,
             place: 0,
         });
     }
-    put_sized(out, 0, names, size, index, true);
+    put_sized(out, 0, names, place.size, place.index, true);
     Ok(end)
 }

@@ -107,7 +107,7 @@ module _ {s : List ℕ} {h : Sheet} (a : AcceptedSheet s h) where
       → HeightTable (step_records s) (steps s) after
   unfolding deep_tree passed
   all_shallow {r} f =
-      let nowhere : r ≡ None = f.found (names s) (proposition_pairs s) (code_bytes s) ∙ ap checks.nested in
+      let nowhere : r ≡ None = f.found (names s) (proposition_pairs s) (code_bytes s) ∙ checks.nested in
       rw nowhere at f.table
 
   pub root_level : {records : List ℕ} {r : Option ℕ} {before after : List ℕ} → records ≡ step_records s

@@ -30,7 +30,7 @@ found_none (Some j) e = absurd (let z : ◌≡◌ {A = ℕ} 0 1 = cc in omega ar
 -- the index of a sheet answers as the plain search
 pub searched : {s : List ℕ} {v : Vocabulary} {slots : List ℕ} → Indexed s v slots → {r : Option ℕ} {x y : Name} → x ≡ y
     → r ≡ (index.find (name_in s v) slots x) → r ≡ (plain_search (name_of s) (names s) y)
-searched {s} {v} {slots} a {r} {x} {y} same e = e ∙ ap (rw (a.are_names, a.index, same) (sheet_agrees s y a.few))
+searched {s} {v} {slots} a {r} {x} {y} same e = e ∙ (rw (a.are_names, a.index, same) (sheet_agrees s y a.few))
 
 -- what the donor's own index says of its name n
 module _ (d : List ℕ) (n : ℕ) {q : Option ℕ} (searched-there : q ≡ (plain_search (name_of d) (names d) (name_of d n))) where

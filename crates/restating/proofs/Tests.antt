@@ -66,7 +66,7 @@ module _ {s : List ℕ} {h : Sheet} (a : AcceptedSheet s h) where
   unfolding deep_tree passed
   all_shallow {r} f =
       let shallow = (admitted_checks s (root_of s) a.root).0.nested in
-      let nowhere : r ≡ None = f.found (names s) (proposition_pairs s) (code_bytes s) ∙ ap shallow in
+      let nowhere : r ≡ None = f.found (names s) (proposition_pairs s) (code_bytes s) ∙ shallow in
       rw nowhere at f.table
 
   pub levels_decide : {records : List ℕ} {r : Option ℕ} {before after : List ℕ} → records ≡ step_records s → h.steps < step_limit

@@ -10,8 +10,8 @@ judge_held-requires c =
     let is = c.in-Held.is in
     (accepted-of gives is, term_of gives is)
 
-pub returns-in-Err : goal.returns-in-Err
-returns-in-Err c = no_term _ _ _ (refusal_of c.sheet_term-found.ensures c.in-Err.is)
+pub returns-in-Refused : goal.returns-in-Refused
+returns-in-Refused c = no_term _ _ _ (refusal_of c.sheet_term-found.ensures c.in-Refused.is)
 
 pub returns-in-Held : goal.returns-in-Held
 returns-in-Held c =

@@ -26,8 +26,8 @@ list_count-entries-requires c =
       v_len_bound = code_short sheet same;
     }
 
-pub returns-in-Err : goal.returns-in-Err
-returns-in-Err c = refusal_told _ _ (refusal_of c.sheet_term-found.ensures c.in-Err.is)
+pub returns-in-Refused : goal.returns-in-Refused
+returns-in-Refused c = refusal_told _ _ (refusal_of c.sheet_term-found.ensures c.in-Refused.is)
 
 pub returns-in-Held : goal.returns-in-Held
 returns-in-Held c =

@@ -16,10 +16,10 @@ judge-answer-requires c =
     let record { accepted_sheet = sheet; size_table = sizes } = c.requires in
     record { accepted_sheet = (sheet, has_record _ c.put_record.ensures); size_table = sizes }
 
-pub returns-in-Err : goal.returns-in-Err
+pub returns-in-Refused : goal.returns-in-Refused
 unfolding outcome_of
-returns-in-Err c =
-    tests_refused _ _ c.requires.accepted_sheet.root c.put_record.ensures (sym (ap outcome_of c.in-Err.is) ∙ c.judge-answer.ensures) _ _
+returns-in-Refused c =
+    tests_refused _ _ c.requires.accepted_sheet.root c.put_record.ensures (sym (ap outcome_of c.in-Refused.is) ∙ c.judge-answer.ensures) _ _
 
 pub returns-in-No : goal.returns-in-No
 unfolding outcome_of

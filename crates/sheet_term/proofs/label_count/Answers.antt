@@ -18,9 +18,9 @@ annotation_count-requires c =
     let t = term_of c.sheet_term-found.ensures c.in-Held.is in
     (t.held, t.tallied)
 
-pub returns-in-Err : goal.returns-in-Err
+pub returns-in-Refused : goal.returns-in-Refused
 unfolding label_count map_outcome counted_of
-returns-in-Err c = rw (refusal_of c.sheet_term-found.ensures c.in-Err.is)
+returns-in-Refused c = rw (refusal_of c.sheet_term-found.ensures c.in-Refused.is)
 
 pub returns-in-Held : goal.returns-in-Held
 unfolding label_count map_outcome counted_of

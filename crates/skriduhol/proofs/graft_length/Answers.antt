@@ -14,11 +14,11 @@ donor_bytes c = λ i. omega (arith, c.type_inv.donor i)
 
 pub locate_by-requires : goal.locate_by-requires
 locate_by-requires c =
-    graft_locatable _ _ _ c.graft_length-merged.ensures (host_bytes (goal.at.locate_by-requires c).After-graft_length-merged) (donor_bytes (goal.at.locate_by-requires c).After-graft_length-merged) c.in-Err.is
+    graft_locatable _ _ _ c.graft_length-merged.ensures (host_bytes (goal.at.locate_by-requires c).After-graft_length-merged) (donor_bytes (goal.at.locate_by-requires c).After-graft_length-merged) c.in-Refused.is
 
 pub returns-in-Ok : goal.returns-in-Ok
 returns-in-Ok c = graft_measured _ _ _ c.graft_length-merged.ensures c.in-Ok.is
 
-pub returns-in-Err : goal.returns-in-Err
-returns-in-Err c =
-    graft_unmeasured _ _ _ c.graft_length-merged.ensures c.in-Err.is c.locate_by.ensures
+pub returns-in-Refused : goal.returns-in-Refused
+returns-in-Refused c =
+    graft_unmeasured _ _ _ c.graft_length-merged.ensures c.in-Refused.is c.locate_by.ensures

@@ -14,5 +14,5 @@ pub list-requires : goal.list-requires
 list-requires c =
     (accepted-of c.sheet_term-found.ensures c.in-Held.is, term_of c.sheet_term-found.ensures c.in-Held.is)
 
-pub returns-in-Err : goal.returns-in-Err
-returns-in-Err c = no_list _ _ (refusal_of c.sheet_term-found.ensures c.in-Err.is) _
+pub returns-in-Refused : goal.returns-in-Refused
+returns-in-Refused c = no_list _ _ (refusal_of c.sheet_term-found.ensures c.in-Refused.is) _

@@ -17,5 +17,5 @@ text-requires c =
       held_term = term_of c.sheet_term-found.ensures c.in-Held.is;
     }
 
-pub returns-in-Err : goal.returns-in-Err
-returns-in-Err c = no_text _ _ _ (refusal_of c.sheet_term-found.ensures c.in-Err.is) _
+pub returns-in-Refused : goal.returns-in-Refused
+returns-in-Refused c = no_text _ _ _ (refusal_of c.sheet_term-found.ensures c.in-Refused.is) _

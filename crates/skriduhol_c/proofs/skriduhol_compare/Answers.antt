@@ -13,6 +13,6 @@ pub returns-in-No : goal.returns-in-No
 unfolding yes_or_no
 returns-in-No c = accepts _ yes_or_no (verdict_no _ _ (sym c.in-No.is ∙ c.compare-verdict.ensures))
 
-pub returns-in-Err : goal.returns-in-Err
-returns-in-Err c =
-    refuses _ (verdict_refused _ _ (sym c.in-Err.is ∙ c.compare-verdict.ensures)) c.hand_refusal.ensures
+pub returns-in-Refused : goal.returns-in-Refused
+returns-in-Refused c =
+    refuses _ (verdict_refused _ _ (sym c.in-Refused.is ∙ c.compare-verdict.ensures)) c.hand_refusal.ensures

@@ -26,10 +26,10 @@ returns-in-None c =
       hands_2 = λ own. accepts _ number_or_free (none_found _ _ (sym is ∙ found.value_2 own));
     }
 
-pub returns-in-Err : goal.returns-in-Err
-returns-in-Err c =
+pub returns-in-Refused : goal.returns-in-Refused
+returns-in-Refused c =
     let found = c.find_name-searched.ensures in
-    let is = c.in-Err.is in
+    let is = c.in-Refused.is in
     let handed = c.hand_refusal.ensures in
     record {
       hands = refuses _ (search_refused _ _ (sym is ∙ found.value)) handed;

@@ -9,5 +9,5 @@ returns-in-Yes c = yes_handed _ _ _ c.judge-judged.ensures c.in-Yes.is
 pub returns-in-No : goal.returns-in-No
 returns-in-No c = no_handed _ _ _ c.judge-judged.ensures c.in-No.is
 
-pub returns-in-Err : goal.returns-in-Err
-returns-in-Err c = refusal_handed _ _ _ c.judge-judged.ensures c.in-Err.is c.hand_refusal.ensures
+pub returns-in-Refused : goal.returns-in-Refused
+returns-in-Refused c = refusal_handed _ _ _ c.judge-judged.ensures c.in-Refused.is c.hand_refusal.ensures

@@ -5,7 +5,7 @@ use Rattle.skriduhol_terms.proofs.Handed.{refused_is, yes_back, no_back, refusal
 use Rattle.skriduhol_terms.proofs.judge.Goals as goal
 
 pub locate-requires : goal.locate-requires
-locate-requires c = judgement_after_header _ _ _ (refused_is _ _ _ c.judge-judged.ensures c.in-Err.is)
+locate-requires c = judgement_after_header _ _ _ (refused_is _ _ _ c.judge-judged.ensures c.in-Refused.is)
 
 pub returns-in-Yes : goal.returns-in-Yes
 returns-in-Yes c = yes_back _ _ _ c.judge-judged.ensures c.in-Yes.is
@@ -13,6 +13,6 @@ returns-in-Yes c = yes_back _ _ _ c.judge-judged.ensures c.in-Yes.is
 pub returns-in-No : goal.returns-in-No
 returns-in-No c = no_back _ _ _ c.judge-judged.ensures c.in-No.is
 
-pub returns-in-Err : goal.returns-in-Err
-returns-in-Err c =
-    refusal_back _ _ _ c.judge-judged.ensures c.in-Err.is c.locate.ensures
+pub returns-in-Refused : goal.returns-in-Refused
+returns-in-Refused c =
+    refusal_back _ _ _ c.judge-judged.ensures c.in-Refused.is c.locate.ensures

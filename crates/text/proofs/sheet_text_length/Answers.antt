@@ -10,8 +10,8 @@ text_length-requires c =
     let gives = c.sheet_term-found.ensures in
     record { accepted_sheet = accepted-of gives c.in-Held.is; held_term = term_of gives c.in-Held.is }
 
-pub returns-in-Err : goal.returns-in-Err
-returns-in-Err c = refusal_told _ _ _ (refusal_of c.sheet_term-found.ensures c.in-Err.is)
+pub returns-in-Refused : goal.returns-in-Refused
+returns-in-Refused c = refusal_told _ _ _ (refusal_of c.sheet_term-found.ensures c.in-Refused.is)
 
 pub returns-in-Held : goal.returns-in-Held
 returns-in-Held c =

@@ -11,13 +11,13 @@ use Rattle.words.proofs.Indexing.{slot_inside}
 use Rattle.words.proofs.Numbers.{found_again, none_more}
 use Rattle.words.proofs.NewName.{pair_fits, paired_length, one_more}
 use Rattle.words.proofs.number_of_name.Goals as goal
-use Rattle.words.proofs.number_of_name.Goals.{In-Err, In-Held}
+use Rattle.words.proofs.number_of_name.Goals.{In-Err, In-Ok}
 
 -- the name has this number
-held : (c : In-Held) →
+held : (c : In-Ok) →
     let a = c.args in
-    searched a.names.now a.text.now a.count (between a.at a.end a.text.now) ≡ Ok c.in-Held.number
-held c = sym c.find_name.ensures ∙ c.in-Held.is
+    searched a.names.now a.text.now a.count (between a.at a.end a.text.now) ≡ Ok c.in-Ok.number
+held c = sym c.find_name.ensures ∙ c.in-Ok.is
 
 -- the name is absent, and would enter this slot
 absent : (c : In-Err) →
@@ -55,8 +55,8 @@ unfolding name_limit
 overflow_add-result c =
     omega (arith, c.requires.0.few)
 
-pub returns-in-Held : goal.returns-in-Held
-returns-in-Held c = found_again c.requires.0 _ (held c)
+pub returns-in-Ok : goal.returns-in-Ok
+returns-in-Ok c = found_again c.requires.0 _ (held c)
 
 pub returns-else-count-eq-NAME_LIMIT : goal.returns-else-count-eq-NAME_LIMIT
 unfolding name_limit
