@@ -36,7 +36,7 @@ module _ {text : List ℕ} {at end : ℕ} (ends : NameEnds text at end) where
 
   module _ (h : end ≤ length text) where
     pub name_place : length text ≤ term_text_limit → NamePlace text at end
-    name_place l = record { short = l; Some = ends.from h; few = ends.short h; within = h }
+    name_place l = record { short = l; some = ends.from h; few = ends.short h; within = h }
 
     module _ {pairs after : List ℕ} {count : ℕ} {r : Numbered} (number : NumberOf (between at end text) text pairs count after r) where
       pub too_many : {n : ℕ} → name_limit ≤ r.number

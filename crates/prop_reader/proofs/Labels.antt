@@ -308,7 +308,7 @@ module _ {text : List ℕ} {at r : ℕ} (ends : LoneEnds text at r) (h : r ≤ l
   lone_prop = lone_reads 128 (between at r text) _ _ (λ e. absurd (omega arith)) (ends.gives h) (ends.no_bracket h) (ends.no_connective h)
 
   pub lone_place : length text ≤ term_text_limit → NamePlace text at r
-  lone_place short = record { short = short; Some = ends.from h; few = ends.short h; within = h }
+  lone_place short = record { short = short; some = ends.from h; few = ends.short h; within = h }
 
   module _ (types : List Name) {t : Bool} (tested : t ≡ occurs eq_name (between at r text) types) where
     -- which is not listed

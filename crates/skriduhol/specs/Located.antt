@@ -3,19 +3,18 @@ use Rattle.std.specs.Prelude.{ℕ, ◌≡◌, Bool, true, false, List, length, E
 use Rattle.definitions.specs.Outcome.{Outcome, accepted, refused}
 use Rattle.definitions.specs.Answers.{located}
 use Rattle.output.specs.Written.{filled}
-use Rattle.skriduhol.specs.declared.Filled as filled-type
 use Rattle.skriduhol.specs.declared.Verdict.{Verdict}
 use Rattle.skriduhol.specs.declared.Verdict.TheVariants as verdict
 use Rattle.definitions.specs.declared.Located.{Located}
 
 -- Of a sheet's bytes:
 module _ (s : List ℕ) where
-  unfoldable pub filled_of : Outcome (List ℕ) → filled-type.Filled
+  unfoldable pub filled_of : Outcome (List ℕ) → Result ℕ Located
   filled_of (accepted a) = Ok (length a)
   filled_of (refused r) = Err (located s r)
 
   -- an accepted answer stands at the start of the lent memory, and a refusal leaves all as it was
-  pub record FillsOf (outcome : Outcome (List ℕ)) (before after : List ℕ) (r : filled-type.Filled) : Type 0 where
+  pub record FillsOf (outcome : Outcome (List ℕ)) (before after : List ℕ) (r : Result ℕ Located) : Type 0 where
     pub answer : r ≡ filled_of outcome
     pub memory : after ≡ filled outcome before
 

@@ -104,7 +104,7 @@ module _ {z : Scene} {work : List ℕ} {s : Progress} {q : Purpose} (c : Closed 
   placed_at end count from within = record { within = within; near = let n = c.for.placed.near in omega (arith, n, from) }
 
   pub name_place : {end : ℕ} → NameEnds z.text s.at end → end ≤ length z.text → NamePlace z.text s.at end
-  name_place ends within = record { short = c.for.comes.reached.short; Some = ends.from within; few = ends.short within; within = within }
+  name_place ends within = record { short = c.for.comes.reached.short; some = ends.from within; few = ends.short within; within = within }
 
   -- a name
   module _ {end : ℕ} {after : List ℕ} {n : Numbered} (ends : NameEnds z.text s.at end) (within : end ≤ length z.text)

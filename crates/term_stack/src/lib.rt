@@ -2,7 +2,7 @@
 // term in hand, whose record is the last.
 #![tactic(auto)]
 
-ghost use Rattle.std.specs.Prelude.{◌≡◌, true, ◌<◌, ◌≤◌, max, length, get_or, leb, Some};
+ghost use Rattle.std.specs.Prelude.{◌≡◌, true, ◌<◌, ◌≤◌, max, length, get_or, leb};
 ghost use Rattle.definitions.specs.TermReader.{same};
 ghost use Rattle.term_stack.specs.Forms.{form_table};
 ghost use Rattle.term_stack.specs.Growing.{Makes, Enters, Tops};
