@@ -17,7 +17,7 @@ use Rattle.words.specs.Places.{between, WordEnds}
 use Rattle.words.specs.Starts.{as_call, as_start}
 use Rattle.term_stack.specs.declared.Progress.{Progress}
 use Rattle.term_stack.specs.Numbers.{purpose_kind, purpose_number, purpose_nesting, purpose_tally, purpose_records, stack_records}
-use Rattle.term_stack.specs.Standing.{Scene, Some, AtReading}
+use Rattle.term_stack.specs.Standing.{Scene, ThereIs, AtReading}
 use Rattle.term_stack.specs.Turning.{left_at}
 use Rattle.term_stack.specs.Using.{Turned}
 use Rattle.term_stack.proofs.Stores.{stored_as}
@@ -65,7 +65,7 @@ pub record Calls (r : Start) (f : NamedFunction) : Type 0 where
   pub is : r ≡ as_call f
 
 -- each does but for these five
-pub call_word_lem : (r : Start) → (r ≡ Function → ⊥) → (r ≡ Case → ⊥) → (r ≡ Let → ⊥) → (r ≡ Sorry → ⊥) → (r ≡ Other → ⊥) → Some (Calls r)
+pub call_word_lem : (r : Start) → (r ≡ Function → ⊥) → (r ≡ Case → ⊥) → (r ≡ Let → ⊥) → (r ≡ Sorry → ⊥) → (r ≡ Other → ⊥) → ThereIs (Calls r)
 unfolding meant as_call
 call_word_lem Fst _ _ _ _ _ = record { value = fst; holds = record { means = refl; is = refl } }
 call_word_lem Snd _ _ _ _ _ = record { value = snd; holds = record { means = refl; is = refl } }

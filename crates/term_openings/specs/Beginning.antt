@@ -14,7 +14,7 @@ use Rattle.prop_parts.specs.declared.NameRead as reader
 use Rattle.term_stack.specs.declared.Progress.{Progress}
 use Rattle.term_stack.specs.declared.Purpose.{Purpose}
 use Rattle.term_stack.specs.Numbers.{purpose_records, stack_numbers, stack_records}
-use Rattle.term_stack.specs.Standing.{Scene, Some, Stored, Placed}
+use Rattle.term_stack.specs.Standing.{Scene, ThereIs, Stored, Placed}
 use Rattle.term_stack.specs.Turning.{Standpoint, left_at}
 use Rattle.term_stack.specs.Using.{Comes, PurposeOf, Turned}
 
@@ -70,7 +70,7 @@ pub record NameThere (what text : List ℕ) (at : ℕ) (pairs : List ℕ) (count
 pub record NameAfter (what text : List ℕ) (at : ℕ) (pairs : List ℕ) (count : ℕ) (after : List ℕ) (r : reader.NameRead) : Type 0 where
   pub fails : length text < r.end → (t : List ℕ) (x : Name) (rest : List ℕ) → expect what (drop at text) ≡ given tt t → name t ≡ given x rest
       → name_limit < length (add_name (table_names pairs text count) x)
-  pub gives : r.end ≤ length text → Some (NameThere what text at pairs count after r)
+  pub gives : r.end ≤ length text → ThereIs (NameThere what text at pairs count after r)
 
 -- Turns that leave the labels' code alone, or the names too: what they do not see may be anything.
 
@@ -82,14 +82,14 @@ with_names z text names = record { types = z.types; text = text; names = names; 
 
 -- a turn that reads text
 unfoldable pub TextBegins : Standpoint → List ℕ → List ℕ → Progress → Type 0
-TextBegins At text work s = Some (λ (z : Scene). At (with_text z text) work s)
+TextBegins At text work s = ThereIs (λ (z : Scene). At (with_text z text) work s)
 
 unfoldable pub TextEnds : Standpoint → List ℕ → List ℕ → Progress → List ℕ → Progress → Type 0
 TextEnds At text work s work' r = (z : Scene) → At (with_text z text) work s → Turned (with_text z text) work' (left_at text s 0) r
 
 -- a turn that reads text and names
 unfoldable pub NamesBegin : Standpoint → List ℕ → List ℕ → List ℕ → Progress → Type 0
-NamesBegin At text names work s = Some (λ (z : Scene). At (with_names z text names) work s)
+NamesBegin At text names work s = ThereIs (λ (z : Scene). At (with_names z text names) work s)
 
 unfoldable pub NamesEnd : Standpoint → List ℕ → List ℕ → List ℕ → Progress → List ℕ → List ℕ → Progress → Type 0
 NamesEnd At text names work s names' work' r =

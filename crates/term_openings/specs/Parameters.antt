@@ -9,7 +9,7 @@ use Rattle.definitions.proofs.Readings.{given}
 use Rattle.words.specs.Table.{table_names, Noted}
 use Rattle.prop_reader.specs.declared.LabelRead.{LabelRead}
 use Rattle.prop_reader.specs.Limits.{fits_label}
-use Rattle.term_stack.specs.Standing.{Some, Extends}
+use Rattle.term_stack.specs.Standing.{ThereIs, Extends}
 
 unfoldable pub fits_parameter : List Name → Option (Label Name) → Bool
 fits_parameter seen None = true
@@ -35,4 +35,4 @@ pub record ParameterAnswer
     (text : List ℕ) (at : ℕ) (types : List Name) (pairs : List ℕ) (count : ℕ) (code : List ℕ) (to : ℕ) (after code' : List ℕ) (r : LabelRead) : Type 0 where
   pub fails : length text < r.end → (l : Option (Label Name)) (rest : List ℕ) → parameter_label types prop_levels (drop at text) ≡ given l rest
       → fits_parameter (table_names pairs text count) l ≡ false
-  pub gives : r.end ≤ length text → Some (ParameterGiven text at types pairs count code to after code' r)
+  pub gives : r.end ≤ length text → ThereIs (ParameterGiven text at types pairs count code to after code' r)

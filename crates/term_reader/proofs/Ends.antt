@@ -23,7 +23,7 @@ use Rattle.words.proofs.Added.{added_firsts}
 use Rattle.words.proofs.Numbers.{names_length}
 use Rattle.term_stack.specs.declared.Progress.{Progress}
 use Rattle.term_stack.specs.Numbers.{stack_records, term_records}
-use Rattle.term_stack.specs.Standing.{Scene, Some, Extends, Behind, AtTerm}
+use Rattle.term_stack.specs.Standing.{Scene, ThereIs, Extends, Behind, AtTerm}
 use Rattle.term_stack.specs.Using.{Refuses}
 use Rattle.term_reader.specs.Between.{AtTurn, goes_on}
 use Rattle.term_reader.specs.Whole.{Unsettled, none, more, bracketed, Settles, WholeTerm, CountsOf, Read, ReadEnds}
@@ -115,10 +115,10 @@ module _ {z : Scene} {work : List ℕ} {s r : Progress} (there : AtTurn z work s
   refused_end why =
       ⊎_elim (λ gone. there.refused gone) (λ last. unsettled (unwaited (there.giving last.0).behind last.1) why) at_end
 
-  given_end : (s.mode ≡ 3 → ⊥) → length z.text ≤ s.at → s.own ≡ false → Some (λ (t : ProofTerm Name). Read t z work s)
+  given_end : (s.mode ≡ 3 → ⊥) → length z.text ≤ s.at → s.own ≡ false → ThereIs (λ (t : ProofTerm Name). Read t z work s)
   given_end some ends bare = ⊎_elim (λ gone. absurd (some gone)) (λ last. read (there.giving last.0) last.1) at_end
     where
-      read : AtTerm giving z work s → s.depth ≡ 0 → Some (λ (t : ProofTerm Name). Read t z work s)
+      read : AtTerm giving z work s → s.depth ≡ 0 → ThereIs (λ (t : ProofTerm Name). Read t z work s)
       read a e =
           let b = unwaited a.behind e in
           record { value = a.term.shown; holds = record { whole = whole b ends bare; counts = counts b } }

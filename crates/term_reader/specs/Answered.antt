@@ -12,7 +12,7 @@ use Rattle.definitions.specs.TermText.{nodes, term_text_limit, all_admitted, wit
 use Rattle.definitions.specs.TermMemory.{different_names, place, text_labels, labels_size, records_of, store_labels, record_numbers, TermRoom, too_short, term_answer}
 use Rattle.definitions.proofs.PrefixCode.{Bytes}
 use Rattle.term_stack.specs.declared.Progress.{Progress}
-use Rattle.term_stack.specs.Standing.{Some}
+use Rattle.term_stack.specs.Standing.{ThereIs}
 use Rattle.term_reader.specs.Whole.{CountsOf, Measured}
 use Rattle.term_reader.specs.declared.TermSize.{TermSize}
 use Rattle.definitions.specs.declared.Refusal.{Refusal}
@@ -67,7 +67,7 @@ pub record Fitting (t : ProofTerm Name) (list text pairs work records names code
 
 unfoldable pub HasRoom : List ℕ → List ℕ → List ℕ → List ℕ → List ℕ → List ℕ → List ℕ → Progress → Type 0
 HasRoom list text pairs work records names code s =
-    Some (λ (t : ProofTerm Name). Fitting t list text pairs work records names code s)
+    ThereIs (λ (t : ProofTerm Name). Fitting t list text pairs work records names code s)
 
 -- and then it is handed over
 unfoldable pub HandsOver

@@ -9,7 +9,7 @@ use Rattle.definitions.specs.TermReader.{read_answer}
 use Rattle.definitions.specs.TermMemory.{different_names, place, text_labels, labels_size, records_of, store_labels}
 use Rattle.words.specs.Table.{Table}
 use Rattle.term_stack.specs.declared.Progress.{Progress}
-use Rattle.term_stack.specs.Standing.{Scene, Some}
+use Rattle.term_stack.specs.Standing.{Scene, ThereIs}
 use Rattle.term_stack.specs.Using.{Refuses}
 use Rattle.term_stack.specs.Turning.{scene_of}
 use Rattle.term_reader.specs.Between.{ReadBegins}
@@ -49,7 +49,7 @@ pub record Read (t : ProofTerm Name) (z : Scene) (work : List ℕ) (r : Progress
 -- the reading has ended
 pub record ReadEnds (z : Scene) (work : List ℕ) (r : Progress) : Type 0 where
   pub refused : r.mode ≡ 3 → Refuses z
-  pub given : (r.mode ≡ 3 → ⊥) → Some (λ (t : ProofTerm Name). Read t z work r)
+  pub given : (r.mode ≡ 3 → ⊥) → ThereIs (λ (t : ProofTerm Name). Read t z work r)
 
 -- the first pass has read the term, and its labels' code has this size
 pub record Measured (t : ProofTerm Name) (list text names work : List ℕ) (size : ℕ) : Type 0 where
@@ -58,7 +58,7 @@ pub record Measured (t : ProofTerm Name) (list text names work : List ℕ) (size
   pub size_is : size ≡ labels_size (text_labels t)
 
 unfoldable pub HasRead : List ℕ → List ℕ → List ℕ → List ℕ → ℕ → Type 0
-HasRead list text names work size = Some (λ (t : ProofTerm Name). Measured t list text names work size)
+HasRead list text names work size = ThereIs (λ (t : ProofTerm Name). Measured t list text names work size)
 
 -- the second pass has read the same term, and its labels' code is stored
 unfoldable pub Rereads : List ℕ → List ℕ → List ℕ → List ℕ → List ℕ → ℕ → List ℕ → List ℕ → List ℕ → Type 0

@@ -24,7 +24,7 @@ pub record Scene : Type 0 where
   pub code : List ℕ
 
 -- there is one with the property
-pub record Some {A : Type 0} (P : A → Type 0) : Type 0 where
+pub record ThereIs {A : Type 0} (P : A → Type 0) : Type 0 where
   pub value : A
   pub holds : P value
 

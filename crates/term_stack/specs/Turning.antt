@@ -2,7 +2,7 @@
 use Rattle.std.specs.Prelude.{ℕ, ◌+◌, ◌-◌, ◌*◌, List, length}
 use Rattle.definitions.specs.CallerNames.{names_in}
 use Rattle.term_stack.specs.declared.Progress.{Progress}
-use Rattle.term_stack.specs.Standing.{Scene, Some}
+use Rattle.term_stack.specs.Standing.{Scene, ThereIs}
 use Rattle.term_stack.specs.Using.{Turned}
 
 -- what a turn sees: the caller's list, the text, the names' pairs, and the labels' code before the reading and now
@@ -15,7 +15,7 @@ Standpoint = Scene → List ℕ → Progress → Type 0
 
 -- a turn may begin: the machine is there, for some code before the reading
 unfoldable pub TurnBegins : Standpoint → List ℕ → List ℕ → List ℕ → List ℕ → List ℕ → Progress → Type 0
-TurnBegins At list text names code work s = Some (λ (before : List ℕ). At (scene_of list text names before code) work s)
+TurnBegins At list text names code work s = ThereIs (λ (before : List ℕ). At (scene_of list text names before code) work s)
 
 -- So much is left at a place of the text with so many entries, and a little more.
 unfoldable pub left_at : List ℕ → Progress → ℕ → ℕ

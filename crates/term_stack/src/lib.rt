@@ -6,7 +6,7 @@ ghost use Rattle.std.specs.Prelude.{◌≡◌, true, ◌<◌, ◌≤◌, max, le
 ghost use Rattle.definitions.specs.TermReader.{same};
 ghost use Rattle.term_stack.specs.Forms.{form_table};
 ghost use Rattle.term_stack.specs.Growing.{Makes, Enters, Tops};
-ghost use Rattle.term_stack.specs.Standing.{Scene, Some};
+ghost use Rattle.term_stack.specs.Standing.{Scene, ThereIs};
 ghost use Rattle.term_stack.specs.Using.{Using, Leaf, Turned, left_after, Gives, last_part, left_giving};
 
 use proof_term::{APPLICATION, CASE, FUNCTION, LET_IN, RECORD_SIZE, push};
@@ -230,7 +230,7 @@ pub fn top(work: &[u16], depth: usize) -> Entry
 
 // A closed term is in hand: makes of it what it was read for.
 pub fn use_for(work: &mut [u16], s: Progress, p: Purpose) -> Progress
-    requires { Some (λ (z : Scene). Using z work.old s p) }
+    requires { ThereIs (λ (z : Scene). Using z work.old s p) }
     ensures { (z : Scene) → Using z work.old s p → Turned z work.new (left_after z s) result }
 {
     if p.kind == AS_HEAD {
@@ -268,7 +268,7 @@ pub fn use_for(work: &mut [u16], s: Progress, p: Purpose) -> Progress
 
 // Makes a leaf, and of it what it was read for.
 pub fn use_leaf(work: &mut [u16], s: Progress, kind: u16, a: u16, p: Purpose) -> Progress
-    requires { Some (λ (z : Scene). Leaf z work.old s kind a p) }
+    requires { ThereIs (λ (z : Scene). Leaf z work.old s kind a p) }
     ensures { (z : Scene) → Leaf z work.old s kind a p → Turned z work.new (left_after z s) result }
 {
     let row = Row {
@@ -288,7 +288,7 @@ pub fn use_leaf(work: &mut [u16], s: Progress, kind: u16, a: u16, p: Purpose) ->
 
 // The last part of a function, a case or a let is in hand: makes the term of it and of what the entry on top of the stack holds.
 pub fn close_within(work: &mut [u16], s: Progress, e: Entry) -> Progress
-    requires { Some (λ (z : Scene). Gives z work.old s e) × (last_part e.kind ≡ true) }
+    requires { ThereIs (λ (z : Scene). Gives z work.old s e) × (last_part e.kind ≡ true) }
     ensures { (z : Scene) → Gives z work.old s e → Turned z work.new (left_giving z s) result }
 {
     if !is_as_due(s.own, s.kind, NO_ASCRIPTION) {

@@ -6,10 +6,10 @@ use Rattle.skriduhol.proofs.graft.Goals as goal
 pub locate_by-requires : goal.locate_by-requires
 locate_by-requires c = after_headers _ _ _ _ c.graft-merged.ensures.fills_by c.in-Refused.is
 
-pub returns-in-Ok : goal.returns-in-Ok
-returns-in-Ok c =
+pub returns-in-Length : goal.returns-in-Length
+returns-in-Length c =
     let record { fills_by = answer; slots_after = slots; by_index = laws } = c.graft-merged.ensures in
-    let is = c.in-Ok.is in
+    let is = c.in-Length.is in
     record {
       grafts_of = length_back _ _ _ _ answer is;
       slots_after = slots;

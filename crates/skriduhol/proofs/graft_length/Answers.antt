@@ -16,8 +16,8 @@ pub locate_by-requires : goal.locate_by-requires
 locate_by-requires c =
     graft_locatable _ _ _ c.graft_length-merged.ensures (host_bytes (goal.at.locate_by-requires c).After-graft_length-merged) (donor_bytes (goal.at.locate_by-requires c).After-graft_length-merged) c.in-Refused.is
 
-pub returns-in-Ok : goal.returns-in-Ok
-returns-in-Ok c = graft_measured _ _ _ c.graft_length-merged.ensures c.in-Ok.is
+pub returns-in-Length : goal.returns-in-Length
+returns-in-Length c = graft_measured _ _ _ c.graft_length-merged.ensures c.in-Length.is
 
 pub returns-in-Refused : goal.returns-in-Refused
 returns-in-Refused c =

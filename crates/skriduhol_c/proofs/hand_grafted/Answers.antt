@@ -3,8 +3,8 @@ use borrow.Author.Rules.{rules}
 use Rattle.skriduhol_c.proofs.Grafts.{length_handed, refusal_handed}
 use Rattle.skriduhol_c.proofs.hand_grafted.Goals as goal
 
-pub returns-in-Ok : goal.returns-in-Ok
-returns-in-Ok c = λ h d o e. length_handed h d c.in-Ok.is o e
+pub returns-in-Length : goal.returns-in-Length
+returns-in-Length c = λ h d o e. length_handed h d c.in-Length.is o e
 
 pub returns-in-Refused : goal.returns-in-Refused
 returns-in-Refused c =
