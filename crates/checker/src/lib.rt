@@ -13,8 +13,13 @@ ghost use Rattle.checker.specs.Judging.{Inferred, Checked};
 ghost use Rattle.checker.specs.Helping.{Found, Bound, Ascribed, Annotated, BodySide, Then, Leaf};
 
 use prefix_code::scan;
-use proof_term::{ABORT, APPLICATION, CASE, DATATYPE, FUNCTION, IDENT, LET_IN, NO_LABEL, OR_LEFT, OR_RIGHT, PAIR, PROJECT_FST, PROJECT_SND, SORRY, TYPE_ASCRIPTION, field};
-use prop_numbers::{MADE_NUMBERS, NAMES, STOPS, agree, expect, left, make, project, right, same_code, side_of};
+use proof_term::{
+    ABORT, APPLICATION, CASE, DATATYPE, FUNCTION, IDENT, LET_IN, NO_LABEL, OR_LEFT, OR_RIGHT, PAIR,
+    PROJECT_FST, PROJECT_SND, SORRY, TYPE_ASCRIPTION, field,
+};
+use prop_numbers::{
+    MADE_NUMBERS, NAMES, STOPS, agree, expect, left, make, project, right, same_code, side_of,
+};
 use term_sizes::SIZE;
 
 const AND: usize = prefix_code::AND as usize;

@@ -10,10 +10,10 @@ ghost use Rattle.definitions.specs.Sheet.{marked};
 ghost use Rattle.number.specs.Pairs.{NameWithin};
 ghost use Rattle.identifier.specs.Pairs.{PairsWithin, same_bytes};
 
-use std::cmp::Ordering;
 use classes::LETTER;
 pub use classes::{CLASSES, OTHER, class};
 use number::marked_bytes;
+use std::cmp::Ordering;
 
 // Whether each byte is one that its position allows.
 pub fn is_name(name: &[u8]) -> bool

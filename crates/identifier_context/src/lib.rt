@@ -106,7 +106,13 @@ fn find(entries: &[u16], len: usize, pairs: &[u8], text: &[u8], lookup: Lookup) 
 }
 
 // The index of the latest entry of a name.
-pub fn get_by_name(entries: &[u16], len: usize, pairs: &[u8], text: &[u8], name: u16) -> Option<usize>
+pub fn get_by_name(
+    entries: &[u16],
+    len: usize,
+    pairs: &[u8],
+    text: &[u8],
+    name: u16,
+) -> Option<usize>
     requires { Holds pairs.now text.now entries.now len × NameWithin pairs.now text.now name }
     ensures { Finds (marked pairs.now text.now) (Lookup.ByName name)
         entries.now len result }
@@ -115,7 +121,14 @@ pub fn get_by_name(entries: &[u16], len: usize, pairs: &[u8], text: &[u8], name:
 }
 
 // The index of the latest entry of a name and an id.
-pub fn get(entries: &[u16], len: usize, pairs: &[u8], text: &[u8], name: u16, id: u16) -> Option<usize>
+pub fn get(
+    entries: &[u16],
+    len: usize,
+    pairs: &[u8],
+    text: &[u8],
+    name: u16,
+    id: u16,
+) -> Option<usize>
     requires { Holds pairs.now text.now entries.now len × NameWithin pairs.now text.now name }
     ensures { Finds (marked pairs.now text.now) (Lookup.ByIdentifier name id)
         entries.now len result }
@@ -209,7 +222,13 @@ fn is_visible(entries: &[u16], len: usize, pairs: &[u8], text: &[u8], i: usize) 
 }
 
 // The index of the latest visible entry before one: from the count on, this hands out what the Rust's get_all_visible collects.
-pub fn next_visible(entries: &[u16], len: usize, pairs: &[u8], text: &[u8], before: usize) -> Option<usize>
+pub fn next_visible(
+    entries: &[u16],
+    len: usize,
+    pairs: &[u8],
+    text: &[u8],
+    before: usize,
+) -> Option<usize>
     requires { Holds pairs.now text.now entries.now len }
     ensures { Shows (marked pairs.now text.now) entries.now len before result }
 {

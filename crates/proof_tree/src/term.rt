@@ -3,7 +3,10 @@ ghost use Rattle.std.specs.Prelude.{◌≤◌, get_or};
 ghost use Rattle.proof_tree.specs.Terms.{Parts, MadeOver};
 
 use crate::table::RuleTerm;
-use proof_term::{abort, application, case, function, ident, let_in, or_left, or_right, pair, project_fst, project_snd, sorry, unit};
+use proof_term::{
+    abort, application, case, function, ident, let_in, or_left, or_right, pair, project_fst,
+    project_snd, sorry, unit,
+};
 
 // Makes the term over the records of its parts, as many as it is over, with a step's names and the label of a parameter, and
 // gives the number of the next record.

@@ -19,7 +19,10 @@ ghost use Rattle.prop_frames.specs.Sides.{GoesOnAt, sides_agree, inserted, Joina
 use atom_reader::{Place, PropRead, STRONGEST, no_prop};
 use output::put;
 use prefix_code::{FALSE, IMPL};
-use prop_parts::{BRACKET, NO_HEAD, connective_at, put_u16, read_name, sign_size, strength_of, wraps_left, wraps_right};
+use prop_parts::{
+    BRACKET, NO_HEAD, connective_at, put_u16, read_name, sign_size, strength_of, wraps_left,
+    wraps_right,
+};
 use words::expect;
 
 // The names of a quantifier: where they end, their numbers, and how many names there are now.

@@ -11,8 +11,8 @@ use number::number_at;
 use restating::Given;
 use skriduhol::{Grafted, Searched, Verdict};
 use skriduhol_terms::Judged;
-use term_reader::TermSize;
 use std::{fs, io};
+use term_reader::TermSize;
 
 // The kinds of questions; any other asks for the board's output.
 const PLAIN_TEXT: u8 = 0;

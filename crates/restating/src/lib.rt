@@ -214,7 +214,12 @@ fn restate_indexed(
 
 // The old sheet with one more step, AlphaEquivalent over the old root. The slots are the index of the new sheet's names, or what
 // they were where it is refused.
-pub fn restate(s: &[u8], given: Given, slots: &mut [u16; SLOT_COUNT], out: &mut [u8]) -> Result<usize, Refusal>
+pub fn restate(
+    s: &[u8],
+    given: Given,
+    slots: &mut [u16; SLOT_COUNT],
+    out: &mut [u8],
+) -> Result<usize, Refusal>
     ensures fills { Fills (restate_answer s.now (given_of given) (length out.old))
         out.old out.new result }
     ensures slots_after { slots.new ≡ slots_after

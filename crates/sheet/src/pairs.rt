@@ -57,7 +57,12 @@ pub fn first_bad_code(pairs: &[u8], code: &[u8], count: usize, names: usize) -> 
 }
 
 // Refusal 8: the lowest proposition that nests too deep.
-pub fn first_deep_proposition(pairs: &[u8], code: &[u8], count: usize, names: usize) -> Option<usize>
+pub fn first_deep_proposition(
+    pairs: &[u8],
+    code: &[u8],
+    count: usize,
+    names: usize,
+) -> Option<usize>
     requires { HasCodes names pairs.now code.now count }
     ensures { result ≡ lowest (deep_proposition names pairs.now code.now) count }
 {

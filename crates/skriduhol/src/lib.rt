@@ -150,7 +150,14 @@ pub fn handout_length(s: &[u8], version: usize, style: Style) -> Result<usize, L
 }
 
 // A list of the sheet's term in lent memory: measured by a dry run, and then written where it fits.
-fn list(s: &[u8], h: Sheet, terms: &[u16], n: usize, which: TermList, out: &mut [u16]) -> Result<usize, Refusal>
+fn list(
+    s: &[u8],
+    h: Sheet,
+    terms: &[u16],
+    n: usize,
+    which: TermList,
+    out: &mut [u16],
+) -> Result<usize, Refusal>
     requires { AcceptedSheet s.now h × HeldTerm s.now terms.now n }
     ensures { Fills (list_answer which s.now (length out.old)) out.old out.new result }
 {
@@ -253,7 +260,12 @@ pub fn compare(s: &[u8], i: usize, j: usize) -> Verdict
 
 // The old sheet with one more step, AlphaEquivalent over the old root: its conclusion and its column are given. The slots are the
 // index of the new sheet's names. The bytes handed over are a sheet with the old one's parts, answers and index.
-pub fn restate(s: &[u8], given: Given, slots: &mut [u16; SLOT_COUNT], out: &mut [u8]) -> Result<usize, Located>
+pub fn restate(
+    s: &[u8],
+    given: Given,
+    slots: &mut [u16; SLOT_COUNT],
+    out: &mut [u8],
+) -> Result<usize, Located>
     ensures fills_of { FillsOf s.now (restate_answer s.now (given_of given) (length out.old))
         out.old out.new result }
     ensures slots_after { slots.new ≡ slots_after

@@ -216,7 +216,12 @@ pub fn bad_step(step_records: &[u8], k: usize, names: usize, propositions: usize
 }
 
 // Refusal 9: the lowest of the steps that is bad.
-pub fn first_bad_step(step_records: &[u8], steps: usize, names: usize, propositions: usize) -> Option<usize>
+pub fn first_bad_step(
+    step_records: &[u8],
+    steps: usize,
+    names: usize,
+    propositions: usize,
+) -> Option<usize>
     requires { HasSteps step_records.now steps }
     ensures { result ≡ lowest (bad_step names propositions step_records.now) steps }
 {

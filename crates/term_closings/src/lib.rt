@@ -18,7 +18,11 @@ use proof_term::{PAIR, TYPE_ASCRIPTION};
 use prop_parts::{NameRead, read_name};
 use prop_reader::read_label;
 use term_openings::closed_for;
-use term_stack::{AS_ARGUMENT, CASE_FIRST, CASE_HEAD, CASE_SECOND, Entry, FUNCTION_BODY, GIVING, LET_BODY, LET_HEAD, NO_ASCRIPTION, NO_FUNCTION, PAIRS, Progress, Purpose, REFUSED, Row, close_within, enter, is_as_due, larger, make, refused, top, use_for};
+use term_stack::{
+    AS_ARGUMENT, CASE_FIRST, CASE_HEAD, CASE_SECOND, Entry, FUNCTION_BODY, GIVING, LET_BODY,
+    LET_HEAD, NO_ASCRIPTION, NO_FUNCTION, PAIRS, Progress, Purpose, REFUSED, Row, close_within,
+    enter, is_as_due, larger, make, refused, top, use_for,
+};
 use words::{argument_follows, expect};
 
 // The first term after a bracket is in hand: the bracket closes, or the second part of a pair is to be read.

@@ -18,10 +18,15 @@ ghost use Rattle.term_openings.specs.Beginning.{AtClosed, Wordless, Started, AtC
 ghost use Rattle.term_openings.specs.Parameters.{ParameterAnswer};
 
 use identifier::same_name;
-use proof_term::{ABORT, IDENT, NO_LABEL, OR_LEFT, OR_RIGHT, PROJECT_FST, PROJECT_SND, SORRY, UNIT};
+use proof_term::{
+    ABORT, IDENT, NO_LABEL, OR_LEFT, OR_RIGHT, PROJECT_FST, PROJECT_SND, SORRY, UNIT,
+};
 use prop_parts::{NameRead, read_name};
 use prop_reader::{LabelRead, read_label};
-use term_stack::{AS_BODY, AS_HEAD, CASE_HEAD, FUNCTION_BODY, LET_HEAD, Progress, Purpose, Row, enter, refused, use_leaf};
+use term_stack::{
+    AS_BODY, AS_HEAD, CASE_HEAD, FUNCTION_BODY, LET_HEAD, Progress, Purpose, Row, enter, refused,
+    use_leaf,
+};
 use words::{NAME_LIMIT, Start, expect, name_end, number_of_name, start_of, word_end};
 
 // A name as a closed term, from `s.at` to `end`, read for a purpose.

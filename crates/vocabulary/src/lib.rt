@@ -6,10 +6,10 @@ ghost use Rattle.std.specs.Prelude.{◌≡◌, ◌+◌, ◌≤◌, length, take,
 ghost use Rattle.definitions.specs.Name.{eq_name, compare_name};
 ghost use Rattle.vocabulary.specs.Vocabulary.{pairs_in, text_in, code_in, name_in, Within, Names, SomeProposition, ShapeIn};
 
-use std::cmp::Ordering;
 use identifier::is_equal;
 use number::{PAIR_SIZE, marked_bytes};
 use prefix_code::{Shape, shape_at};
+use std::cmp::Ordering;
 
 // The count of names, and where their pairs, their text and the code begin; how long the last two are.
 #[derive(Clone, Copy)]
@@ -64,7 +64,14 @@ pub fn name(bytes: &[u8], v: Vocabulary, i: usize) -> &[u8]
 }
 
 // How a name of one memory stands to a name of another.
-pub fn compare_names(a: &[u8], v: Vocabulary, i: usize, b: &[u8], w: Vocabulary, j: usize) -> Ordering
+pub fn compare_names(
+    a: &[u8],
+    v: Vocabulary,
+    i: usize,
+    b: &[u8],
+    w: Vocabulary,
+    j: usize,
+) -> Ordering
     requires { Names a.now v i × Names b.now w j }
     ensures { result ≡ compare_name (name_in a.now v i) (name_in b.now w j) }
 {

@@ -199,7 +199,13 @@ pub struct Numbered {
 
 // The number of the name with these bytes, or the slot that it would enter. Taken slots are stepped over from its start slot on,
 // round the end, up to its equal or a free slot, which holds more than the number of any name.
-pub fn find_name(text: &[u8], at: usize, end: usize, names: &[u8], count: usize) -> Result<usize, usize>
+pub fn find_name(
+    text: &[u8],
+    at: usize,
+    end: usize,
+    names: &[u8],
+    count: usize,
+) -> Result<usize, usize>
     requires { Table names.now text.now count × (at ≤ end) × (end ≤ length text.now) }
     ensures { result ≡ searched names.now text.now count
         (between at end text.now) }

@@ -6,21 +6,21 @@ use Rattle.skriduhol_c.specs.Handed.{number_or_free}
 use Rattle.skriduhol_c.proofs.Handing.{accepts, refuses, number_found, none_found, search_refused}
 use Rattle.skriduhol_c.proofs.skriduhol_find_name.Goals as goal
 
-pub returns-in-Some : goal.returns-in-Some
+pub returns-in-At : goal.returns-in-At
 unfolding number_or_free
-returns-in-Some c =
+returns-in-At c =
     let found = c.find_name-searched.ensures in
-    let is = c.in-Some.is in
+    let is = c.in-At.is in
     record {
       hands = accepts _ number_or_free (number_found _ _ (sym is ∙ found.value));
       hands_2 = λ own. accepts _ number_or_free (number_found _ _ (sym is ∙ found.value_2 own));
     }
 
-pub returns-in-None : goal.returns-in-None
+pub returns-in-Nowhere : goal.returns-in-Nowhere
 unfolding number_or_free free
-returns-in-None c =
+returns-in-Nowhere c =
     let found = c.find_name-searched.ensures in
-    let is = c.in-None.is in
+    let is = c.in-Nowhere.is in
     record {
       hands = accepts _ number_or_free (none_found _ _ (sym is ∙ found.value));
       hands_2 = λ own. accepts _ number_or_free (none_found _ _ (sym is ∙ found.value_2 own));
