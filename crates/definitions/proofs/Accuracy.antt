@@ -7,8 +7,7 @@ use lib.ListN.{length}
 use borrow.Author.Tests.{le-ltb}
 use Rattle.definitions.specs.Outcome.{Outcome, refused, accepted, ◌>>=◌, map_outcome, refuse_if}
 use Rattle.definitions.specs.Sheet.{name_of}
-use Rattle.definitions.specs.Tree.{rename_tree}
-use Rattle.definitions.specs.Term.{ProofTerm, rename_term, annotation_count}
+use Rattle.definitions.specs.Term.{rename_term, annotation_count}
 use Rattle.definitions.specs.Export.{checking, export}
 use Rattle.definitions.specs.Text.{heading, text}
 use Rattle.definitions.specs.Answers.{is_in_room, sheet_term, named_term, goal_prop, sheet_text, text_answer, label_count}

@@ -1,15 +1,15 @@
 -- Document 01's convention asks for all that the shadowing one does: where no two hypotheses in scope share a name, the hypothesis
 -- of a name and id is the latest of its name.
 use Prim.Native.Nat.{ℕ}
-use mathlib.Core.Path.{◌≡◌, refl, sym, ◌∙◌}
-use mathlib.Core.Bool.{false, true}
+use mathlib.Core.Path.{◌≡◌, refl}
+use mathlib.Core.Bool.{false}
 use Rattle.std.specs.Prelude.{Some}
-use mathlib.Core.List.{List, [], ◌∷◌, Memᴰ}
+use mathlib.Core.List.{List, [], Memᴰ}
 use Rattle.definitions.specs.Name.{Name, eq_name}
 use Rattle.definitions.specs.Prop.{Prop}
 use Rattle.definitions.specs.Tree.{Identifier, PropIsTrue, Step, ProofTree, over, Premisses}
 use Rattle.definitions.specs.CheckingRules.{lookup}
-use Rattle.definitions.specs.Sound.{Hypothesis, Hypotheses, assume, Convention, Concludes, Deduction, and_intro, and_elim_fst, and_elim_snd, true_intro, impl_intro, impl_elim, ident, or_intro_fst, or_intro_snd, or_elim, falsum_elim, sorry, alpha_equivalent, Fresh, documented, context, shadowing, Deduced}
+use Rattle.definitions.specs.Sound.{Hypothesis, Hypotheses, assume, Convention, Deduction, and_intro, and_elim_fst, and_elim_snd, true_intro, impl_intro, impl_elim, ident, or_intro_fst, or_intro_snd, or_elim, falsum_elim, sorry, alpha_equivalent, Fresh, documented, context, shadowing, Deduced}
 use Rattle.definitions.proofs.Names.{eq_name_refl}
 
 -- no two hypotheses share a name

@@ -1,6 +1,6 @@
 -- The test of two propositions decides equality: the same shape, name bytes and ids.
 use mathlib.Core.Path.{◌≡◌, refl, sym, ap}
-use mathlib.Core.Bool.{Bool, true, false, ◌&&◌, true≢false, and-eq-true_iff}
+use mathlib.Core.Bool.{Bool, true, ◌&&◌, true≢false, and-eq-true_iff}
 use Rattle.std.specs.Prelude.{Option, None, Some}
 use mathlib.Core.List.{List, [], ◌∷◌}
 use lib.Dec.{eqb}

@@ -1,19 +1,19 @@
 -- A deduction exports, in either place, to a term that the checking rules accept there and that has its labels where they
 -- belong: by recursion on the deduction, one clause for each rule.
-use Prim.Native.Nat.{ℕ, ◌+◌}
+use Prim.Native.Nat.{◌+◌}
 use native.Mathlib.Omega.{arith}
 use borrow.Author.Tests.{le-leb}
 use mathlib.Core.Path.{◌≡◌, refl, ap, ◌∙◌}
-use mathlib.Core.Bool.{true, not}
+use mathlib.Core.Bool.{true}
 use Rattle.std.specs.Prelude.{None, Some}
 use mathlib.Core.List.{List, [], ◌∷◌}
-use Rattle.definitions.specs.Outcome.{Outcome, accepted, ◌>>=◌, refuse_if}
+use Rattle.definitions.specs.Outcome.{accepted, ◌>>=◌, refuse_if}
 use Rattle.definitions.specs.Name.{Name}
 use Rattle.definitions.specs.Prop.{Prop, And, Or, Impl, as_binary, eq_connective, connective_byte}
 use Rattle.definitions.specs.Tree as tree
 use Rattle.definitions.specs.Tree.{ProofTreeRule, AndIntro, AndElimFst, AndElimSnd, TrueIntro, ImplIntro, ImplElim, OrIntroFst, OrIntroSnd, OrElim, FalsumElim, AlphaEquivalent, PropIsTrue, Step, ProofTree, over, Premisses, none, ◌and◌, count}
 use Rattle.definitions.specs.Term.{ProofTerm, proposition, Pair, Case, TypeAscription}
-use Rattle.definitions.specs.Export.{Place, checking, inferring, Ending, bare, ascribed, left_labelled, premiss_own, any, exactly, one_or_more, admits, row, row_of, admits_count, places, ending, ascription_label, implication_label, left_label, rule_term, premiss_term, step_term, inferring_term, placed_term, export, export_all}
+use Rattle.definitions.specs.Export.{Place, checking, inferring, Ending, ascribed, left_labelled, admits, row, row_of, admits_count, places, ending, ascription_label, implication_label, left_label, rule_term, premiss_term, step_term, inferring_term, placed_term, export, export_all}
 use Rattle.definitions.specs.Labels as labels
 use Rattle.definitions.specs.Labels.{total, tally, tally_of, placed_tally, Labelled, AllLabelled, done, next}
 use Rattle.definitions.specs.CheckingRules.{Context, bind, LabelIs, Infers, Checks, infer_name, infer_unit, infer_fst, infer_snd, infer_application_lem, infer_ascribed_lem, infer_function_lem, infer_pair, infer_case, check_function, check_pair, check_inl, check_inr, check_case, check_abort, check_sorry, check_inferred}

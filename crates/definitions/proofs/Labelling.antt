@@ -7,7 +7,7 @@ use mathlib.Core.List.{List, [], ◌∷◌}
 use native.Mathlib.Omega.{arith}
 use Rattle.definitions.specs.Tree as tree
 use Rattle.definitions.specs.Tree.{ProofTreeRule, AndIntro, AndElimFst, AndElimSnd, TrueIntro, ImplIntro, ImplElim, OrIntroFst, OrIntroSnd, OrElim, FalsumElim, ForAllIntro, ForAllElim, ExistsIntro, ExistsElim, AlphaEquivalent, Step, ProofTree, over, Premisses, none, ◌and◌}
-use Rattle.definitions.specs.Term.{Label, proposition, ProofTerm, Unit, is_labelled, annotation_count}
+use Rattle.definitions.specs.Term.{Label, proposition, ProofTerm, is_labelled, annotation_count}
 use Rattle.definitions.specs.Export.{Place, row, row_of, places, rule_term, premiss_term, step_term}
 use Rattle.definitions.specs.Labels.{Tally, tally_of, ◌plus◌, total, tally, placed_tally, inferring_tally, inferring_tallies, Labelled, unlabelled, ascribed, function, AllLabelled, done, next}
 

@@ -1,9 +1,9 @@
 -- Comparison uses 1 to 11, 17 and 19 only, export 1 to 16, the handout of any number 21 too, a restatement 1 to 11, 16, 19 and 23
 -- to 25, and an exercise 16, 29 and 30. So 18 never occurs.
-use Prim.Native.Nat.{ℕ, ◌≤◌}
+use Prim.Native.Nat.{ℕ}
 use native.Mathlib.Omega.{arith}
 use mathlib.Core.Path.{◌≡◌, refl}
-use mathlib.Core.Logic.{◌⊎◌, inl, inr}
+use mathlib.Core.Logic.{inl, inr}
 use mathlib.Core.Bool.{Bool, true, false, not, cond}
 use Rattle.std.specs.Prelude.{None, Option, Some}
 use mathlib.Core.List.{List, [], ◌∷◌}
@@ -17,7 +17,7 @@ use Rattle.definitions.specs.Term.{proposition, datatype, ProofTerm, datatype_li
 use Rattle.definitions.specs.Name.{Name}
 use Rattle.definitions.specs.Admission.{header_checks, admitted}
 use Rattle.definitions.specs.Export.{Place, checking, inferring, Ending, bare, ascribed, left_labelled, datatype_labelled, premiss_own, ending, places, admits_count, ascription_label, implication_label, left_label, universal_label, datatype_label, inferring_term, placed_term, export, export_all}
-use Rattle.definitions.specs.Comparison.{no, alpha_eq, conclusion_alpha_eq}
+use Rattle.definitions.specs.Comparison.{no, conclusion_alpha_eq}
 use Rattle.definitions.specs.AlphaEquality.{Verdict}
 use Rattle.definitions.specs.declared.Style.{Style}
 use Rattle.definitions.specs.declared.Version.{Version}

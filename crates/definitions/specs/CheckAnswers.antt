@@ -12,7 +12,7 @@ use Rattle.definitions.specs.Term.{Label, proposition, datatype, ProofTerm, Iden
 use Rattle.definitions.specs.Answers.{named_term}
 use Rattle.definitions.specs.CallerNames.{names_in}
 use Rattle.definitions.specs.TermReader.{read_answer}
-use Rattle.definitions.specs.CheckingRules.{Context, Entry, bind}
+use Rattle.definitions.specs.CheckingRules.{Context, bind}
 use Rattle.definitions.specs.Checker.{Judged, check}
 use Rattle.definitions.specs.Sound.{is_quantifier_free}
 

@@ -8,7 +8,7 @@ use Rattle.definitions.specs.Prop.{Prop, True, Atom, And, Or, Impl, ForAll, Unin
 use Rattle.definitions.specs.Tree as tree
 use Rattle.definitions.specs.Term as term
 use Rattle.definitions.specs.Term.{proposition, ProofTerm, Ident, Pair, Function, Application, OrLeft, Case, ProjectFst, Abort, TypeAscription, Sorry}
-use Rattle.definitions.specs.CheckingRules.{Context, Entry, bind}
+use Rattle.definitions.specs.CheckingRules.{Context, bind}
 use Rattle.definitions.specs.Checker.{Judged, derived, stopped, check}
 use Rattle.definitions.specs.CheckAnswers.{sheet_judgement, beside_judgement}
 use Rattle.definitions.specs.Drawings.{sheet, step, step_naming, second, alpha_equivalent_alone}

@@ -1,7 +1,7 @@
 -- Comparison as the Rust decides it (source documents 002 and 005), stopping at a no. Where the Rust panics, two atoms of one
 -- name with different parameter counts are a no (document 02, ticket 7), and two unbound parameters are refused with 19
 -- (document 01, "Refusals in checking order").
-use Rattle.std.specs.Prelude.{ℕ, Bool, true, false, ◌&&◌, ◌||◌, cond, List, [], ◌∷◌, length, eqb, Option, None, Some}
+use Rattle.std.specs.Prelude.{Bool, true, false, ◌&&◌, ◌||◌, cond, List, [], ◌∷◌, length, eqb, Option, None, Some}
 use Rattle.definitions.specs.Outcome.{Outcome, refused, accepted, refuse}
 use Rattle.definitions.specs.Name.{Name, eq_name}
 use Rattle.definitions.specs.Prop.{Prop, True, False, Binary, Atom, Quantified, PropParameter, Uninstantiated, Instantiated, Connective, eq_connective, Quantifier, eq_quantifier, Sides, Applied, Scope, is_true, is_false, as_binary, as_atom, as_quantified}

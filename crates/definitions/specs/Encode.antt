@@ -1,7 +1,5 @@
 -- A sheet without gaps, from its names, propositions, goal and steps. Document 01, "The sheet".
-use Rattle.std.specs.Prelude.{ℕ, zero, suc, ◌+◌, List, [], ◌∷◌, ◌++◌, map, length}
-use Prim.Native.String.{String}
-use Rattle.definitions.specs.Utf8.{utf8}
+use Rattle.std.specs.Prelude.{ℕ, ◌+◌, List, [], ◌∷◌, ◌++◌, map, length}
 use Rattle.definitions.specs.Prop.{Prop}
 use Rattle.definitions.specs.Code.{u16, encode}
 use Rattle.definitions.specs.Assemble.{assemble}

@@ -1,7 +1,7 @@
 -- From a tree to its term (source document 000), with refusals 12 to 15. Document 01, "Places and labels".
-use Rattle.std.specs.Prelude.{ℕ, Bool, true, false, not, cond, List, [], ◌∷◌, get_or, eqb, leb, None, Option, Some}
+use Rattle.std.specs.Prelude.{ℕ, Bool, true, not, cond, List, [], ◌∷◌, get_or, eqb, leb, None, Option, Some}
 use Rattle.definitions.specs.Outcome.{Outcome, accepted, refuse, ◌>>=◌, refuse_if}
-use Rattle.definitions.specs.Prop.{Prop, Sides, Scope, as_binary, as_quantified, impl, for_all, eq_connective, eq_quantifier}
+use Rattle.definitions.specs.Prop.{Sides, Scope, as_binary, as_quantified, impl, for_all, eq_connective, eq_quantifier}
 use Rattle.definitions.specs.Tree as tree
 use Rattle.definitions.specs.Tree.{ProofTreeRule, AndIntro, AndElimFst, AndElimSnd, TrueIntro, ImplIntro, ImplElim, OrIntroFst, OrIntroSnd, OrElim, FalsumElim, ForAllIntro, ForAllElim, ExistsIntro, ExistsElim, AlphaEquivalent, ProofTreeConclusion, PropIsTrue, TypeJudgement, Step, ProofTree, over, Premisses, none, ◌and◌, count}
 use Rattle.definitions.specs.Term as term

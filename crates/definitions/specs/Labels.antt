@@ -1,7 +1,7 @@
 -- Where labels belong on a sheet without quantifiers: at each injection, abort, sorry and function in an inferring place, and
 -- nowhere else.
 -- Document 01, "Places and labels", its last paragraphs, and demand 3.
-use Rattle.std.specs.Prelude.{ℕ, ◌+◌, ◌≡◌, List, [], ◌∷◌, None, Option, Some}
+use Rattle.std.specs.Prelude.{ℕ, ◌+◌, ◌≡◌, List, [], ◌∷◌, None, Some}
 use Rattle.definitions.specs.Prop.{Prop, Impl}
 use Rattle.definitions.specs.Tree.{ProofTreeRule, AndIntro, AndElimFst, AndElimSnd, TrueIntro, ImplIntro, ImplElim, Ident, OrIntroFst, OrIntroSnd, OrElim, FalsumElim, ForAllIntro, ForAllElim, ExistsIntro, ExistsElim, Sorry, AlphaEquivalent, PropIsTrue, Step, ProofTree, over, Premisses, none, ◌and◌}
 use Rattle.definitions.specs.Term.{ProofTerm, proposition, TypeAscription}

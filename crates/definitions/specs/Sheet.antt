@@ -1,5 +1,5 @@
 -- The sheet: its header, and where its parts lie. Document 01, "The sheet".
-use Rattle.std.specs.Prelude.{ℕ, zero, suc, ◌+◌, ◌*◌, ◌≤◌, Bool, ◌||◌, List, length, get_or, take, drop, ltb, leb}
+use Rattle.std.specs.Prelude.{ℕ, zero, suc, ◌+◌, ◌*◌, Bool, ◌||◌, List, get_or, take, drop, ltb, leb}
 use Rattle.definitions.specs.Name.{Name}
 
 -- the limits of a sheet

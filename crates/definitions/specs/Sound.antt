@@ -1,6 +1,6 @@
 -- Sound steps without quantifiers. Document 01, "Sound steps and the checking rules", its first paragraph.
 -- Names stand as bytes, so that "equal" (the same shape, name bytes and ids) is plain equality.
-use Rattle.std.specs.Prelude.{ℕ, ◌<◌, ◌≡◌, Bool, true, false, ◌&&◌, ◌||◌, Some}
+use Rattle.std.specs.Prelude.{ℕ, ◌<◌, ◌≡◌, Bool, true, false, ◌&&◌, Some}
 use mathlib.Core.List.{List, [], ◌∷◌, map, Memᴰ}
 use Rattle.definitions.specs.Outcome.{accepted}
 use Rattle.definitions.specs.Name.{Name, eq_name}
@@ -8,7 +8,7 @@ use Rattle.definitions.specs.Prop.{Prop, True, False, Binary, Atom, Quantified, 
 use Rattle.definitions.specs.Sheet.{name_of, propositions, steps}
 use Rattle.definitions.specs.Tree.{Identifier, ProofTreeRule, AndIntro, AndElimFst, AndElimSnd, TrueIntro, ImplIntro, ImplElim, Ident, OrIntroFst, OrIntroSnd, OrElim, FalsumElim, ForAllIntro, ForAllElim, ExistsIntro, ExistsElim, Sorry, AlphaEquivalent, ProofTreeConclusion, PropIsTrue, TypeJudgement, Step, ProofTree, over, Premisses, none, ◌and◌, rename_tree, rule_of, prop_of, conclusion_of}
 use Rattle.definitions.specs.Admission.{admitted}
-use Rattle.definitions.specs.CheckingRules.{Context, Entry, lookup}
+use Rattle.definitions.specs.CheckingRules.{Context, lookup}
 
 -- an identifier and its proposition
 pub record Hypothesis : Type 0 where

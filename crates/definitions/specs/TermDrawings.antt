@@ -1,11 +1,11 @@
 -- Texts that are read as terms, and texts that are refused. Document 02, ticket 2.
-use Rattle.std.specs.Prelude.{ℕ, List, [], ◌∷◌, Option, None, Some}
+use Rattle.std.specs.Prelude.{ℕ, List, [], ◌∷◌, None, Some}
 use Prim.Native.String.{String}
 use Rattle.definitions.specs.Utf8.{utf8}
 use Rattle.definitions.specs.Outcome.{Outcome, accepted, refuse}
 use Rattle.definitions.specs.Name.{Name}
-use Rattle.definitions.specs.Prop.{Prop, True, False, Atom, And, Or, Impl, ForAll, PropParameter, Uninstantiated, Instantiated}
-use Rattle.definitions.specs.Term.{Label, proposition, datatype, ProofTerm, Ident, Pair, ProjectFst, Function, Application, LetIn, Case, TypeAscription, Unit, Sorry}
+use Rattle.definitions.specs.Prop.{Prop, True, False, Atom, And, Or, Impl, ForAll, Uninstantiated, Instantiated}
+use Rattle.definitions.specs.Term.{proposition, datatype, ProofTerm, Ident, Pair, ProjectFst, Function, Application, LetIn, Case, TypeAscription, Unit, Sorry}
 use Rattle.definitions.specs.CallerNames.{names_in}
 use Rattle.definitions.specs.TermReader.{read_answer}
 

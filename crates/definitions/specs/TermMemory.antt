@@ -1,6 +1,6 @@
 -- A term that was read, in lent memory: seven numbers for each node, a pair for each name, the labels' code; and the room that they
 -- take. Document 02, ticket 2, with ticket 10 for the last number of a node.
-use Rattle.std.specs.Prelude.{ℕ, zero, suc, ◌+◌, ◌-◌, ◌*◌, ◌/◌, ◌%◌, Bool, ◌||◌, cond, List, [], ◌∷◌, ◌++◌, length, ltb, Option, None, Some}
+use Rattle.std.specs.Prelude.{ℕ, ◌+◌, ◌-◌, ◌*◌, ◌/◌, ◌%◌, Bool, ◌||◌, cond, List, [], ◌∷◌, ◌++◌, length, ltb, Option, None, Some}
 use Rattle.std.proofs.lemmas.List.Edits.{sets}
 use Rattle.definitions.specs.Outcome.{Outcome, accepted, ◌>>=◌, refuse_if}
 use Rattle.definitions.specs.Name.{Name, eq_name}
