@@ -3,22 +3,20 @@
 use Prim.Native.Nat.{ℕ, ◌<◌}
 use native.Mathlib.Omega.{arith}
 use mathlib.Core.Path.{◌≡◌, ◌∙◌}
-use mathlib.Core.Logic.{◌↔◌}
-use mathlib.Core.Bool.{Bool, true, false, ◌||◌, true≢false}
+use mathlib.Core.Bool.{Bool, false, ◌||◌, true≢false}
 use Rattle.std.specs.Prelude.{Some}
 use mathlib.Core.List.{List, [], ◌∷◌, ◌++◌}
 use lib.Dec.{leb}
-use Rattle.definitions.specs.Outcome.{accepted, ◌>>=◌}
+use Rattle.definitions.specs.Outcome.{accepted}
 use Rattle.definitions.specs.Name.{Name}
 use Rattle.definitions.specs.Sheet.{name_of, names, propositions}
 use Rattle.definitions.specs.Admission.{admitted}
 use Rattle.definitions.specs.Term.{ProofTerm}
-use Rattle.definitions.specs.TermText.{nodes}
 use Rattle.definitions.specs.TermReader.{read_answer}
 use Rattle.definitions.specs.CallerNames.{names_in}
 use Rattle.definitions.specs.Answers.{named_term}
-use Rattle.definitions.specs.CheckingRules.{Context, bind, lookup, Checks}
-use Rattle.definitions.specs.Checker.{Judged, derived, stopped, check}
+use Rattle.definitions.specs.CheckingRules.{Context, bind, lookup}
+use Rattle.definitions.specs.Checker.{Judged, stopped, check}
 use Rattle.definitions.specs.CheckAnswers.{named_prop, hypothesis_out, assumed, judgement, sheet_judgement, beside_judgement}
 use Rattle.definitions.proofs.Names.{eq_name_refl}
 use Rattle.definitions.proofs.Either.{neither}

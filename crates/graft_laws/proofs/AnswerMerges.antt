@@ -2,7 +2,6 @@
 use Prim.Native.Nat.{ℕ}
 use mathlib.Core.Path.{◌≡◌}
 use mathlib.Core.List.{List}
-use Rattle.definitions.specs.Sheet as sheet
 use Rattle.definitions.specs.Graft.{merged_parts, merged_sheet, merged, graft_answer}
 use Rattle.definitions.proofs.Readings.{Bytes}
 use Rattle.writer_laws.proofs.Assembling.{name_pairs_assembled, proposition_pairs_assembled, step_records_assembled, text_bytes_assembled, code_bytes_assembled}

@@ -1,6 +1,6 @@
 -- Refusal 27's test decides equality: the same shape, name bytes and ids.
 use mathlib.Core.Path.{◌≡◌, refl, sym, ap}
-use mathlib.Core.Bool.{Bool, true, false, ◌&&◌, true≢false, and-eq-true_iff}
+use mathlib.Core.Bool.{Bool, true, ◌&&◌, true≢false, and-eq-true_iff}
 use lib.Dec.{eqb}
 use borrow.Author.Tests.{eqb-true, eq-eqb}
 use Rattle.definitions.specs.Name.{Name, eq_name}

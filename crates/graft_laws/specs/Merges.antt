@@ -12,7 +12,7 @@ use Rattle.definitions.specs.Encode.{concat, encode_pairs}
 use Rattle.definitions.specs.Answers.{named_term, named_conclusion}
 use Rattle.definitions.specs.NameIndex.{index_of}
 use Rattle.definitions.specs.Sound.{Sound}
-use Rattle.definitions.specs.Graft.{missing, donor_codes, donor_records, merged_sheet}
+use Rattle.definitions.specs.Graft.{missing, donor_codes, donor_records}
 use Rattle.name_index_laws.specs.Onward.{enter_more}
 use Rattle.graft_laws.specs.Splicing.{Spot, reached, Spliced}
 use Rattle.graft_laws.specs.Scope.{NoClash}

@@ -11,7 +11,7 @@ use lib.Seq.{get_or-set_same, get_or-set_other}
 use Rattle.definitions.specs.Name.{Name}
 use Rattle.definitions.specs.Admission.{is_none}
 use Rattle.definitions.specs.NameIndex.{slot_count, free, start_slot, slot_at, free_from, plain_search, enter, index}
-use Rattle.name_index_laws.specs.Indexed.{taken, First, Stands, Indexed}
+use Rattle.name_index_laws.specs.Indexed.{First, Stands, Indexed}
 use Rattle.name_index_laws.proofs.FreeSlot.{taken_set, none_taken, Freed, freed}
 
 -- a slot that was filled, and another

@@ -8,7 +8,7 @@ use Rattle.definitions.specs.Utf8.{utf8}
 use Rattle.definitions.specs.Name.{Name}
 use Rattle.definitions.specs.Prop as prop
 use Rattle.definitions.specs.Prop.{Prop, Instantiated}
-use Rattle.definitions.specs.AlphaEquality.{Object, bound, constant, Nameless, True, Atom}
+use Rattle.definitions.specs.AlphaEquality.{Object, bound, constant, Nameless, Atom}
 use Rattle.definitions.specs.Term.{proposition, datatype, ProofTerm, Ident, Pair, ProjectFst, Function, Application, LetIn, Case, TypeAscription, Sorry}
 use Rattle.definitions.proofs.Everything.{everything}
 use Rattle.quantifier_laws.specs.Instantiation as inst

@@ -10,7 +10,7 @@ use borrow.Author.Tests.{eq-eqb, ne_eqb}
 use Rattle.definitions.specs.Name.{Name, eq_name}
 use Rattle.definitions.specs.Prop as prop
 use Rattle.definitions.specs.Prop.{Prop, PropParameter, Uninstantiated, Instantiated}
-use Rattle.definitions.specs.AlphaEquality.{Object, bound, free, constant, True, False, Binary, Atom, Quantified, distance, object, nameless}
+use Rattle.definitions.specs.AlphaEquality.{Object, bound, free, constant, Atom, Quantified, distance, object, nameless}
 use Rattle.quantifier_laws.specs.Instantiation.{named, instantiate_object, instantiate_at, instantiate, is_among, object_among, among}
 use Rattle.quantifier_laws.specs.Closures.{Above, passed, opened, bound_in, parameter_in, held}
 

@@ -11,7 +11,7 @@ use Rattle.definitions.specs.Outcome.{accepted, ◌>>=◌, refuse_if}
 use Rattle.definitions.specs.Name.{Name}
 use Rattle.definitions.specs.Prop as prop
 use Rattle.definitions.specs.Prop.{Prop, as_binary, as_quantified, eq_connective, connective_byte, eq_quantifier, quantifier_byte}
-use Rattle.definitions.specs.AlphaEquality.{Nameless, True, False, Binary, Atom, Quantified, nameless}
+use Rattle.definitions.specs.AlphaEquality.{Nameless, nameless}
 use Rattle.definitions.specs.Tree as tree
 use Rattle.definitions.specs.Tree.{Identifier, ProofTreeRule, AndIntro, AndElimFst, AndElimSnd, TrueIntro, ImplIntro, ImplElim, OrIntroFst, OrIntroSnd, OrElim, FalsumElim, ForAllIntro, ForAllElim, ExistsIntro, ExistsElim, AlphaEquivalent, PropIsTrue, Step, ProofTree, over, Premisses, none, ◌and◌, count}
 use Rattle.definitions.specs.Term as term

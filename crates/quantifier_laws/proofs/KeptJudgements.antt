@@ -22,7 +22,7 @@ use Rattle.definitions.specs.Checker as five
 use Rattle.definitions.specs.CheckAnswers as five_answers
 use Rattle.definitions.specs.CheckAnswers.{named_prop, hypothesis_out, is_checkable_label, is_checkable_parameter_label, is_checkable, all_quantifier_free}
 use Rattle.definitions.proofs.Outcomes.{each_accepted, test_failed}
-use Rattle.quantifier_laws.specs.Rules.{Context, bind}
+use Rattle.quantifier_laws.specs.Rules.{Context}
 use Rattle.quantifier_laws.specs.CheckAnswers as answers
 use Rattle.quantifier_laws.specs.CheckAnswers.{unbound_label, unbound_parameter, unbound_term, unbound_fact, unbound_context}
 use Rattle.quantifier_laws.proofs.Conservative as conservative

@@ -20,7 +20,6 @@ use Rattle.quantifier_laws.specs.Instantiation.{among}
 use Rattle.quantifier_laws.specs.Rules.{proves, lookup, objects, object_before}
 use Rattle.quantifier_laws.specs.Sound as sound
 use Rattle.quantifier_laws.specs.Sound.{Scope, assume, entries, objects_of, among_fact, among_entries, context, Concludes, Deduction, Deduced, shadowing}
-use Rattle.quantifier_laws.specs.Accuracy.{Accurate}
 use Rattle.quantifier_laws.proofs.Instantiation.{among_none}
 use Rattle.quantifier_laws.proofs.QuantifierFree.{Free}
 use Rattle.quantifier_laws.proofs.Conservative as conservative

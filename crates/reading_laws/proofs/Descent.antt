@@ -1,7 +1,7 @@
 -- Each turn of the machine brings it nearer to its end: so many turns suffice as the bytes left and the entries say.
 use Prim.Native.Nat.{ℕ, zero, suc, ◌+◌, ◌*◌, ◌<◌, ◌≤◌}
 use mathlib.Core.Path.{◌≡◌, refl, sym, ap, ◌∙◌}
-use mathlib.Core.Bool.{Bool, true, false, ◌&&◌, cond, true≢false}
+use mathlib.Core.Bool.{true, false, true≢false}
 use Rattle.std.specs.Prelude.{Option, None, Some}
 use mathlib.Core.List.{List, [], ◌∷◌, ◌++◌}
 use native.Mathlib.Omega.{arith}
@@ -9,16 +9,16 @@ use lib.ListN.{length, length-append}
 use Rattle.definitions.specs.declared.Style.TheVariants.{Strict}
 use Rattle.definitions.specs.Utf8.{utf8}
 use Rattle.definitions.specs.Name.{Name, is_name}
-use Rattle.definitions.specs.Code.{Read, yield}
-use Rattle.definitions.specs.Term.{ProofTerm, Ident, Pair, Named, Function, Application, LetIn, Case, TypeAscription, Unit, Sorry}
+use Rattle.definitions.specs.Code.{yield}
+use Rattle.definitions.specs.Term.{ProofTerm, Ident, Pair, Unit, Sorry}
 use Rattle.definitions.specs.Display.{display_label, display_parameter_label, function_of, argument_of, body_of, ascribed_by, within, wraps}
 use Rattle.definitions.specs.Sheet.{name_length_limit}
 use Rattle.definitions.specs.CallerNames.{well_formed}
 use Rattle.definitions.specs.TermText.{is_admitted, Admitted}
-use Rattle.definitions.specs.TermReader.{Shown, standing, word, name, expect, if_read, Start, fn_word, case_word, let_word, sorry_word, no_word, call_word, start_of, is_sorry, argument_follows, label, parameter_label, prop_levels}
-use Rattle.reading_laws.specs.TermMachine.{Purpose, as_head, as_argument, as_body, Entry, in_bracket, second, function_body, case_head, case_first, case_second, let_head, let_body, State, reading, holding, giving, and_then, used, closed_for, Turn, last, onward, after_turn, start, chain, give, turn, run}
+use Rattle.definitions.specs.TermReader.{Shown, standing, word, name, Start, fn_word, case_word, let_word, sorry_word, no_word, call_word, start_of, is_sorry, argument_follows, label, parameter_label, prop_levels}
+use Rattle.reading_laws.specs.TermMachine.{Purpose, as_head, as_argument, as_body, Entry, in_bracket, second, function_body, case_head, case_first, case_second, let_head, let_body, State, reading, holding, giving, used, closed_for, onward, after_turn, start, chain, give, turn, run}
 use Rattle.reading_laws.proofs.MachineReads.{Steps, done, next as turned}
-use Rattle.reading_laws.proofs.TermConventions.{Gives, NameIn, gives_name, word_is, Spelled, spelled, spelled_sorry, LabelIn, ParameterLabelIn, gives_label, gives_parameter_label}
+use Rattle.reading_laws.proofs.TermConventions.{NameIn, gives_name, word_is, spelled, spelled_sorry, LabelIn, ParameterLabelIn, gives_label, gives_parameter_label}
 use Rattle.reading_laws.proofs.Turns.{Next, next_then, next_if, next_after, next_or, next_due, next_cond, next_some}
 use Rattle.std.proofs.lemmas.Option.{same_Some}
 use Rattle.std.proofs.lemmas.Option.{none-some}

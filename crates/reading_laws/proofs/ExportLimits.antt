@@ -1,19 +1,17 @@
 -- An exported term has at most two nodes and two levels for each step, and the names and labels of its steps.
 use Prim.Native.Nat.{ℕ, zero, suc, ◌+◌, ◌*◌, max, ◌≤◌}
-use mathlib.Core.Path.{◌≡◌, refl, sym, ap, ◌∙◌}
+use mathlib.Core.Path.{◌≡◌, refl}
 use mathlib.Core.Bool.{Bool, true, false, not, true≢false}
 use Rattle.std.specs.Prelude.{None, Option, Some}
 use mathlib.Core.List.{List, [], ◌∷◌}
 use native.Mathlib.Omega.{arith}
-use lib.ListN.{length, get_or}
-use lib.Dec.{eqb, leb}
+use lib.ListN.{length}
 use borrow.Author.Tests.{eqb-true, leb-true}
 use Rattle.definitions.specs.Outcome.{Outcome, refused, accepted, refuse, ◌>>=◌, refuse_if}
 use Rattle.definitions.specs.Name.{Name}
 use Rattle.definitions.specs.Tree as tree
 use Rattle.definitions.specs.Tree.{ProofTreeRule, AndIntro, AndElimFst, AndElimSnd, TrueIntro, ImplIntro, ImplElim, OrIntroFst, OrIntroSnd, OrElim, FalsumElim, ForAllIntro, ForAllElim, ExistsIntro, ExistsElim, AlphaEquivalent, identifier_count, Step, ProofTree, over, Premisses, none, ◌and◌, height, heights, count}
-use Rattle.definitions.specs.Term as term
-use Rattle.definitions.specs.Term.{Label, ProofTerm, Pair, Function, Application, LetIn, Case, TypeAscription, Unit}
+use Rattle.definitions.specs.Term.{Label, ProofTerm, TypeAscription}
 use Rattle.definitions.specs.Export.{Place, checking, inferring, Ending, bare, ascribed, left_labelled, datatype_labelled, premiss_own, admits, row, row_of, admits_count, places, ending, ascription_label, left_label, datatype_label, rule_term, premiss_term, step_term, inferring_term, placed_term, export, export_all}
 use Rattle.definitions.specs.TermText.{Each, OfParameterLabel, nodes, term_nesting}
 

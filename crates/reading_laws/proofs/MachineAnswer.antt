@@ -1,23 +1,23 @@
 -- The machine answers as the reader does.
-use Prim.Native.Nat.{ℕ, ◌+◌, ◌*◌, ◌<◌, ◌≤◌}
+use Prim.Native.Nat.{ℕ, ◌+◌, ◌*◌, ◌≤◌}
 use mathlib.Core.Path.{◌≡◌, refl, sym, ap, ◌∙◌}
 use mathlib.Core.Bool.{Bool, true, false, ◌&&◌, cond, true≢false, and-eq-true_iff}
 use Rattle.std.specs.Prelude.{Option, None, Some}
-use mathlib.Core.List.{List, [], ◌∷◌, ◌++◌, append-nil}
+use mathlib.Core.List.{List, [], append-nil}
 use native.Mathlib.Omega.{arith}
 use lib.ListN.{length}
-use lib.Dec.{leb, eqb}
+use lib.Dec.{leb}
 use borrow.Author.Tests.{leb-true, le-leb}
 use Rattle.definitions.specs.declared.Style.TheVariants.{Strict}
 use Rattle.definitions.specs.Outcome.{Outcome, accepted, refuse}
 use Rattle.definitions.specs.Name.{Name}
-use Rattle.definitions.specs.Code.{Read, yield, whole}
+use Rattle.definitions.specs.Code.{yield, whole}
 use Rattle.definitions.specs.Term.{ProofTerm}
 use Rattle.definitions.specs.Display.{display_term}
-use Rattle.definitions.specs.TermText.{TermOf, TheTermOf, Readable, ReadsAs, reads, refuses, term_text_limit, all_admitted}
-use Rattle.definitions.specs.TermReader.{Shown, standing, same, is_limited, settled, read_answer, prop_levels}
-use Rattle.reading_laws.specs.TermMachine.{State, reading, giving, run, machine_answer}
-use Rattle.definitions.proofs.Readings.{given, whole_read}
+use Rattle.definitions.specs.TermText.{TermOf, Readable, ReadsAs, reads, refuses, term_text_limit, all_admitted}
+use Rattle.definitions.specs.TermReader.{Shown, standing, same, is_limited, settled, read_answer}
+use Rattle.reading_laws.specs.TermMachine.{reading, giving, run, machine_answer}
+use Rattle.definitions.proofs.Readings.{whole_read}
 use Rattle.reading_laws.proofs.OneTerm.{nothing_follows, good_term, the_term}
 use Rattle.reading_laws.proofs.TermAnswer.{both, clash, not_own, limits_test, limits_passed, answer_is}
 use Rattle.reading_laws.proofs.MachineReads.{Steps, machine_reads}

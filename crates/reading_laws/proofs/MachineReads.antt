@@ -1,8 +1,8 @@
 -- The machine reads the strict text of a term: its turns lead from the start of the text to the term.
-use Prim.Native.Nat.{ℕ, ◌*◌, ◌≤◌}
-use mathlib.Core.Path.{◌≡◌, refl, sym, ap, ◌∙◌}
-use mathlib.Core.Bool.{Bool, true, false, cond}
-use Rattle.std.specs.Prelude.{Option, None, Some}
+use Prim.Native.Nat.{ℕ}
+use mathlib.Core.Path.{◌≡◌, refl, ap, ◌∙◌}
+use mathlib.Core.Bool.{Bool, true, false}
+use Rattle.std.specs.Prelude.{Option, Some}
 use mathlib.Core.List.{List, [], ◌∷◌, ◌++◌, append_assoc}
 use Rattle.definitions.specs.declared.Style.TheVariants.{Strict}
 use Rattle.definitions.specs.Utf8.{utf8}
@@ -11,13 +11,13 @@ use Rattle.definitions.specs.CallerNames.{well_formed}
 use Rattle.definitions.specs.Sheet.{name_length_limit}
 use Rattle.definitions.specs.Term.{Label, NamedFunction, fst, snd, inl, inr, abort, ProofTerm, Ident, Pair, Named, Function, Application, LetIn, Case, TypeAscription, Unit, Sorry}
 use Rattle.definitions.specs.Text.{occurs}
-use Rattle.definitions.specs.Display.{wrap, display_label, display_parameter_label, form, function_of, argument_of, body_of, ascribed_by, part_of, within, brackets_of, is_strict, brackets, bracketed, function_text, wraps, display_term}
-use Rattle.definitions.specs.TermText.{keywords, is_admitted, Admitted, Each, ConventionalLabel}
-use Rattle.definitions.specs.TermReader.{Shown, standing, same, word, longer, named, name, expect, if_read, or_read, means, connective, strong_enough, goes_on, is_open, Start, start_of, is_sorry, argument_begins, argument_follows, prop_levels}
-use Rattle.reading_laws.specs.TermMachine.{Purpose, as_head, as_argument, as_body, Entry, in_bracket, second, function_body, case_head, case_first, case_second, let_head, let_body, State, reading, holding, giving, and_then, if_due, used, closed_for, Turn, last, onward, start, chain, give, turn}
+use Rattle.definitions.specs.Display.{wrap, display_label, display_parameter_label, form, function_of, argument_of, within, brackets_of, is_strict, brackets, bracketed, function_text, wraps, display_term}
+use Rattle.definitions.specs.TermText.{keywords, is_admitted, Each}
+use Rattle.definitions.specs.TermReader.{Shown, standing, same, word, longer, named, name, expect, if_read, or_read, means, connective, strong_enough, goes_on, is_open, start_of, is_sorry, argument_begins, argument_follows, prop_levels}
+use Rattle.reading_laws.specs.TermMachine.{Purpose, as_head, as_argument, as_body, Entry, in_bracket, second, function_body, case_head, case_first, case_second, let_head, let_body, State, reading, holding, giving, and_then, if_due, used, closed_for, onward, start, chain, give, turn}
 use Rattle.reading_laws.proofs.WordsRead.{stops, word_whole, read_word, read_name, no_start}
 use Rattle.reading_laws.proofs.PropTexts.{same_same, not_read}
-use Rattle.reading_laws.proofs.TermTexts.{is_next, Ends, after_label, as_argument_lem, as_function, part_bare, Shallow, Good, read_label, read_parameter_label, stops_parameter_label, unopened, begins_name, begins_sorry}
+use Rattle.reading_laws.proofs.TermTexts.{is_next, Ends, after_label, as_argument_lem, as_function, part_bare, Good, read_label, read_parameter_label, stops_parameter_label, unopened, begins_name, begins_sorry}
 
 module _ (types : List Name) where
   -- turns that lead from one state to another

@@ -1,6 +1,6 @@
 -- Whatever the machine holds is conventional, and its text stands in the text that is read.
 use Prim.Native.Nat.{ℕ}
-use mathlib.Core.Path.{◌≡◌, refl, sym, ap, ◌∙◌}
+use mathlib.Core.Path.{◌≡◌, refl, ◌∙◌}
 use mathlib.Core.Bool.{Bool, true, false, cond}
 use Rattle.std.specs.Prelude.{Option, None, Some}
 use mathlib.Core.List.{List, [], ◌∷◌, ◌++◌, append_assoc, append-nil}
@@ -9,11 +9,11 @@ use Rattle.definitions.specs.declared.Style.TheVariants.{Strict}
 use Rattle.definitions.specs.Utf8.{utf8}
 use Rattle.definitions.specs.Name.{Name}
 use Rattle.definitions.specs.Code.{Read}
-use Rattle.definitions.specs.Term.{Label, NamedFunction, fst, snd, inl, inr, abort, ProofTerm, Ident, Pair, Named, Function, Application, LetIn, Case, TypeAscription, Unit, Sorry}
-use Rattle.definitions.specs.Display.{wrap, display_label, display_parameter_label, form, function_of, argument_of, body_of, ascribed_by, part_of, within, function_text, wraps, display_term}
+use Rattle.definitions.specs.Term.{NamedFunction, fst, snd, inl, inr, abort, ProofTerm, Ident, Pair, TypeAscription, Unit, Sorry}
+use Rattle.definitions.specs.Display.{wrap, display_label, display_parameter_label, form, function_of, argument_of, body_of, ascribed_by, within, function_text, wraps, display_term}
 use Rattle.definitions.specs.TermText.{Admitted, OfParameterLabel, Each, ConventionalLabel, Conventional}
 use Rattle.definitions.specs.TermReader.{Shown, standing, same, word, name, expect, if_read, Start, fn_word, case_word, let_word, sorry_word, no_word, call_word, start_of, is_sorry, argument_follows, label, parameter_label, prop_levels}
-use Rattle.reading_laws.specs.TermMachine.{Purpose, as_head, as_argument, as_body, Entry, in_bracket, second, function_body, case_head, case_first, case_second, let_head, let_body, State, reading, holding, giving, and_then, if_due, used, closed_for, Turn, last, onward, start, chain, give, turn}
+use Rattle.reading_laws.specs.TermMachine.{Purpose, as_head, as_argument, as_body, Entry, in_bracket, second, function_body, case_head, case_first, case_second, let_head, let_body, State, reading, holding, giving, and_then, if_due, used, closed_for, onward, start, chain, give, turn}
 use Rattle.reading_laws.proofs.MachineReads.{Steps, done, next as turned}
 use Rattle.reading_laws.proofs.TermTexts.{part_bare}
 use Rattle.reading_laws.proofs.TermConventions.{Gives, expected, NameIn, gives_name, word_is, call_text, Spelled, spelled, spelled_sorry, LabelIn, ParameterLabelIn, gives_label, gives_parameter_label}

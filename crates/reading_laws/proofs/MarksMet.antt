@@ -1,23 +1,20 @@
 -- Each turn only adds to what was met: so on the way to a term within the limits nothing passes them.
-use Prim.Native.Nat.{ℕ, zero, suc, ◌+◌, ◌≤◌}
-use mathlib.Core.Path.{◌≡◌, refl, sym, ap, ◌∙◌}
-use mathlib.Core.Bool.{Bool, true, false, ◌&&◌, cond, and-eq-true_iff}
-use Rattle.std.specs.Prelude.{Option, None, Some}
+use Prim.Native.Nat.{ℕ}
+use mathlib.Core.Path.{◌≡◌, refl, sym}
+use mathlib.Core.Bool.{true, false}
+use Rattle.std.specs.Prelude.{Some}
 use mathlib.Core.List.{List, [], ◌∷◌, ◌++◌, append_assoc, append-nil}
 use native.Mathlib.Omega.{arith}
-use lib.ListN.{length, length-append}
 use Rattle.definitions.specs.declared.Style.TheVariants.{Strict}
 use Rattle.definitions.specs.Utf8.{utf8}
-use Rattle.definitions.specs.Name.{Name, eq_name}
-use Rattle.definitions.specs.Text.{occurs, firsts_after, firsts}
-use Rattle.definitions.specs.Term.{Label, ProofTerm, Ident, Pair, Named, Function, Application, LetIn, Case, TypeAscription, Unit, Sorry}
+use Rattle.definitions.specs.Name.{Name}
+use Rattle.definitions.specs.Term.{ProofTerm, Ident, Pair, Unit, Sorry}
 use Rattle.definitions.specs.Display.{function_of, argument_of, body_of, ascribed_by, within, wraps}
-use Rattle.definitions.specs.TermText.{nodes, label_names, parameter_label_names, term_names}
-use Rattle.definitions.specs.TermReader.{Shown, standing, word, name, Start, fn_word, case_word, let_word, sorry_word, no_word, call_word, start_of, is_sorry, argument_follows, label, parameter_label, prop_levels, is_limited_label, is_limited_parameter_label, has_limited_labels}
+use Rattle.definitions.specs.TermReader.{Shown, standing, word, name, Start, fn_word, case_word, let_word, sorry_word, no_word, call_word, start_of, is_sorry, argument_follows, label, parameter_label, prop_levels}
 use Rattle.reading_laws.specs.TermMachine.{Purpose, as_head, as_argument, as_body, Entry, in_bracket, second, function_body, case_head, case_first, case_second, let_head, let_body, State, reading, holding, giving, used, closed_for, onward, start, chain, give, turn}
 use Rattle.reading_laws.proofs.MachineReads.{Steps, done, next as turned}
 use Rattle.reading_laws.proofs.TermConventions.{NameIn, gives_name, LabelIn, ParameterLabelIn, gives_label, gives_parameter_label}
-use Rattle.reading_laws.specs.Marks.{Mark, called, labelled, node, label_marks, marks, purpose_marks, entry_marks, entries_marks, met, nodes_met, names_met, limited_met}
+use Rattle.reading_laws.specs.Marks.{Mark, called, labelled, node, label_marks, marks, purpose_marks, entry_marks, entries_marks, met}
 use Rattle.reading_laws.proofs.Turns.{Next, next_then, next_if, next_after, next_or, next_due, next_cond, next_some}
 
 -- the first is the beginning of the second

@@ -1,5 +1,5 @@
 -- What may be said at a state of the machine: where its text has no term within the limits, and where the term is read.
-use Prim.Native.Nat.{ℕ, zero, suc, ◌+◌, ◌≤◌}
+use Prim.Native.Nat.{ℕ, ◌+◌, ◌≤◌}
 use mathlib.Core.Path.{◌≡◌, refl, sym, ap, ◌∙◌}
 use mathlib.Core.Bool.{Bool, true, false, ◌&&◌, cond, true≢false, and-eq-true_iff}
 use Rattle.std.specs.Prelude.{Option, None, Some}
@@ -7,15 +7,15 @@ use mathlib.Core.List.{List, [], ◌∷◌, ◌++◌, append_assoc, append-nil}
 use native.Mathlib.Omega.{arith}
 use lib.ListN.{length}
 use lib.Dec.{leb}
-use borrow.Author.Tests.{leb-true, le-leb}
-use Rattle.definitions.specs.Outcome.{Outcome, accepted, refuse}
+use borrow.Author.Tests.{le-leb}
+use Rattle.definitions.specs.Outcome.{accepted, refuse}
 use Rattle.definitions.specs.Name.{Name, eq_name}
 use Rattle.definitions.specs.Text.{occurs, firsts_after, firsts}
 use Rattle.definitions.specs.Sheet.{name_limit}
 use Rattle.definitions.specs.Term.{Label, ProofTerm, Ident, Pair, Named, Function, Application, LetIn, Case, TypeAscription, Unit, Sorry}
-use Rattle.definitions.specs.TermText.{nodes, term_nesting, label_names, parameter_label_names, term_names, node_limit, term_nesting_limit, term_text_limit, Limited, TermOf, Readable, ReadsAs, reads, refuses, all_admitted}
+use Rattle.definitions.specs.TermText.{nodes, term_nesting, label_names, parameter_label_names, term_names, node_limit, term_nesting_limit, term_text_limit, Limited, TermOf, reads, refuses, all_admitted}
 use Rattle.definitions.specs.TermReader.{Shown, standing, is_limited_label, is_limited_parameter_label, has_limited_labels, is_limited, read_answer}
-use Rattle.reading_laws.specs.TermMachine.{State, reading, holding, giving, Turn, last, onward, turn}
+use Rattle.reading_laws.specs.TermMachine.{State, reading, holding, giving, onward, turn}
 use Rattle.reading_laws.proofs.OneTerm.{the_term}
 use Rattle.reading_laws.proofs.TermAnswer.{both, limits_test, answer_is}
 use Rattle.reading_laws.proofs.MachineReads.{Steps, done, next as turned}

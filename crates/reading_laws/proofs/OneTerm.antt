@@ -1,22 +1,20 @@
 -- A strict text has one term at most, which the reader gives; the strict text of a term restores it without its ids.
-use Prim.Native.Nat.{ℕ, ◌+◌, ◌*◌, max, ◌≤◌}
+use Prim.Native.Nat.{ℕ}
 use mathlib.Core.Path.{◌≡◌, refl, sym, ap, ◌∙◌}
-use mathlib.Core.Bool.{Bool, true, false, cond}
+use mathlib.Core.Bool.{false}
 use Rattle.std.specs.Prelude.{Option, None, Some}
-use mathlib.Core.List.{List, [], ◌∷◌, ◌++◌, map, append-nil}
+use mathlib.Core.List.{List, [], ◌∷◌, map, append-nil}
 use native.Mathlib.Omega.{arith}
 use lib.ListN.{length, length-append}
 use Rattle.definitions.specs.declared.Style.{Style}
 use Rattle.definitions.specs.declared.Style.TheVariants.{Strict}
-use Rattle.definitions.specs.Outcome.{accepted}
-use Rattle.definitions.specs.Name.{Name, eq_name}
+use Rattle.definitions.specs.Name.{Name}
 use Rattle.definitions.specs.Prop.{Prop, True, False, Binary, Atom, Quantified, PropParameter, Uninstantiated, Instantiated, parameter_name, is_false, Connective, and, or, impl, nesting, rename_prop, rename_parameter}
-use Rattle.definitions.specs.Code.{u16, encode_parameter, encode_parameters, encode, parameter_limit}
+use Rattle.definitions.specs.Code.{u16, encode_parameter, encode_parameters, encode}
 use Rattle.definitions.specs.Sheet.{proposition_nesting_limit}
 use Rattle.definitions.specs.Term.{Label, proposition, datatype, ProofTerm, Ident, Pair, Named, Function, Application, LetIn, Case, TypeAscription, Unit, Sorry}
-use Rattle.definitions.specs.Text.{occurs}
 use Rattle.definitions.specs.Display.{wrap, is_negation, precedence, following_parameters, display_parameters, display_prop, display_label, display_parameter_label, form, wraps, display_term}
-use Rattle.definitions.specs.TermText.{Admitted, parameter_named, ConventionalParameters, ConventionalProp, OfParameterLabel, Each, lone_label, label_for, ConventionalLabel, Conventional, term_text_limit, term_nesting_limit, nodes, term_nesting, prop_names, label_names, parameter_label_names, term_names, code_bytes, LimitedLabel, Limited, TermOf, TheTermOf, all_admitted, Readable, ReadsAs, reads, without_id, prop_without_ids, label_without_ids, parameter_label_without_ids, without_ids, BoundAsNamed, RestorableParameters, RestorableAtom, RestorableProp, RestorableLabel, Restorable}
+use Rattle.definitions.specs.TermText.{Admitted, parameter_named, ConventionalParameters, ConventionalProp, OfParameterLabel, Each, lone_label, label_for, ConventionalLabel, term_nesting_limit, nodes, term_nesting, prop_names, label_names, parameter_label_names, term_names, code_bytes, LimitedLabel, Limited, TermOf, TheTermOf, without_id, prop_without_ids, label_without_ids, parameter_label_without_ids, without_ids, BoundAsNamed, RestorableParameters, RestorableAtom, RestorableProp, RestorableLabel, Restorable}
 use Rattle.definitions.specs.TermReader.{expect, if_read, or_read, means, connective, strong_enough, goes_on, is_open, argument_follows, standing, read_term, prop_levels, term_levels}
 use Rattle.definitions.proofs.Readings.{given}
 use Rattle.reading_laws.specs.Coded.{FewParameters, Coded}

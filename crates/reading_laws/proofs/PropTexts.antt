@@ -7,16 +7,16 @@ use mathlib.Core.List.{List, [], ◌∷◌, ◌++◌, append_assoc}
 use native.Mathlib.Omega.{arith}
 use lib.ListN.{length}
 use lib.Dec.{ltb, leb}
-use borrow.Author.Tests.{leb-true, leb-false, ltb-false, le-leb, lt-leb}
+use borrow.Author.Tests.{leb-false, le-leb, lt-leb}
 use Rattle.definitions.specs.Utf8.{utf8}
-use Rattle.definitions.specs.Name.{Name, byte_class, may_begin, may_follow, is_name}
+use Rattle.definitions.specs.Name.{Name, byte_class, may_follow, is_name}
 use Rattle.definitions.specs.Sheet.{name_length_limit}
 use Rattle.definitions.specs.CallerNames.{well_formed}
 use Rattle.definitions.specs.Prop.{Prop, True, False, Binary, Atom, Quantified, PropParameter, parameter_name, is_false, Connective, and, or, impl, Quantifier, for_all, exists, nesting}
-use Rattle.definitions.specs.Code.{Read, Reading, yield, fail, followed_by, ◌>>=◌, parameter_limit}
+use Rattle.definitions.specs.Code.{Read, Reading, yield, followed_by, ◌>>=◌, parameter_limit}
 use Rattle.definitions.specs.Display.{wrap, connective_precedence, is_negation, precedence, wraps_left, wraps_right, connective_text, quantifier_text, following_parameters, display_parameters, display_prop}
-use Rattle.definitions.specs.TermText.{is_admitted, Admitted, parameter_named, ConventionalParameters, ConventionalProp}
-use Rattle.definitions.specs.TermReader.{Shown, standing, same, due, longer, word, named, name, expect, if_read, or_read, means, connective, right_least, strong_enough, goes_on, Sign, top, bottom, negation, bracket, binder, sign, later_parameters, parameters_of, signed, atom_named, unit, joined, read_prop, is_open}
+use Rattle.definitions.specs.TermText.{is_admitted, ConventionalParameters, ConventionalProp}
+use Rattle.definitions.specs.TermReader.{Shown, standing, same, due, word, named, name, expect, if_read, or_read, means, connective, right_least, strong_enough, goes_on, binder, sign, later_parameters, parameters_of, signed, atom_named, unit, joined, read_prop, is_open}
 use Rattle.definitions.proofs.Readings.{given}
 use Rattle.reading_laws.proofs.WordsRead.{stops, read_name}
 use Rattle.std.proofs.lemmas.Option.{none-some}

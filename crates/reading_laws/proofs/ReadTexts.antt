@@ -7,8 +7,8 @@ use mathlib.Core.List.{List, [], ◌∷◌, map}
 use Rattle.definitions.specs.Utf8.{utf8}
 use Rattle.definitions.specs.Outcome.{Outcome, accepted, refuse}
 use Rattle.definitions.specs.Name.{Name}
-use Rattle.definitions.specs.Prop.{Prop, True, False, Binary, Atom, Quantified, Uninstantiated, Instantiated, and, or, impl, for_all, exists}
-use Rattle.definitions.specs.Term.{Label, proposition, datatype, fst, snd, inl, inr, abort, ProofTerm, Ident, Pair, Named, Function, Application, LetIn, Case, TypeAscription, Unit, Sorry}
+use Rattle.definitions.specs.Prop.{True, False, Binary, Atom, Quantified, Uninstantiated, Instantiated, and, or, impl, for_all}
+use Rattle.definitions.specs.Term.{proposition, datatype, fst, snd, inl, inr, abort, ProofTerm, Ident, Pair, Named, Function, Application, LetIn, Case, TypeAscription, Unit, Sorry}
 use Rattle.definitions.specs.TermReader.{read_answer}
 use Rattle.definitions.proofs.Everything.{everything}
 

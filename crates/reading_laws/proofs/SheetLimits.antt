@@ -1,32 +1,32 @@
 -- The term of every sheet is within the limits of ticket 2.
-use Prim.Native.Nat.{ℕ, zero, suc, ◌+◌, ◌-◌, ◌*◌, max, ◌<◌, ◌≤◌}
+use Prim.Native.Nat.{ℕ, zero, suc, ◌+◌, ◌-◌, ◌<◌, ◌≤◌}
 use mathlib.Core.Path.{◌≡◌, refl, sym, ap, ◌∙◌}
-use mathlib.Core.Bool.{Bool, true, false, ◌||◌, not, cond, true≢false}
+use mathlib.Core.Bool.{Bool, true, false, ◌||◌, cond, true≢false}
 use Rattle.std.specs.Prelude.{unwrap_or, None, Option, Some}
 use mathlib.Core.List.{List, [], ◌∷◌, ◌++◌, map}
 use native.Mathlib.Omega.{arith}
 use native.Mathlib.Decide.{dec_lt}
 use mathlib.Core.Logic.{by_cases}
-use lib.ListN.{length, get_or, take, drop, length-append}
+use lib.ListN.{length, take, drop, length-append}
 use lib.Dec.{ltb, leb, eqb}
-use borrow.Author.Tests.{ltb-false, leb-false, le-leb, eqb-true}
-use Rattle.definitions.specs.Outcome.{Outcome, refused, accepted, refuse, ◌>>=◌, map_outcome, refuse_if, first_of, lowest, refuse_at, refuse_lowest}
-use Rattle.definitions.specs.Name.{Name, eq_name}
-use Rattle.definitions.specs.Prop.{Prop, True, False, Binary, Atom, Quantified, PropParameter, Uninstantiated, Instantiated, parameter_name, Connective, impl, Quantifier, for_all, as_binary, as_quantified, eq_connective, eq_quantifier, nesting, rename_prop, rename_parameter}
-use Rattle.definitions.specs.Code.{u16, decode, encode_parameter, encode_parameters, encode, parameter_limit, CodableParameter, CodableParameters, Codable}
+use borrow.Author.Tests.{ltb-false, leb-false, le-leb}
+use Rattle.definitions.specs.Outcome.{Outcome, refused, accepted, refuse, map_outcome, first_of, lowest, refuse_at, refuse_lowest}
+use Rattle.definitions.specs.Name.{Name}
+use Rattle.definitions.specs.Prop.{Prop, True, False, Binary, Atom, Quantified, PropParameter, Uninstantiated, Instantiated, parameter_name, impl, for_all, as_binary, as_quantified, eq_connective, eq_quantifier, nesting, rename_prop, rename_parameter}
+use Rattle.definitions.specs.Code.{u16, decode, encode_parameter, encode_parameters, encode, CodableParameter, CodableParameters, Codable}
 use Rattle.definitions.specs.Sheet.{text_limit, name_limit, code_limit, proposition_limit, step_limit, proposition_nesting_limit, tree_nesting_limit, rule_byte, premiss_count, step_number, marked, pair_offset, pair_length, text_length, names, code_length, propositions, steps, goal, header_out_of_range, code_start, proposition_pairs, step_records, name_of}
 use Rattle.definitions.specs.Sheet as sheet
-use Rattle.definitions.specs.Tree.{ProofTreeConclusion, PropIsTrue, TypeJudgement, Identifier, identifier_count, ProofTree, over, Premisses, none, ◌and◌, height, heights, rename_identifier, rename_conclusion, rename_step, rename_tree, rename_premisses, rules, last_trees, rule_in, prop_in, identifier_in, conclusion_in, step_in, step_over, trees_before, tree_in, tree_of, root_of}
+use Rattle.definitions.specs.Tree.{ProofTreeConclusion, PropIsTrue, TypeJudgement, identifier_count, ProofTree, over, Premisses, none, ◌and◌, height, heights, rename_identifier, rename_conclusion, rename_step, rename_tree, rename_premisses, rules, last_trees, rule_in, prop_in, identifier_in, conclusion_in, step_in, step_over, trees_before, tree_in, tree_of, root_of}
 use Rattle.definitions.specs.Export.{export, checking, ascription_label, implication_label, left_label, universal_label, datatype_label}
 use Rattle.definitions.specs.Answers.{sheet_term, named_term}
 use Rattle.definitions.specs.Admission.{is_none, bad_code, deep_proposition, deep_tree, header_checks, admitted, no_name, not_zero, bad_identifier, bad_prop_is_true, bad_type_judgement, bad_conclusion, bad_column, identifiers, bad_step}
 use Rattle.definitions.specs.Term.{Label, proposition, datatype, ProofTerm, Ident, Pair, Named, Function, Application, LetIn, Case, TypeAscription, Unit, Sorry, rename_term}
-use Rattle.definitions.specs.TermText.{OfParameterLabel, Each, node_limit, term_nesting_limit, nodes, term_nesting, prop_names, label_names, parameter_label_names, term_names, code_bytes, LimitedLabel, Limited}
+use Rattle.definitions.specs.TermText.{OfParameterLabel, Each, node_limit, term_nesting_limit, prop_names, label_names, parameter_label_names, term_names, code_bytes, LimitedLabel, Limited}
 use Rattle.definitions.proofs.PrefixCode.{Bytes, encode_decode}
 use Rattle.definitions.proofs.Renaming.{export_same}
 use Rattle.reading_laws.specs.Coded.{FewParameters, Coded}
 use Rattle.reading_laws.proofs.EachLabel.{join_each}
-use Rattle.reading_laws.proofs.ExportLimits.{apart, After, accepted_after, passed, size, sizes, export_small, GoodStep, GoodTree, GoodTrees, export_each}
+use Rattle.reading_laws.proofs.ExportLimits.{apart, accepted_after, passed, size, sizes, export_small, GoodStep, GoodTree, GoodTrees, export_each}
 use Rattle.reading_laws.proofs.FewNames.{Value, All, all_both, few_names}
 
 -- A lowest place that is not there.

@@ -1,30 +1,28 @@
 -- The answer that the reader computes is the answer of the conventions: the one term of a text, or 20 where there is none.
 use Prim.Native.Nat.{ℕ, ◌≤◌}
-use mathlib.Core.Path.{◌≡◌, refl, sym, ap, ◌∙◌}
+use mathlib.Core.Path.{◌≡◌, refl, sym, ◌∙◌}
 use mathlib.Core.Bool.{Bool, true, false, ◌&&◌, cond, true≢false, and-eq-true_iff}
 use Rattle.std.specs.Prelude.{Option, None, Some}
-use mathlib.Core.List.{List, [], ◌∷◌, ◌++◌, append-nil}
+use mathlib.Core.List.{List, [], ◌++◌, append-nil}
 use native.Mathlib.Omega.{arith}
 use lib.ListN.{length}
-use lib.Dec.{leb, eqb}
+use lib.Dec.{leb}
 use borrow.Author.Tests.{leb-true, le-leb}
 use Rattle.definitions.specs.declared.Style.TheVariants.{Strict}
-use Rattle.definitions.specs.Outcome.{Outcome, refused, accepted, refuse}
+use Rattle.definitions.specs.Outcome.{accepted, refuse}
 use Rattle.definitions.specs.Name.{Name, eq_name}
-use Rattle.definitions.specs.Prop.{Prop, True, False, Binary, Atom, Quantified, nesting}
-use Rattle.definitions.specs.Code.{Read, whole}
+use Rattle.definitions.specs.Prop.{nesting}
+use Rattle.definitions.specs.Code.{whole}
 use Rattle.definitions.specs.Sheet.{name_limit, code_limit, proposition_nesting_limit}
 use Rattle.definitions.specs.Term.{Label, proposition, datatype, ProofTerm, Ident, Pair, Named, Function, Application, LetIn, Case, TypeAscription, Unit, Sorry}
 use Rattle.definitions.specs.Text.{firsts}
 use Rattle.definitions.specs.Display.{wrap, display_term}
-use Rattle.definitions.specs.TermText.{Admitted, ConventionalProp, OfParameterLabel, Each, ConventionalLabel, Conventional, term_text_limit, node_limit, term_nesting_limit, nodes, term_nesting, term_names, code_bytes, LimitedLabel, Limited, TermOf, all_admitted, Readable, ReadsAs, reads, refuses, without_ids, Restorable}
+use Rattle.definitions.specs.TermText.{OfParameterLabel, Each, term_text_limit, node_limit, term_nesting_limit, nodes, term_nesting, term_names, code_bytes, LimitedLabel, Limited, TermOf, all_admitted, Readable, ReadsAs, reads, refuses, without_ids, Restorable}
 use Rattle.definitions.specs.TermReader.{Shown, standing, same, read_term, prop_levels, term_levels, is_limited_label, is_limited_parameter_label, has_limited_labels, is_limited, settled, read_answer}
 use Rattle.definitions.proofs.Readings.{given, whole_read}
 use Rattle.reading_laws.specs.Coded.{Coded}
 use Rattle.reading_laws.proofs.TermConventions.{Gives, TermIn, gives_term}
 use Rattle.reading_laws.proofs.OneTerm.{read_strict, the_term, restores}
-use Rattle.std.proofs.lemmas.Option.{same_Some}
-use Rattle.std.proofs.lemmas.Option.{none-some}
 
 -- both of two
 pub both : {a b : Bool} → a ≡ true → b ≡ true → a && b ≡ true

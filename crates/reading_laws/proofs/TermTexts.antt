@@ -1,19 +1,17 @@
 -- The strict text of a term reads back as that term, whatever may follow it.
-use Prim.Native.Nat.{ℕ, zero, suc, ◌+◌, ◌-◌, ◌*◌, max, ◌<◌, ◌≤◌}
+use Prim.Native.Nat.{ℕ, zero, suc, ◌+◌, ◌-◌, ◌*◌, ◌<◌, ◌≤◌}
 use mathlib.Core.Path.{◌≡◌, refl, sym, ap, ◌∙◌}
-use mathlib.Core.Bool.{Bool, true, false, ◌||◌, cond, true≢false, and-eq-true_iff}
+use mathlib.Core.Bool.{Bool, true, false, true≢false, and-eq-true_iff}
 use Rattle.std.specs.Prelude.{Option, None, Some}
 use mathlib.Core.List.{List, [], ◌∷◌, ◌++◌, append_assoc, append-nil}
 use native.Mathlib.Omega.{arith}
-use lib.ListN.{length}
-use lib.Dec.{eqb, leb}
 use borrow.Author.Tests.{ne_eqb}
 use Rattle.definitions.specs.declared.Style.TheVariants.{Strict}
 use Rattle.definitions.specs.Utf8.{utf8}
 use Rattle.definitions.specs.Name.{Name, byte_class, may_begin, may_follow, all_may_follow, is_name, eq_name}
 use Rattle.definitions.specs.CallerNames.{well_formed}
-use Rattle.definitions.specs.Prop.{Prop, Atom, nesting}
-use Rattle.definitions.specs.Code.{Read, Reading, yield, fail, followed_by, ◌>>=◌, parameter_limit}
+use Rattle.definitions.specs.Prop.{Atom, nesting}
+use Rattle.definitions.specs.Code.{Read, Reading, yield, followed_by, ◌>>=◌, parameter_limit}
 use Rattle.definitions.specs.Sheet.{name_length_limit}
 use Rattle.definitions.specs.Term.{Label, proposition, datatype, NamedFunction, fst, snd, inl, inr, abort, ProofTerm, Ident, Pair, Named, Function, Application, LetIn, Case, TypeAscription, Unit, Sorry}
 use Rattle.definitions.specs.Text.{occurs}

@@ -1,15 +1,13 @@
 -- What each turn of the machine keeps: a property of states, proved reading by reading.
 use Prim.Native.Nat.{ℕ}
-use mathlib.Core.Path.{◌≡◌, refl, sym, ap, ◌∙◌}
+use mathlib.Core.Path.{◌≡◌, refl}
 use mathlib.Core.Bool.{Bool, true, false, cond}
 use Rattle.std.specs.Prelude.{Option, None, Some}
-use mathlib.Core.List.{List, [], ◌∷◌, ◌++◌}
+use mathlib.Core.List.{List, ◌++◌}
 use native.Mathlib.Omega.{arith}
-use Rattle.definitions.specs.Name.{Name}
 use Rattle.definitions.specs.Code.{Read}
 use Rattle.definitions.specs.TermReader.{same, expect, if_read}
-use Rattle.reading_laws.specs.TermMachine.{State, and_then, if_due, Turn, onward, turn}
-use Rattle.reading_laws.proofs.MachineReads.{Steps, done, next as turned}
+use Rattle.reading_laws.specs.TermMachine.{State, and_then, if_due, onward}
 use Rattle.reading_laws.proofs.TermConventions.{Gives, expected}
 
 module _ (P : State → Type 0) where

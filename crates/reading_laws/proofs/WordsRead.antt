@@ -1,21 +1,18 @@
 -- What the reader of strict text finds in front: a word, a name, bytes that are expected.
 use Prim.Native.Nat.{ℕ, zero, suc, ◌<◌}
-use mathlib.Core.Path.{◌≡◌, refl, sym, ap, ◌∙◌}
-use mathlib.Core.Bool.{Bool, true, false, ◌&&◌, ◌||◌, not, cond, true≢false, and-eq-true_iff}
-use Rattle.std.specs.Prelude.{Option, None, Some}
+use mathlib.Core.Path.{◌≡◌, refl, sym}
+use mathlib.Core.Bool.{Bool, true, false, ◌||◌, not, true≢false, and-eq-true_iff}
 use mathlib.Core.List.{List, [], ◌∷◌, ◌++◌}
 use native.Mathlib.Omega.{arith}
 use lib.ListN.{length, get_or}
 use lib.Dec.{leb}
 use borrow.Author.Tests.{not-true}
-use Rattle.definitions.specs.Utf8.{utf8}
 use Rattle.definitions.specs.Name.{Name, ByteClass, letter, digit, underscore, other, byte_class, may_begin, may_follow, all_may_follow, is_name, eq_name}
 use Rattle.definitions.specs.Sheet.{name_length_limit}
 use Rattle.definitions.specs.CallerNames.{well_formed}
 use Rattle.definitions.specs.Text.{occurs}
-use Rattle.definitions.specs.Code.{Read, Reading}
 use Rattle.definitions.specs.TermText.{keywords, is_admitted, Admitted}
-use Rattle.definitions.specs.TermReader.{longer, word, named, name, Start, no_word, start_of}
+use Rattle.definitions.specs.TermReader.{longer, word, named, name, no_word, start_of}
 use Rattle.definitions.proofs.Readings.{given}
 
 -- no name goes on here

@@ -4,7 +4,7 @@ use Rattle.definitions.specs.declared.Style.TheVariants.{Strict}
 use Rattle.definitions.specs.Utf8.{utf8}
 use Rattle.definitions.specs.Outcome.{Outcome, refuse}
 use Rattle.definitions.specs.Name.{Name}
-use Rattle.definitions.specs.Code.{Read, Reading, yield, whole}
+use Rattle.definitions.specs.Code.{Read, yield, whole}
 use Rattle.definitions.specs.Term.{Label, NamedFunction, ProofTerm, Ident, Pair, Named, Function, Application, LetIn, Case, TypeAscription, Unit, Sorry}
 use Rattle.definitions.specs.Display.{function_of, argument_of, body_of, ascribed_by, within, wraps}
 use Rattle.definitions.specs.TermText.{term_text_limit, all_admitted}

@@ -1,5 +1,5 @@
 -- Refusals 1 to 11 taken apart: a sheet is admitted just where each check passes.
-use Prim.Native.Nat.{ℕ, ◌-◌, ◌≤◌, ◌<◌}
+use Prim.Native.Nat.{ℕ, ◌≤◌, ◌<◌}
 use mathlib.Core.Path.{◌≡◌}
 use mathlib.Core.Bool.{false, not}
 use Rattle.std.specs.Prelude.{None}
