@@ -1,14 +1,15 @@
 -- The digits of a number: how many there are, and how they are stored from the last one back.
-use Prim.Native.Nat.{ℕ, zero, suc, ◌+◌, ◌-◌, ◌*◌, ◌/◌, ◌%◌, ◌^◌, ◌≤◌, ◌<◌}
+use Prim.Native.Nat.{ℕ, zero, suc, ◌+◌, ◌-◌, ◌*◌, ◌/◌, ◌%◌, ◌^◌, ◌≤◌, ◌<◌, max}
 use mathlib.Core.Path.{◌≡◌, refl, sym, ap, ◌∙◌}
 use mathlib.Core.Logic.{by_cases}
 use mathlib.Core.List.{List, [], ◌∷◌, ◌++◌, append_assoc, append-nil}
 use native.Mathlib.Omega.{arith}
 use native.Mathlib.Decide.{dec_lt}
-use native.Mathlib.Nat.{pow-suc}
+use native.Mathlib.Nat.{pow-suc, pow-le-pow_right}
 use native.Mathlib.Numerals.{add-one}
 use lib.ListN.{length, set, drop, length-append, length-set}
 use lib.Seq.{sets, set_comm, drop_at, drop-length}
+use Rattle.std.proofs.lemmas.Grind.{pow_more}
 use Rattle.definitions.specs.Text.{last_digit, decimal}
 use Rattle.definitions.proofs.Decimal.{decimal_below_ten, decimal_from_ten}
 use Rattle.output.specs.LeastDigits.{LeastDigits}
@@ -62,9 +63,19 @@ least_is_length {n} {count} l =
     let down = d.least count l.some l.holds in
     omega arith
 
--- and 1 for 0
-pub digits_of_zero : {count : ℕ} → LeastDigits 0 count → count ≡ 1
-digits_of_zero l = least_is_length l ∙ one_digit 0 (omega arith)
+-- the digits of a number are one more than the greatest power of ten within it, and 0 has as many as 1
+pub least_count : (n power : ℕ) → 10 ^ power ≤ max n 1 → max n 1 < 10 * 10 ^ power → LeastDigits n (power + 1)
+least_count n power low high =
+    record {
+      some = omega arith;
+      holds = rw pow_more (omega arith);
+      least = λ k some holds. by_cases (dec_lt power k)
+          (λ more. omega arith)
+          (λ l.
+          let ten : 10 ^ 1 ≤ 10 ^ k = pow-le-pow_right (omega arith) some in
+          let within : 10 ^ k ≤ 10 ^ power = pow-le-pow_right (omega arith) (omega arith) in
+          absurd (omega arith));
+    }
 
 -- the last so many digits of a number
 pub last_digits : ℕ → ℕ → List ℕ

@@ -9,27 +9,29 @@ use native.Mathlib.Decide.{dec_le}
 use lib.ListN.{length, set, take, drop, length-append, length-take, take-append-drop}
 use lib.Seq.{sets, set_out, sets-eq, length-sets, take-length}
 use borrow.Author.Tests.{lt-ltb, le-ltb}
+use borrow.Rule.Slice.PartMut.{put_mid}
+use Rattle.std.proofs.lemmas.Grind.{common_steps}
 use Rattle.definitions.specs.Outcome.{accepted, refuse, refuse_if, ◌>>=◌}
 use Rattle.definitions.specs.Answers.{is_in_room}
 use Rattle.output.specs.Wrote.{puts, Wrote}
 
 -- what is stored past the end is dropped
-pub sets_past : (l : List ℕ) (i : ℕ) (s : List ℕ) → length l ≤ i → sets l i s ≡ l
+pub sets_past : {A : Type 0} (l : List A) (i : ℕ) (s : List A) → length l ≤ i → sets l i s ≡ l
 sets_past l i [] h = refl
 sets_past l i (a ∷ s) h = rw (set_out l i a) (sets_past l (suc i) s (omega arith))
 
 -- a text is stored and then another after it
-pub sets_append : (l : List ℕ) (i : ℕ) (s t : List ℕ) → sets (sets l i s) (i + length s) t ≡ sets l i (s ++ t)
+pub sets_append : {A : Type 0} (l : List A) (i : ℕ) (s t : List A) → sets (sets l i s) (i + length s) t ≡ sets l i (s ++ t)
 sets_append l i [] t = ap (λ k. sets l k t) (omega arith)
 sets_append l i (a ∷ s) t = ap (λ k. sets (sets (set l i a) (suc i) s) k t) (omega arith) ∙ sets_append (set l i a) (suc i) s t
 
 -- Whether the text is written or not:
-module _ (write : Bool) (l : List ℕ) (i : ℕ) (s : List ℕ) where
+module _ {A : Type 0} (write : Bool) (l : List A) (i : ℕ) (s : List A) where
   pub puts_past : length l ≤ i → puts write l i s ≡ l
   unfolding puts
   puts_past = elim write as (λ k. length l ≤ i → puts k l i s ≡ l) [ true ↦ sets_past l i s | false ↦ λ h. refl ]
 
-  puts_append : (t : List ℕ) → puts write (puts write l i s) (i + length s) t ≡ puts write l i (s ++ t)
+  puts_append : (t : List A) → puts write (puts write l i s) (i + length s) t ≡ puts write l i (s ++ t)
   unfolding puts
   puts_append t = elim write as (λ k. puts k (puts k l i s) (i + length s) t ≡ puts k l i (s ++ t)) [ true ↦ sets_append l i s t | false ↦ refl ]
 
@@ -37,21 +39,21 @@ module _ (write : Bool) (l : List ℕ) (i : ℕ) (s : List ℕ) where
   unfolding puts
   puts_length = elim write as (λ k. length (puts k l i s) ≡ length l) [ true ↦ length-sets l i s | false ↦ refl ]
 
--- whether the bytes are written or not
-pub dry : {write : Bool} (before : List ℕ) (to : ℕ) (text : List ℕ) → write ≡ false → before ≡ puts write before to text
+-- whether the elements are written or not
+pub dry : {A : Type 0} {write : Bool} (before : List A) (to : ℕ) (text : List A) → write ≡ false → before ≡ puts write before to text
 unfolding puts
 dry before to text e = rw e refl
 
-pub written : {write : Bool} (before : List ℕ) (to : ℕ) (text : List ℕ) {after : List ℕ} → write ≡ true → after ≡ sets before to text → after ≡ puts write before to text
+pub written : {A : Type 0} {write : Bool} (before : List A) (to : ℕ) (text : List A) {after : List A} → write ≡ true → after ≡ sets before to text → after ≡ puts write before to text
 unfolding puts
 written before to text e h = rw e h
 
 -- a dry run leaves the memory as it was
-pub kept : {text before after : List ℕ} {to next : ℕ} → Wrote text false before to after next → after ≡ before
+pub kept : {A : Type 0} {text before after : List A} {to next : ℕ} → Wrote text false before to after next → after ≡ before
 unfolding puts
 kept w = w.stored
 
-module _ {text before after : List ℕ} {write : Bool} {to next : ℕ} (w : Wrote text write before to after next) where
+module _ {A : Type 0} {text before after : List A} {write : Bool} {to next : ℕ} (w : Wrote text write before to after next) where
   -- a write keeps the length of the memory
   pub same_length : length after ≡ length before
   same_length = ap length w.stored ∙ puts_length _ _ _ _
@@ -63,14 +65,14 @@ module _ {text before after : List ℕ} {write : Bool} {to next : ℕ} (w : Wrot
       (λ k. let past = w.beyond (omega arith) in absurd (omega arith))
 
 -- nothing is written
-pub none : (write : Bool) (before : List ℕ) (to : ℕ) → Wrote [] write before to before to
+pub none : {A : Type 0} (write : Bool) (before : List A) (to : ℕ) → Wrote [] write before to before to
 unfolding puts
 none write before to =
     record { stored = elim write as (λ k. before ≡ puts k before to []) [ true ↦ refl | false ↦ refl ]; within = omega arith; beyond = omega arith }
 
--- a byte is written within the memory
+-- an element is written within the memory
 pub one :
-    {before : List ℕ} {write : Bool} {to b : ℕ} →
+    {A : Type 0} {before : List A} {write : Bool} {to : ℕ} {b : A} →
     to < length before →
     write ≡ true →
     Wrote (b ∷ []) write before to (set before to b) (to + 1)
@@ -79,7 +81,7 @@ one h e = rw e (record { stored = refl; within = omega arith; beyond = omega ari
 
 -- a dry run finds where a text would end
 pub dry_run :
-    {text before : List ℕ} {write : Bool} {to next : ℕ} →
+    {A : Type 0} {text before : List A} {write : Bool} {to next : ℕ} →
     write ≡ false →
     (to + length text ≤ length before → next ≡ to + length text) →
     (length before < to + length text → length before < next) →
@@ -87,8 +89,13 @@ pub dry_run :
 unfolding puts
 dry_run e within beyond = rw e (record { stored = refl; within = within; beyond = beyond })
 
+-- what `copy_from_slice` leaves where the elements lie within the memory
+pub stored_part : {A : Type 0} (to count : ℕ) (out s : List A) → count ≡ length s → to + length s ≤ length out → put_mid to count out s ≡ puts true out to s
+unfolding puts
+stored_part to count out s e h = rw sets-eq (grind (arith, common_steps))
+
 -- to store what fits of a text is to store the text
-pub fitting_part : (write : Bool) (before : List ℕ) (to : ℕ) (text : List ℕ) {after : List ℕ} {fit : ℕ} → fit ≡ min (length before - to) (length text)
+pub fitting_part : {A : Type 0} (write : Bool) (before : List A) (to : ℕ) (text : List A) {after : List A} {fit : ℕ} → fit ≡ min (length before - to) (length text)
     → after ≡ puts write before to (take fit text) → after ≡ puts write before to text
 fitting_part write before to text {after} {fit} fits e = e ∙ by_cases (dec_le (length text) fit)
     (λ h. let all : fit ≡ length text = omega arith in rw (all, take-length))
@@ -99,8 +106,9 @@ fitting_part write before to text {after} {fit} fits e = e ∙ by_cases (dec_le 
 
 -- A text of known size is stored, of which so much fits:
 module _
+    {A : Type 0}
     {write : Bool}
-    {before text after : List ℕ}
+    {before text after : List A}
     {to size fit : ℕ}
     (sized : size ≡ length text)
     (fits : fit ≡ min (length before - to) size)
@@ -118,7 +126,8 @@ module _
 
 -- A text is written and then another where the first one ended: that is to write both at once.
 module _
-    {s t before mid after : List ℕ}
+    {A : Type 0}
+    {s t before mid after : List A}
     {write : Bool}
     {to at next : ℕ}
     (a : Wrote s write before to mid at)
@@ -157,13 +166,13 @@ module _
 
 -- after a dry run that ends within the memory, the write ends there too, fills its part and leaves the rest
 pub fits :
-    {text before dry after : List ℕ} {to end next : ℕ} →
+    {A : Type 0} {text before dry after : List A} {to end next : ℕ} →
     Wrote text false before to dry end →
     end ≤ length before →
     Wrote text true dry to after next →
     (next ≡ end) × (after ≡ take to before ++ (text ++ drop (to + length text) before))
 unfolding puts
-fits {text} {before} {dry} {after} {to} {end} {next} d h w =
+fits {A} {text} {before} {dry} {after} {to} {end} {next} d h w =
     let same : dry ≡ before = kept d in
     let room : to + length text ≤ length before = fitted d h in
     let ends : end ≡ to + length text = d.within room in

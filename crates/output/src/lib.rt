@@ -2,7 +2,7 @@
 // not fit. A dry run, with `write` false, returns a position by the same rule and leaves the memory as it is.
 #![tactic(auto)]
 
-ghost use Rattle.std.specs.Prelude.{[], ◌∷◌, ◌≡◌, ◌+◌, ◌-◌, ◌≤◌, min, length, take};
+ghost use Rattle.std.specs.Prelude.{[], ◌∷◌, ◌≡◌, ◌-◌, ◌^◌, ◌<◌, ◌≤◌, min, length, take};
 ghost use Rattle.definitions.specs.Code.{u16};
 ghost use Rattle.definitions.specs.Text.{decimal};
 ghost use Rattle.output.specs.LeastDigits.{LeastDigits};
@@ -11,28 +11,17 @@ ghost use Rattle.output.specs.Wrote.{puts, Wrote};
 
 use definitions::Refusal;
 
-// One byte.
-pub fn put(out: &mut [u8], to: usize, b: u8, write: bool) -> usize
-    ensures { Wrote (b ∷ []) write out.old to out.new result }
-{
-    if to < out.len() {
-        if write {
-            out[to] = b;
-        }
-        return to + 1;
-    }
-    out.len() + 1
-}
-
-// One number, into memory of numbers.
-pub fn put_number(out: &mut [u16], to: usize, n: u16, write: bool) -> usize
-    ensures { Wrote (n ∷ []) write out.old to out.new result }
+// One element: a byte, or a number into memory of numbers.
+#[tactic(auto, unfolding(crate::specs::Wrote::puts))]
+pub fn put<T: Copy + Drop>(out: &mut [T], to: usize, item: T, write: bool) -> usize
+    requires { length out.old < 2 ^ 63 }
+    ensures { Wrote (item ∷ []) write out.old to out.new result }
 {
     if out.len() <= to {
         return out.len() + 1;
     }
     if write {
-        out[to] = n;
+        out[to] = item;
     }
     to + 1
 }
@@ -41,49 +30,28 @@ pub fn put_number(out: &mut [u16], to: usize, n: u16, write: bool) -> usize
 pub fn put_u16(out: &mut [u8], to: usize, n: u16, write: bool) -> usize
     ensures { Wrote (u16 n) write out.old to out.new result }
 {
-    let high = put(out, to, (n % 256) as u8, write);
-    put(out, high, (n / 256) as u8, write)
+    let bytes = n.to_le_bytes();
+    let high = put(out, to, bytes[0], write);
+    put(out, high, bytes[1], write)
 }
 
 // The numbers of a sheet, one after another.
+#[tactic(auto, using(crate::proofs::Writing::none, crate::proofs::Numbers::all_numbers), unfolding(crate::specs::Numbers::u16s))]
 pub fn put_u16s(out: &mut [u8], to: usize, numbers: &[u16], write: bool) -> usize
     ensures { Wrote (u16s numbers.now) write out.old to out.new result }
 {
     let mut at = to;
-    let mut i = 0;
-    while i < numbers.len() {
-        at = put_u16(out, at, numbers[i], write);
-        i += 1;
+    for &n in numbers {
+        at = put_u16(out, at, n, write);
     }
     at
-}
-
-// So many of the bytes, all of which lie within the memory; none in a dry run.
-fn copy(out: &mut [u8], to: usize, s: &[u8], count: usize, write: bool)
-    requires { (count ≤ length s.now) × (count ≤ length out.old - to) }
-    ensures { out.new ≡ puts write out.old to (take count s.now) }
-{
-    if !write {
-        return;
-    }
-    let mut i = 0;
-    while i < count {
-        out[to + i] = s[i];
-        i += 1;
-    }
 }
 
 // How many of so many elements lie within the memory from `to` on.
 fn fitting(length: usize, to: usize, count: usize) -> usize
     ensures { result ≡ min (length - to) count }
 {
-    if length <= to {
-        return 0;
-    }
-    if length - to < count {
-        return length - to;
-    }
-    count
+    length.saturating_sub(to).min(count)
 }
 
 // All bytes of a slice. A dry run only computes the position.
@@ -98,20 +66,27 @@ pub fn put_all(out: &mut [u8], to: usize, s: &[u8], write: bool) -> usize
     to + count
 }
 
+// So many of the bytes, all of which lie within the memory; none in a dry run.
+#[tactic(auto, using(crate::proofs::Writing::stored_part), unfolding(crate::specs::Wrote::puts))]
+fn copy(out: &mut [u8], to: usize, s: &[u8], count: usize, write: bool)
+    requires { (count ≤ length s.now) × (count ≤ length out.old - to) }
+    ensures { out.new ≡ puts write out.old to (take count s.now) }
+{
+    // Past the end nothing fits, and there is no part to name.
+    if write && 0 < count {
+        out[to..to + count].copy_from_slice(&s[..count]);
+    }
+}
+
 // How many digits a number has: the least count that holds it, and 1 for 0.
 fn digit_count(n: u64) -> usize
     ensures { LeastDigits n result }
 {
-    let mut count = 1;
-    let mut rest = n;
-    while 10 <= rest {
-        rest /= 10;
-        count += 1;
-    }
-    count
+    n.max(1).ilog10() as usize + 1
 }
 
 // Stores the digits of a number, of which so many fit, from the last one back, each in its final position; none in a dry run.
+#[tactic(auto, unfolding(crate::specs::Wrote::puts))]
 fn store_digits(out: &mut [u8], to: usize, n: u64, count: usize, fit: usize, write: bool)
     requires least_digits { LeastDigits n count }
     requires fit_value { fit ≡ min (length out.old - to) count }
@@ -120,10 +95,8 @@ fn store_digits(out: &mut [u8], to: usize, n: u64, count: usize, fit: usize, wri
     if !write {
         return;
     }
-    let mut i = count;
     let mut rest = n;
-    while 0 < i {
-        i -= 1;
+    for i in (0..count).rev() {
         if i < fit {
             out[to + i] = b'0' + (rest % 10) as u8;
         }

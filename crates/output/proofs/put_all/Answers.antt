@@ -1,6 +1,5 @@
 -- What fits is stored, and the position is past the end where not all of it fits.
 use mathlib.Core.Path.{refl}
-use borrow.Author.Rules.{rules}
 use Rattle.output.proofs.Writing as writing
 use Rattle.output.proofs.put_all.Goals as goal
 

@@ -1,5 +1,4 @@
 -- The digit count says what fits, and where the text ends.
-use borrow.Author.Rules.{rules}
 use Rattle.output.proofs.Writing as writing
 use Rattle.output.proofs.Digits.{least_is_length}
 use Rattle.output.proofs.put_decimal.Goals as goal

@@ -1,14 +1,10 @@
 -- Each turn of the loop stores the last digit of the rest, or drops it past the end.
 use mathlib.Core.Path.{◌≡◌}
 use native.Mathlib.Omega.{arith}
-use borrow.Author.Tests.{not-true, not-false}
-use Rattle.output.proofs.Writing.{dry, written}
-use Rattle.output.proofs.Digits.{least_is_length, Stored, starts, one_left, digit_stored, digit_dropped, all_stored}
+use Rattle.output.proofs.Writing.{written}
+use Rattle.output.proofs.Digits.{least_is_length, starts, one_left, digit_stored, digit_dropped, all_stored}
 use Rattle.output.proofs.store_digits.Goals as goal
 use Rattle.output.proofs.store_digits.Goals.{then-i-fit, else-i-fit}
-
-pub returns-then-not-write : goal.returns-then-not-write
-returns-then-not-write c = dry _ _ _ (not-true _ c.if-not-write.true-raw)
 
 pub loop-i-init : goal.loop-i-init
 loop-i-init c = rw (least_is_length c.requires.least_digits) (starts _ _ _)
@@ -22,10 +18,5 @@ loop-i-preserved c =
       | else-i-fit w ↦ rw w.out-is (digit_dropped st (omega arith))
     ]
 
-pub shape_of-out : goal.shape_of-out
-shape_of-out c = c.loop-i.invariant.sized
-
 pub returns : goal.returns
-returns c =
-    let none : c.loop-i.i ≡ 0 = omega arith in
-    written _ _ _ (not-false _ c.if-not-write.false-raw) (all_stored (rw none at c.loop-i.invariant))
+returns c = let none : c.loop-i.i ≡ 0 = omega arith in written _ _ _ c.if-not-write.false (all_stored (rw none at c.loop-i.invariant))
