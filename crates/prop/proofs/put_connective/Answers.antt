@@ -8,9 +8,3 @@ returns c = λ connective e.
     rw (← (connective_sign connective), ← e)
     (then c.put-start.ensures
     (then c.put_sign-end.ensures c.put.ensures))
-
-pub put-start-requires : goal.put-start-requires
-put-start-requires c = tt
-
-pub put-requires : goal.put-requires
-put-requires c = tt
