@@ -1,0 +1,18 @@
+// The search for the lowest place at which a test holds.
+#![tactic(auto)]
+
+ghost use Rattle.std.specs.Prelude.{◌≡◌, ◌<◌, ℕ, Bool};
+ghost use Rattle.definitions.specs.Outcome.{lowest};
+
+// The lowest place below the count at which a test holds: a closure, asked about the places from 0 on, up to the first where it does.
+pub fn lowest<F: Fn(usize) -> bool>(count: usize, test: F) -> Option<usize>
+    requires { (k : ℕ) → k < count → F.pre test k }
+    ensures { (is : ℕ → Bool) → ((k : ℕ) (r : Bool) → k < count → F.post test k r → r ≡ is k) → result ≡ lowest is count }
+{
+    for i in 0..count {
+        if test(i) {
+            return Some(i);
+        }
+    }
+    None
+}
