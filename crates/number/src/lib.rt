@@ -6,17 +6,19 @@ ghost use Rattle.definitions.specs.Sheet.{pair_size, number_at, pair_offset, pai
 ghost use Rattle.number.specs.Pairs.{NameWithin};
 
 // The number at an offset.
+#[tactic(auto, unfolding(definitions::specs::Sheet::number_at))]
 pub fn number_at(s: &[u8], i: usize) -> usize
     requires { i + 1 < length s.now }
     ensures { (result ≡ number_at s.now i) × (result < 65536) }
 {
-    s[i] as usize + 256 * (s[i + 1] as usize)
+    usize::from(u16::from_le_bytes([s[i], s[i + 1]]))
 }
 
 // The bytes of a pair: its offset and its length, a number each.
 pub const PAIR_SIZE: usize = 4;
 
 // Where the bytes that pair i marks begin.
+#[tactic(auto, unfolding(definitions::specs::Sheet::pair_size, definitions::specs::Sheet::pair_offset))]
 pub fn pair_offset(pairs: &[u8], i: usize) -> usize
     requires { pair_size * (i + 1) ≤ length pairs.now }
     ensures { result ≡ pair_offset pairs.now i }
@@ -25,6 +27,7 @@ pub fn pair_offset(pairs: &[u8], i: usize) -> usize
 }
 
 // How many bytes pair i marks.
+#[tactic(auto, unfolding(definitions::specs::Sheet::pair_size, definitions::specs::Sheet::pair_length))]
 pub fn pair_length(pairs: &[u8], i: usize) -> usize
     requires { pair_size * (i + 1) ≤ length pairs.now }
     ensures { result ≡ pair_length pairs.now i }
@@ -33,6 +36,7 @@ pub fn pair_length(pairs: &[u8], i: usize) -> usize
 }
 
 // The bytes that the pair of a number marks.
+#[tactic(auto, unfolding(definitions::specs::Sheet::pair_end, definitions::specs::Sheet::marked))]
 pub fn marked_bytes<'a>(pairs: &[u8], bytes: &'a [u8], i: usize) -> &'a [u8]
     requires { NameWithin pairs.now bytes.now i }
     ensures { result.now ≡ marked pairs.now bytes.now i }
