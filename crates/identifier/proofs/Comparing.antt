@@ -1,67 +1,46 @@
--- Two names are compared byte by byte; where that says equal, their bytes are, and a search by it is one by equal bytes.
-use Prim.Native.Nat.{ℕ, ◌+◌, ◌≤◌, ◌<◌}
+-- Names are compared as std compares slices; where that says equal, their bytes are, and a search by it is one by equal bytes.
+use Prim.Native.Nat.{ℕ}
 use mathlib.Core.Path.{◌≡◌, refl, ap, ◌∙◌, fun_ext}
 use mathlib.Core.Bool.{Bool}
 use mathlib.Core.List.{List, [], ◌∷◌}
 use native.Mathlib.Omega.{arith}
-use native.Mathlib.Numerals.{add-one}
-use lib.ListN.{length, get_or, drop, drop_of_length-le}
-use lib.Seq.{drop-cons}
-use borrow.Author.Tests.{lt-ltb, le-ltb, eq-eqb, ne_eqb}
+use Rattle.std.specs.Cmp.Lexicographic.{slice_cmp}
 use Rattle.std.specs.declared.cmp.Ordering.{Ordering}
 use Rattle.std.specs.declared.cmp.Ordering.TheVariants.{Less, Equal, Greater}
+use Rattle.std.specs.Ordering.{is_eq, nat_cmp, ordering_then}
+use Rattle.std.specs.Str.{bytes_eq}
 use Rattle.definitions.specs.Outcome.{lowest}
 use Rattle.definitions.specs.Sheet.{marked}
 use Rattle.definitions.specs.Name.{compare_number, or_else, compare_name, is_equal, eq_name}
 use Rattle.definitions.proofs.NameOrder.{equal_name}
 use Rattle.identifier.specs.Pairs.{same_bytes}
 
--- the bytes before i are the same
-pub record Alike (a b : List ℕ) (i : ℕ) : Type 0 where
-  pub inside : i ≤ length a
-  pub inside_too : i ≤ length b
-  pub same : compare_name a b ≡ compare_name (drop i a) (drop i b)
+or_else_is : (o next : Ordering) → or_else o next ≡ ordering_then o next
+unfolding or_else
+or_else_is Less next = refl
+or_else_is Equal next = refl
+or_else_is Greater next = refl
 
-pub at_start : (a b : List ℕ) → Alike a b 0
-at_start a b = record { inside = omega arith; inside_too = omega arith; same = refl }
+pub compare_is : (a b : List ℕ) → compare_name a b ≡ slice_cmp nat_cmp a b
+unfolding compare_name compare_number
+compare_is [] [] = refl
+compare_is [] (y ∷ b) = refl
+compare_is (x ∷ a) [] = refl
+compare_is (x ∷ a) (y ∷ b) = or_else_is (compare_number x y) (compare_name a b) ∙ rw (compare_is a b)
 
-module _ {a b : List ℕ} {i : ℕ} (p : Alike a b i) where
-  module _ (h : i < length a) (k : i < length b) where
-    here : compare_name a b ≡ or_else (compare_number (get_or a i 0) (get_or b i 0)) (compare_name (drop (i + 1) a) (drop (i + 1) b))
-    unfolding compare_name
-    here = rw (add-one, p.same, drop-cons a i 0 h, drop-cons b i 0 k)
+pub eq_name_is : (a b : List ℕ) → eq_name a b ≡ bytes_eq a b
+unfolding eq_name
+eq_name_is [] [] = refl
+eq_name_is [] (y ∷ b) = refl
+eq_name_is (x ∷ a) [] = refl
+eq_name_is (x ∷ a) (y ∷ b) = grind (arith, eq_name_is a b)
 
-    pub onward : (get_or a i 0 < get_or b i 0 → ⊥) → (get_or b i 0 < get_or a i 0 → ⊥) → Alike a b (i + 1)
-    unfolding compare_number or_else
-    onward f g =
-        let not-less : get_or b i 0 ≤ get_or a i 0 = omega arith in
-        let equal : get_or a i 0 ≡ get_or b i 0 = omega arith in
-        record {
-          inside = omega arith;
-          inside_too = omega arith;
-          same = here ∙ rw (le-ltb (get_or a i 0) (get_or b i 0) not-less, eq-eqb (get_or a i 0) (get_or b i 0) equal);
-        }
-
-    pub less : get_or a i 0 < get_or b i 0 → compare_name a b ≡ Less
-    unfolding compare_number or_else
-    less l = here ∙ rw (lt-ltb (get_or a i 0) (get_or b i 0) l)
-
-    pub greater : get_or b i 0 < get_or a i 0 → compare_name a b ≡ Greater
-    unfolding compare_number or_else
-    greater g = here ∙ rw (le-ltb (get_or a i 0) (get_or b i 0) (omega arith), ne_eqb (get_or a i 0) (get_or b i 0) (λ e. omega arith))
-
-  -- the second is at its end, or the first, or both
-  pub longer : i < length a → length b ≤ i → compare_name a b ≡ Greater
-  unfolding compare_name
-  longer h k = rw (p.same, drop-cons a i 0 h, drop_of_length-le b k)
-
-  pub shorter : length a ≤ i → i < length b → compare_name a b ≡ Less
-  unfolding compare_name
-  shorter h k = rw (p.same, drop_of_length-le a h, drop-cons b i 0 k)
-
-  pub equal : length a ≤ i → length b ≤ i → compare_name a b ≡ Equal
-  unfolding compare_name
-  equal h k = rw (p.same, drop_of_length-le a h, drop_of_length-le b k)
+-- std's word for an answer that says equal
+pub is_equal_is : (o : Ordering) → is_equal o ≡ is_eq o
+unfolding is_equal
+is_equal_is Less = refl
+is_equal_is Equal = refl
+is_equal_is Greater = refl
 
 -- the answer equal is equality
 pub equals : (a b : List ℕ) {o : Ordering} {r : Bool} → o ≡ compare_name a b → r ≡ is_equal o → r ≡ eq_name a b

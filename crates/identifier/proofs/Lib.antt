@@ -1,5 +1,4 @@
 pub mod Table
-pub mod Allowed
 pub mod Equality
 pub mod Within
 pub mod Comparing

@@ -1,29 +1,48 @@
--- A table's rule, proved at every entry by one test that antt computes over the whole table.
-use mathlib.Core.Path.{◌≡◌}
+-- A table of classes, proved right at every entry by one test that antt computes over the whole table.
+use mathlib.Core.Path.{◌≡◌, refl}
 use mathlib.Core.Bool.{Bool, false, true, ◌&&◌}
 use mathlib.Core.List.{List, [], ◌∷◌}
 use Prim.Native.Nat.{ℕ, zero, suc, ◌+◌, ◌<◌}
 use native.Mathlib.Nat.{zero-add, suc-add, add-suc, add-zero}
 use native.Mathlib.Omega.{arith}
-use lib.Dec.{T, eqb, eqb→eq}
-use lib.ListN.{length, get_or}
+use lib.Dec.{T}
+use lib.ListN.{length}
+use Rattle.std.specs.Prelude.{slice_index_or}
+use Rattle.definitions.specs.Name.{ByteClass, letter, digit, underscore, other, byte_class}
+use Rattle.identifier.specs.Class.{class_of, ClassTable}
+use Rattle.identifier.specs.declared.classes.Class.{Class}
+use Rattle.identifier.specs.declared.classes.Class.TheVariants.{Other}
 
-module _ (rule : ℕ → ℕ) where
-  -- each entry is what the rule gives of its place, counted from i
-  abbrev pub follows : ℕ → List ℕ → Bool
-  follows i [] = true
-  follows i (x ∷ xs) = eqb x (rule i) && follows (suc i) xs
+abbrev same_class : ByteClass → ByteClass → Bool
+same_class letter letter = true
+same_class digit digit = true
+same_class underscore underscore = true
+same_class other other = true
+same_class _ _ = false
 
-  both : (a b : Bool) → T (a && b) → T a × T b
-  both false b t = elim t [ ]
-  both true b t = (tt, t)
+same : (a b : ByteClass) → T (same_class a b) → a ≡ b
+same letter letter t = refl
+same digit digit t = refl
+same underscore underscore t = refl
+same other other t = refl
+same _ _ t = elim t [ ]
 
-  entry_from : (table : List ℕ) (i : ℕ) → T (follows i table) → (k : ℕ) → k < length table → get_or table k 0 ≡ rule (i + k)
-  entry_from [] i t k h = absurd (omega arith)
-  entry_from (x ∷ xs) i t zero h = rw add-zero (eqb→eq x (rule i) (both (eqb x (rule i)) (follows (suc i) xs) t).0)
-  entry_from (x ∷ xs) i t (suc k) h =
-      rw (add-suc, ← suc-add) (entry_from xs (suc i) (both (eqb x (rule i)) (follows (suc i) xs) t).1 k (omega arith))
+-- each entry is the class of its place, counted from i
+abbrev pub follows : ℕ → List Class → Bool
+follows i [] = true
+follows i (c ∷ cs) = same_class (class_of c) (byte_class i) && follows (suc i) cs
 
-  -- where they all are, the entry of a place is what the rule gives of it
-  pub entry : (table : List ℕ) → T (follows 0 table) → (k : ℕ) → k < length table → get_or table k 0 ≡ rule k
-  entry table t k h = rw zero-add at (entry_from table 0 t k h)
+both : (a b : Bool) → T (a && b) → T a × T b
+both false b t = elim t [ ]
+both true b t = (tt, t)
+
+entry_from : (table : List Class) (i : ℕ) → T (follows i table) → (k : ℕ) → k < length table → class_of (slice_index_or table k Other) ≡ byte_class (i + k)
+entry_from [] i t k h = absurd (omega arith)
+entry_from (c ∷ cs) i t zero h = rw add-zero (same (class_of c) (byte_class i) (both (same_class (class_of c) (byte_class i)) (follows (suc i) cs) t).0)
+entry_from (c ∷ cs) i t (suc k) h =
+    rw (add-suc, ← suc-add) (entry_from cs (suc i) (both (same_class (class_of c) (byte_class i)) (follows (suc i) cs) t).1 k (omega arith))
+
+-- a table of 256 entries that the computed test finds right is a table of classes
+pub class_table : (table : List Class) → length table ≡ 256 → T (follows 0 table) → ClassTable table
+unfolding ClassTable
+class_table table e right b h = rw zero-add at (entry_from table 0 right b (omega arith))

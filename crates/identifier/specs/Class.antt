@@ -1,13 +1,15 @@
--- The number that the table of byte classes has for each class of document 01.
-use Rattle.std.specs.Prelude.{ℕ, ◌<◌, ◌≡◌, List, get_or}
+-- The classes that the table of bytes has, as those of document 01.
+use Rattle.std.specs.Prelude.{ℕ, ◌<◌, ◌≡◌, List, slice_index_or}
 use Rattle.definitions.specs.Name.{ByteClass, letter, digit, underscore, other, byte_class}
+use Rattle.identifier.specs.declared.classes.Class.{Class}
+use Rattle.identifier.specs.declared.classes.Class.TheVariants.{Other, Letter, Digit, Underscore}
 
-unfoldable pub class_number : ByteClass → ℕ
-class_number other = 0
-class_number letter = 1
-class_number digit = 2
-class_number underscore = 3
+abbrev pub class_of : Class → ByteClass
+class_of Other = other
+class_of Letter = letter
+class_of Digit = digit
+class_of Underscore = underscore
 
--- each entry is the number of its byte's class
-unfoldable pub ClassTable : List ℕ → Type 0
-ClassTable table = (b : ℕ) → b < 256 → get_or table b 0 ≡ class_number (byte_class b)
+-- each entry is its byte's class
+unfoldable pub ClassTable : List Class → Type 0
+ClassTable table = (b : ℕ) → b < 256 → class_of (slice_index_or table b Other) ≡ byte_class b

@@ -1,45 +1,80 @@
 // The class of a byte in a name, by a table.
 ghost use Rattle.std.specs.Prelude.{◌≡◌};
-ghost use Rattle.definitions.specs.Name.{byte_class};
-ghost use Rattle.identifier.specs.Class.{class_number, ClassTable};
+ghost use Rattle.definitions.specs.Name.{byte_class, may_begin, may_follow};
+ghost use Rattle.identifier.specs.Class.{class_of, ClassTable};
 
-// The class of the bytes that no name has.
-pub const OTHER: u8 = 0;
+use Class::{Digit, Letter, Other, Underscore};
 
-// The class of the bytes that begin a name.
-pub const LETTER: u8 = 1;
-
-// The class of each byte: 0 other, 1 letter, 2 digit, 3 underscore.
-pub const CLASSES: [u8; 256] = [
-    // 0 to 47
-    0, 0, 0, 0, 0, 0, 0, 0, 0, 0, 0, 0, 0, 0, 0, 0, 0, 0, 0, 0, 0, 0, 0, 0, 0, 0, 0, 0, 0, 0, 0, 0,
-    0, 0, 0, 0, 0, 0, 0, 0, 0, 0, 0, 0, 0, 0, 0, 0,
-    // `0` to `9`
-    2, 2, 2, 2, 2, 2, 2, 2, 2, 2,
-    // 58 to 64
-    0, 0, 0, 0, 0, 0, 0,
-    // `A` to `Z`
-    1, 1, 1, 1, 1, 1, 1, 1, 1, 1, 1, 1, 1, 1, 1, 1, 1, 1, 1, 1, 1, 1, 1, 1, 1, 1,
-    // 91 to 94
-    0, 0, 0, 0,
-    // `_`
-    3,
-    // 96
-    0,
-    // `a` to `z`
-    1, 1, 1, 1, 1, 1, 1, 1, 1, 1, 1, 1, 1, 1, 1, 1, 1, 1, 1, 1, 1, 1, 1, 1, 1, 1,
-    // 123 to 255
-    0, 0, 0, 0, 0, 0, 0, 0, 0, 0, 0, 0, 0, 0, 0, 0, 0, 0, 0, 0, 0, 0, 0, 0, 0, 0, 0, 0, 0, 0, 0, 0,
-    0, 0, 0, 0, 0, 0, 0, 0, 0, 0, 0, 0, 0, 0, 0, 0, 0, 0, 0, 0, 0, 0, 0, 0, 0, 0, 0, 0, 0, 0, 0, 0,
-    0, 0, 0, 0, 0, 0, 0, 0, 0, 0, 0, 0, 0, 0, 0, 0, 0, 0, 0, 0, 0, 0, 0, 0, 0, 0, 0, 0, 0, 0, 0, 0,
-    0, 0, 0, 0, 0, 0, 0, 0, 0, 0, 0, 0, 0, 0, 0, 0, 0, 0, 0, 0, 0, 0, 0, 0, 0, 0, 0, 0, 0, 0, 0, 0,
-    0, 0, 0, 0, 0,
-];
-
-// The class of a byte, by a table that is lent.
-pub fn class(classes: &[u8; 256], b: u8) -> u8
-    requires { ClassTable classes.now }
-    ensures { result ≡ class_number (byte_class b) }
-{
-    classes[b as usize]
+// The classes of document 01, `Other` that of the bytes that no name has.
+#[repr(u8)]
+#[derive(Debug, Clone, Copy, PartialEq, Eq)]
+pub enum Class {
+    Other,
+    Letter,
+    Digit,
+    Underscore,
 }
+
+impl Class {
+    // The class of a byte, by a table that is lent: an index into the constant would lay all of it down at each look.
+    #[tactic(auto, unfolding(crate::specs::Class::ClassTable))]
+    pub fn of_byte(classes: &[Class; 256], b: u8) -> Class
+        requires { ClassTable classes.now }
+        ensures { class_of result ≡ byte_class b }
+    {
+        classes[usize::from(b)]
+    }
+
+    // Whether a name may begin with a byte of this class.
+    #[tactic(auto, unfolding(definitions::specs::Name::may_begin))]
+    pub fn may_begin(self) -> bool
+        ensures { result ≡ may_begin (class_of self) }
+    {
+        matches!(self, Letter)
+    }
+
+    // Whether a byte of this class may follow in a name.
+    #[tactic(auto, unfolding(definitions::specs::Name::may_follow))]
+    pub fn may_follow(self) -> bool
+        ensures { result ≡ may_follow (class_of self) }
+    {
+        !matches!(self, Other)
+    }
+}
+
+// The class of each byte.
+pub const CLASSES: [Class; 256] = [
+    // 0 to 47
+    Other, Other, Other, Other, Other, Other, Other, Other, Other, Other, Other, Other, Other,
+    Other, Other, Other, Other, Other, Other, Other, Other, Other, Other, Other, Other, Other,
+    Other, Other, Other, Other, Other, Other, Other, Other, Other, Other, Other, Other, Other,
+    Other, Other, Other, Other, Other, Other, Other, Other, Other,
+    // `0` to `9`
+    Digit, Digit, Digit, Digit, Digit, Digit, Digit, Digit, Digit, Digit,
+    // 58 to 64
+    Other, Other, Other, Other, Other, Other, Other,
+    // `A` to `Z`
+    Letter, Letter, Letter, Letter, Letter, Letter, Letter, Letter, Letter, Letter, Letter, Letter,
+    Letter, Letter, Letter, Letter, Letter, Letter, Letter, Letter, Letter, Letter, Letter, Letter,
+    Letter, Letter,
+    // 91 to 94
+    Other, Other, Other, Other,
+    // `_` and 96
+    Underscore, Other,
+    // `a` to `z`
+    Letter, Letter, Letter, Letter, Letter, Letter, Letter, Letter, Letter, Letter, Letter, Letter,
+    Letter, Letter, Letter, Letter, Letter, Letter, Letter, Letter, Letter, Letter, Letter, Letter,
+    Letter, Letter,
+    // 123 to 255
+    Other, Other, Other, Other, Other, Other, Other, Other, Other, Other, Other, Other, Other,
+    Other, Other, Other, Other, Other, Other, Other, Other, Other, Other, Other, Other, Other,
+    Other, Other, Other, Other, Other, Other, Other, Other, Other, Other, Other, Other, Other,
+    Other, Other, Other, Other, Other, Other, Other, Other, Other, Other, Other, Other, Other,
+    Other, Other, Other, Other, Other, Other, Other, Other, Other, Other, Other, Other, Other,
+    Other, Other, Other, Other, Other, Other, Other, Other, Other, Other, Other, Other, Other,
+    Other, Other, Other, Other, Other, Other, Other, Other, Other, Other, Other, Other, Other,
+    Other, Other, Other, Other, Other, Other, Other, Other, Other, Other, Other, Other, Other,
+    Other, Other, Other, Other, Other, Other, Other, Other, Other, Other, Other, Other, Other,
+    Other, Other, Other, Other, Other, Other, Other, Other, Other, Other, Other, Other, Other,
+    Other, Other, Other,
+];

@@ -9,7 +9,7 @@ ghost use Rattle.identifier_context.specs.Memory.{Holds, entry_size, name_at, en
 ghost use Rattle.identifier_context.specs.Promises.{Inserts, Finds, Removes, name_asked, admitted, shifted, closed, is_visible, Shows};
 
 use definitions::Refusal;
-use identifier::{compare_bytes, is_equal};
+use identifier::compare_bytes;
 
 // The numbers of an entry.
 pub const ENTRY_SIZE: usize = 4;
@@ -77,13 +77,13 @@ fn admits(entries: &[u16], i: usize, pairs: &[u8], text: &[u8], lookup: Lookup) 
     let entry = entry_at(entries, i);
     match lookup {
         Lookup::ByName(name) => {
-            is_equal(compare_bytes(pairs, text, name as usize, entry.name as usize))
+            compare_bytes(pairs, text, name as usize, entry.name as usize).is_eq()
         }
         Lookup::ByIdentifier(name, id) => {
             if entry.id != id {
                 return false;
             }
-            is_equal(compare_bytes(pairs, text, name as usize, entry.name as usize))
+            compare_bytes(pairs, text, name as usize, entry.name as usize).is_eq()
         }
     }
 }

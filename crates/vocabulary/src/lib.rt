@@ -6,7 +6,6 @@ ghost use Rattle.std.specs.Prelude.{◌≡◌, ◌+◌, ◌≤◌, length, take,
 ghost use Rattle.definitions.specs.Name.{eq_name, compare_name};
 ghost use Rattle.vocabulary.specs.Vocabulary.{pairs_in, text_in, code_in, name_in, Within, Names, SomeProposition, ShapeIn};
 
-use identifier::is_equal;
 use number::{PAIR_SIZE, marked_bytes};
 use prefix_code::{Shape, shape_at};
 use std::cmp::Ordering;
@@ -27,11 +26,11 @@ fn part(bytes: &[u8], start: usize, count: usize) -> &[u8]
     requires { start + count ≤ length bytes.now }
     ensures { result.now ≡ take count (drop start bytes.now) }
 {
-    let end = start + count;
-    &bytes[start..end]
+    &bytes[start..start + count]
 }
 
 // The names' pairs.
+#[tactic(auto, unfolding(crate::specs::Vocabulary::pairs_in, definitions::specs::Sheet::pair_size))]
 pub fn pairs_of(bytes: &[u8], v: Vocabulary) -> &[u8]
     requires { Within bytes.now v }
     ensures { result.now ≡ pairs_in bytes.now v }
@@ -40,6 +39,7 @@ pub fn pairs_of(bytes: &[u8], v: Vocabulary) -> &[u8]
 }
 
 // Their text.
+#[tactic(auto, unfolding(crate::specs::Vocabulary::text_in))]
 pub fn text_of(bytes: &[u8], v: Vocabulary) -> &[u8]
     requires { Within bytes.now v }
     ensures { result.now ≡ text_in bytes.now v }
@@ -48,6 +48,7 @@ pub fn text_of(bytes: &[u8], v: Vocabulary) -> &[u8]
 }
 
 // The code of the propositions.
+#[tactic(auto, unfolding(crate::specs::Vocabulary::code_in))]
 pub fn code_of(bytes: &[u8], v: Vocabulary) -> &[u8]
     requires { Within bytes.now v }
     ensures { result.now ≡ code_in bytes.now v }
@@ -56,6 +57,7 @@ pub fn code_of(bytes: &[u8], v: Vocabulary) -> &[u8]
 }
 
 // The bytes of a name.
+#[tactic(auto, unfolding(crate::specs::Vocabulary::name_in))]
 pub fn name(bytes: &[u8], v: Vocabulary, i: usize) -> &[u8]
     requires { Names bytes.now v i }
     ensures { result.now ≡ name_in bytes.now v i }
@@ -83,7 +85,7 @@ pub fn same_name(a: &[u8], v: Vocabulary, i: usize, b: &[u8], w: Vocabulary, j: 
     requires { Names a.now v i × Names b.now w j }
     ensures { result ≡ eq_name (name_in a.now v i) (name_in b.now w j) }
 {
-    is_equal(compare_names(a, v, i, b, w, j))
+    identifier::same_name(name(a, v, i), name(b, w, j))
 }
 
 // The shape of the proposition at an offset of the code.

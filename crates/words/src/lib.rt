@@ -12,7 +12,7 @@ ghost use Rattle.words.specs.Table.{Table, NamePlace, NumberOf, PairFits, SlotFi
 ghost use Rattle.words.specs.Table.{table_size, searched, with_number, with_pair, with_slot};
 
 use caller_names::{is_listed, well_formed};
-use identifier::{CLASSES, OTHER, class, same_name};
+use identifier::{CLASSES, Class, same_name};
 use name_index::{SLOT_COUNT, start_slot};
 use number::{PAIR_SIZE, marked_bytes, number_at};
 
@@ -24,7 +24,7 @@ pub fn word_end(text: &[u8], at: usize) -> usize
     let classes = CLASSES;
     let mut i = at;
     while i < text.len() {
-        if class(&classes, text[i]) == OTHER {
+        if !Class::of_byte(&classes, text[i]).may_follow() {
             return i;
         }
         i += 1;

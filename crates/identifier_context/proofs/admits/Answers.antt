@@ -1,7 +1,8 @@
 -- The name that is asked for is in the lookup, and the entry's numbers are those of the index.
-use mathlib.Core.Path.{◌∙◌, ap}
+use mathlib.Core.Path.{◌∙◌, ap, sym}
 use borrow.Author.Rules.{rules}
 use Rattle.definitions.specs.Name.{is_equal}
+use Rattle.identifier.proofs.Comparing.{is_equal_is}
 use Rattle.identifier_context.specs.Memory.{entry_at}
 use Rattle.identifier_context.proofs.Lookups.{admits_name, admits_no_other_id, admits_identifier}
 use Rattle.identifier_context.proofs.admits.Goals as goal
@@ -25,9 +26,9 @@ returns-then-entry-id c =
 pub returns-in-ByName : goal.returns-in-ByName
 returns-in-ByName c =
     admits_name _ _ _ c.in-ByName.is c.entry_at-entry.ensures
-    (c.is_equal.ensures ∙ ap is_equal c.compare_bytes.ensures)
+    (c.is_eq.ensures ∙ sym (is_equal_is _) ∙ ap is_equal c.compare_bytes.ensures)
 
 pub returns-else-entry-id : goal.returns-else-entry-id
 returns-else-entry-id c =
     admits_identifier _ _ _ c.in-ByIdentifier.is c.entry_at-entry.ensures c.if-entry-id.false
-    (c.is_equal-in-ByIdentifier.ensures ∙ ap is_equal c.compare_bytes-in-ByIdentifier.ensures)
+    (c.is_eq-in-ByIdentifier.ensures ∙ sym (is_equal_is _) ∙ ap is_equal c.compare_bytes-in-ByIdentifier.ensures)

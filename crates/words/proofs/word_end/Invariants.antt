@@ -8,8 +8,6 @@ use borrow.Author.Count.{below_more}
 use borrow.Author.Rules.{rules}
 use borrow.Author.Tests.{eq-eqb, ne_eqb}
 use Rattle.definitions.specs.Name.{byte_class, may_follow}
-use Rattle.identifier.specs.Class.{class_number}
-use Rattle.identifier.proofs.Allowed.{class_table, follows_class}
 use Rattle.words.proofs.Runs.{word_ends}
 use Rattle.words.proofs.word_end.Given as goal
 

@@ -1,7 +1,0 @@
--- The end less the start is the count.
-use native.Mathlib.Nat.{add-sub_cancel_left}
-use borrow.Author.Rules.{rules}
-use Rattle.vocabulary.proofs.part.Goals as goal
-
-pub returns : goal.returns
-returns c = rw add-sub_cancel_left
