@@ -1,14 +1,15 @@
 -- The pieces of a text, byte by byte.
-use Prim.Native.Nat.{ℕ, zero, suc, ◌+◌, ◌-◌, ◌≤◌, ◌<◌}
+use Prim.Native.Nat.{ℕ, suc, ◌+◌, ◌-◌, ◌≤◌, ◌<◌}
 use mathlib.Core.Path.{◌≡◌, refl, sym, ◌∙◌, ap}
-use mathlib.Core.Bool.{Bool, true, false, cond}
+use mathlib.Core.Bool.{Bool, true, false, cond, ◌||◌}
 use mathlib.Core.List.{List, [], ◌∷◌, ◌++◌, append_assoc, append-nil}
 use native.Mathlib.Omega.{arith}
 use native.Mathlib.Numerals.{add-one}
-use lib.ListN.{length, take, drop, get_or, length-drop, drop_of_length-le}
+use lib.ListN.{length, drop, get_or, length-drop, drop_of_length-le}
 use lib.Seq.{take-suc, drop-cons, get_or-drop}
 use lib.Dec.{eqb}
 use borrow.Author.Tests.{eq-eqb, ne_eqb, lt-ltb, le-ltb}
+use Rattle.std.specs.List.{list_any, slice_split, onto_first}
 use Rattle.definitions.specs.Name.{Name, eq_name}
 use Rattle.definitions.specs.Text.{occurs}
 use Rattle.definitions.specs.CallerNames.{newline, in_front, pieces, names_in}
@@ -102,20 +103,22 @@ some_piece (b ∷ s) = by_byte (eqb b newline) (pieces s)
     by_byte false [] = omega arith
     by_byte false (a ∷ ps) = omega arith
 
--- Of bytes that end at a place:
-module _ {list : List ℕ} {at r : ℕ} (end : NameEnd list at r) (x : Name) where
-  -- the first piece is the name
-  pub occurs_here : eq_name x (piece list at r) ≡ true → occurs eq_name x (pieces (drop at list)) ≡ true
-  unfolding occurs
-  occurs_here e = rw (end.is, e)
+-- the pieces are what std cuts off at newlines
+pieces_split : (s : List ℕ) → pieces s ≡ slice_split (λ b. eqb b 10) s
+unfolding pieces newline in_front
+pieces_split [] = refl
+pieces_split (b ∷ s) = ap (λ ps. cond (eqb b 10) ([] ∷ ps) (in_front b ps)) (pieces_split s) ∙ by_byte (eqb b 10) (slice_split (λ c. eqb c 10) s)
+  where
+    by_byte : (t : Bool) (ps : List Name) → cond t ([] ∷ ps) (in_front b ps) ≡ cond t ([] ∷ ps) (onto_first b ps)
+    by_byte true ps = refl
+    by_byte false [] = refl
+    by_byte false (a ∷ ps) = refl
 
-  -- it is not, and there is no other
-  pub occurs_nowhere : eq_name x (piece list at r) ≡ false → r ≡ length list → occurs eq_name x (pieces (drop at list)) ≡ false
-  unfolding occurs
-  occurs_nowhere e h = rw (end.is, e, after_last list r (omega arith))
+any_of : (x : Name) (names : List Name) → occurs eq_name x names ≡ list_any (λ piece. eq_name x piece) names
+unfolding occurs
+any_of x [] = refl
+any_of x (a ∷ rest) = ap (λ t. eq_name x a || t) (any_of x rest)
 
-  -- it is not, and there are others
-  pub occurs_later : eq_name x (piece list at r) ≡ false → (r ≡ length list → ⊥)
-      → occurs eq_name x (pieces (drop at list)) ≡ occurs eq_name x (pieces (drop (r + 1) list))
-  unfolding occurs
-  occurs_later e h = rw (end.is, e, after_more list r (omega (arith, end.bounds.inside)))
+-- a name is in a list where it is any of the pieces
+pub occurs_split : (x : Name) (list : List ℕ) → (length list ≡ 0 → ⊥) → occurs eq_name x (names_in list) ≡ list_any (λ piece. eq_name x piece) (slice_split (λ b. eqb b 10) list)
+occurs_split x list h = rw (names_pieces list h, ← (pieces_split list)) (any_of x (pieces list))

@@ -17,45 +17,32 @@ pub fn name_end(text: &[u8], start: usize) -> usize
     requires { start ≤ length text.now }
     ensures { NameEnd text.now start result }
 {
-    let mut i = start;
-    while i < text.len() {
+    for i in start..text.len() {
         if text[i] == NEWLINE {
             return i;
         }
-        i += 1;
     }
-    i
+    text.len()
 }
 
 // A name has at most so many bytes.
 const NAME_LENGTH_LIMIT: usize = 32;
 
 // Whether these bytes are a name of document 01.
+#[tactic(auto, unfolding(definitions::specs::CallerNames::well_formed, definitions::specs::Sheet::name_length_limit))]
 pub fn well_formed(name: &[u8]) -> bool
     ensures { result ≡ well_formed name.now }
 {
-    if NAME_LENGTH_LIMIT < name.len() {
-        return false;
-    }
-    is_name(name)
+    name.len() <= NAME_LENGTH_LIMIT && is_name(name)
 }
 
 // Whether a name is in a list.
 pub fn is_listed(list: &[u8], name: &[u8]) -> bool
     ensures { result ≡ occurs eq_name name.now (names_in list.now) }
 {
-    if list.len() == 0 {
+    if list.is_empty() {
         return false;
     }
-    let mut at = 0;
-    loop {
-        let end = name_end(list, at);
-        if same_name(name, &list[at..end]) {
-            return true;
-        }
-        if end == list.len() {
-            return false;
-        }
-        at = end + 1;
-    }
+    list.split(|b| *b == NEWLINE)
+        .any(|piece| same_name(name, piece))
 }
