@@ -1,5 +1,8 @@
 -- What bytes are marked, whatever a pair says of them.
-use Rattle.std.proofs.Common.{◌≡◌, ℕ, zero, suc, ◌+◌, ◌-◌, ◌*◌, ◌<◌, ◌≤◌, List, [], ◌∷◌, length, take, drop, sym, refl, ◌∙◌, arith, length-drop, length-take, take_all}
+use Rattle.std.proofs.Common.{◌≡◌, ℕ, zero, suc, ◌+◌, ◌*◌, ◌<◌, ◌≤◌, List, [], ◌∷◌, length, take, drop, sym, refl, ◌∙◌, arith, length-drop, length-take, take_all}
+use Prim.Native.Nat.{min}
+use mathlib.Core.Logic.{by_cases}
+use native.Mathlib.Decide.{dec_le}
 use lib.ListN.{get_or-eq_default}
 use lib.Seq.{take-nil}
 use Rattle.definitions.specs.Sheet.{pair_size, number_at, pair_offset, pair_length, marked}
@@ -13,17 +16,20 @@ drop_past [] (suc n) h = refl
 drop_past (a ∷ l) zero h = absurd (omega arith)
 drop_past (a ∷ l) (suc n) h = drop_past l n (omega arith)
 
-pub cut_past : (l : List ℕ) (start count : ℕ) → length l ≤ start
-    → take (length l - length l) (drop (length l) l) ≡ take count (drop start l)
-cut_past l start count h =
-    rw (drop_past l (length l) (omega arith), drop_past l start h, take-nil (length l - length l), take-nil count)
-
--- up to the end there is no more than the rest
-pub cut_rest : (l : List ℕ) (start count : ℕ) → length l - start ≤ count → take (length l - start) (drop start l) ≡ take count (drop start l)
-cut_rest l start count h =
-    let rest = length-drop start l in
-    take_all (length l - start) (drop start l) (omega (arith, rest))
-    ∙ sym (take_all count (drop start l) (omega (arith, rest)))
+-- a part that ends no later than the bytes do
+pub cut_is : (l : List ℕ) (start count : ℕ)
+    → take (min count (length (drop (min start (length l)) l))) (drop (min start (length l)) l) ≡ take count (drop start l)
+cut_is l start count = by_cases (dec_le start (length l))
+    (λ h.
+    let here : min start (length l) ≡ start = omega arith in
+    rw here (by_cases (dec_le count (length (drop start l)))
+    (λ k. let short : min count (length (drop start l)) ≡ count = omega arith in rw short refl)
+    (λ k.
+    let long : min count (length (drop start l)) ≡ length (drop start l) = omega arith in
+    rw long (take_all (length (drop start l)) (drop start l) (omega arith) ∙ sym (take_all count (drop start l) (omega arith))))))
+    (λ h.
+    let past : min start (length l) ≡ length l = omega arith in
+    rw (past, drop_past l (length l) (omega arith), drop_past l start (omega arith), take-nil count) (take-nil (min count 0)))
 
 -- a number that has no pair marks nothing
 no_pair : (pairs text : List ℕ) (i : ℕ) → length pairs ≤ pair_size * i → marked pairs text i ≡ []

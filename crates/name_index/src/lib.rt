@@ -18,46 +18,33 @@ pub const SLOT_COUNT: usize = 1024;
 // What a free slot holds.
 pub const FREE: u16 = 65535;
 
-// 31 times a number, wrapping at 2 to the 32nd.
-fn times_31(n: u32) -> u32
-    ensures { result ≡ (31 * n) % wrap }
-{
-    ((31 * (n as u64)) % 4294967296) as u32
-}
-
-// The running number after one more byte: 31 times itself plus the byte, wrapping.
+// The running number after one more byte: 31 times itself plus the byte, wrapping at 2 to the 32nd.
+#[tactic(auto, unfolding(definitions::specs::NameIndex::wrap))]
 fn next_running(n: u32, byte: u8) -> u32
     ensures { result ≡ (31 * n + byte) % wrap }
 {
-    std::num::wrapping_add_u32(times_31(n), byte as u32)
+    n.wrapping_mul(31).wrapping_add(u32::from(byte))
 }
 
 // The start slot of a name.
+#[tactic(auto, unfolding(definitions::specs::NameIndex::running, definitions::specs::NameIndex::start_slot, definitions::specs::NameIndex::slot_count))]
 pub fn start_slot(name: &[u8]) -> usize
     ensures { result ≡ start_slot name.now }
 {
-    let mut running = 0u32;
-    let mut i = 0;
-    while i < name.len() {
-        running = next_running(running, name[i]);
-        i += 1;
+    let mut running = 0;
+    for &byte in name {
+        running = next_running(running, byte);
     }
     running as usize % SLOT_COUNT
 }
 
 // So many bytes from a place on, as far as there are any.
+#[tactic(auto, using(crate::proofs::AnyName::cut_is))]
 fn cut(bytes: &[u8], start: usize, count: usize) -> &[u8]
     ensures { result.now ≡ take count (drop start bytes.now) }
 {
-    let len = bytes.len();
-    if len <= start {
-        return &bytes[len..len];
-    }
-    if len - start <= count {
-        return &bytes[start..len];
-    }
-    let end = start + count;
-    &bytes[start..end]
+    let rest = &bytes[start.min(bytes.len())..];
+    &rest[..count.min(rest.len())]
 }
 
 // The name of a number, whatever its pair says: cut at the end of the text, and empty where there is no pair.
@@ -97,14 +84,12 @@ pub fn probe(slots: &[u16], bytes: &[u8], v: Vocabulary, name: &[u8]) -> Result<
 }
 
 // What an index answers: the number of a name with equal bytes, or that there is none.
+#[tactic(auto, using(crate::proofs::Entering::found_held, crate::proofs::Entering::found_absent))]
 pub fn find(slots: &[u16], bytes: &[u8], v: Vocabulary, name: &[u8]) -> Option<usize>
     requires { (length slots.now ≡ slot_count) × Within bytes.now v }
     ensures { result ≡ (names.find (name_in bytes.now v) slots.now name.now) }
 {
-    match probe(slots, bytes, v, name) {
-        Ok(i) => Some(i),
-        Err(_) => None,
-    }
+    probe(slots, bytes, v, name).ok()
 }
 
 // Name i enters the index of the names before it, if it does not repeat one of them.
@@ -119,23 +104,13 @@ pub fn enter(slots: &mut [u16], bytes: &[u8], v: Vocabulary, i: usize)
     slots[at] = i as u16;
 }
 
-// Makes every slot free.
-fn clear(slots: &mut [u16])
-    requires { length slots.old ≡ slot_count }
-    ensures { slots.new ≡ replicate slot_count free }
-{
-    for at in 0..SLOT_COUNT {
-        slots[at] = FREE;
-    }
-}
-
 // The index of a memory's names.
 pub fn build(slots: &mut [u16], bytes: &[u8], v: Vocabulary)
     requires slots_len { (length slots.old ≡ slot_count) × Within bytes.now v }
     requires name_count_bound { v.name_count ≤ name_limit }
     ensures { slots.new ≡ index (name_in bytes.now v) v.name_count }
 {
-    clear(slots);
+    slots.fill(FREE);
     for i in 0..v.name_count {
         enter(slots, bytes, v, i);
     }

@@ -1,5 +1,5 @@
 -- A number past the last marks nothing; any other marks what its pair says, as far as the text goes.
-use Rattle.std.proofs.Common.{◌∙◌, rules}
+use Rattle.std.proofs.Common.{◌∙◌}
 use Rattle.name_index.proofs.AnyName.{no_name, pair_there, name_cut}
 use Rattle.name_index.proofs.any_name.Goals as goal
 

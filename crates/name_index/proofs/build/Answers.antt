@@ -1,15 +1,12 @@
 -- The names enter from number 0 up.
-use Rattle.std.proofs.Common.{◌≡◌, ◌-◌, ◌≤◌, sym, ◌∙◌, arith}
-use Rattle.definitions.specs.NameIndex.{index}
-use Rattle.vocabulary.specs.Vocabulary.{name_in}
+use Rattle.std.proofs.Common.{sym, ◌∙◌, arith}
+use Rattle.definitions.specs.NameIndex.{free}
 use Rattle.name_index.proofs.Entering.{index_size, none_entered, all_entered}
 use Rattle.name_index.proofs.build.Goals as goal
 
-pub clear-requires : goal.clear-requires
-clear-requires c = c.requires.slots_len.0
-
 pub loop-i-init : goal.loop-i-init
-loop-i-init c = (omega arith, none_entered _ c.clear.ensures)
+unfolding free
+loop-i-init c = (omega arith, none_entered _ (rw c.requires.slots_len.0 at c.fill.ensures.after (λ y e. e)))
 
 pub enter-requires : goal.enter-requires
 enter-requires c =

@@ -1,5 +1,5 @@
 -- A repeat is held by the index so far; a first name takes the slot at which probing ended.
-use Rattle.std.proofs.Common.{◌≡◌, length, sym, ◌∙◌, arith, rules}
+use Rattle.std.proofs.Common.{◌≡◌, length, sym, ◌∙◌, arith}
 use Rattle.definitions.specs.Sheet.{name_limit}
 use Rattle.definitions.specs.NameIndex.{slot_count}
 use Rattle.vocabulary.specs.Vocabulary.{name_in}

@@ -1,8 +1,7 @@
 -- What is left of the search, and of the way to a free slot.
-use Rattle.std.proofs.Common.{◌≡◌, ◌-◌, length, arith, rules}
+use Rattle.std.proofs.Common.{◌≡◌, length, arith}
 use Rattle.definitions.specs.NameIndex.{slot_count, free}
-use Rattle.vocabulary.specs.Vocabulary.{name_in}
-use Rattle.name_index.proofs.Probing.{Left, begins, at_free, at_equal, at_other, past_all}
+use Rattle.name_index.proofs.Probing.{begins, at_free, at_equal, at_other, past_all}
 use Rattle.name_index.proofs.probe.Goals as goal
 use Rattle.name_index.proofs.probe.Goals.{At-loop}
 
@@ -40,10 +39,6 @@ returns-then-same_name c =
 pub overflow_add-at : goal.overflow_add-at
 unfolding slot_count
 overflow_add-at c = omega (arith, c.loop.invariant.below)
-
-pub loop-smaller : goal.loop-smaller
-unfolding slot_count
-loop-smaller c = omega arith
 
 pub loop-preserved : goal.loop-preserved
 unfolding slot_count free
