@@ -1,5 +1,5 @@
 -- Codes in a row: a run of so many, and how a walk from each code's end to the next goes along it.
-use Prim.Native.Nat.{ℕ, zero, suc, ◌+◌, ◌-◌, ◌≤◌, ◌<◌}
+use Prim.Native.Nat.{ℕ, zero, suc, ◌+◌, ◌≤◌, ◌<◌}
 use mathlib.Core.Path.{◌≡◌, refl, sym, ap, ◌∙◌}
 use mathlib.Core.Logic.Iff
 use mathlib.Core.Logic.{◌↔◌}
@@ -100,12 +100,10 @@ module _ {A B : Type 0} {whole : Coding B} {part : Coding A} (l : List ℕ) (at 
 
 module _ {A B : Type 0} {whole : Coding B} {part : Coding A} (l : List ℕ) (at i : ℕ) where
   -- behind the first part one less is needed
-  pub walk_step : (parts j : ℕ) → Walked whole part l at i parts → 0 < parts → Ends part l i j → j ≤ length l
-      → Walked whole part l at j (parts - 1)
-  walk_step zero j w z e h = absurd (omega arith)
-  walk_step (suc parts) j w z e h =
-      let c : suc parts - 1 ≡ parts = omega arith in
-      rw c (walk_on l at i (suc parts) w j parts h (λ rest. run_step part l i j w.inside e parts rest h))
+  pub walk_step : (parts more j : ℕ) → Walked whole part l at i parts → parts ≡ suc more → Ends part l i j → j ≤ length l
+      → Walked whole part l at j more
+  walk_step parts more j w is e h =
+      walk_on l at i (suc more) (rw is at w) j more h (λ rest. run_step part l i j w.inside e more rest h)
 
   -- without a first part there is no whole
   pub walk_stop : (parts j : ℕ) → Walked whole part l at i parts → 0 < parts → Ends part l i j → length l < j

@@ -8,12 +8,12 @@ ghost use Rattle.definitions.specs.Admission.{is_none};
 ghost use Rattle.prefix_code.specs.Scan.{Ends, Scanned, parameter_coding, parameters_coding, shallow_coding};
 ghost use Rattle.prefix_code.specs.Head.{head_coding, parts_after};
 ghost use Rattle.prefix_code.specs.PropAt.{Present};
-ghost use Rattle.prefix_code.specs.Shape.{SomeProposition, ShapeOf};
+ghost use Rattle.prefix_code.specs.Shape.{SomeProposition, connective_at, quantifier_at, ShapeOf};
 
 // An atom has at most so many parameters.
 pub const PARAMETER_LIMIT: u8 = 8;
 
-// The bytes in front.
+// The bytes in front. Each names one form of proposition for every crate.
 pub const TRUE: u8 = 0;
 
 pub const FALSE: u8 = 1;
@@ -32,6 +32,9 @@ pub const EXISTS: u8 = 7;
 
 // How many propositions follow each head byte.
 const PARTS: [u8; 8] = [0, 0, 2, 2, 2, 0, 1, 1];
+
+// An end below is a position past the end of the code where nothing stands, and no Option: most callers know that something stands,
+// and use the end as it is, where each would have to unwrap it.
 
 // Where the parameter at `at` ends, and past the end of the code if none stands there.
 pub fn parameter_end(code: &[u8], at: usize, names: usize) -> usize
@@ -64,19 +67,18 @@ pub fn parameters_end(code: &[u8], at: usize, count: usize, names: usize) -> usi
     ensures { Ends (parameters_coding names count) code.now at result }
 {
     let mut i = at;
-    let mut needed = count;
-    while 0 < needed {
+    for _ in 0..count {
         let end = parameter_end(code, i, names);
         if code.len() < end {
             return end;
         }
-        needed -= 1;
         i = end;
     }
     i
 }
 
 // Where the head at `at` ends, and past the end of the code if none stands there.
+#[tactic(auto, unfolding(definitions::specs::Code::parameter_limit))]
 pub fn head_end(code: &[u8], at: usize, names: usize) -> usize
     requires { at ≤ length code.now }
     ensures { Ends (head_coding names) code.now at result }
@@ -86,10 +88,10 @@ pub fn head_end(code: &[u8], at: usize, names: usize) -> usize
         return none;
     }
     let head = code[at];
-    if head < 5 {
+    if head < ATOM {
         return at + 1;
     }
-    if 7 < head {
+    if EXISTS < head {
         return none;
     }
     if code.len() - at < 4 {
@@ -98,7 +100,7 @@ pub fn head_end(code: &[u8], at: usize, names: usize) -> usize
     if names <= number::number_at(code, at + 1) {
         return none;
     }
-    if head == 5 {
+    if head == ATOM {
         let count = code[at + 3];
         if PARAMETER_LIMIT < count {
             return none;
@@ -115,6 +117,7 @@ pub fn head_end(code: &[u8], at: usize, names: usize) -> usize
 }
 
 // How many propositions follow a head byte.
+#[tactic(auto, unfolding(crate::specs::Head::parts_after))]
 pub fn parts_after(head: u8) -> usize
     requires { head < 8 }
     ensures { result ≡ parts_after head }
@@ -122,7 +125,8 @@ pub fn parts_after(head: u8) -> usize
     PARTS[head as usize] as usize
 }
 
-// Where the proposition at `at` ends, and past the end of the code if none stands there.
+// Where the proposition at `at` ends, and past the end of the code if none stands there. How many are still needed grows on the way, so
+// no range counts the turns.
 pub fn scan(code: &[u8], at: usize, names: usize) -> usize
     requires { at ≤ length code.now }
     ensures { Scanned names code.now at result }
@@ -152,13 +156,11 @@ fn shallow_end(code: &[u8], at: usize, names: usize, depth: usize) -> usize
     if code.len() < i {
         return i;
     }
-    let mut needed = parts_after(code[at]);
-    while 0 < needed {
+    for _ in 0..parts_after(code[at]) {
         let end = shallow_end(code, i, names, depth - 1);
         if code.len() < end {
             return end;
         }
-        needed -= 1;
         i = end;
     }
     i
@@ -183,14 +185,50 @@ pub fn is_deep(code: &[u8], names: usize, limit: usize) -> bool
     code.len() < shallow_end(code, 0, names, limit)
 }
 
-// What the proposition at a position is: its byte in front, the numbers that stand behind it, and where its first part or its
+// ∧, ∨ and ⊃.
+#[derive(Debug, Clone, Copy, PartialEq, Eq)]
+pub enum Connective {
+    And,
+    Or,
+    Impl,
+}
+
+// ∀ and ∃.
+#[derive(Debug, Clone, Copy, PartialEq, Eq)]
+pub enum Quantifier {
+    ForAll,
+    Exists,
+}
+
+// The connective that a byte in front stands for.
+fn connective_of(head: u8) -> Connective
+    ensures { result ≡ connective_at head }
+{
+    match head {
+        AND => Connective::And,
+        OR => Connective::Or,
+        _ => Connective::Impl,
+    }
+}
+
+// The quantifier that a byte in front stands for.
+fn quantifier_of(head: u8) -> Quantifier
+    ensures { result ≡ quantifier_at head }
+{
+    match head {
+        FOR_ALL => Quantifier::ForAll,
+        _ => Quantifier::Exists,
+    }
+}
+
+// What the proposition at a position is: its form, the numbers that stand behind its byte in front, and where its first part or its
 // parameters begin.
 #[derive(Drop)]
 pub enum Shape {
     True,
     False,
     Binary {
-        connective: u8,
+        connective: Connective,
         left: usize,
     },
     Atom {
@@ -199,7 +237,7 @@ pub enum Shape {
         parameters: usize,
     },
     Quantified {
-        quantifier: u8,
+        quantifier: Quantifier,
         object: usize,
         datatype: usize,
         body: usize,
@@ -212,20 +250,20 @@ pub fn shape_at(code: &[u8], at: usize) -> Shape
     ensures { (names : ℕ) → Present names code.now at → ShapeOf names code.now at result }
 {
     let head = code[at];
-    if head == 0 {
+    if head == TRUE {
         return Shape::True;
     }
-    if head == 1 {
+    if head == FALSE {
         return Shape::False;
     }
-    if head < 5 {
+    if head < ATOM {
         return Shape::Binary {
-            connective: head,
+            connective: connective_of(head),
             left: at + 1,
         };
     }
     let name = number::number_at(code, at + 1);
-    if head == 5 {
+    if head == ATOM {
         return Shape::Atom {
             name,
             count: code[at + 3],
@@ -233,7 +271,7 @@ pub fn shape_at(code: &[u8], at: usize) -> Shape
         };
     }
     Shape::Quantified {
-        quantifier: head,
+        quantifier: quantifier_of(head),
         object: name,
         datatype: number::number_at(code, at + 3),
         body: at + 5,

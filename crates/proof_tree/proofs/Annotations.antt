@@ -14,6 +14,10 @@ use Rattle.definitions.specs.Tree.{ProofTreeConclusion}
 use Rattle.definitions.specs.Export.{left_label, datatype_label}
 use Rattle.prefix_code.specs.PropAt.{prop_at, Present}
 use Rattle.definitions.proofs.PrefixCode.{Bytes}
+use Rattle.prefix_code.specs.declared.Connective.{Connective}
+use Rattle.prefix_code.specs.declared.Connective.TheVariants.{Impl}
+use Rattle.prefix_code.specs.declared.Quantifier.{Quantifier}
+use Rattle.prefix_code.specs.declared.Quantifier.TheVariants.{ForAll}
 use Rattle.prefix_code.specs.declared.Shape.{Shape}
 use Rattle.prefix_code.specs.declared.Shape.TheVariants.{Binary, Quantified}
 use Rattle.prefix_code.specs.Shape.{ShapeOf}
@@ -99,45 +103,45 @@ module _ {names : ℕ} {pairs code : List ℕ} {c : Conclusion} {m : ProofTreeCo
         → r ≡ record { number = number; place = k } → Annotated names pairs code c (map_outcome Some (label m)) (Refused r)
     no_label label e is = rw (stated o.concludes).is (refused_label e is)
 
-    pub no_left : {k : ℕ} {r : Refusal} → ((connective left : ℕ) → s ≡ Binary connective left → ⊥)
+    pub no_left : {k : ℕ} {r : Refusal} → ((connective : Connective) (left : ℕ) → s ≡ Binary connective left → ⊥)
         → r ≡ record { number = 14; place = k } → Annotated names pairs code c (left_label_of k m) (Refused r)
     unfolding left_label_of
     no_left {k} other = no_label (left_label k) (no_binary k (is_shape refl) other)
 
-    pub other_left : {k connective left : ℕ} {r : Refusal} → s ≡ Binary connective left → (connective ≡ 4 → ⊥)
+    pub other_left : {connective : Connective} {k left : ℕ} {r : Refusal} → s ≡ Binary connective left → (connective ≡ Impl → ⊥)
         → r ≡ record { number = 14; place = k } → Annotated names pairs code c (left_label_of k m) (Refused r)
     unfolding left_label_of
     other_left {k} same other = no_label (left_label k) (other_connective k (is_shape same) other)
 
-    pub left_side : (k : ℕ) {connective left : ℕ} → s ≡ Binary connective left → connective ≡ 4
+    pub left_side : (k : ℕ) {connective : Connective} {left : ℕ} → s ≡ Binary connective left → connective ≡ Impl
         → Annotated names pairs code c (left_label_of k m) (Label 1 left)
     unfolding left_label_of map_outcome parameter_label label_of
-    left_side k {left = left} same four =
+    left_side k {left = left} same impl =
         let its = stated o.concludes in
-        let implies = implication_at its.here (is_shape same) four in
+        let implies = implication_at its.here (is_shape (rw impl at same)) in
         labelled {kind = 1} {number = left} (record {
-          is = rw (its.is, implication_label_lem k (is_shape same) four);
+          is = rw (its.is, implication_label_lem k (is_shape same) impl);
           known = omega arith;
           left = λ z. record { proposition = p; concludes = o.concludes; implies = implies };
         })
 
-    pub no_datatype : {k : ℕ} {r : Refusal} → ((quantifier object d body : ℕ) → s ≡ Quantified quantifier object d body → ⊥)
+    pub no_datatype : {k : ℕ} {r : Refusal} → ((quantifier : Quantifier) (object d body : ℕ) → s ≡ Quantified quantifier object d body → ⊥)
         → r ≡ record { number = 15; place = k } → Annotated names pairs code c (datatype_label_of k m) (Refused r)
     unfolding datatype_label_of
     no_datatype {k} other = no_label (datatype_label k) (no_quantified k (is_shape refl) other)
 
-    pub other_datatype : {k quantifier object d body : ℕ} {r : Refusal} → s ≡ Quantified quantifier object d body
-        → (quantifier ≡ 6 → ⊥) → r ≡ record { number = 15; place = k }
+    pub other_datatype : {quantifier : Quantifier} {k object d body : ℕ} {r : Refusal} → s ≡ Quantified quantifier object d body
+        → (quantifier ≡ ForAll → ⊥) → r ≡ record { number = 15; place = k }
         → Annotated names pairs code c (datatype_label_of k m) (Refused r)
     unfolding datatype_label_of
     other_datatype {k} same other = no_label (datatype_label k) (other_quantifier k (is_shape same) other)
 
-    pub datatype : (k : ℕ) {quantifier object d body : ℕ} → s ≡ Quantified quantifier object d body → quantifier ≡ 6
+    pub datatype : (k : ℕ) {quantifier : Quantifier} {object d body : ℕ} → s ≡ Quantified quantifier object d body → quantifier ≡ ForAll
         → Annotated names pairs code c (datatype_label_of k m) (Label 2 d)
     unfolding datatype_label_of map_outcome parameter_label label_of
-    datatype k {d = d} same six =
+    datatype k {d = d} same universal =
         labelled {kind = 2} {number = d} (record {
-          is = rw ((stated o.concludes).is, universal_label_lem k (is_shape same) six);
+          is = rw ((stated o.concludes).is, universal_label_lem k (is_shape same) universal);
           known = omega arith;
           left = λ z. absurd (omega arith);
         })
@@ -145,11 +149,11 @@ module _ {names : ℕ} {pairs code : List ℕ} {c : Conclusion} {m : ProofTreeCo
 -- the left side and the datatype fit a u16
 module _ {pairs code : List ℕ} {c : Conclusion} {p at : ℕ} {s : Shape} (r : Readable pairs code c)
     (o : Opened pairs code c p at s) where
-  pub left_small : {connective left : ℕ} → s ≡ Binary connective left → left < 65536
+  pub left_small : {connective : Connective} {left : ℕ} → s ≡ Binary connective left → left < 65536
   left_small same =
       let here = (r.stands p o.concludes).present in
       left_fits here r.short (shaped o.offset here o.shape same)
 
-  pub datatype_small : Bytes code → {quantifier object d body : ℕ} → s ≡ Quantified quantifier object d body → d < 65536
+  pub datatype_small : Bytes code → {quantifier : Quantifier} {object d body : ℕ} → s ≡ Quantified quantifier object d body → d < 65536
   datatype_small bytes same =
       datatype_fits bytes (shaped o.offset (r.stands p o.concludes).present o.shape same)

@@ -4,14 +4,17 @@ use mathlib.Core.Path.{◌≡◌, refl}
 use mathlib.Core.List.{List}
 use native.Mathlib.Omega.{arith}
 use lib.ListN.{length}
-use borrow.Author.Tests.{eq-eqb, ne_eqb}
 use Rattle.definitions.specs.Outcome.{accepted, refuse}
-use Rattle.definitions.specs.Prop.{as_binary, as_quantified, connective_byte, quantifier_byte, eq_connective, eq_quantifier}
+use Rattle.definitions.specs.Prop.{as_binary, as_quantified, and, or, impl, for_all, exists, connective_byte, quantifier_byte, eq_connective, eq_quantifier}
 use Rattle.definitions.specs.Sheet.{number_at}
 use Rattle.definitions.specs.Term.{proposition, datatype}
 use Rattle.definitions.specs.Tree.{PropIsTrue}
 use Rattle.definitions.specs.Export.{implication_label, left_label, universal_label, datatype_label}
 use Rattle.definitions.proofs.PrefixCode.{Bytes}
+use Rattle.prefix_code.specs.declared.Connective.{Connective}
+use Rattle.prefix_code.specs.declared.Connective.TheVariants.{Impl}
+use Rattle.prefix_code.specs.declared.Quantifier.{Quantifier}
+use Rattle.prefix_code.specs.declared.Quantifier.TheVariants.{ForAll}
 use Rattle.prefix_code.specs.declared.Shape.{Shape}
 use Rattle.prefix_code.specs.declared.Shape.TheVariants.{Binary, Quantified}
 use Rattle.prefix_code.specs.PropAt.{prop_at, Present}
@@ -25,26 +28,30 @@ shaped {names} is here shape same = rw (is, same) at (shape names (rw is here))
 
 -- the left side of an implication and the datatype of a ∀ are numbers that fit a u16
 module _ {names : ℕ} {code : List ℕ} {at : ℕ} where
-  pub left_fits : {connective left : ℕ} → Present names code at → length code < 65536 → ShapeOf names code at (Binary connective left) → left < 65536
+  pub left_fits : {connective : Connective} {left : ℕ} → Present names code at → length code < 65536 → ShapeOf names code at (Binary connective left) → left < 65536
   left_fits here short (is_binary is) = omega (arith, (inside here).start)
 
-  pub datatype_fits : {quantifier object d body : ℕ} → Bytes code → ShapeOf names code at (Quantified quantifier object d body) → d < 65536
+  pub datatype_fits : {quantifier : Quantifier} {object d body : ℕ} → Bytes code → ShapeOf names code at (Quantified quantifier object d body) → d < 65536
   unfolding number_at
   datatype_fits bytes (is_quantified is) = omega (arith, bytes (at + 3), bytes (at + 3 + 1))
 
 module _ {names : ℕ} {code : List ℕ} {at : ℕ} (k : ℕ) where
   -- an implication gives its left side
-  pub implication_label_lem : {connective left : ℕ} → ShapeOf names code at (Binary connective left) → connective ≡ 4
+  pub implication_label_lem : {connective : Connective} {left : ℕ} → ShapeOf names code at (Binary connective left) → connective ≡ Impl
       → left_label k (PropIsTrue (prop_at names code at)) ≡ accepted (proposition (prop_at names code left))
   unfolding left_label implication_label as_binary eq_connective connective_byte
-  implication_label_lem (is_binary {c} is) four = rw (is, eq-eqb (connective_byte c) 4 four)
+  implication_label_lem (is_binary {c = and} is) same = cc
+  implication_label_lem (is_binary {c = or} is) same = cc
+  implication_label_lem (is_binary {c = impl} is) same = rw is
 
-  pub other_connective : {connective left : ℕ} → ShapeOf names code at (Binary connective left) → (connective ≡ 4 → ⊥)
+  pub other_connective : {connective : Connective} {left : ℕ} → ShapeOf names code at (Binary connective left) → (connective ≡ Impl → ⊥)
       → left_label k (PropIsTrue (prop_at names code at)) ≡ refuse 14 k
   unfolding left_label implication_label as_binary eq_connective connective_byte
-  other_connective (is_binary {c} is) other = rw (is, ne_eqb (connective_byte c) 4 other)
+  other_connective (is_binary {c = and} is) other = rw is
+  other_connective (is_binary {c = or} is) other = rw is
+  other_connective (is_binary {c = impl} is) other = absurd (other refl)
 
-  pub no_binary : {s : Shape} → ShapeOf names code at s → ((connective left : ℕ) → s ≡ Binary connective left → ⊥)
+  pub no_binary : {s : Shape} → ShapeOf names code at s → ((connective : Connective) (left : ℕ) → s ≡ Binary connective left → ⊥)
       → left_label k (PropIsTrue (prop_at names code at)) ≡ refuse 14 k
   unfolding left_label implication_label as_binary
   no_binary (is_true is) other = rw is
@@ -54,17 +61,19 @@ module _ {names : ℕ} {code : List ℕ} {at : ℕ} (k : ℕ) where
   no_binary (is_quantified is) other = rw is
 
   -- a ∀ gives its datatype
-  pub universal_label_lem : {quantifier object d body : ℕ} → ShapeOf names code at (Quantified quantifier object d body) → quantifier ≡ 6
+  pub universal_label_lem : {quantifier : Quantifier} {object d body : ℕ} → ShapeOf names code at (Quantified quantifier object d body) → quantifier ≡ ForAll
       → datatype_label k (PropIsTrue (prop_at names code at)) ≡ accepted (datatype d)
   unfolding datatype_label universal_label as_quantified eq_quantifier quantifier_byte
-  universal_label_lem (is_quantified {q} is) six = rw (is, eq-eqb (quantifier_byte q) 6 six)
+  universal_label_lem (is_quantified {q = for_all} is) same = rw is
+  universal_label_lem (is_quantified {q = exists} is) same = cc
 
-  pub other_quantifier : {quantifier object d body : ℕ} → ShapeOf names code at (Quantified quantifier object d body) → (quantifier ≡ 6 → ⊥)
+  pub other_quantifier : {quantifier : Quantifier} {object d body : ℕ} → ShapeOf names code at (Quantified quantifier object d body) → (quantifier ≡ ForAll → ⊥)
       → datatype_label k (PropIsTrue (prop_at names code at)) ≡ refuse 15 k
   unfolding datatype_label universal_label as_quantified eq_quantifier quantifier_byte
-  other_quantifier (is_quantified {q} is) other = rw (is, ne_eqb (quantifier_byte q) 6 other)
+  other_quantifier (is_quantified {q = for_all} is) other = absurd (other refl)
+  other_quantifier (is_quantified {q = exists} is) other = rw is
 
-  pub no_quantified : {s : Shape} → ShapeOf names code at s → ((quantifier object d body : ℕ) → s ≡ Quantified quantifier object d body → ⊥)
+  pub no_quantified : {s : Shape} → ShapeOf names code at s → ((quantifier : Quantifier) (object d body : ℕ) → s ≡ Quantified quantifier object d body → ⊥)
       → datatype_label k (PropIsTrue (prop_at names code at)) ≡ refuse 15 k
   unfolding datatype_label universal_label as_quantified
   no_quantified (is_true is) other = rw is

@@ -7,7 +7,7 @@ ghost use Rattle.proof_tree.specs.Labelling.{left_label_of, datatype_label_of, p
 use crate::table::Ending;
 use definitions::Refusal;
 use number::pair_offset;
-use prefix_code::{FOR_ALL, IMPL, Shape, shape_at};
+use prefix_code::{Connective, Quantifier, Shape, shape_at};
 use proof_term::{DATATYPE, NO_LABEL, PROPOSITION};
 use steps::Conclusion;
 
@@ -30,7 +30,7 @@ fn left_label(pairs: &[u8], code: &[u8], conclusion: Conclusion, k: usize) -> An
     let Shape::Binary { connective, left } = shape_at(code, at) else {
         return Annotation::Refused(Refusal::at(14, k));
     };
-    if connective != IMPL {
+    if connective != Connective::Impl {
         return Annotation::Refused(Refusal::at(14, k));
     }
     Annotation::Label(PROPOSITION as u16, left as u16)
@@ -54,7 +54,7 @@ fn datatype_label(pairs: &[u8], code: &[u8], conclusion: Conclusion, k: usize) -
     else {
         return Annotation::Refused(Refusal::at(15, k));
     };
-    if quantifier != FOR_ALL {
+    if quantifier != Quantifier::ForAll {
         return Annotation::Refused(Refusal::at(15, k));
     }
     Annotation::Label(DATATYPE as u16, datatype as u16)

@@ -1,9 +1,11 @@
--- The loop's invariant: a shallow proposition stands from `at` on exactly where the needed parts, less deep by one, stand
--- from `i` on. The calls end by the depth.
-use Prim.Native.Nat.{◌<◌}
+-- The loop's invariant: a shallow proposition stands from `at` on exactly where the parts that are left, less deep by one,
+-- stand from `i` on. The calls end by the depth.
+use Prim.Native.Nat.{ℕ, ◌-◌}
 use mathlib.Core.Path.{◌≡◌}
 use native.Mathlib.Nat.{pos_of_ne-zero}
 use native.Mathlib.Omega.{arith}
+use lib.ListN.{get_or}
+use Rattle.prefix_code.specs.Head.{parts_after}
 use Rattle.prefix_code.proofs.Runs.{walk_step, walk_stop, walk_end}
 use Rattle.prefix_code.proofs.Propositions.{headed}
 use Rattle.prefix_code.proofs.Depth.{no_flat, shallow_walk, no_shallow}
@@ -18,27 +20,29 @@ returns-then-code-i t c = no_shallow _ _ _ _ _ (pos_of_ne-zero c.if-depth-eq0.fa
 pub bounds-code-at : goal.bounds-code-at
 bounds-code-at t c = (headed _ _ _ _ c.head_end-i.ensures c.if-code-i.false).inside
 
-pub parts_after-needed-requires : goal.parts_after-needed-requires
-parts_after-needed-requires t c = (headed _ _ _ _ c.head_end-i.ensures c.if-code-i.false).known
+pub parts_after-end-requires : goal.parts_after-end-requires
+parts_after-end-requires t c = (headed _ _ _ _ c.head_end-i.ensures c.if-code-i.false).known
 
-pub loop-needed-init : goal.loop-needed-init
-loop-needed-init t c =
-    rw c.parts_after-needed.ensures
+pub loop-init : goal.loop-init
+loop-init t c =
+    let parts : ℕ = parts_after (get_or c.args.code.now c.args.at 0) in
+    let all : parts - 0 ≡ parts = omega arith in
+    rw all
     (shallow_walk _ _ _ _ _ (pos_of_ne-zero c.if-depth-eq0.false) c.requires c.head_end-i.ensures c.if-code-i.false)
 
 pub overflow_sub-depth : goal.overflow_sub-depth
 overflow_sub-depth t c = pos_of_ne-zero c.if-depth-eq0.false
 
 pub shallow_end-end-requires : goal.shallow_end-end-requires
-shallow_end-end-requires t c = (omega (arith, pos_of_ne-zero c.if-depth-eq0.false), c.loop-needed.invariant.inside)
+shallow_end-end-requires t c = (omega (arith, pos_of_ne-zero c.if-depth-eq0.false), c.loop.invariant.inside)
 
 pub returns-then-code-end : goal.returns-then-code-end
-returns-then-code-end t c = walk_stop _ _ _ _ _ c.loop-needed.invariant c.loop-needed-test.true c.shallow_end-end.ensures c.if-code-end.true
+returns-then-code-end t c = walk_stop _ _ _ _ _ c.loop.invariant (omega arith) c.shallow_end-end.ensures c.if-code-end.true
 
-pub loop-needed-preserved : goal.loop-needed-preserved
-loop-needed-preserved t c = walk_step _ _ _ _ _ c.loop-needed.invariant c.loop-needed-test.true c.shallow_end-end.ensures c.if-code-end.false
+pub loop-preserved : goal.loop-preserved
+loop-preserved t c = walk_step _ _ _ _ _ _ c.loop.invariant (omega arith) c.shallow_end-end.ensures c.if-code-end.false
 
 pub returns : goal.returns
 returns t c =
-    let none : c.loop-needed.needed ≡ 0 = omega arith in
-    walk_end _ _ _ c.requires (rw none at c.loop-needed.invariant)
+    let none : parts_after (get_or c.args.code.now c.args.at 0) - c.loop.counter ≡ 0 = omega arith in
+    walk_end _ _ _ c.requires (rw none at c.loop.invariant)

@@ -1,7 +1,6 @@
 -- The scan ends where the bytes end exactly if they decode.
 use native.Mathlib.Omega.{arith}
 use Rattle.prefix_code.proofs.Whole.{scanned_whole}
-use borrow.Author.Rules.{rules}
 use Rattle.prefix_code.proofs.is_code.Goals as goal
 
 pub returns : goal.returns

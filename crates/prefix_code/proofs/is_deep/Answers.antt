@@ -1,7 +1,6 @@
 -- No proposition of at most the limit ends inside the bytes exactly if theirs nests deeper; short code never does.
 use native.Mathlib.Omega.{arith}
 use Rattle.prefix_code.proofs.Whole.{shallow_whole, short_whole}
-use borrow.Author.Rules.{rules}
 use Rattle.prefix_code.proofs.is_deep.Goals as goal
 
 pub returns : goal.returns

@@ -1,27 +1,21 @@
 -- Three bytes and a name below `names` are asked of any parameter, two bytes more of an instantiated one.
 use native.Mathlib.Omega.{arith}
-use borrow.Author.Rules.{rules}
-use Rattle.definitions.proofs.Readings.{Bytes}
 use Rattle.prefix_code.specs.Scan.{parameter_coding}
 use Rattle.prefix_code.proofs.Runs.{ends_at}
 use Rattle.prefix_code.proofs.Parameters.{parameter_bytes, no_parameter, uninstantiated_stands, instantiated_stands}
 use Rattle.prefix_code.proofs.parameter_end.Goals as goal
-use Rattle.prefix_code.proofs.parameter_end.Goals.{After-shared_slice_known-2-1}
-
-bytes : (c : After-shared_slice_known-2-1) → Bytes c.args.code.now
-bytes c i = omega (arith, c.type_inv.code i)
 
 pub returns-then-kind-eq0 : goal.returns-then-kind-eq0
 returns-then-kind-eq0 c =
     ends_at (parameter_coding _) _ _ _ (omega arith) (omega arith)
     (λ p rest s. ((parameter_bytes _ _ _ p rest s).uninstantiated (omega arith)).1)
-    (_, uninstantiated_stands _ _ _ (bytes (goal.at.returns-then-kind-eq0 c).After-shared_slice_known-2-1) (omega arith) (omega arith) (omega arith))
+    (_, uninstantiated_stands _ _ _ (λ i. omega (arith, c.type_inv.code i)) (omega arith) (omega arith) (omega arith))
 
 pub returns : goal.returns
 returns c =
     ends_at (parameter_coding _) _ _ _ (omega arith) (omega arith)
     (λ p rest s. ((parameter_bytes _ _ _ p rest s).instantiated (omega arith)).2)
-    (_, instantiated_stands _ _ _ (bytes (goal.at.returns c).After-shared_slice_known-2-1) (omega arith) (omega arith) (omega arith))
+    (_, instantiated_stands _ _ _ (λ i. omega (arith, c.type_inv.code i)) (omega arith) (omega arith) (omega arith))
 
 pub returns-then-code-at-lt3 : goal.returns-then-code-at-lt3
 returns-then-code-at-lt3 c = no_parameter _ _ _ _ (omega arith) (λ p rest b. omega arith)

@@ -1,11 +1,9 @@
 -- The loop's invariant: a proposition stands from `at` on exactly where the needed ones stand from `i` on.
-use Prim.Native.Nat.{◌+◌, ◌-◌, ◌≤◌}
 use mathlib.Core.Path.{◌≡◌}
 use mathlib.Core.Logic.Iff
 use native.Mathlib.Omega.{arith}
-use lib.ListN.{length}
 use Rattle.prefix_code.proofs.Runs.{walk_end}
-use Rattle.prefix_code.proofs.Propositions.{Needed, Headed, headed, walk_head, walk_no_head}
+use Rattle.prefix_code.proofs.Propositions.{Headed, headed, walk_head, walk_no_head}
 use Rattle.prefix_code.proofs.scan.Goals as goal
 use Rattle.prefix_code.proofs.scan.Goals.{Else-code-end}
 

@@ -1,5 +1,7 @@
 -- The conclusion is opened, then its proposition, then its quantifier is tested.
 use native.Mathlib.Omega.{arith}
+use borrow.Author.Rules.{rules}
+use borrow.Author.Tests.{tests}
 use Rattle.proof_tree.proofs.Annotations.{Opened, no_datatype_judged, no_datatype, other_datatype, datatype, datatype_small}
 use Rattle.proof_tree.proofs.conclusion.datatype_label.Goals as goal
 use Rattle.proof_tree.proofs.conclusion.datatype_label.Goals.{After-shape_at}
@@ -18,9 +20,9 @@ pub shape_at-requires : goal.shape_at-requires
 shape_at-requires c =
     rw c.pair_offset-at.ensures (c.requires.1.stands _ c.in-PropIsTrue.is)
 
-pub returns-then-quantifier-ne-FOR_ALL : goal.returns-then-quantifier-ne-FOR_ALL
-returns-then-quantifier-ne-FOR_ALL c names m means =
-    other_datatype means (opened (goal.at.returns-then-quantifier-ne-FOR_ALL c).After-shape_at) c.in-Quantified.is c.if-quantifier-ne-FOR_ALL.true c.at-then-quantifier-ne-FOR_ALL.ensures
+pub returns-then-ne : goal.returns-then-ne
+returns-then-ne c names m means =
+    other_datatype means (opened (goal.at.returns-then-ne c).After-shape_at) c.in-Quantified.is (search (rules, tests)) c.at-then-ne.ensures
 
 pub overflow_cast-result-2 : goal.overflow_cast-result-2
 overflow_cast-result-2 c =
@@ -32,7 +34,7 @@ overflow_cast-result-2 c =
 
 pub returns : goal.returns
 returns c names m means =
-    datatype means (opened (goal.at.returns c).After-shape_at) _ c.in-Quantified.is c.if-quantifier-ne-FOR_ALL.false
+    datatype means (opened (goal.at.returns c).After-shape_at) _ c.in-Quantified.is (search (rules, tests))
 
 pub returns-in_default : goal.returns-in_default
 returns-in_default c names m means = no_datatype_judged means c.in_default.is c.at.ensures

@@ -1,4 +1,6 @@
 -- The conclusion is opened, then its proposition, then its connective is tested.
+use borrow.Author.Rules.{rules}
+use borrow.Author.Tests.{tests}
 use Rattle.proof_tree.proofs.Annotations.{Opened, no_left_judged, no_left, other_left, left_side, left_small}
 use Rattle.proof_tree.proofs.conclusion.left_label.Goals as goal
 use Rattle.proof_tree.proofs.conclusion.left_label.Goals.{After-shape_at}
@@ -17,9 +19,9 @@ pub shape_at-requires : goal.shape_at-requires
 shape_at-requires c =
     rw c.pair_offset-at.ensures (c.requires.1.stands _ c.in-PropIsTrue.is)
 
-pub returns-then-connective-ne-IMPL : goal.returns-then-connective-ne-IMPL
-returns-then-connective-ne-IMPL c names m means =
-    other_left means (opened (goal.at.returns-then-connective-ne-IMPL c).After-shape_at) c.in-Binary.is c.if-connective-ne-IMPL.true c.at-then-connective-ne-IMPL.ensures
+pub returns-then-ne : goal.returns-then-ne
+returns-then-ne c names m means =
+    other_left means (opened (goal.at.returns-then-ne c).After-shape_at) c.in-Binary.is (search (rules, tests)) c.at-then-ne.ensures
 
 pub overflow_cast-result-2 : goal.overflow_cast-result-2
 overflow_cast-result-2 c =
@@ -28,7 +30,7 @@ overflow_cast-result-2 c =
 
 pub returns : goal.returns
 returns c names m means =
-    left_side means (opened (goal.at.returns c).After-shape_at) _ c.in-Binary.is c.if-connective-ne-IMPL.false
+    left_side means (opened (goal.at.returns c).After-shape_at) _ c.in-Binary.is (search (rules, tests))
 
 pub returns-in_default : goal.returns-in_default
 returns-in_default c names m means = no_left_judged means c.in_default.is c.at.ensures
