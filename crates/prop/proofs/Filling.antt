@@ -1,5 +1,5 @@
 -- The ends of a proposition's parts are filled in one part after the other, and then its own: each leaves the earlier ones as they are.
-use Prim.Native.Nat.{ℕ, ◌+◌, ◌-◌, ◌≤◌, ◌<◌}
+use Prim.Native.Nat.{ℕ, suc, ◌+◌, ◌≤◌, ◌<◌}
 use mathlib.Core.Path.{◌≡◌, refl, ◌∙◌}
 use mathlib.Core.List.{List, [], ◌∷◌, ◌++◌, append_assoc}
 use native.Mathlib.Omega.{arith}
@@ -142,11 +142,11 @@ module _ (names : ℕ) (l : List ℕ) where
         go [] count b = absurd (omega arith)
         go (a ∷ todo) count b = let (rest, s) = b.row.0 in present names l i a rest s
 
-    pub filling_steps : {table : List ℕ} {j : ℕ} → 0 < needed → length table ≡ length ends → Filled (prop_at names l i) ends i table j
-        → Filling p at before table j (needed - 1)
-    filling_steps {table} {j} h size w = go f.todo f.count f.so_far
+    pub filling_steps : {table : List ℕ} {j more : ℕ} → needed ≡ suc more → length table ≡ length ends → Filled (prop_at names l i) ends i table j
+        → Filling p at before table j more
+    filling_steps {table} {j} {more} h size w = go f.todo f.count f.so_far
       where
-        go : (todo : List (Prop ℕ)) → length todo ≡ needed → Between p at before ends i todo → Filling p at before table j (needed - 1)
+        go : (todo : List (Prop ℕ)) → length todo ≡ needed → Between p at before ends i todo → Filling p at before table j more
         go [] count b = absurd (omega arith)
         go (a ∷ todo) count b =
             let (rest, s) = b.row.0 in

@@ -14,23 +14,10 @@ ghost use Rattle.prop.specs.Printing.{quantifier_head, prop_text, part_text, Ato
 
 use number::{number_at, pair_offset};
 use output::{put, put_all};
-use prefix_code::{head_end, parameter_end, parts_after};
+use prefix_code::{
+    AND, ATOM, FALSE, FOR_ALL, IMPL, OR, TRUE, head_end, parameter_end, parts_after,
+};
 use vocabulary::{Vocabulary, code_of, name};
-
-// Head bytes.
-const TRUE: u8 = 0;
-
-const FALSE: u8 = 1;
-
-const AND: u8 = 2;
-
-const OR: u8 = 3;
-
-const IMPL: u8 = 4;
-
-const ATOM: u8 = 5;
-
-const FOR_ALL: u8 = 6;
 
 // How strongly an atom binds, and an implication. An implication of ⊥ is printed as a negation, and binds as strongly as an atom.
 pub const ATOM_STRENGTH: usize = 999;
@@ -43,10 +30,8 @@ pub fn fill_ends(code: &[u8], at: usize, names: usize, ends: &mut [u16]) -> usiz
     ensures { Filled (prop_at names code.now at) ends.old at ends.new result }
 {
     let mut i = head_end(code, at, names);
-    let mut needed = parts_after(code[at]);
-    while 0 < needed {
+    for _ in 0..parts_after(code[at]) {
         i = fill_ends(code, i, names, ends);
-        needed -= 1;
     }
     ends[at] = i as u16;
     i
@@ -58,14 +43,13 @@ pub fn fill_all_ends(pairs: &[u8], code: &[u8], count: usize, names: usize, ends
     ensures { (i : ℕ) → i < count →
         Known names code.now ends.new (pair_offset pairs.now i) }
 {
-    let mut i = 0;
-    while i < count {
+    for i in 0..count {
         fill_ends(code, pair_offset(pairs, i), names, ends);
-        i += 1;
     }
 }
 
 // How strongly the proposition at `at` binds, whatever its names are.
+// The byte in front is all that this and the printing ask for at each part; a Shape would also read the numbers behind it.
 pub fn precedence(code: &[u8], ends: &[u16], at: usize) -> usize
     requires { Legible code.now ends.now at }
     ensures { (names : ℕ) (f : ℕ → Name) → Known names code.now ends.now at →
@@ -116,6 +100,7 @@ pub fn right_strength(head: u8) -> usize
 }
 
 // The bytes of a head's sign; blanks stand for an atom's, which has none.
+#[tactic(auto, unfolding(crate::specs::Printing::sign))]
 fn sign_of(head: u8) -> [u8; 3]
     requires { head < 8 }
     ensures { result ≡ sign head }
@@ -183,17 +168,16 @@ fn put_atom(out: &mut [u8], to: usize, bytes: &[u8], v: Vocabulary, at: usize, w
 {
     let code = code_of(bytes, v);
     let named = put_all(out, to, name(bytes, v, number_at(code, at + 1)), write);
-    let mut needed = code[at + 3];
-    if needed == 0 {
+    let count = code[at + 3];
+    if count == 0 {
         return named;
     }
     let mut end = put(out, named, b'(', write);
     let mut i = at + 4;
-    while 0 < needed {
+    for left in (0..count).rev() {
         end = put_all(out, end, name(bytes, v, number_at(code, i + 1)), write);
         i = parameter_end(code, i, v.name_count);
-        needed -= 1;
-        if 0 < needed {
+        if 0 < left {
             end = put_all(out, end, b", ", write);
         }
     }

@@ -20,22 +20,21 @@ pub fill_ends-requires : goal.fill_ends-requires
 fill_ends-requires c =
     let s = c.requires in
     let present = present_in _ _ _ _ (bytes (goal.at.fill_ends-requires c).At-loop-i) s.marks c.loop-i.i c.loop-i-test.true in
-    rw c.pair_offset.ensures (record { present = present; room = room_kept c.loop-i.invariant.1 s.room })
+    rw c.pair_offset.ensures (record { present = present; room = room_kept c.loop-i.invariant.0 s.room })
 
 pub loop-i-preserved : goal.loop-i-preserved
 loop-i-preserved c =
     let below = c.loop-i-test.true in
     let wrote = rw c.pair_offset.ensures at c.fill_ends.ensures in (
-      omega (arith, below),
-      c.fill_ends.auto.ends ∙ c.loop-i.invariant.1,
-      one_more _ _ _ _ (bytes (goal.at.loop-i-preserved c).At-loop-i) c.requires.marks c.loop-i.i _ _ _ below wrote c.loop-i.invariant.2,
+      c.fill_ends.auto.ends ∙ c.loop-i.invariant.0,
+      one_more _ _ _ _ (bytes (goal.at.loop-i-preserved c).At-loop-i) c.requires.marks c.loop-i.i _ _ _ below wrote c.loop-i.invariant.1,
     )
 
 pub loop-i-init : goal.loop-i-init
-loop-i-init c = (omega arith, refl, λ j h. absurd (omega arith))
+loop-i-init c = (refl, λ j h. absurd (omega arith))
 
 pub shape_of-ends : goal.shape_of-ends
-shape_of-ends c = c.loop-i.invariant.1
+shape_of-ends c = c.loop-i.invariant.0
 
 pub returns : goal.returns
-returns c i h = c.loop-i.invariant.2 i (omega (arith, c.loop-i-test.false))
+returns c i h = c.loop-i.invariant.1 i (omega (arith, c.loop-i-test.false))

@@ -1,6 +1,6 @@
 -- The loop's invariant: the propositions before number i have their ends in the table, and filling in those of number i
 -- keeps them.
-use Prim.Native.Nat.{ℕ, ◌-◌, ◌≤◌, ◌<◌}
+use Prim.Native.Nat.{ℕ, ◌<◌}
 use mathlib.Core.Path.{◌≡◌}
 use lib.ListN.{length}
 use Rattle.definitions.specs.Sheet.{pair_offset}
@@ -9,7 +9,4 @@ use Rattle.prop.proofs.fill_all_ends.Given as goal
 
 abbrev pub invariant-loop-i : goal.invariant-loop-i
 invariant-loop-i l =
-    (l.i ≤ l.count) × (length l.ends ≡ length l.initial.ends) × ((j : ℕ) → j < l.i → Known l.names l.code l.ends (pair_offset l.pairs j))
-
-abbrev pub decreases-loop-i : goal.decreases-loop-i
-decreases-loop-i l = l.count - l.i
+    (length l.ends ≡ length l.initial.ends) × ((j : ℕ) → j < l.i → Known l.names l.code l.ends (pair_offset l.pairs j))

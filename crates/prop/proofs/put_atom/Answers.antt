@@ -15,7 +15,7 @@ use Rattle.prop.proofs.Atoms.{NameAt, atom_name, bare_atom, full_atom, listing_s
 use Rattle.prop.proofs.Atoms.{listing_last, listing_comma, listing_ends}
 use Rattle.prop.proofs.Shown.{written_as}
 use Rattle.prop.proofs.put_atom.Goals as goal
-use Rattle.prop.proofs.put_atom.Goals.{After-code_of-code, In-loop-needed}
+use Rattle.prop.proofs.put_atom.Goals.{After-code_of-code, In-loop-left}
 
 -- the text of a proposition in some code, over the names of a memory
 abbrev text_in : List ℕ → Vocabulary → ℕ → List ℕ → List ℕ
@@ -42,8 +42,8 @@ unfolding prop_in
 shown c = let s = c.args in ap (text_in s.bytes.now s.v s.at) c.code_of-code.ensures
 
 -- a name stands at the parameter that is the next
-parameter : (c : In-loop-needed) → NameAt c.args.v.name_count c.code_of-code.result.now c.loop-needed.i 3
-parameter c = parameter_name_lem _ _ _ _ c.loop-needed.invariant c.loop-needed-test.true
+parameter : (c : In-loop-left) → NameAt c.args.v.name_count c.code_of-code.result.now c.loop-left.i 3
+parameter c = parameter_name_lem _ _ _ _ c.loop-left.invariant c.loop-left-test.true
 
 pub number_at-requires : goal.number_at-requires
 number_at-requires c = omega (arith, its_name (goal.at.number_at-requires c).After-code_of-code)
@@ -54,64 +54,64 @@ name-requires c = c.requires.named _ (rw c.number_at.ensures.0 (its_name (goal.a
 pub bounds-code-at : goal.bounds-code-at
 bounds-code-at c = omega (arith, its_name (goal.at.bounds-code-at c).After-code_of-code)
 
-pub returns-then-needed-eq0 : goal.returns-then-needed-eq0
-returns-then-needed-eq0 c =
-    let here = (goal.at.returns-then-needed-eq0 c).After-code_of-code in
+pub returns-then-count-eq0 : goal.returns-then-count-eq0
+returns-then-count-eq0 c =
+    let here = (goal.at.returns-then-count-eq0 c).After-code_of-code in
     rw (
-      ← (bare_atom _ _ _ _ (present here) (byte here) c.if-needed-eq0.true ∙ shown here),
+      ← (bare_atom _ _ _ _ (present here) (byte here) c.if-count-eq0.true ∙ shown here),
       ← c.number_at.ensures.0,
       ← c.name.ensures,
     )
     c.put_all-named.ensures
 
-pub shape_of-out-then-needed-eq0 : goal.shape_of-out-then-needed-eq0
-shape_of-out-then-needed-eq0 c = same_length (returns-then-needed-eq0 c)
+pub shape_of-out-then-count-eq0 : goal.shape_of-out-then-count-eq0
+shape_of-out-then-count-eq0 c = same_length (returns-then-count-eq0 c)
 
 pub overflow_add-i : goal.overflow_add-i
 overflow_add-i c = omega (arith, its_name (goal.at.overflow_add-i c).After-code_of-code)
 
-pub loop-needed-init : goal.loop-needed-init
-loop-needed-init c =
-    let here = (goal.at.loop-needed-init c).After-code_of-code in
+pub loop-left-init : goal.loop-left-init
+loop-left-init c =
+    let here = (goal.at.loop-left-init c).After-code_of-code in
     listing_starts _ _ _ _ (present here) (byte here) _ _ _
 
-pub overflow_add-i-in-loop-needed : goal.overflow_add-i-in-loop-needed
-overflow_add-i-in-loop-needed c = omega (arith, parameter (goal.at.overflow_add-i-in-loop-needed c).In-loop-needed)
+pub overflow_add-i-in-loop-left : goal.overflow_add-i-in-loop-left
+overflow_add-i-in-loop-left c = omega (arith, parameter (goal.at.overflow_add-i-in-loop-left c).In-loop-left)
 
-pub number_at-requires-in-loop-needed : goal.number_at-requires-in-loop-needed
-number_at-requires-in-loop-needed c = omega (arith, parameter (goal.at.number_at-requires-in-loop-needed c).In-loop-needed)
+pub number_at-requires-in-loop-left : goal.number_at-requires-in-loop-left
+number_at-requires-in-loop-left c = omega (arith, parameter (goal.at.number_at-requires-in-loop-left c).In-loop-left)
 
-pub name-requires-in-loop-needed : goal.name-requires-in-loop-needed
-name-requires-in-loop-needed c =
+pub name-requires-in-loop-left : goal.name-requires-in-loop-left
+name-requires-in-loop-left c =
     c.requires.named _
-    (rw c.number_at-in-loop-needed.ensures.0 (parameter (goal.at.name-requires-in-loop-needed c).In-loop-needed).below)
+    (rw c.number_at-in-loop-left.ensures.0 (parameter (goal.at.name-requires-in-loop-left c).In-loop-left).below)
 
 pub parameter_end-i-requires : goal.parameter_end-i-requires
-parameter_end-i-requires c = omega (arith, parameter (goal.at.parameter_end-i-requires c).In-loop-needed)
+parameter_end-i-requires c = omega (arith, parameter (goal.at.parameter_end-i-requires c).In-loop-left)
 
-pub loop-needed-preserved-then-needed-gt0 : goal.loop-needed-preserved-then-needed-gt0
-loop-needed-preserved-then-needed-gt0 c =
-    let is = c.name-in-loop-needed.ensures ∙ ap (name_in _ _) c.number_at-in-loop-needed.ensures.0 in
-    listing_comma _ _ _ _ c.loop-needed.invariant c.loop-needed-test.true c.parameter_end-i.ensures
-    (written_as is c.put_all-end.ensures) c.if-needed-gt0.true c.put_all-end-then-needed-gt0.ensures
+pub loop-left-preserved-then-left-gt0 : goal.loop-left-preserved-then-left-gt0
+loop-left-preserved-then-left-gt0 c =
+    let is = c.name-in-loop-left.ensures ∙ ap (name_in _ _) c.number_at-in-loop-left.ensures.0 in
+    listing_comma _ _ _ _ c.loop-left.invariant c.loop-left-test.true c.parameter_end-i.ensures
+    (written_as is c.put_all-end.ensures) c.if-left-gt0.true c.put_all-end-then-left-gt0.ensures
 
-pub loop-needed-preserved : goal.loop-needed-preserved
-loop-needed-preserved c =
-    let is = c.name-in-loop-needed.ensures ∙ ap (name_in _ _) c.number_at-in-loop-needed.ensures.0 in
-    listing_last _ _ _ _ c.loop-needed.invariant c.loop-needed-test.true c.parameter_end-i.ensures
-    (written_as is c.put_all-end.ensures) c.if-needed-gt0.false
+pub loop-left-preserved : goal.loop-left-preserved
+loop-left-preserved c =
+    let is = c.name-in-loop-left.ensures ∙ ap (name_in _ _) c.number_at-in-loop-left.ensures.0 in
+    listing_last _ _ _ _ c.loop-left.invariant c.loop-left-test.true c.parameter_end-i.ensures
+    (written_as is c.put_all-end.ensures) c.if-left-gt0.false
 
 pub returns : goal.returns
 returns c =
     let here = (goal.at.returns c).After-code_of-code in
     rw (
-      ← (full_atom _ _ _ _ (present here) (byte here) c.if-needed-eq0.false ∙ shown here),
+      ← (full_atom _ _ _ _ (present here) (byte here) c.if-count-eq0.false ∙ shown here),
       ← c.number_at.ensures.0,
       ← c.name.ensures,
     )
     (then c.put_all-named.ensures
     (then c.put-end.ensures
-    (then (listing_ends _ _ _ _ c.loop-needed.invariant c.loop-needed-test.false) c.put.ensures)))
+    (then (listing_ends _ _ _ _ c.loop-left.invariant c.loop-left-test.false) c.put.ensures)))
 
 pub shape_of-out : goal.shape_of-out
 shape_of-out c = same_length (returns c)

@@ -3,9 +3,6 @@ use Rattle.vocabulary.specs.Vocabulary.{name_in}
 use Rattle.prop.proofs.Atoms.{Listing}
 use Rattle.prop.proofs.put_atom.Given as goal
 
-abbrev pub invariant-loop-needed : goal.invariant-loop-needed
-invariant-loop-needed l =
-    Listing (name_in l.bytes l.v) l.v.name_count l.code l.at l.write l.initial.out l.initial.end l.out l.i l.end l.needed
-
-abbrev pub decreases-loop-needed : goal.decreases-loop-needed
-decreases-loop-needed l = l.needed
+abbrev pub invariant-loop-left : goal.invariant-loop-left
+invariant-loop-left l =
+    Listing (name_in l.bytes l.v) l.v.name_count l.code l.at l.write l.initial.out l.initial.end l.out l.i l.end l.left
