@@ -1,5 +1,5 @@
 -- The length of an atom's text is summed up parameter by parameter.
-use Prim.Native.Nat.{ℕ, ◌+◌, ◌*◌, ◌-◌, ◌≤◌, ◌<◌}
+use Prim.Native.Nat.{ℕ, suc, ◌+◌, ◌*◌, ◌-◌, ◌≤◌, ◌<◌}
 use mathlib.Core.Path.{◌≡◌, ap, ◌∙◌}
 use mathlib.Core.List.{List, ◌++◌}
 use native.Mathlib.Omega.{arith}
@@ -58,17 +58,18 @@ module _ (f : ℕ → Name) (names : ℕ) (l : List ℕ) (at : ℕ) where
       pub below : number_at l (i + 1) < names
       below = rw is_name (parameter_bytes names l i next.parameter (encode_parameters next.others ++ s.rest) next.first).below
 
-      pub sums_on : {r j : ℕ} → NameLength (f (number_at l (i + 1))) r → Ends (parameter_coding names) l i j → Summing (sum + (2 + r)) j (needed - 1)
+      pub sums_on : {r j more : ℕ} → needed ≡ suc more → NameLength (f (number_at l (i + 1))) r → Ends (parameter_coding names) l i j → Summing (sum + (2 + r)) j more
       unfolding lengths.parameter_sum
-      sums_on {r} {j} name ends =
+      sums_on {r} {j} {more} counted name ends =
           let here : j ≡ i + length (encode_parameter next.parameter) = ends.found next.parameter _ next.first in
+          let left : needed - 1 ≡ more = omega arith in
           let named : r ≡ length (f (parameter_name next.parameter)) = name.is ∙ ap (λ n. length (f n)) is_name in
           let split : lengths.parameter_sum f s.todo ≡ 2 + length (f (parameter_name next.parameter)) + lengths.parameter_sum f next.others
           = ap (lengths.parameter_sum f) next.is in
           record {
             todo = next.others;
             rest = s.rest;
-            stands = rw here next.stands;
+            stands = rw (here, ← left) next.stands;
             whole = omega (arith, s.whole);
             small = omega (arith, s.small, name.small);
           }

@@ -38,12 +38,10 @@ fn atom_length(bytes: &[u8], v: Vocabulary, at: usize) -> usize
 {
     let code = code_of(bytes, v);
     let mut length = name_length(bytes, v, number_at(code, at + 1));
-    let mut needed = code[at + 3];
     let mut i = at + 4;
-    while 0 < needed {
+    for _ in 0..code[at + 3] {
         length += BRACKETS + name_length(bytes, v, number_at(code, i + 1));
         i = parameter_end(code, i, v.name_count);
-        needed -= 1;
     }
     length
 }

@@ -1,5 +1,5 @@
 -- The loop's invariant: so much is summed up, and the parameters from i on are still to be added.
-use Prim.Native.Nat.{ℕ, ◌+◌}
+use Prim.Native.Nat.{ℕ, ◌+◌, ◌-◌}
 use mathlib.Core.Path.{◌≡◌, ap, ◌∙◌}
 use mathlib.Core.List.{List}
 use native.Mathlib.Omega.{arith}
@@ -45,8 +45,8 @@ pub name_length-length-requires : goal.name_length-length-requires
 name_length-length-requires c =
     c.requires.named _ (rw c.number_at.ensures.0 (its_name (goal.at.name_length-length-requires c).After-code_of-code).below)
 
-pub overflow_add-needed : goal.overflow_add-needed
-overflow_add-needed c = omega (arith, its_name (goal.at.overflow_add-needed c).After-code_of-code)
+pub overflow_add-end : goal.overflow_add-end
+overflow_add-end c = omega (arith, its_name (goal.at.overflow_add-end c).After-code_of-code)
 
 pub bounds-code-at : goal.bounds-code-at
 bounds-code-at c = omega (arith, its_name (goal.at.bounds-code-at c).After-code_of-code)
@@ -54,36 +54,38 @@ bounds-code-at c = omega (arith, its_name (goal.at.bounds-code-at c).After-code_
 pub overflow_add-i : goal.overflow_add-i
 overflow_add-i c = omega (arith, its_name (goal.at.overflow_add-i c).After-code_of-code)
 
-pub loop-needed-init : goal.loop-needed-init
-loop-needed-init c =
-    let here = goal.at.loop-needed-init c in
-    summing.sums_from _ _ _ _ (present here.After-code_of-code) (byte here.After-code_of-code) (first_length here.After-name_length-length)
+pub loop-init : goal.loop-init
+loop-init c =
+    let here = goal.at.loop-init c in
+    let count : ℕ = get_or c.code_of-code.result.now (c.args.at + 3) 0 in
+    let all : count - 0 ≡ count = omega arith in
+    rw all (summing.sums_from _ _ _ _ (present here.After-code_of-code) (byte here.After-code_of-code) (first_length here.After-name_length-length))
 
-pub overflow_add-i-in-loop-needed : goal.overflow_add-i-in-loop-needed
-overflow_add-i-in-loop-needed c = omega (arith, summing.inside _ _ _ _ c.loop-needed.invariant c.loop-needed-test.true)
+pub overflow_add-i-in-loop : goal.overflow_add-i-in-loop
+overflow_add-i-in-loop c = omega (arith, summing.inside _ _ _ _ c.loop.invariant (omega arith))
 
-pub number_at-requires-in-loop-needed : goal.number_at-requires-in-loop-needed
-number_at-requires-in-loop-needed c = omega (arith, summing.inside _ _ _ _ c.loop-needed.invariant c.loop-needed-test.true)
+pub number_at-requires-in-loop : goal.number_at-requires-in-loop
+number_at-requires-in-loop c = omega (arith, summing.inside _ _ _ _ c.loop.invariant (omega arith))
 
 pub name_length-requires : goal.name_length-requires
 name_length-requires c =
     c.requires.named _
-    (rw c.number_at-in-loop-needed.ensures.0 (summing.below _ _ _ _ c.loop-needed.invariant c.loop-needed-test.true))
+    (rw c.number_at-in-loop.ensures.0 (summing.below _ _ _ _ c.loop.invariant (omega arith)))
 
 pub overflow_add-length : goal.overflow_add-length
 overflow_add-length c = omega (arith, c.name_length.ensures.small)
 
-pub overflow_add-length-in-loop-needed : goal.overflow_add-length-in-loop-needed
-overflow_add-length-in-loop-needed c = omega (arith, c.name_length.ensures.small, c.loop-needed.invariant.small)
+pub overflow_add-length-in-loop : goal.overflow_add-length-in-loop
+overflow_add-length-in-loop c = omega (arith, c.name_length.ensures.small, c.loop.invariant.small)
 
 pub parameter_end-i-requires : goal.parameter_end-i-requires
-parameter_end-i-requires c = omega (arith, summing.inside _ _ _ _ c.loop-needed.invariant c.loop-needed-test.true)
+parameter_end-i-requires c = omega (arith, summing.inside _ _ _ _ c.loop.invariant (omega arith))
 
-pub loop-needed-preserved : goal.loop-needed-preserved
-loop-needed-preserved c =
-    let is = rw c.number_at-in-loop-needed.ensures.0 at c.name_length.ensures in
-    summing.sums_on _ _ _ _ c.loop-needed.invariant c.loop-needed-test.true is c.parameter_end-i.ensures
+pub loop-preserved : goal.loop-preserved
+loop-preserved c =
+    let is = rw c.number_at-in-loop.ensures.0 at c.name_length.ensures in
+    summing.sums_on _ _ _ _ c.loop.invariant (omega arith) (omega arith) is c.parameter_end-i.ensures
 
 pub returns : goal.returns
 unfolding prop_in
-returns c = rw (← c.code_of-code.ensures) (summing.summed _ _ _ _ c.loop-needed.invariant c.loop-needed-test.false)
+returns c = rw (← c.code_of-code.ensures) (summing.summed _ _ _ _ c.loop.invariant (omega arith))
