@@ -1,14 +1,13 @@
 -- The entries of the propositions in a row, and what a walk over the heads says of them. An entry is the number of a name and a count:
 -- an atom's parameter count, and 0 for a datatype.
-use Rattle.std.specs.Prelude.{ℕ, ◌≤◌, ◌<◌, ◌≡◌, Bool, true, get_or, eqb, ltb}
+use Rattle.std.specs.Prelude.{ℕ, ◌≤◌, ◌<◌, ◌≡◌, Bool, true, get_or, eqb, ltb, Option, None, Some}
 use mathlib.Core.List.{List, [], ◌∷◌, map, flat_map}
 use Rattle.definitions.specs.declared.TermList.{TermList}
 use Rattle.definitions.specs.declared.TermList.TheVariants.{Atoms, Datatypes}
 use Rattle.definitions.specs.Prop.{Prop, AtomUse, get_atoms, get_datatypes}
 use Rattle.definitions.specs.Code.{parameter_limit}
 use Rattle.definitions.specs.Answers.{atom_numbers}
-use Rattle.prop_lists.specs.declared.NextEntry.{NextEntry}
-use Rattle.prop_lists.specs.declared.NextEntry.TheVariants.{Entry, End}
+use Rattle.prop_lists.specs.declared.Entry.{Entry}
 use Rattle.prop_lists.specs.Row.{Row, propositions_from}
 
 abbrev pub use_of : ℕ → ℕ → AtomUse ℕ
@@ -63,7 +62,7 @@ module _ (names : ℕ) where
       pub bounds : Bounds e
       pub adds : entries_from list code at end ≡ e ∷ entries_from list code next end
 
-    -- the answers of the walk: an entry, or the end, where none is left
-    abbrev pub GivesEntry : NextEntry → Type 0
-    GivesEntry (Entry name count next) = FirstEntry (use_of name count) next
-    GivesEntry End = entries_from list code at end ≡ []
+    -- the answers of the walk: an entry, or none where none is left
+    abbrev pub GivesEntry : Option Entry → Type 0
+    GivesEntry (Some e) = FirstEntry (use_of e.name e.count) e.next
+    GivesEntry None = entries_from list code at end ≡ []

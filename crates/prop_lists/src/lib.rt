@@ -11,31 +11,30 @@ ghost use Rattle.prop_lists.specs.Entries.{use_of, entries, entry_numbers, has_e
 use definitions::TermList;
 use number::number_at;
 use output::put;
-use prefix_code::{head_end, scan};
+use prefix_code::{ATOM, head_end, scan};
 use vocabulary::{Vocabulary, code_of};
 
-// The next entry of a list: the number of a name, an atom's parameter count or 0 for a datatype, and the position after its head.
-#[derive(Drop)]
-pub enum NextEntry {
-    Entry {
-        name: usize,
-        count: usize,
-        next: usize,
-    },
-    End,
+// An entry of a list: the number of a name, an atom's parameter count or 0 for a datatype, and the position after its head.
+#[derive(Clone, Copy)]
+pub struct Entry {
+    pub name: usize,
+    pub count: usize,
+    pub next: usize,
 }
 
 // Has a head with this byte an entry in the list?
+#[tactic(auto, unfolding(crate::specs::Entries::has_entry))]
 fn has_entry(list: TermList, head: u8) -> bool
     ensures { result ≡ has_entry list head }
 {
     match list {
-        TermList::Atoms => head == 5,
-        TermList::Datatypes(_) => 5 < head,
+        TermList::Atoms => head == ATOM,
+        TermList::Datatypes(_) => ATOM < head,
     }
 }
 
-// The position of the next head with an entry, at or after `at`, and `end` if there is none before it.
+// The position of the next head with an entry, at or after `at`, and `end` if there is none before it. A head's bytes say how far the
+// next one is, so no range counts the turns.
 fn next_head(code: &[u8], at: usize, end: usize, names: usize, list: TermList) -> usize
     requires { Row names code.now at end }
     ensures { NextHead names list code.now at end result }
@@ -50,30 +49,30 @@ fn next_head(code: &[u8], at: usize, end: usize, names: usize, list: TermList) -
     i
 }
 
-// The next entry at or after `at`, before `end`: an atom's name and count stand behind its byte, a datatype's name behind the
+// The next entry at or after `at`, before `end`, if there is one: an atom's name and count stand behind its byte, a datatype's name behind the
 // object's.
-pub fn next_entry(code: &[u8], at: usize, end: usize, names: usize, list: TermList) -> NextEntry
+pub fn next_entry(code: &[u8], at: usize, end: usize, names: usize, list: TermList) -> Option<Entry>
     requires { Row names code.now at end }
     ensures { GivesEntry names list code.now at end result }
 {
     let i = next_head(code, at, end, names, list);
     if end <= i {
-        return NextEntry::End;
+        return None;
     }
     match list {
         TermList::Atoms => {
             let next = head_end(code, i, names);
             let name = number_at(code, i + 1);
             let count = code[i + 3] as usize;
-            NextEntry::Entry { name, count, next }
+            Some(Entry { name, count, next })
         }
         TermList::Datatypes(_) => {
             let name = number_at(code, i + 3);
-            NextEntry::Entry {
+            Some(Entry {
                 name,
                 count: 0,
                 next: i + 5,
-            }
+            })
         }
     }
 }
@@ -121,11 +120,9 @@ pub fn put_entries(
     let end = scan(code, at, names);
     let mut i = at;
     let mut position = to;
-    loop {
-        let NextEntry::Entry { name, count, next } = next_entry(code, i, end, names, list) else {
-            return position;
-        };
-        position = put_entry(list, name, count, out, position, write);
-        i = next;
+    while let Some(entry) = next_entry(code, i, end, names, list) {
+        position = put_entry(list, entry.name, entry.count, out, position, write);
+        i = entry.next;
     }
+    position
 }

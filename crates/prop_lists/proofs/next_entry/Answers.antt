@@ -3,7 +3,6 @@ use Prim.Native.Nat.{ℕ, ◌+◌, ◌≤◌}
 use mathlib.Core.Path.{◌≡◌}
 use native.Mathlib.Omega.{arith}
 use lib.ListN.{length}
-use borrow.Author.Rules.{rules}
 use Rattle.definitions.specs.declared.TermList.{TermList}
 use Rattle.prop_lists.specs.Entries.{FirstEntry}
 use Rattle.prop_lists.proofs.Rows.{HeadEnds}

@@ -1,10 +1,6 @@
 -- The loop's invariant: no entry stands before `i`.
-use Prim.Native.Nat.{◌-◌, ◌<◌}
-use mathlib.Core.Path.{sym, ◌∙◌}
-use native.Mathlib.Omega.{arith}
-use borrow.Author.Rules.{rules}
+use Prim.Native.Nat.{◌-◌}
 use Rattle.prop_lists.specs.Entries.{Passed}
-use Rattle.prop_lists.proofs.Walks.{walk_start, walk_on}
 use Rattle.prop_lists.proofs.next_head.Given as goal
 
 abbrev pub invariant-loop-i : goal.invariant-loop-i

@@ -1,5 +1,4 @@
 -- The name, and then the count of an atom.
-use borrow.Author.Rules.{rules}
 use Rattle.definitions.specs.Answers.{atom_numbers}
 use Rattle.output.proofs.Writing as writing
 use Rattle.prop_lists.specs.Entries.{entry_numbers}
