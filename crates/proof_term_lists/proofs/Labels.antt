@@ -22,7 +22,7 @@ use Rattle.proof_term.specs.Labels.{has_label, of_own_label, of_record, of_recor
 use Rattle.proof_term.proofs.Labels.{in_order, records_more}
 use Rattle.prop_lists.specs.Entries.{use_of, datatype_uses}
 use Rattle.proof_term_lists.specs.declared.Added.{Added}
-use Rattle.proof_term_lists.specs.declared.Added.TheVariants.{Nothing, Datatype, Proposition}
+use Rattle.proof_term_lists.specs.declared.Added.TheVariants.{Datatype, Proposition}
 use Rattle.proof_term_lists.specs.Labels.{label_uses, term_uses, proposition_adds, label_adds, record_adds, added_uses, AddedStands, Listable, term_in}
 
 module _ (bytes : List ℕ) (v : Vocabulary) where
@@ -39,7 +39,7 @@ module _ (bytes : List ℕ) (v : Vocabulary) where
   unfolding record_adds of_own_label
   record_adds_lem list records m = go (has_label (field_at records m 0) (field_at records m 3))
     where
-      go : (b : Bool) → added_uses bytes v list (cond b (label_adds list (field_at records m 3) (field_at records m 4)) Nothing)
+      go : (b : Bool) → added_uses bytes v list (cond b (label_adds list (field_at records m 3) (field_at records m 4)) None)
           ≡ cond b (label_uses list (label_of (prop_in bytes v) (field_at records m 3) (field_at records m 4))) []
       go true = label_adds_lem list (field_at records m 3) (field_at records m 4)
       go false = refl
@@ -52,7 +52,7 @@ module _ (bytes : List ℕ) (v : Vocabulary) where
   unfolding of_records
   uses_none list records = refl
 
-  pub uses_more : (list : TermList) (records : List ℕ) (m : ℕ) {added : Added} → added ≡ record_adds list records m
+  pub uses_more : (list : TermList) (records : List ℕ) (m : ℕ) {added : Option Added} → added ≡ record_adds list records m
       → uses_below list records (m + 1) ≡ uses_below list records m ++ added_uses bytes v list added
   uses_more list records m is =
       records_more (label_uses list) (prop_in bytes v) records m
@@ -61,10 +61,10 @@ module _ (bytes : List ℕ) (v : Vocabulary) where
   -- what a label adds stands in the memory
   module _ (within : Within bytes v) (few : v.name_count ≤ 65536) (kind number : ℕ)
       (fits : LabelFits v.name_count (Present v.name_count (code_in bytes v)) kind number) where
-    name_stands : kind ≡ 2 → AddedStands bytes v (Datatype number)
+    name_stands : kind ≡ 2 → AddedStands bytes v (Some (Datatype number))
     name_stands is = let below = fits.datatype is in (below, omega arith)
 
-    proposition_stands : (kind ≡ 2 → ⊥) → AddedStands bytes v (Proposition number)
+    proposition_stands : (kind ≡ 2 → ⊥) → AddedStands bytes v (Some (Proposition number))
     proposition_stands other = record { within = within; present = fits.proposition other }
 
     label_stands : (list : TermList) → AddedStands bytes v (label_adds list kind number)
@@ -77,12 +77,12 @@ module _ (bytes : List ℕ) (v : Vocabulary) where
         by_cases (ℕ_discrete kind 2) (λ is. rw is (name_stands is)) (λ other. rw (ne_eqb kind 2 other) (proposition_stands other))
 
 module _ {bytes : List ℕ} {v : Vocabulary} {records : List ℕ} {n : ℕ} (here : Listable bytes v records n) (list : TermList) where
-  pub added_stands : (m : ℕ) {added : Added} → m ≤ n → added ≡ record_adds list records m → AddedStands bytes v added
+  pub added_stands : (m : ℕ) {added : Option Added} → m ≤ n → added ≡ record_adds list records m → AddedStands bytes v added
   unfolding record_adds
   added_stands m h is = rw is (go (has_label (field_at records m 0) (field_at records m 3)) refl)
     where
       go : (b : Bool) → has_label (field_at records m 0) (field_at records m 3) ≡ b
-          → AddedStands bytes v (cond b (label_adds list (field_at records m 3) (field_at records m 4)) Nothing)
+          → AddedStands bytes v (cond b (label_adds list (field_at records m 3) (field_at records m 4)) None)
       go true has = label_stands bytes v here.within here.few (field_at records m 3) (field_at records m 4) (here.labels m h has) list
       go false has = tt
 

@@ -1,5 +1,5 @@
 -- What the labels of a term in records add to a list, and what is asked of the labels.
-use Rattle.std.specs.Prelude.{ℕ, ◌+◌, ◌*◌, ◌≤◌, ◌<◌, cond, List, [], ◌∷◌, length, eqb}
+use Rattle.std.specs.Prelude.{ℕ, ◌+◌, ◌*◌, ◌≤◌, ◌<◌, cond, List, [], ◌∷◌, length, eqb, Option, None, Some}
 use Rattle.definitions.specs.declared.Version.{Version}
 use Rattle.definitions.specs.declared.Version.TheVariants.{First, Second, Third}
 use Rattle.definitions.specs.declared.TermList.{TermList}
@@ -13,7 +13,7 @@ use Rattle.proof_term.specs.Records.{record_size, field_at, term_at}
 use Rattle.proof_term.specs.Labels.{has_label, InOrder, LabelsFit}
 use Rattle.prop_lists.specs.Entries.{use_of, datatype_uses, entries}
 use Rattle.proof_term_lists.specs.declared.Added.{Added}
-use Rattle.proof_term_lists.specs.declared.Added.TheVariants.{Nothing, Datatype, Proposition}
+use Rattle.proof_term_lists.specs.declared.Added.TheVariants.{Datatype, Proposition}
 
 -- what a label adds to a list
 unfoldable pub label_uses : TermList → Label ℕ → List (AtomUse ℕ)
@@ -26,33 +26,33 @@ term_uses list t = of_labels (label_uses list) t
 
 -- what a label adds, by its kind and its number: a label of kind 2 is a datatype, any other a proposition, whose datatypes are listed
 -- in versions 2 and 3 only
-unfoldable pub proposition_adds : Version → ℕ → Added
-proposition_adds First number = Nothing
-proposition_adds Second number = Proposition number
-proposition_adds Third number = Proposition number
+unfoldable pub proposition_adds : Version → ℕ → Option Added
+proposition_adds First number = None
+proposition_adds Second number = Some (Proposition number)
+proposition_adds Third number = Some (Proposition number)
 
-unfoldable pub label_adds : TermList → ℕ → ℕ → Added
-label_adds Atoms kind number = cond (eqb kind 2) Nothing (Proposition number)
-label_adds (Datatypes v) kind number = cond (eqb kind 2) (Datatype number) (proposition_adds v number)
+unfoldable pub label_adds : TermList → ℕ → ℕ → Option Added
+label_adds Atoms kind number = cond (eqb kind 2) None (Some (Proposition number))
+label_adds (Datatypes v) kind number = cond (eqb kind 2) (Some (Datatype number)) (proposition_adds v number)
 
 -- what the label of record m adds, if it has one
-unfoldable pub record_adds : TermList → List ℕ → ℕ → Added
+unfoldable pub record_adds : TermList → List ℕ → ℕ → Option Added
 record_adds list records m =
-    cond (has_label (field_at records m 0) (field_at records m 3)) (label_adds list (field_at records m 3) (field_at records m 4)) Nothing
+    cond (has_label (field_at records m 0) (field_at records m 3)) (label_adds list (field_at records m 3) (field_at records m 4)) None
 
 -- In a memory with a vocabulary:
 module _ (bytes : List ℕ) (v : Vocabulary) where
   -- the entries of what is added
-  abbrev pub added_uses : TermList → Added → List (AtomUse ℕ)
-  added_uses list Nothing = []
-  added_uses list (Datatype name) = use_of name 0 ∷ []
-  added_uses list (Proposition at) = entries list (prop_in bytes v at)
+  abbrev pub added_uses : TermList → Option Added → List (AtomUse ℕ)
+  added_uses list None = []
+  added_uses list (Some (Datatype name)) = use_of name 0 ∷ []
+  added_uses list (Some (Proposition at)) = entries list (prop_in bytes v at)
 
   -- it has a name there, or a proposition
-  abbrev pub AddedStands : Added → Type 0
-  AddedStands Nothing = Unit {0}
-  AddedStands (Datatype name) = (name < v.name_count) × (name < 65536)
-  AddedStands (Proposition at) = SomeProposition bytes v at
+  abbrev pub AddedStands : Option Added → Type 0
+  AddedStands None = Unit {0}
+  AddedStands (Some (Datatype name)) = (name < v.name_count) × (name < 65536)
+  AddedStands (Some (Proposition at)) = SomeProposition bytes v at
 
   -- the term that record n holds
   abbrev pub term_in : List ℕ → ℕ → ProofTerm ℕ

@@ -14,42 +14,42 @@ use proof_term::{DATATYPE, field, has_label};
 use prop_lists::{put_entries, put_entry};
 use vocabulary::Vocabulary;
 
-// What a label adds to a list: nothing, a datatype by the number of its name, or the entries of the proposition at an offset of the
+// What a label adds to a list, if anything: a datatype by the number of its name, or the entries of the proposition at an offset of the
 // code.
-#[derive(Drop)]
+#[derive(Clone, Copy)]
 pub enum Added {
-    Nothing,
     Datatype(usize),
     Proposition(usize),
 }
 
 // What a label adds to a list, by its kind and its number. A datatype is no atom, and the datatypes of a proposition are listed in
 // versions 2 and 3 only.
-fn label_adds(kind: usize, number: usize, list: TermList) -> Added
+#[tactic(auto, unfolding(crate::specs::Labels::label_adds, crate::specs::Labels::proposition_adds))]
+fn label_adds(kind: usize, number: usize, list: TermList) -> Option<Added>
     ensures { result ≡ label_adds list kind number }
 {
     match list {
         TermList::Atoms => {
             if kind == DATATYPE {
-                return Added::Nothing;
+                return None;
             }
-            Added::Proposition(number)
+            Some(Added::Proposition(number))
         }
         TermList::Datatypes(version) => {
             if kind == DATATYPE {
-                return Added::Datatype(number);
+                return Some(Added::Datatype(number));
             }
             match version {
-                Version::First => Added::Nothing,
-                Version::Second => Added::Proposition(number),
-                Version::Third => Added::Proposition(number),
+                Version::First => None,
+                Version::Second | Version::Third => Some(Added::Proposition(number)),
             }
         }
     }
 }
 
 // What the label of a record adds to a list, and nothing where it has none.
-pub fn record_adds(term_records: &[u16], m: usize, list: TermList) -> Added
+#[tactic(auto, unfolding(crate::specs::Labels::record_adds))]
+pub fn record_adds(term_records: &[u16], m: usize, list: TermList) -> Option<Added>
     requires { record_size * (m + 1) ≤ length term_records.now }
     ensures { result ≡ record_adds list term_records.now m }
 {
@@ -57,12 +57,12 @@ pub fn record_adds(term_records: &[u16], m: usize, list: TermList) -> Added
     if has_label(field(term_records, m, 0), kind) {
         return label_adds(kind, field(term_records, m, 4), list);
     }
-    Added::Nothing
+    None
 }
 
 // Writes what a label adds to a list.
 fn put_added(
-    added: Added,
+    added: Option<Added>,
     list: TermList,
     bytes: &[u8],
     v: Vocabulary,
@@ -75,15 +75,9 @@ fn put_added(
         write out.old to out.new result }
 {
     match added {
-        Added::Nothing => {
-            return to;
-        }
-        Added::Datatype(name) => {
-            return put_entry(list, name, 0, out, to, write);
-        }
-        Added::Proposition(at) => {
-            return put_entries(bytes, v, at, list, out, to, write);
-        }
+        None => to,
+        Some(Added::Datatype(name)) => put_entry(list, name, 0, out, to, write),
+        Some(Added::Proposition(at)) => put_entries(bytes, v, at, list, out, to, write),
     }
 }
 

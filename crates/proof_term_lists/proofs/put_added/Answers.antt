@@ -4,20 +4,20 @@ use Rattle.output.proofs.Writing as writing
 use Rattle.proof_term_lists.proofs.Numbers.{no_numbers}
 use Rattle.proof_term_lists.proofs.put_added.Goals as goal
 
-pub returns-in-Nothing : goal.returns-in-Nothing
-returns-in-Nothing c = rw (c.in-Nothing.is, no_numbers) (writing.none _ _ _)
+pub returns-in-None : goal.returns-in-None
+returns-in-None c = rw (c.in-None.is, no_numbers) (writing.none _ _ _)
 
 pub put_entry-requires : goal.put_entry-requires
 put_entry-requires c =
-    let stands = rw c.in-Datatype.is at c.requires in
+    let stands = rw (c.in-Some-Datatype.is, rw c.in-Some-Datatype.is at c.in-Some-Datatype.field-0-is) at c.requires in
     (stands.1, search rules)
 
-pub returns-in-Datatype : goal.returns-in-Datatype
-returns-in-Datatype c = rw c.in-Datatype.is c.put_entry.ensures
+pub returns-in-Some-Datatype : goal.returns-in-Some-Datatype
+returns-in-Some-Datatype c = rw (c.in-Some-Datatype.is, rw c.in-Some-Datatype.is at c.in-Some-Datatype.field-0-is) c.put_entry.ensures
 
 pub put_entries-requires : goal.put_entries-requires
 put_entries-requires c =
-    rw c.in-Proposition.is at c.requires
+    rw (c.in-Some-Proposition.is, rw c.in-Some-Proposition.is at c.in-Some-Proposition.field-0-is) at c.requires
 
-pub returns-in-Proposition : goal.returns-in-Proposition
-returns-in-Proposition c = rw c.in-Proposition.is c.put_entries.ensures
+pub returns-in-Some-Proposition : goal.returns-in-Some-Proposition
+returns-in-Some-Proposition c = rw (c.in-Some-Proposition.is, rw c.in-Some-Proposition.is at c.in-Some-Proposition.field-0-is) c.put_entries.ensures
