@@ -1,8 +1,8 @@
 -- An atom: its name, and its parameters, perhaps none.
-use Prim.Native.Nat.{ℕ, ◌+◌, ◌≤◌, ◌<◌}
+use Prim.Native.Nat.{ℕ, ◌+◌}
 use mathlib.Core.Path.{◌≡◌, refl, sym, ap, ◌∙◌}
 use mathlib.Core.Bool.{Bool, false}
-use Rattle.std.specs.Prelude.{None, Some}
+use Rattle.std.specs.Prelude.{Option, None, Some}
 use mathlib.Core.List.{List, [], ◌∷◌, map}
 use native.Mathlib.Omega.{arith}
 use lib.ListN.{length, drop}
@@ -10,20 +10,18 @@ use Rattle.definitions.specs.Utf8.{utf8}
 use Rattle.definitions.specs.Name.{Name}
 use Rattle.definitions.specs.Prop.{Atom, PropParameter, parameter_name, rename_parameter, rename_prop, is_false, nesting}
 use Rattle.definitions.specs.Code.{yield, followed_by, ◌>>=◌, parameter_limit, u16, encode_parameters, encode}
-use Rattle.definitions.specs.Sheet.{name_limit}
 use Rattle.definitions.specs.TermText.{prop_names}
 use Rattle.definitions.specs.Display.{precedence}
-use Rattle.definitions.specs.TermReader.{standing, if_read, parameters_of}
+use Rattle.definitions.specs.TermReader.{expect, standing, if_read, parameters_of}
 use Rattle.definitions.proofs.Readings.{given}
 use Rattle.reading_laws.proofs.TermConventions.{gives_yield, gives_then}
 use Rattle.output.specs.Wrote.{puts}
 use Rattle.words.specs.Places.{Expected}
-use Rattle.words.specs.Table.{add_name, added, number_in, table_names, Table, NamePlace, Noted, NumberOf}
+use Rattle.words.specs.Table.{add_name, added, number_in, table_names, Table, NamePlace, Noted, TooMany, NumberOf}
 use Rattle.words.specs.declared.Numbered.{Numbered}
 use Rattle.words.proofs.Added.{noted_then, met_added}
 use Rattle.atom_reader.specs.declared.Place.{Place}
 use Rattle.atom_reader.specs.declared.ParametersRead.{ParametersRead}
-use Rattle.atom_reader.specs.declared.PropRead.{PropRead}
 use Rattle.atom_reader.specs.Reading.{Begins, parameters_from, parameter_code, parameter_bytes, ParametersAnswer, atom_from, atom_head, code_over, PropAnswer}
 use Rattle.atom_reader.proofs.Storing.{puts_nothing, puts_dry, stored_then, puts_front}
 use Rattle.atom_reader.proofs.Sizes.{atom_bytes}
@@ -36,29 +34,29 @@ unfolding added
 noted_none table = record { table = table; names = refl; kept = refl; more = omega arith }
 
 -- where the first parameter begins
-pub parameters_begin : {text pairs bound : List ℕ} {p : Place} {open' : ℕ} → Expected (utf8 "(") text p.at open' → Begins text pairs bound p 0 2 → open' ≤ length text
+pub parameters_begin : {text pairs bound : List ℕ} {p : Place} {open' : ℕ} → Expected (utf8 "(") text p.at open' → Begins text pairs bound p 0 2
     → Begins text pairs bound (record { at = open'; count = p.count; depth = p.depth; to = p.to }) 0 2
-parameters_begin bracket pre h = record {
+parameters_begin bracket pre = record {
   short = pre.short;
-  within = h;
+  within = bracket.within;
   table = pre.table;
-  near = omega (arith, pre.near, bracket.after h);
+  near = omega (arith, pre.near, bracket.after);
   deep = pre.deep;
   binds = pre.binds;
 }
 
 -- Whether a bracket follows the name.
-module _ (names : List Name) {text pairs code : List ℕ} {p : Place} {write : Bool} {open' : ℕ} (bracket : Expected (utf8 "(") text p.at open') where
-  pub no_parameters : {bound : List ℕ} → Begins text pairs bound p 0 2 → length text < open'
+module _ (names : List Name) {text pairs code : List ℕ} {p : Place} {write : Bool} where
+  pub no_parameters : {bound : List ℕ} → expect (utf8 "(") (drop p.at text) ≡ None → Begins text pairs bound p 0 2
       → ParametersAnswer (parameters_of names (drop p.at text)) parameter_limit 0 text pairs code p write pairs code
-      (record { end = p.at; parameters = 0; count = p.count; size = 0 })
+      (Some (record { end = p.at; parameters = 0; count = p.count; size = 0 }))
   unfolding parameters_of if_read yield parameter_code parameter_bytes encode_parameters
-  no_parameters pre h = record {
-    fails = λ l. absurd (omega (arith, pre.within));
-    gives = λ l. (
+  no_parameters e pre = record {
+    answer = (
       [],
-      rw (bracket.ends.fails h) refl,
+      rw e refl,
       record {
+        within = pre.within;
         noted = noted_none pre.table;
         stored = sym (puts_nothing write code p.to);
         count_is = refl;
@@ -71,29 +69,31 @@ module _ (names : List Name) {text pairs code : List ℕ} {p : Place} {write : B
     dry = λ l. refl;
   }
 
-  pub some_parameters : {after code' : List ℕ} {r : ParametersRead} → open' ≤ length text
+  pub some_parameters : {open' : ℕ} {after code' : List ℕ} (r : Option ParametersRead) → Expected (utf8 "(") text p.at open'
       → ParametersAnswer (parameters_from names parameter_limit (drop open' text)) parameter_limit 1 text pairs code
       (record { at = open'; count = p.count; depth = p.depth; to = p.to }) write after code' r
       → ParametersAnswer (parameters_of names (drop p.at text)) parameter_limit 0 text pairs code p write after code' r
   unfolding parameters_of parameters_from if_read
-  some_parameters h answer = record {
-    fails = λ l. rw (bracket.ends.gives h) (answer.fails l);
-    gives = λ l.
-        let (ps, reads, given) = answer.gives l in (
+  some_parameters None bracket answer = record { answer = rw bracket.reads answer.answer; dry = answer.dry }
+  some_parameters (Some r) bracket answer =
+      let (ps, reads, given) = answer.answer in
+      record {
+        answer = (
           ps,
-          rw (bracket.ends.gives h) reads,
+          rw bracket.reads reads,
           record {
+            within = given.within;
             noted = given.noted;
             stored = given.stored;
             count_is = given.count_is;
             size_is = given.size_is;
             few = given.few;
-            from = omega (arith, given.from, bracket.after h);
-            small = omega (arith, given.small, bracket.after h);
+            from = omega (arith, given.from, bracket.after);
+            small = omega (arith, given.small, bracket.after);
           },
         );
-    dry = answer.dry;
-  }
+        dry = answer.dry;
+      }
 
 -- the head of an atom, byte by byte
 pub head_stored : (write : Bool) (l : List ℕ) (to number parameters : ℕ) {one two three : List ℕ} → one ≡ puts write l to (5 ∷ [])
@@ -104,15 +104,15 @@ head_stored write l to number parameters first second third =
 
 -- where the parameters may begin
 pub atom_place : {a : Name} {end : ℕ} {text pairs bound after : List ℕ} {p : Place} {found : Numbered}
-    → NumberOf a text pairs p.count after found → found.number < name_limit → Begins text pairs bound p 0 0 → NamePlace text p.at end
+    → NumberOf a text pairs p.count after found → Begins text pairs bound p 0 0 → NamePlace text p.at end
     → Begins text after bound (record { at = end; count = found.count; depth = p.depth; to = p.to + 4 }) 0 2
-atom_place number below pre place = record {
+atom_place number pre place = record {
   short = pre.short;
   within = place.within;
-  table = (number.noted below).table;
+  table = number.noted.table;
   near = omega (arith, pre.near, place.some);
   deep = pre.deep;
-  binds = (pre.binds.0, binds_noted pre.binds.1 (number.noted below) refl);
+  binds = (pre.binds.0, binds_noted pre.binds.1 number.noted refl);
 }
 
 -- the name keeps its number
@@ -133,64 +133,61 @@ atom_stored write l to seen a ps e f first second =
     rw (length_renamed (number_in seen) ps, ← e, ← f, second, first) (puts_front write l to (atom_head _ _) (parameter_code seen ps))
 
 -- The name's number, and then the parameters.
+pub atom_full : (names : List Name) (a : Name) (end : ℕ) {text pairs bound code : List ℕ} {p : Place} {write : Bool} (after : List ℕ)
+    → TooMany a text pairs p.count → PropAnswer (atom_from names a (drop end text)) text pairs bound code p write after bound code None
+unfolding atom_from ◌>>=◌ prop_names added standing
+atom_full names a end {text} {pairs} {p = p} after full = record {
+  answer =
+      gives_then _ _ (parameters_of names (drop end text)) _ (gives_any _) λ ps u j.
+      gives_yield _ (standing false (Atom a ps)) u (crowded_first (table_names pairs text p.count) (a ∷ []) (map parameter_name ps) full);
+  bound_kept = refl;
+  dry = λ l. refl;
+}
+
 module _ (names : List Name) (a : Name) (end : ℕ) {text pairs bound code after : List ℕ} {p : Place} {write : Bool} {found : Numbered}
-    (number : NumberOf a text pairs p.count after found) where
-  pub atom_full : {r : PropRead} → name_limit ≤ found.number → length text < r.end
-      → PropAnswer (atom_from names a (drop end text)) text pairs bound code p write after bound code r
-  unfolding atom_from ◌>>=◌ prop_names added standing
-  atom_full full h = record {
-    fails = λ l.
-        gives_then _ _ (parameters_of names (drop end text)) _ (gives_any _) λ ps u j.
-        gives_yield _ (standing false (Atom a ps)) u (crowded_first (table_names pairs text p.count) (a ∷ []) (map parameter_name ps) (number.full full));
-    gives = λ l. absurd (omega arith);
+    (number : NumberOf a text pairs p.count after found) {after' code' : List ℕ} where
+  pub atom_not : ParametersAnswer (parameters_of names (drop end text)) parameter_limit 0 text after code
+      (record { at = end; count = found.count; depth = p.depth; to = p.to + 4 }) write after' code' None
+      → PropAnswer (atom_from names a (drop end text)) text pairs bound code p write after' bound code' None
+  unfolding atom_from ◌>>=◌ prop_names standing
+  atom_not read = record {
+    answer =
+        gives_then _ _ (parameters_of names (drop end text)) _ read.answer λ ps u j.
+        gives_yield _ (standing false (Atom a ps)) u
+        (crowded_second (table_names pairs text p.count) (a ∷ []) (map parameter_name ps) (rw number.noted.names at j));
     bound_kept = refl;
-    dry = λ l. refl;
+    dry = read.dry;
   }
 
-  module _ (below : found.number < name_limit) where
-    module _ {after' code' : List ℕ} {r : ParametersRead}
-        (read : ParametersAnswer (parameters_of names (drop end text)) parameter_limit 0 text after code
-        (record { at = end; count = found.count; depth = p.depth; to = p.to + 4 }) write after' code' r) where
-      pub atom_not : {q : PropRead} → length text < r.end → length text < q.end
-          → PropAnswer (atom_from names a (drop end text)) text pairs bound code p write after' bound code' q
-      unfolding atom_from ◌>>=◌ prop_names standing
-      atom_not h k = record {
-        fails = λ l.
-            gives_then _ _ (parameters_of names (drop end text)) _ (read.fails h) λ ps u j.
-            gives_yield _ (standing false (Atom a ps)) u
-            (crowded_second (table_names pairs text p.count) (a ∷ []) (map parameter_name ps) (rw (number.noted below).names at j));
-        gives = λ l. absurd (omega arith);
-        bound_kept = refl;
-        dry = read.dry;
-      }
-
-      module _ (h : r.end ≤ length text) {code'' : List ℕ} (headed : code'' ≡ puts write code' p.to (atom_head found.number r.parameters)) (place : NamePlace text p.at end) where
-        pub atom_given : PropAnswer (atom_from names a (drop end text)) text pairs bound code p write after' bound code''
-            (record { end = r.end; count = r.count; size = 4 + r.size; nesting = 1; strength = 999; bottom = false; own = false })
-        unfolding atom_from ◌>>=◌ followed_by yield prop_names nesting precedence is_false standing
-        atom_given =
-            let (ps, reads, given) = read.gives h in
+  module _ {r : ParametersRead} (read : ParametersAnswer (parameters_of names (drop end text)) parameter_limit 0 text after code
+      (record { at = end; count = found.count; depth = p.depth; to = p.to + 4 }) write after' code' (Some r))
+      {code'' : List ℕ} (headed : code'' ≡ puts write code' p.to (atom_head found.number r.parameters)) (place : NamePlace text p.at end) where
+    pub atom_given : PropAnswer (atom_from names a (drop end text)) text pairs bound code p write after' bound code''
+        (Some (record { end = r.end; count = r.count; size = 4 + r.size; nesting = 1; strength = 999; bottom = false; own = false }))
+    unfolding atom_from ◌>>=◌ followed_by yield prop_names nesting precedence is_false standing
+    atom_given =
+        let (ps, reads, given) = read.answer in
+        record {
+          answer = (
+            Atom a ps,
+            rw reads refl,
             record {
-              fails = λ l. absurd (omega arith);
-              gives = λ l. (
-                Atom a ps,
-                rw reads refl,
-                record {
-                  noted = noted_then (number.noted below) given.noted;
-                  stored = atom_stored write code p.to _ a ps
-                      (number_later a (table_names pairs text p.count) (map parameter_name ps) (number.number_is below)
-                      ∙ ap (λ seen. number_in seen a) (ap (λ seen. added seen (map parameter_name ps)) (sym (number.noted below).names) ∙ sym given.noted.names))
-                      given.count_is given.stored headed;
-                  measured = record {
-                    size_is = omega (arith, given.size_is, atom_bytes a ps);
-                    nesting_is = refl;
-                    strength_is = refl;
-                    bottom_is = refl;
-                  };
-                  from = omega (arith, place.some, given.from);
-                  small = omega (arith, place.some, given.small);
-                },
-              );
-              bound_kept = refl;
-              dry = λ l. headed ∙ (puts_dry write code' p.to _ l ∙ read.dry l);
-            }
+              within = given.within;
+              noted = noted_then number.noted given.noted;
+              stored = atom_stored write code p.to _ a ps
+                  (number_later a (table_names pairs text p.count) (map parameter_name ps) number.number_is
+                  ∙ ap (λ seen. number_in seen a) (ap (λ seen. added seen (map parameter_name ps)) (sym number.noted.names) ∙ sym given.noted.names))
+                  given.count_is given.stored headed;
+              measured = record {
+                size_is = omega (arith, given.size_is, atom_bytes a ps);
+                nesting_is = refl;
+                strength_is = refl;
+                bottom_is = refl;
+              };
+              from = omega (arith, place.some, given.from);
+              small = omega (arith, place.some, given.small);
+            },
+          );
+          bound_kept = refl;
+          dry = λ l. headed ∙ (puts_dry write code' p.to _ l ∙ read.dry l);
+        }

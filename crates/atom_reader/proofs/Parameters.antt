@@ -1,8 +1,8 @@
 -- The parameters of an atom, one after another.
-use Prim.Native.Nat.{ℕ, suc, ◌+◌, ◌≤◌, ◌<◌}
+use Prim.Native.Nat.{ℕ, suc, ◌+◌, ◌≤◌}
 use mathlib.Core.Path.{◌≡◌, refl, sym, ap, ◌∙◌}
 use mathlib.Core.Bool.{Bool, true, false, cond}
-use Rattle.std.specs.Prelude.{None}
+use Rattle.std.specs.Prelude.{Option, None, Some}
 use mathlib.Core.List.{List, [], ◌∷◌, ◌++◌, map, append-nil}
 use native.Mathlib.Omega.{arith}
 use lib.ListN.{length, drop, length-append}
@@ -21,7 +21,7 @@ use Rattle.words.specs.Places.{between, Expected}
 use Rattle.words.specs.Table.{added, number_in, table_names}
 use Rattle.words.proofs.Added.{noted_then}
 use Rattle.prop_parts.specs.declared.NameRead.{NameRead}
-use Rattle.prop_parts.specs.Found.{NameGiven, bound_numbers, BoundNumber, parameter_of, ParameterPut}
+use Rattle.prop_parts.specs.Found.{NameLacks, NameGiven, bound_numbers, BoundNumber, parameter_of, ParameterPut}
 use Rattle.atom_reader.specs.declared.Place.{Place}
 use Rattle.atom_reader.specs.declared.ParametersRead.{ParametersRead}
 use Rattle.atom_reader.specs.Scope.{Met, Binds}
@@ -53,17 +53,14 @@ parameter_short (Uninstantiated x) = omega arith
 parameter_short (Instantiated x i) = omega arith
 
 -- One parameter.
+pub parameter_not : (names : List Name) {text pairs code : List ℕ} {p : Place} {write : Bool} (after : List ℕ) → NameLacks text p.at pairs p.count
+    → ParameterAnswer names text pairs code p write after code None
+unfolding added
+parameter_not names {text} {p = p} after lacks = record { answer = gives_from (name (drop p.at text)) _ lacks; dry = λ l. refl }
+
 module _ {names : List Name} {text pairs bound code after : List ℕ} {p : Place} {write : Bool} {n : NameRead}
     (b : Binds names (table_names pairs text p.count) bound p.depth) (read : NameGiven text p.at pairs p.count after n) where
-  pub parameter_not : {r : ParametersRead} → length text < n.end → length text < r.end → ParameterAnswer names text pairs code p write after code r
-  unfolding added
-  parameter_not h k = record {
-    fails = λ l. gives_from (name (drop p.at text)) _ (λ x e. read.fails h x e);
-    gives = λ l. absurd (omega arith);
-    dry = λ l. refl;
-  }
-
-  module _ {code' : List ℕ} {is : Bool} {size : ℕ} (h : n.end ≤ length text) (tested : BoundNumber bound p.depth n.number is)
+  module _ {code' : List ℕ} {is : Bool} {size : ℕ} (tested : BoundNumber bound p.depth n.number is)
       (put : ParameterPut is n.number write code p.to code' size) where
     abbrev x : Name
     x = between p.at n.end text
@@ -73,12 +70,12 @@ module _ {names : List Name} {text pairs bound code after : List ℕ} {p : Place
 
     number_there : n.number ≡ number_in seen x
     unfolding added
-    number_there = read.number_is h ∙ ap (λ s. number_in s x) (sym (read.noted h).names)
+    number_there = read.number_is ∙ ap (λ s. number_in s x) (sym read.noted.names)
 
     bound_there : is ≡ occurs eq_name x names
     bound_there =
-        let later : Binds names seen bound p.depth = rw (read.noted h).names (binds_more b (x ∷ []) refl) in
-        let there : occurs eq_name x seen ≡ true = rw (read.noted h).names (added_one_meets (table_names pairs text p.count) x) in
+        let later : Binds names seen bound p.depth = rw read.noted.names (binds_more b (x ∷ []) refl) in
+        let there : occurs eq_name x seen ≡ true = rw read.noted.names (added_one_meets (table_names pairs text p.count) x) in
         tested.is ∙ (ap (λ k. occurs eqb k (bound_numbers bound p.depth)) number_there ∙ bound_number later x there)
 
     code_is : encode_parameter (parameter_of is n.number) ≡ parameter_code seen (parameter_named names x ∷ [])
@@ -88,20 +85,21 @@ module _ {names : List Name} {text pairs bound code after : List ℕ} {p : Place
         ∙ (ap (λ k. encode_parameter (parameter_of (occurs eq_name x names) k)) number_there
         ∙ (sym (ap encode_parameter (parameter_renamed (number_in seen) names x)) ∙ sym (append-nil _)))
 
-    pub parameter_given : ParameterAnswer names text pairs code p write after code' (record { end = n.end; parameters = 1; count = n.count; size = size })
+    pub parameter_given : ParameterAnswer names text pairs code p write after code'
+        (Some (record { end = n.end; parameters = 1; count = n.count; size = size }))
     parameter_given = record {
-      fails = λ l. absurd (omega arith);
-      gives = λ l. (
+      answer = (
         x,
-        read.gives h,
+        read.reads,
         record {
-          noted = rw (parameter_name_lem names x) (read.noted h);
+          within = read.within;
+          noted = rw (parameter_name_lem names x) read.noted;
           stored = put.stored ∙ ap (puts write code p.to) code_is;
           count_is = refl;
           size_is = put.size_is ∙ (ap length code_is ∙ parameter_code_length seen (parameter_named names x ∷ []));
           few = omega arith;
-          from = omega (arith, read.from h);
-          small = omega (arith, read.from h, put.size_is, parameter_short (parameter_of is n.number));
+          from = omega (arith, read.from);
+          small = omega (arith, read.from, put.size_is, parameter_short (parameter_of is n.number));
         },
       );
       dry = λ l. put.stored ∙ puts_dry write code p.to _ l;
@@ -139,27 +137,23 @@ unfolding later_parameters if_read ◌>>=◌ followed_by
 later_not names most t e f = rw (e, f) refl
 
 -- none may follow
-pub none_left : (names : List Name) {text pairs code : List ℕ} {p : Place} {write : Bool} {most : ℕ} {r : ParametersRead} → most ≡ 0 → length text < r.end
-    → ParametersAnswer (parameters_from names most (drop p.at text)) most 1 text pairs code p write pairs code r
+pub none_left : (names : List Name) {text pairs code : List ℕ} {p : Place} {write : Bool} {most : ℕ} → most ≡ 0
+    → ParametersAnswer (parameters_from names most (drop p.at text)) most 1 text pairs code p write pairs code None
 unfolding parameters_from later_parameters ◌>>=◌ followed_by
-none_left names {text} {pairs} {code} {p} e h = record {
-  fails = λ l. rw (e, follows_none (name (drop p.at text)) _ (λ x t. refl)) (gives_none _);
-  gives = λ l. absurd (omega arith);
-  dry = λ l. refl;
-}
+none_left names {text} {pairs} {code} {p} e =
+    record { answer = rw (e, follows_none (name (drop p.at text)) _ (λ x t. refl)) (gives_none _); dry = λ l. refl }
 
 -- the first one is not read
-pub first_not : {names : List Name} {text pairs code mid mid-code : List ℕ} {p : Place} {write : Bool} {first : ParametersRead} {most : ℕ}
-    → ParameterAnswer names text pairs code p write mid mid-code first → length text < first.end
-    → ParametersAnswer (parameters_from names most (drop p.at text)) most 1 text pairs code p write mid mid-code first
+pub first_not : {names : List Name} {text pairs code mid mid-code : List ℕ} {p : Place} {write : Bool} {most : ℕ}
+    → ParameterAnswer names text pairs code p write mid mid-code None
+    → ParametersAnswer (parameters_from names most (drop p.at text)) most 1 text pairs code p write mid mid-code None
 unfolding parameters_from ◌>>=◌
-first_not {names} {text} {pairs} {p = p} {most = most} one h = record {
-  fails = λ l.
-      gives_then _ _ (name (drop p.at text)) _ (one.fails h) λ x t k.
+first_not {names} {text} {pairs} {p = p} {most = most} one = record {
+  answer =
+      gives_then _ _ (name (drop p.at text)) _ one.answer λ x t k.
       gives_then _ _ (later_parameters names most t) _ (gives_any _) λ ps u j.
       gives_yield _ (parameter_named names x ∷ ps) u
       (rw (parameter_name_lem names x) (crowded_first (table_names pairs text p.count) (x ∷ []) (map parameter_name ps) k));
-  gives = λ l. absurd (omega arith);
   dry = one.dry;
 }
 
@@ -167,13 +161,13 @@ first_not {names} {text} {pairs} {p = p} {most = most} one h = record {
 pub next_begins : (names : List Name) {text pairs bound code mid mid-code : List ℕ} {p : Place} {write : Bool} {first : ParametersRead}
     {ps : List (PropParameter Name)} {more : ℕ}
     → Begins text pairs bound p 0 2 → Binds names (table_names pairs text p.count) bound p.depth
-    → ParametersGiven 1 3 text pairs code p write mid mid-code first ps → Expected (utf8 ", ") text first.end more → more ≤ length text
+    → ParametersGiven 1 3 text pairs code p write mid mid-code first ps → Expected (utf8 ", ") text first.end more
     → Begins text mid bound (record { at = more; count = first.count; depth = p.depth; to = p.to + first.size }) 0 2
-next_begins names pre b one goes_on h = record {
+next_begins names pre b one goes_on = record {
   short = pre.short;
-  within = h;
+  within = goes_on.within;
   table = one.noted.table;
-  near = omega (arith, pre.near, one.small, goes_on.after h);
+  near = omega (arith, pre.near, one.small, goes_on.after);
   deep = pre.deep;
   binds = (names, binds_noted b one.noted refl);
 }
@@ -189,59 +183,63 @@ module _ (names : List Name) {text pairs code mid mid-code : List ℕ} {p : Plac
   follows = rw some_left (from_first names (suc k) x _ _ named)
 
   -- none does
-  pub first_alone : {more last : ℕ} → Expected (utf8 ", ") text first.end more → length text < more → Expected (utf8 ")") text first.end last
-      → ParametersAnswer (parameters_from names most (drop p.at text)) most 1 text pairs code p write mid mid-code
-      (record { end = last; parameters = 1; count = first.count; size = first.size })
-  unfolding followed_by yield
-  first_alone {more} {last} no_more h ends = record {
-    fails = λ l. rw (follows, later_not names k _ (no_more.ends.fails h) (ends.ends.fails l)) (gives_none _);
-    gives = λ l. (
-      parameter_named names x ∷ [],
-      rw (follows, later_last names k _ _ (no_more.ends.fails h) (ends.ends.gives l)) refl,
-      record {
-        noted = one.noted;
-        stored = one.stored;
-        count_is = refl;
-        size_is = one.size_is;
-        few = omega arith;
-        from = omega (arith, one.from, ends.after l);
-        small = omega (arith, one.small, ends.after l);
-      },
-    );
-    dry = dry;
-  }
+  module _ (no_more : expect (utf8 ", ") (drop first.end text) ≡ None) where
+    pub first_open : expect (utf8 ")") (drop first.end text) ≡ None
+        → ParametersAnswer (parameters_from names most (drop p.at text)) most 1 text pairs code p write mid mid-code None
+    unfolding followed_by
+    first_open e = record { answer = rw (follows, later_not names k _ no_more e) (gives_none _); dry = dry }
+
+    pub first_alone : {last : ℕ} → Expected (utf8 ")") text first.end last
+        → ParametersAnswer (parameters_from names most (drop p.at text)) most 1 text pairs code p write mid mid-code
+        (Some (record { end = last; parameters = first.parameters; count = first.count; size = first.size }))
+    unfolding followed_by yield
+    first_alone {last} ends = record {
+      answer = (
+        parameter_named names x ∷ [],
+        rw (follows, later_last names k _ _ no_more ends.reads) refl,
+        record {
+          within = ends.within;
+          noted = one.noted;
+          stored = one.stored;
+          count_is = one.count_is;
+          size_is = one.size_is;
+          few = omega (arith, one.count_is);
+          from = omega (arith, one.from, ends.after);
+          small = omega (arith, one.small, ends.after);
+        },
+      );
+      dry = dry;
+    }
 
   -- others do
-  module _ {after after-code : List ℕ} {rest : ParametersRead} {more : ℕ} (goes_on : Expected (utf8 ", ") text first.end more) (h : more ≤ length text)
-      (others : ParametersAnswer (parameters_from names k (drop more text)) k 1 text mid mid-code
-      (record { at = more; count = first.count; depth = p.depth; to = p.to + first.size }) write after after-code rest) where
+  module _ {more : ℕ} (goes_on : Expected (utf8 ", ") text first.end more) where
+    abbrev Others : List ℕ → List ℕ → Option ParametersRead → Type 0
+    Others after after-code found =
+        ParametersAnswer (parameters_from names k (drop more text)) k 1 text mid mid-code
+        (record { at = more; count = first.count; depth = p.depth; to = p.to + first.size }) write after after-code found
+
     follows_more : parameters_from names most (drop p.at text)
         ≡ followed_by (parameters_from names k (drop more text)) (λ ps. yield (parameter_named names x ∷ ps))
-    follows_more = follows ∙ ap (λ m. followed_by m (λ ps. yield (parameter_named names x ∷ ps))) (later_more names k _ _ (goes_on.ends.gives h))
+    follows_more = follows ∙ ap (λ m. followed_by m (λ ps. yield (parameter_named names x ∷ ps))) (later_more names k _ _ goes_on.reads)
 
     seen_then : table_names mid text first.count ≡ added (table_names pairs text p.count) (x ∷ [])
     seen_then = rw (parameter_name_lem names x) at one.noted.names
 
-    dry_then : write ≡ false → after-code ≡ code
-    dry_then e = others.dry e ∙ dry e
-
-    pub rest_not : length text < rest.end
-        → ParametersAnswer (parameters_from names most (drop p.at text)) most 1 text pairs code p write after after-code rest
-    rest_not l = record {
-      fails = λ j.
+    pub rest_not : {after after-code : List ℕ} → Others after after-code None → ParametersAnswer (parameters_from names most (drop p.at text)) most 1 text pairs code p write after after-code None
+    rest_not others = record {
+      answer =
           rw follows_more
-          (gives_then _ _ (parameters_from names k (drop more text)) _ (others.fails l) λ ps u i.
+          (gives_then _ _ (parameters_from names k (drop more text)) _ others.answer λ ps u i.
           gives_yield _ (parameter_named names x ∷ ps) u
           (rw (parameter_name_lem names x)
           (crowded_second (table_names pairs text p.count) (x ∷ []) (map parameter_name ps) (rw seen_then at i))));
-      gives = λ j. absurd (omega arith);
-      dry = dry_then;
+      dry = λ e. others.dry e ∙ dry e;
     }
 
-    joined_code : (ps : List (PropParameter Name))
+    joined_code : {after after-code : List ℕ} {rest : ParametersRead} (ps : List (PropParameter Name))
         → ParametersGiven k 1 text mid mid-code (record { at = more; count = first.count; depth = p.depth; to = p.to + first.size }) write after after-code rest ps
         → after-code ≡ puts write code p.to (parameter_code (table_names after text rest.count) (parameter_named names x ∷ ps))
-    joined_code ps given =
+    joined_code {after} {after-code} {rest} ps given =
         let p₁ = parameter_named names x in
         let seen₁ = table_names mid text first.count in
         let seen₂ = table_names after text rest.count in
@@ -253,26 +251,26 @@ module _ (names : List Name) {text pairs code mid mid-code : List ℕ} {p : Plac
         (one.size_is ∙ sym (parameter_code_length seen₁ (p₁ ∷ []))) given.stored
         ∙ ap (puts write code p.to) (ap (λ l. l ++ parameter_code seen₂ ps) (sym kept) ∙ sym (parameters_code seen₂ p₁ ps))
 
-    pub rest_given : rest.end ≤ length text
+    pub rest_given : {after after-code : List ℕ} {rest : ParametersRead} → Others after after-code (Some rest)
         → ParametersAnswer (parameters_from names most (drop p.at text)) most 1 text pairs code p write after after-code
-        (record { end = rest.end; parameters = 1 + rest.parameters; count = rest.count; size = first.size + rest.size })
+        (Some (record { end = rest.end; parameters = 1 + rest.parameters; count = rest.count; size = first.size + rest.size }))
     unfolding followed_by yield
-    rest_given l =
-        let (ps, reads, given) = others.gives l in
+    rest_given {rest} others =
+        let (ps, reads, given) = others.answer in
         record {
-          fails = λ j. absurd (omega arith);
-          gives = λ j. (
+          answer = (
             parameter_named names x ∷ ps,
             rw (follows_more, reads) refl,
             record {
+              within = given.within;
               noted = noted_then one.noted given.noted;
               stored = joined_code ps given;
               count_is = omega (arith, given.count_is);
               size_is = omega (arith, one.size_is, given.size_is, parameters_bytes (parameter_named names x) ps);
               few = omega (arith, given.few);
-              from = omega (arith, one.from, goes_on.after h, given.from);
-              small = omega (arith, one.small, goes_on.after h, given.small);
+              from = omega (arith, one.from, goes_on.after, given.from);
+              small = omega (arith, one.small, goes_on.after, given.small);
             },
           );
-          dry = dry_then;
+          dry = λ e. others.dry e ∙ dry e;
         }

@@ -1,6 +1,5 @@
-// An atom of a label: its name and its parameters, read from strict text into prefix code. A reader gives the place after what it
-// read, or a place past the end of the text where none stands there or there are too many names. Names are noted in any case; code is
-// stored only where `write` says so.
+// An atom of a label: its name and its parameters, read from strict text into prefix code. A reader gives what it read, or none where
+// it does not stand there or there are too many names. Names are noted in any case; code is stored only where `write` says so.
 #![tactic(auto)]
 
 ghost use Rattle.std.specs.Prelude.{◌≡◌, List, ◌<◌, length, drop};
@@ -16,7 +15,7 @@ ghost use Rattle.atom_reader.specs.Reading.{Begins, parameters_from, ParameterAn
 use output::put;
 use prefix_code::{ATOM, PARAMETER_LIMIT};
 use prop_parts::{is_bound, put_parameter, put_u16, read_name};
-use words::{NAME_LIMIT, expect, number_of_name};
+use words::{expect, number_of_name};
 
 // How strongly ⊤, ⊥, atoms and negations bind.
 pub const STRONGEST: usize = 999;
@@ -31,7 +30,7 @@ pub struct Place {
 }
 
 // The parameters of an atom: where they end, how many they are, how many names there are now, and their size in code.
-#[derive(Drop)]
+#[derive(Clone, Copy)]
 pub struct ParametersRead {
     pub end: usize,
     pub parameters: usize,
@@ -52,21 +51,6 @@ pub struct PropRead {
     pub own: bool,
 }
 
-// No proposition.
-pub fn no_prop(text: &[u8]) -> PropRead
-    ensures { length text.now < result.end }
-{
-    PropRead {
-        end: text.len() + 1,
-        count: 0,
-        size: 0,
-        nesting: 0,
-        strength: 0,
-        bottom: false,
-        own: false,
-    }
-}
-
 // One parameter of an atom: a name, bound by a quantifier or not.
 fn read_parameter(
     text: &[u8],
@@ -75,33 +59,22 @@ fn read_parameter(
     code: &mut [u8],
     p: Place,
     write: bool,
-) -> ParametersRead
+) -> Option<ParametersRead>
     requires { Begins text.now names.old bound.now p 0 2 }
     ensures { (ns : List Name) →
         Binds ns (table_names names.old text.now p.count) bound.now p.depth →
         ParameterAnswer ns text.now names.old code.old p write
         names.new code.new result }
 {
-    let name = read_name(text, p.at, names, p.count);
-    let end = name.end;
-    let number = name.number;
-    let count = name.count;
-    if text.len() < end {
-        return ParametersRead {
-            end,
-            parameters: 0,
-            count,
-            size: 0,
-        };
-    }
-    let is = is_bound(bound, p.depth, number);
-    let size = put_parameter(code, p.to, number, is, write);
-    ParametersRead {
-        end,
+    let name = read_name(text, p.at, names, p.count)?;
+    let is = is_bound(bound, p.depth, name.number);
+    let size = put_parameter(code, p.to, name.number, is, write);
+    Some(ParametersRead {
+        end: name.end,
         parameters: 1,
-        count,
+        count: name.count,
         size,
-    }
+    })
 }
 
 // The parameters of an atom from the first one on, where at most so many more may follow: names with ", " between them, and ")".
@@ -113,7 +86,7 @@ fn read_parameters(
     p: Place,
     most: usize,
     write: bool,
-) -> ParametersRead
+) -> Option<ParametersRead>
     requires { Begins text.now names.old bound.now p 0 2 }
     ensures { (ns : List Name) →
         Binds ns (table_names names.old text.now p.count) bound.now p.depth →
@@ -122,43 +95,26 @@ fn read_parameters(
         names.new code.new result }
 {
     if most == 0 {
-        return ParametersRead {
-            end: text.len() + 1,
-            parameters: 0,
-            count: 0,
-            size: 0,
-        };
+        return None;
     }
-    let first = read_parameter(text, names, bound, code, p, write);
-    let end = first.end;
-    if text.len() < end {
-        return first;
-    }
-    let more = expect(text, end, b", ");
-    if text.len() < more {
-        return ParametersRead {
-            end: expect(text, end, b")"),
-            parameters: 1,
-            count: first.count,
-            size: first.size,
-        };
-    }
+    let first = read_parameter(text, names, bound, code, p, write)?;
+    let Some(more) = expect(text, first.end, b", ") else {
+        let end = expect(text, first.end, b")")?;
+        return Some(ParametersRead { end, ..first });
+    };
     let place = Place {
         at: more,
         count: first.count,
         depth: p.depth,
         to: p.to + first.size,
     };
-    let rest = read_parameters(text, names, bound, code, place, most - 1, write);
-    if text.len() < rest.end {
-        return rest;
-    }
-    ParametersRead {
+    let rest = read_parameters(text, names, bound, code, place, most - 1, write)?;
+    Some(ParametersRead {
         end: rest.end,
         parameters: 1 + rest.parameters,
         count: rest.count,
         size: first.size + rest.size,
-    }
+    })
 }
 
 // The parameters of an atom, after its name, perhaps none.
@@ -169,7 +125,7 @@ fn atom_parameters(
     code: &mut [u8],
     p: Place,
     write: bool,
-) -> ParametersRead
+) -> Option<ParametersRead>
     requires { Begins text.now names.old bound.now p 0 2 }
     ensures { (ns : List Name) →
         Binds ns (table_names names.old text.now p.count) bound.now p.depth →
@@ -177,21 +133,15 @@ fn atom_parameters(
         text.now names.old code.old p write
         names.new code.new result }
 {
-    let open = expect(text, p.at, b"(");
-    if text.len() < open {
-        return ParametersRead {
+    let Some(open) = expect(text, p.at, b"(") else {
+        return Some(ParametersRead {
             end: p.at,
             parameters: 0,
             count: p.count,
             size: 0,
-        };
-    }
-    let place = Place {
-        at: open,
-        count: p.count,
-        depth: p.depth,
-        to: p.to,
+        });
     };
+    let place = Place { at: open, ..p };
     read_parameters(
         text,
         names,
@@ -222,7 +172,7 @@ pub fn read_atom(
     p: Place,
     end: usize,
     write: bool,
-) -> PropRead
+) -> Option<PropRead>
     requires { Begins text.now names.old bound.now p 0 0 × NamePlace text.now p.at end }
     ensures { (ns : List Name) →
         Binds ns (table_names names.old text.now p.count) bound.now p.depth →
@@ -230,32 +180,22 @@ pub fn read_atom(
         text.now names.old bound.now code.old p write
         names.new bound.now code.new result }
 {
-    let at = p.at;
-    let to = p.to;
-    let found = number_of_name(text, at, end, names, p.count);
-    let number = found.number;
-    if NAME_LIMIT <= number {
-        return no_prop(text);
-    }
+    let found = number_of_name(text, p.at, end, names, p.count)?;
     let place = Place {
         at: end,
         count: found.count,
         depth: p.depth,
-        to: to + 4,
+        to: p.to + 4,
     };
-    let read = atom_parameters(text, names, bound, code, place, write);
-    let read_end = read.end;
-    if text.len() < read_end {
-        return no_prop(text);
-    }
-    put_atom(code, to, number, read.parameters, write);
-    PropRead {
-        end: read_end,
+    let read = atom_parameters(text, names, bound, code, place, write)?;
+    put_atom(code, p.to, found.number, read.parameters, write);
+    Some(PropRead {
+        end: read.end,
         count: read.count,
         size: 4 + read.size,
         nesting: 1,
         strength: STRONGEST,
         bottom: false,
         own: false,
-    }
+    })
 }

@@ -19,74 +19,67 @@ use Rattle.words.specs.Places.{between, Expected}
 use Rattle.words.specs.Table.{added, number_in, table_names}
 use Rattle.words.proofs.Added.{noted_then}
 use Rattle.prop_parts.specs.declared.NameRead.{NameRead}
-use Rattle.prop_parts.specs.Found.{NameGiven, sign_number, sign_size}
+use Rattle.prop_parts.specs.Found.{NameLacks, NameGiven, sign_number, sign_size}
 use Rattle.atom_reader.specs.declared.Place.{Place}
 use Rattle.prop_frames.specs.declared.BinderRead.{BinderRead}
 use Rattle.atom_reader.specs.Scope.{Met, Crowded, Binds}
 use Rattle.atom_reader.specs.Reading.{Begins}
-use Rattle.prop_frames.specs.Fronts.{negated, bracketed, quantified, front_number, front_names, front_code, front_bytes, part_least, part_bound, closing, binder_names, BinderAnswer, binder_code, FrontAnswer}
+use Rattle.prop_frames.specs.Fronts.{negated, bracketed, quantified, front_number, front_names, front_code, front_bytes, part_least, part_bound, closing, binder_names, Binder, BinderLacks, BinderGiven, binder_code, FrontAnswer}
 use Rattle.atom_reader.proofs.Storing.{puts_nothing, puts_dry, stored_then}
 use Rattle.atom_reader.proofs.Scopes.{added_meets, binds_noted, bound_set, binds_one, crowded_first, crowded_second}
 use Rattle.atom_reader.proofs.Readings.{gives_from, gives_any}
 use Rattle.atom_reader.proofs.Atoms.{noted_none, number_later}
 
 -- The names of a quantifier.
+pub no_object : (text pairs : List ℕ) (at count : ℕ) → NameLacks text at pairs count → BinderLacks text at pairs count
+unfolding binder_names ◌>>=◌ added
+no_object text pairs at count lacks =
+    gives_then _ _ (name (drop at text)) _ (gives_from (name (drop at text)) (λ x rest. Crowded (table_names pairs text count) (x ∷ [])) lacks) λ x t f.
+    gives_then _ _ (expect (utf8 ":") t) _ (gives_any _) λ u v i.
+    gives_then _ _ (name v) _ (gives_any _) λ d w i.
+    gives_then _ _ (expect (utf8 ". ") w) _ (gives_any _) λ u z i.
+    gives_yield _ (record { object = x; datatype = d }) z (crowded_first (table_names pairs text count) (x ∷ []) (d ∷ []) f)
+
 module _ {text pairs after : List ℕ} {at count : ℕ} {n : NameRead} (object : NameGiven text at pairs count after n) where
-  pub no_object : {r : BinderRead} → length text < n.end → length text < r.end → BinderAnswer text at pairs count after r
-  unfolding binder_names ◌>>=◌ added
-  no_object h k = record {
-    fails = λ l.
-        gives_then _ _ (name (drop at text)) _ (gives_from (name (drop at text)) (λ x rest. Crowded (table_names pairs text count) (x ∷ [])) (λ x e. object.fails h x e)) λ x t f.
-        gives_then _ _ (expect (utf8 ":") t) _ (gives_any _) λ u v i.
-        gives_then _ _ (name v) _ (gives_any _) λ d w i.
-        gives_then _ _ (expect (utf8 ". ") w) _ (gives_any _) λ u z i.
-        gives_yield _ (record { object = x; datatype = d }) z (crowded_first (table_names pairs text count) (x ∷ []) (d ∷ []) f);
-    gives = λ l. absurd (omega arith);
-  }
+  pub no_colon : expect (utf8 ":") (drop n.end text) ≡ None → BinderLacks text at pairs count
+  unfolding binder_names ◌>>=◌ followed_by
+  no_colon e = rw (object.reads, e) (gives_none _)
 
-  module _ (h : n.end ≤ length text) {colon : ℕ} (first : Expected (utf8 ":") text n.end colon) where
-    pub no_colon : {r : BinderRead} → length text < colon → length text < r.end → BinderAnswer text at pairs count after r
-    unfolding binder_names ◌>>=◌ followed_by
-    no_colon f k = record {
-      fails = λ l. rw (object.gives h, first.ends.fails f) (gives_none _);
-      gives = λ l. absurd (omega arith);
-    }
+  module _ {colon : ℕ} (first : Expected (utf8 ":") text n.end colon) where
+    pub no_datatype : NameLacks text colon after n.count → BinderLacks text at pairs count
+    unfolding binder_names ◌>>=◌ followed_by added
+    no_datatype lacks =
+        rw (object.reads, first.reads)
+        (gives_then _ _ (name (drop colon text)) _
+        (gives_from (name (drop colon text)) (λ x rest. Crowded (table_names after text n.count) (x ∷ [])) lacks) λ d w i.
+        gives_then _ _ (expect (utf8 ". ") w) _ (gives_any _) λ u z j.
+        gives_yield _ (record { object = between at n.end text; datatype = d }) z
+        (crowded_second (table_names pairs text count) (between at n.end text ∷ []) (d ∷ []) (rw object.noted.names at i)))
 
-    module _ (f : colon ≤ length text) {after' : List ℕ} {m : NameRead} (datatype : NameGiven text colon after n.count after' m) where
-      pub no_datatype : {r : BinderRead} → length text < m.end → length text < r.end → BinderAnswer text at pairs count after' r
-      unfolding binder_names ◌>>=◌ followed_by added
-      no_datatype g k = record {
-        fails = λ l.
-            rw (object.gives h, first.ends.gives f)
-            (gives_then _ _ (name (drop colon text)) _
-            (gives_from (name (drop colon text)) (λ x rest. Crowded (table_names after text n.count) (x ∷ [])) (λ x e. datatype.fails g x e)) λ d w i.
-            gives_then _ _ (expect (utf8 ". ") w) _ (gives_any _) λ u z j.
-            gives_yield _ (record { object = between at n.end text; datatype = d }) z
-            (crowded_second (table_names pairs text count) (between at n.end text ∷ []) (d ∷ []) (rw (object.noted h).names at i)));
-        gives = λ l. absurd (omega arith);
-      }
+    module _ {after' : List ℕ} {m : NameRead} (datatype : NameGiven text colon after n.count after' m) where
+      pub no_dot : expect (utf8 ". ") (drop m.end text) ≡ None → BinderLacks text at pairs count
+      unfolding binder_names ◌>>=◌ followed_by
+      no_dot e = rw (object.reads, first.reads, datatype.reads, e) (gives_none _)
 
-      pub binder_read : {dot : ℕ} → m.end ≤ length text → Expected (utf8 ". ") text m.end dot
-          → BinderAnswer text at pairs count after' (record { end = dot; object = n.number; datatype = m.number; count = m.count })
+      pub binder_read : {dot : ℕ} → Expected (utf8 ". ") text m.end dot
+          → (b : Binder) × BinderGiven text at pairs count after' (record { end = dot; object = n.number; datatype = m.number; count = m.count }) b
       unfolding binder_names ◌>>=◌ followed_by yield added
-      binder_read {dot} g second = record {
-        fails = λ l. rw (object.gives h, first.ends.gives f, datatype.gives g, second.ends.fails l) (gives_none _);
-        gives = λ l. (
-          record { object = between at n.end text; datatype = between colon m.end text },
-          record {
-            reads = rw (object.gives h, first.ends.gives f, datatype.gives g, second.ends.gives l) refl;
-            noted = noted_then (object.noted h) (datatype.noted g);
-            object_is =
-                number_later (between at n.end text) (table_names pairs text count) (between colon m.end text ∷ []) (object.number_is h)
-                ∙ ap (λ seen. number_in seen (between at n.end text))
-                (ap (λ seen. added seen (between colon m.end text ∷ [])) (sym (object.noted h).names) ∙ sym (datatype.noted g).names);
-            datatype_is = datatype.number_is g ∙ ap (λ seen. number_in seen (between colon m.end text)) (sym (datatype.noted g).names);
-            object_below = omega (arith, object.below h, (datatype.noted g).more);
-            datatype_below = datatype.below g;
-            from = omega (arith, object.from h, first.after f, datatype.from g, second.after l);
-          },
-        );
-      }
+      binder_read {dot} second = (
+        record { object = between at n.end text; datatype = between colon m.end text },
+        record {
+          within = second.within;
+          reads = rw (object.reads, first.reads, datatype.reads, second.reads) refl;
+          noted = noted_then object.noted datatype.noted;
+          object_is =
+              number_later (between at n.end text) (table_names pairs text count) (between colon m.end text ∷ []) object.number_is
+              ∙ ap (λ seen. number_in seen (between at n.end text))
+              (ap (λ seen. added seen (between colon m.end text ∷ [])) (sym object.noted.names) ∙ sym datatype.noted.names);
+          datatype_is = datatype.number_is ∙ ap (λ seen. number_in seen (between colon m.end text)) (sym datatype.noted.names);
+          object_below = omega (arith, object.below, datatype.noted.more);
+          datatype_below = datatype.below;
+          from = omega (arith, object.from, first.after, datatype.from, second.after);
+        },
+      )
 
 -- their code, byte by byte
 pub binder_stored : (write : Bool) (l : List ℕ) (to head object datatype : ℕ) {one two three : List ℕ} → one ≡ puts write l to (head ∷ [])
@@ -142,13 +135,13 @@ binder_splits part names q s =
 module _ {names : List Name} {text pairs bound code : List ℕ} {p : Place} {write : Bool}
     (b : Binds names (table_names pairs text p.count) bound p.depth) (pre : Begins text pairs bound p 1 0) where
   pub opens_bracket : {at : ℕ} → at ≡ p.at + sign_size bracket → at ≤ length text
-      → FrontAnswer bracket names text pairs bound code p write pairs bound code (record { at = at; count = p.count; depth = p.depth; to = p.to })
+      → FrontAnswer bracket names text pairs bound code p write pairs bound code (Some (record { at = at; count = p.count; depth = p.depth; to = p.to }))
   unfolding signed ◌>>=◌ sign_size part_least part_bound front_names front_code front_bytes closing sign_number front_number
   opens_bracket {at} e h = record {
-    fails = λ l. absurd (omega arith);
-    gives = λ l. (
+    answer = (
       bracketed,
       record {
+        within = h;
         reads = λ part. rw e refl;
         number_is = refl;
         noted = noted_none pre.table;
@@ -166,13 +159,13 @@ module _ {names : List Name} {text pairs bound code : List ℕ} {p : Place} {wri
   }
 
   pub opens_negation : {at : ℕ} {after : List ℕ} → at ≡ p.at + sign_size negation → at ≤ length text → after ≡ puts write code p.to (4 ∷ [])
-      → FrontAnswer negation names text pairs bound code p write pairs bound after (record { at = at; count = p.count; depth = p.depth; to = p.to + 1 })
+      → FrontAnswer negation names text pairs bound code p write pairs bound after (Some (record { at = at; count = p.count; depth = p.depth; to = p.to + 1 }))
   unfolding signed ◌>>=◌ sign_size part_least part_bound front_names front_code front_bytes closing sign_number front_number
   opens_negation {at} e h stored = record {
-    fails = λ l. absurd (omega arith);
-    gives = λ l. (
+    answer = (
       negated,
       record {
+        within = h;
         reads = λ part. rw e refl;
         number_is = refl;
         noted = noted_none pre.table;
@@ -189,49 +182,45 @@ module _ {names : List Name} {text pairs bound code : List ℕ} {p : Place} {wri
     dry = λ l. stored ∙ puts_dry write code p.to (4 ∷ []) l;
   }
 
-  module _ (q : Quantifier) {at : ℕ} {after : List ℕ} {read : BinderRead} (e : at ≡ p.at + sign_size (binder q)) (answer : BinderAnswer text at pairs p.count after read) where
-    pub opens_not : {place : Place} → length text < read.end → length text < place.at
-        → FrontAnswer (binder q) names text pairs bound code p write after bound code place
+  module _ (q : Quantifier) {at : ℕ} (after : List ℕ) (e : at ≡ p.at + sign_size (binder q)) where
+    pub opens_not : BinderLacks text at pairs p.count → FrontAnswer (binder q) names text pairs bound code p write after bound code None
     unfolding closing prop_names standing
-    opens_not h k = record {
-      fails = λ l part.
+    opens_not lacks = record {
+      answer = λ part.
           rw (← e, binder_splits part names q (drop at text))
-          (gives_then _ _ (binder_names (drop at text)) _ (answer.fails h) λ d t f.
+          (gives_then _ _ (binder_names (drop at text)) _ lacks λ d t f.
           gives_then _ _ (part 0 (d.object ∷ names) t) _ (gives_any _) λ r u i.
           gives_due _ r.own false _ u λ j.
           gives_yield _ (standing false (Quantified q d.object d.datatype r.shown)) u
           (crowded_first (table_names pairs text p.count) (d.object ∷ d.datatype ∷ []) (prop_names r.shown) f));
-      gives = λ l. absurd (omega arith);
       bound_kept = refl;
       dry = λ l. refl;
     }
 
-    pub opens_quantifier : {sign : ℕ} {code' : List ℕ} → read.end ≤ length text → sign ≡ quantifier_byte q
-        → code' ≡ puts write code p.to (binder_code sign read.object read.datatype)
+    pub opens_quantifier : {read : BinderRead} {sign : ℕ} {code' : List ℕ} (d : Binder) → BinderGiven text at pairs p.count after read d
+        → sign ≡ quantifier_byte q → code' ≡ puts write code p.to (binder_code sign read.object read.datatype)
         → FrontAnswer (binder q) names text pairs bound code p write after (set bound p.depth read.object) code'
-        (record { at = read.end; count = read.count; depth = p.depth + 1; to = p.to + 5 })
+        (Some (record { at = read.end; count = read.count; depth = p.depth + 1; to = p.to + 5 }))
     unfolding sign_size part_least part_bound front_names front_code front_bytes followed_by binder_code Met sign_number front_number
-    opens_quantifier {sign} h s stored =
-        let (d, given) = answer.gives h in
+    opens_quantifier {read} {sign} d given s stored = record {
+      answer = (
+        quantified q d.object d.datatype,
         record {
-          fails = λ l. absurd (omega arith);
-          gives = λ l. (
-            quantified q d.object d.datatype,
-            record {
-              reads = λ part. rw (← e, binder_splits part names q (drop at text), given.reads) refl;
-              number_is = refl;
-              noted = given.noted;
-              stored = rw (← given.object_is, ← given.datatype_is, ← s) stored;
-              to_is = omega arith;
-              binds = binds_one d.object (binds_noted b given.noted refl)
-                  (rw given.noted.names (added_meets (table_names pairs text p.count) (d.object ∷ d.datatype ∷ [])).0)
-                  given.object_is (omega (arith, pre.deep));
-              depth = omega arith;
-              deeper = omega arith;
-              from = omega (arith, given.from, e);
-              small = omega (arith, given.from, e);
-            },
-          );
-          bound_kept = bound_set bound p.depth read.object p.depth (omega arith);
-          dry = λ l. stored ∙ puts_dry write code p.to _ l;
-        }
+          within = given.within;
+          reads = λ part. rw (← e, binder_splits part names q (drop at text), given.reads) refl;
+          number_is = refl;
+          noted = given.noted;
+          stored = rw (← given.object_is, ← given.datatype_is, ← s) stored;
+          to_is = omega arith;
+          binds = binds_one d.object (binds_noted b given.noted refl)
+              (rw given.noted.names (added_meets (table_names pairs text p.count) (d.object ∷ d.datatype ∷ [])).0)
+              given.object_is (omega (arith, pre.deep));
+          depth = omega arith;
+          deeper = omega arith;
+          from = omega (arith, given.from, e);
+          small = omega (arith, given.from, e);
+        },
+      );
+      bound_kept = bound_set bound p.depth read.object p.depth (omega arith);
+      dry = λ l. stored ∙ puts_dry write code p.to _ l;
+    }

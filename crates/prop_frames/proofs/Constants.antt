@@ -3,6 +3,7 @@ use Prim.Native.Nat.{ℕ, ◌+◌, ◌≤◌}
 use mathlib.Core.Path.{◌≡◌, refl, ◌∙◌}
 use mathlib.Core.Bool.{Bool, false}
 use mathlib.Core.List.{List, [], ◌∷◌}
+use Rattle.std.specs.Prelude.{Some}
 use native.Mathlib.Omega.{arith}
 use lib.ListN.{length, drop}
 use lib.Dec.{eqb}
@@ -25,14 +26,14 @@ module _ (part : Part) (names : List Name) {text pairs bound code after : List �
   pub constant : (g : Sign) {n : ℕ} → n ≡ sign_number g → n ≤ 1 → Table pairs text p.count → p.at + 3 ≤ length text
       → after ≡ puts write code p.to (n ∷ [])
       → PropAnswer (signed part names g (drop (p.at + sign_size g) text)) text pairs bound code p write pairs bound after
-      (record { end = p.at + 3; count = p.count; size = 1; nesting = 1; strength = 999; bottom = eqb n 1; own = false })
+      (Some (record { end = p.at + 3; count = p.count; size = 1; nesting = 1; strength = 999; bottom = eqb n 1; own = false }))
   unfolding signed sign_number sign_size yield prop_names code_over encode rename_prop code_bytes nesting precedence is_false quantifier_byte
   constant top e l table h stored = record {
-    fails = λ k. absurd (omega arith);
-    gives = λ k. (
+    answer = (
       True,
       refl,
       record {
+        within = h;
         noted = noted_none table;
         stored = rw e at stored;
         measured = record { size_is = refl; nesting_is = refl; strength_is = refl; bottom_is = rw e refl };
@@ -44,11 +45,11 @@ module _ (part : Part) (names : List Name) {text pairs bound code after : List �
     dry = λ k. stored ∙ puts_dry write code p.to _ k;
   }
   constant bottom e l table h stored = record {
-    fails = λ k. absurd (omega arith);
-    gives = λ k. (
+    answer = (
       False,
       refl,
       record {
+        within = h;
         noted = noted_none table;
         stored = rw e at stored;
         measured = record { size_is = refl; nesting_is = refl; strength_is = refl; bottom_is = rw e refl };

@@ -1,8 +1,8 @@
 -- What stands in front of a part is closed after it.
-use Prim.Native.Nat.{ℕ, ◌+◌, ◌≤◌, ◌<◌}
+use Prim.Native.Nat.{ℕ, ◌+◌, ◌≤◌}
 use mathlib.Core.Path.{◌≡◌, refl, sym, ap, ◌∙◌}
-use mathlib.Core.Bool.{Bool, true, false}
-use Rattle.std.specs.Prelude.{None}
+use mathlib.Core.Bool.{Bool, true, false, beq}
+use Rattle.std.specs.Prelude.{None, Some}
 use mathlib.Core.List.{List, [], ◌∷◌}
 use native.Mathlib.Omega.{arith}
 use lib.ListN.{length, drop}
@@ -74,47 +74,47 @@ module _ {q : Prop Name} {part : PropRead} (m : Measured part q) where
     bottom_is = refl;
   }
 
-module _ {q : Prop Name} {text code : List ℕ} {to : ℕ} {write : Bool} {part r : PropRead} where
+module _ {q : Prop Name} {text code : List ℕ} {to : ℕ} {write : Bool} {part : PropRead} where
   -- the whole does not stand there
-  pub closes_not : {f : Front} → length text < r.end → closing f (standing part.own q) (drop part.end text) ≡ None
-      → Closes f q text code to write part code r
-  closes_not h e = record { fails = λ k. e; gives = λ k. absurd (omega arith); dry = λ k. refl }
+  pub closes_not : {f : Front} → closing f (standing part.own q) (drop part.end text) ≡ None → Closes f q text code to write part code None
+  closes_not e = record { answer = e; dry = λ k. refl }
 
 module _ {q : Prop Name} {text code : List ℕ} {to : ℕ} {write : Bool} {part : PropRead} (m : Measured part q) where
-  pub closes_bracket_not : {r : PropRead} → part.own ≡ true → length text < r.end → Closes bracketed q text code to write part code r
+  pub closes_bracket_not : part.own ≡ true → Closes bracketed q text code to write part code None
   unfolding closing standing ◌>>=◌ same
-  closes_bracket_not e h =
-      closes_not h (follows_none (expect (utf8 ")") (drop part.end text)) _ (λ u s. due_not part.own false _ s (rw e refl)))
+  closes_bracket_not e =
+      closes_not (follows_none (expect (utf8 ")") (drop part.end text)) _ (λ u s. due_not part.own false _ s (rw e refl)))
+
+  pub closes_bracket_open : expect (utf8 ")") (drop part.end text) ≡ None → Closes bracketed q text code to write part code None
+  unfolding closing ◌>>=◌ followed_by
+  closes_bracket_open e = closes_not (rw e refl)
 
   pub closes_bracket : {end : ℕ} → part.own ≡ false → Expected (utf8 ")") text part.end end
       → Closes bracketed q text code to write part code
-      (record { end = end; count = part.count; size = part.size; nesting = part.nesting; strength = part.strength; bottom = part.bottom; own = true })
+      (Some (record { end = end; count = part.count; size = part.size; nesting = part.nesting; strength = part.strength; bottom = part.bottom; own = true }))
   unfolding closing standing ◌>>=◌ followed_by around back_code due same yield
   closes_bracket e x = record {
-    fails = λ h. rw (x.ends.fails h) refl;
-    gives = λ h. record {
-      reads = rw (x.ends.gives h, e) refl;
+    answer = record {
+      within = x.within;
+      reads = rw (x.reads, e) refl;
       measured = record { size_is = m.size_is; nesting_is = m.nesting_is; strength_is = m.strength_is; bottom_is = m.bottom_is };
       stored = sym (puts_nothing write code _);
       count_is = refl;
-      from = omega (arith, x.after h);
+      from = omega (arith, x.after);
     };
     dry = λ h. refl;
   }
 
-  pub closes_negation_not : {r : PropRead} {t : Bool} → t ≡ same part.own (ltb part.strength 999) → t ≡ false → length text < r.end
-      → Closes negated q text code to write part code r
+  pub closes_negation_not : {t : Bool} → t ≡ same part.own (ltb part.strength 999) → t ≡ false → Closes negated q text code to write part code None
   unfolding closing standing
-  closes_negation_not a e h = closes_not h (due_not _ _ _ _ (rw m.strength_is at (sym a ∙ e)))
+  closes_negation_not a e = closes_not (due_not _ _ _ _ (rw m.strength_is at (sym a ∙ e)))
 
   pub closes_negation : {t : Bool} {after : List ℕ} → t ≡ same part.own (ltb part.strength 999) → t ≡ true → part.end ≤ length text
-      → after ≡ puts write code (to + part.size) (1 ∷ [])
-      → Closes negated q text code to write part after
-      (enclosed part 2 999)
+      → after ≡ puts write code (to + part.size) (1 ∷ []) → Closes negated q text code to write part after (Some (enclosed part 2 999))
   unfolding closing standing around back_code yield enclosed
   closes_negation a e h stored = record {
-    fails = λ k. absurd (omega arith);
-    gives = λ k. record {
+    answer = record {
+      within = h;
       reads = due_is _ _ _ _ (rw m.strength_is at (sym a ∙ e));
       measured = negation_measured m;
       stored = stored;
@@ -126,22 +126,20 @@ module _ {q : Prop Name} {text code : List ℕ} {to : ℕ} {write : Bool} {part 
 
   -- neither a bracket nor a negation
   module _ {n : ℕ} (no_bracket : n ≡ 8 → ⊥) (no_negation : n ≡ 4 → ⊥) where
-    pub closes_quantifier_not : (f : Front) {r : PropRead} → n ≡ front_number f → part.own ≡ true → length text < r.end
-        → Closes f q text code to write part code r
+    pub closes_quantifier_not : (f : Front) → n ≡ front_number f → part.own ≡ true → Closes f q text code to write part code None
     unfolding front_number closing standing same
-    closes_quantifier_not negated e o h = absurd (no_negation e)
-    closes_quantifier_not bracketed e o h = absurd (no_bracket e)
-    closes_quantifier_not (quantified g x t) e o h = closes_not h (due_not _ _ _ _ (rw o refl))
+    closes_quantifier_not negated e o = absurd (no_negation e)
+    closes_quantifier_not bracketed e o = absurd (no_bracket e)
+    closes_quantifier_not (quantified g x t) e o = closes_not (due_not _ _ _ _ (rw o refl))
 
     pub closes_quantifier : (f : Front) → n ≡ front_number f → part.own ≡ false → part.end ≤ length text
-        → Closes f q text code to write part code
-        (enclosed part 5 1)
+        → Closes f q text code to write part code (Some (enclosed part 5 1))
     unfolding front_number closing standing same around back_code yield enclosed
     closes_quantifier negated e o h = absurd (no_negation e)
     closes_quantifier bracketed e o h = absurd (no_bracket e)
     closes_quantifier (quantified g x t) e o h = record {
-      fails = λ k. absurd (omega arith);
-      gives = λ k. record {
+      answer = record {
+        within = h;
         reads = due_is _ _ _ _ (rw o refl);
         measured = quantifier_measured m g x t;
         stored = sym (puts_nothing write code _);
@@ -150,3 +148,11 @@ module _ {q : Prop Name} {text code : List ℕ} {to : ℕ} {write : Bool} {part 
       };
       dry = λ k. refl;
     }
+
+-- brackets stand exactly where they are due
+pub equal_same : (own due : Bool) → beq own due ≡ same own due
+unfolding same
+equal_same true true = refl
+equal_same true false = refl
+equal_same false true = refl
+equal_same false false = refl

@@ -1,10 +1,10 @@
 -- Two sides and the connective between them.
-use Prim.Native.Nat.{ℕ, ◌+◌, ◌≤◌, ◌<◌, max}
+use Prim.Native.Nat.{ℕ, ◌+◌, ◌<◌, max}
 use mathlib.Core.Path.{◌≡◌, refl, sym, ap, ◌∙◌}
 use mathlib.Core.Bool.{Bool, true, false, not, and-eq-true_iff}
+use Rattle.std.specs.Prelude.{Some}
 use mathlib.Core.List.{List}
 use native.Mathlib.Omega.{arith}
-use lib.ListN.{length}
 use borrow.Author.Tests.{le-leb, lt-leb}
 use Rattle.definitions.specs.Name.{Name}
 use Rattle.definitions.specs.Prop.{Prop, Connective, and, or, impl, connective_byte, is_false, nesting}
@@ -91,12 +91,6 @@ module _ (c : Connective) {p q : Prop Name} {left right : PropRead} (m : Measure
       unfolding same
       other_agrees g h = sym (rest_agrees g ∙ ap (λ t. same t false) (negates_not q c h))
 
--- The whole of two sides.
-module _ {c : Connective} {p q : Prop Name} {text code : List ℕ} {to : ℕ} {write : Bool} {left right : PropRead} where
-  pub joins_not_sides : {r : PropRead} {t : Bool} → t ≡ sides_agree c (standing left.own p) (standing right.own q) → t ≡ false → length text < r.end
-      → Joins c p q text code to write left right code r
-  joins_not_sides a e h = record { fails = λ k. sym a ∙ e; gives = λ k. absurd (omega arith); dry = λ k. refl }
-
 -- what it is that they agree
 pub sides_are : (c : Connective) (p q : Shown (Prop Name)) → sides_agree c p q ≡ true
     → (same p.own (wraps_left c (precedence p.shown)) ≡ true) × (same q.own (wraps_right c (precedence q.shown)) ≡ true)
@@ -114,16 +108,15 @@ not_same false e = refl
 
 module _ {c : Connective} {p q : Prop Name} {text code after : List ℕ} {to : ℕ} {write : Bool} {left right : PropRead} (m : Measured left p) (n : Measured right q) where
   pub joins_sides : {t : Bool} {deep strength : ℕ} → t ≡ sides_agree c (standing left.own p) (standing right.own q) → t ≡ true
-      → right.end ≤ length text → after ≡ inserted write code to (left.size + right.size) (connective_byte c)
+      → after ≡ inserted write code to (left.size + right.size) (connective_byte c)
       → deep ≡ max left.nesting right.nesting → strength ≡ connective_precedence c
       → Joins c p q text code to write left right after
-      (record { end = right.end; count = right.count; size = 1 + left.size + right.size; nesting = deep + 1; strength = strength; bottom = false; own = false })
+      (Some (record { end = right.end; count = right.count; size = 1 + left.size + right.size; nesting = deep + 1; strength = strength; bottom = false; own = false }))
   unfolding nesting precedence is_false standing
-  joins_sides {t} {deep} {strength} a e h stored deeper strong =
+  joins_sides {t} {deep} {strength} a e stored deeper strong =
       let agrees : sides_agree c (standing left.own p) (standing right.own q) ≡ true = sym a ∙ e in
       record {
-        fails = λ k. absurd (omega arith);
-        gives = λ k. record {
+        answer = record {
           agrees = agrees;
           end_is = refl;
           own_is = refl;

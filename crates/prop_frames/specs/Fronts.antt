@@ -1,5 +1,5 @@
 -- What stands in front of a part and after it: a negation's sign, a bracket, a quantifier with its names.
-use Rattle.std.specs.Prelude.{ℕ, ◌+◌, ◌*◌, ◌<◌, ◌≤◌, ◌≡◌, Bool, true, false, List, [], ◌∷◌, ◌++◌, length, drop, ltb, None}
+use Rattle.std.specs.Prelude.{ℕ, ◌+◌, ◌*◌, ◌<◌, ◌≤◌, ◌≡◌, Bool, true, false, List, [], ◌∷◌, ◌++◌, length, drop, ltb, None, Option, MatchOption}
 use Rattle.definitions.specs.Utf8.{utf8}
 use Rattle.definitions.specs.Name.{Name}
 use Rattle.definitions.specs.Prop.{Prop, False, Binary, Quantified, impl, Quantifier, quantifier_byte}
@@ -91,6 +91,7 @@ binder_names = do
 
 -- those that were read, and their numbers
 pub record BinderGiven (text : List ℕ) (at : ℕ) (pairs : List ℕ) (count : ℕ) (after : List ℕ) (r : BinderRead) (b : Binder) : Type 0 where
+  pub within : r.end ≤ length text
   pub reads : binder_names (drop at text) ≡ given b (drop r.end text)
   pub noted : Noted (b.object ∷ b.datatype ∷ []) text pairs count after r.count
   pub object_is : r.object ≡ number_in (table_names after text r.count) b.object
@@ -99,10 +100,10 @@ pub record BinderGiven (text : List ℕ) (at : ℕ) (pairs : List ℕ) (count : 
   pub datatype_below : r.datatype < r.count
   pub from : at + 5 ≤ r.end
 
--- the answer of their reader; past the end of the text where there are none, or too many names
-pub record BinderAnswer (text : List ℕ) (at : ℕ) (pairs : List ℕ) (count : ℕ) (after : List ℕ) (r : BinderRead) : Type 0 where
-  pub fails : length text < r.end → Gives (binder_names (drop at text)) (λ b rest. Crowded (table_names pairs text count) (b.object ∷ b.datatype ∷ []))
-  pub gives : r.end ≤ length text → (b : Binder) × BinderGiven text at pairs count after r b
+-- there are none, or too many
+abbrev pub BinderLacks : List ℕ → ℕ → List ℕ → ℕ → Type 0
+BinderLacks text at pairs count =
+    Gives (binder_names (drop at text)) (λ b rest. Crowded (table_names pairs text count) (b.object ∷ b.datatype ∷ []))
 
 -- the code of a quantifier's sign and names
 unfoldable pub binder_code : ℕ → ℕ → ℕ → List ℕ
@@ -118,6 +119,7 @@ pub record FrontBegins (text pairs bound : List ℕ) (p : Place) (sign : ℕ) : 
 pub record FrontGiven
     (g : Sign) (names : List Name) (text pairs bound code : List ℕ) (p : Place) (write : Bool) (after bound' code' : List ℕ) (r : Place) (f : Front)
     : Type 0 where
+  pub within : r.at ≤ length text
   pub reads : (part : Part)
       → signed part names g (drop (p.at + sign_size g) text)
       ≡ followed_by (part (part_least f) (part_bound f names) (drop r.at text)) (closing f)
@@ -131,13 +133,13 @@ pub record FrontGiven
   pub from : p.at < r.at
   pub small : front_bytes f + 1 + 2 * p.at ≤ 2 * r.at
 
--- the answer of a reader of fronts; past the end of the text where there is none, or too many names
+-- the answer of a reader of fronts; none where there is none, or too many names
 pub record FrontAnswer
-    (g : Sign) (names : List Name) (text pairs bound code : List ℕ) (p : Place) (write : Bool) (after bound' code' : List ℕ) (r : Place)
+    (g : Sign) (names : List Name) (text pairs bound code : List ℕ) (p : Place) (write : Bool) (after bound' code' : List ℕ) (r : Option Place)
     : Type 0 where
-  pub fails : length text < r.at → (part : Part)
-      → Gives (signed part names g (drop (p.at + sign_size g) text)) (λ q rest. Crowded (table_names pairs text p.count) (prop_names q.shown))
-  pub gives : r.at ≤ length text → (f : Front) × FrontGiven g names text pairs bound code p write after bound' code' r f
+  pub answer : MatchOption r ((part : Part)
+      → Gives (signed part names g (drop (p.at + sign_size g) text)) (λ q rest. Crowded (table_names pairs text p.count) (prop_names q.shown)))
+      (λ r. (f : Front) × FrontGiven g names text pairs bound code p write after bound' code' r f)
   pub bound_kept : bound_numbers bound' p.depth ≡ bound_numbers bound p.depth
   pub dry : write ≡ false → code' ≡ code
 
@@ -162,14 +164,14 @@ enclosed part bytes strength =
 
 -- the whole that is made of its part, and what became of the code
 pub record ClosedGiven (f : Front) (q : Prop Name) (text code : List ℕ) (to : ℕ) (write : Bool) (part : PropRead) (code' : List ℕ) (r : PropRead) : Type 0 where
+  pub within : r.end ≤ length text
   pub reads : closing f (standing part.own q) (drop part.end text) ≡ given (standing r.own (around f q)) (drop r.end text)
   pub measured : Measured r (around f q)
   pub stored : code' ≡ puts write code (to + part.size) (back_code f)
   pub count_is : r.count ≡ part.count
   pub from : part.end ≤ r.end
 
--- the whole, or a place past the end of the text where the part stands in other brackets than are due
-pub record Closes (f : Front) (q : Prop Name) (text code : List ℕ) (to : ℕ) (write : Bool) (part : PropRead) (code' : List ℕ) (r : PropRead) : Type 0 where
-  pub fails : length text < r.end → closing f (standing part.own q) (drop part.end text) ≡ None
-  pub gives : r.end ≤ length text → ClosedGiven f q text code to write part code' r
+-- the whole, or none where the part stands in other brackets than are due
+pub record Closes (f : Front) (q : Prop Name) (text code : List ℕ) (to : ℕ) (write : Bool) (part : PropRead) (code' : List ℕ) (r : Option PropRead) : Type 0 where
+  pub answer : MatchOption r (closing f (standing part.own q) (drop part.end text) ≡ None) (ClosedGiven f q text code to write part code')
   pub dry : write ≡ false → code' ≡ code

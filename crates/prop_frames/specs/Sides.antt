@@ -1,5 +1,5 @@
 -- The two sides of a connective.
-use Rattle.std.specs.Prelude.{ℕ, ◌+◌, ◌<◌, ◌≤◌, ◌≡◌, Bool, true, false, ◌&&◌, List, ◌∷◌, length, drop, take, None}
+use Rattle.std.specs.Prelude.{ℕ, ◌+◌, ◌<◌, ◌≤◌, ◌≡◌, Bool, true, false, ◌&&◌, List, ◌∷◌, length, drop, take, None, Option, MatchOption}
 use Rattle.definitions.specs.Name.{Name}
 use Rattle.definitions.specs.Prop.{Prop, Binary, Connective, connective_byte}
 use Rattle.definitions.specs.Display.{precedence, is_negation, wraps_left, wraps_right}
@@ -41,9 +41,8 @@ pub record JoinedGiven
   pub measured : Measured r (Binary c p q)
   pub stored : code' ≡ inserted write code to (left.size + right.size) (connective_byte c)
 
--- the whole, or a place past the end of the text where the sides do not agree with the connective
+-- the whole, or none where the sides do not agree with the connective
 pub record Joins
-    (c : Connective) (p q : Prop Name) (text code : List ℕ) (to : ℕ) (write : Bool) (left right : PropRead) (code' : List ℕ) (r : PropRead) : Type 0 where
-  pub fails : length text < r.end → sides_agree c (standing left.own p) (standing right.own q) ≡ false
-  pub gives : r.end ≤ length text → JoinedGiven c p q code to write left right code' r
+    (c : Connective) (p q : Prop Name) (text code : List ℕ) (to : ℕ) (write : Bool) (left right : PropRead) (code' : List ℕ) (r : Option PropRead) : Type 0 where
+  pub answer : MatchOption r (sides_agree c (standing left.own p) (standing right.own q) ≡ false) (JoinedGiven c p q code to write left right code')
   pub dry : write ≡ false → code' ≡ code

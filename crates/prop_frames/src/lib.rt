@@ -1,9 +1,9 @@
 // What stands around the parts of a proposition, read from strict text into prefix code: a negation's sign, brackets, a quantifier
-// with its names, a connective between two sides. A reader gives the place after what it read, or a place past the end of the text
-// where that does not stand there or there are too many names.
+// with its names, a connective between two sides. A reader gives what it read, or none where that does not stand there or there are
+// too many names.
 #![tactic(auto)]
 
-ghost use Rattle.std.specs.Prelude.{◌≡◌, List, ℕ, ◌+◌, ◌≤◌, ◌<◌, max, length, drop};
+ghost use Rattle.std.specs.Prelude.{◌≡◌, List, ℕ, ◌+◌, ◌≤◌, ◌<◌, length, drop, Some, MatchOption};
 ghost use Rattle.definitions.specs.Name.{Name};
 ghost use Rattle.definitions.specs.Prop.{Prop, Connective, connective_byte};
 ghost use Rattle.definitions.specs.TermReader.{standing, same, Sign, signed};
@@ -13,10 +13,10 @@ ghost use Rattle.words.specs.Table.{table_names, Table};
 ghost use Rattle.prop_parts.specs.Found.{sign_number, sign_size};
 ghost use Rattle.atom_reader.specs.Scope.{Binds};
 ghost use Rattle.atom_reader.specs.Reading.{Measured, PropAnswer};
-ghost use Rattle.prop_frames.specs.Fronts.{Part, Front, front_number, part_least, BinderAnswer, binder_code, FrontBegins, FrontAnswer, Closable, enclosed, Closes};
+ghost use Rattle.prop_frames.specs.Fronts.{Part, Front, front_number, part_least, BinderLacks, Binder, BinderGiven, binder_code, FrontBegins, FrontAnswer, Closable, enclosed, Closes};
 ghost use Rattle.prop_frames.specs.Sides.{GoesOnAt, sides_agree, inserted, Joinable, Joins};
 
-use atom_reader::{Place, PropRead, STRONGEST, no_prop};
+use atom_reader::{Place, PropRead, STRONGEST};
 use output::put;
 use prefix_code::{FALSE, IMPL};
 use prop_parts::{
@@ -26,7 +26,7 @@ use prop_parts::{
 use words::expect;
 
 // The names of a quantifier: where they end, their numbers, and how many names there are now.
-#[derive(Drop)]
+#[derive(Clone, Copy)]
 pub struct BinderRead {
     pub end: usize,
     pub object: usize,
@@ -35,47 +35,30 @@ pub struct BinderRead {
 }
 
 // Whether something stands in brackets of its own exactly where these are due.
+#[tactic(auto, using(crate::proofs::Fronts::equal_same))]
 fn agree(own: bool, due: bool) -> bool
     ensures { result ≡ same own due }
 {
-    if own {
-        return due;
-    }
-    !due
+    own == due
 }
 
 // The names of a quantifier, after its sign.
-fn binder_names(text: &[u8], at: usize, names: &mut [u8], count: usize) -> BinderRead
+fn binder_names(text: &[u8], at: usize, names: &mut [u8], count: usize) -> Option<BinderRead>
     requires { Table names.old text.now count
         × (at ≤ length text.now) × (length text.now ≤ term_text_limit) }
-    ensures { BinderAnswer text.now at names.old count names.new result }
+    ensures { MatchOption result (BinderLacks text.now at names.old count)
+        (λ r. (b : Binder) × BinderGiven text.now at names.old count names.new r b) }
 {
-    let none = BinderRead {
-        end: text.len() + 1,
-        object: 0,
-        datatype: 0,
-        count,
-    };
-    let object = read_name(text, at, names, count);
-    let object_end = object.end;
-    if text.len() < object_end {
-        return none;
-    }
-    let colon = expect(text, object_end, b":");
-    if text.len() < colon {
-        return none;
-    }
-    let datatype = read_name(text, colon, names, object.count);
-    let datatype_end = datatype.end;
-    if text.len() < datatype_end {
-        return none;
-    }
-    BinderRead {
-        end: expect(text, datatype_end, b". "),
+    let object = read_name(text, at, names, count)?;
+    let colon = expect(text, object.end, b":")?;
+    let datatype = read_name(text, colon, names, object.count)?;
+    let end = expect(text, datatype.end, b". ")?;
+    Some(BinderRead {
+        end,
         object: object.number,
         datatype: datatype.number,
         count: datatype.count,
-    }
+    })
 }
 
 // What stands in the code of a quantifier before its part.
@@ -98,7 +81,7 @@ pub fn open_front(
     p: Place,
     sign: u8,
     write: bool,
-) -> Place
+) -> Option<Place>
     requires { FrontBegins text.now names.old bound.old p sign }
     ensures { (g : Sign) (ns : List Name) → sign ≡ sign_number g →
         Binds ns (table_names names.old text.now p.count) bound.old p.depth →
@@ -109,40 +92,25 @@ pub fn open_front(
     let depth = p.depth;
     let at = p.at + sign_size(sign);
     if sign == BRACKET {
-        return Place {
-            at,
-            count: p.count,
-            depth,
-            to,
-        };
+        return Some(Place { at, ..p });
     }
     if sign == IMPL {
         put(code, to, IMPL, write);
-        return Place {
+        return Some(Place {
             at,
-            count: p.count,
-            depth,
             to: to + 1,
-        };
+            ..p
+        });
     }
-    let read = binder_names(text, at, names, p.count);
-    let object = read.object;
-    if read.end <= text.len() {
-        put_binder(code, to, sign, object, read.datatype, write);
-        bound[depth] = object as u16;
-        return Place {
-            at: read.end,
-            count: read.count,
-            depth: depth + 1,
-            to: to + 5,
-        };
-    }
-    Place {
+    let read = binder_names(text, at, names, p.count)?;
+    put_binder(code, to, sign, read.object, read.datatype, write);
+    bound[depth] = read.object as u16;
+    Some(Place {
         at: read.end,
         count: read.count,
-        depth,
-        to,
-    }
+        depth: depth + 1,
+        to: to + 5,
+    })
 }
 
 // How strongly the part after a sign binds at least.
@@ -156,18 +124,18 @@ pub fn part_least(sign: u8) -> usize
 }
 
 // A proposition around its part, with so many bytes more in code.
+#[tactic(auto, unfolding(crate::specs::Fronts::enclosed))]
 fn enclosing(part: PropRead, bytes: usize, strength: usize) -> PropRead
     requires { (part.size < 200000) × (part.nesting < 200000) × (bytes < 256) }
     ensures { result ≡ enclosed part bytes strength }
 {
     PropRead {
-        end: part.end,
-        count: part.count,
         size: part.size + bytes,
         nesting: part.nesting + 1,
         strength,
         bottom: false,
         own: false,
+        ..part
     }
 }
 
@@ -179,36 +147,33 @@ pub fn close_prop(
     sign: u8,
     part: PropRead,
     write: bool,
-) -> PropRead
+) -> Option<PropRead>
     requires { Closable text.now to part }
     ensures { (f : Front) (q : Prop Name) → sign ≡ front_number f → Measured part q →
         Closes f q text.now code.old to write part code.new result }
 {
     if sign == BRACKET {
         if part.own {
-            return no_prop(text);
+            return None;
         }
-        return PropRead {
-            end: expect(text, part.end, b")"),
-            count: part.count,
-            size: part.size,
-            nesting: part.nesting,
-            strength: part.strength,
-            bottom: part.bottom,
+        let end = expect(text, part.end, b")")?;
+        return Some(PropRead {
+            end,
             own: true,
-        };
+            ..part
+        });
     }
     if sign == IMPL {
         if !agree(part.own, part.strength < STRONGEST) {
-            return no_prop(text);
+            return None;
         }
         put(code, to + part.size, FALSE, write);
-        return enclosing(part, 2, STRONGEST);
+        return Some(enclosing(part, 2, STRONGEST));
     }
     if part.own {
-        return no_prop(text);
+        return None;
     }
-    enclosing(part, 5, 1)
+    Some(enclosing(part, 5, 1))
 }
 
 // ⊤ or ⊥, whose sign stands at `p`.
@@ -217,7 +182,7 @@ pub fn read_constant(text: &[u8], code: &mut [u8], p: Place, sign: u8, write: bo
     ensures { (g : Sign) (part : Part) (ns : List Name) (pairs bound : List ℕ) →
         sign ≡ sign_number g → sign ≤ 1 → Table pairs text.now p.count →
         PropAnswer (signed part ns g (drop (p.at + sign_size g) text.now))
-        text.now pairs bound code.old p write pairs bound code.new result }
+        text.now pairs bound code.old p write pairs bound code.new (Some result) }
 {
     put(code, p.to, sign, write);
     PropRead {
@@ -263,16 +228,6 @@ fn may_join(connective: u8, left: PropRead, right: PropRead) -> bool
     true
 }
 
-// The larger of two numbers.
-fn larger(a: usize, b: usize) -> usize
-    ensures { result ≡ max a b }
-{
-    if a < b {
-        return b;
-    }
-    a
-}
-
 // Puts one byte in front of so many from `to` on.
 fn insert(code: &mut [u8], to: usize, size: usize, b: u8, write: bool)
     requires { to + size < 200000 }
@@ -305,23 +260,23 @@ pub fn join(
     left: PropRead,
     right: PropRead,
     write: bool,
-) -> PropRead
+) -> Option<PropRead>
     requires { Joinable text.now to left right }
     ensures { (c : Connective) (p q : Prop Name) →
         connective ≡ connective_byte c → Measured left p → Measured right q →
         Joins c p q text.now code.old to write left right code.new result }
 {
     if !may_join(connective, left, right) {
-        return no_prop(text);
+        return None;
     }
     insert(code, to, left.size + right.size, connective, write);
-    PropRead {
+    Some(PropRead {
         end: right.end,
         count: right.count,
         size: 1 + left.size + right.size,
-        nesting: larger(left.nesting, right.nesting) + 1,
+        nesting: left.nesting.max(right.nesting) + 1,
         strength: strength_of(connective),
         bottom: false,
         own: false,
-    }
+    })
 }

@@ -1,10 +1,9 @@
 -- Bytes that are stored one after another.
-use Prim.Native.Nat.{ℕ, suc, ◌+◌}
-use mathlib.Core.Path.{◌≡◌, refl, sym, ap, ◌∙◌}
+use Prim.Native.Nat.{ℕ, ◌+◌}
+use mathlib.Core.Path.{◌≡◌, refl}
 use mathlib.Core.Bool.{Bool, true, false}
 use mathlib.Core.List.{List, [], ◌∷◌, ◌++◌}
 use lib.ListN.{length}
-use lib.Seq.{sets}
 use Rattle.definitions.specs.Prop.{Uninstantiated, Instantiated}
 use Rattle.definitions.specs.Code.{u16, encode_parameter}
 use Rattle.output.specs.Wrote.{puts}

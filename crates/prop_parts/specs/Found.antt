@@ -1,15 +1,15 @@
 -- What stands at a place of the text, as the reader of propositions finds it.
-use Rattle.std.specs.Prelude.{ℕ, zero, suc, ◌+◌, ◌<◌, ◌≤◌, ◌≡◌, Bool, true, false, cond, List, [], ◌∷◌, length, get_or, drop, eqb, Option, None, Some}
+use Rattle.std.specs.Prelude.{ℕ, zero, suc, ◌+◌, ◌<◌, ◌≤◌, ◌≡◌, Bool, true, false, List, [], ◌∷◌, length, get_or, drop, eqb, None, Some}
 use Rattle.definitions.specs.Name.{Name}
-use Rattle.definitions.specs.Prop.{Connective, connective_byte, PropParameter, Uninstantiated, Instantiated, Quantifier, quantifier_byte}
-use Rattle.definitions.specs.Sheet.{name_limit, marked}
+use Rattle.definitions.specs.Prop.{Connective, connective_byte, PropParameter, Uninstantiated, Instantiated, quantifier_byte}
+use Rattle.definitions.specs.Sheet.{marked}
 use Rattle.definitions.specs.Code.{Read, encode_parameter}
 use Rattle.definitions.specs.TermReader.{connective, Sign, top, bottom, negation, bracket, binder, sign, name}
 use Rattle.definitions.specs.Text.{occurs}
 use Rattle.definitions.proofs.Readings.{given}
 use Rattle.output.specs.Wrote.{puts}
 use Rattle.words.specs.Places.{between}
-use Rattle.words.specs.Table.{add_name, number_in, table_names, Noted}
+use Rattle.words.specs.Table.{add_name, number_in, table_names, TooMany, Noted}
 use Rattle.prop_parts.specs.declared.NameRead.{NameRead}
 
 -- the connective at a place: its byte, and 9 for none
@@ -37,15 +37,19 @@ pub data SignAt (text : List ℕ) (at : ℕ) : ℕ → Type 0 where
   signs : (g : Sign) → at + sign_size g ≤ length text → sign (drop at text) ≡ given g (drop (at + sign_size g) text) → SignAt text at (sign_number g)
   signs_not : sign (drop at text) ≡ None → SignAt text at 9
 
--- the name at a place, with its number; past the end where there is none, or one too many
+-- there is no name, or one too many
+abbrev pub NameLacks : List ℕ → ℕ → List ℕ → ℕ → Type 0
+NameLacks text at pairs count = (x : Read Name) → name (drop at text) ≡ Some x → TooMany x.value text pairs count
+
+-- the name at a place, with its number
 pub record NameGiven (text : List ℕ) (at : ℕ) (pairs : List ℕ) (count : ℕ) (after : List ℕ) (r : NameRead) : Type 0 where
-  pub fails : length text < r.end → (x : Read Name) → name (drop at text) ≡ Some x → name_limit < length (add_name (table_names pairs text count) x.value)
-  pub gives : r.end ≤ length text → name (drop at text) ≡ given (between at r.end text) (drop r.end text)
-  pub from : r.end ≤ length text → at < r.end
-  pub noted : r.end ≤ length text → Noted (between at r.end text ∷ []) text pairs count after r.count
-  pub number_is : r.end ≤ length text → r.number ≡ number_in (add_name (table_names pairs text count) (between at r.end text)) (between at r.end text)
-  pub below : r.end ≤ length text → r.number < r.count
-  pub marks : r.end ≤ length text → marked after text r.number ≡ between at r.end text
+  pub within : r.end ≤ length text
+  pub reads : name (drop at text) ≡ given (between at r.end text) (drop r.end text)
+  pub from : at < r.end
+  pub noted : Noted (between at r.end text ∷ []) text pairs count after r.count
+  pub number_is : r.number ≡ number_in (add_name (table_names pairs text count) (between at r.end text)) (between at r.end text)
+  pub below : r.number < r.count
+  pub marks : marked after text r.number ≡ between at r.end text
 
 -- the numbers that so many quantifiers bind, the innermost in front
 unfoldable pub bound_numbers : List ℕ → ℕ → List ℕ

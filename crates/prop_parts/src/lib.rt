@@ -1,8 +1,7 @@
-// The parts of a label's text and of its code: signs, connectives and names, and the bytes that stand for them. A reader gives a
-// place past the end of the text where nothing stands.
+// The parts of a label's text and of its code: signs, connectives and names, and the bytes that stand for them.
 #![tactic(auto)]
 
-ghost use Rattle.std.specs.Prelude.{◌≡◌, ◌≤◌, ◌<◌, length};
+ghost use Rattle.std.specs.Prelude.{◌≡◌, ◌≤◌, ◌<◌, length, MatchOption};
 ghost use Rattle.definitions.specs.Prop.{Connective, connective_byte};
 ghost use Rattle.definitions.specs.Code.{u16};
 ghost use Rattle.definitions.specs.Display.{connective_precedence, wraps_left, wraps_right};
@@ -10,11 +9,11 @@ ghost use Rattle.definitions.specs.TermReader.{Sign, right_least};
 ghost use Rattle.definitions.specs.TermText.{term_text_limit};
 ghost use Rattle.output.specs.Wrote.{puts};
 ghost use Rattle.words.specs.Table.{Table};
-ghost use Rattle.prop_parts.specs.Found.{ConnectiveAt, sign_number, sign_size, SignAt, NameGiven, BoundNumber, ParameterPut};
+ghost use Rattle.prop_parts.specs.Found.{ConnectiveAt, sign_number, sign_size, SignAt, NameLacks, NameGiven, BoundNumber, ParameterPut};
 
 use output::put;
 use prefix_code::{AND, EXISTS, FALSE, FOR_ALL, IMPL, OR, TRUE};
-use words::{NAME_LIMIT, expect, name_end, number_of_name};
+use words::{expect, name_end, number_of_name};
 
 // What follows is in brackets: no head byte.
 pub const BRACKET: u8 = 8;
@@ -26,7 +25,7 @@ pub const NO_HEAD: u8 = 9;
 pub const CONNECTIVE_SIZE: usize = 5;
 
 // A name that was read: where it ends, its number, and how many names there are now.
-#[derive(Drop)]
+#[derive(Clone, Copy)]
 pub struct NameRead {
     pub end: usize,
     pub number: usize,
@@ -38,13 +37,13 @@ pub fn connective_at(text: &[u8], at: usize) -> u8
     requires { at ≤ length text.now }
     ensures { ConnectiveAt text.now at result }
 {
-    if expect(text, at, b" \xE2\x88\xA7 ") <= text.len() {
+    if expect(text, at, b" \xE2\x88\xA7 ").is_some() {
         return AND;
     }
-    if expect(text, at, b" \xE2\x88\xA8 ") <= text.len() {
+    if expect(text, at, b" \xE2\x88\xA8 ").is_some() {
         return OR;
     }
-    if expect(text, at, b" \xE2\x8A\x83 ") <= text.len() {
+    if expect(text, at, b" \xE2\x8A\x83 ").is_some() {
         return IMPL;
     }
     NO_HEAD
@@ -55,22 +54,22 @@ pub fn sign_at(text: &[u8], at: usize) -> u8
     requires { at ≤ length text.now }
     ensures { SignAt text.now at result }
 {
-    if expect(text, at, b"\xE2\x8A\xA4") <= text.len() {
+    if expect(text, at, b"\xE2\x8A\xA4").is_some() {
         return TRUE;
     }
-    if expect(text, at, b"\xE2\x8A\xA5") <= text.len() {
+    if expect(text, at, b"\xE2\x8A\xA5").is_some() {
         return FALSE;
     }
-    if expect(text, at, b"\xC2\xAC") <= text.len() {
+    if expect(text, at, b"\xC2\xAC").is_some() {
         return IMPL;
     }
-    if expect(text, at, b"(") <= text.len() {
+    if expect(text, at, b"(").is_some() {
         return BRACKET;
     }
-    if expect(text, at, b"\xE2\x88\x80") <= text.len() {
+    if expect(text, at, b"\xE2\x88\x80").is_some() {
         return FOR_ALL;
     }
-    if expect(text, at, b"\xE2\x88\x83") <= text.len() {
+    if expect(text, at, b"\xE2\x88\x83").is_some() {
         return EXISTS;
     }
     NO_HEAD
@@ -141,35 +140,20 @@ pub fn wraps_right(connective: u8, strength: usize) -> bool
     strength < 2
 }
 
-// The name at `at`, with its number.
-pub fn read_name(text: &[u8], at: usize, names: &mut [u8], count: usize) -> NameRead
+// The name at `at`, with its number; none where no name stands there or there are too many.
+pub fn read_name(text: &[u8], at: usize, names: &mut [u8], count: usize) -> Option<NameRead>
     requires { Table names.old text.now count
         × (at ≤ length text.now) × (length text.now ≤ term_text_limit) }
-    ensures { NameGiven text.now at names.old count names.new result }
+    ensures { MatchOption result (NameLacks text.now at names.old count)
+        (NameGiven text.now at names.old count names.new) }
 {
-    let none = text.len() + 1;
-    let end = name_end(text, at);
-    if text.len() < end {
-        return NameRead {
-            end: none,
-            number: NAME_LIMIT,
-            count,
-        };
-    }
-    let found = number_of_name(text, at, end, names, count);
-    let number = found.number;
-    if NAME_LIMIT <= number {
-        return NameRead {
-            end: none,
-            number: NAME_LIMIT,
-            count,
-        };
-    }
-    NameRead {
+    let end = name_end(text, at)?;
+    let found = number_of_name(text, at, end, names, count)?;
+    Some(NameRead {
         end,
-        number,
+        number: found.number,
         count: found.count,
-    }
+    })
 }
 
 // A number of two bytes, low byte first.
@@ -177,21 +161,19 @@ pub fn put_u16(code: &mut [u8], to: usize, n: usize, write: bool)
     requires { (to < 300000) × (n < 65536) }
     ensures { code.new ≡ puts write code.old to (u16 n) }
 {
-    put(code, to, (n % 256) as u8, write);
-    put(code, to + 1, (n / 256) as u8, write);
+    output::put_u16(code, to, n as u16, write);
 }
 
 // Whether a name is bound by one of so many quantifiers.
+#[tactic(auto, using(crate::proofs::Named::bound_here, crate::proofs::Named::bound_later), unfolding(crate::specs::Found::bound_numbers, definitions::specs::Text::occurs))]
 pub fn is_bound(bound: &[u16], depth: usize, number: usize) -> bool
     requires { depth ≤ length bound.now }
     ensures { BoundNumber bound.now depth number result }
 {
-    let mut i = depth;
-    while 0 < i {
-        if bound[i - 1] as usize == number {
+    for i in (0..depth).rev() {
+        if usize::from(bound[i]) == number {
             return true;
         }
-        i -= 1;
     }
     false
 }

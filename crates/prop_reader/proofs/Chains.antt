@@ -131,28 +131,27 @@ pub record Joining
   pub dry : write ≡ false → code' ≡ code
 
 -- The first unit.
-module _ (names : List Name) {text pairs bound code after bound' code' : List ℕ} {p : Place} {levels : ℕ} (least : ℕ) {write : Bool} {left : PropRead}
-    (Some : levels ≡ 0 → ⊥)
-    (answer : PropAnswer (unit (read_prop (levels - 1)) names (drop p.at text)) text pairs bound code p write after bound' code' left) where
-  pub unit_fails : length text < left.end
-      → PropAnswer (read_prop levels least names (drop p.at text)) text pairs bound code p write after bound' code' left
-  unit_fails h = record {
-    fails = λ l.
-        rw (level levels least names (drop p.at text) Some)
-        (gives_then _ _ (unit (read_prop (levels - 1)) names (drop p.at text)) _ (answer.fails h) λ q t k.
+module _ (names : List Name) {text pairs bound code after bound' code' : List ℕ} {p : Place} {levels : ℕ} (least : ℕ) {write : Bool}
+    (deep : levels ≡ 0 → ⊥) where
+  pub unit_fails : PropAnswer (unit (read_prop (levels - 1)) names (drop p.at text)) text pairs bound code p write after bound' code' None
+      → PropAnswer (read_prop levels least names (drop p.at text)) text pairs bound code p write after bound' code' None
+  unit_fails answer = record {
+    answer =
+        rw (level levels least names (drop p.at text) deep)
+        (gives_then _ _ (unit (read_prop (levels - 1)) names (drop p.at text)) _ answer.answer λ q t k.
         joined_crowded (read_prop (levels - 1)) names (table_names pairs text p.count) (levels - 1) least q t k);
-    gives = λ l. absurd (omega arith);
     bound_kept = answer.bound_kept;
     dry = answer.dry;
   }
 
-  pub joining_starts : left.end ≤ length text → Joining names text pairs bound code p levels least write after bound' code' left (levels - 1)
+  pub joining_starts : {left : PropRead} → PropAnswer (unit (read_prop (levels - 1)) names (drop p.at text)) text pairs bound code p write after bound' code' (Some left)
+      → Joining names text pairs bound code p levels least write after bound' code' left (levels - 1)
   unfolding followed_by
-  joining_starts h =
-      let (q, reads, read) = answer.gives h in
+  joining_starts answer =
+      let (q, reads, read) = answer.answer in
       record {
         prop = q;
-        reads = level levels least names (drop p.at text) Some ∙ rw reads refl;
+        reads = level levels least names (drop p.at text) deep ∙ rw reads refl;
         read = read;
         bound_kept = answer.bound_kept;
         dry = answer.dry;
@@ -160,26 +159,25 @@ module _ (names : List Name) {text pairs bound code after bound' code' : List �
 
 -- Each turn.
 module _ {names : List Name} {text pairs bound code after bound' code' : List ℕ} {p : Place} {levels least : ℕ} {write : Bool} {left : PropRead} {most : ℕ}
-    (j : Joining names text pairs bound code p levels least write after bound' code' left most) (within : left.end ≤ length text) where
+    (j : Joining names text pairs bound code p levels least write after bound' code' left most) where
   ends : read_prop levels least names (drop p.at text) ≡ given (standing left.own j.prop) (drop left.end text)
-      → PropAnswer (read_prop levels least names (drop p.at text)) text pairs bound code p write after bound' code' left
+      → PropAnswer (read_prop levels least names (drop p.at text)) text pairs bound code p write after bound' code' (Some left)
   ends e = record {
-    fails = λ l. absurd (omega arith);
-    gives = λ l. (j.prop, e, j.read);
+    answer = (j.prop, e, j.read);
     bound_kept = j.bound_kept;
     dry = j.dry;
   }
 
   -- no more connectives are read
-  pub joining_done : most ≡ 0 → PropAnswer (read_prop levels least names (drop p.at text)) text pairs bound code p write after bound' code' left
+  pub joining_done : most ≡ 0 → PropAnswer (read_prop levels least names (drop p.at text)) text pairs bound code p write after bound' code' (Some left)
   unfolding joined yield
   joining_done e = ends (j.reads ∙ rw e refl)
 
   pub joining_ends : {b : ℕ} → 0 < most → GoesOnAt text left.end least b → b ≡ 9
-      → PropAnswer (read_prop levels least names (drop p.at text)) text pairs bound code p write after bound' code' left
+      → PropAnswer (read_prop levels least names (drop p.at text)) text pairs bound code p write after bound' code' (Some left)
   joining_ends h found e =
-      let Some : most ≡ suc (most - 1) = omega arith in
-      ends (j.reads ∙ rw Some (joined_ends (read_prop (levels - 1)) names (most - 1) least _ _ (goes_lacks found e)))
+      let more : most ≡ suc (most - 1) = omega arith in
+      ends (j.reads ∙ rw more (joined_ends (read_prop (levels - 1)) names (most - 1) least _ _ (goes_lacks found e)))
 
   -- where the right side may begin
   pub right_begins : Begins text pairs bound p levels 0 → Binds names (table_names pairs text p.count) bound p.depth → (levels ≡ 0 → ⊥)
@@ -194,41 +192,44 @@ module _ {names : List Name} {text pairs bound code after bound' code' : List �
     binds = (names, binds_noted b j.read.noted j.bound_kept);
   }
 
-  module _ (Some : 0 < most) {c : Connective} (goes : goes_on least (drop left.end text) ≡ given c (drop (left.end + 5) text))
-      {asked : ℕ} (Asked-is : asked ≡ right_least c) {after₂ bound₂ code₂ : List ℕ} {right : PropRead}
-      (read : PropAnswer (read_prop (levels - 1) asked names (drop (left.end + 5) text)) text after bound' code'
-      (record { at = left.end + 5; count = left.count; depth = p.depth; to = p.to + left.size }) write after₂ bound₂ code₂ right) where
-    answer : PropAnswer (read_prop (levels - 1) (right_least c) names (drop (left.end + 5) text)) text after bound' code'
+  module _ (some_left : 0 < most) {c : Connective} (goes : goes_on least (drop left.end text) ≡ given c (drop (left.end + 5) text))
+      {asked : ℕ} (asked_is : asked ≡ right_least c) where
+    -- the answer of the reader of the right side
+    abbrev Right : ℕ → List ℕ → List ℕ → List ℕ → Option PropRead → Type 0
+    Right least after₂ bound₂ code₂ right =
+        PropAnswer (read_prop (levels - 1) least names (drop (left.end + 5) text)) text after bound' code'
         (record { at = left.end + 5; count = left.count; depth = p.depth; to = p.to + left.size }) write after₂ bound₂ code₂ right
-    answer = rw Asked-is at read
 
-    pub right_not : length text < right.end
-        → PropAnswer (read_prop levels least names (drop p.at text)) text pairs bound code p write after₂ bound₂ code₂ right
+    abbrev Whole : List ℕ → List ℕ → List ℕ → Option PropRead → Type 0
+    Whole after₂ bound₂ code₃ whole = PropAnswer (read_prop levels least names (drop p.at text)) text pairs bound code p write after₂ bound₂ code₃ whole
+
+    answer : {after₂ bound₂ code₂ : List ℕ} {right : Option PropRead} → Right asked after₂ bound₂ code₂ right → Right (right_least c) after₂ bound₂ code₂ right
+    answer read = rw asked_is at read
+
+    pub right_not : {after₂ bound₂ code₂ : List ℕ} → Right asked after₂ bound₂ code₂ None → Whole after₂ bound₂ code₂ None
     unfolding standing
-    right_not h = record {
-      fails = λ l.
+    right_not read = record {
+      answer =
           let more : most ≡ suc (most - 1) = omega arith in
           rw (j.reads, more)
           (joined_right (read_prop (levels - 1)) names (table_names pairs text p.count) (most - 1) least (standing left.own j.prop) _ _ c goes
-          (rw j.read.noted.names at (answer.fails h)));
-      gives = λ l. absurd (omega arith);
-      bound_kept = answer.bound_kept ∙ j.bound_kept;
-      dry = λ l. answer.dry l ∙ j.dry l;
+          (rw j.read.noted.names at (answer read).answer));
+      bound_kept = read.bound_kept ∙ j.bound_kept;
+      dry = λ l. read.dry l ∙ j.dry l;
     }
 
-    pub joinable : Begins text pairs bound p levels 0 → right.end ≤ length text → Joinable text p.to left right
-    unfolding term_text_limit
-    joinable pre h =
-        let (q, reads, read) = answer.gives h in
-        record {
-          within = h;
-          near = omega (arith, pre.near, pre.short, j.read.small, read.small);
-          left_shallow = omega (arith, pre.short, within, j.read.small, j.read.measured.size_is, j.read.measured.nesting_is, nesting_code j.prop);
-          right_shallow = omega (arith, pre.short, h, read.small, read.measured.size_is, read.measured.nesting_is, nesting_code q);
-        }
+    module _ {after₂ bound₂ code₂ : List ℕ} {right : PropRead} (side : Right asked after₂ bound₂ code₂ (Some right)) where
+      pub joinable : Begins text pairs bound p levels 0 → Joinable text p.to left right
+      unfolding term_text_limit
+      joinable pre =
+          let (q, reads, read) = (answer side).answer in
+          record {
+            within = read.within;
+            near = omega (arith, pre.near, pre.short, read.within, j.read.small, read.small);
+            left_shallow = omega (arith, pre.short, j.read.within, j.read.small, j.read.measured.size_is, j.read.measured.nesting_is, nesting_code j.prop);
+            right_shallow = omega (arith, pre.short, read.within, read.small, read.measured.size_is, read.measured.nesting_is, nesting_code q);
+          }
 
-    module _ (h : right.end ≤ length text) {code₃ : List ℕ} {whole : PropRead}
-        (joins : (q : Prop Name) → Measured right q → Joins c j.prop q text code₂ p.to write left right code₃ whole) where
       steps : (q : Prop Name) → read_prop (levels - 1) (right_least c) names (drop (left.end + 5) text) ≡ given (standing right.own q) (drop right.end text)
           → read_prop levels least names (drop p.at text)
           ≡ cond (sides_agree c (standing left.own j.prop) (standing right.own q))
@@ -238,51 +239,52 @@ module _ {names : List Name} {text pairs bound code after bound' code' : List �
           let more : most ≡ suc (most - 1) = omega arith in
           j.reads ∙ (ap (λ n. joined (read_prop (levels - 1)) names n least (standing left.own j.prop) (drop left.end text)) more ∙ joined_step (read_prop (levels - 1)) names (most - 1) least (standing left.own j.prop) (standing right.own q) _ _ _ c goes reads)
 
-      pub joining_not : length text < whole.end
-          → PropAnswer (read_prop levels least names (drop p.at text)) text pairs bound code p write after₂ bound₂ code₃ whole
-      joining_not k =
-          let (q, reads, read) = answer.gives h in
-          let joined = joins q read.measured in
-          record {
-            fails = λ l. rw (steps q reads, joined.fails k) (gives_none _);
-            gives = λ l. absurd (omega arith);
-            bound_kept = answer.bound_kept ∙ j.bound_kept;
-            dry = λ l. joined.dry l ∙ (answer.dry l ∙ j.dry l);
-          }
+      module _ {code₃ : List ℕ} where
+        pub joining_not : ((q : Prop Name) → Measured right q → Joins c j.prop q text code₂ p.to write left right code₃ None) → Whole after₂ bound₂ code₃ None
+        joining_not joins =
+            let (q, reads, read) = (answer side).answer in
+            let joined = joins q read.measured in
+            record {
+              answer = rw (steps q reads, joined.answer) (gives_none _);
+              bound_kept = side.bound_kept ∙ j.bound_kept;
+              dry = λ l. joined.dry l ∙ (side.dry l ∙ j.dry l);
+            }
 
-      pub joining_on : whole.end ≤ length text → Joining names text pairs bound code p levels least write after₂ bound₂ code₃ whole (most - 1)
-      unfolding prop_names
-      joining_on k =
-          let (q, reads, read) = answer.gives h in
-          let joined = joins q read.measured in
-          let made = joined.gives k in
-          record {
-            prop = Binary c j.prop q;
-            reads = rw (made.own_is, made.end_is) (steps q reads ∙ rw made.agrees refl);
-            read = record {
-              noted = rw made.count_is (noted_then j.read.noted read.noted);
-              stored =
-                  rw (made.count_is, read.noted.names)
-                  (chain_stored write code p.to (table_names after text left.count) c j.prop q
-                  (rw j.read.noted.names (added_meets (table_names pairs text p.count) (prop_names j.prop)))
-                  j.read.stored j.read.measured.size_is (rw read.noted.names at read.stored) read.measured.size_is made.stored);
-              measured = made.measured;
-              from = omega (arith, j.read.from, read.from, made.end_is);
-              small =
-                  omega (
-                    arith,
-                    j.read.small,
-                    read.small,
-                    made.end_is,
-                    made.measured.size_is,
-                    j.read.measured.size_is,
-                    read.measured.size_is,
-                    binary_bytes c j.prop q,
-                  );
-            };
-            bound_kept = answer.bound_kept ∙ j.bound_kept;
-            dry = λ l. joined.dry l ∙ (answer.dry l ∙ j.dry l);
-          }
+        pub joining_on : {whole : PropRead} → ((q : Prop Name) → Measured right q → Joins c j.prop q text code₂ p.to write left right code₃ (Some whole))
+            → Joining names text pairs bound code p levels least write after₂ bound₂ code₃ whole (most - 1)
+        unfolding prop_names
+        joining_on {whole} joins =
+            let (q, reads, read) = (answer side).answer in
+            let joined = joins q read.measured in
+            let made = joined.answer in
+            record {
+              prop = Binary c j.prop q;
+              reads = rw (made.own_is, made.end_is) (steps q reads ∙ rw made.agrees refl);
+              read = record {
+                within = rw made.end_is read.within;
+                noted = rw made.count_is (noted_then j.read.noted read.noted);
+                stored =
+                    rw (made.count_is, read.noted.names)
+                    (chain_stored write code p.to (table_names after text left.count) c j.prop q
+                    (rw j.read.noted.names (added_meets (table_names pairs text p.count) (prop_names j.prop)))
+                    j.read.stored j.read.measured.size_is (rw read.noted.names at read.stored) read.measured.size_is made.stored);
+                measured = made.measured;
+                from = omega (arith, j.read.from, read.from, made.end_is);
+                small =
+                    omega (
+                      arith,
+                      j.read.small,
+                      read.small,
+                      made.end_is,
+                      made.measured.size_is,
+                      j.read.measured.size_is,
+                      read.measured.size_is,
+                      binary_bytes c j.prop q,
+                    );
+              };
+              bound_kept = side.bound_kept ∙ j.bound_kept;
+              dry = λ l. joined.dry l ∙ (side.dry l ∙ j.dry l);
+            }
 
 -- no level is left
 pub no_level : {levels : ℕ} (least : ℕ) (names : List Name) (s : List ℕ) → levels ≡ 0 → read_prop levels least names s ≡ None

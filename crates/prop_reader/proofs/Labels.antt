@@ -2,7 +2,7 @@
 use Prim.Native.Nat.{ℕ, ◌+◌, ◌/◌, ◌%◌, ◌≤◌, ◌<◌}
 use mathlib.Core.Path.{◌≡◌, refl, sym, ap, ◌∙◌}
 use mathlib.Core.Bool.{Bool, true, false, ◌&&◌, and-false, true≢false}
-use Rattle.std.specs.Prelude.{Option, None, Some}
+use Rattle.std.specs.Prelude.{Option, None, Some, MatchOption}
 use mathlib.Core.List.{List, [], ◌∷◌}
 use native.Mathlib.Omega.{arith}
 use lib.ListN.{length, drop}
@@ -17,11 +17,11 @@ use Rattle.definitions.specs.Sheet.{name_limit, code_limit, proposition_nesting_
 use Rattle.definitions.specs.Term.{Label, proposition, datatype}
 use Rattle.definitions.specs.Text.{occurs}
 use Rattle.definitions.specs.TermText.{term_text_limit, prop_names, label_names, code_bytes, lone_label, label_for}
-use Rattle.definitions.specs.TermReader.{Shown, standing, same, due, name, connective, read_prop, label, prop_levels, is_limited_label}
+use Rattle.definitions.specs.TermReader.{Shown, standing, same, due, expect, name, connective, read_prop, label, prop_levels, is_limited_label}
 use Rattle.definitions.proofs.Readings.{given}
 use Rattle.reading_laws.proofs.TermConventions.{Gives, gives_yield, gives_then, gives_due}
 use Rattle.words.specs.Places.{between, Expected, NameEnds}
-use Rattle.words.specs.Table.{added, number_in, table_names, NamePlace, Noted, NumberOf}
+use Rattle.words.specs.Table.{add_name, added, TooMany, number_in, table_names, NamePlace, Noted, NumberOf}
 use Rattle.words.specs.declared.Numbered.{Numbered}
 use Rattle.words.proofs.Numbers.{names_length}
 use Rattle.prop_parts.specs.Found.{ConnectiveAt, joins, joins_not, bound_numbers}
@@ -30,7 +30,7 @@ use Rattle.prop_reader.specs.declared.LabelRead.{LabelRead}
 use Rattle.prop_reader.specs.Limits.{fits_label}
 use Rattle.atom_reader.specs.Scope.{Met, Crowded, Binds}
 use Rattle.atom_reader.specs.Reading.{Begins, PropAnswer}
-use Rattle.prop_reader.specs.Answer.{LabelBegins, of_proposition, of_datatype, LabelAnswer, LoneEnds, DatatypeAnswer, PropositionAnswer}
+use Rattle.prop_reader.specs.Answer.{LabelBegins, of_proposition, of_datatype, LabelAnswer, LoneLacks, LoneEnds, DatatypeGiven, PropositionAnswer}
 use Rattle.atom_reader.proofs.Readings.{gives_from, gives_holds}
 use Rattle.prop_reader.proofs.Lone.{is_lone, label_other, lone_reads, lone_only}
 use Rattle.prop_frames.proofs.Sides.{connective_below}
@@ -38,81 +38,46 @@ use Rattle.std.proofs.lemmas.Option.{same_Some}
 use Rattle.std.proofs.lemmas.Option.{none-some}
 
 -- Where a lone name ends.
+pub lone_no_name : (text : List ℕ) (at : ℕ) → name (drop at text) ≡ None → LoneLacks text at
+lone_no_name text at none a s e f g = none-some _ (sym none ∙ e)
+
 module _ {text : List ℕ} {at end : ℕ} (ends : NameEnds text at end) where
-  pub lone_no_name : length text < end → LoneEnds text at end
-  lone_no_name h = record {
-    fails = λ l a s e f g. none-some _ (sym (ends.ends.fails h) ∙ e);
-    gives = λ l. absurd (omega arith);
-    no_bracket = λ l. absurd (omega arith);
-    no_connective = λ l. absurd (omega arith);
-    from = λ l. absurd (omega arith);
-    short = λ l. absurd (omega arith);
+  rest_is : {a : Name} {s : List ℕ} → name (drop at text) ≡ given a s → s ≡ drop end text
+  rest_is {a} {s} e =
+      ap (λ (r : Read Name). r.rest) (same_Some (record { value = a; rest = s }) (record { value = between at end text; rest = drop end text }) (sym e ∙ ends.reads))
+
+  pub lone_bracket : {after : ℕ} → Expected (utf8 "(") text end after → LoneLacks text at
+  lone_bracket found a s e f g = none-some _ (sym (rw (rest_is e) at f) ∙ found.reads)
+
+  pub lone_connective : {b : ℕ} → ConnectiveAt text end b → (b ≡ 9 → ⊥) → LoneLacks text at
+  lone_connective (joins c l e) k = λ a s e' f g. none-some _ (sym (rw (rest_is e') at g) ∙ e)
+  lone_connective (joins_not e) k = absurd (k refl)
+
+  lacks_connective : {b : ℕ} → ConnectiveAt text end b → b ≡ 9 → connective (drop end text) ≡ None
+  lacks_connective (joins c l e) k = absurd (omega (arith, connective_below c))
+  lacks_connective (joins_not e) k = e
+
+  pub lone_there : {b : ℕ} → expect (utf8 "(") (drop end text) ≡ None → ConnectiveAt text end b → b ≡ 9 → LoneEnds text at end
+  lone_there no_bracket found e = record {
+    within = ends.within;
+    reads = ends.reads;
+    no_bracket = no_bracket;
+    no_connective = lacks_connective found e;
+    from = ends.from;
+    short = ends.short;
   }
-
-  module _ (h : end ≤ length text) where
-    rest_is : {a : Name} {s : List ℕ} → name (drop at text) ≡ given a s → s ≡ drop end text
-    rest_is {a} {s} e =
-        ap (λ (r : Read Name). r.rest) (same_Some (record { value = a; rest = s }) (record { value = between at end text; rest = drop end text }) (sym e ∙ ends.ends.gives h))
-
-    pub lone_bracket : {after r : ℕ} → Expected (utf8 "(") text end after → after ≤ length text → length text < r → LoneEnds text at r
-    lone_bracket found k past = record {
-      fails = λ l a s e f g. none-some _ (sym (rw (rest_is e) at f) ∙ found.ends.gives k);
-      gives = λ l. absurd (omega arith);
-      no_bracket = λ l. absurd (omega arith);
-      no_connective = λ l. absurd (omega arith);
-      from = λ l. absurd (omega arith);
-      short = λ l. absurd (omega arith);
-    }
-
-    pub lone_connective : {b r : ℕ} → ConnectiveAt text end b → (b ≡ 9 → ⊥) → length text < r → LoneEnds text at r
-    lone_connective (joins c l e) k past = record {
-      fails = λ l a s e' f g. none-some _ (sym (rw (rest_is e') at g) ∙ e);
-      gives = λ l. absurd (omega arith);
-      no_bracket = λ l. absurd (omega arith);
-      no_connective = λ l. absurd (omega arith);
-      from = λ l. absurd (omega arith);
-      short = λ l. absurd (omega arith);
-    }
-    lone_connective (joins_not e) k past = absurd (k refl)
-
-    lacks_connective : {b : ℕ} → ConnectiveAt text end b → b ≡ 9 → connective (drop end text) ≡ None
-    lacks_connective (joins c l e) k = absurd (omega (arith, connective_below c))
-    lacks_connective (joins_not e) k = e
-
-    pub lone_there : {after b : ℕ} → Expected (utf8 "(") text end after → length text < after → ConnectiveAt text end b → b ≡ 9 → LoneEnds text at end
-    lone_there bracket k found e = record {
-      fails = λ l. absurd (omega arith);
-      gives = λ l. ends.ends.gives h;
-      no_bracket = λ l. bracket.ends.fails k;
-      no_connective = λ l. lacks_connective found e;
-      from = λ l. ends.from h;
-      short = λ l. ends.short h;
-    }
 
 -- The number of a datatype.
-module _ {text pairs after : List ℕ} {at end count to : ℕ} {found : Numbered} (number : NumberOf (between at end text) text pairs count after found) where
-  pub datatype_full : {r : LabelRead} → name_limit ≤ found.number → length text < r.end → DatatypeAnswer text at end pairs count to after r
-  unfolding added
-  datatype_full full h = record {
-    fails = λ l. number.full full;
-    end_is = λ l. absurd (omega arith);
-    kind_is = λ l. absurd (omega arith);
-    number_is = λ l. absurd (omega arith);
-    to_is = λ l. absurd (omega arith);
-    noted = λ l. absurd (omega arith);
-  }
-
-  pub datatype_given : found.number < name_limit → end ≤ length text
-      → DatatypeAnswer text at end pairs count to after (record { end = end; kind = 2; number = found.number; count = found.count; to = to })
-  unfolding added
-  datatype_given below h = record {
-    fails = λ l. absurd (omega arith);
-    end_is = λ l. refl;
-    kind_is = λ l. refl;
-    number_is = λ l. number.number_is below ∙ ap (λ seen. number_in seen (between at end text)) (sym (number.noted below).names);
-    to_is = λ l. refl;
-    noted = λ l. number.noted below;
-  }
+pub datatype_given : {text pairs after : List ℕ} {at end count to : ℕ} {found : Numbered} → NumberOf (between at end text) text pairs count after found
+    → DatatypeGiven text at end pairs count to after (record { end = end; kind = 2; number = found.number; count = found.count; to = to })
+unfolding added
+datatype_given {text} {at = at} {end = end} number = record {
+  end_is = refl;
+  kind_is = refl;
+  number_is = number.number_is ∙ ap (λ seen. number_in seen (between at end text)) (sym number.noted.names);
+  to_is = refl;
+  noted = number.noted;
+}
 
 -- quantifiers bind nothing at the start
 pub binds_nothing : (seen : List Name) (bound : List ℕ) → Binds [] seen bound 0
@@ -154,8 +119,8 @@ module _ (seen : List Name) (p : Prop Name) where
   unfolding fits_label is_limited_label label_names
   fits_prop h k l = rw (le-leb _ _ h, le-leb _ _ k, le-leb _ _ l) refl
 
-crowded_datatype : (seen : List Name) (a : Name) → Crowded seen (a ∷ []) → fits_label seen (datatype a) ≡ false
-unfolding fits_label is_limited_label label_names
+crowded_datatype : (seen : List Name) (a : Name) → name_limit < length (add_name seen a) → fits_label seen (datatype a) ≡ false
+unfolding fits_label is_limited_label label_names added
 crowded_datatype seen a h = rw (lt-leb _ _ h) refl
 
 fits_datatype : (seen : List Name) (a : Name) → length (added seen (a ∷ [])) ≤ name_limit → fits_label seen (datatype a) ≡ true
@@ -172,74 +137,71 @@ shown_same : {p q : Shown (Prop Name)} {s t : List ℕ} → given p s ≡ given 
 shown_same {p} {q} {s} {t} e = ap (λ (r : Read (Shown (Prop Name))). r.value) (same_Some (record { value = p; rest = s }) (record { value = q; rest = t }) e)
 
 -- The proposition of a label.
+pub proposition_not : {text pairs code after bound bound' code' : List ℕ} {at count to : ℕ} {write : Bool}
+    → PropAnswer (read_prop 128 0 [] (drop at text)) text pairs bound code (record { at = at; count = count; depth = 0; to = to }) write after bound' code' None
+    → PropositionAnswer text at pairs count code to write after code' None
+unfolding prop_levels standing
+proposition_not {text} {pairs} {count = count} answer = record {
+  answer = λ p s e. crowded_label (table_names pairs text count) p (gives_holds _ _ (standing false p) s answer.answer e);
+  dry = answer.dry;
+}
+
 module _ {text pairs code after bound bound' code' : List ℕ} {at count to : ℕ} {write : Bool} {read : PropRead}
-    (answer : PropAnswer (read_prop 128 0 [] (drop at text)) text pairs bound code (record { at = at; count = count; depth = 0; to = to }) write after bound' code' read) where
-  pub proposition_not : {r : LabelRead} → length text < read.end → length text < r.end → PropositionAnswer text at pairs count code to write after code' r
+    (found : PropAnswer (read_prop 128 0 [] (drop at text)) text pairs bound code (record { at = at; count = count; depth = 0; to = to }) write after bound' code' (Some read)) where
+  -- what was read stands in brackets of its own, or passes a limit
+  pub proposition_bracketed : read.own ≡ true → PropositionAnswer text at pairs count code to write after code' None
   unfolding prop_levels standing
-  proposition_not h k = record {
-    fails = λ l p s e. crowded_label (table_names pairs text count) p (gives_holds _ _ (standing false p) s (answer.fails h) e);
-    gives = λ l. absurd (omega arith);
-    dry = answer.dry;
-  }
+  proposition_bracketed own =
+      let (q, reads, given) = found.answer in
+      record {
+        answer = λ p s e. absurd (true≢false (sym own ∙ ap (λ (x : Shown (Prop Name)). x.own) (shown_same (sym reads ∙ e))));
+        dry = found.dry;
+      }
 
-  module _ (h : read.end ≤ length text) where
-    -- what was read stands in brackets of its own, or passes a limit
-    pub proposition_bracketed : {r : LabelRead} → read.own ≡ true → length text < r.end → PropositionAnswer text at pairs count code to write after code' r
-    unfolding prop_levels standing
-    proposition_bracketed own k =
-        let (q, reads, given) = answer.gives h in
-        record {
-          fails = λ l p s e. absurd (true≢false (sym own ∙ ap (λ (x : Shown (Prop Name)). x.own) (shown_same (sym reads ∙ e))));
-          gives = λ l. absurd (omega arith);
-          dry = answer.dry;
-        }
+  proposition_past : ((p : Prop Name) → read.size ≡ code_bytes p → read.nesting ≡ prop.nesting p → fits_label (table_names pairs text count) (proposition p) ≡ false)
+      → PropositionAnswer text at pairs count code to write after code' None
+  unfolding prop_levels standing
+  proposition_past past =
+      let (q, reads, given) = found.answer in
+      record {
+        answer = λ p s e.
+            let is : q ≡ p = ap (λ (x : Shown (Prop Name)). x.shown) (shown_same (sym reads ∙ e)) in
+            rw is at (past q given.measured.size_is given.measured.nesting_is);
+        dry = found.dry;
+      }
 
-    pub proposition_past : {r : LabelRead} → ((p : Prop Name) → read.size ≡ code_bytes p → read.nesting ≡ prop.nesting p → fits_label (table_names pairs text count) (proposition p) ≡ false)
-        → length text < r.end → PropositionAnswer text at pairs count code to write after code' r
-    unfolding prop_levels standing
-    proposition_past past k =
-        let (q, reads, given) = answer.gives h in
-        record {
-          fails = λ l p s e.
-              let is : q ≡ p = ap (λ (x : Shown (Prop Name)). x.shown) (shown_same (sym reads ∙ e)) in
-              rw is at (past q given.measured.size_is given.measured.nesting_is);
-          gives = λ l. absurd (omega arith);
-          dry = answer.dry;
-        }
+  pub proposition_deep : proposition_nesting_limit < read.nesting → PropositionAnswer text at pairs count code to write after code' None
+  proposition_deep deep = proposition_past (λ p size nests. deep_label (table_names pairs text count) p (omega (arith, nests)))
 
-    pub proposition_deep : {r : LabelRead} → proposition_nesting_limit < read.nesting → length text < r.end
-        → PropositionAnswer text at pairs count code to write after code' r
-    proposition_deep deep k = proposition_past (λ p size nests. deep_label (table_names pairs text count) p (omega (arith, nests))) k
+  pub proposition_large : code_limit < read.size → PropositionAnswer text at pairs count code to write after code' None
+  proposition_large large = proposition_past (λ p size nests. large_label (table_names pairs text count) p (omega (arith, size)))
 
-    pub proposition_large : {r : LabelRead} → code_limit < read.size → length text < r.end → PropositionAnswer text at pairs count code to write after code' r
-    proposition_large large k = proposition_past (λ p size nests. large_label (table_names pairs text count) p (omega (arith, size))) k
-
-    pub proposition_given : LabelBegins text at pairs count to → read.own ≡ false → read.nesting ≤ proposition_nesting_limit → read.size ≤ code_limit
-        → PropositionAnswer text at pairs count code to write after code'
-        (record { end = read.end; kind = 1; number = to / 2; count = read.count; to = to + read.size + read.size % 2 })
-    unfolding prop_levels
-    proposition_given pre own shallow small =
-        let (q, reads, given) = answer.gives h in
-        let m = given.measured in
-        record {
-          fails = λ l. absurd (omega arith);
-          gives = λ l. (
-            q,
-            record {
-              reads = rw own at reads;
-              fits = fits_prop (table_names pairs text count) q (omega (arith, m.nesting_is)) (omega (arith, m.size_is)) (few_noted given.noted);
-              noted = given.noted;
-              kind_is = refl;
-              number_is = refl;
-              stored = given.stored;
-              to_is = rw m.size_is (omega arith);
-              from = given.from;
-              even = omega (arith, pre.even);
-              near = omega (arith, given.small);
-            },
-          );
-          dry = answer.dry;
-        }
+  pub proposition_given : LabelBegins text at pairs count to → read.own ≡ false → read.nesting ≤ proposition_nesting_limit → read.size ≤ code_limit
+      → PropositionAnswer text at pairs count code to write after code'
+      (Some (record { end = read.end; kind = 1; number = to / 2; count = read.count; to = to + read.size + read.size % 2 }))
+  unfolding prop_levels
+  proposition_given pre own shallow small =
+      let (q, reads, given) = found.answer in
+      let m = given.measured in
+      record {
+        answer = (
+          q,
+          record {
+            within = given.within;
+            reads = rw own at reads;
+            fits = fits_prop (table_names pairs text count) q (omega (arith, m.nesting_is)) (omega (arith, m.size_is)) (few_noted given.noted);
+            noted = given.noted;
+            kind_is = refl;
+            number_is = refl;
+            stored = given.stored;
+            to_is = rw m.size_is (omega arith);
+            from = given.from;
+            even = omega (arith, pre.even);
+            near = omega (arith, given.small);
+          },
+        );
+        dry = found.dry;
+      }
 
 -- The label of what was read.
 
@@ -256,19 +218,24 @@ labelled : (types : List Name) (levels : ℕ) (s : List ℕ) (x : Read (Label Na
 labelled types levels s x e = gives_holds (label types levels s) _ x.value x.rest (label_gives types levels s) e
 
 -- the text of a proposition that is no lone listed name
-module _ (types : List Name) {text pairs code after code' : List ℕ} {at count to : ℕ} {write : Bool} {r : LabelRead}
-    (answer : PropositionAnswer text at pairs count code to write after code' r)
+module _ (types : List Name) {text pairs code after code' : List ℕ} {at count to : ℕ} {write : Bool}
     (unlisted : (p : Prop Name) (s : List ℕ) → read_prop prop_levels 0 [] (drop at text) ≡ given (standing false p) s → label_for types p ≡ proposition p) where
-  pub proposition_label : LabelAnswer text at types pairs count code to write after code' r
+  pub proposition_label : (r : Option LabelRead) → PropositionAnswer text at pairs count code to write after code' r
+      → LabelAnswer text at types pairs count code to write after code' r
   unfolding label ◌>>=◌ followed_by due same yield standing label_names
-  proposition_label = record {
-    fails = λ l x e.
+  proposition_label None answer = record {
+    answer = λ x e.
         let (p, reads, is) = labelled types prop_levels (drop at text) x e in
-        rw (is, unlisted p x.rest reads) (answer.fails l p x.rest reads);
-    gives = λ l.
-        let (p, given) = answer.gives l in (
+        rw (is, unlisted p x.rest reads) (answer.answer p x.rest reads);
+    dry = answer.dry;
+  }
+  proposition_label (Some r) answer =
+      let (p, given) = answer.answer in
+      record {
+        answer = (
           proposition p,
           record {
+            within = given.within;
             reads = rw given.reads (ap (λ x. Some (record { value = x; rest = drop r.end text })) (unlisted p (drop r.end text) given.reads));
             fits = given.fits;
             noted = given.noted;
@@ -278,23 +245,23 @@ module _ (types : List Name) {text pairs code after code' : List ℕ} {at count 
             near = given.near;
           },
         );
-    dry = answer.dry;
-  }
+        dry = answer.dry;
+      }
 
 some_levels : 1 < prop_levels
 unfolding prop_levels
 some_levels = omega arith
 
 -- no lone name stands there
-pub other_unlisted : (types : List Name) {text : List ℕ} {at r : ℕ} → LoneEnds text at r → length text < r
+pub other_unlisted : (types : List Name) (text : List ℕ) (at : ℕ) → LoneLacks text at
     → (p : Prop Name) (s : List ℕ) → read_prop prop_levels 0 [] (drop at text) ≡ given (standing false p) s → label_for types p ≡ proposition p
 unfolding standing
-other_unlisted types {text} {at} ends h p s e = go (is_lone p) refl
+other_unlisted types text at lacks p s e = go (is_lone p) refl
   where
     go : (t : Bool) → is_lone p ≡ t → label_for types p ≡ proposition p
     go true l =
-        let (t, (a, named, bracket), lacks) = gives_holds _ _ (standing false p) s (lone_only prop_levels (drop at text) some_levels) e l refl in
-        absurd (ends.fails h a t named bracket lacks)
+        let (t, (a, named, bracket), no_connective) = gives_holds _ _ (standing false p) s (lone_only prop_levels (drop at text) some_levels) e l refl in
+        absurd (lacks a t named bracket no_connective)
     go false l = label_other types p l
 
 listed_label : (types : List Name) (a : Name) → occurs eq_name a types ≡ true → label_for types (Atom a []) ≡ datatype a
@@ -302,13 +269,13 @@ unfolding label_for lone_label
 listed_label types a e = rw e refl
 
 -- A lone name stands there.
-module _ {text : List ℕ} {at r : ℕ} (ends : LoneEnds text at r) (h : r ≤ length text) where
+module _ {text : List ℕ} {at r : ℕ} (ends : LoneEnds text at r) where
   lone_prop : read_prop prop_levels 0 [] (drop at text) ≡ given (standing false (Atom (between at r text) [])) (drop r text)
   unfolding prop_levels
-  lone_prop = lone_reads 128 (between at r text) _ _ (λ e. absurd (omega arith)) (ends.gives h) (ends.no_bracket h) (ends.no_connective h)
+  lone_prop = lone_reads 128 (between at r text) _ _ (λ e. absurd (omega arith)) ends.reads ends.no_bracket ends.no_connective
 
   pub lone_place : length text ≤ term_text_limit → NamePlace text at r
-  lone_place short = record { short = short; some = ends.from h; few = ends.short h; within = h }
+  lone_place short = record { short = short; some = ends.from; few = ends.short; within = ends.within }
 
   module _ (types : List Name) {t : Bool} (tested : t ≡ occurs eq_name (between at r text) types) where
     -- which is not listed
@@ -320,27 +287,36 @@ module _ {text : List ℕ} {at r : ℕ} (ends : LoneEnds text at r) (h : r ≤ l
         rw (← is, sym tested ∙ e) refl
 
     -- which is listed
-    pub lone_listed : {pairs code after : List ℕ} {count to : ℕ} {write : Bool} {w : LabelRead} → t ≡ true → to % 2 ≡ 0
-        → DatatypeAnswer text at r pairs count to after w → LabelAnswer text at types pairs count code to write after code w
+    pub lone_listed : {pairs code after : List ℕ} {count to : ℕ} {write : Bool} (w : Option LabelRead) → t ≡ true → to % 2 ≡ 0
+        → MatchOption w (TooMany (between at r text) text pairs count) (DatatypeGiven text at r pairs count to after)
+        → LabelAnswer text at types pairs count code to write after code w
     unfolding label ◌>>=◌ followed_by due same yield standing label_names
-    lone_listed {pairs} {code} {after} {count} {to} {write} {w} e even answer =
-        let reads : label types prop_levels (drop at text) ≡ given (datatype (between at r text)) (drop r text) =
-        rw lone_prop (ap (λ x. Some (record { value = x; rest = drop r text })) (listed_label types (between at r text) (sym tested ∙ e))) in
-        record {
-          fails = λ l x f.
+    lone_listed {pairs} {code} {after} {count} {to} {write} w e even found = go w found
+      where
+        reads : label types prop_levels (drop at text) ≡ given (datatype (between at r text)) (drop r text)
+        reads = rw lone_prop (ap (λ x. Some (record { value = x; rest = drop r text })) (listed_label types (between at r text) (sym tested ∙ e)))
+
+        go : (w : Option LabelRead) → MatchOption w (TooMany (between at r text) text pairs count) (DatatypeGiven text at r pairs count to after)
+            → LabelAnswer text at types pairs count code to write after code w
+        go None many = record {
+          answer = λ x f.
               let is : datatype (between at r text) ≡ x.value =
               ap (λ (y : Read (Label Name)). y.value) (same_Some (record { value = datatype (between at r text); rest = drop r text }) x (sym reads ∙ f)) in
-              rw (← is) (crowded_datatype (table_names pairs text count) (between at r text) (answer.fails l));
-          gives = λ l. (
+              rw (← is) (crowded_datatype (table_names pairs text count) (between at r text) many);
+          dry = λ l. refl;
+        }
+        go (Some w) named = record {
+          answer = (
             datatype (between at r text),
             record {
-              reads = rw (answer.end_is l) reads;
-              fits = fits_datatype (table_names pairs text count) (between at r text) (few_noted (answer.noted l));
-              noted = answer.noted l;
-              kept = of_datatype (answer.kind_is l) (answer.number_is l) refl (answer.to_is l);
-              from = omega (arith, ends.from h, answer.end_is l);
-              even = rw (answer.to_is l) even;
-              near = omega (arith, ends.from h, answer.end_is l, answer.to_is l);
+              within = rw named.end_is ends.within;
+              reads = rw named.end_is reads;
+              fits = fits_datatype (table_names pairs text count) (between at r text) (few_noted named.noted);
+              noted = named.noted;
+              kept = of_datatype named.kind_is named.number_is refl named.to_is;
+              from = omega (arith, ends.from, named.end_is);
+              even = rw named.to_is even;
+              near = omega (arith, ends.from, named.end_is, named.to_is);
             },
           );
           dry = λ l. refl;

@@ -2,7 +2,7 @@
 use Prim.Native.Nat.{ℕ, zero, suc, ◌+◌, ◌*◌, ◌≤◌, ◌<◌}
 use mathlib.Core.Path.{◌≡◌, refl, sym, ap, ◌∙◌}
 use mathlib.Core.Bool.{Bool, true, false}
-use Rattle.std.specs.Prelude.{Option, None}
+use Rattle.std.specs.Prelude.{Option, None, Some}
 use mathlib.Core.List.{List, ◌++◌, append-nil}
 use mathlib.Core.Logic.{by_cases}
 use native.Mathlib.Omega.{arith}
@@ -64,14 +64,9 @@ module _ (part : Part) (names : List Name) (s : List ℕ) where
   unit_lacks e f = rw (e, f) refl
 
 -- nothing stands there
-pub answers_none : {reading : Option (Read (Shown (Prop Name)))} {text pairs bound code after : List ℕ} {p : Place} {write : Bool} {r : PropRead}
-    → reading ≡ None → length text < r.end → PropAnswer reading text pairs bound code p write after bound code r
-answers_none e h = record {
-  fails = λ l. rw e (gives_none _);
-  gives = λ l. absurd (omega arith);
-  bound_kept = refl;
-  dry = λ l. refl;
-}
+pub answers_none : {reading : Option (Read (Shown (Prop Name)))} {text pairs bound code after : List ℕ} {p : Place} {write : Bool}
+    → reading ≡ None → PropAnswer reading text pairs bound code p write after bound code None
+answers_none e = record { answer = rw e (gives_none _); bound_kept = refl; dry = λ l. refl }
 
 pub no_unit : (part : Part) (names : List Name) {text : List ℕ} {at n : ℕ} → name (drop at text) ≡ None → SignAt text at n → n ≡ 9 → unit part names (drop at text) ≡ None
 no_unit part names e found k = unit_lacks part names _ e (sign_lacks found k)
@@ -130,10 +125,10 @@ bound_less a b m (suc n) h e = by_cases (dec_le m n)
 -- where the part may begin
 pub front_begins : {g : Sign} {names : List Name} {text pairs bound code mid mid-bound mid-code : List ℕ} {p place : Place} {write : Bool} {f : Front} {levels : ℕ}
     → FrontGiven g names text pairs bound code p write mid mid-bound mid-code place f → Begins text pairs bound p (levels + 1) 0
-    → length mid-bound ≡ length bound → place.at ≤ length text → Begins text mid mid-bound place levels 0
-front_begins {names = names} {f = f} front pre same h = record {
+    → length mid-bound ≡ length bound → Begins text mid mid-bound place levels 0
+front_begins {names = names} {f = f} front pre same = record {
   short = pre.short;
-  within = h;
+  within = front.within;
   table = front.noted.table;
   near = omega (arith, pre.near, front.to_is, front.small);
   deep = omega (arith, pre.deep, front.depth, same);
@@ -142,12 +137,12 @@ front_begins {names = names} {f = f} front pre same h = record {
 
 -- a part that was read is not too large to be closed
 pub closable : {text pairs code mid-code after : List ℕ} {p : Place} {write : Bool} {r : PropRead} {q : Prop Name}
-    → length text ≤ term_text_limit → p.to ≤ 2 * p.at → r.end ≤ length text → PropGiven text pairs code p write after mid-code r q → Closable text p.to r
+    → length text ≤ term_text_limit → p.to ≤ 2 * p.at → PropGiven text pairs code p write after mid-code r q → Closable text p.to r
 unfolding term_text_limit
-closable {q = q} short near h read = record {
-  within = h;
-  near = omega (arith, short, near, read.small);
-  shallow = omega (arith, short, read.small, read.measured.size_is, read.measured.nesting_is, nesting_code q);
+closable {q = q} short near read = record {
+  within = read.within;
+  near = omega (arith, short, near, read.within, read.small);
+  shallow = omega (arith, short, read.within, read.small, read.measured.size_is, read.measured.nesting_is, nesting_code q);
 }
 
 -- the code of the front, of the part, and of what follows it
@@ -169,54 +164,65 @@ front_stored write l to seen ys f q {at} {n} {one} {two} {three} met first at-is
 module _ {g : Sign} {names : List Name} {text pairs bound code mid mid-bound mid-code : List ℕ} {p place : Place} {write : Bool} {f : Front}
     (front : FrontGiven g names text pairs bound code p write mid mid-bound mid-code place f)
     (bound_kept : bound_numbers mid-bound p.depth ≡ bound_numbers bound p.depth) (dry : write ≡ false → mid-code ≡ code)
-    (part : Part) {asked : ℕ} (Asked-is : asked ≡ part_least f) {after bound' code' : List ℕ} {r : PropRead}
-    (answer : PropAnswer (part asked (part_bound f names) (drop place.at text)) text mid mid-bound mid-code place write after bound' code' r) where
-  inner : PropAnswer (part (part_least f) (part_bound f names) (drop place.at text)) text mid mid-bound mid-code place write after bound' code' r
-  inner = rw Asked-is at answer
+    (part : Part) {asked : ℕ} (Asked-is : asked ≡ part_least f) where
+  abbrev Answer : List ℕ → List ℕ → List ℕ → ℕ → Option PropRead → Type 0
+  Answer after bound' code' least r = PropAnswer (part least (part_bound f names) (drop place.at text)) text mid mid-bound mid-code place write after bound' code' r
 
-  kept_then : bound_numbers bound' p.depth ≡ bound_numbers bound p.depth
-  kept_then = bound_less bound' mid-bound p.depth place.depth front.deeper inner.bound_kept ∙ bound_kept
+  abbrev Whole : List ℕ → List ℕ → List ℕ → Option PropRead → Type 0
+  Whole after bound' code'' r =
+      PropAnswer (followed_by (part (part_least f) (part_bound f names) (drop place.at text)) (closing f)) text pairs bound code p write after bound' code'' r
 
-  pub part_not : length text < r.end
-      → PropAnswer (followed_by (part (part_least f) (part_bound f names) (drop place.at text)) (closing f)) text pairs bound code p write after bound' code' r
+  inner : {after bound' code' : List ℕ} {r : Option PropRead} → Answer after bound' code' asked r → Answer after bound' code' (part_least f) r
+  inner answer = rw Asked-is at answer
+
+  kept_then : (bound' : List ℕ) → bound_numbers bound' place.depth ≡ bound_numbers mid-bound place.depth → bound_numbers bound' p.depth ≡ bound_numbers bound p.depth
+  kept_then bound' kept = bound_less bound' mid-bound p.depth place.depth front.deeper kept ∙ bound_kept
+
+  pub part_not : {after bound' code' : List ℕ} → Answer after bound' code' asked None → Whole after bound' code' None
   unfolding standing
-  part_not h = record {
-    fails = λ l.
-        gives_then _ _ (part (part_least f) (part_bound f names) (drop place.at text)) (closing f) (inner.fails h) λ q t k.
+  part_not answer = record {
+    answer =
+        gives_then _ _ (part (part_least f) (part_bound f names) (drop place.at text)) (closing f) (inner answer).answer λ q t k.
         gives_closing f q t _ λ own u.
         rw (front_names_lem f q.shown) (crowded_second (table_names pairs text p.count) (front_names f) (prop_names q.shown) (rw front.noted.names at k));
-    gives = λ l. absurd (omega arith);
-    bound_kept = kept_then;
-    dry = λ l. inner.dry l ∙ dry l;
+    bound_kept = kept_then _ answer.bound_kept;
+    dry = λ l. answer.dry l ∙ dry l;
   }
 
-  pub part_closed : {code'' : List ℕ} {w : PropRead} → r.end ≤ length text
-      → ((q : Prop Name) → Measured r q → Closes f q text code' place.to write r code'' w)
-      → PropAnswer (followed_by (part (part_least f) (part_bound f names) (drop place.at text)) (closing f)) text pairs bound code p write after bound' code'' w
+  pub part_closed : {after bound' code' code'' : List ℕ} {r : PropRead} (w : Option PropRead) → Answer after bound' code' asked (Some r)
+      → ((q : Prop Name) → Measured r q → Closes f q text code' place.to write r code'' w) → Whole after bound' code'' w
   unfolding followed_by
-  part_closed h closes =
-      let (q, reads, read) = inner.gives h in
+  part_closed None answer closes =
+      let (q, reads, read) = (inner answer).answer in
       let closed = closes q read.measured in
       record {
-        fails = λ l. rw (reads, closed.fails l) (gives_none _);
-        gives = λ l.
-            let whole = closed.gives l in (
-              around f q,
-              rw reads whole.reads,
-              record {
-                noted = rw (front_names_lem f q, whole.count_is) (noted_then front.noted read.noted);
-                stored =
-                    rw (whole.count_is, read.noted.names)
-                    (front_stored write code p.to (table_names mid text place.count) (prop_names q) f q
-                    (rw front.noted.names (added_meets (table_names pairs text p.count) (front_names f)))
-                    front.stored front.to_is (rw read.noted.names at read.stored) read.measured.size_is whole.stored);
-                measured = whole.measured;
-                from = omega (arith, front.from, read.from, whole.from);
-                small = omega (arith, front.small, read.small, whole.from, whole.measured.size_is, read.measured.size_is, around_bytes f q);
-              },
-            );
-        bound_kept = kept_then;
-        dry = λ l. closed.dry l ∙ (inner.dry l ∙ dry l);
+        answer = rw (reads, closed.answer) (gives_none _);
+        bound_kept = kept_then _ answer.bound_kept;
+        dry = λ l. closed.dry l ∙ (answer.dry l ∙ dry l);
+      }
+  part_closed (Some w) answer closes =
+      let (q, reads, read) = (inner answer).answer in
+      let closed = closes q read.measured in
+      let whole = closed.answer in
+      record {
+        answer = (
+          around f q,
+          rw reads whole.reads,
+          record {
+            within = whole.within;
+            noted = rw (front_names_lem f q, whole.count_is) (noted_then front.noted read.noted);
+            stored =
+                rw (whole.count_is, read.noted.names)
+                (front_stored write code p.to (table_names mid text place.count) (prop_names q) f q
+                (rw front.noted.names (added_meets (table_names pairs text p.count) (front_names f)))
+                front.stored front.to_is (rw read.noted.names at read.stored) read.measured.size_is whole.stored);
+            measured = whole.measured;
+            from = omega (arith, front.from, read.from, whole.from);
+            small = omega (arith, front.small, read.small, whole.from, whole.measured.size_is, read.measured.size_is, around_bytes f q);
+          },
+        );
+        bound_kept = kept_then _ answer.bound_kept;
+        dry = λ l. closed.dry l ∙ (answer.dry l ∙ dry l);
       }
 
 -- fewer levels suffice for less
@@ -242,12 +248,7 @@ constant_size (binder for_all) e h = absurd (omega arith)
 constant_size (binder exists) e h = absurd (omega arith)
 
 -- the front is not read
-pub front_not : (part : Part) {g : Sign} {names : List Name} {text pairs bound code mid bound' code' : List ℕ} {p place : Place} {write : Bool} {r : PropRead}
-    → FrontAnswer g names text pairs bound code p write mid bound' code' place → length text < place.at → length text < r.end
-    → PropAnswer (signed part names g (drop (p.at + sign_size g) text)) text pairs bound code p write mid bound' code' r
-front_not part answer h k = record {
-  fails = λ l. answer.fails h part;
-  gives = λ l. absurd (omega arith);
-  bound_kept = answer.bound_kept;
-  dry = answer.dry;
-}
+pub front_not : (part : Part) {g : Sign} {names : List Name} {text pairs bound code mid bound' code' : List ℕ} {p : Place} {write : Bool}
+    → FrontAnswer g names text pairs bound code p write mid bound' code' None
+    → PropAnswer (signed part names g (drop (p.at + sign_size g) text)) text pairs bound code p write mid bound' code' None
+front_not part front = record { answer = front.answer part; bound_kept = front.bound_kept; dry = front.dry }

@@ -1,5 +1,5 @@
 -- What the reader of labels answers, in both directions.
-use Rattle.std.specs.Prelude.{ℕ, ◌+◌, ◌*◌, ◌/◌, ◌%◌, ◌<◌, ◌≤◌, ◌≡◌, Bool, true, false, List, [], ◌∷◌, length, drop, None, Some}
+use Rattle.std.specs.Prelude.{ℕ, ◌+◌, ◌*◌, ◌/◌, ◌%◌, ◌<◌, ◌≤◌, ◌≡◌, Bool, true, false, List, [], ◌∷◌, length, drop, None, Some, Option, MatchOption}
 use Rattle.definitions.specs.Utf8.{utf8}
 use Rattle.definitions.specs.Name.{Name}
 use Rattle.definitions.specs.Prop.{Prop}
@@ -14,7 +14,6 @@ use Rattle.words.specs.Places.{between}
 use Rattle.words.specs.Table.{number_in, table_names, Table, Noted}
 use Rattle.prop_reader.specs.declared.LabelRead.{LabelRead}
 use Rattle.prop_reader.specs.Limits.{fits_label}
-use Rattle.atom_reader.specs.Scope.{Crowded}
 -- the code of a proposition over the names that were met
 unfoldable pub use Rattle.atom_reader.specs.Reading.{code_over}
 
@@ -26,28 +25,32 @@ pub record LabelBegins (text : List ℕ) (at : ℕ) (pairs : List ℕ) (count to
   pub even : to % 2 ≡ 0
   pub near : to ≤ 2 * at
 
--- a lone name at `at` ends at `r`: neither a bracket nor a connective follows it; past the end where none stands there
-pub record LoneEnds (text : List ℕ) (at r : ℕ) : Type 0 where
-  pub fails : length text < r → (a : Name) (s : List ℕ) → name (drop at text) ≡ given a s → expect (utf8 "(") s ≡ None → connective s ≡ None → ⊥
-  pub gives : r ≤ length text → name (drop at text) ≡ given (between at r text) (drop r text)
-  pub no_bracket : r ≤ length text → expect (utf8 "(") (drop r text) ≡ None
-  pub no_connective : r ≤ length text → connective (drop r text) ≡ None
-  pub from : r ≤ length text → at < r
-  pub short : r ≤ length text → r ≤ at + name_length_limit
+-- no lone name stands at `at`: one that neither a bracket nor a connective follows
+abbrev pub LoneLacks : List ℕ → ℕ → Type 0
+LoneLacks text at = (a : Name) (s : List ℕ) → name (drop at text) ≡ given a s → expect (utf8 "(") s ≡ None → connective s ≡ None → ⊥
 
--- the datatype between two places, unless there are too many names
-pub record DatatypeAnswer (text : List ℕ) (at end : ℕ) (pairs : List ℕ) (count to : ℕ) (after : List ℕ) (r : LabelRead) : Type 0 where
-  pub fails : length text < r.end → Crowded (table_names pairs text count) (between at end text ∷ [])
-  pub end_is : r.end ≤ length text → r.end ≡ end
-  pub kind_is : r.end ≤ length text → r.kind ≡ 2
-  pub number_is : r.end ≤ length text → r.number ≡ number_in (table_names after text r.count) (between at end text)
-  pub to_is : r.end ≤ length text → r.to ≡ to
-  pub noted : r.end ≤ length text → Noted (between at end text ∷ []) text pairs count after r.count
+-- one does, and ends at `r`
+pub record LoneEnds (text : List ℕ) (at r : ℕ) : Type 0 where
+  pub within : r ≤ length text
+  pub reads : name (drop at text) ≡ given (between at r text) (drop r text)
+  pub no_bracket : expect (utf8 "(") (drop r text) ≡ None
+  pub no_connective : connective (drop r text) ≡ None
+  pub from : at < r
+  pub short : r ≤ at + name_length_limit
+
+-- the datatype between two places
+pub record DatatypeGiven (text : List ℕ) (at end : ℕ) (pairs : List ℕ) (count to : ℕ) (after : List ℕ) (r : LabelRead) : Type 0 where
+  pub end_is : r.end ≡ end
+  pub kind_is : r.kind ≡ 2
+  pub number_is : r.number ≡ number_in (table_names after text r.count) (between at end text)
+  pub to_is : r.to ≡ to
+  pub noted : Noted (between at end text ∷ []) text pairs count after r.count
 
 -- the proposition that was read, within the limits and in no brackets of its own
 pub record PropositionGiven
     (text : List ℕ) (at : ℕ) (pairs : List ℕ) (count : ℕ) (code : List ℕ) (to : ℕ) (write : Bool) (after code' : List ℕ) (r : LabelRead) (p : Prop Name)
     : Type 0 where
+  pub within : r.end ≤ length text
   pub reads : read_prop prop_levels 0 [] (drop at text) ≡ given (standing false p) (drop r.end text)
   pub fits : fits_label (table_names pairs text count) (proposition p) ≡ true
   pub noted : Noted (prop_names p) text pairs count after r.count
@@ -60,10 +63,10 @@ pub record PropositionGiven
   pub near : r.to + 2 * at ≤ to + 2 * r.end + 3
 
 pub record PropositionAnswer
-    (text : List ℕ) (at : ℕ) (pairs : List ℕ) (count : ℕ) (code : List ℕ) (to : ℕ) (write : Bool) (after code' : List ℕ) (r : LabelRead) : Type 0 where
-  pub fails : length text < r.end → (p : Prop Name) (s : List ℕ) → read_prop prop_levels 0 [] (drop at text) ≡ given (standing false p) s
-      → fits_label (table_names pairs text count) (proposition p) ≡ false
-  pub gives : r.end ≤ length text → (p : Prop Name) × PropositionGiven text at pairs count code to write after code' r p
+    (text : List ℕ) (at : ℕ) (pairs : List ℕ) (count : ℕ) (code : List ℕ) (to : ℕ) (write : Bool) (after code' : List ℕ) (r : Option LabelRead) : Type 0 where
+  pub answer : MatchOption r ((p : Prop Name) (s : List ℕ) → read_prop prop_levels 0 [] (drop at text) ≡ given (standing false p) s
+      → fits_label (table_names pairs text count) (proposition p) ≡ false)
+      (λ r. (p : Prop Name) × PropositionGiven text at pairs count code to write after code' r p)
   pub dry : write ≡ false → code' ≡ code
 
 -- what is kept of a label: the code of a proposition at an even offset, or the number of a datatype
@@ -77,6 +80,7 @@ pub data LabelKept (seen : List Name) (code : List ℕ) (to : ℕ) (write : Bool
 pub record LabelGiven
     (text : List ℕ) (at : ℕ) (types : List Name) (pairs : List ℕ) (count : ℕ) (code : List ℕ) (to : ℕ) (write : Bool)
     (after code' : List ℕ) (r : LabelRead) (l : Label Name) : Type 0 where
+  pub within : r.end ≤ length text
   pub reads : label types prop_levels (drop at text) ≡ given l (drop r.end text)
   pub fits : fits_label (table_names pairs text count) l ≡ true
   pub noted : Noted (label_names l) text pairs count after r.count
@@ -85,11 +89,11 @@ pub record LabelGiven
   pub even : r.to % 2 ≡ 0
   pub near : r.to + 2 * at ≤ to + 2 * r.end + 3
 
--- the answer of `read_label`; past the end of the text where there is no label, or one past the limits
+-- the answer of `read_label`; none where there is no label, or one past the limits
 pub record LabelAnswer
     (text : List ℕ) (at : ℕ) (types : List Name) (pairs : List ℕ) (count : ℕ) (code : List ℕ) (to : ℕ) (write : Bool)
-    (after code' : List ℕ) (r : LabelRead) : Type 0 where
-  pub fails : length text < r.end → (x : Read (Label Name)) → label types prop_levels (drop at text) ≡ Some x
-      → fits_label (table_names pairs text count) x.value ≡ false
-  pub gives : r.end ≤ length text → (l : Label Name) × LabelGiven text at types pairs count code to write after code' r l
+    (after code' : List ℕ) (r : Option LabelRead) : Type 0 where
+  pub answer : MatchOption r ((x : Read (Label Name)) → label types prop_levels (drop at text) ≡ Some x
+      → fits_label (table_names pairs text count) x.value ≡ false)
+      (λ r. (l : Label Name) × LabelGiven text at types pairs count code to write after code' r l)
   pub dry : write ≡ false → code' ≡ code

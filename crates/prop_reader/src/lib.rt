@@ -1,23 +1,23 @@
-// The label of a term, read from strict text: a proposition into prefix code, or a datatype. Each reader gives the place after what
-// it read, or a place past the end of the text where none stands there or there are too many names. Names are noted in any case;
-// code is stored only where `write` says so.
+// The label of a term, read from strict text: a proposition into prefix code, or a datatype. Each reader gives what it read, or none
+// where it does not stand there or there are too many names. Names are noted in any case; code is stored only where `write` says so.
 #![tactic(auto)]
 
-ghost use Rattle.std.specs.Prelude.{List, ◌+◌, ◌≤◌, ◌<◌, length, drop};
+ghost use Rattle.std.specs.Prelude.{List, ◌+◌, ◌≤◌, ◌<◌, length, drop, MatchOption};
 ghost use Rattle.definitions.specs.CallerNames.{names_in};
 ghost use Rattle.definitions.specs.Name.{Name};
 ghost use Rattle.definitions.specs.TermReader.{unit, read_prop};
-ghost use Rattle.words.specs.Table.{table_names, Table, NamePlace};
+ghost use Rattle.words.specs.Places.{between};
+ghost use Rattle.words.specs.Table.{table_names, Table, NamePlace, TooMany};
 ghost use Rattle.atom_reader.specs.Scope.{Binds};
 ghost use Rattle.atom_reader.specs.Reading.{Begins, PropAnswer};
-ghost use Rattle.prop_reader.specs.Answer.{LoneEnds, DatatypeAnswer, PropositionAnswer, LabelBegins, LabelAnswer};
+ghost use Rattle.prop_reader.specs.Answer.{LoneLacks, LoneEnds, DatatypeGiven, PropositionAnswer, LabelBegins, LabelAnswer};
 
-use atom_reader::{Place, PropRead, no_prop, read_atom};
+use atom_reader::{Place, PropRead, read_atom};
 use caller_names::is_listed;
 use prefix_code::FALSE;
 use prop_frames::{close_prop, goes_on, join, open_front, part_least, read_constant};
 use prop_parts::{CONNECTIVE_SIZE, NO_HEAD, connective_at, right_least, sign_at};
-use words::{NAME_LIMIT, expect, name_end, number_of_name};
+use words::{expect, name_end, number_of_name};
 
 // The limits of a label's proposition.
 const CODE_LIMIT: usize = 8192;
@@ -37,7 +37,7 @@ fn read_unit(
     p: Place,
     levels: usize,
     write: bool,
-) -> PropRead
+) -> Option<PropRead>
     requires { Begins text.now names.old bound.old p (levels + 1) 0 }
     ensures { (ns : List Name) →
         Binds ns (table_names names.old text.now p.count) bound.old p.depth →
@@ -45,35 +45,19 @@ fn read_unit(
         text.now names.old bound.old code.old p write
         names.new bound.new code.new result }
 {
-    let at = p.at;
-    let end = name_end(text, at);
-    if end <= text.len() {
+    if let Some(end) = name_end(text, p.at) {
         return read_atom(text, names, bound, code, p, end, write);
     }
-    let sign = sign_at(text, at);
+    let sign = sign_at(text, p.at);
     if sign == NO_HEAD {
-        return no_prop(text);
+        return None;
     }
     if sign <= FALSE {
-        return read_constant(text, code, p, sign, write);
+        return Some(read_constant(text, code, p, sign, write));
     }
-    let place = open_front(text, names, bound, code, p, sign, write);
-    if text.len() < place.at {
-        return no_prop(text);
-    }
-    let part = read_prop(
-        text,
-        names,
-        bound,
-        code,
-        place,
-        levels,
-        part_least(sign),
-        write,
-    );
-    if text.len() < part.end {
-        return part;
-    }
+    let place = open_front(text, names, bound, code, p, sign, write)?;
+    let least = part_least(sign);
+    let part = read_prop(text, names, bound, code, place, levels, least, write)?;
     close_prop(text, code, place.to, sign, part, write)
 }
 
@@ -88,7 +72,7 @@ fn read_prop(
     levels: usize,
     least: usize,
     write: bool,
-) -> PropRead
+) -> Option<PropRead>
     requires { Begins text.now names.old bound.old p levels 0 }
     ensures { (ns : List Name) →
         Binds ns (table_names names.old text.now p.count) bound.old p.depth →
@@ -97,19 +81,16 @@ fn read_prop(
         names.new bound.new code.new result }
 {
     if levels == 0 {
-        return no_prop(text);
+        return None;
     }
     let to = p.to;
     let depth = p.depth;
     let mut most = levels - 1;
-    let mut left = read_unit(text, names, bound, code, p, most, write);
-    if text.len() < left.end {
-        return left;
-    }
+    let mut left = read_unit(text, names, bound, code, p, most, write)?;
     while 0 < most {
         let connective = goes_on(text, left.end, least);
         if connective == NO_HEAD {
-            return left;
+            return Some(left);
         }
         let place = Place {
             at: left.end + CONNECTIVE_SIZE,
@@ -118,21 +99,15 @@ fn read_prop(
             to: to + left.size,
         };
         let asked = right_least(connective);
-        let right = read_prop(text, names, bound, code, place, levels - 1, asked, write);
-        if text.len() < right.end {
-            return right;
-        }
-        left = join(text, code, to, connective, left, right, write);
-        if text.len() < left.end {
-            return left;
-        }
+        let right = read_prop(text, names, bound, code, place, levels - 1, asked, write)?;
+        left = join(text, code, to, connective, left, right, write)?;
         most -= 1;
     }
-    left
+    Some(left)
 }
 
 // A label that was read: where it ends, its kind and number, how many names there are now, and where the next code begins.
-#[derive(Drop)]
+#[derive(Clone, Copy)]
 pub struct LabelRead {
     pub end: usize,
     pub kind: usize,
@@ -142,40 +117,24 @@ pub struct LabelRead {
 }
 
 // Where a lone name at `at` ends: one that neither a bracket nor a connective follows.
-fn lone_end(text: &[u8], at: usize) -> usize
+fn lone_end(text: &[u8], at: usize) -> Option<usize>
     requires { at ≤ length text.now }
-    ensures { LoneEnds text.now at result }
+    ensures { MatchOption result (LoneLacks text.now at) (LoneEnds text.now at) }
 {
-    let end = name_end(text, at);
-    if text.len() < end {
-        return end;
-    }
-    if expect(text, end, b"(") <= text.len() {
-        return text.len() + 1;
+    let end = name_end(text, at)?;
+    if expect(text, end, b"(").is_some() {
+        return None;
     }
     if connective_at(text, end) == NO_HEAD {
-        return end;
+        return Some(end);
     }
-    text.len() + 1
+    None
 }
 
 // The kinds of labels, as in records.
 const PROPOSITION: usize = 1;
 
 const DATATYPE: usize = 2;
-
-// No label.
-fn no_label(text: &[u8]) -> LabelRead
-    ensures { length text.now < result.end }
-{
-    LabelRead {
-        end: text.len() + 1,
-        kind: 0,
-        number: 0,
-        count: 0,
-        to: 0,
-    }
-}
 
 // The datatype whose name stands from `at` to `end`.
 fn read_datatype(
@@ -185,22 +144,19 @@ fn read_datatype(
     names: &mut [u8],
     count: usize,
     to: usize,
-) -> LabelRead
+) -> Option<LabelRead>
     requires { Table names.old text.now count × NamePlace text.now at end }
-    ensures { DatatypeAnswer text.now at end names.old count to names.new result }
+    ensures { MatchOption result (TooMany (between at end text.now) text.now names.old count)
+        (DatatypeGiven text.now at end names.old count to names.new) }
 {
-    let name = number_of_name(text, at, end, names, count);
-    let number = name.number;
-    if NAME_LIMIT <= number {
-        return no_label(text);
-    }
-    LabelRead {
+    let name = number_of_name(text, at, end, names, count)?;
+    Some(LabelRead {
         end,
         kind: DATATYPE,
-        number,
+        number: name.number,
         count: name.count,
         to,
-    }
+    })
 }
 
 // The proposition at `at`, within the limits and in no brackets of its own.
@@ -212,7 +168,7 @@ fn read_proposition(
     code: &mut [u8],
     to: usize,
     write: bool,
-) -> LabelRead
+) -> Option<LabelRead>
     requires { LabelBegins text.now at names.old count to }
     ensures { PropositionAnswer text.now at names.old count code.old to write
         names.new code.new result }
@@ -224,29 +180,24 @@ fn read_proposition(
         depth: 0,
         to,
     };
-    let read = read_prop(text, names, &mut bound, code, p, LEVELS, 0, write);
-    let end = read.end;
+    let read = read_prop(text, names, &mut bound, code, p, LEVELS, 0, write)?;
     let size = read.size;
-    let nesting = read.nesting;
-    if text.len() < end {
-        return no_label(text);
-    }
     if read.own {
-        return no_label(text);
+        return None;
     }
-    if NESTING_LIMIT < nesting {
-        return no_label(text);
+    if NESTING_LIMIT < read.nesting {
+        return None;
     }
     if CODE_LIMIT < size {
-        return no_label(text);
+        return None;
     }
-    LabelRead {
-        end,
+    Some(LabelRead {
+        end: read.end,
         kind: PROPOSITION,
         number: to / 2,
         count: read.count,
         to: to + size + size % 2,
-    }
+    })
 }
 
 // The label at `at`. A proposition's number is half the offset of its code; a lone listed name is a datatype.
@@ -259,15 +210,14 @@ pub fn read_label(
     code: &mut [u8],
     to: usize,
     write: bool,
-) -> LabelRead
+) -> Option<LabelRead>
     requires { LabelBegins text.now at names.old count to }
     ensures { LabelAnswer text.now at (names_in types.now) names.old count
         code.old to write names.new code.new result }
 {
-    let end = lone_end(text, at);
-    if text.len() < end {
+    let Some(end) = lone_end(text, at) else {
         return read_proposition(text, at, names, count, code, to, write);
-    }
+    };
     if is_listed(types, &text[at..end]) {
         return read_datatype(text, at, end, names, count, to);
     }

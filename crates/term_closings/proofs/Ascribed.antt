@@ -2,7 +2,7 @@
 use Prim.Native.Nat.{ℕ, ◌+◌, ◌-◌, ◌*◌, ◌<◌, ◌≤◌}
 use mathlib.Core.Path.{◌≡◌, refl, ap}
 use mathlib.Core.Bool.{true, false}
-use Rattle.std.specs.Prelude.{Option, Some}
+use Rattle.std.specs.Prelude.{Option, None, Some}
 use mathlib.Core.List.{List, [], ◌∷◌, ◌++◌, append_assoc, append-nil}
 use native.Mathlib.Omega.{arith}
 use lib.ListN.{length, get_or, drop}
@@ -133,10 +133,10 @@ unfolding chain
 comes_last held bare = comes_as (comes_chain held) (rw bare)
 
 module _ {z : Scene} {work : List ℕ} {s : Progress} (held : AtTerm holding z work s) {at : ℕ} (bare : argument_follows (drop s.at z.text) ≡ false)
-    (colon : Expected (utf8 ": ") z.text s.at at) (there : at ≤ length z.text) where
+    (colon : Expected (utf8 ": ") z.text s.at at) where
   comes_label : Comes z.types z.text
       (if_due held.term.own (wraps Strict ascribed_by held.term.shown) (and_then (label z.types prop_levels (drop at z.text)) (ascription held.entries held.term)))
-  comes_label = reads_on (expect (utf8 ": ") (drop s.at z.text)) _ _ tt _ (comes_last held bare) (colon.ends.gives there)
+  comes_label = reads_on (expect (utf8 ": ") (drop s.at z.text)) _ _ tt _ (comes_last held bare) colon.reads
 
   -- a label may begin there
   pub label_begins : LabelBegins z.text at z.names s.count s.to
@@ -145,10 +145,10 @@ module _ {z : Scene} {work : List ℕ} {s : Progress} (held : AtTerm holding z w
       let b = held.behind in
       record {
         short = b.reached.short;
-        within = there;
+        within = colon.within;
         table = b.stored.table;
         even = rw b.stored.to_is (even_labels (labels_met (entries_marks held.entries ++ marks held.term.shown)));
-        near = let n = b.placed.near in let on = colon.after there in omega (arith, n, on);
+        near = let n = b.placed.near in let on = colon.after in omega (arith, n, on);
       }
 
   -- brackets that are not due
@@ -156,81 +156,81 @@ module _ {z : Scene} {work : List ℕ} {s : Progress} (held : AtTerm holding z w
   unfolding least_form
   label_not_due d = not_due _ _ _ comes_label (due_at ascribed_by held.behind.hand d)
 
-  module _ (due : same s.own (leb 2 (get_or form_table s.kind 0)) ≡ true) {after code' : List ℕ} {r : LabelRead}
-      (answer : LabelAnswer z.text at z.types z.names s.count z.code s.to true after code' r) where
+  module _ (due : same s.own (leb 2 (get_or form_table s.kind 0)) ≡ true) where
     comes_due : Comes z.types z.text (and_then (label z.types prop_levels (drop at z.text)) (ascription held.entries held.term))
     unfolding least_form
     comes_due = as_due _ _ _ comes_label (due_at ascribed_by held.behind.hand due)
 
     -- no label stands there, or one past the limits
-    pub no_label : length z.text < r.end → Refuses z
+    pub no_label : {after code' : List ℕ} → LabelAnswer z.text at z.types z.names s.count z.code s.to true after code' None → Refuses z
     unfolding Next met marks standing
-    no_label past =
+    no_label answer =
         unfit comes_due
         (next_then (λ τ. Fits τ → ⊥) (λ l v. fits_label (table_names z.names z.text s.count) l ≡ false) (label z.types prop_levels (drop at z.text)) _
-        (gives_from _ _ (answer.fails past)) λ l v unfit-label.
+        (gives_from _ _ answer.answer) λ l v unfit-label.
         label_unfit held.behind.stored l unfit-label (giving held.entries (standing false (TypeAscription held.term.shown l)) v)
         (record { more = node ∷ []; is = simp append_assoc }))
 
-    -- the kind and the number of the label are small
-    pub label_numbers : r.end ≤ length z.text → (r.kind < 3) × (r.number < 65536)
-    label_numbers read =
-        let (l, given) = answer.gives read in
-        let kind = label_kind_lem given in
-        let small = kind_small l in
-        (omega (arith, kind, small), label_small given label_begins read)
+    module _ {after code' : List ℕ} {r : LabelRead} (answer : LabelAnswer z.text at z.types z.names s.count z.code s.to true after code' (Some r)) where
+      -- the kind and the number of the label are small
+      pub label_numbers : (r.kind < 3) × (r.number < 65536)
+      label_numbers =
+          let (l, given) = answer.answer in
+          let kind = label_kind_lem given in
+          let small = kind_small l in
+          (omega (arith, kind, small), label_small given label_begins given.within)
 
-    module _ (read : r.end ≤ length z.text) (last : ℕ) (is : last ≡ s.used - 1) where
-      label_grows : {l : Label Name} → LabelGiven z.text at z.types z.names s.count z.code s.to true after code' r l
-          → Grows held.entries (TypeAscription held.term.shown l) (noting z after code') work (further s r.end r.count r.to)
-          (record { kind = 11; a = last; b = 0; c = r.kind; d = r.number; e = 0 }) (s.nest + 1) (s.tally + 1)
-      unfolding noting names_met nodes_met limited_met code_met labels_met term_records records_after marks kind_of term_nesting annotation_count row_numbers root_after seven
-      label_grows {l} given =
-          let b = held.behind in
-          let k = held.entries in
-          let a = held.term.shown in
-          let ms = entries_marks k ++ marks a in
-          let near = given.near in
-          let before = b.placed.near in
-          let on = colon.after there in
-          let nest = b.hand.nest in
-          let tally = b.hand.tally in
-          let counted : s.tally + 1 ≡ 1 + annotation_count a = omega (arith, tally) in
-          record {
-            placed = record { within = read; near = omega (arith, near, before, on) };
-            deep = b.deep;
-            met = ms ++ (labelled l ∷ []);
-            records = λ number. term_records number k a;
-            stored =
-                stored_met (labelled l ∷ []) b.stored (rw (append-nil (label_names l)) given.noted) refl (rw (label_limited given) refl) (label_to given) (label_stored given);
-            marks_are = simp append_assoc;
-            last = λ number. seven 11 (root_after (entries_marks k) a) 0 (label_kind l) (label_number number (code_met ms) l) 0 (1 + annotation_count a);
-            row_is = λ number extends.
-                let u = b.stored.used_is in
-                let number_is = label_number_lem given number extends in
-                let to_is = b.stored.to_is in
-                let kind = label_kind_lem given in
-                cc (is);
-            records_are = λ number. append_assoc (stack_records number k) (records_after number (entries_marks k) a) _;
-            kind_is = refl;
-            nest_is = omega (arith, nest);
-            tally_is = counted;
-          }
+      module _ (last : ℕ) (is : last ≡ s.used - 1) where
+        label_grows : {l : Label Name} → LabelGiven z.text at z.types z.names s.count z.code s.to true after code' r l
+            → Grows held.entries (TypeAscription held.term.shown l) (noting z after code') work (further s r.end r.count r.to)
+            (record { kind = 11; a = last; b = 0; c = r.kind; d = r.number; e = 0 }) (s.nest + 1) (s.tally + 1)
+        unfolding noting names_met nodes_met limited_met code_met labels_met term_records records_after marks kind_of term_nesting annotation_count row_numbers root_after seven
+        label_grows {l} given =
+            let b = held.behind in
+            let k = held.entries in
+            let a = held.term.shown in
+            let ms = entries_marks k ++ marks a in
+            let near = given.near in
+            let before = b.placed.near in
+            let on = colon.after in
+            let nest = b.hand.nest in
+            let tally = b.hand.tally in
+            let counted : s.tally + 1 ≡ 1 + annotation_count a = omega (arith, tally) in
+            record {
+              placed = record { within = given.within; near = omega (arith, near, before, on) };
+              deep = b.deep;
+              met = ms ++ (labelled l ∷ []);
+              records = λ number. term_records number k a;
+              stored =
+                  stored_met (labelled l ∷ []) b.stored (rw (append-nil (label_names l)) given.noted) refl (rw (label_limited given) refl) (label_to given) (label_stored given);
+              marks_are = simp append_assoc;
+              last = λ number. seven 11 (root_after (entries_marks k) a) 0 (label_kind l) (label_number number (code_met ms) l) 0 (1 + annotation_count a);
+              row_is = λ number extends.
+                  let u = b.stored.used_is in
+                  let number_is = label_number_lem given number extends in
+                  let to_is = b.stored.to_is in
+                  let kind = label_kind_lem given in
+                  cc (is);
+              records_are = λ number. append_assoc (stack_records number k) (records_after number (entries_marks k) a) _;
+              kind_is = refl;
+              nest_is = omega (arith, nest);
+              tally_is = counted;
+            }
 
-      module _ {work' : List ℕ} {t : Progress}
-          (makes : Makes (further s r.end r.count r.to) (record { kind = 11; a = last; b = 0; c = r.kind; d = r.number; e = 0 }) (s.nest + 1) (s.tally + 1) work work' t) where
-        -- the record passes a limit
-        pub ascription_refused : t.mode ≡ 3 → Refuses (noting z after code')
-        unfolding noting
-        ascription_refused e =
-            let (l, given) = answer.gives read in
-            whole_refused (label_grows given) makes (goes_on (label z.types prop_levels (drop at z.text)) _ l _ comes_due given.reads) e
+        module _ {work' : List ℕ} {t : Progress}
+            (makes : Makes (further s r.end r.count r.to) (record { kind = 11; a = last; b = 0; c = r.kind; d = r.number; e = 0 }) (s.nest + 1) (s.tally + 1) work work' t) where
+          -- the record passes a limit
+          pub ascription_refused : t.mode ≡ 3 → Refuses (noting z after code')
+          unfolding noting
+          ascription_refused e =
+              let (l, given) = answer.answer in
+              whole_refused (label_grows given) makes (goes_on (label z.types prop_levels (drop at z.text)) _ l _ comes_due given.reads) e
 
-        -- the term and its label are whole
-        pub ascription_turned : (t.mode ≡ 3 → ⊥) → Turned (noting z after code') work' (left_at z.text s 1) (whole t)
-        unfolding noting left_at
-        ascription_turned made =
-            let (l, given) = answer.gives read in
-            let from = given.from in
-            let on = colon.after there in
-            whole_turned (label_grows given) makes (goes_on (label z.types prop_levels (drop at z.text)) _ l _ comes_due given.reads) made _ (omega (arith, from, on, read))
+          -- the term and its label are whole
+          pub ascription_turned : (t.mode ≡ 3 → ⊥) → Turned (noting z after code') work' (left_at z.text s 1) (whole t)
+          unfolding noting left_at
+          ascription_turned made =
+              let (l, given) = answer.answer in
+              let from = given.from in
+              let on = colon.after in
+              whole_turned (label_grows given) makes (goes_on (label z.types prop_levels (drop at z.text)) _ l _ comes_due given.reads) made _ (omega (arith, from, on, given.within))

@@ -1,11 +1,11 @@
 -- Behind the head of a let: the body is to be read.
-use Prim.Native.Nat.{ℕ, ◌-◌, ◌<◌, ◌≤◌}
+use Prim.Native.Nat.{ℕ, ◌-◌}
 use mathlib.Core.Path.{◌≡◌, sym, ◌∙◌}
 use mathlib.Core.Bool.{true, false}
-use Rattle.std.specs.Prelude.{Some}
+use Rattle.std.specs.Prelude.{None, Some}
 use mathlib.Core.List.{List, [], ◌∷◌, ◌++◌, append_assoc}
 use native.Mathlib.Omega.{arith}
-use lib.ListN.{length, get_or, drop}
+use lib.ListN.{get_or, drop}
 use lib.Dec.{leb}
 use Rattle.definitions.specs.Utf8.{utf8}
 use Rattle.definitions.specs.Name.{Name}
@@ -44,29 +44,30 @@ module _ {z : Scene} {work : List ℕ} {s : Progress} {e : reader.Entry} where
   pub let_not_due : (g : Gives z work s e) → e.kind ≡ 10 → same s.own (leb 4 (get_or form_table s.kind 0)) ≡ false → Refuses z
   let_not_due g h d = undue (bound_in g h) g.to d
 
-  module _ (due : same s.own (leb 4 (get_or form_table s.kind 0)) ≡ true) {end : ℕ} (found : Expected (utf8 " in ") z.text s.at end) where
+  module _ (due : same s.own (leb 4 (get_or form_table s.kind 0)) ≡ true) where
     comes_in : {k : List Entry} {x y : Name} {a : Shown (ProofTerm Name)} → GivesTo k (let_head x y) a z work s e
         → Comes z.types z.text (and_then (expect (utf8 " in ") (drop s.at z.text)) λ u t. Some (reading (let_body x y a.shown ∷ k) t))
     unfolding give least_form
     comes_in g = as_due _ _ _ (comes_given g) (due_at within g.behind.hand due)
 
-    no_body : {k : List Entry} {entry : Entry} {a : Shown (ProofTerm Name)} → Bound entry → GivesTo k entry a z work s e → length z.text < end → Refuses z
-    no_body (of_bound x y) g past = ends_here (expect (utf8 " in ") (drop s.at z.text)) _ (comes_in g) (found.ends.fails past)
+    no_body : {k : List Entry} {entry : Entry} {a : Shown (ProofTerm Name)} → Bound entry → GivesTo k entry a z work s e
+        → expect (utf8 " in ") (drop s.at z.text) ≡ None → Refuses z
+    no_body (of_bound x y) g none = ends_here (expect (utf8 " in ") (drop s.at z.text)) _ (comes_in g) none
 
     -- no body follows
-    pub let_stuck : (g : Gives z work s e) → e.kind ≡ 10 → length z.text < end → Refuses z
-    let_stuck g h past = no_body (bound_in g h) g.to past
+    pub let_stuck : (g : Gives z work s e) → e.kind ≡ 10 → expect (utf8 " in ") (drop s.at z.text) ≡ None → Refuses z
+    let_stuck g h none = no_body (bound_in g h) g.to none
 
-    module _ (there : end ≤ length z.text) (last : ℕ) (is : last ≡ s.used - 1) where
+    module _ {end : ℕ} (found : Expected (utf8 " in ") z.text s.at end) (last : ℕ) (is : last ≡ s.used - 1) where
       let_opens : (k : List Entry) (x y : Name) (a : Shown (ProofTerm Name)) → GivesTo k (let_head x y) a z work s e
           → Opens k (let_body x y a.shown) z work (under s end s.count s.own) (record { kind = 11; a = e.a; b = e.b; c = last; d = 0; e = s.nest }) s.tally
       unfolding entry_marks entry_records entry_numbers row_numbers root_after seven
       let_opens k x y a g =
           let ms = entries_marks k in
           let v = ms ++ (called x ∷ called y ∷ []) in
-          let on = found.after there in
+          let on = found.after in
           record {
-            placed = placed_on g.behind.placed end s.count s.own (omega (arith, on)) there;
+            placed = placed_on g.behind.placed end s.count s.own (omega (arith, on)) found.within;
             deep = depth_under g;
             met = v ++ marks a.shown;
             records = λ number. (stack_records number k ++ []) ++ records_after number v a.shown;
@@ -81,9 +82,9 @@ module _ {z : Scene} {work : List ℕ} {s : Progress} {e : reader.Entry} where
           → Turned z after (left_at z.text s 0) r
       unfolding left_at
       body_opens {k} {a = a} (of_bound x y) g enters =
-          let on = found.after there in
+          let on = found.after in
           let d = g.behind.deep in
-          opened (let_opens k x y a g) enters (goes_on (expect (utf8 " in ") (drop s.at z.text)) _ tt _ (comes_in g) (found.ends.gives there)) _ (omega (arith, on, there, d))
+          opened (let_opens k x y a g) enters (goes_on (expect (utf8 " in ") (drop s.at z.text)) _ tt _ (comes_in g) found.reads) _ (omega (arith, on, found.within, d))
 
       -- the body is to be read
       pub let_turned : {after : List ℕ} {r : Progress} → (g : Gives z work s e) → e.kind ≡ 10

@@ -5,7 +5,7 @@ use mathlib.Core.Bool.{true, false}
 use Rattle.std.specs.Prelude.{Option, None, Some}
 use mathlib.Core.List.{List, [], ◌∷◌, ◌++◌, append_assoc, append-nil}
 use native.Mathlib.Omega.{arith}
-use lib.ListN.{length, get_or, drop}
+use lib.ListN.{get_or, drop}
 use lib.Dec.{leb}
 use Rattle.definitions.specs.declared.Style.TheVariants.{Strict}
 use Rattle.definitions.specs.Utf8.{utf8}
@@ -26,7 +26,7 @@ use Rattle.reading_laws.proofs.Turns.{Next, next_then}
 use Rattle.words.specs.Places.{between, Expected}
 use Rattle.words.specs.Table.{added, table_names}
 use Rattle.prop_parts.specs.declared.NameRead.{NameRead}
-use Rattle.prop_parts.specs.Found.{NameGiven}
+use Rattle.prop_parts.specs.Found.{NameLacks, NameGiven}
 use Rattle.atom_reader.specs.Scope.{Crowded}
 use Rattle.atom_reader.proofs.Readings.{gives_from, gives_any}
 use Rattle.term_stack.specs.declared.Progress.{Progress}
@@ -44,52 +44,50 @@ use Rattle.term_stack.proofs.Opened.{Opens, opened}
 use Rattle.term_stack.proofs.Closes.{entry_kind, kind_of_lem, stored_under, depth_under, comes_given}
 use Rattle.term_openings.proofs.Noting.{noting, stored_name, crowded_met, too_many_names}
 use Rattle.term_openings.proofs.ClosedTerms.{number_noted}
-use Rattle.term_closings.specs.Branching.{branch_word, branch_row, branch, BranchGiven, BranchAnswer}
+use Rattle.term_closings.specs.Branching.{branch_word, branch_row, branch, BranchGiven, BranchLacks}
 use Rattle.term_closings.proofs.Tops.{Branch, of_head, of_first, branch_of}
 use Rattle.term_closings.proofs.Enclosed.{under, placed_on}
 
 -- The word, the name, the arrow.
-module _ {what text : List ℕ} {at start : ℕ} (word : Expected what text at start) where
-  pub branch_no_word : {pairs : List ℕ} {count number : ℕ} → length text < start
-      → BranchAnswer what text at pairs count pairs (record { end = start; number = number; count = count })
-  unfolding branch ◌>>=◌ followed_by
-  branch_no_word past = record { fails = λ l. rw (word.ends.fails past) (gives_none _); gives = λ l. absurd (omega arith) }
+pub branch_no_word : (what text pairs : List ℕ) (at count : ℕ) → expect what (drop at text) ≡ None → BranchLacks what text at pairs count
+unfolding branch ◌>>=◌ followed_by
+branch_no_word what text pairs at count e = rw e (gives_none _)
 
-  module _ (there : start ≤ length text) {pairs after : List ℕ} {count : ℕ} {n : NameRead} (named : NameGiven text start pairs count after n) where
-    pub branch_no_name : length text < n.end → BranchAnswer what text at pairs count after n
-    unfolding branch ◌>>=◌ followed_by added
-    branch_no_name past = record {
-      fails = λ l.
-          rw (word.ends.gives there)
-          (gives_then _ _ (name (drop start text)) _
-          (gives_from (name (drop start text)) (λ x rest. Crowded (table_names pairs text count) (x ∷ [])) (λ x e. named.fails past x e)) λ x t crowded.
-          gives_then _ _ (expect (utf8 " => ") t) _ (gives_any _) λ u v i.
-          gives_yield _ x v crowded);
-      gives = λ l. absurd (omega arith);
-    }
+module _ {what text : List ℕ} {at start : ℕ} (pairs : List ℕ) (count : ℕ) (word : Expected what text at start) where
+  pub branch_no_name : NameLacks text start pairs count → BranchLacks what text at pairs count
+  unfolding branch ◌>>=◌ followed_by added
+  branch_no_name lacks =
+      rw word.reads
+      (gives_then _ _ (name (drop start text)) _
+      (gives_from (name (drop start text)) (λ x rest. Crowded (table_names pairs text count) (x ∷ [])) lacks) λ x t crowded.
+      gives_then _ _ (expect (utf8 " => ") t) _ (gives_any _) λ u v i.
+      gives_yield _ x v crowded)
 
-    pub branch_read : {begin : ℕ} → n.end ≤ length text → Expected (utf8 " => ") text n.end begin
-        → BranchAnswer what text at pairs count after (record { end = begin; number = n.number; count = n.count })
+  module _ {after : List ℕ} {n : NameRead} (named : NameGiven text start pairs count after n) where
+    pub branch_no_arrow : expect (utf8 " => ") (drop n.end text) ≡ None → BranchLacks what text at pairs count
+    unfolding branch ◌>>=◌ followed_by
+    branch_no_arrow e = rw (word.reads, named.reads, e) (gives_none _)
+
+    pub branch_read : {begin : ℕ} → Expected (utf8 " => ") text n.end begin
+        → (x : Name) × BranchGiven what text at pairs count after (record { end = begin; number = n.number; count = n.count }) x
     unfolding branch ◌>>=◌ followed_by yield
-    branch_read {begin} named-there arrow = record {
-      fails = λ l. rw (word.ends.gives there, named.gives named-there, arrow.ends.fails l) (gives_none _);
-      gives = λ l. (
-        between start n.end text,
-        record {
-          reads = rw (word.ends.gives there, named.gives named-there, arrow.ends.gives l) refl;
-          noted = named.noted named-there;
-          number_is = named.number_is named-there;
-          from = omega (arith, word.after there, named.from named-there, arrow.after l);
-          below = named.below named-there;
-        },
-      );
-    }
+    branch_read {begin} arrow = (
+      between start n.end text,
+      record {
+        within = arrow.within;
+        reads = rw (word.reads, named.reads, arrow.reads) refl;
+        noted = named.noted;
+        number_is = named.number_is;
+        from = omega (arith, word.after, named.from, arrow.after);
+        below = named.below;
+      },
+    )
 
 -- the number of a branch's name
-pub branch_small : {what text : List ℕ} {at : ℕ} {pairs : List ℕ} {count : ℕ} {after : List ℕ} {r : NameRead} → BranchAnswer what text at pairs count after r → r.end ≤ length text
-    → r.number < 512
+pub branch_small : {what text : List ℕ} {at : ℕ} {pairs : List ℕ} {count : ℕ} {after : List ℕ} {r : NameRead} {x : Name}
+    → BranchGiven what text at pairs count after r x → r.number < 512
 unfolding name_limit
-branch_small answer there = let (x, given) = answer.gives there in omega (arith, given.below, given.noted.table.few)
+branch_small given = omega (arith, given.below, given.noted.table.few)
 
 -- a reading in two steps
 then_on : {A B : Type 0} (m : Option (Read A)) (first : A → Reading B) (next : B → List ℕ → Option State) (both : A → List ℕ → Option State)
@@ -158,23 +156,22 @@ module _ {z : Scene} {work : List ℕ} {s : Progress} {e : reader.Entry} {waitin
   unfolding branch_turn least_form
   undue d = not_due _ _ _ comes_branch (due_at within g.behind.hand d)
 
-  module _ (due : same s.own (leb 4 (get_or form_table s.kind 0)) ≡ true) {after : List ℕ} {r : NameRead}
-      (answer : BranchAnswer (branch_word e.kind) z.text s.at z.names s.count after r) where
+  module _ (due : same s.own (leb 4 (get_or form_table s.kind 0)) ≡ true) where
     comes_due : Comes z.types z.text (and_then (branch (branch_word e.kind) (drop s.at z.text)) λ x t. Some (reading (waiting x ∷ k) t))
     unfolding branch_turn least_form
     comes_due = as_due _ _ _ comes_branch (due_at within g.behind.hand due)
 
-    stuck : length z.text < r.end → Refuses z
+    stuck : BranchLacks (branch_word e.kind) z.text s.at z.names s.count → Refuses z
     unfolding Next met entries_marks names_met
-    stuck past =
+    stuck lacks =
         let ms = (entries_marks k ++ entry_marks entry) ++ marks a.shown in
         unfit comes_due
-        (next_then (λ τ. Fits τ → ⊥) (λ x t. Crowded (table_names z.names z.text s.count) (x ∷ [])) (branch (branch_word e.kind) (drop s.at z.text)) _ (answer.fails past) λ x t crowded.
+        (next_then (λ τ. Fits τ → ⊥) (λ x t. Crowded (table_names z.names z.text s.count) (x ∷ [])) (branch (branch_word e.kind) (drop s.at z.text)) _ lacks λ x t crowded.
         too_many_names (ms ++ (called x ∷ [])) (reading (waiting x ∷ k) t)
         (crowded_met (called x ∷ []) (stored_under g) crowded)
         (begins_as (begins_all _) (sym (b.marks_are x))))
 
-    module _ (there : r.end ≤ length z.text) {x : Name} (given : BranchGiven (branch_word e.kind) z.text s.at z.names s.count after r x) where
+    module _ {after : List ℕ} {r : NameRead} {x : Name} (given : BranchGiven (branch_word e.kind) z.text s.at z.names s.count after r x) where
       -- the numbers of the names are those of the names before
       number_then : (number : Name → ℕ) → Extends number (table_names after z.text r.count) → Extends number (table_names z.names z.text s.count) × (r.number ≡ number x)
       unfolding added
@@ -190,7 +187,7 @@ module _ {z : Scene} {work : List ℕ} {s : Progress} {e : reader.Entry} {waitin
             let last_is : last ≡ root_after (entries_marks k ++ entry_marks entry) a.shown = is ∙ ap (λ n. n - 1) (stored_under g).used_is in
             let nest_is : most ≡ max e.nest (term_nesting a.shown) = most_is ∙ ap (max e.nest) g.behind.hand.nest in
             record {
-              placed = let p = placed_on g.behind.placed r.end r.count s.own (omega (arith, from)) there in record { within = p.within; near = p.near };
+              placed = let p = placed_on g.behind.placed r.end r.count s.own (omega (arith, from)) given.within in record { within = p.within; near = p.near };
               deep = depth_under g;
               met = ((entries_marks k ++ entry_marks entry) ++ marks a.shown) ++ (called x ∷ []);
               records = λ number. (stack_records number k ++ entry_records number (entries_marks k) entry) ++ records_after number (entries_marks k ++ entry_marks entry) a.shown;
@@ -208,7 +205,7 @@ module _ {z : Scene} {work : List ℕ} {s : Progress} {e : reader.Entry} {waitin
         turned enters =
             let from = given.from in
             let d = g.behind.deep in
-            opened opens enters (goes_on (branch (branch_word e.kind) (drop s.at z.text)) _ x _ comes_due given.reads) _ (omega (arith, from, there, d))
+            opened opens enters (goes_on (branch (branch_word e.kind) (drop s.at z.text)) _ x _ comes_due given.reads) _ (omega (arith, from, given.within, d))
 
 -- With the entry on top as it is known by its numbers:
 record BranchOf (kind : ℕ) (k : List Entry) (entry : Entry) (a : Shown (ProofTerm Name)) : Type 0 where
@@ -229,16 +226,14 @@ module _ {z : Scene} {work : List ℕ} {s : Progress} {e : reader.Entry} where
     pub branch_not_due : same s.own (leb 4 (get_or form_table s.kind 0)) ≡ false → Refuses z
     branch_not_due d = undue (branch_in g kinds).is g.to d
 
-    module _ (due : same s.own (leb 4 (get_or form_table s.kind 0)) ≡ true) {after : List ℕ} {r : NameRead}
-        (answer : BranchAnswer (branch_word e.kind) z.text s.at z.names s.count after r) where
+    module _ (due : same s.own (leb 4 (get_or form_table s.kind 0)) ≡ true) where
       -- no branch follows, or one name too many
-      pub branch_stuck : length z.text < r.end → Refuses z
-      branch_stuck past = stuck (branch_in g kinds).is g.to due answer past
+      pub branch_stuck : BranchLacks (branch_word e.kind) z.text s.at z.names s.count → Refuses z
+      branch_stuck lacks = stuck (branch_in g kinds).is g.to due lacks
 
       -- the branch is to be read
-      pub branch_turned : {last most : ℕ} {after' : List ℕ} {t : Progress} → r.end ≤ length z.text → last ≡ s.used - 1 → most ≡ max e.nest s.nest
+      pub branch_turned : {after : List ℕ} {r : NameRead} {x : Name} {last most : ℕ} {after' : List ℕ} {t : Progress}
+          → BranchGiven (branch_word e.kind) z.text s.at z.names s.count after r x → last ≡ s.used - 1 → most ≡ max e.nest s.nest
           → Enters (under s r.end r.count s.own) (branch_row e last r.number most) (e.tally + s.tally) work after' t
           → Turned (noting z after z.code) after' (left_at z.text s 0) t
-      branch_turned there is most_is enters =
-          let (x, given) = answer.gives there in
-          turned (branch_in g kinds).is g.to due answer there given _ _ is most_is enters
+      branch_turned given is most_is enters = turned (branch_in g kinds).is g.to due given _ _ is most_is enters

@@ -1,10 +1,11 @@
 -- Behind a term to which more may belong: an argument, or nothing more.
-use Prim.Native.Nat.{ℕ, ◌-◌, ◌<◌, ◌≤◌}
+use Prim.Native.Nat.{ℕ, ◌-◌}
 use mathlib.Core.Path.{◌≡◌, refl, ap, ◌∙◌}
 use mathlib.Core.Bool.{true, false}
 use mathlib.Core.List.{List}
+use Rattle.std.specs.Prelude.{None}
 use native.Mathlib.Omega.{arith}
-use lib.ListN.{length, get_or, drop}
+use lib.ListN.{get_or, drop}
 use lib.Dec.{leb}
 use Rattle.definitions.specs.declared.Style.TheVariants.{Strict}
 use Rattle.definitions.specs.Utf8.{utf8}
@@ -39,46 +40,46 @@ module _ {z : Scene} {work : List ℕ} {s : Progress} (held : AtTerm holding z w
     unfolding least_form
     argument_not_due d = not_due _ _ _ comes_argument (due_at function_of held.behind.hand d)
 
-    module _ (due : same s.own (leb 2 (get_or form_table s.kind 0)) ≡ true) {start : ℕ} (blank : Expected (utf8 " ") z.text s.at start) where
+    module _ (due : same s.own (leb 2 (get_or form_table s.kind 0)) ≡ true) where
       comes_due : Comes z.types z.text (and_then (expect (utf8 " ") (drop s.at z.text)) λ u t. closed_for held.entries (as_argument held.term.shown) t)
       unfolding least_form
       comes_due = as_due _ _ _ comes_argument (due_at function_of held.behind.hand due)
 
-      pub no_blank : length z.text < start → Refuses z
-      no_blank past = ends_here (expect (utf8 " ") (drop s.at z.text)) _ comes_due (blank.ends.fails past)
+      pub no_blank : expect (utf8 " ") (drop s.at z.text) ≡ None → Refuses z
+      no_blank none = ends_here (expect (utf8 " ") (drop s.at z.text)) _ comes_due none
 
       -- a closed term is to be read
-      pub argument_closed : start ≤ length z.text → (last : ℕ) → last ≡ s.used - 1
+      pub argument_closed : {start : ℕ} → Expected (utf8 " ") z.text s.at start → (last : ℕ) → last ≡ s.used - 1
           → Closed z work (further s start s.count s.to) (record { kind = 1; value = last; nest = s.nest; tally = s.tally })
       unfolding purpose_marks purpose_records purpose_kind purpose_number purpose_nesting purpose_tally term_records root_after
-      argument_closed there last is =
+      argument_closed {start} blank last is =
           let b = held.behind in
-          let on = blank.after there in
+          let on = blank.after in
           let near = b.placed.near in
           record {
             entries = held.entries;
             purpose = as_argument held.term.shown;
             for = record {
-              comes = goes_on (expect (utf8 " ") (drop s.at z.text)) _ tt _ comes_due (blank.ends.gives there);
-              placed = record { within = there; near = omega (arith, near, on) };
+              comes = goes_on (expect (utf8 " ") (drop s.at z.text)) _ tt _ comes_due blank.reads;
+              placed = record { within = blank.within; near = omega (arith, near, on) };
               deep = b.deep;
               purpose_is = record { kind = refl; value = is ∙ ap (λ n. n - 1) b.stored.used_is; nest = b.hand.nest; tally = b.hand.tally };
               stored = b.stored;
             };
           }
 
-      pub argument_turned : {z' : Scene} {work' : List ℕ} {r : Progress} → start ≤ length z.text → Turned z' work' (left_at z.text (further s start s.count s.to) 0) r
+      pub argument_turned : {z' : Scene} {work' : List ℕ} {r : Progress} {start : ℕ} → Expected (utf8 " ") z.text s.at start → Turned z' work' (left_at z.text (further s start s.count s.to) 0) r
           → Turned z' work' (left_at z.text s 0) r
       unfolding left_at
-      argument_turned there t = let on = blank.after there in turned_within t (omega (arith, on))
+      argument_turned blank t = let on = blank.after in turned_within t (omega (arith, on))
 
   -- Neither an argument nor a label.
-  pub whole_term : argument_follows (drop s.at z.text) ≡ false → {colon : ℕ} → Expected (utf8 ": ") z.text s.at colon → length z.text < colon
+  pub whole_term : argument_follows (drop s.at z.text) ≡ false → expect (utf8 ": ") (drop s.at z.text) ≡ None
       → Turned z work (left_at z.text s 1) (whole s)
   unfolding left_at
-  whole_term bare none_there past =
+  whole_term bare none =
       let b = held.behind in
-      let reached = arrives (reads_else (expect (utf8 ": ") (drop s.at z.text)) _ _ (comes_last held bare) (none_there.ends.fails past)) in
+      let reached = arrives (reads_else (expect (utf8 ": ") (drop s.at z.text)) _ _ (comes_last held bare) none) in
       record {
         known = omega arith;
         refused = λ e. absurd (omega (arith, e));

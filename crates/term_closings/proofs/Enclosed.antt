@@ -2,7 +2,7 @@
 use Prim.Native.Nat.{ℕ, ◌+◌, ◌-◌, ◌<◌, ◌≤◌}
 use mathlib.Core.Path.{◌≡◌, refl, sym, ◌∙◌}
 use mathlib.Core.Bool.{Bool, true, false}
-use Rattle.std.specs.Prelude.{Option, Some}
+use Rattle.std.specs.Prelude.{Option, None, Some}
 use mathlib.Core.List.{List, ◌∷◌, ◌++◌, append_assoc}
 use native.Mathlib.Omega.{arith}
 use lib.ListN.{length, drop}
@@ -102,39 +102,39 @@ module _ {z : Scene} {work : List ℕ} {s : Progress} {e : reader.Entry} where
 
     -- a comma follows
     module _ {comma : ℕ} (found : Expected (utf8 ", ") z.text s.at comma) where
-      pub bracket_opens : {after : List ℕ} {r : Progress} (last : ℕ) → last ≡ s.used - 1 → (g : Gives z work s e) → e.kind < 3 → comma ≤ length z.text
+      pub bracket_opens : {after : List ℕ} {r : Progress} (last : ℕ) → last ≡ s.used - 1 → (g : Gives z work s e) → e.kind < 3
           → Enters (under s comma s.count s.own) (record { kind = 3 + e.kind; a = e.a; b = last; c = e.nest; d = e.tally; e = s.nest }) s.tally work after r
           → Turned z after (left_at z.text s 0) r
       unfolding left_at
-      bracket_opens {after} {r} last is g h there enters = go (bracket_of g.entry (rw (← kind_of_lem g.to) h)) g.to
+      bracket_opens {after} {r} last is g h enters = go (bracket_of g.entry (rw (← kind_of_lem g.to) h)) g.to
         where
           go : {k : List Entry} {entry : Entry} {a : Shown (ProofTerm Name)} → Bracket entry → GivesTo k entry a z work s e → Turned z after (left_at z.text s 0) r
           go {k} {a = a} (of_bracket p) g =
-              let on = found.after there in
+              let on = found.after in
               let d = g.behind.deep in
-              opened (pair_opens k p a last comma g is (omega (arith, on)) there) enters
-              (reads_on (expect (utf8 ", ") (drop s.at z.text)) _ _ tt _ (comes_bare g) (found.ends.gives there)) _ (omega (arith, on, there, d))
+              opened (pair_opens k p a last comma g is (omega (arith, on)) found.within) enters
+              (reads_on (expect (utf8 ", ") (drop s.at z.text)) _ _ tt _ (comes_bare g) found.reads) _ (omega (arith, on, found.within, d))
 
-    module _ {comma end : ℕ} (no-comma : Expected (utf8 ", ") z.text s.at comma) (past : length z.text < comma)
-        (found : Expected (utf8 ")") z.text s.at end) where
+    module _ (no_comma : expect (utf8 ", ") (drop s.at z.text) ≡ None) where
       comes_closing : {k : List Entry} {p : Purpose} {a : Shown (ProofTerm Name)} → GivesTo k (in_bracket p) a z work s e
           → Comes z.types z.text (and_then (expect (utf8 ")") (drop s.at z.text)) λ u t. used k p (standing true a.shown) t)
-      comes_closing g = reads_else (expect (utf8 ", ") (drop s.at z.text)) _ _ (comes_bare g) (no-comma.ends.fails past)
+      comes_closing g = reads_else (expect (utf8 ", ") (drop s.at z.text)) _ _ (comes_bare g) no_comma
 
-      neither : {k : List Entry} {entry : Entry} {a : Shown (ProofTerm Name)} → Bracket entry → GivesTo k entry a z work s e → length z.text < end → Refuses z
-      neither (of_bracket p) g nowhere = ends_here (expect (utf8 ")") (drop s.at z.text)) _ (comes_closing g) (found.ends.fails nowhere)
+      neither : {k : List Entry} {entry : Entry} {a : Shown (ProofTerm Name)} → Bracket entry → GivesTo k entry a z work s e
+          → expect (utf8 ")") (drop s.at z.text) ≡ None → Refuses z
+      neither (of_bracket p) g none = ends_here (expect (utf8 ")") (drop s.at z.text)) _ (comes_closing g) none
 
       -- neither a comma nor a bracket follows
-      pub bracket_stuck : (g : Gives z work s e) → e.kind < 3 → length z.text < end → Refuses z
-      bracket_stuck g h nowhere = neither (bracket_of g.entry (rw (← kind_of_lem g.to) h)) g.to nowhere
+      pub bracket_stuck : (g : Gives z work s e) → e.kind < 3 → expect (utf8 ")") (drop s.at z.text) ≡ None → Refuses z
+      bracket_stuck g h none = neither (bracket_of g.entry (rw (← kind_of_lem g.to) h)) g.to none
 
       -- the bracket closes
-      closed_using : {k : List Entry} {entry : Entry} {a : Shown (ProofTerm Name)} → Bracket entry → GivesTo k entry a z work s e → end ≤ length z.text
-          → Using z work (under s end s.count true) (record { kind = e.kind; value = e.a; nest = e.nest; tally = e.tally })
+      closed_using : {k : List Entry} {entry : Entry} {a : Shown (ProofTerm Name)} {end : ℕ} → Bracket entry → GivesTo k entry a z work s e
+          → Expected (utf8 ")") z.text s.at end → Using z work (under s end s.count true) (record { kind = e.kind; value = e.a; nest = e.nest; tally = e.tally })
       unfolding entry_marks entry_records entry_numbers seven standing
-      closed_using {k} {a = a} (of_bracket p) g there =
+      closed_using {k} {a = a} {end = end} (of_bracket p) g found =
           let ms = entries_marks k in
-          let on = found.after there in
+          let on = found.after in
           let seen = table_names z.names z.text s.count in
           let top = g.top (number_in seen) (extends_itself seen) in
           let hand = g.behind.hand in
@@ -143,8 +143,8 @@ module _ {z : Scene} {work : List ℕ} {s : Progress} {e : reader.Entry} where
             purpose = p;
             term = standing true a.shown;
             for = record {
-              comes = goes_on (expect (utf8 ")") (drop s.at z.text)) _ tt _ (comes_closing g) (found.ends.gives there);
-              placed = placed_on g.behind.placed end s.count true (omega (arith, on)) there;
+              comes = goes_on (expect (utf8 ")") (drop s.at z.text)) _ tt _ (comes_closing g) found.reads;
+              placed = placed_on g.behind.placed end s.count true (omega (arith, on)) found.within;
               deep = depth_under g;
               hand = record { kind = hand.kind; own = refl; nest = hand.nest; tally = hand.tally; shallow = hand.shallow };
               purpose_is = record { kind = (cc); value = (cc); nest = (cc); tally = (cc) };
@@ -153,6 +153,6 @@ module _ {z : Scene} {work : List ℕ} {s : Progress} {e : reader.Entry} where
             };
           }
 
-      pub bracket_using : (g : Gives z work s e) → e.kind < 3 → end ≤ length z.text
+      pub bracket_using : {end : ℕ} (g : Gives z work s e) → e.kind < 3 → Expected (utf8 ")") z.text s.at end
           → Using z work (under s end s.count true) (record { kind = e.kind; value = e.a; nest = e.nest; tally = e.tally })
-      bracket_using g h there = closed_using (bracket_of g.entry (rw (← kind_of_lem g.to) h)) g.to there
+      bracket_using g h found = closed_using (bracket_of g.entry (rw (← kind_of_lem g.to) h)) g.to found

@@ -2,9 +2,10 @@
 use Prim.Native.Nat.{ℕ, ◌+◌, ◌-◌, max, ◌<◌, ◌≤◌}
 use mathlib.Core.Path.{◌≡◌, refl, sym, ◌∙◌}
 use mathlib.Core.Bool.{true, false}
+use Rattle.std.specs.Prelude.{None}
 use mathlib.Core.List.{List, [], ◌∷◌, ◌++◌, append_assoc}
 use native.Mathlib.Omega.{arith}
-use lib.ListN.{length, drop}
+use lib.ListN.{drop}
 use Rattle.definitions.specs.declared.Style.TheVariants.{Strict}
 use Rattle.definitions.specs.Utf8.{utf8}
 use Rattle.definitions.specs.Name.{Name}
@@ -56,24 +57,25 @@ module _ {z : Scene} {work : List ℕ} {s : Progress} {e : reader.Entry} where
   pub second_refused : (g : Gives z work s e) → (3 ≤ e.kind) × (e.kind < 6) → s.own ≡ true → Refuses z
   second_refused g h own = own_second (half_in g h) g.to own
 
-  module _ (bare : s.own ≡ false) {end : ℕ} (found : Expected (utf8 ")") z.text s.at end) where
+  module _ (bare : s.own ≡ false) where
     comes_closing : {k : List Entry} {p : Purpose} {b : ProofTerm Name} {a : Shown (ProofTerm Name)} → GivesTo k (second p b) a z work s e
         → Comes z.types z.text (and_then (expect (utf8 ")") (drop s.at z.text)) λ u t. used k p (standing false (Pair b a.shown)) t)
     unfolding give
     comes_closing {a = a} g = as_due _ _ _ (comes_given g) (bare_due a.own (sym g.behind.hand.own ∙ bare))
 
-    no_bracket : {k : List Entry} {entry : Entry} {a : Shown (ProofTerm Name)} → Half entry → GivesTo k entry a z work s e → length z.text < end → Refuses z
-    no_bracket (of_half p b) g past = ends_here (expect (utf8 ")") (drop s.at z.text)) _ (comes_closing g) (found.ends.fails past)
+    no_bracket : {k : List Entry} {entry : Entry} {a : Shown (ProofTerm Name)} → Half entry → GivesTo k entry a z work s e
+        → expect (utf8 ")") (drop s.at z.text) ≡ None → Refuses z
+    no_bracket (of_half p b) g none = ends_here (expect (utf8 ")") (drop s.at z.text)) _ (comes_closing g) none
 
     -- no bracket closes
-    pub second_stuck : (g : Gives z work s e) → (3 ≤ e.kind) × (e.kind < 6) → length z.text < end → Refuses z
-    second_stuck g h past = no_bracket (half_in g h) g.to past
+    pub second_stuck : (g : Gives z work s e) → (3 ≤ e.kind) × (e.kind < 6) → expect (utf8 ")") (drop s.at z.text) ≡ None → Refuses z
+    second_stuck g h none = no_bracket (half_in g h) g.to none
 
-    module _ (there : end ≤ length z.text) {after : List ℕ} {r : Progress} (last most : ℕ) (is : last ≡ s.used - 1) (most_is : most ≡ max e.nest s.nest)
+    module _ {end : ℕ} (found : Expected (utf8 ")") z.text s.at end) {after : List ℕ} {r : Progress} (last most : ℕ) (is : last ≡ s.used - 1) (most_is : most ≡ max e.nest s.nest)
         (makes : Makes (under s end s.count s.own) (record { kind = 1; a = e.b; b = last; c = 0; d = 0; e = 0 }) (most + 1) (e.tally + s.tally) work after r) where
       comes_pair : {k : List Entry} {p : Purpose} {b : ProofTerm Name} {a : Shown (ProofTerm Name)} → GivesTo k (second p b) a z work s e
           → Comes z.types z.text (used k p (standing false (Pair b a.shown)) (drop end z.text))
-      comes_pair g = goes_on (expect (utf8 ")") (drop s.at z.text)) _ tt _ (comes_closing g) (found.ends.gives there)
+      comes_pair g = goes_on (expect (utf8 ")") (drop s.at z.text)) _ tt _ (comes_closing g) found.reads
 
       nesting_is : {k : List Entry} {p : Purpose} {b : ProofTerm Name} {a : Shown (ProofTerm Name)} → GivesTo k (second p b) a z work s e
           → most + 1 ≡ term_nesting (Pair b a.shown)
@@ -121,7 +123,7 @@ module _ {z : Scene} {work : List ℕ} {s : Progress} {e : reader.Entry} where
           let P = purpose_marks p in
           let u = (stored_under g).used_is in
           let t = g.behind.hand.tally in
-          let on = found.after there in
+          let on = found.after in
           let seen = table_names z.names z.text s.count in
           let top = g.top (number_in seen) (extends_itself seen) in
           let kind : e.kind ≡ 3 + purpose_kind p = cc in
@@ -135,7 +137,7 @@ module _ {z : Scene} {work : List ℕ} {s : Progress} {e : reader.Entry} where
             term = standing false (Pair b a.shown);
             for = rw (m.is, m.stored) (record {
               comes = comes_pair g;
-              placed = record { within = there; near = let n = g.behind.placed.near in omega (arith, n, on) };
+              placed = record { within = found.within; near = let n = g.behind.placed.near in omega (arith, n, on) };
               deep = depth_under g;
               hand = record { kind = refl; own = refl; nest = nesting_is g; tally = (cc); shallow = m.shallow };
               purpose_is = record { kind = omega (arith, kind); value = (cc); nest = (cc); tally = (cc) };
@@ -150,6 +152,6 @@ module _ {z : Scene} {work : List ℕ} {s : Progress} {e : reader.Entry} where
       pub pair_turned : {work' : List ℕ} {t : Progress} → Gives z work s e → (r.mode ≡ 3 → ⊥) → Turned z work' (left_after z r) t → Turned z work' (left_at z.text s 0) t
       unfolding left_after
       pair_turned g whole t =
-          let on = found.after there in
+          let on = found.after in
           let left : left_after z r ≡ left_after z (under s end s.count s.own) = rw (makes.made whole).is in
           given_used g end s.count s.own (omega (arith, on)) (rw left at t)

@@ -32,13 +32,13 @@ branch what = do
 
 -- the branch that begins there, and its name
 pub record BranchGiven (what text : List ℕ) (at : ℕ) (pairs : List ℕ) (count : ℕ) (after : List ℕ) (r : NameRead) (x : Name) : Type 0 where
+  pub within : r.end ≤ length text
   pub reads : branch what (drop at text) ≡ given x (drop r.end text)
   pub noted : Noted (x ∷ []) text pairs count after r.count
   pub number_is : r.number ≡ number_in (add_name (table_names pairs text count) x) x
   pub from : at < r.end
   pub below : r.number < r.count
 
--- past the end of the text where there is none, or one name too many
-pub record BranchAnswer (what text : List ℕ) (at : ℕ) (pairs : List ℕ) (count : ℕ) (after : List ℕ) (r : NameRead) : Type 0 where
-  pub fails : length text < r.end → Gives (branch what (drop at text)) (λ x rest. Crowded (table_names pairs text count) (x ∷ []))
-  pub gives : r.end ≤ length text → (x : Name) × BranchGiven what text at pairs count after r x
+-- there is none, or one name too many
+abbrev pub BranchLacks : List ℕ → List ℕ → ℕ → List ℕ → ℕ → Type 0
+BranchLacks what text at pairs count = Gives (branch what (drop at text)) (λ x rest. Crowded (table_names pairs text count) (x ∷ []))

@@ -1,9 +1,10 @@
 // What a turn behind a term does: an argument, a label, or what the entry on top of the stack waits for.
 #![tactic(auto)]
 
-ghost use Rattle.std.specs.Prelude.{true, false, ◌≡◌, ◌<◌, ◌≤◌, length, drop};
+ghost use Rattle.std.specs.Prelude.{true, false, ◌≡◌, ◌<◌, ◌≤◌, length, drop, None, MatchOption};
+ghost use Rattle.definitions.specs.Name.{Name};
 ghost use Rattle.definitions.specs.Utf8.{utf8};
-ghost use Rattle.definitions.specs.TermReader.{argument_follows};
+ghost use Rattle.definitions.specs.TermReader.{expect, argument_follows};
 ghost use Rattle.definitions.specs.TermText.{term_text_limit};
 ghost use Rattle.reading_laws.specs.TermMachine.{holding, giving};
 ghost use Rattle.words.specs.Places.{Expected};
@@ -11,7 +12,7 @@ ghost use Rattle.words.specs.Table.{Table};
 ghost use Rattle.term_stack.specs.Standing.{AtTerm};
 ghost use Rattle.term_stack.specs.Turning.{TurnBegins, TurnEnds};
 ghost use Rattle.term_openings.specs.Beginning.{TextBegins, TextEnds, NamesBegin, NamesEnd};
-ghost use Rattle.term_closings.specs.Branching.{branch_word, branch_row, BranchAnswer};
+ghost use Rattle.term_closings.specs.Branching.{branch_word, branch_row, BranchLacks, BranchGiven};
 ghost use Rattle.term_closings.specs.Giving.{AtEntry};
 
 use proof_term::{PAIR, TYPE_ASCRIPTION};
@@ -35,8 +36,7 @@ fn give_bracket(text: &[u8], work: &mut [u16], s: Progress, e: Entry) -> Progres
     }
     let mut below = s;
     below.depth = s.depth - 1;
-    let comma = expect(text, s.at, b", ");
-    if comma <= text.len() {
+    if let Some(comma) = expect(text, s.at, b", ") {
         let row = Row {
             kind: PAIRS + e.kind,
             a: e.a,
@@ -48,10 +48,9 @@ fn give_bracket(text: &[u8], work: &mut [u16], s: Progress, e: Entry) -> Progres
         below.at = comma;
         return enter(work, below, row, s.tally as u16);
     }
-    let end = expect(text, s.at, b")");
-    if text.len() < end {
+    let Some(end) = expect(text, s.at, b")") else {
         return refused(s);
-    }
+    };
     below.at = end;
     below.own = true;
     let p = Purpose {
@@ -71,10 +70,9 @@ fn give_second(text: &[u8], work: &mut [u16], s: Progress, e: Entry) -> Progress
     if s.own {
         return refused(s);
     }
-    let end = expect(text, s.at, b")");
-    if text.len() < end {
+    let Some(end) = expect(text, s.at, b")") else {
         return refused(s);
-    }
+    };
     let mut below = s;
     below.at = end;
     below.depth = s.depth - 1;
@@ -108,10 +106,9 @@ fn give_let(text: &[u8], work: &mut [u16], s: Progress, e: Entry) -> Progress
     if !is_as_due(s.own, s.kind, NO_ASCRIPTION) {
         return refused(s);
     }
-    let end = expect(text, s.at, b" in ");
-    if text.len() < end {
+    let Some(end) = expect(text, s.at, b" in ") else {
         return refused(s);
-    }
+    };
     let mut below = s;
     below.at = end;
     below.depth = s.depth - 1;
@@ -127,9 +124,10 @@ fn give_let(text: &[u8], work: &mut [u16], s: Progress, e: Entry) -> Progress
 }
 
 // Where the word before a branch ends, for which an entry of this kind waits.
-fn branch_word(text: &[u8], at: usize, kind: u16) -> usize
+fn branch_word(text: &[u8], at: usize, kind: u16) -> Option<usize>
     requires { at ≤ length text.now }
-    ensures { Expected (branch_word kind) text.now at result }
+    ensures { MatchOption result (expect (branch_word kind) (drop at text.now) ≡ None)
+        (Expected (branch_word kind) text.now at) }
 {
     if kind == CASE_HEAD {
         return expect(text, at, b" of inl ");
@@ -138,30 +136,22 @@ fn branch_word(text: &[u8], at: usize, kind: u16) -> usize
 }
 
 // What stands before the branch of a case: a word, a name and an arrow. The branch begins at the end of what was read.
-fn read_branch(text: &[u8], at: usize, kind: u16, names: &mut [u8], count: usize) -> NameRead
+fn read_branch(
+    text: &[u8],
+    at: usize,
+    kind: u16,
+    names: &mut [u8],
+    count: usize,
+) -> Option<NameRead>
     requires { Table names.old text.now count
         × (at ≤ length text.now) × (length text.now ≤ term_text_limit) }
-    ensures { BranchAnswer (branch_word kind) text.now at names.old count
-        names.new result }
+    ensures { MatchOption result (BranchLacks (branch_word kind) text.now at names.old count)
+        (λ r. (x : Name) × BranchGiven (branch_word kind) text.now at names.old count names.new r x) }
 {
-    let start = branch_word(text, at, kind);
-    if text.len() < start {
-        return NameRead {
-            end: start,
-            number: 0,
-            count,
-        };
-    }
-    let name = read_name(text, start, names, count);
-    let end = name.end;
-    if text.len() < end {
-        return name;
-    }
-    NameRead {
-        end: expect(text, end, b" => "),
-        number: name.number,
-        count: name.count,
-    }
+    let start = branch_word(text, at, kind)?;
+    let name = read_name(text, start, names, count)?;
+    let end = expect(text, name.end, b" => ")?;
+    Some(NameRead { end, ..name })
 }
 
 // The entry that waits for a branch: it holds the term in hand, whose record is the last, and the number of the branch's name.
@@ -197,17 +187,14 @@ fn give_case(text: &[u8], names: &mut [u8], work: &mut [u16], s: Progress, e: En
     if !is_as_due(s.own, s.kind, NO_ASCRIPTION) {
         return refused(s);
     }
-    let branch = read_branch(text, s.at, e.kind, names, s.count);
-    let begin = branch.end;
-    let number = branch.number;
-    if text.len() < begin {
+    let Some(branch) = read_branch(text, s.at, e.kind, names, s.count) else {
         return refused(s);
-    }
+    };
     let nest = larger(e.nest as usize, s.nest);
     let tally = e.tally as usize + s.tally;
-    let row = branch_row(e, (s.used - 1) as u16, number as u16, nest as u16);
+    let row = branch_row(e, (s.used - 1) as u16, branch.number as u16, nest as u16);
     let mut below = s;
-    below.at = begin;
+    below.at = branch.end;
     below.depth = s.depth - 1;
     below.count = branch.count;
     enter(work, below, row, tally as u16)
@@ -251,7 +238,7 @@ fn ascribe(
 ) -> Progress
     requires { TurnBegins (AtTerm holding) types.now text.now names.old code.old work.old s
         × (argument_follows (drop s.at text.now) ≡ false)
-        × Expected (utf8 ": ") text.now s.at at × (at ≤ length text.now) }
+        × Expected (utf8 ": ") text.now s.at at }
     ensures { TurnEnds (AtTerm holding) 1 types.now text.now
         names.old code.old work.old s
         names.new code.new work.new result }
@@ -259,11 +246,9 @@ fn ascribe(
     if !is_as_due(s.own, s.kind, NO_FUNCTION) {
         return refused(s);
     }
-    let label = read_label(text, at, types, names, s.count, code, s.to, true);
-    let end = label.end;
-    if text.len() < end {
+    let Some(label) = read_label(text, at, types, names, s.count, code, s.to, true) else {
         return refused(s);
-    }
+    };
     let row = Row {
         kind: TYPE_ASCRIPTION as u16,
         a: (s.used - 1) as u16,
@@ -273,7 +258,7 @@ fn ascribe(
         e: 0,
     };
     let mut behind = s;
-    behind.at = end;
+    behind.at = label.end;
     behind.count = label.count;
     behind.to = label.to;
     let mut r = make(work, behind, row, s.nest + 1, s.tally + 1);
@@ -294,10 +279,9 @@ fn argument(text: &[u8], names: &mut [u8], work: &mut [u16], s: Progress) -> Pro
     if !is_as_due(s.own, s.kind, NO_FUNCTION) {
         return refused(s);
     }
-    let start = expect(text, s.at, b" ");
-    if text.len() < start {
+    let Some(start) = expect(text, s.at, b" ") else {
         return refused(s);
-    }
+    };
     let mut behind = s;
     behind.at = start;
     let p = Purpose {
@@ -326,8 +310,7 @@ pub fn chain(
     if argument_follows(text, s.at) {
         return argument(text, names, work, s);
     }
-    let label = expect(text, s.at, b": ");
-    if label <= text.len() {
+    if let Some(label) = expect(text, s.at, b": ") {
         return ascribe(text, types, names, code, work, s, label);
     }
     let mut r = s;

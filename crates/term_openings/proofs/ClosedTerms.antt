@@ -8,7 +8,6 @@ use native.Mathlib.Omega.{arith}
 use lib.ListN.{length, drop}
 use Rattle.definitions.specs.Utf8.{utf8}
 use Rattle.definitions.specs.Name.{Name, eq_name}
-use Rattle.definitions.specs.Sheet.{name_limit}
 use Rattle.definitions.specs.Text.{occurs}
 use Rattle.definitions.specs.Term.{ProofTerm, Ident, Unit, Sorry, annotation_count}
 use Rattle.definitions.specs.TermText.{term_nesting}
@@ -21,7 +20,7 @@ use Rattle.reading_laws.specs.Marks.{Mark, called, node, marks, purpose_marks, e
 use Rattle.reading_laws.proofs.MarksMet.{begins_by, begins_all, after_used}
 use Rattle.words.specs.declared.Numbered.{Numbered}
 use Rattle.words.specs.Places.{between, WordEnds, NameEnds, Expected}
-use Rattle.words.specs.Table.{add_name, added, number_in, table_names, NamePlace, NumberOf}
+use Rattle.words.specs.Table.{add_name, added, number_in, table_names, NamePlace, TooMany, NumberOf}
 use Rattle.words.proofs.Added.{met_added}
 use Rattle.words.proofs.Words.{between_length, sorry_word_lem, other_word}
 use Rattle.atom_reader.proofs.Scopes.{added_one_meets}
@@ -82,8 +81,8 @@ module _ {text : List ℕ} {at end : ℕ} (ends : WordEnds text at end) where
       let long = between_length text at end ends.from ends.within in
       omega (arith, five, long)
 
-  pub wordless : {none_there : ℕ} → NameEnds text at none_there → length text < none_there → eq_name (between at end text) (utf8 "sorry") ≡ false → Wordless text at
-  wordless name_ends h e = record { no_name = name_ends.ends.fails h; no_sorry = rw ends.is (other_word (between at end text) e) }
+  pub wordless : name (drop at text) ≡ None → eq_name (between at end text) (utf8 "sorry") ≡ false → Wordless text at
+  wordless no_name e = record { no_name = no_name; no_sorry = rw ends.is (other_word (between at end text) e) }
 
 -- what the machine does behind a bracket that opens
 unfoldable opening : List Entry → machine.Purpose → Prim.Unit {0} → List ℕ → Option State
@@ -103,30 +102,30 @@ module _ {z : Scene} {work : List ℕ} {s : Progress} {q : Purpose} (c : Closed 
   placed_at : (end count : ℕ) → s.at ≤ end → end ≤ length z.text → Placed z (further s end count s.to)
   placed_at end count from within = record { within = within; near = let n = c.for.placed.near in omega (arith, n, from) }
 
-  pub name_place : {end : ℕ} → NameEnds z.text s.at end → end ≤ length z.text → NamePlace z.text s.at end
-  name_place ends within = record { short = c.for.comes.reached.short; some = ends.from within; few = ends.short within; within = within }
+  pub name_place : {end : ℕ} → NameEnds z.text s.at end → NamePlace z.text s.at end
+  name_place ends = record { short = c.for.comes.reached.short; some = ends.from; few = ends.short; within = ends.within }
 
   -- a name
-  module _ {end : ℕ} {after : List ℕ} {n : Numbered} (ends : NameEnds z.text s.at end) (within : end ≤ length z.text)
-      (number : NumberOf (between s.at end z.text) z.text z.names s.count after n) where
+  module _ {end : ℕ} (ends : NameEnds z.text s.at end) where
     name_comes : Comes z.types z.text (used c.entries c.purpose (standing false (Ident (between s.at end z.text))) (drop end z.text))
     unfolding closed_for
-    name_comes = reads_on (name (drop s.at z.text)) _ _ (between s.at end z.text) (drop end z.text) c.for.comes (ends.ends.gives within)
+    name_comes = reads_on (name (drop s.at z.text)) _ _ (between s.at end z.text) (drop end z.text) c.for.comes ends.reads
 
     -- is one too many
-    pub name_full : name_limit ≤ n.number → Refuses z
+    pub name_full : TooMany (between s.at end z.text) z.text z.names s.count → Refuses z
     unfolding standing marks names_met added
     name_full h =
         let x = between s.at end z.text in
         let ms = before ++ (called x ∷ []) in
         unfit name_comes
-        (many_names ms _ (crowded_met (called x ∷ []) c.for.stored (number.full h))
+        (many_names ms _ (crowded_met (called x ∷ []) c.for.stored h)
         (after_used ms c.entries c.purpose (standing false (Ident x)) (drop end z.text)
         (begins_by ms (node ∷ []) (begins_all ms) (simp append_assoc))))
 
-    pub name_leaf : n.number < name_limit → Leaf (noting z after z.code) work (further s end n.count s.to) 0 n.number q
+    pub name_leaf : {after : List ℕ} {n : Numbered} → NumberOf (between s.at end z.text) z.text z.names s.count after n
+        → Leaf (noting z after z.code) work (further s end n.count s.to) 0 n.number q
     unfolding noting standing marks records_after added kind_of term_nesting annotation_count seven
-    name_leaf h =
+    name_leaf {n = n} number =
         let x = between s.at end z.text in
         record {
           entries = c.entries;
@@ -134,12 +133,12 @@ module _ {z : Scene} {work : List ℕ} {s : Progress} {q : Purpose} (c : Closed 
           term = Ident x;
           names = called x ∷ [];
           comes = name_comes;
-          placed = let p = placed_at end n.count (let f = ends.from within in omega (arith, f)) within in record { within = p.within; near = p.near };
+          placed = let p = placed_at end n.count (let f = ends.from in omega (arith, f)) ends.within in record { within = p.within; near = p.near };
           deep = c.for.deep;
           purpose_is = c.for.purpose_is;
-          stored = stored_as (stored_name x c.for.stored (number.noted h)) (append_assoc (entries_marks c.entries) (purpose_marks c.purpose) (called x ∷ [])) (λ numbers. refl);
+          stored = stored_as (stored_name x c.for.stored number.noted) (append_assoc (entries_marks c.entries) (purpose_marks c.purpose) (called x ∷ [])) (λ numbers. refl);
           marks_are = refl;
-          row_is = λ numbers e. let is = number_noted x (table_names z.names z.text s.count) [] _ numbers (number.noted h).names (number.number_is h) e in rw is refl;
+          row_is = λ numbers e. let is = number_noted x (table_names z.names z.text s.count) [] _ numbers number.noted.names number.number_is e in rw is refl;
           kind_is = refl;
           nest_is = refl;
           tally_is = refl;
@@ -175,29 +174,29 @@ module _ {z : Scene} {work : List ℕ} {s : Progress} {q : Purpose} (c : Closed 
       refl (λ number. refl) refl refl refl
 
   -- a bracket
-  module _ {inside : ℕ} (none_there : Wordless z.text s.at) (bracket : Expected (utf8 "(") z.text s.at inside) where
+  module _ (none_there : Wordless z.text s.at) where
     bracket_comes : Comes z.types z.text (and_then (expect (utf8 "(") (drop s.at z.text)) (opening c.entries c.purpose))
     unfolding closed_for opening
     bracket_comes = comes_as (reads_else (name (drop s.at z.text)) _ _ c.for.comes none_there.no_name) (rw none_there.no_sorry)
 
-    pub no_bracket : length z.text < inside → Refuses z
-    no_bracket h = ends_here (expect (utf8 "(") (drop s.at z.text)) (opening c.entries c.purpose) bracket_comes (bracket.ends.fails h)
+    pub no_bracket : expect (utf8 "(") (drop s.at z.text) ≡ None → Refuses z
+    no_bracket e = ends_here (expect (utf8 "(") (drop s.at z.text)) (opening c.entries c.purpose) bracket_comes e
 
-    module _ (within : inside ≤ length z.text) {end : ℕ} (close : Expected (utf8 ")") z.text inside end) where
+    module _ {inside : ℕ} (bracket : Expected (utf8 "(") z.text s.at inside) where
       opened_comes : Comes z.types z.text (opening c.entries c.purpose tt (drop inside z.text))
-      opened_comes = goes_on (expect (utf8 "(") (drop s.at z.text)) (opening c.entries c.purpose) tt (drop inside z.text) bracket_comes (bracket.ends.gives within)
+      opened_comes = goes_on (expect (utf8 "(") (drop s.at z.text)) (opening c.entries c.purpose) tt (drop inside z.text) bracket_comes bracket.reads
 
-      pub unit_leaf : end ≤ length z.text → Leaf z work (further s end s.count s.to) 12 0 q
+      pub unit_leaf : {end : ℕ} → Expected (utf8 ")") z.text inside end → Leaf z work (further s end s.count s.to) 12 0 q
       unfolding opening marks records_after kind_of term_nesting annotation_count
-      unit_leaf h =
-          bare_leaf Unit 12 end (reads_on (expect (utf8 ")") (drop inside z.text)) _ _ tt (drop end z.text) opened_comes (close.ends.gives h))
-          (let a = bracket.after within in let b = close.after h in omega (arith, a, b)) h refl (λ number. refl) refl refl refl
+      unit_leaf {end} close =
+          bare_leaf Unit 12 end (reads_on (expect (utf8 ")") (drop inside z.text)) _ _ tt (drop end z.text) opened_comes close.reads)
+          (let a = bracket.after in let b = close.after in omega (arith, a, b)) close.within refl (λ number. refl) refl refl refl
 
       pub bracket_opens : Opens c.entries (in_bracket c.purpose) z work (further s inside s.count s.to)
           (record { kind = q.kind; a = q.value; b = 0; c = 0; d = 0; e = q.nest }) q.tally
       unfolding entry_marks entry_records entry_numbers row_numbers seven
       bracket_opens = record {
-        placed = placed_at inside s.count (let a = bracket.after within in omega (arith, a)) within;
+        placed = placed_at inside s.count (let a = bracket.after in omega (arith, a)) bracket.within;
         deep = c.for.deep;
         met = before;
         records = λ number. stack_records number c.entries ++ purpose_records number (entries_marks c.entries) c.purpose;
@@ -207,6 +206,6 @@ module _ {z : Scene} {work : List ℕ} {s : Progress} {q : Purpose} (c : Closed 
         row_is = λ number e. let p = c.for.purpose_is in rw (p.kind, p.value, p.nest, p.tally) refl;
       }
 
-      pub bracket_enters : length z.text < end → Comes z.types z.text (Some (reading (in_bracket c.purpose ∷ c.entries) (drop inside z.text)))
+      pub bracket_enters : expect (utf8 ")") (drop inside z.text) ≡ None → Comes z.types z.text (Some (reading (in_bracket c.purpose ∷ c.entries) (drop inside z.text)))
       unfolding opening
-      bracket_enters h = reads_else (expect (utf8 ")") (drop inside z.text)) _ _ opened_comes (close.ends.fails h)
+      bracket_enters e = reads_else (expect (utf8 ")") (drop inside z.text)) _ _ opened_comes e

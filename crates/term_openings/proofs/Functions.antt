@@ -5,7 +5,7 @@ use mathlib.Core.Bool.{true, false, true≢false}
 use Rattle.std.specs.Prelude.{Option, None, Some}
 use mathlib.Core.List.{List, [], ◌∷◌, ◌++◌, append_assoc, append-nil}
 use native.Mathlib.Omega.{arith}
-use lib.ListN.{length, drop}
+use lib.ListN.{drop}
 use Rattle.definitions.specs.Utf8.{utf8}
 use Rattle.definitions.specs.Name.{Name}
 use Rattle.definitions.specs.Term.{Label, proposition, datatype, is_labelled}
@@ -27,13 +27,13 @@ use Rattle.prop_reader.specs.Answer.{LabelBegins}
 use Rattle.term_stack.specs.declared.Progress.{Progress}
 use Rattle.term_stack.specs.Growing.{row_numbers}
 use Rattle.term_stack.specs.Numbers.{labels_met, code_met, entry_numbers, entry_records, stack_numbers, stack_records}
-use Rattle.term_stack.specs.Standing.{Scene, Stored}
+use Rattle.term_stack.specs.Standing.{Scene, ThereIs, Stored}
 use Rattle.term_stack.specs.Using.{Comes, Refuses}
 use Rattle.term_stack.proofs.Coming.{unfit, goes_on, ends_here}
 use Rattle.term_stack.proofs.Marked.{code_called, even_labels}
 use Rattle.term_stack.proofs.Opened.{Opens}
-use Rattle.term_openings.specs.Beginning.{Started, NameAfter}
-use Rattle.term_openings.specs.Parameters.{fits_parameter, ParameterGiven, ParameterAnswer}
+use Rattle.term_openings.specs.Beginning.{Started, NameThere, NameLacksAfter}
+use Rattle.term_openings.specs.Parameters.{fits_parameter, ParameterLacks, ParameterGiven}
 use Rattle.term_openings.proofs.Noting.{noting, stored_met, stored_name}
 use Rattle.term_openings.proofs.ClosedTerms.{further, number_noted}
 use Rattle.term_openings.proofs.FirstWords.{name_on, name_not, entry_crowded}
@@ -93,100 +93,98 @@ body_rest k x l t = and_then (expect (utf8 " => ") t) (λ u rest. Some (reading 
 unfoldable label_rest : List Name → List Entry → Name → List ℕ → Option State
 label_rest types k x t = and_then (parameter_label types prop_levels t) (body_rest k x)
 
-module _ {z : Scene} {work after : List ℕ} {s : Progress} {named : NameRead} (c : Started fn_word z work s)
-    (one : NameAfter (utf8 " ") z.text s.at z.names s.count after named) where
+module _ {z : Scene} {work : List ℕ} {s : Progress} (c : Started fn_word z work s) where
   parameter_comes : Comes z.types z.text (and_then (expect (utf8 " ") (drop s.at z.text)) (λ u t. and_then (name t) (label_rest z.types c.entries)))
   unfolding start label_rest body_rest
   parameter_comes = c.comes
 
-  pub parameter_not : length z.text < named.end → Refuses z
+  pub parameter_not : NameLacksAfter (utf8 " ") z.text s.at z.names s.count → Refuses z
   unfolding label_rest body_rest Next entries_marks entry_marks names_met added
-  parameter_not h =
-      name_not (label_rest z.types c.entries) parameter_comes one h λ x rest crowded.
+  parameter_not lacks =
+      name_not (utf8 " ") z.names s.at s.count (label_rest z.types c.entries) parameter_comes lacks λ x rest crowded.
       next_then (λ τ. Fits τ → ⊥) (λ l t. Prim.Unit {0}) (parameter_label z.types prop_levels rest) _ (gives_any (parameter_label z.types prop_levels rest)) λ l s₁ u.
       next_after (λ τ. Fits τ → ⊥) (utf8 " => ") s₁ _ λ s₂ e₂.
       entry_crowded c.stored (called x ∷ []) (label_marks l) crowded c.entries (function_body x l) s₂
       (sym (append_assoc (entries_marks c.entries) (called x ∷ []) (label_marks l)))
 
-  module _ (within : named.end ≤ length z.text) where
+  module _ {after : List ℕ} {named : NameRead} (one : ThereIs (NameThere (utf8 " ") z.text s.at z.names s.count after named)) where
     abbrev x : Name
-    x = (one.gives within).value
+    x = one.value
 
     abbrev with_name : Stored (entries_marks c.entries ++ (called x ∷ [])) (λ number. stack_records number c.entries) (λ number. stack_numbers number c.entries)
         (noting z after z.code) work s.used s.depth named.count s.to
-    with_name = stored_name x c.stored (one.gives within).holds.noted
+    with_name = stored_name x c.stored one.holds.noted
 
     pub label_place : LabelBegins z.text named.end after named.count s.to
     unfolding code_met
     label_place = record {
       short = c.comes.reached.short;
-      within = within;
-      table = (one.gives within).holds.noted.table;
+      within = one.holds.within;
+      table = one.holds.noted.table;
       even = rw c.stored.to_is (even_labels (labels_met (entries_marks c.entries)));
-      near = let n = c.placed.near in let f = (one.gives within).holds.from in omega (arith, n, f);
+      near = let n = c.placed.near in let f = one.holds.from in omega (arith, n, f);
     }
 
     label_comes : Comes z.types z.text (label_rest z.types c.entries x (drop named.end z.text))
-    label_comes = name_on (label_rest z.types c.entries) parameter_comes (one.gives within).holds
+    label_comes = name_on (utf8 " ") z.names s.at s.count (label_rest z.types c.entries) parameter_comes one.holds
+
+    pub label_not : ParameterLacks z.text named.end z.types after named.count → Refuses z
+    unfolding label_rest body_rest noting Next entries_marks entry_marks
+    label_not lacks =
+        let reading-of = parameter_label z.types prop_levels (drop named.end z.text) in
+        unfit label_comes
+        (next_then (λ τ. Fits τ → ⊥) (λ l t. reading-of ≡ given l t) reading-of _ (gives_from reading-of _ (λ y e. e)) λ l rest there.
+        next_after (λ τ. Fits τ → ⊥) (utf8 " => ") rest _ λ s₁ e₁.
+        unfit_parameter with_name l (lacks l rest there) c.entries (function_body x l) s₁
+        (sym (append_assoc (entries_marks c.entries) (called x ∷ []) (label_marks l))))
 
     module _ {after' code' : List ℕ} {label : LabelRead}
-        (two : ParameterAnswer z.text named.end z.types after named.count z.code s.to after' code' label) where
-      pub label_not : length z.text < label.end → Refuses z
-      unfolding label_rest body_rest noting Next entries_marks entry_marks
-      label_not h =
-          let reading-of = parameter_label z.types prop_levels (drop named.end z.text) in
-          unfit label_comes
-          (next_then (λ τ. Fits τ → ⊥) (λ l t. reading-of ≡ given l t) reading-of _ (gives_from reading-of _ (λ y e. e)) λ l rest there.
-          next_after (λ τ. Fits τ → ⊥) (utf8 " => ") rest _ λ s₁ e₁.
-          unfit_parameter with_name l (two.fails h l rest there) c.entries (function_body x l) s₁
-          (sym (append_assoc (entries_marks c.entries) (called x ∷ []) (label_marks l))))
+        (two : ThereIs (ParameterGiven z.text named.end z.types after named.count z.code s.to after' code' label)) where
+      abbrev l : Option (Label Name)
+      l = two.value
 
-      module _ (within' : label.end ≤ length z.text) {body : ℕ} (arrow : Expected (utf8 " => ") z.text label.end body) where
-        abbrev l : Option (Label Name)
-        l = (two.gives within').value
+      body_comes : Comes z.types z.text (body_rest c.entries x l (drop label.end z.text))
+      unfolding label_rest
+      body_comes =
+          goes_on (parameter_label z.types prop_levels (drop named.end z.text)) (body_rest c.entries x) l (drop label.end z.text) label_comes
+          two.holds.reads
 
-        body_comes : Comes z.types z.text (body_rest c.entries x l (drop label.end z.text))
-        unfolding label_rest
-        body_comes =
-            goes_on (parameter_label z.types prop_levels (drop named.end z.text)) (body_rest c.entries x) l (drop label.end z.text) label_comes
-            (two.gives within').holds.reads
+      pub arrow_not : expect (utf8 " => ") (drop label.end z.text) ≡ None → Refuses z
+      unfolding body_rest
+      arrow_not e = ends_here (expect (utf8 " => ") (drop label.end z.text)) _ body_comes e
 
-        pub arrow_not : length z.text < body → Refuses z
+      module _ {body : ℕ} (arrow : Expected (utf8 " => ") z.text label.end body) where
+        pub function_comes : Comes z.types z.text (Some (reading (function_body x l ∷ c.entries) (drop body z.text)))
         unfolding body_rest
-        arrow_not h = ends_here (expect (utf8 " => ") (drop label.end z.text)) _ body_comes (arrow.ends.fails h)
+        function_comes = goes_on (expect (utf8 " => ") (drop label.end z.text)) _ tt (drop body z.text) body_comes arrow.reads
 
-        module _ (there : body ≤ length z.text) where
-          pub function_comes : Comes z.types z.text (Some (reading (function_body x l ∷ c.entries) (drop body z.text)))
-          unfolding body_rest
-          function_comes = goes_on (expect (utf8 " => ") (drop label.end z.text)) _ tt (drop body z.text) body_comes (arrow.ends.gives there)
+        pub function_long : s.at < body
+        function_long =
+            let f = one.holds.from in let g = two.holds.from in let a = arrow.after in omega (arith, f, g, a)
 
-          pub function_long : s.at < body
-          function_long =
-              let f = (one.gives within).holds.from in let g = (two.gives within').holds.from in let a = arrow.after there in omega (arith, f, g, a)
-
-          pub function_opens : Opens c.entries (function_body x l) (noting z after' code') work (further s body label.count label.to)
-              (record { kind = 6; a = named.number; b = label.kind; c = label.number; d = 0; e = 0 }) (is_labelled l)
-          unfolding noting entry_marks entry_records entry_numbers row_numbers seven
-          function_opens =
-              let k = entries_marks c.entries in
-              let once = (one.gives within).holds in
-              let twice = (two.gives within').holds in
-              record {
-                placed = record {
-                  within = there;
-                  near = let n = c.placed.near in let f = once.from in let m = twice.near in let a = arrow.after there in omega (arith, n, f, m, a);
-                };
-                deep = c.deep;
-                met = (k ++ (called x ∷ [])) ++ label_marks l;
-                records = λ number. stack_records number c.entries;
-                stored = stored_label with_name twice;
-                marks_are = append_assoc k (called x ∷ []) (label_marks l);
-                records_are = λ number. sym (append-nil (stack_records number c.entries));
-                row_is = λ number e.
-                    let a = number_noted x (table_names z.names z.text s.count) (parameter_label_names l) _ number
-                    (twice.noted.names ∙ ap (λ seen. added seen (parameter_label_names l)) once.noted.names) once.number_is e in
-                    let to_is : s.to ≡ code_met (k ++ (called x ∷ [])) = c.stored.to_is ∙ sym (code_called k x) in
-                    let b : label.number ≡ parameter_label_number number (code_met (k ++ (called x ∷ []))) l =
-                    twice.number_is number e ∙ ap (λ to. parameter_label_number number to l) to_is in
-                    cc (a, b, twice.kind_is);
-              }
+        pub function_opens : Opens c.entries (function_body x l) (noting z after' code') work (further s body label.count label.to)
+            (record { kind = 6; a = named.number; b = label.kind; c = label.number; d = 0; e = 0 }) (is_labelled l)
+        unfolding noting entry_marks entry_records entry_numbers row_numbers seven
+        function_opens =
+            let k = entries_marks c.entries in
+            let once = one.holds in
+            let twice = two.holds in
+            record {
+              placed = record {
+                within = arrow.within;
+                near = let n = c.placed.near in let f = once.from in let m = twice.near in let a = arrow.after in omega (arith, n, f, m, a);
+              };
+              deep = c.deep;
+              met = (k ++ (called x ∷ [])) ++ label_marks l;
+              records = λ number. stack_records number c.entries;
+              stored = stored_label with_name twice;
+              marks_are = append_assoc k (called x ∷ []) (label_marks l);
+              records_are = λ number. sym (append-nil (stack_records number c.entries));
+              row_is = λ number e.
+                  let a = number_noted x (table_names z.names z.text s.count) (parameter_label_names l) _ number
+                  (twice.noted.names ∙ ap (λ seen. added seen (parameter_label_names l)) once.noted.names) once.number_is e in
+                  let to_is : s.to ≡ code_met (k ++ (called x ∷ [])) = c.stored.to_is ∙ sym (code_called k x) in
+                  let b : label.number ≡ parameter_label_number number (code_met (k ++ (called x ∷ []))) l =
+                  twice.number_is number e ∙ ap (λ to. parameter_label_number number to l) to_is in
+                  cc (a, b, twice.kind_is);
+            }

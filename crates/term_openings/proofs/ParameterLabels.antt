@@ -1,17 +1,17 @@
 -- The label of a parameter: none where no colon follows, and else the label behind it.
-use Prim.Native.Nat.{ℕ, ◌<◌, ◌≤◌}
+use Prim.Native.Nat.{ℕ}
 use mathlib.Core.Path.{◌≡◌, refl, ap}
 use mathlib.Core.Bool.{true, false}
-use Rattle.std.specs.Prelude.{Option, None, Some}
+use Rattle.std.specs.Prelude.{Option, None, Some, MatchOption}
 use mathlib.Core.List.{List}
 use native.Mathlib.Omega.{arith}
-use lib.ListN.{length, drop}
+use lib.ListN.{drop}
 use Rattle.definitions.specs.Utf8.{utf8}
 use Rattle.definitions.specs.Name.{Name}
 use Rattle.definitions.specs.Code.{Read, yield, followed_by, ◌>>=◌}
 use Rattle.definitions.specs.Term.{Label}
 use Rattle.definitions.specs.TermText.{parameter_label_names}
-use Rattle.definitions.specs.TermReader.{if_read, label, parameter_label, prop_levels, is_limited_parameter_label}
+use Rattle.definitions.specs.TermReader.{expect, if_read, label, parameter_label, prop_levels, is_limited_parameter_label}
 use Rattle.definitions.specs.TermMemory.{parameter_labels, labels_size, parameter_label_kind, parameter_label_number, store_labels}
 use Rattle.definitions.proofs.Readings.{given}
 use Rattle.words.specs.Places.{Expected}
@@ -19,7 +19,8 @@ use Rattle.words.specs.Table.{table_names}
 use Rattle.atom_reader.proofs.Atoms.{noted_none}
 use Rattle.prop_reader.specs.declared.LabelRead.{LabelRead}
 use Rattle.prop_reader.specs.Answer.{LabelBegins, LabelAnswer}
-use Rattle.term_openings.specs.Parameters.{fits_parameter, ParameterAnswer}
+use Rattle.term_stack.specs.Standing.{ThereIs}
+use Rattle.term_openings.specs.Parameters.{fits_parameter, ParameterLacks, ParameterGiven}
 use Rattle.term_openings.proofs.StoredLabels.{label_limited, label_kind_lem, label_to, label_small, label_number_lem, label_stored}
 use Rattle.std.proofs.lemmas.Option.{same_Some}
 use Rattle.std.proofs.lemmas.Option.{none-some}
@@ -35,64 +36,61 @@ behind_colon (Some x) l rest P h e =
 
 -- a label may begin behind the colon
 pub label_begins : {text : List ℕ} {at : ℕ} {pairs : List ℕ} {count to place : ℕ} → Expected (utf8 ": ") text at place → LabelBegins text at pairs count to
-    → place ≤ length text → LabelBegins text place pairs count to
-label_begins colon begins there = record {
+    → LabelBegins text place pairs count to
+label_begins colon begins = record {
   short = begins.short;
-  within = there;
+  within = colon.within;
   table = begins.table;
   even = begins.even;
-  near = let n = begins.near in let a = colon.after there in omega (arith, n, a);
+  near = let n = begins.near in let a = colon.after in omega (arith, n, a);
 }
 
-module _ {text : List ℕ} {at : ℕ} {types : List Name} {pairs : List ℕ} {count : ℕ} {code : List ℕ} {to place : ℕ} (colon : Expected (utf8 ": ") text at place)
-    (begins : LabelBegins text at pairs count to) where
-  pub no_label : length text < place → ParameterAnswer text at types pairs count code to pairs code (record { end = at; kind = 0; number = 0; count = count; to = to })
+module _ {text : List ℕ} {at : ℕ} {types : List Name} {pairs : List ℕ} {count : ℕ} {code : List ℕ} {to : ℕ} (begins : LabelBegins text at pairs count to) where
+  pub no_label : expect (utf8 ": ") (drop at text) ≡ None
+      → ThereIs (ParameterGiven text at types pairs count code to pairs code (record { end = at; kind = 0; number = 0; count = count; to = to }))
   unfolding parameter_label if_read yield is_limited_parameter_label parameter_label_names parameter_labels parameter_label_kind parameter_label_number labels_size store_labels
-  no_label h = record {
-    fails = λ l. absurd (omega (arith, l, begins.within));
-    gives = λ l. record {
-      value = None;
-      holds = record {
-        reads = rw (colon.ends.fails h);
-        limited = refl;
-        noted = noted_none begins.table;
-        kind_is = refl;
-        number_is = λ number e. refl;
-        stored = λ number e. refl;
-        to_is = omega arith;
-        small = omega arith;
-        from = omega arith;
-        near = omega arith;
-      };
+  no_label e = record {
+    value = None;
+    holds = record {
+      within = begins.within;
+      reads = rw e;
+      limited = refl;
+      noted = noted_none begins.table;
+      kind_is = refl;
+      number_is = λ number e. refl;
+      stored = λ number e. refl;
+      to_is = omega arith;
+      small = omega arith;
+      from = omega arith;
+      near = omega arith;
     };
   }
 
-  module _ (there : place ≤ length text) where
-    pub some_label : {after code' : List ℕ} {r : LabelRead} → LabelAnswer text place types pairs count code to true after code' r
-        → ParameterAnswer text at types pairs count code to after code' r
-    unfolding parameter_label if_read ◌>>=◌ followed_by yield is_limited_parameter_label parameter_label_names parameter_labels parameter_label_kind parameter_label_number fits_parameter
-    some_label {r = r} answer = record {
-      fails = λ h l rest e.
-          behind_colon (label types prop_levels (drop place text)) l rest (λ m. fits_parameter (table_names pairs text count) m ≡ false) (λ x f. answer.fails h x f)
-          (rw (colon.ends.gives there) at e);
-      gives = λ h.
-          let (l, g) = answer.gives h in
-          let a = colon.after there in
-          let f = g.from in
-          let n = g.near in
-          record {
-            value = Some l;
-            holds = record {
-              reads = rw (colon.ends.gives there) (ap (λ m. followed_by m (λ l. yield (Some l))) g.reads);
-              limited = label_limited g;
-              noted = g.noted;
-              kind_is = label_kind_lem g;
-              number_is = λ number e. label_number_lem g number e;
-              stored = λ number e. label_stored g number e;
-              to_is = label_to g;
-              small = label_small g (label_begins colon begins there) h;
-              from = omega (arith, a, f);
-              near = omega (arith, a, n);
-            };
-          };
-    }
+  pub some_label : {place : ℕ} {after code' : List ℕ} (r : Option LabelRead) → Expected (utf8 ": ") text at place
+      → LabelAnswer text place types pairs count code to true after code' r
+      → MatchOption r (ParameterLacks text at types pairs count) (λ r. ThereIs (ParameterGiven text at types pairs count code to after code' r))
+  unfolding parameter_label if_read ◌>>=◌ followed_by yield is_limited_parameter_label parameter_label_names parameter_labels parameter_label_kind parameter_label_number fits_parameter
+  some_label {place} None colon answer = λ l rest e.
+      behind_colon (label types prop_levels (drop place text)) l rest (λ m. fits_parameter (table_names pairs text count) m ≡ false) answer.answer
+      (rw colon.reads at e)
+  some_label (Some r) colon answer =
+      let (l, g) = answer.answer in
+      let a = colon.after in
+      let f = g.from in
+      let n = g.near in
+      record {
+        value = Some l;
+        holds = record {
+          within = g.within;
+          reads = rw colon.reads (ap (λ m. followed_by m (λ l. yield (Some l))) g.reads);
+          limited = label_limited g;
+          noted = g.noted;
+          kind_is = label_kind_lem g;
+          number_is = λ number e. label_number_lem g number e;
+          stored = λ number e. label_stored g number e;
+          to_is = label_to g;
+          small = label_small g (label_begins colon begins) g.within;
+          from = omega (arith, a, f);
+          near = omega (arith, a, n);
+        };
+      }

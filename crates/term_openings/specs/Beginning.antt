@@ -1,7 +1,6 @@
 -- What is known where a term begins: a closed term that is read for a purpose, and what follows the first word.
 use Rattle.std.specs.Prelude.{ℕ, ◌+◌, ◌<◌, ◌≤◌, ◌≡◌, false, List, [], ◌∷◌, ◌++◌, length, drop, None}
 use Rattle.definitions.specs.Name.{Name}
-use Rattle.definitions.specs.Sheet.{name_limit}
 use Rattle.definitions.specs.Term.{NamedFunction}
 use Rattle.definitions.specs.TermReader.{Start, call_word, word, name, expect, start_of, is_sorry}
 use Rattle.definitions.specs.TermMemory.{function_kind}
@@ -9,7 +8,7 @@ use Rattle.definitions.proofs.Readings.{given}
 use Rattle.reading_laws.specs.TermMachine as machine
 use Rattle.reading_laws.specs.TermMachine.{Entry, closed_for, start}
 use Rattle.reading_laws.specs.Marks.{purpose_marks, entries_marks}
-use Rattle.words.specs.Table.{add_name, number_in, table_names, Noted}
+use Rattle.words.specs.Table.{add_name, number_in, table_names, TooMany, Noted}
 use Rattle.prop_parts.specs.declared.NameRead as reader
 use Rattle.term_stack.specs.declared.Progress.{Progress}
 use Rattle.term_stack.specs.declared.Purpose.{Purpose}
@@ -59,6 +58,7 @@ pub record AtCall (kind : ℕ) (z : Scene) (work : List ℕ) (s : Progress) : Ty
 
 -- the name after these bytes, with its number
 pub record NameThere (what text : List ℕ) (at : ℕ) (pairs : List ℕ) (count : ℕ) (after : List ℕ) (r : reader.NameRead) (x : Name) : Type 0 where
+  pub within : r.end ≤ length text
   pub expected : expect what (drop at text) ≡ given tt (drop (at + length what) text)
   pub reads : name (drop (at + length what) text) ≡ given x (drop r.end text)
   pub from : at + length what < r.end
@@ -66,11 +66,10 @@ pub record NameThere (what text : List ℕ) (at : ℕ) (pairs : List ℕ) (count
   pub number_is : r.number ≡ number_in (add_name (table_names pairs text count) x) x
   pub below : r.number < r.count
 
--- past the end where there is none, or one too many
-pub record NameAfter (what text : List ℕ) (at : ℕ) (pairs : List ℕ) (count : ℕ) (after : List ℕ) (r : reader.NameRead) : Type 0 where
-  pub fails : length text < r.end → (t : List ℕ) (x : Name) (rest : List ℕ) → expect what (drop at text) ≡ given tt t → name t ≡ given x rest
-      → name_limit < length (add_name (table_names pairs text count) x)
-  pub gives : r.end ≤ length text → ThereIs (NameThere what text at pairs count after r)
+-- there is none, or one too many
+abbrev pub NameLacksAfter : List ℕ → List ℕ → ℕ → List ℕ → ℕ → Type 0
+NameLacksAfter what text at pairs count =
+    (t : List ℕ) (x : Name) (rest : List ℕ) → expect what (drop at text) ≡ given tt t → name t ≡ given x rest → TooMany x text pairs count
 
 -- Turns that leave the labels' code alone, or the names too: what they do not see may be anything.
 

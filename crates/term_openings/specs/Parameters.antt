@@ -9,7 +9,7 @@ use Rattle.definitions.proofs.Readings.{given}
 use Rattle.words.specs.Table.{table_names, Noted}
 use Rattle.prop_reader.specs.declared.LabelRead.{LabelRead}
 use Rattle.prop_reader.specs.Limits.{fits_label}
-use Rattle.term_stack.specs.Standing.{ThereIs, Extends}
+use Rattle.term_stack.specs.Standing.{Extends}
 
 unfoldable pub fits_parameter : List Name → Option (Label Name) → Bool
 fits_parameter seen None = true
@@ -19,6 +19,7 @@ fits_parameter seen (Some l) = fits_label seen l
 pub record ParameterGiven
     (text : List ℕ) (at : ℕ) (types : List Name) (pairs : List ℕ) (count : ℕ) (code : List ℕ) (to : ℕ) (after code' : List ℕ) (r : LabelRead)
     (l : Option (Label Name)) : Type 0 where
+  pub within : r.end ≤ length text
   pub reads : parameter_label types prop_levels (drop at text) ≡ given l (drop r.end text)
   pub limited : is_limited_parameter_label l ≡ true
   pub noted : Noted (parameter_label_names l) text pairs count after r.count
@@ -30,9 +31,8 @@ pub record ParameterGiven
   pub from : at ≤ r.end
   pub near : r.to + 2 * at ≤ to + 2 * r.end
 
--- past the end of the text where there is a label past the limits, or none that can be read
-pub record ParameterAnswer
-    (text : List ℕ) (at : ℕ) (types : List Name) (pairs : List ℕ) (count : ℕ) (code : List ℕ) (to : ℕ) (after code' : List ℕ) (r : LabelRead) : Type 0 where
-  pub fails : length text < r.end → (l : Option (Label Name)) (rest : List ℕ) → parameter_label types prop_levels (drop at text) ≡ given l rest
-      → fits_parameter (table_names pairs text count) l ≡ false
-  pub gives : r.end ≤ length text → ThereIs (ParameterGiven text at types pairs count code to after code' r)
+-- there is a label past the limits, or none that can be read
+abbrev pub ParameterLacks : List ℕ → ℕ → List Name → List ℕ → ℕ → Type 0
+ParameterLacks text at types pairs count =
+    (l : Option (Label Name)) (rest : List ℕ) → parameter_label types prop_levels (drop at text) ≡ given l rest
+    → fits_parameter (table_names pairs text count) l ≡ false

@@ -1,7 +1,7 @@
 // What a turn of the reader of terms does before a term: a word, a name, a bracket that opens.
 #![tactic(auto)]
 
-ghost use Rattle.std.specs.Prelude.{◌≡◌, ◌≤◌, length, Option};
+ghost use Rattle.std.specs.Prelude.{◌≡◌, ◌≤◌, length, Option, MatchOption};
 ghost use Rattle.definitions.specs.CallerNames.{names_in};
 ghost use Rattle.definitions.specs.Name.{Name};
 ghost use Rattle.definitions.specs.Term.{Label, NamedFunction, is_labelled};
@@ -12,10 +12,10 @@ ghost use Rattle.words.specs.Places.{NameEnds};
 ghost use Rattle.words.specs.Starts.{as_call};
 ghost use Rattle.words.specs.Table.{Table};
 ghost use Rattle.prop_reader.specs.Answer.{LabelBegins};
-ghost use Rattle.term_stack.specs.Standing.{AtReading};
+ghost use Rattle.term_stack.specs.Standing.{ThereIs, AtReading};
 ghost use Rattle.term_stack.specs.Turning.{TurnBegins, TurnEnds};
-ghost use Rattle.term_openings.specs.Beginning.{AtClosed, Wordless, Started, AtCall, NameAfter, TextBegins, TextEnds, NamesBegin, NamesEnd};
-ghost use Rattle.term_openings.specs.Parameters.{ParameterAnswer};
+ghost use Rattle.term_openings.specs.Beginning.{AtClosed, Wordless, Started, AtCall, NameLacksAfter, NameThere, TextBegins, TextEnds, NamesBegin, NamesEnd};
+ghost use Rattle.term_openings.specs.Parameters.{ParameterLacks, ParameterGiven};
 
 use identifier::same_name;
 use proof_term::{
@@ -27,7 +27,7 @@ use term_stack::{
     AS_BODY, AS_HEAD, CASE_HEAD, FUNCTION_BODY, LET_HEAD, Progress, Purpose, Row, enter, refused,
     use_leaf,
 };
-use words::{NAME_LIMIT, Start, expect, name_end, number_of_name, start_of, word_end};
+use words::{Start, expect, name_end, number_of_name, start_of, word_end};
 
 // A name as a closed term, from `s.at` to `end`, read for a purpose.
 fn name_for(
@@ -39,19 +39,17 @@ fn name_for(
     p: Purpose,
 ) -> Progress
     requires { NamesBegin (AtClosed p) text.now names.old work.old s
-        × NameEnds text.now s.at end × (end ≤ length text.now) }
+        × NameEnds text.now s.at end }
     ensures { NamesEnd (AtClosed p) text.now names.old work.old s
         names.new work.new result }
 {
-    let name = number_of_name(text, s.at, end, names, s.count);
-    let number = name.number;
-    if NAME_LIMIT <= number {
+    let Some(name) = number_of_name(text, s.at, end, names, s.count) else {
         return refused(s);
-    }
+    };
     let mut behind = s;
     behind.at = end;
     behind.count = name.count;
-    use_leaf(work, behind, IDENT as u16, number as u16, p)
+    use_leaf(work, behind, IDENT as u16, name.number as u16, p)
 }
 
 // A bracket that opens, read for a purpose: unit where it closes at once, or else an entry for what stands in it.
@@ -59,13 +57,11 @@ fn open_for(text: &[u8], work: &mut [u16], s: Progress, p: Purpose) -> Progress
     requires { TextBegins (AtClosed p) text.now work.old s × Wordless text.now s.at }
     ensures { TextEnds (AtClosed p) text.now work.old s work.new result }
 {
-    let inside = expect(text, s.at, b"(");
-    if text.len() < inside {
+    let Some(inside) = expect(text, s.at, b"(") else {
         return refused(s);
-    }
+    };
     let mut behind = s;
-    let end = expect(text, inside, b")");
-    if end <= text.len() {
+    if let Some(end) = expect(text, inside, b")") {
         behind.at = end;
         return use_leaf(work, behind, UNIT as u16, 0, p);
     }
@@ -94,9 +90,8 @@ pub fn closed_for(
         names.new work.new result }
 {
     let at = s.at;
-    let name = name_end(text, at);
-    if name <= text.len() {
-        return name_for(text, names, work, s, name, p);
+    if let Some(end) = name_end(text, at) {
+        return name_for(text, names, work, s, end, p);
     }
     let end = word_end(text, at);
     if same_name(&text[at..end], b"sorry") {
@@ -126,10 +121,9 @@ fn start_case(text: &[u8], work: &mut [u16], s: Progress) -> Progress
     requires { TextBegins (Started case_word) text.now work.old s }
     ensures { TextEnds (Started case_word) text.now work.old s work.new result }
 {
-    let head = expect(text, s.at, b" ");
-    if text.len() < head {
+    let Some(head) = expect(text, s.at, b" ") else {
         return refused(s);
-    }
+    };
     let mut behind = s;
     behind.at = head;
     enter(work, behind, entry(CASE_HEAD, 0, 0, 0), 0)
@@ -141,10 +135,9 @@ fn call(text: &[u8], names: &mut [u8], work: &mut [u16], s: Progress, kind: u16)
     ensures { NamesEnd (AtCall kind) text.now names.old work.old s
         names.new work.new result }
 {
-    let body = expect(text, s.at, b" ");
-    if text.len() < body {
+    let Some(body) = expect(text, s.at, b" ") else {
         return refused(s);
-    }
+    };
     let mut behind = s;
     behind.at = body;
     let p = Purpose {
@@ -157,20 +150,19 @@ fn call(text: &[u8], names: &mut [u8], work: &mut [u16], s: Progress, kind: u16)
 }
 
 // The name after these bytes at `at`, with its number.
-fn name_after(text: &[u8], at: usize, what: &[u8], names: &mut [u8], count: usize) -> NameRead
+fn name_after(
+    text: &[u8],
+    at: usize,
+    what: &[u8],
+    names: &mut [u8],
+    count: usize,
+) -> Option<NameRead>
     requires { Table names.old text.now count
         × (at ≤ length text.now) × (length text.now ≤ term_text_limit) }
-    ensures { NameAfter what.now text.now at names.old count
-        names.new result }
+    ensures { MatchOption result (NameLacksAfter what.now text.now at names.old count)
+        (λ r. ThereIs (NameThere what.now text.now at names.old count names.new r)) }
 {
-    let start = expect(text, at, what);
-    if text.len() < start {
-        return NameRead {
-            end: start,
-            number: 0,
-            count,
-        };
-    }
+    let start = expect(text, at, what)?;
     read_name(text, start, names, count)
 }
 
@@ -180,20 +172,15 @@ fn start_let(text: &[u8], names: &mut [u8], work: &mut [u16], s: Progress) -> Pr
     ensures { NamesEnd (Started let_word) text.now names.old work.old s
         names.new work.new result }
 {
-    let first = name_after(text, s.at, b" (", names, s.count);
-    let first_end = first.end;
-    if text.len() < first_end {
+    let Some(first) = name_after(text, s.at, b" (", names, s.count) else {
         return refused(s);
-    }
-    let second = name_after(text, first_end, b", ", names, first.count);
-    let second_end = second.end;
-    if text.len() < second_end {
+    };
+    let Some(second) = name_after(text, first.end, b", ", names, first.count) else {
         return refused(s);
-    }
-    let head = expect(text, second_end, b") = ");
-    if text.len() < head {
+    };
+    let Some(head) = expect(text, second.end, b") = ") else {
         return refused(s);
-    }
+    };
     let mut behind = s;
     behind.at = head;
     behind.count = second.count;
@@ -210,21 +197,21 @@ fn parameter_label(
     count: usize,
     code: &mut [u8],
     to: usize,
-) -> LabelRead
+) -> Option<LabelRead>
     requires { LabelBegins text.now at names.old count to }
-    ensures { ParameterAnswer text.now at (names_in types.now) names.old count
-        code.old to names.new code.new result }
+    ensures { MatchOption result (ParameterLacks text.now at (names_in types.now) names.old count)
+        (λ r. ThereIs (ParameterGiven text.now at (names_in types.now) names.old count
+        code.old to names.new code.new r)) }
 {
-    let label = expect(text, at, b": ");
-    if text.len() < label {
-        return LabelRead {
+    let Some(label) = expect(text, at, b": ") else {
+        return Some(LabelRead {
             end: at,
             kind: NO_LABEL,
             number: 0,
             count,
             to,
-        };
-    }
+        });
+    };
     read_label(text, label, types, names, count, code, to, true)
 }
 
@@ -251,20 +238,15 @@ fn start_function(
     ensures { TurnEnds (Started fn_word) 0 types.now text.now names.old
         code.old work.old s names.new code.new work.new result }
 {
-    let name = name_after(text, s.at, b" ", names, s.count);
-    let name_end = name.end;
-    if text.len() < name_end {
+    let Some(name) = name_after(text, s.at, b" ", names, s.count) else {
         return refused(s);
-    }
-    let label = parameter_label(text, name_end, types, names, name.count, code, s.to);
-    let label_end = label.end;
-    if text.len() < label_end {
+    };
+    let Some(label) = parameter_label(text, name.end, types, names, name.count, code, s.to) else {
         return refused(s);
-    }
-    let body = expect(text, label_end, b" => ");
-    if text.len() < body {
+    };
+    let Some(body) = expect(text, label.end, b" => ") else {
         return refused(s);
-    }
+    };
     let mut behind = s;
     behind.at = body;
     behind.count = label.count;

@@ -1,7 +1,7 @@
 -- Names that are added to those met before.
-use Prim.Native.Nat.{ℕ, ◌+◌, ◌*◌, ◌≤◌, min}
+use Prim.Native.Nat.{ℕ, ◌+◌, ◌*◌, ◌≤◌}
 use mathlib.Core.Path.{◌≡◌, refl, sym, ap, ◌∙◌}
-use mathlib.Core.Bool.{Bool, true, false, cond, ◌||◌, or-true}
+use mathlib.Core.Bool.{Bool, true, false, cond, or-true}
 use mathlib.Core.List.{List, [], ◌∷◌, ◌++◌}
 use native.Mathlib.Omega.{arith}
 use lib.ListN.{length, take}
@@ -9,7 +9,7 @@ use lib.Seq.{take-take}
 use Rattle.definitions.specs.Name.{Name, eq_name}
 use Rattle.definitions.specs.Sheet.{pair_size}
 use Rattle.definitions.specs.Text.{occurs, firsts_after, firsts}
-use Rattle.words.specs.Table.{add_name, added, number_in, table_names, Table, Noted}
+use Rattle.words.specs.Table.{add_name, added, number_in, table_names, Noted}
 
 -- part by part
 pub added_append : (seen xs ys : List Name) → added seen (xs ++ ys) ≡ added (added seen xs) ys

@@ -117,3 +117,7 @@ empty_table text = record {
   ends = λ j l. absurd (omega arith);
   indexed = all_free;
 }
+
+pub cleared : (n : ℕ) → n ≡ table_size → (text : List ℕ) → Table (replicate n 255) text 0
+unfolding table_size slot_offset slot_size slot_count pair_size name_limit
+cleared n e text = rw e (empty_table text)

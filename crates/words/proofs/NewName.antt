@@ -157,9 +157,8 @@ module _ {pairs text : List ℕ} {count at end : ℕ} (table : Table pairs text 
     one_more =
         let unmet = unmet_name table (between at end text) absent in
         record {
-          full = λ l. absurd (omega (arith, one_less));
-          noted = λ l. record { table = table_after; names = rw unmet names_after; kept = after_kept; more = omega arith };
-          number_is = λ l. rw (unmet, unmet) (sym (names_length pairs text count));
-          below = λ l. omega arith;
-          marks = λ l. last_marked;
+          noted = record { table = table_after; names = rw unmet names_after; kept = after_kept; more = omega arith };
+          number_is = rw (unmet, unmet) (sym (names_length pairs text count));
+          below = omega arith;
+          marks = last_marked;
         }

@@ -13,7 +13,7 @@ use Rattle.definitions.specs.Sheet.{name_limit, pair_size, number_at, pair_offse
 use Rattle.definitions.specs.Text.{occurs}
 use Rattle.definitions.proofs.Names.{eq_name_of_eq, eq_name_of_ne}
 use Rattle.std.specs.Prelude.{Ok, Err}
-use Rattle.words.specs.Table.{add_name, added, number_in, table_names, Table, searched, NumberOf}
+use Rattle.words.specs.Table.{add_name, added, number_in, table_names, Table, searched, TooMany, NumberOf}
 use Rattle.words.proofs.Indexing.{first_held, none_held}
 
 module _ (pairs text : List ℕ) where
@@ -80,23 +80,15 @@ module _ {pairs text : List ℕ} {count : ℕ} (table : Table pairs text count) 
       let found = first_held table x e in
       let all = among pairs text x i found.same (unmet pairs text x i found.earlier) count found.below in
       record {
-        full = λ l. absurd (omega (arith, table.few, found.below));
-        noted = λ l. record { table = table; names = rw all.0; kept = refl; more = omega arith };
-        number_is = λ l. rw all.0 (sym all.1);
-        below = λ l. found.below;
-        marks = λ l. found.same;
+        noted = record { table = table; names = rw all.0; kept = refl; more = omega arith };
+        number_is = rw all.0 (sym all.1);
+        below = found.below;
+        marks = found.same;
       }
 
   pub unmet_name : {slot : ℕ} → searched pairs text count x ≡ Err slot → occurs eq_name x (table_names pairs text count) ≡ false
   unmet_name e = unmet pairs text x count (none_held table x e)
 
-  pub none_more : {slot : ℕ} → searched pairs text count x ≡ Err slot → count ≡ name_limit
-      → NumberOf x text pairs count pairs (record { number = count; count = count })
+  pub none_more : {slot : ℕ} → searched pairs text count x ≡ Err slot → count ≡ name_limit → TooMany x text pairs count
   unfolding add_name
-  none_more e all = record {
-    full = λ l. rw (unmet_name e) (omega (arith, names_length pairs text count));
-    noted = λ l. absurd (omega arith);
-    number_is = λ l. absurd (omega arith);
-    below = λ l. absurd (omega arith);
-    marks = λ l. absurd (omega arith);
-  }
+  none_more e all = rw (unmet_name e) (omega (arith, names_length pairs text count))

@@ -1,14 +1,14 @@
 -- A word ends after its name bytes, and expected bytes stand byte by byte.
 use Prim.Native.Nat.{ℕ, zero, suc, ◌+◌, ◌-◌, ◌<◌, ◌≤◌}
 use mathlib.Core.Path.{◌≡◌, refl, sym, ap, ◌∙◌}
-use mathlib.Core.Bool.{Bool, true, false, cond}
-use Rattle.std.specs.Prelude.{Option, None}
+use mathlib.Core.Bool.{Bool, true, false, ◌&&◌, cond, true≢false, and-eq-true_iff}
+use Rattle.std.specs.Prelude.{None}
+use Rattle.std.specs.List.{starts_with}
 use mathlib.Core.List.{List, [], ◌∷◌}
 use native.Mathlib.Omega.{arith}
 use lib.ListN.{length, get_or, take, drop, length-drop}
-use lib.Seq.{get_or-drop, drop-drop}
+use lib.Seq.{get_or-drop, drop-drop, take-length}
 use lib.Dec.{eqb}
-use borrow.Author.Tests.{eq-eqb, ne_eqb}
 use Rattle.definitions.specs.Code.{yield}
 use Rattle.definitions.specs.Name.{byte_class, may_follow}
 use Rattle.definitions.specs.TermReader.{word, longer, expect}
@@ -26,34 +26,22 @@ word_run (b ∷ s) zero le all stop = rw (stop (omega arith))
 word_run (b ∷ s) (suc n) le all stop =
     rw (all 0 (omega arith), word_run s n (omega arith) (λ k h. all (suc k) (omega arith)) (λ h. stop (omega arith)))
 
--- bytes that stand in front
-expect_all : (what s : List ℕ) → length what ≤ length s → ((k : ℕ) → k < length what → get_or s k 0 ≡ get_or what k 0)
-    → expect what s ≡ given tt (drop (length what) s)
+-- bytes that stand in front, or others
+expect_is : (what s : List ℕ) → expect what s ≡ cond (starts_with eqb s what) (given tt (drop (length what) s)) None
 unfolding expect yield
-expect_all [] s le same = refl
-expect_all (b ∷ what) [] le same = absurd (omega arith)
-expect_all (b ∷ what) (c ∷ s) le same =
-    rw (eq-eqb b c (sym (same 0 (omega arith))), expect_all what s (omega arith) (λ k h. same (suc k) (omega arith)))
+expect_is [] s = refl
+expect_is (b ∷ what) [] = refl
+expect_is (b ∷ what) (c ∷ s) = either (eqb b c) (expect_is what s)
+  where
+    either : (t : Bool) → expect what s ≡ cond (starts_with eqb s what) (given tt (drop (length what) s)) None
+        → cond t (expect what s) None ≡ cond (t && starts_with eqb s what) (given tt (drop (length what) s)) None
+    either true e = e
+    either false e = refl
 
--- none on either side
-pub none_either : {A : Type 0} (t : Bool) {x : Option A} → x ≡ None → cond t x None ≡ None
-none_either true e = e
-none_either false e = refl
-
--- a byte that differs, and too few bytes
-expect_other : (what s : List ℕ) (k : ℕ) → k < length what → (get_or s k 0 ≡ get_or what k 0 → ⊥) → k < length s
-    → expect what s ≡ None
-unfolding expect
-expect_other [] s k h d l = absurd (omega arith)
-expect_other (b ∷ what) [] k h d l = refl
-expect_other (b ∷ what) (c ∷ s) zero h d l = rw (ne_eqb b c (λ e. d (sym e)))
-expect_other (b ∷ what) (c ∷ s) (suc k) h d l = none_either (eqb b c) (expect_other what s k (omega arith) d (omega arith))
-
-expect_short : (what s : List ℕ) → length s < length what → expect what s ≡ None
-unfolding expect
-expect_short [] s h = absurd (omega arith)
-expect_short (b ∷ what) [] h = refl
-expect_short (b ∷ what) (c ∷ s) h = none_either (eqb b c) (expect_short what s (omega arith))
+starts_fits : (what s : List ℕ) → starts_with eqb s what ≡ true → length what ≤ length s
+starts_fits [] s e = omega arith
+starts_fits (b ∷ what) [] e = absurd (true≢false (sym e))
+starts_fits (b ∷ what) (c ∷ s) e = omega (arith, starts_fits what s ((and-eq-true_iff (eqb b c) _).0 e).1)
 
 -- The same at a place of the text.
 module _ (text : List ℕ) (at : ℕ) (start : at ≤ length text) where
@@ -79,32 +67,21 @@ module _ (text : List ℕ) (at : ℕ) (start : at ≤ length text) where
       (λ h. rw (get_or-drop at text (r - at) 0, sum) (stop (omega (arith, part_length)))) in
       record { from = le; within = within; is = rw (whole, after r le) }
 
-  -- bytes that stand there, byte by byte
-  pub expect_found : (what : List ℕ) → at + length what ≤ length text
-      → ((k : ℕ) → k < length what → get_or text (at + k) 0 ≡ get_or what k 0) → Expected what text at (at + length what)
-  expect_found what le same = record {
-    ends = record {
-      fails = λ h. absurd (omega arith);
-      gives = λ h.
-          let found =
-          expect_all what (drop at text) (omega (arith, part_length))
-          (λ k h. rw (get_or-drop at text k 0) (same k h)) in
-          rw (found, drop-drop (length what) at text);
-    };
-    after = λ h. refl;
-  }
+  -- the bytes that are expected stand there, or others
+  abbrev front : List ℕ
+  front = take (length text - at) (drop at text)
 
-  expect_fails : (what : List ℕ) → expect what (drop at text) ≡ None → Expected what text at (length text + 1)
-  expect_fails what e = record {
-    ends = record { fails = λ h. e; gives = λ h. absurd (omega arith) };
-    after = λ h. absurd (omega arith);
-  }
+  whole : front ≡ drop at text
+  whole = rw (← part_length, take-length (drop at text))
 
-  pub expect_differs : (what : List ℕ) (k : ℕ) → k < length what → at + k < length text
-      → (get_or text (at + k) 0 ≡ get_or what k 0 → ⊥) → Expected what text at (length text + 1)
-  expect_differs what k h l d =
-      expect_fails what
-      (expect_other what (drop at text) k h (rw (get_or-drop at text k 0) d) (omega (arith, part_length)))
+  pub expect_found : (what : List ℕ) → starts_with eqb front what ≡ true → Expected what text at (at + length what)
+  expect_found what e =
+      let starts : starts_with eqb (drop at text) what ≡ true = ap (λ s. starts_with eqb s what) (sym whole) ∙ e in
+      record {
+        within = omega (arith, starts_fits what (drop at text) starts, part_length);
+        reads = rw (expect_is what (drop at text), starts, drop-drop (length what) at text);
+        after = refl;
+      }
 
-  pub expect_lacks : (what : List ℕ) → length text - at < length what → Expected what text at (length text + 1)
-  expect_lacks what h = expect_fails what (expect_short what (drop at text) (omega (arith, part_length)))
+  pub expect_fails : (what : List ℕ) → starts_with eqb front what ≡ false → expect what (drop at text) ≡ None
+  expect_fails what e = rw (expect_is what (drop at text), ap (λ s. starts_with eqb s what) (sym whole) ∙ e)

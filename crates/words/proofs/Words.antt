@@ -1,10 +1,11 @@
 -- A word that is admitted is a name; where an argument begins.
 use Prim.Native.Nat.{ℕ, ◌+◌, ◌-◌, ◌≤◌, ◌<◌}
-use mathlib.Core.Path.{◌≡◌, refl, sym, ◌∙◌}
-use mathlib.Core.Bool.{Bool, true, false, ◌||◌, ◌&&◌, not, cond, true≢false, and-eq-true_iff}
+use mathlib.Core.Path.{◌≡◌, refl, sym}
+use mathlib.Core.Bool.{Bool, true, false, cond, true≢false, and-eq-true_iff}
 use mathlib.Core.List.{List, [], ◌∷◌}
+use Rattle.std.specs.Prelude.{Option, None, Some, MatchOption, is_some}
 use native.Mathlib.Omega.{arith}
-use lib.ListN.{length, take, drop, length-take, length-drop}
+use lib.ListN.{length, drop, length-take, length-drop}
 use lib.Dec.{leb}
 use borrow.Author.Tests.{leb-true}
 use Rattle.definitions.specs.Utf8.{utf8}
@@ -13,10 +14,10 @@ use Rattle.definitions.specs.Sheet.{name_length_limit}
 use Rattle.definitions.specs.TermText.{keywords, is_admitted}
 use Rattle.definitions.specs.CallerNames.{newline, in_front, pieces, names_in, well_formed}
 use Rattle.definitions.specs.Term.{fst, snd, inl, inr, abort}
-use Rattle.definitions.specs.TermReader.{word, named, name, expect, if_read, Start, fn_word, case_word, let_word, sorry_word, no_word, call_word, start_of, is_sorry, is_open, argument_begins, argument_follows}
+use Rattle.definitions.specs.TermReader.{named, name, expect, if_read, Start, fn_word, case_word, let_word, sorry_word, no_word, call_word, start_of, is_sorry, is_open, argument_begins, argument_follows}
 use Rattle.definitions.proofs.Names.{eq_name_true}
 use Rattle.reading_laws.proofs.WordsRead.{well_formed_lem, is_name_lem}
-use Rattle.words.specs.Places.{between, Ends, WordEnds, NameEnds, Expected}
+use Rattle.words.specs.Places.{between, WordEnds, NameEnds, Expected}
 
 name_some : (x : Name) → is_name x ≡ true → 0 < length x
 unfolding is_name
@@ -46,18 +47,15 @@ module _ {text : List ℕ} {at r : ℕ} (ends : WordEnds text at r) where
       let long = between_length text at r ends.from ends.within in
       let few = admitted_length _ e in
       record {
-        ends = record { fails = λ h. absurd (omega (arith, ends.within)); gives = λ h. rw (ends.is, e) };
-        from = λ h. omega (arith, few, long, ends.from);
-        short = λ h. omega (arith, few, long, ends.from);
+        within = ends.within;
+        reads = rw (ends.is, e);
+        from = omega (arith, few, long, ends.from);
+        short = omega (arith, few, long, ends.from);
       }
 
-  pub name_fails : is_admitted (between at r text) ≡ false → NameEnds text at (length text + 1)
+  pub name_fails : is_admitted (between at r text) ≡ false → name (drop at text) ≡ None
   unfolding name named
-  name_fails e = record {
-    ends = record { fails = λ h. rw (ends.is, e); gives = λ h. absurd (omega arith) };
-    from = λ h. absurd (omega arith);
-    short = λ h. absurd (omega arith);
-  }
+  name_fails e = rw (ends.is, e)
 
 -- no other start is sorry's
 unless_others : (a b c d e f g h : Bool) (z : Start) → is_sorry z ≡ false
@@ -90,25 +88,34 @@ other_word w e =
     (last_word w e)
 
 -- Where a blank stands, and a word after it:
-module _ {text : List ℕ} {at start r : ℕ} (blank : Expected (utf8 " ") text at start) (within : start ≤ length text) (ends : WordEnds text start r) where
+module _ {text : List ℕ} {at start r : ℕ} (blank : Expected (utf8 " ") text at start) (ends : WordEnds text start r) where
   pub argument_name : is_admitted (between start r text) ≡ true → argument_follows (drop at text) ≡ true
   unfolding argument_follows argument_begins if_read
-  argument_name e = rw (blank.ends.gives within, ends.is, e)
+  argument_name e = rw (blank.reads, ends.is, e)
 
   module _ (no_name : is_admitted (between start r text) ≡ false) where
     pub argument_sorry : eq_name (between start r text) (utf8 "sorry") ≡ true → argument_follows (drop at text) ≡ true
     unfolding argument_follows argument_begins if_read
-    argument_sorry e = rw (blank.ends.gives within, ends.is, no_name, sorry_word_lem _ e)
+    argument_sorry e = rw (blank.reads, ends.is, no_name, sorry_word_lem _ e)
 
-    module _ (no_sorry : eq_name (between start r text) (utf8 "sorry") ≡ false) {after : ℕ} (bracket : Expected (utf8 "(") text start after) where
-      pub argument_bracket : after ≤ length text → argument_follows (drop at text) ≡ true
-      unfolding argument_follows argument_begins if_read is_open
-      argument_bracket h = rw (blank.ends.gives within, ends.is, no_name, other_word _ no_sorry, bracket.ends.gives h)
+    pub argument_bracket : (o : Option ℕ) → MatchOption o (expect (utf8 "(") (drop start text) ≡ None) (Expected (utf8 "(") text start)
+        → eq_name (between start r text) (utf8 "sorry") ≡ false → is_some o ≡ argument_follows (drop at text)
+    unfolding argument_follows argument_begins if_read is_open
+    argument_bracket None e no_sorry = rw (blank.reads, ends.is, no_name, other_word _ no_sorry, e)
+    argument_bracket (Some after) bracket no_sorry = rw (blank.reads, ends.is, no_name, other_word _ no_sorry, bracket.reads)
 
-      pub argument_none : length text < after → argument_follows (drop at text) ≡ false
-      unfolding argument_follows argument_begins if_read is_open
-      argument_none h = rw (blank.ends.gives within, ends.is, no_name, other_word _ no_sorry, bracket.ends.fails h)
-
-pub argument_no_blank : {text : List ℕ} {at r : ℕ} → Expected (utf8 " ") text at r → length text < r → argument_follows (drop at text) ≡ false
+pub argument_no_blank : (text : List ℕ) (at : ℕ) → expect (utf8 " ") (drop at text) ≡ None → argument_follows (drop at text) ≡ false
 unfolding argument_follows if_read
-argument_no_blank blank h = rw (blank.ends.fails h)
+argument_no_blank text at e = rw e
+
+-- Whether expected bytes stand there, by whether their end was found:
+module _ (what text : List ℕ) (at : ℕ) where
+  pub stands : (o : Option ℕ) → MatchOption o (expect what (drop at text) ≡ None) (Expected what text at) → is_some o ≡ true
+      → Expected what text at (at + length what)
+  stands None e h = absurd (true≢false (sym h))
+  stands (Some r) there h = rw (← there.after) there
+
+  pub stands_not : (o : Option ℕ) → MatchOption o (expect what (drop at text) ≡ None) (Expected what text at) → is_some o ≡ false
+      → expect what (drop at text) ≡ None
+  stands_not None e h = e
+  stands_not (Some r) there h = absurd (true≢false h)

@@ -89,10 +89,13 @@ pub record Noted (xs : List Name) (text pairs : List ℕ) (count : ℕ) (after :
   pub kept : take (pair_size * count) after ≡ take (pair_size * count) pairs
   pub more : count ≤ next
 
--- the name x has the number that is given, unless the table is full and x is new
+-- with the name x there are more names than the table has room for
+abbrev pub TooMany : Name → List ℕ → List ℕ → ℕ → Type 0
+TooMany x text pairs count = name_limit < length (add_name (table_names pairs text count) x)
+
+-- the name x has the number that is given
 pub record NumberOf (x : Name) (text pairs : List ℕ) (count : ℕ) (after : List ℕ) (r : Numbered) : Type 0 where
-  pub full : name_limit ≤ r.number → name_limit < length (add_name (table_names pairs text count) x)
-  pub noted : r.number < name_limit → Noted (x ∷ []) text pairs count after r.count
-  pub number_is : r.number < name_limit → r.number ≡ number_in (add_name (table_names pairs text count) x) x
-  pub below : r.number < name_limit → r.number < r.count
-  pub marks : r.number < name_limit → marked after text r.number ≡ x
+  pub noted : Noted (x ∷ []) text pairs count after r.count
+  pub number_is : r.number ≡ number_in (add_name (table_names pairs text count) x) x
+  pub below : r.number < r.count
+  pub marks : marked after text r.number ≡ x

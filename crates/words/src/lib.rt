@@ -1,14 +1,14 @@
-// What stands in front in the text of a term: words, names, expected bytes. Each reader gives the place after what it read, or a
-// place past the end of the text where that does not stand there.
+// What stands in front in the text of a term: words, names, expected bytes. Each reader gives the place after what it read, or none
+// where that does not stand there.
 #![tactic(auto)]
 
-ghost use Rattle.std.specs.Prelude.{◌≡◌, List, ℕ, ◌+◌, ◌≤◌, ◌<◌, length, drop};
+ghost use Rattle.std.specs.Prelude.{◌≡◌, List, ℕ, ◌+◌, ◌≤◌, ◌<◌, length, drop, None, MatchOption};
 ghost use Rattle.definitions.specs.TermText.{is_admitted, all_admitted};
 ghost use Rattle.definitions.specs.CallerNames.{names_in};
-ghost use Rattle.definitions.specs.TermReader.{start_of, argument_follows};
+ghost use Rattle.definitions.specs.TermReader.{name, expect, start_of, argument_follows};
 ghost use Rattle.words.specs.Places.{between, WordEnds, NameEnds, Expected};
 ghost use Rattle.words.specs.Starts.{as_start};
-ghost use Rattle.words.specs.Table.{Table, NamePlace, NumberOf, PairFits, SlotFits};
+ghost use Rattle.words.specs.Table.{Table, NamePlace, TooMany, NumberOf, PairFits, SlotFits};
 ghost use Rattle.words.specs.Table.{table_size, searched, with_number, with_pair, with_slot};
 
 use caller_names::{is_listed, well_formed};
@@ -22,27 +22,21 @@ pub fn word_end(text: &[u8], at: usize) -> usize
     ensures { WordEnds text.now at result }
 {
     let classes = CLASSES;
-    let mut i = at;
-    while i < text.len() {
+    for i in at..text.len() {
         if !Class::of_byte(&classes, text[i]).may_follow() {
             return i;
         }
-        i += 1;
     }
-    i
+    text.len()
 }
 
 // Whether these bytes are a name of a term: one of document 01's that is no keyword.
+#[tactic(auto, using(crate::proofs::Words::keyword_list), unfolding(definitions::specs::TermText::is_admitted))]
 pub fn is_admitted(name: &[u8]) -> bool
     ensures { result ≡ is_admitted name.now }
 {
-    if !well_formed(name) {
-        return false;
-    }
-    !is_listed(
-        b"fn\ncase\nof\ninl\ninr\nlet\nin\nfst\nsnd\nabort\nsorry",
-        name,
-    )
+    let keywords = b"fn\ncase\nof\ninl\ninr\nlet\nin\nfst\nsnd\nabort\nsorry";
+    well_formed(name) && !is_listed(keywords, name)
 }
 
 // Whether each name of a list is admitted.
@@ -66,37 +60,30 @@ pub fn all_admitted(list: &[u8]) -> bool
 }
 
 // Where the name at `at` ends.
-pub fn name_end(text: &[u8], at: usize) -> usize
+pub fn name_end(text: &[u8], at: usize) -> Option<usize>
     requires { at ≤ length text.now }
-    ensures { NameEnds text.now at result }
+    ensures { MatchOption result (name (drop at text.now) ≡ None) (NameEnds text.now at) }
 {
     let end = word_end(text, at);
     if is_admitted(&text[at..end]) {
-        return end;
+        return Some(end);
     }
-    text.len() + 1
+    None
 }
 
 // Where the expected bytes end.
-pub fn expect(text: &[u8], at: usize, what: &[u8]) -> usize
+pub fn expect(text: &[u8], at: usize, what: &[u8]) -> Option<usize>
     requires { at ≤ length text.now }
-    ensures { Expected what.now text.now at result }
+    ensures { MatchOption result (expect what.now (drop at text.now) ≡ None) (Expected what.now text.now at) }
 {
-    if text.len() - at < what.len() {
-        return text.len() + 1;
+    if text[at..].starts_with(what) {
+        return Some(at + what.len());
     }
-    let mut i = 0;
-    while i < what.len() {
-        if text[at + i] != what[i] {
-            return text.len() + 1;
-        }
-        i += 1;
-    }
-    at + i
+    None
 }
 
 // How a term begins, by its first word.
-#[derive(Drop)]
+#[derive(Clone, Copy)]
 pub enum Start {
     Function,
     Case,
@@ -111,6 +98,8 @@ pub enum Start {
 }
 
 // The start of a term whose first word these bytes are.
+// A `match` on byte strings proves too, but by an answer for each length and byte, 35 in all.
+#[tactic(auto, unfolding(definitions::specs::TermReader::start_of, crate::specs::Starts::as_start, crate::specs::Starts::as_call))]
 pub fn start_of(word: &[u8]) -> Start
     ensures { result ≡ as_start (start_of word.now) }
 {
@@ -149,10 +138,9 @@ pub fn argument_follows(text: &[u8], at: usize) -> bool
     requires { at ≤ length text.now }
     ensures { result ≡ argument_follows (drop at text.now) }
 {
-    let start = expect(text, at, b" ");
-    if text.len() < start {
+    let Some(start) = expect(text, at, b" ") else {
         return false;
-    }
+    };
     let end = word_end(text, start);
     let word = &text[start..end];
     if is_admitted(word) {
@@ -161,11 +149,7 @@ pub fn argument_follows(text: &[u8], at: usize) -> bool
     if same_name(word, b"sorry") {
         return true;
     }
-    let after = expect(text, start, b"(");
-    if text.len() < after {
-        return false;
-    }
-    true
+    expect(text, start, b"(").is_some()
 }
 
 // At most so many different names.
@@ -185,13 +169,11 @@ pub fn clear(names: &mut [u8])
     requires { length names.old ≡ table_size }
     ensures { (text : List ℕ) → Table names.new text 0 }
 {
-    for at in 0..TABLE_SIZE {
-        names[at] = 255;
-    }
+    names.fill(255);
 }
 
-// The number of a name, NAME_LIMIT where there are too many, and how many names there are now.
-#[derive(Drop)]
+// The number of a name, and how many names there are now.
+#[derive(Clone, Copy)]
 pub struct Numbered {
     pub number: usize,
     pub count: usize,
@@ -251,33 +233,31 @@ fn put_slot(names: &mut [u8], slot: usize, number: usize)
     put_number(names, SLOTS + SLOT_SIZE * slot, number);
 }
 
-// The number of a name: of the pair that marks the same bytes, or else of a new pair, which enters the index.
+// The number of a name: of the pair that marks the same bytes, or else of a new pair, which enters the index. None where there are
+// too many names.
 pub fn number_of_name(
     text: &[u8],
     at: usize,
     end: usize,
     names: &mut [u8],
     count: usize,
-) -> Numbered
+) -> Option<Numbered>
     requires { Table names.old text.now count × NamePlace text.now at end }
-    ensures { NumberOf (between at end text.now)
-        text.now names.old count names.new result }
+    ensures { MatchOption result (TooMany (between at end text.now) text.now names.old count)
+        (NumberOf (between at end text.now) text.now names.old count names.new) }
 {
     match find_name(text, at, end, names, count) {
-        Ok(number) => Numbered { number, count },
+        Ok(number) => Some(Numbered { number, count }),
         Err(slot) => {
             if count == NAME_LIMIT {
-                return Numbered {
-                    number: count,
-                    count,
-                };
+                return None;
             }
             put_pair(names, count, at, end);
             put_slot(names, slot, count);
-            Numbered {
+            Some(Numbered {
                 number: count,
                 count: count + 1,
-            }
+            })
         }
     }
 }

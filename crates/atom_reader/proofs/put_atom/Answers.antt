@@ -1,5 +1,4 @@
 -- Byte by byte.
-use borrow.Author.Rules.{rules}
 use Rattle.atom_reader.proofs.Atoms.{head_stored}
 use Rattle.atom_reader.proofs.put_atom.Goals as goal
 

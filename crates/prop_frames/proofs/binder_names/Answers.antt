@@ -1,27 +1,29 @@
 -- The object, a colon, the datatype, a dot.
-use native.Mathlib.Omega.{arith}
+use mathlib.Core.Path.{◌≡◌}
+use Rattle.std.specs.Prelude.{None}
 use borrow.Author.Rules.{rules}
-use Rattle.prop_frames.proofs.Binders.{no_object, no_colon, no_datatype, binder_read}
+use Rattle.prop_frames.proofs.Binders.{no_object, no_colon, no_datatype, no_dot, binder_read}
 use Rattle.prop_frames.proofs.binder_names.Goals as goal
 
-pub returns-then-text-object_end : goal.returns-then-text-object_end
-returns-then-text-object_end c = no_object c.read_name-object.ensures c.if-text-object_end.true (omega arith)
+pub returns-in_err-object : goal.returns-in_err-object
+returns-in_err-object c =
+    let none : c.from_residual.result ≡ None = search rules in
+    rw none (no_object _ _ _ _ c.in_err-object.ensures)
 
-pub returns-then-text-colon : goal.returns-then-text-colon
-returns-then-text-colon c =
-    no_colon c.read_name-object.ensures c.if-text-object_end.false c.expect-colon.ensures c.if-text-colon.true (omega arith)
+pub returns-in_err-colon : goal.returns-in_err-colon
+returns-in_err-colon c =
+    let none : c.from_residual-in_err-colon.result ≡ None = search rules in
+    rw none (no_colon c.in_ok-object.ensures c.in_err-colon.ensures)
 
-pub read_name-datatype-requires : goal.read_name-datatype-requires
-read_name-datatype-requires c =
-    let pre = c.requires in
-    ((c.read_name-object.ensures.noted c.if-text-object_end.false).table, c.if-text-colon.false, pre.2)
+pub returns-in_err-datatype : goal.returns-in_err-datatype
+returns-in_err-datatype c =
+    let none : c.from_residual-in_err-datatype.result ≡ None = search rules in
+    rw none (no_datatype c.in_ok-object.ensures c.in_ok-colon.ensures c.in_err-datatype.ensures)
 
-pub returns-then-text-datatype_end : goal.returns-then-text-datatype_end
-returns-then-text-datatype_end c =
-    no_datatype c.read_name-object.ensures c.if-text-object_end.false c.expect-colon.ensures c.if-text-colon.false
-    c.read_name-datatype.ensures c.if-text-datatype_end.true (omega arith)
+pub returns-in_err-end : goal.returns-in_err-end
+returns-in_err-end c =
+    let none : c.from_residual-in_err-end.result ≡ None = search rules in
+    rw none (no_dot c.in_ok-object.ensures c.in_ok-colon.ensures c.in_ok-datatype.ensures c.in_err-end.ensures)
 
 pub returns : goal.returns
-returns c =
-    binder_read c.read_name-object.ensures c.if-text-object_end.false c.expect-colon.ensures c.if-text-colon.false
-    c.read_name-datatype.ensures c.if-text-datatype_end.false c.expect.ensures
+returns c = binder_read c.in_ok-object.ensures c.in_ok-colon.ensures c.in_ok-datatype.ensures c.in_ok-end.ensures

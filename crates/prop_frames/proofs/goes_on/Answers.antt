@@ -1,6 +1,5 @@
 -- The connective there, and then its strength.
 use native.Mathlib.Omega.{arith}
-use borrow.Author.Rules.{rules}
 use Rattle.prop_frames.proofs.Sides.{none_there, too_weak, strong_enough_lem}
 use Rattle.prop_frames.proofs.goes_on.Goals as goal
 

@@ -1,11 +1,8 @@
 -- The invariant: what is left to insert gives what was to be inserted at the start.
-use Prim.Native.Nat.{◌-◌}
 use mathlib.Core.Path.{◌∙◌, sym}
 use native.Mathlib.Omega.{arith}
-use borrow.Author.Rules.{rules}
-use borrow.Author.Tests.{not-true, not-false}
 use Rattle.output.proofs.Writing as writing
-use Rattle.prop_frames.proofs.Insertion.{Inserting, inserting, inserting_on, inserting_past, inserting_last, inserted_dry}
+use Rattle.prop_frames.proofs.Insertion.{inserting, inserting_on, inserting_past, inserting_last, inserted_dry}
 use Rattle.prop_frames.proofs.insert.Goals as goal
 
 pub returns-then-not-write : goal.returns-then-not-write

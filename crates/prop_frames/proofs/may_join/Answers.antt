@@ -1,7 +1,5 @@
 -- The brackets of the left side, those of the right side, and whether this is a negation.
 use mathlib.Core.Path.{sym, ◌∙◌}
-use borrow.Author.Rules.{rules}
-use borrow.Author.Tests.{not-true, not-false}
 use Rattle.prop_frames.proofs.Sides.{left_differs, right_differs, no_negation, other_agrees}
 use Rattle.prop_frames.proofs.may_join.Goals as goal
 

@@ -1,5 +1,4 @@
 -- Byte by byte.
-use borrow.Author.Rules.{rules}
 use Rattle.prop_frames.proofs.Binders.{binder_stored}
 use Rattle.prop_frames.proofs.put_binder.Goals as goal
 

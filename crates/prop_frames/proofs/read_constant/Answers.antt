@@ -1,5 +1,4 @@
 -- One byte.
-use borrow.Author.Rules.{rules}
 use Rattle.prop_frames.proofs.Constants.{constant}
 use Rattle.prop_frames.proofs.read_constant.Goals as goal
 

@@ -1,27 +1,31 @@
 -- Each connective in turn.
-use borrow.Author.Rules.{rules}
+use mathlib.Core.Path.{sym, ◌∙◌}
+use Rattle.definitions.specs.Utf8.{utf8}
+use Rattle.words.proofs.Words.{stands, stands_not}
 use Rattle.prop_parts.proofs.Signs.{and_found, or_found, impl_found, none_found}
 use Rattle.prop_parts.proofs.connective_at.Goals as goal
 
-pub returns-then-expect-text : goal.returns-then-expect-text
-returns-then-expect-text c = and_found c.expect.ensures c.if-expect-text.true
+pub returns-then-is_some : goal.returns-then-is_some
+returns-then-is_some c =
+    and_found
+    (stands (utf8 " ∧ ") c.args.text.now c.args.at c.expect.result c.expect.ensures (sym c.is_some.ensures ∙ c.if-is_some.true))
 
-pub returns-then-expect-text-2 : goal.returns-then-expect-text-2
-returns-then-expect-text-2 c =
+pub returns-then-is_some-2 : goal.returns-then-is_some-2
+returns-then-is_some-2 c =
     or_found
-    c.expect.ensures c.if-expect-text.false
-    c.expect-2.ensures c.if-expect-text-2.true
+    (stands_not (utf8 " ∧ ") c.args.text.now c.args.at c.expect.result c.expect.ensures (sym c.is_some.ensures ∙ c.if-is_some.false))
+    (stands (utf8 " ∨ ") c.args.text.now c.args.at c.expect-2.result c.expect-2.ensures (sym c.is_some-2.ensures ∙ c.if-is_some-2.true))
 
-pub returns-then-expect-text-3 : goal.returns-then-expect-text-3
-returns-then-expect-text-3 c =
+pub returns-then-is_some-3 : goal.returns-then-is_some-3
+returns-then-is_some-3 c =
     impl_found
-    c.expect.ensures c.if-expect-text.false
-    c.expect-2.ensures c.if-expect-text-2.false
-    c.expect-3.ensures c.if-expect-text-3.true
+    (stands_not (utf8 " ∧ ") c.args.text.now c.args.at c.expect.result c.expect.ensures (sym c.is_some.ensures ∙ c.if-is_some.false))
+    (stands_not (utf8 " ∨ ") c.args.text.now c.args.at c.expect-2.result c.expect-2.ensures (sym c.is_some-2.ensures ∙ c.if-is_some-2.false))
+    (stands (utf8 " ⊃ ") c.args.text.now c.args.at c.expect-3.result c.expect-3.ensures (sym c.is_some-3.ensures ∙ c.if-is_some-3.true))
 
 pub returns : goal.returns
-returns three =
+returns c =
     none_found
-    three.expect.ensures three.if-expect-text.false
-    three.expect-2.ensures three.if-expect-text-2.false
-    three.expect-3.ensures three.if-expect-text-3.false
+    (stands_not (utf8 " ∧ ") c.args.text.now c.args.at c.expect.result c.expect.ensures (sym c.is_some.ensures ∙ c.if-is_some.false))
+    (stands_not (utf8 " ∨ ") c.args.text.now c.args.at c.expect-2.result c.expect-2.ensures (sym c.is_some-2.ensures ∙ c.if-is_some-2.false))
+    (stands_not (utf8 " ⊃ ") c.args.text.now c.args.at c.expect-3.result c.expect-3.ensures (sym c.is_some-3.ensures ∙ c.if-is_some-3.false))

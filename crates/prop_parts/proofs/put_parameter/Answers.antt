@@ -1,7 +1,6 @@
 -- A kind, a name's number and perhaps an id.
-use mathlib.Core.Path.{◌≡◌, refl, ap, ◌∙◌}
+use mathlib.Core.Path.{refl}
 use native.Mathlib.Omega.{arith}
-use borrow.Author.Rules.{rules}
 use Rattle.definitions.specs.Code.{u16, encode_parameter}
 use Rattle.prop_parts.specs.Found.{parameter_of}
 use Rattle.prop_parts.proofs.Stored.{bound_stored, free_stored}

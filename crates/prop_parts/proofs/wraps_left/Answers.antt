@@ -1,6 +1,5 @@
 -- By the connective.
-use mathlib.Core.Path.{◌≡◌, refl}
-use native.Mathlib.Omega.{arith}
+use mathlib.Core.Path.{refl}
 use Rattle.definitions.specs.Display.{wraps_left}
 use Rattle.prop_parts.proofs.Signs.{and_is, or_is, impl_is}
 use Rattle.prop_parts.proofs.wraps_left.Goals as goal

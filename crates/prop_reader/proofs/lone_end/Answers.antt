@@ -1,20 +1,27 @@
 -- The name, and then neither a bracket nor a connective.
-use native.Mathlib.Omega.{arith}
+use mathlib.Core.Path.{◌≡◌, sym, ◌∙◌}
+use Rattle.std.specs.Prelude.{None}
 use borrow.Author.Rules.{rules}
+use Rattle.definitions.specs.Utf8.{utf8}
+use Rattle.words.proofs.Words.{stands, stands_not}
 use Rattle.prop_reader.proofs.Labels.{lone_no_name, lone_bracket, lone_connective, lone_there}
 use Rattle.prop_reader.proofs.lone_end.Goals as goal
 
-pub returns-then-text-end : goal.returns-then-text-end
-returns-then-text-end c = lone_no_name c.name_end-end.ensures c.if-text-end.true
+pub returns-in_err-end : goal.returns-in_err-end
+returns-in_err-end c =
+    let none : c.from_residual.result ≡ None = search rules in
+    rw none (lone_no_name c.args.text.now c.args.at c.in_err-end.ensures)
 
-pub returns-then-expect-text : goal.returns-then-expect-text
-returns-then-expect-text c =
-    lone_bracket c.name_end-end.ensures c.if-text-end.false c.expect.ensures c.if-expect-text.true (omega arith)
+pub returns-then-is_some : goal.returns-then-is_some
+returns-then-is_some c =
+    lone_bracket c.in_ok-end.ensures
+    (stands (utf8 "(") c.args.text.now c.in_ok-end.end c.expect.result c.expect.ensures (sym c.is_some.ensures ∙ c.if-is_some.true))
 
 pub returns-then-connective_at-eq-NO_HEAD : goal.returns-then-connective_at-eq-NO_HEAD
 returns-then-connective_at-eq-NO_HEAD c =
-    lone_there c.name_end-end.ensures c.if-text-end.false c.expect.ensures c.if-expect-text.false c.connective_at.ensures c.if-connective_at-eq-NO_HEAD.true
+    lone_there c.in_ok-end.ensures
+    (stands_not (utf8 "(") c.args.text.now c.in_ok-end.end c.expect.result c.expect.ensures (sym c.is_some.ensures ∙ c.if-is_some.false))
+    c.connective_at.ensures c.if-connective_at-eq-NO_HEAD.true
 
 pub returns : goal.returns
-returns c =
-    lone_connective c.name_end-end.ensures c.if-text-end.false c.connective_at.ensures c.if-connective_at-eq-NO_HEAD.false (omega arith)
+returns c = lone_connective c.in_ok-end.ensures c.connective_at.ensures c.if-connective_at-eq-NO_HEAD.false

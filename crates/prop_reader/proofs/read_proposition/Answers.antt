@@ -1,4 +1,6 @@
 -- The proposition, its brackets, and then its limits.
+use mathlib.Core.Path.{◌≡◌}
+use Rattle.std.specs.Prelude.{None}
 use mathlib.Core.Path.{refl}
 use mathlib.Core.List.{[]}
 use native.Mathlib.Omega.{arith}
@@ -8,25 +10,27 @@ use Rattle.definitions.specs.TermText.{term_text_limit}
 use Rattle.prop_reader.proofs.Labels.{binds_nothing, prop_begins, proposition_not, proposition_bracketed, proposition_deep, proposition_large, proposition_given}
 use Rattle.prop_reader.proofs.read_proposition.Goals as goal
 
-pub read_prop-read-requires : goal.read_prop-read-requires
-read_prop-read-requires c = prop_begins c.requires refl
+pub read_prop-requires : goal.read_prop-requires
+read_prop-requires c = prop_begins c.requires refl
 
-pub returns-then-text-end : goal.returns-then-text-end
-returns-then-text-end c = proposition_not (c.read_prop-read.ensures [] (binds_nothing _ _)) c.if-text-end.true c.no_label.ensures
+pub returns-in_err-read : goal.returns-in_err-read
+returns-in_err-read c =
+    let none : c.from_residual.result ≡ None = search rules in
+    rw none (proposition_not (c.in_err-read.ensures [] (binds_nothing _ _)))
 
 pub returns-then-read : goal.returns-then-read
 returns-then-read c =
-    proposition_bracketed (c.read_prop-read.ensures [] (binds_nothing _ _)) c.if-text-end.false c.if-read.true c.no_label-then-read.ensures
+    proposition_bracketed (c.in_ok-read.ensures [] (binds_nothing _ _)) c.if-read.true
 
-pub returns-then-nesting-gt-NESTING_LIMIT : goal.returns-then-nesting-gt-NESTING_LIMIT
+pub returns-then-read-gt-NESTING_LIMIT : goal.returns-then-read-gt-NESTING_LIMIT
 unfolding code_limit proposition_nesting_limit
-returns-then-nesting-gt-NESTING_LIMIT c =
-    proposition_deep (c.read_prop-read.ensures [] (binds_nothing _ _)) c.if-text-end.false c.if-nesting-gt-NESTING_LIMIT.true c.no_label-then-nesting-gt-NESTING_LIMIT.ensures
+returns-then-read-gt-NESTING_LIMIT c =
+    proposition_deep (c.in_ok-read.ensures [] (binds_nothing _ _)) c.if-read-gt-NESTING_LIMIT.true
 
 pub returns-then-size-gt-CODE_LIMIT : goal.returns-then-size-gt-CODE_LIMIT
 unfolding code_limit proposition_nesting_limit
 returns-then-size-gt-CODE_LIMIT c =
-    proposition_large (c.read_prop-read.ensures [] (binds_nothing _ _)) c.if-text-end.false c.if-size-gt-CODE_LIMIT.true c.no_label-then-size-gt-CODE_LIMIT.ensures
+    proposition_large (c.in_ok-read.ensures [] (binds_nothing _ _)) c.if-size-gt-CODE_LIMIT.true
 
 pub overflow_add-result : goal.overflow_add-result
 unfolding term_text_limit
@@ -43,4 +47,4 @@ overflow_add-result-2 c =
 pub returns : goal.returns
 unfolding code_limit proposition_nesting_limit
 returns c =
-    proposition_given (c.read_prop-read.ensures [] (binds_nothing _ _)) c.if-text-end.false c.requires c.if-read.false c.if-nesting-gt-NESTING_LIMIT.false c.if-size-gt-CODE_LIMIT.false
+    proposition_given (c.in_ok-read.ensures [] (binds_nothing _ _)) c.requires c.if-read.false c.if-read-gt-NESTING_LIMIT.false c.if-size-gt-CODE_LIMIT.false

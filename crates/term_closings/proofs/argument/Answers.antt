@@ -26,14 +26,14 @@ returns-then-not-is_as_due c z held =
     turned_refused c.refused.ensures
     (argument_not_due held c.requires.1 (sym c.is_as_due.ensures ∙ c.if-not-is_as_due.true))
 
-pub expect-start-requires : goal.expect-start-requires
+pub expect-requires : goal.expect-requires
 unfolding NamesBegin with_names
-expect-start-requires c = c.requires.0.holds.behind.placed.within
+expect-requires c = c.requires.0.holds.behind.placed.within
 
-pub returns-then-text-start : goal.returns-then-text-start
+pub returns-in_default : goal.returns-in_default
 unfolding NamesBegin NamesEnd with_names
-returns-then-text-start c z held =
-    turned_refused c.refused-then-text-start.ensures (no_blank held c.requires.1 (is_due (goal.at.returns-then-text-start c).Else-not-is_as_due) c.expect-start.ensures c.if-text-start.true)
+returns-in_default c z held =
+    turned_refused c.refused-in_default.ensures (no_blank held c.requires.1 (is_due (goal.at.returns-in_default c).Else-not-is_as_due) c.in_default.ensures)
 
 pub overflow_sub-p : goal.overflow_sub-p
 unfolding NamesBegin with_names
@@ -55,12 +55,12 @@ pub closed_for-requires : goal.closed_for-requires
 unfolding NamesBegin with_names
 closed_for-requires c =
     let pre = c.requires in
-    record { value = pre.0.value; holds = argument_closed pre.0.holds pre.1 (is_due (goal.at.closed_for-requires c).Else-not-is_as_due) c.expect-start.ensures c.if-text-start.false _ refl }
+    record { value = pre.0.value; holds = argument_closed pre.0.holds pre.1 (is_due (goal.at.closed_for-requires c).Else-not-is_as_due) c.in-Some.ensures _ refl }
 
 pub returns : goal.returns
 unfolding NamesBegin NamesEnd with_names
 returns c z held =
     let follows = c.requires.1 in
-    let blank = c.expect-start.ensures in
-    argument_turned held follows (is_due (goal.at.returns c).Else-not-is_as_due) blank c.if-text-start.false
-    (c.closed_for.ensures z (argument_closed held follows (is_due (goal.at.returns c).Else-not-is_as_due) blank c.if-text-start.false _ refl))
+    let blank = c.in-Some.ensures in
+    argument_turned held follows (is_due (goal.at.returns c).Else-not-is_as_due) blank
+    (c.closed_for.ensures z (argument_closed held follows (is_due (goal.at.returns c).Else-not-is_as_due) blank _ refl))

@@ -23,20 +23,20 @@ is_as_due-requires c = (held_small c.requires.0.holds).4
 pub returns-then-not-is_as_due : goal.returns-then-not-is_as_due
 unfolding TurnBegins TurnEnds scene_of
 returns-then-not-is_as_due c before held =
-    let (begins, bare, colon, there) = c.requires in
-    turned_refused c.refused.ensures (label_not_due held bare colon there (sym c.is_as_due.ensures ∙ c.if-not-is_as_due.true))
+    let (begins, bare, colon) = c.requires in
+    turned_refused c.refused.ensures (label_not_due held bare colon (sym c.is_as_due.ensures ∙ c.if-not-is_as_due.true))
 
-pub read_label-label-requires : goal.read_label-label-requires
+pub read_label-requires : goal.read_label-requires
 unfolding TurnBegins scene_of
-read_label-label-requires c =
-    let (begins, bare, colon, there) = c.requires in
-    label_begins begins.holds bare colon there
+read_label-requires c =
+    let (begins, bare, colon) = c.requires in
+    label_begins begins.holds bare colon
 
-pub returns-then-text-end : goal.returns-then-text-end
+pub returns-in_default : goal.returns-in_default
 unfolding TurnBegins TurnEnds scene_of
-returns-then-text-end c before held =
-    let (begins, bare, colon, there) = c.requires in
-    turned_refused c.refused-then-text-end.ensures (no_label held bare colon there (is_due (goal.at.returns-then-text-end c).Else-not-is_as_due) c.read_label-label.ensures c.if-text-end.true)
+returns-in_default c before held =
+    let (begins, bare, colon) = c.requires in
+    turned_refused c.refused-in_default.ensures (no_label held bare colon (is_due (goal.at.returns-in_default c).Else-not-is_as_due) c.in_default.ensures)
 
 pub overflow_sub-row : goal.overflow_sub-row
 unfolding TurnBegins scene_of
@@ -49,14 +49,14 @@ overflow_cast-row-2 c = omega (arith, (held_small c.requires.0.holds).1)
 pub overflow_cast-row-3 : goal.overflow_cast-row-3
 unfolding TurnBegins scene_of
 overflow_cast-row-3 c =
-    let (begins, bare, colon, there) = c.requires in
-    omega (arith, (label_numbers begins.holds bare colon there (is_due (goal.at.overflow_cast-row-3 c).Else-not-is_as_due) c.read_label-label.ensures c.if-text-end.false).0)
+    let (begins, bare, colon) = c.requires in
+    omega (arith, (label_numbers begins.holds bare colon (is_due (goal.at.overflow_cast-row-3 c).Else-not-is_as_due) c.in-Some.ensures).0)
 
 pub overflow_cast-row-4 : goal.overflow_cast-row-4
 unfolding TurnBegins scene_of
 overflow_cast-row-4 c =
-    let (begins, bare, colon, there) = c.requires in
-    omega (arith, (label_numbers begins.holds bare colon there (is_due (goal.at.overflow_cast-row-4 c).Else-not-is_as_due) c.read_label-label.ensures c.if-text-end.false).1)
+    let (begins, bare, colon) = c.requires in
+    omega (arith, (label_numbers begins.holds bare colon (is_due (goal.at.overflow_cast-row-4 c).Else-not-is_as_due) c.in-Some.ensures).1)
 
 pub overflow_add-s : goal.overflow_add-s
 unfolding TurnBegins scene_of
@@ -75,12 +75,12 @@ make-r-requires c =
 pub returns-then-r-eq-REFUSED : goal.returns-then-r-eq-REFUSED
 unfolding TurnBegins TurnEnds scene_of noting
 returns-then-r-eq-REFUSED c before held =
-    let (begins, bare, colon, there) = c.requires in
+    let (begins, bare, colon) = c.requires in
     turned_refused c.if-r-eq-REFUSED.true
-    (ascription_refused held bare colon there (is_due (goal.at.returns-then-r-eq-REFUSED c).Else-not-is_as_due) c.read_label-label.ensures c.if-text-end.false _ refl c.make-r.ensures c.if-r-eq-REFUSED.true)
+    (ascription_refused held bare colon (is_due (goal.at.returns-then-r-eq-REFUSED c).Else-not-is_as_due) c.in-Some.ensures _ refl c.make-r.ensures c.if-r-eq-REFUSED.true)
 
 pub returns : goal.returns
 unfolding TurnBegins TurnEnds scene_of noting
 returns c before held =
-    let (begins, bare, colon, there) = c.requires in
-    ascription_turned held bare colon there (is_due (goal.at.returns c).Else-not-is_as_due) c.read_label-label.ensures c.if-text-end.false _ refl c.make-r.ensures c.if-r-eq-REFUSED.false
+    let (begins, bare, colon) = c.requires in
+    ascription_turned held bare colon (is_due (goal.at.returns c).Else-not-is_as_due) c.in-Some.ensures _ refl c.make-r.ensures c.if-r-eq-REFUSED.false

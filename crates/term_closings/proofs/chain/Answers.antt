@@ -22,16 +22,16 @@ pub returns-then-argument_follows : goal.returns-then-argument_follows
 unfolding TurnEnds NamesEnd scene_of with_names left_at
 returns-then-argument_follows c before held = turned_within (c.argument.ensures (scene_of _ [] [] before _) held) (omega arith)
 
-pub expect-label-requires : goal.expect-label-requires
+pub expect-requires : goal.expect-requires
 unfolding TurnBegins scene_of
-expect-label-requires c = c.requires.holds.behind.placed.within
+expect-requires c = c.requires.holds.behind.placed.within
 
 pub ascribe-requires : goal.ascribe-requires
 unfolding TurnBegins scene_of
 ascribe-requires c =
-    (c.requires, sym c.argument_follows.ensures ∙ c.if-argument_follows.false, c.expect-label.ensures, c.if-label-text.true)
+    (c.requires, sym c.argument_follows.ensures ∙ c.if-argument_follows.false, c.in-Some.ensures)
 
 pub returns : goal.returns
 unfolding TurnEnds scene_of
 returns c before held =
-    whole_term held (sym c.argument_follows.ensures ∙ c.if-argument_follows.false) c.expect-label.ensures c.if-label-text.false
+    whole_term held (sym c.argument_follows.ensures ∙ c.if-argument_follows.false) c.in_default.ensures

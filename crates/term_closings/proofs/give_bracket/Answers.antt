@@ -15,9 +15,9 @@ pub overflow_sub-below : goal.overflow_sub-below
 unfolding TextBegins with_text
 overflow_sub-below c = (given_small c.requires.0.holds).6
 
-pub expect-comma-requires : goal.expect-comma-requires
+pub expect-requires : goal.expect-requires
 unfolding TextBegins with_text
-expect-comma-requires c = c.requires.0.holds.to.behind.placed.within
+expect-requires c = c.requires.0.holds.to.behind.placed.within
 
 pub overflow_sub-row : goal.overflow_sub-row
 unfolding TextBegins with_text
@@ -27,9 +27,9 @@ pub overflow_cast-row : goal.overflow_cast-row
 unfolding TextBegins with_text
 overflow_cast-row c = omega (arith, (given_small c.requires.0.holds).1)
 
-pub overflow_cast-row-then-comma-text : goal.overflow_cast-row-then-comma-text
+pub overflow_cast-row-in-Some : goal.overflow_cast-row-in-Some
 unfolding TextBegins with_text
-overflow_cast-row-then-comma-text c = omega (arith, (given_small c.requires.0.holds).5)
+overflow_cast-row-in-Some c = omega (arith, (given_small c.requires.0.holds).5)
 
 pub overflow_cast-s : goal.overflow_cast-s
 unfolding TextBegins with_text
@@ -39,20 +39,20 @@ pub enter-requires : goal.enter-requires
 unfolding TextBegins with_text
 enter-requires c = (given_small c.requires.0.holds).0
 
-pub returns-then-comma-text : goal.returns-then-comma-text
+pub returns-in-Some : goal.returns-in-Some
 unfolding TextBegins TextEnds with_text
-returns-then-comma-text c z g =
-    bracket_opens c.if-s.false c.expect-comma.ensures _ refl g c.requires.1 c.if-comma-text.true c.enter.ensures
+returns-in-Some c z g =
+    bracket_opens c.if-s.false c.in-Some.ensures _ refl g c.requires.1 c.enter.ensures
 
-pub expect-end-requires : goal.expect-end-requires
+pub expect-requires-2 : goal.expect-requires-2
 unfolding TextBegins with_text
-expect-end-requires c = c.requires.0.holds.to.behind.placed.within
+expect-requires-2 c = c.requires.0.holds.to.behind.placed.within
 
-pub returns-then-text-end : goal.returns-then-text-end
+pub returns-in_default-expect : goal.returns-in_default-expect
 unfolding TextBegins TextEnds with_text
-returns-then-text-end c z g =
-    turned_refused c.refused-then-text-end.ensures
-    (bracket_stuck c.if-s.false c.expect-comma.ensures c.if-comma-text.false c.expect-end.ensures g c.requires.1 c.if-text-end.true)
+returns-in_default-expect c z g =
+    turned_refused c.refused-in_default-expect.ensures
+    (bracket_stuck c.if-s.false c.in_default.ensures g c.requires.1 c.in_default-expect.ensures)
 
 pub use_for-requires : goal.use_for-requires
 unfolding TextBegins with_text
@@ -60,13 +60,12 @@ use_for-requires c =
     let pre = c.requires in
     record {
       value = _;
-      holds = bracket_using c.if-s.false c.expect-comma.ensures c.if-comma-text.false c.expect-end.ensures pre.0.holds pre.1 c.if-text-end.false;
+      holds = bracket_using c.if-s.false c.in_default.ensures pre.0.holds pre.1 c.in-Some-expect.ensures;
     }
 
 pub returns : goal.returns
 unfolding TextBegins TextEnds with_text
 returns c z g =
-    let there = c.if-text-end.false in
-    let on = c.expect-end.ensures.after there in
-    given_used g _ _ _ (omega (arith, on))
-    (c.use_for.ensures _ (bracket_using c.if-s.false c.expect-comma.ensures c.if-comma-text.false c.expect-end.ensures g c.requires.1 there))
+    let found = c.in-Some-expect.ensures in
+    given_used g _ _ _ (omega (arith, found.after))
+    (c.use_for.ensures _ (bracket_using c.if-s.false c.in_default.ensures g c.requires.1 found))

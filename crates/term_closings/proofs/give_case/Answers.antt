@@ -31,16 +31,16 @@ unfolding NamesBegin NamesEnd with_names
 returns-then-not-is_as_due c z g =
     turned_refused c.refused.ensures (branch_not_due g (kinds (goal.at.returns-then-not-is_as_due c).Start) (sym c.is_as_due.ensures ∙ c.if-not-is_as_due.true))
 
-pub read_branch-branch-requires : goal.read_branch-branch-requires
+pub read_branch-requires : goal.read_branch-requires
 unfolding NamesBegin with_names
-read_branch-branch-requires c =
+read_branch-requires c =
     let b = c.requires.0.holds.to.behind in
     (b.stored.table, b.placed.within, b.reached.short)
 
-pub returns-then-text-begin : goal.returns-then-text-begin
+pub returns-in_default : goal.returns-in_default
 unfolding NamesBegin NamesEnd with_names
-returns-then-text-begin c z g =
-    turned_refused c.refused-then-text-begin.ensures (branch_stuck g (kinds (goal.at.returns-then-text-begin c).Start) (is_due (goal.at.returns-then-text-begin c).Else-not-is_as_due) c.read_branch-branch.ensures c.if-text-begin.true)
+returns-in_default c z g =
+    turned_refused c.refused-in_default.ensures (branch_stuck g (kinds (goal.at.returns-in_default c).Start) (is_due (goal.at.returns-in_default c).Else-not-is_as_due) c.in_default.ensures)
 
 pub overflow_add-tally : goal.overflow_add-tally
 unfolding NamesBegin with_names
@@ -54,9 +54,10 @@ pub overflow_cast-s : goal.overflow_cast-s
 unfolding NamesBegin with_names
 overflow_cast-s c = omega (arith, (given_small c.requires.0.holds).1)
 
-pub overflow_cast-number : goal.overflow_cast-number
-overflow_cast-number c =
-    omega (arith, branch_small c.read_branch-branch.ensures c.if-text-begin.false)
+pub overflow_cast-branch : goal.overflow_cast-branch
+overflow_cast-branch c =
+    let (x, given) = c.in-Some.ensures in
+    omega (arith, branch_small given)
 
 pub overflow_cast-nest : goal.overflow_cast-nest
 unfolding NamesBegin with_names
@@ -78,5 +79,6 @@ enter-requires c = (given_small c.requires.0.holds).0
 pub returns : goal.returns
 unfolding NamesBegin NamesEnd with_names noting
 returns c z g =
-    branch_turned g (kinds (goal.at.returns c).Start) (is_due (goal.at.returns c).Else-not-is_as_due) c.read_branch-branch.ensures c.if-text-begin.false refl c.larger-nest.ensures
+    let (x, given) = c.in-Some.ensures in
+    branch_turned g (kinds (goal.at.returns c).Start) (is_due (goal.at.returns c).Else-not-is_as_due) given refl c.larger-nest.ensures
     (rw c.branch_row-row.ensures at c.enter.ensures)

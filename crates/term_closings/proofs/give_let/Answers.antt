@@ -16,15 +16,15 @@ unfolding TextBegins TextEnds with_text
 returns-then-not-is_as_due c z g =
     turned_refused c.refused.ensures (let_not_due g c.requires.1 (sym c.is_as_due.ensures ∙ c.if-not-is_as_due.true))
 
-pub expect-end-requires : goal.expect-end-requires
+pub expect-requires : goal.expect-requires
 unfolding TextBegins with_text
-expect-end-requires c = c.requires.0.holds.to.behind.placed.within
+expect-requires c = c.requires.0.holds.to.behind.placed.within
 
-pub returns-then-text-end : goal.returns-then-text-end
+pub returns-in_default : goal.returns-in_default
 unfolding TextBegins TextEnds with_text
-returns-then-text-end c z g =
-    turned_refused c.refused-then-text-end.ensures
-    (let_stuck (sym c.is_as_due.ensures ∙ c.if-not-is_as_due.false) c.expect-end.ensures g c.requires.1 c.if-text-end.true)
+returns-in_default c z g =
+    turned_refused c.refused-in_default.ensures
+    (let_stuck (sym c.is_as_due.ensures ∙ c.if-not-is_as_due.false) g c.requires.1 c.in_default.ensures)
 
 pub overflow_sub-below : goal.overflow_sub-below
 unfolding TextBegins with_text
@@ -53,4 +53,4 @@ enter-requires c = (given_small c.requires.0.holds).0
 pub returns : goal.returns
 unfolding TextBegins TextEnds with_text
 returns c z g =
-    let_turned (sym c.is_as_due.ensures ∙ c.if-not-is_as_due.false) c.expect-end.ensures c.if-text-end.false _ refl g c.requires.1 c.enter.ensures
+    let_turned (sym c.is_as_due.ensures ∙ c.if-not-is_as_due.false) c.in-Some.ensures _ refl g c.requires.1 c.enter.ensures

@@ -17,14 +17,14 @@ pub returns-then-s : goal.returns-then-s
 unfolding TextBegins TextEnds with_text
 returns-then-s c z g = turned_refused c.refused.ensures (second_refused g (kinds (goal.at.returns-then-s c).Start) c.if-s.true)
 
-pub expect-end-requires : goal.expect-end-requires
+pub expect-requires : goal.expect-requires
 unfolding TextBegins with_text
-expect-end-requires c = c.requires.0.holds.to.behind.placed.within
+expect-requires c = c.requires.0.holds.to.behind.placed.within
 
-pub returns-then-text-end : goal.returns-then-text-end
+pub returns-in_default : goal.returns-in_default
 unfolding TextBegins TextEnds with_text
-returns-then-text-end c z g =
-    turned_refused c.refused-then-text-end.ensures (second_stuck c.if-s.false c.expect-end.ensures g (kinds (goal.at.returns-then-text-end c).Start) c.if-text-end.true)
+returns-in_default c z g =
+    turned_refused c.refused-in_default.ensures (second_stuck c.if-s.false g (kinds (goal.at.returns-in_default c).Start) c.in_default.ensures)
 
 pub overflow_sub-below : goal.overflow_sub-below
 unfolding TextBegins with_text
@@ -57,7 +57,7 @@ pub returns-then-pair-eq-REFUSED : goal.returns-then-pair-eq-REFUSED
 unfolding TextBegins TextEnds with_text
 returns-then-pair-eq-REFUSED c z g =
     turned_refused c.if-pair-eq-REFUSED.true
-    (pair_refused c.if-s.false c.expect-end.ensures c.if-text-end.false _ _ refl c.larger-nest.ensures c.make-pair.ensures g (kinds (goal.at.returns-then-pair-eq-REFUSED c).Start) c.if-pair-eq-REFUSED.true)
+    (pair_refused c.if-s.false c.in-Some.ensures _ _ refl c.larger-nest.ensures c.make-pair.ensures g (kinds (goal.at.returns-then-pair-eq-REFUSED c).Start) c.if-pair-eq-REFUSED.true)
 
 pub overflow_sub-p : goal.overflow_sub-p
 unfolding TextBegins with_text
@@ -68,7 +68,7 @@ unfolding TextBegins with_text
 use_for-requires c =
     record {
       value = _;
-      holds = pair_using c.if-s.false c.expect-end.ensures c.if-text-end.false _ _ refl c.larger-nest.ensures c.make-pair.ensures
+      holds = pair_using c.if-s.false c.in-Some.ensures _ _ refl c.larger-nest.ensures c.make-pair.ensures
           c.requires.0.holds (kinds (goal.at.use_for-requires c).Start) c.if-pair-eq-REFUSED.false;
     }
 
@@ -77,8 +77,7 @@ unfolding TextBegins TextEnds with_text
 returns c z g =
     let makes = c.make-pair.ensures in
     let most = c.larger-nest.ensures in
-    let found = c.expect-end.ensures in
+    let found = c.in-Some.ensures in
     let own = c.if-s.false in
-    let there = c.if-text-end.false in
-    pair_turned own found there _ _ refl most makes g c.if-pair-eq-REFUSED.false
-    (c.use_for.ensures _ (pair_using own found there _ _ refl most makes g (kinds (goal.at.returns c).Start) c.if-pair-eq-REFUSED.false))
+    pair_turned own found _ _ refl most makes g c.if-pair-eq-REFUSED.false
+    (c.use_for.ensures _ (pair_using own found _ _ refl most makes g (kinds (goal.at.returns c).Start) c.if-pair-eq-REFUSED.false))

@@ -7,22 +7,22 @@ use Rattle.term_openings.proofs.ClosedTerms.{turned_within}
 use Rattle.term_openings.proofs.FirstWords.{body_not, body_closed}
 use Rattle.term_openings.proofs.call.Goals as goal
 
-pub expect-body-requires : goal.expect-body-requires
+pub expect-requires : goal.expect-requires
 unfolding NamesBegin with_names
-expect-body-requires c = c.requires.holds.started.placed.within
+expect-requires c = c.requires.holds.started.placed.within
 
-pub returns-then-text-body : goal.returns-then-text-body
+pub returns-in_default : goal.returns-in_default
 unfolding NamesEnd with_names
-returns-then-text-body c z called = turned_refused c.refused.ensures (body_not called c.expect-body.ensures c.if-text-body.true)
+returns-in_default c z called = turned_refused c.refused.ensures (body_not called c.in_default.ensures)
 
 pub closed_for-requires : goal.closed_for-requires
 unfolding NamesBegin with_names
 closed_for-requires c =
     let pre = c.requires in
-    record { value = pre.value; holds = body_closed pre.holds c.expect-body.ensures c.if-text-body.false }
+    record { value = pre.value; holds = body_closed pre.holds c.in-Some.ensures }
 
 pub returns : goal.returns
 unfolding NamesEnd with_names left_at
 returns c z called =
-    let blank = c.expect-body.ensures in
-    turned_within (c.closed_for.ensures z (body_closed called blank c.if-text-body.false)) (omega (arith, blank.after c.if-text-body.false))
+    let blank = c.in-Some.ensures in
+    turned_within (c.closed_for.ensures z (body_closed called blank)) (omega (arith, blank.after))

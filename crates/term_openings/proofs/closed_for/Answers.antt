@@ -5,9 +5,9 @@ use Rattle.term_openings.specs.Beginning.{with_text, with_names, TextBegins, Tex
 use Rattle.term_openings.proofs.ClosedTerms.{turned_behind, is_sorry_lem, sorry_leaf, sorry_long, wordless}
 use Rattle.term_openings.proofs.closed_for.Goals as goal
 
-pub name_end-name-requires : goal.name_end-name-requires
+pub name_end-requires : goal.name_end-requires
 unfolding NamesBegin with_names
-name_end-name-requires c = c.requires.holds.for.placed.within
+name_end-requires c = c.requires.holds.for.placed.within
 
 pub word_end-end-requires : goal.word_end-end-requires
 unfolding NamesBegin with_names
@@ -20,7 +20,7 @@ use_leaf-requires c =
     record {
       value = _;
       holds =
-          sorry_leaf c.requires.holds (c.name_end-name.ensures.ends.fails c.if-name-text.false)
+          sorry_leaf c.requires.holds c.in_default.ensures
           (is_sorry_lem ends (sym c.same_name.ensures ∙ c.if-same_name.true)) ends;
     }
 
@@ -29,7 +29,7 @@ unfolding NamesEnd with_names between
 returns-then-same_name c z closed =
     let ends = c.word_end-end.ensures in
     let is = sym c.same_name.ensures ∙ c.if-same_name.true in
-    turned_behind _ _ (c.use_leaf.ensures _ (sorry_leaf closed (c.name_end-name.ensures.ends.fails c.if-name-text.false) (is_sorry_lem ends is) ends))
+    turned_behind _ _ (c.use_leaf.ensures _ (sorry_leaf closed c.in_default.ensures (is_sorry_lem ends is) ends))
     (sorry_long ends is) ends.within refl
 
 pub open_for-requires : goal.open_for-requires
@@ -38,7 +38,7 @@ open_for-requires c =
     let pre = c.requires in
     let given = c.args in (
       record { value = with_names pre.value given.text.now given.names.now; holds = pre.holds },
-      wordless c.word_end-end.ensures c.name_end-name.ensures c.if-name-text.false
+      wordless c.word_end-end.ensures c.in_default.ensures
           (sym c.same_name.ensures ∙ c.if-same_name.false),
     )
 

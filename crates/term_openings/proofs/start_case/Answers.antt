@@ -7,13 +7,13 @@ use Rattle.term_openings.specs.Beginning.{with_text, TextBegins, TextEnds}
 use Rattle.term_openings.proofs.FirstWords.{case_not, case_comes, case_opens}
 use Rattle.term_openings.proofs.start_case.Goals as goal
 
-pub expect-head-requires : goal.expect-head-requires
+pub expect-requires : goal.expect-requires
 unfolding TextBegins with_text
-expect-head-requires c = c.requires.holds.placed.within
+expect-requires c = c.requires.holds.placed.within
 
-pub returns-then-text-head : goal.returns-then-text-head
+pub returns-in_default : goal.returns-in_default
 unfolding TextEnds with_text
-returns-then-text-head c z started = turned_refused c.refused.ensures (case_not started c.expect-head.ensures c.if-text-head.true)
+returns-in_default c z started = turned_refused c.refused.ensures (case_not started c.in_default.ensures)
 
 pub enter-requires : goal.enter-requires
 unfolding TextBegins with_text
@@ -22,6 +22,6 @@ enter-requires c = c.requires.holds.stored.room
 pub returns : goal.returns
 unfolding TextEnds with_text left_at
 returns c z started =
-    let blank = c.expect-head.ensures in
-    opened (case_opens started blank c.if-text-head.false) (rw c.entry.ensures at c.enter.ensures) (case_comes started blank c.if-text-head.false)
-    _ (omega (arith, blank.after c.if-text-head.false))
+    let blank = c.in-Some.ensures in
+    opened (case_opens started blank) (rw c.entry.ensures at c.enter.ensures) (case_comes started blank)
+    _ (omega (arith, blank.after))

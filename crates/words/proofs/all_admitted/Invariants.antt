@@ -1,14 +1,9 @@
 -- The invariant: the names before `at` are admitted.
 use Prim.Native.Nat.{◌≤◌, ◌-◌, ◌+◌}
-use mathlib.Core.Path.{◌≡◌, refl, sym, ◌∙◌}
-use native.Mathlib.Omega.{arith}
+use mathlib.Core.Path.{◌≡◌}
 use lib.ListN.{length, drop}
-use borrow.Author.Rules.{rules}
-use borrow.Author.Tests.{not-true, not-false}
 use Rattle.definitions.specs.TermText.{all_admitted}
 use Rattle.definitions.specs.CallerNames.{pieces, names_in}
-use Rattle.caller_names.proofs.Pieces.{no_names, names_pieces}
-use Rattle.words.proofs.Lists.{admitted_not, admitted_last, admitted_later}
 use Rattle.words.proofs.all_admitted.Given as goal
 
 abbrev pub invariant-loop-at : goal.invariant-loop-at

@@ -1,7 +1,6 @@
 -- A word that is admitted is a name.
-use mathlib.Core.Path.{◌≡◌, refl, sym, ◌∙◌}
+use mathlib.Core.Path.{sym, ◌∙◌}
 use native.Mathlib.Omega.{arith}
-use borrow.Author.Rules.{rules}
 use Rattle.words.specs.Places.{between}
 use Rattle.words.proofs.Words.{name_ends, name_fails}
 use Rattle.words.proofs.name_end.Goals as goal

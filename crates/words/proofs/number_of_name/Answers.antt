@@ -1,7 +1,6 @@
 -- The name is held, there are too many, or it is added.
 use mathlib.Core.Path.{◌≡◌, sym, ◌∙◌}
 use native.Mathlib.Omega.{arith}
-use borrow.Author.Rules.{rules}
 use Rattle.definitions.specs.Sheet.{name_limit}
 use Rattle.definitions.specs.NameIndex.{slot_count}
 use Rattle.std.specs.Prelude.{Ok, Err}

@@ -1,6 +1,5 @@
 -- Each byte in its place.
 use mathlib.Core.Path.{refl}
-use borrow.Author.Rules.{rules}
 use Rattle.words.specs.Table.{with_number}
 use Rattle.words.proofs.put_number.Goals as goal
 
