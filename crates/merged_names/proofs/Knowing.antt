@@ -27,6 +27,10 @@ found_none : (o : Option ℕ) → None ≡ o → o ≡ None
 found_none None e = refl
 found_none (Some j) e = absurd (let z : ◌≡◌ {A = ℕ} 0 1 = cc in omega arith)
 
+-- a name by the vocabulary is the sheet's
+pub its_name : {s : List ℕ} {v : Vocabulary} {slots : List ℕ} → Indexed s v slots → {x : Name} (n : ℕ) → x ≡ name_in s v n → x ≡ name_of s n
+its_name a n e = e ∙ ap (λ (f : ℕ → Name). f n) a.are_names
+
 -- the index of a sheet answers as the plain search
 pub searched : {s : List ℕ} {v : Vocabulary} {slots : List ℕ} → Indexed s v slots → {r : Option ℕ} {x y : Name} → x ≡ y
     → r ≡ (index.find (name_in s v) slots x) → r ≡ (plain_search (name_of s) (names s) y)
@@ -59,11 +63,11 @@ module _ (d : List ℕ) (n : ℕ) {q : Option ℕ} (searched-there : q ≡ (plai
 
 module _ (h d : List ℕ) (n : ℕ) (few : names h ≤ name_limit) (few-donor : names d ≤ name_limit) (below : n < names d) where
   -- the host holds it
-  pub is_held : {r : Option ℕ} {i : ℕ} → r ≡ (plain_search (name_of h) (names h) (name_of d n)) → r ≡ Some i → Known h d n r
+  pub is_held : {r : Option ℕ} {i : ℕ} → r ≡ (plain_search (name_of h) (names h) (name_of d n)) → r ≡ Some i → Known h d n (Some i)
   unfolding name_limit
   is_held {r} {i} e is =
       let found = found_some (plain_search (name_of h) (names h) (name_of d n)) i (sym is ∙ e) in
-      rw is (known (held_number h d n i found) (omega (arith, held_number h d n i found, renumbered_few h d n below)) (held_missing h d n i found))
+      known (held_number h d n i found) (omega (arith, held_number h d n i found, renumbered_few h d n below)) (held_missing h d n i found)
 
   module _ {q : Option ℕ} (searched-there : q ≡ (plain_search (name_of d) (names d) (name_of d n))) where
     -- the donor had it before

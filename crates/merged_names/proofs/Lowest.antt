@@ -1,10 +1,10 @@
 -- With one sheet for host and donor, the numbers are the lowest of equal bytes.
-use Prim.Native.Nat.{ℕ, ◌≤◌, ◌<◌}
+use Prim.Native.Nat.{ℕ, ◌<◌}
 use mathlib.Core.Path.{◌≡◌, refl, sym, ◌∙◌}
 use Rattle.std.specs.Prelude.{Option, None, Some}
 use mathlib.Core.List.{List}
 use lib.ListN.{get_or}
-use Rattle.definitions.specs.Sheet.{names, name_of, name_limit}
+use Rattle.definitions.specs.Sheet.{names, name_of}
 use Rattle.definitions.specs.NameIndex.{plain_search}
 use Rattle.graft_laws.proofs.MergedNumbers.{held_number, earlier_number}
 use Rattle.name_index_laws.specs.Answered.{LowestNumber, is_lowest, there_is_none}

@@ -2,7 +2,7 @@
 // sheet has its index beside it, so that a name is found at once.
 #![tactic(auto)]
 
-ghost use Rattle.std.specs.Prelude.{◌≡◌, true, false, cond, ◌+◌, ◌<◌, length, get_or, Some};
+ghost use Rattle.std.specs.Prelude.{◌≡◌, true, false, cond, ◌+◌, ◌<◌, length};
 ghost use Rattle.definitions.specs.Sheet.{names};
 ghost use Rattle.definitions.specs.Graft.{missing};
 ghost use Rattle.graft_laws.specs.Missing.{missing_below};
@@ -30,14 +30,6 @@ pub fn name_bytes<'a>(
     name(donor, w, i)
 }
 
-// The number that is stored for a name.
-fn stored_number(numbers: &[u16], m: usize) -> Option<usize>
-    requires { m < length numbers.now }
-    ensures { result ≡ Some (get_or numbers.now m 0) }
-{
-    Some(numbers[m] as usize)
-}
-
 // The number that donor name n has already: the host's of equal bytes, or that of an earlier name of the donor. A new name has none.
 fn known_number(
     host: &[u8],
@@ -54,16 +46,12 @@ fn known_number(
     ensures { Known host.now donor.now n result }
 {
     let bytes = name(donor, w, n);
-    let in_host = find(host_slots, host, v, bytes);
-    let None = in_host else {
-        return in_host;
-    };
-    let in_donor = find(donor_slots, donor, w, bytes);
-    let Some(m) = in_donor else {
-        return in_donor;
-    };
+    if let Some(i) = find(host_slots, host, v, bytes) {
+        return Some(i);
+    }
+    let m = find(donor_slots, donor, w, bytes)?;
     if m < n {
-        return stored_number(numbers, m);
+        return Some(usize::from(numbers[m]));
     }
     None
 }
@@ -86,12 +74,11 @@ fn number_name(
     ensures value { result ≡ length (missing_below host.now donor.now (n + 1)) }
     ensures numbered { Numbered host.now donor.now (n + 1) numbers.new }
 {
-    let known = known_number(host, v, host_slots, donor, w, donor_slots, numbers, n);
-    let Some(i) = known else {
+    let Some(known) = known_number(host, v, host_slots, donor, w, donor_slots, numbers, n) else {
         numbers[n] = (v.name_count + missing) as u16;
         return missing + 1;
     };
-    numbers[n] = i as u16;
+    numbers[n] = known as u16;
     missing
 }
 
@@ -110,10 +97,8 @@ pub fn fill_numbers(
     ensures value { result ≡ length (missing host.now donor.now) }
     ensures numbered_2 { Numbered host.now donor.now (names donor.now) numbers.new }
 {
-    let count = w.name_count;
     let mut missing = 0;
-    let mut n = 0;
-    while n < count {
+    for n in 0..w.name_count {
         missing = number_name(
             host,
             v,
@@ -125,7 +110,6 @@ pub fn fill_numbers(
             n,
             missing,
         );
-        n += 1;
     }
     missing
 }

@@ -1,8 +1,7 @@
--- The invariant: the numbers of the names below n are stored. The measure is how many names are left.
-use Prim.Native.Nat.{◌-◌}
+-- The invariant: the numbers of the names below n are stored.
 use mathlib.Core.Path.{refl}
 use native.Mathlib.Omega.{arith}
-use Rattle.merged_names.proofs.Storing.{Filled, none_yet, all_filled}
+use Rattle.merged_names.proofs.Storing.{none_yet, all_filled}
 use Rattle.merged_names.proofs.fill_numbers.Goals as goal
 
 pub loop-n-init : goal.loop-n-init
@@ -23,9 +22,6 @@ loop-n-preserved c =
     let inv = c.loop-n.invariant in
     let named = c.number_name-missing.ensures in
     record { all = inv.all; reached = omega (arith, c.loop-n-test.true); counted = named.value; stored = named.numbered; size = omega (arith, inv.size) }
-
-pub shape_of-numbers : goal.shape_of-numbers
-shape_of-numbers c = c.loop-n.invariant.size
 
 pub returns : goal.returns
 returns c =

@@ -1,6 +1,5 @@
 -- A known number is stored, and a new name has the next.
 use native.Mathlib.Omega.{arith}
-use borrow.Author.Rules.{rules}
 use Rattle.definitions.specs.Sheet.{name_limit}
 use Rattle.merged_names.proofs.Storing.{has_number, known_stored, new_stored, few_below}
 use Rattle.merged_names.proofs.number_name.Goals as goal
@@ -22,15 +21,15 @@ overflow_add-result c =
 
 pub returns-in_default : goal.returns-in_default
 returns-in_default c =
-    let p = new_stored _ _ _ c.requires.indexed.1.few c.requires.n_bound.0 c.requires.n_bound.1 c.known_number-known.ensures c.in_default.is
+    let p = new_stored _ _ _ c.requires.indexed.1.few c.requires.n_bound.0 c.requires.n_bound.1 c.known_number.ensures c.in_default.is
     c.requires.indexed.0.count c.requires.missing_value in
     record { value = p.0; numbered = p.1 }
 
 pub overflow_cast-numbers-2 : goal.overflow_cast-numbers-2
-overflow_cast-numbers-2 c = omega (arith, (has_number _ _ _ c.known_number-known.ensures c.in-Some.is).1)
+overflow_cast-numbers-2 c = omega (arith, (has_number _ _ _ c.known_number.ensures c.in-Some.is).1)
 
 pub returns : goal.returns
 returns c =
-    let p = known_stored _ _ _ c.requires.indexed.1.few c.requires.n_bound.0 c.requires.n_bound.1 c.known_number-known.ensures c.in-Some.is
+    let p = known_stored _ _ _ c.requires.indexed.1.few c.requires.n_bound.0 c.requires.n_bound.1 c.known_number.ensures c.in-Some.is
     c.requires.missing_value in
     record { value = p.0; numbered = p.1 }
