@@ -1,4 +1,5 @@
 -- Two atoms are compared by their names, by their parameter counts, and by their parameters.
+use Rattle.std.specs.Prelude.{Ok, None}
 use Prim.Native.Nat.{ℕ, ◌+◌}
 use mathlib.Core.Path.{◌≡◌, refl}
 use mathlib.Core.Bool.{Bool, true, false}
@@ -15,9 +16,7 @@ use Rattle.definitions.specs.Comparison.{no, and_also, alpha_eq_atom}
 use Rattle.prefix_code.specs.Scan.{Stands}
 use Rattle.prefix_code.specs.Head.{encode_head, CodableHead}
 use Rattle.prefix_code.proofs.Heads.{AtomBytes, atom_bytes}
-use Rattle.alpha_eq.specs.declared.Compared.{Compared}
-use Rattle.alpha_eq.specs.declared.Compared.TheVariants.{Different}
-use Rattle.alpha_eq.specs.Comparing.{compared, alpha_eq_parameters_in, alpha_eq_atom_in, of_applied, form_coding, several_coding, Standing, end_of, Two, Answers}
+use Rattle.alpha_eq.specs.Comparing.{Compared, compared, alpha_eq_parameters_in, alpha_eq_atom_in, of_applied, form_coding, several_coding, Standing, end_of, Two, Answers}
 
 module _ {names : ℕ} {code : List ℕ} {at : ℕ} (s : Standing (form_coding of_applied) names code at) where
   pub atom_at : AtomBytes names code at s.value.atom s.value.parameters s.rest
@@ -51,13 +50,13 @@ module _ (pairs text memory : List ℕ) (depth : ℕ) (code : List ℕ) (i j : �
       rw (named, x-at, y-at, l.name, r.name, l.count, r.count) (simp length-map)
 
   -- different names: no
-  pub other_name : same ≡ false → Answers (form_coding of_applied) code i j (alpha_eq_atom_in pairs text memory depth) Different
+  pub other_name : same ≡ false → Answers (form_coding of_applied) code i j (alpha_eq_atom_in pairs text memory depth) (Ok None)
   unfolding compared and_also no
   other_name e = record { answer = λ names two. rw (atom_outcome two, e) }
 
   -- one name with different counts: no
   pub other_count : same ≡ true → (get_or code (i + 3) 0 ≡ get_or code (j + 3) 0 → ⊥)
-      → Answers (form_coding of_applied) code i j (alpha_eq_atom_in pairs text memory depth) Different
+      → Answers (form_coding of_applied) code i j (alpha_eq_atom_in pairs text memory depth) (Ok None)
   unfolding compared and_also no
   other_count e differ = record {
     answer = λ names two. rw (atom_outcome two, e, ne_eqb (get_or code (i + 3) 0) (get_or code (j + 3) 0) differ);

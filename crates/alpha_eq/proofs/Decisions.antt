@@ -4,13 +4,13 @@ use mathlib.Core.Path.{◌≡◌, ap, ◌∙◌}
 use mathlib.Core.List.{List}
 use native.Mathlib.Omega.{arith}
 use lib.ListN.{length}
+use Rattle.std.specs.Prelude.{Bool, Result}
+use Rattle.definitions.specs.declared.Refusal.{Refusal}
 use Rattle.definitions.specs.Sheet.{proposition_nesting_limit, marked}
 use Rattle.definitions.specs.Comparison.{alpha_eq}
 use Rattle.prefix_code.specs.Scan.{proposition_coding}
-use Rattle.alpha_eq.specs.declared.Answer.{Answer}
-use Rattle.alpha_eq.specs.declared.Compared.{Compared}
 use Rattle.alpha_eq.specs.Bindings.{bindings_of}
-use Rattle.alpha_eq.specs.Comparing.{outcome_of, alpha_eq_under_in, Answers, WithRoom, TwoPropositions, Decides}
+use Rattle.alpha_eq.specs.Comparing.{Compared, outcome_of, alpha_eq_under_in, Answers, WithRoom, TwoPropositions, Decides}
 use Rattle.alpha_eq.proofs.Outcomes.{told, told_compared}
 
 module _ {code : List ℕ} {i j : ℕ} {pairs text : List ℕ} where
@@ -27,7 +27,7 @@ module _ {code : List ℕ} {i j : ℕ} {pairs text : List ℕ} where
     room = omega (arith, propositions.shallow);
   }
 
-pub decides : (pairs text memory code : List ℕ) (i j : ℕ) {answer : Answer} {r : Compared} → outcome_of answer ≡ told r
+pub decides : (pairs text memory code : List ℕ) (i j : ℕ) {answer : Result Bool Refusal} {r : Compared} → outcome_of answer ≡ told r
     → Answers proposition_coding code i j (alpha_eq_under_in pairs text memory 0) r → Decides code i j (marked pairs text) answer
 unfolding alpha_eq_under_in alpha_eq bindings_of
 decides pairs text memory code i j same decided = record { answer = λ names two. same ∙ (ap told (decided.answer names two) ∙ told_compared _ _ _) }

@@ -2,7 +2,7 @@
 use Prim.Native.Nat.{ℕ, ◌+◌, ◌*◌, ◌≤◌, ◌<◌}
 use mathlib.Core.Path.{◌≡◌, refl, sym, ap, ◌∙◌, subst}
 use mathlib.Core.Bool.{Bool, true, false}
-use Rattle.std.specs.Prelude.{Option, None, Some}
+use Rattle.std.specs.Prelude.{Option, None, Some, Ok}
 use mathlib.Core.List.{List, ◌++◌}
 use native.Mathlib.Omega.{arith}
 use native.Mathlib.Decide.{dec_lt}
@@ -18,10 +18,8 @@ use Rattle.definitions.proofs.Views.{is_true_true, is_false_true, as_binary_some
 use Rattle.prefix_code.specs.Scan.{Stands, proposition_coding}
 use Rattle.prefix_code.proofs.Positions.{byte_at}
 use Rattle.prefix_code.proofs.Forms.{inside_at, binary_at, atom_at, quantified_at, true_at, false_at}
-use Rattle.alpha_eq.specs.declared.Compared.{Compared}
-use Rattle.alpha_eq.specs.declared.Compared.TheVariants.{Same, Different}
 use Rattle.alpha_eq.specs.Bindings.{bindings_of}
-use Rattle.alpha_eq.specs.Comparing.{compared, alpha_eq_under_in, alpha_eq_sides_in, alpha_eq_atom_in, alpha_eq_scope_in, of_sides, of_applied, of_scope, form_coding, Standing, end_of, Two, Answers, WithRoom}
+use Rattle.alpha_eq.specs.Comparing.{Compared, compared, alpha_eq_under_in, alpha_eq_sides_in, alpha_eq_atom_in, alpha_eq_scope_in, of_sides, of_applied, of_scope, form_coding, Standing, end_of, Two, Answers, WithRoom}
 
 -- the byte in front of a proposition's code
 abbrev front_byte : {N : Type 0} → Prop N → ℕ
@@ -86,7 +84,7 @@ inside {code} {i} {j} asked =
     ((inside_at names code i l.rest l.value l.stands).0, (inside_at names code j r.rest r.value r.stands).0)
 
 module _ (pairs text memory : List ℕ) (depth : ℕ) (code : List ℕ) (i j : ℕ) where
-  pub other_front : (get_or code i 0 ≡ get_or code j 0 → ⊥) → Answers proposition_coding code i j (alpha_eq_under_in pairs text memory depth) Different
+  pub other_front : (get_or code i 0 ≡ get_or code j 0 → ⊥) → Answers proposition_coding code i j (alpha_eq_under_in pairs text memory depth) (Ok None)
   unfolding compared alpha_eq_under_in
   other_front differ = record {
     answer = λ names two.
@@ -100,12 +98,12 @@ module _ (pairs text memory : List ℕ) (depth : ℕ) (code : List ℕ) (i j : �
 
   -- two of one leaf are the same
   pub same_leaf : get_or code i 0 ≡ get_or code j 0 → get_or code i 0 < 2
-      → Answers proposition_coding code i j (alpha_eq_under_in pairs text memory depth) (Same (i + 1) (j + 1))
+      → Answers proposition_coding code i j (alpha_eq_under_in pairs text memory depth) (Ok (Some (i + 1, j + 1)))
   unfolding compared alpha_eq_under_in alpha_eq_under rename_prop is_true is_false encode
   same_leaf fronts low = record { answer = λ names two. go names two.left two.right (dec_lt (get_or code i 0) 1) }
     where
       go : (names : ℕ) (l : Standing proposition_coding names code i) (r : Standing proposition_coding names code j) → Dec (get_or code i 0 < 1)
-          → Same (i + 1) (j + 1) ≡ compared (alpha_eq_under_in pairs text memory depth l.value r.value) (end_of l) (end_of r)
+          → Ok (Some (i + 1, j + 1)) ≡ compared (alpha_eq_under_in pairs text memory depth l.value r.value) (end_of l) (end_of r)
       go names l r (yes h) =
           rw (true_at names code i l.rest l.value l.stands (omega arith), true_at names code j r.rest r.value r.stands (omega arith))
       go names l r (no h) =

@@ -1,18 +1,18 @@
 -- What an answer of the walk tells of the outcome: after a yes the rest decides, and nothing follows a no or a refusal.
+use Rattle.std.specs.Prelude.{Ok, Err, Some, None, is_some}
 use Prim.Native.Nat.{ℕ}
-use mathlib.Core.Path.{◌≡◌, refl}
+use mathlib.Core.Path.{◌≡◌, refl, ap}
 use mathlib.Core.Bool.{Bool, true, false}
+use Rattle.std.specs.Bool.{then_some}
+use Rattle.definitions.specs.declared.Refusal.{Refusal}
 use Rattle.definitions.specs.Outcome.{Outcome, refused, accepted}
 use Rattle.definitions.specs.Comparison.{no, and_also}
-use Rattle.alpha_eq.specs.declared.Compared.{Compared}
-use Rattle.alpha_eq.specs.declared.Compared.TheVariants.{Same, Different, Refused}
-use Rattle.alpha_eq.specs.Comparing.{compared}
+use Rattle.alpha_eq.specs.Comparing.{Compared, compared}
 
 -- the outcome of an answer
 abbrev pub told : Compared → Outcome Bool
-told (Same i j) = accepted true
-told Different = accepted false
-told (Refused r) = refused r
+told (Err r) = refused r
+told (Ok ends) = accepted (is_some ends)
 
 pub told_compared : (outcome : Outcome Bool) (i j : ℕ) → told (compared outcome i j) ≡ outcome
 unfolding compared
@@ -20,20 +20,30 @@ told_compared (refused r) i j = refl
 told_compared (accepted true) i j = refl
 told_compared (accepted false) i j = refl
 
+-- a test with the ends
+pub tested : (same : Bool) (i j : ℕ) → Ok (then_some same (i, j)) ≡ compared (accepted same) i j
+unfolding compared
+tested true i j = refl
+tested false i j = refl
+
 -- an answer that ends the walk
 pub Stops : Compared → Type 0
-Stops r = (i j : ℕ) → r ≡ Same i j → ⊥
+Stops r = (i j : ℕ) → r ≡ Ok (Some (i, j)) → ⊥
 
--- what is no yes does
-pub stops : (r : Compared) → ((i j : ℕ) → r ≡ Same i j → ⊥) → Stops r
+pub no_stops : Stops (Ok None)
 unfolding Stops
-stops r h = h
+no_stops i j e = cc
+
+pub refusal_stops : (r : Refusal) → Stops (Err r)
+unfolding Stops
+refusal_stops r i j e = cc
 
 -- a yes tells the outcome and the ends
-pub yes_ends : (outcome : Outcome Bool) (i j : ℕ) {a b : ℕ} → Same a b ≡ compared outcome i j → (outcome ≡ accepted true) × (a ≡ i) × (b ≡ j)
+pub yes_ends : (outcome : Outcome Bool) (i j : ℕ) {a b : ℕ} → Ok (Some (a, b)) ≡ compared outcome i j → (outcome ≡ accepted true) × (a ≡ i) × (b ≡ j)
 unfolding compared
 yes_ends (refused r) i j e = (cc, cc, cc)
-yes_ends (accepted true) i j e = (refl, cc, cc)
+yes_ends (accepted true) i j {a} {b} e =
+    let both : ◌≡◌ {A = ℕ × ℕ} (a, b) (i, j) = cc in (refl, ap (λ (p : ℕ × ℕ). p.0) both, ap (λ (p : ℕ × ℕ). p.1) both)
 yes_ends (accepted false) i j e = (cc, cc, cc)
 
 -- what is no yes is the answer, whatever would follow

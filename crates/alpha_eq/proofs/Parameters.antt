@@ -1,4 +1,5 @@
 -- Two parameters are compared by their bytes. Of two lists of parameters the first two decide, and after a yes the others do.
+use Rattle.std.specs.Prelude.{Ok, Some, None}
 use Prim.Native.Nat.{ℕ, ◌+◌, ◌-◌, ◌≤◌, ◌<◌}
 use mathlib.Core.Path.{◌≡◌}
 use mathlib.Core.Bool.{Bool, ◌&&◌}
@@ -17,9 +18,7 @@ use Rattle.number.specs.Pairs.{NameWithin}
 use Rattle.identifier.proofs.Within.{last_within}
 use Rattle.prefix_code.specs.Scan.{parameter_coding}
 use Rattle.prefix_code.proofs.Parameters.{ParameterBytes, parameter_bytes, first_parameter, none_stand}
-use Rattle.alpha_eq.specs.declared.Compared.{Compared}
-use Rattle.alpha_eq.specs.declared.Compared.TheVariants.{Same, Different}
-use Rattle.alpha_eq.specs.Comparing.{compared, bound_alike_in, alpha_eq_parameter_in, alpha_eq_parameters_in, several_coding, Standing, end_of, Two, Comparable, Answers}
+use Rattle.alpha_eq.specs.Comparing.{Compared, compared, bound_alike_in, alpha_eq_parameter_in, alpha_eq_parameters_in, several_coding, Standing, end_of, Two, Comparable, Answers}
 use Rattle.alpha_eq.proofs.Outcomes.{Stops, yes_ends, stopped, followed}
 use Rattle.alpha_eq.proofs.Standing.{moved}
 
@@ -45,12 +44,12 @@ names_within {x} {y} asked x-at y-at =
 module _ (pairs text memory : List ℕ) (depth : ℕ) (code : List ℕ) (i j : ℕ) where
   -- of different kinds: no
   pub other_kind : (get_or code i 0 ≡ get_or code j 0 → ⊥)
-      → Answers parameter_coding code i j (alpha_eq_parameter_in pairs text memory depth) Different
+      → Answers parameter_coding code i j (alpha_eq_parameter_in pairs text memory depth) (Ok None)
   unfolding compared alpha_eq_parameter_in alpha_eq_parameter rename_parameter a-no
   other_kind differ = record { answer = λ names two. go names two (dec_lt (get_or code i 0) 1) }
     where
       go : (names : ℕ) (two : Two parameter_coding code i j names) → Dec (get_or code i 0 < 1)
-          → Different ≡ compared (alpha_eq_parameter_in pairs text memory depth two.left.value two.right.value) (end_of two.left) (end_of two.right)
+          → Ok None ≡ compared (alpha_eq_parameter_in pairs text memory depth two.left.value two.right.value) (end_of two.left) (end_of two.right)
       go names two (yes h) =
           let l = parameter_at two.left in
           let r = parameter_at two.right in
@@ -102,6 +101,11 @@ module _ (pairs text memory : List ℕ) (depth : ℕ) where
     pub decides : (r : Compared) → Answers (several_coding needed) code left right (alpha_eq_parameters_in pairs text memory depth) r
         → Answers (several_coding count) code i j (alpha_eq_parameters_in pairs text memory depth) r
 
+  -- at first all are left
+  pub all_left : {code : List ℕ} {i j count : ℕ} → Comparable (several_coding count) code i j pairs text memory depth
+      → Remaining code i j count i j (count - 0)
+  all_left {count} asked = let all : count - 0 ≡ count = omega arith in rw all (record { asked = asked; decides = λ r h. h })
+
   cons_outcome : {ps qs others rest : List (PropParameter ℕ)} {p q : PropParameter ℕ} → ps ≡ p ∷ others → qs ≡ q ∷ rest
       → alpha_eq_parameters_in pairs text memory depth ps qs
       ≡ and_also (alpha_eq_parameter_in pairs text memory depth p q) (alpha_eq_parameters_in pairs text memory depth others rest)
@@ -141,7 +145,7 @@ module _ {pairs text memory : List ℕ} {depth : ℕ} {code : List ℕ} {i j cou
     })
 
     -- after a yes the others are left
-    pub others_left : {a b : ℕ} → Answers parameter_coding code left right (alpha_eq_parameter_in pairs text memory depth) (Same a b)
+    pub others_left : {a b : ℕ} → Answers parameter_coding code left right (alpha_eq_parameter_in pairs text memory depth) (Ok (Some (a, b)))
         → Remaining pairs text memory depth code i j count a b (needed - 1)
     unfolding first_two
     others_left first =
@@ -166,9 +170,9 @@ module _ {pairs text memory : List ℕ} {depth : ℕ} {code : List ℕ} {i j cou
         }
 
   -- where none are left that is a yes
-  pub none_left : needed ≡ 0 → Answers (several_coding count) code i j (alpha_eq_parameters_in pairs text memory depth) (Same left right)
+  pub none_left : needed ≡ 0 → Answers (several_coding count) code i j (alpha_eq_parameters_in pairs text memory depth) (Ok (Some (left, right)))
   unfolding alpha_eq_parameters_in alpha_eq_parameters encode_parameters compared
-  none_left none = held.decides (Same left right) (record {
+  none_left none = held.decides (Ok (Some (left, right))) (record {
     answer = λ names two.
         let left_end : left ≡ left + 0 = omega arith in
         let right_end : right ≡ right + 0 = omega arith in

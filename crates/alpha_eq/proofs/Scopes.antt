@@ -1,4 +1,5 @@
 -- Two propositions of one quantifier: the datatypes decide, and after a yes the bodies do, with the objects bound to each other.
+use Rattle.std.specs.Prelude.{Ok, None}
 use Prim.Native.Nat.{ℕ, ◌+◌, ◌*◌, ◌≤◌}
 use mathlib.Core.Path.{◌≡◌, sym, ◌∙◌}
 use mathlib.Core.Bool.{Bool, true, false}
@@ -15,10 +16,8 @@ use Rattle.definitions.specs.Comparison.{no, and_also, alpha_eq_scope, alpha_eq_
 use Rattle.prefix_code.specs.Scan.{Stands, proposition_coding}
 use Rattle.prefix_code.specs.Head.{encode_head, CodableHead}
 use Rattle.prefix_code.proofs.Heads.{QuantifiedBytes, quantified_bytes}
-use Rattle.alpha_eq.specs.declared.Compared.{Compared}
-use Rattle.alpha_eq.specs.declared.Compared.TheVariants.{Different}
 use Rattle.alpha_eq.specs.Bindings.{bindings_of}
-use Rattle.alpha_eq.specs.Comparing.{compared, alpha_eq_under_in, alpha_eq_scope_in, of_scope, form_coding, Standing, end_of, Two, Answers, WithRoom}
+use Rattle.alpha_eq.specs.Comparing.{Compared, compared, alpha_eq_under_in, alpha_eq_scope_in, of_scope, form_coding, Standing, end_of, Two, Answers, WithRoom}
 use Rattle.alpha_eq.proofs.Bindings.{pushed, bindings_pushed, bound_pushed}
 
 module _ {names : ℕ} {code : List ℕ} {at : ℕ} (s : Standing (form_coding of_scope) names code at) where
@@ -90,7 +89,7 @@ module _ (pairs text memory : List ℕ) (depth : ℕ) (code : List ℕ) (i j : �
       )
 
   -- different datatypes: no
-  pub other_datatype : same ≡ false → Answers (form_coding of_scope) code i j (alpha_eq_scope_in pairs text memory depth) Different
+  pub other_datatype : same ≡ false → Answers (form_coding of_scope) code i j (alpha_eq_scope_in pairs text memory depth) (Ok None)
   unfolding compared and_also no
   other_datatype e = record { answer = λ names two. rw (scope_outcome two, e) }
 

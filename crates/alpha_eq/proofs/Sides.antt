@@ -1,4 +1,5 @@
 -- Two propositions of one connective: the left sides decide, and after a yes the right ones do.
+use Rattle.std.specs.Prelude.{Ok, Some}
 use Prim.Native.Nat.{ℕ, ◌+◌, ◌<◌}
 use mathlib.Core.Path.{◌≡◌, sym, ◌∙◌}
 use mathlib.Core.List.{List, ◌++◌, append_assoc}
@@ -11,10 +12,8 @@ use Rattle.definitions.specs.Code.{encode, Codable}
 use Rattle.definitions.specs.Comparison.{and_also, alpha_eq_sides}
 use Rattle.prefix_code.specs.Scan.{Stands, proposition_coding}
 use Rattle.prefix_code.proofs.Positions.{after, byte_at}
-use Rattle.alpha_eq.specs.declared.Compared.{Compared}
-use Rattle.alpha_eq.specs.declared.Compared.TheVariants.{Same}
 use Rattle.alpha_eq.specs.Bindings.{Kept}
-use Rattle.alpha_eq.specs.Comparing.{alpha_eq_under_in, alpha_eq_sides_in, of_sides, form_coding, Standing, end_of, Two, Answers, WithRoom}
+use Rattle.alpha_eq.specs.Comparing.{Compared, alpha_eq_under_in, alpha_eq_sides_in, of_sides, form_coding, Standing, end_of, Two, Answers, WithRoom}
 use Rattle.alpha_eq.proofs.Outcomes.{Stops, yes_ends, stopped, followed}
 use Rattle.alpha_eq.proofs.Standing.{moved}
 use Rattle.alpha_eq.proofs.Bindings.{bindings_same, bound_kept}
@@ -92,7 +91,7 @@ module _ {pairs text memory : List ℕ} {depth : ℕ} {code : List ℕ} {i j : �
   }
 
   -- and, after a yes, that of the right ones
-  module _ {a b : ℕ} (lefts : Answers proposition_coding code (i + 1) (j + 1) (alpha_eq_under_in pairs text memory depth) (Same a b)) where
+  module _ {a b : ℕ} (lefts : Answers proposition_coding code (i + 1) (j + 1) (alpha_eq_under_in pairs text memory depth) (Ok (Some (a, b)))) where
     pub rights_after : i < a
     rights_after = let at = yes_ends _ _ _ (lefts.answer asked.forms.names (two_lefts asked.forms.two)) in omega arith
 
@@ -122,7 +121,7 @@ module _ (pairs text memory : List ℕ) (depth : ℕ) (code : List ℕ) (i j : �
 
   -- after a yes the right sides decide
   pub rights_decide : {a b : ℕ} {after : List ℕ} {r : Compared}
-      → Answers proposition_coding code (i + 1) (j + 1) (alpha_eq_under_in pairs text memory depth) (Same a b) → Kept depth memory after
+      → Answers proposition_coding code (i + 1) (j + 1) (alpha_eq_under_in pairs text memory depth) (Ok (Some (a, b))) → Kept depth memory after
       → Answers proposition_coding code a b (alpha_eq_under_in pairs text after depth) r
       → Answers (form_coding of_sides) code i j (alpha_eq_sides_in pairs text memory depth) r
   unfolding alpha_eq_under_in

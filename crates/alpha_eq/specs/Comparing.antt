@@ -1,5 +1,5 @@
 -- The comparison of two things whose codes stand at two positions: what it asks, and which outcome of the definitions it answers.
-use Rattle.std.specs.Prelude.{ℕ, ◌+◌, ◌*◌, ◌≤◌, ◌<◌, ◌≡◌, Bool, true, false, List, map, length}
+use Rattle.std.specs.Prelude.{ℕ, ◌+◌, ◌*◌, ◌≤◌, ◌<◌, ◌≡◌, Bool, true, false, List, map, length, Option, Some, None, Result, Ok, Err}
 use Rattle.definitions.specs.Outcome.{Outcome, refused, accepted}
 use Rattle.definitions.specs.Name.{Name}
 use Rattle.definitions.specs.Sheet.{marked, proposition_nesting_limit}
@@ -8,22 +8,23 @@ use Rattle.definitions.specs.Code.{encode, Codable}
 use Rattle.definitions.specs.Comparison.{Binding, bound_alike, alpha_eq_parameter, alpha_eq_parameters, alpha_eq_atom, alpha_eq_sides, alpha_eq_scope, alpha_eq_under, alpha_eq}
 use Rattle.prefix_code.specs.Scan.{Coding, Stands, proposition_coding, parameters_coding}
 use Rattle.identifier.specs.Pairs.{PairsWithin}
-use Rattle.alpha_eq.specs.declared.Answer.{Answer}
-use Rattle.alpha_eq.specs.declared.Compared.{Compared}
-use Rattle.alpha_eq.specs.declared.Compared.TheVariants.{Same, Different, Refused}
+use Rattle.definitions.specs.declared.Refusal.{Refusal}
 use Rattle.alpha_eq.specs.Bindings.{bindings_of, Bound}
 
 -- document 01's outcome of an answer
-unfoldable pub outcome_of : Answer → Outcome Bool
-outcome_of Answer.Yes = accepted true
-outcome_of Answer.No = accepted false
-outcome_of (Answer.Refused r) = refused r
+abbrev pub outcome_of : {A : Type 0} → Result A Refusal → Outcome A
+outcome_of (Err r) = refused r
+outcome_of (Ok a) = accepted a
 
--- an outcome as the walk answers it: a yes with the ends of both codes
+-- what the walk answers: where two codes end that are the same
+abbrev pub Compared : Type 0
+Compared = Result (Option (ℕ × ℕ)) Refusal
+
+-- an outcome as the walk answers it
 unfoldable pub compared : Outcome Bool → ℕ → ℕ → Compared
-compared (refused r) i j = Refused r
-compared (accepted true) i j = Same i j
-compared (accepted false) i j = Different
+compared (refused r) i j = Err r
+compared (accepted true) i j = Ok (Some (i, j))
+compared (accepted false) i j = Ok None
 
 -- The propositions of a form, by their parts.
 abbrev pub of_sides : Sides ℕ → Prop ℕ
@@ -121,6 +122,6 @@ pub record TwoPropositions (code : List ℕ) (i j : ℕ) (pairs text : List ℕ)
   pub shallow : nesting two.left.value ≤ proposition_nesting_limit
 
 -- `r` answers the comparison of whatever two propositions are there
-pub record Decides (code : List ℕ) (i j : ℕ) (name_of : ℕ → Name) (r : Answer) : Type 0 where
+pub record Decides (code : List ℕ) (i j : ℕ) (name_of : ℕ → Name) (r : Result Bool Refusal) : Type 0 where
   pub answer : (names : ℕ) (two : Two proposition_coding code i j names)
       → outcome_of r ≡ alpha_eq (rename_prop name_of two.left.value) (rename_prop name_of two.right.value)

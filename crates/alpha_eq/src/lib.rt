@@ -8,39 +8,15 @@ ghost use Rattle.definitions.specs.Sheet.{marked};
 ghost use Rattle.number.specs.Pairs.{NameWithin};
 ghost use Rattle.prefix_code.specs.Scan.{proposition_coding, parameter_coding};
 ghost use Rattle.alpha_eq.specs.Bindings.{Bound, Kept};
-ghost use Rattle.alpha_eq.specs.Comparing.{outcome_of, compared, of_sides, of_applied, of_scope, form_coding, several_coding, bound_alike_in, alpha_eq_parameter_in, alpha_eq_parameters_in, alpha_eq_atom_in, alpha_eq_under_in, alpha_eq_sides_in, alpha_eq_scope_in, Comparable, Answers, WithRoom, TwoPropositions, Decides};
+ghost use Rattle.alpha_eq.specs.Comparing.{outcome_of, of_sides, of_applied, of_scope, form_coding, several_coding, bound_alike_in, alpha_eq_parameter_in, alpha_eq_parameters_in, alpha_eq_atom_in, alpha_eq_under_in, alpha_eq_sides_in, alpha_eq_scope_in, Comparable, Answers, WithRoom, TwoPropositions, Decides};
 
 use definitions::Refusal;
 use identifier::same_bytes;
 use number::number_at;
 use sheet::Sheet;
 
-// What the walk over two codes answers: a yes with the ends of both, a no, or a refusal.
-#[derive(Drop)]
-pub enum Compared {
-    Same(usize, usize),
-    Different,
-    Refused(Refusal),
-}
-
-// What a comparison answers.
-#[derive(Drop)]
-pub enum Answer {
-    Yes,
-    No,
-    Refused(Refusal),
-}
-
-// A yes with these ends, a no, or the refusal.
-fn with_ends(answer: Answer, i: usize, j: usize) -> Compared
-    ensures { result ≡ compared (outcome_of answer) i j }
-{
-    match answer {
-        Answer::Yes => Compared::Same(i, j),
-        Answer::No => Compared::Different,
-        Answer::Refused(refusal) => Compared::Refused(refusal),
-    }
-}
+// What the walk over two codes answers: where both end if they are the same, nothing if they are not, or a refusal.
+pub type Compared = Result<Option<(usize, usize)>, Refusal>;
 
 // Two uninstantiated parameters, by the latest binding that has either: 19 where there is none.
 fn bound_alike(
@@ -50,29 +26,20 @@ fn bound_alike(
     text: &[u8],
     x: usize,
     y: usize,
-) -> Answer
+) -> Result<bool, Refusal>
     requires bound { Bound pairs.now text.now bindings.now depth }
     requires name_within { NameWithin pairs.now text.now x × NameWithin pairs.now text.now y }
     ensures { outcome_of result
         ≡ bound_alike_in pairs.now text.now bindings.now depth x y }
 {
-    let mut unseen = depth;
-    while 0 < unseen {
-        let latest = 2 * (unseen - 1);
-        let binds_x = same_bytes(pairs, text, bindings[latest] as usize, x);
-        let binds_y = same_bytes(pairs, text, bindings[latest + 1] as usize, y);
-        if binds_x {
-            if binds_y {
-                return Answer::Yes;
-            }
-            return Answer::No;
+    for k in (0..depth).rev() {
+        let binds_x = same_bytes(pairs, text, usize::from(bindings[2 * k]), x);
+        let binds_y = same_bytes(pairs, text, usize::from(bindings[2 * k + 1]), y);
+        if binds_x || binds_y {
+            return Ok(binds_x && binds_y);
         }
-        if binds_y {
-            return Answer::No;
-        }
-        unseen -= 1;
     }
-    Answer::Refused(Refusal::at(19, 0))
+    Err(Refusal::at(19, 0))
 }
 
 // The parameters at i and j.
@@ -91,24 +58,18 @@ fn alpha_eq_parameter(
 {
     let kind = code[i];
     if kind != code[j] {
-        return Compared::Different;
+        return Ok(None);
     }
     let x = number_at(code, i + 1);
     let y = number_at(code, j + 1);
     if kind == 0 {
-        let answer = bound_alike(bindings, depth, pairs, text, x, y);
-        return with_ends(answer, i + 3, j + 3);
+        let same = bound_alike(bindings, depth, pairs, text, x, y)?;
+        return Ok(same.then_some((i + 3, j + 3)));
     }
     let same_object = same_bytes(pairs, text, x, y);
     let id = number_at(code, i + 3);
     let other_id = number_at(code, j + 3);
-    if !same_object {
-        return Compared::Different;
-    }
-    if id != other_id {
-        return Compared::Different;
-    }
-    Compared::Same(i + 5, j + 5)
+    Ok((same_object && id == other_id).then_some((i + 5, j + 5)))
 }
 
 // So many parameters from i and from j on.
@@ -128,17 +89,15 @@ fn alpha_eq_parameters(
 {
     let mut left = i;
     let mut right = j;
-    let mut needed = count;
-    while 0 < needed {
-        let next = alpha_eq_parameter(code, left, right, pairs, text, bindings, depth);
-        let Compared::Same(left_end, right_end) = next else {
-            return next;
+    for _ in 0..count {
+        let next = alpha_eq_parameter(code, left, right, pairs, text, bindings, depth)?;
+        let Some((left_end, right_end)) = next else {
+            return Ok(None);
         };
         left = left_end;
         right = right_end;
-        needed -= 1;
     }
-    Compared::Same(left, right)
+    Ok(Some((left, right)))
 }
 
 // The atoms at i and j: names, then parameter counts, then parameters.
@@ -161,16 +120,16 @@ fn alpha_eq_atom(
     let count = code[i + 3];
     let other_count = code[j + 3];
     if !same_atom {
-        return Compared::Different;
+        return Ok(None);
     }
     if count != other_count {
-        return Compared::Different;
+        return Ok(None);
     }
     alpha_eq_parameters(
         code,
         i + 4,
         j + 4,
-        count as usize,
+        usize::from(count),
         pairs,
         text,
         bindings,
@@ -195,9 +154,9 @@ fn alpha_eq_sides(
         (alpha_eq_sides_in pairs.now text.now bindings.old depth) result }
     ensures kept { Kept depth bindings.old bindings.new }
 {
-    let left = alpha_eq_under(code, i + 1, j + 1, pairs, text, bindings, depth);
-    let Compared::Same(i_end, j_end) = left else {
-        return left;
+    let left = alpha_eq_under(code, i + 1, j + 1, pairs, text, bindings, depth)?;
+    let Some((i_end, j_end)) = left else {
+        return Ok(None);
     };
     alpha_eq_under(code, i_end, j_end, pairs, text, bindings, depth)
 }
@@ -222,7 +181,7 @@ fn alpha_eq_scope(
     let t = number_at(code, i + 3);
     let u = number_at(code, j + 3);
     if !same_bytes(pairs, text, t, u) {
-        return Compared::Different;
+        return Ok(None);
     }
     bindings[2 * depth] = number_at(code, i + 1) as u16;
     bindings[2 * depth + 1] = number_at(code, j + 1) as u16;
@@ -248,10 +207,10 @@ pub fn alpha_eq_under(
 {
     let head = code[i];
     if head != code[j] {
-        return Compared::Different;
+        return Ok(None);
     }
     if head < 2 {
-        return Compared::Same(i + 1, j + 1);
+        return Ok(Some((i + 1, j + 1)));
     }
     if head < 5 {
         return alpha_eq_sides(code, i, j, pairs, text, bindings, depth);
@@ -266,15 +225,11 @@ pub fn alpha_eq_under(
 const BINDINGS: usize = 2 * Sheet::PROPOSITION_NESTING_LIMIT;
 
 // Are the propositions at i and j the same up to the names of their bound objects?
-pub fn alpha_eq(code: &[u8], i: usize, j: usize, pairs: &[u8], text: &[u8]) -> Answer
+pub fn alpha_eq(code: &[u8], i: usize, j: usize, pairs: &[u8], text: &[u8]) -> Result<bool, Refusal>
     requires { TwoPropositions code.now i j pairs.now text.now }
     ensures { Decides code.now i j (marked pairs.now text.now) result }
 {
     let mut bindings = [0u16; BINDINGS];
-    let compared = alpha_eq_under(code, i, j, pairs, text, &mut bindings, 0);
-    match compared {
-        Compared::Same(_, _) => Answer::Yes,
-        Compared::Different => Answer::No,
-        Compared::Refused(refusal) => Answer::Refused(refusal),
-    }
+    let ends = alpha_eq_under(code, i, j, pairs, text, &mut bindings, 0)?;
+    Ok(ends.is_some())
 }

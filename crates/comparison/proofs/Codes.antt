@@ -4,6 +4,8 @@ use mathlib.Core.Path.{◌≡◌}
 use mathlib.Core.List.{List}
 use native.Mathlib.Omega.{arith}
 use lib.ListN.{length}
+use Rattle.std.specs.Prelude.{Bool, Result}
+use Rattle.definitions.specs.declared.Refusal.{Refusal}
 use Rattle.definitions.specs.Sheet.{pair_size, step_size, pair_offset, marked, names, propositions, steps, name_pairs, text_bytes, proposition_pairs, step_records, code_bytes, name_of}
 use Rattle.definitions.specs.Tree.{prop_of}
 use Rattle.definitions.specs.Admission.{bad_code}
@@ -15,7 +17,6 @@ use Rattle.steps.specs.Records.{HasStep}
 use Rattle.sheet.specs.declared.header.Sheet.{Sheet}
 use Rattle.sheet.specs.Header.{header_of}
 use Rattle.sheet.proofs.Admitted.{AcceptedSheet, code_of_bytes, has_codes, has_steps, names_within}
-use Rattle.alpha_eq.specs.declared.Answer.{Answer}
 use Rattle.alpha_eq.specs.Comparing.{Standing, Two, TwoPropositions, outcome_of, Decides}
 use Rattle.comparison.specs.Conclusions.{named_prop}
 
@@ -62,7 +63,7 @@ module _ {s : List ℕ} {h : Sheet} (a : AcceptedSheet s h) where
             shallow = a.sheet.shallow_proposition p left;
           }
 
-      pub two_decided : {r : Answer}
+      pub two_decided : {r : Result Bool Refusal}
           → Decides (code_bytes s) (pair_offset (proposition_pairs s) p) (pair_offset (proposition_pairs s) q) (marked (name_pairs s) (text_bytes s)) r
           → outcome_of r ≡ alpha_eq (named_prop s p) (named_prop s q)
       unfolding named_prop name_of two proposition_stands

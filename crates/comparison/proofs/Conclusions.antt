@@ -1,9 +1,9 @@
 -- A step's conclusion by numbers stands for its conclusion, and lies within an accepted sheet; two are compared by their kinds.
 use Prim.Native.Nat.{ℕ, ◌<◌}
-use mathlib.Core.Path.{◌≡◌, ap}
-use mathlib.Core.Bool.{Bool, true, false, ◌&&◌}
+use mathlib.Core.Path.{◌≡◌, refl, ap}
+use mathlib.Core.Bool.{Bool, ◌&&◌}
 use mathlib.Core.List.{List}
-use borrow.Author.Tests.{eq-eqb, ne_eqb}
+use lib.Dec.{eqb}
 use Rattle.definitions.specs.Outcome.{Outcome, accepted}
 use Rattle.definitions.specs.Name.{eq_name}
 use Rattle.definitions.specs.Sheet.{names, steps, proposition_pairs, code_bytes, step_records, name_of}
@@ -27,21 +27,12 @@ concluded_step s k =
 pub conclusion_in : {s : List ℕ} → Admitted s → (k : ℕ) → k < steps s → ConclusionIn s (step_at (step_records s) k).conclusion
 conclusion_in a k below = known_conclusion _ _ _ k (a.good_step k below)
 
--- two type judgements
-module _ (s : List ℕ) (x y : Judgement) where
-  pub other_object : eq_name (name_of s x.name) (name_of s y.name) ≡ false → false ≡ judgement_eq s x y
-  unfolding judgement_eq eq_identifier named_object rename_identifier object_of
-  other_object e = rw e
-
-  module _ (object : eq_name (name_of s x.name) (name_of s y.name) ≡ true) where
-    pub other_id : (x.unique_id ≡ y.unique_id → ⊥) → false ≡ judgement_eq s x y
-    unfolding judgement_eq eq_identifier named_object rename_identifier object_of
-    other_id apart = rw (object, ne_eqb x.unique_id y.unique_id apart)
-
-    pub by_datatype : x.unique_id ≡ y.unique_id → {b : Bool} → eq_name (name_of s x.datatype) (name_of s y.datatype) ≡ b
-        → b ≡ judgement_eq s x y
-    unfolding judgement_eq eq_identifier named_object rename_identifier object_of
-    by_datatype id e = rw (object, eq-eqb x.unique_id y.unique_id id, e)
+-- two type judgements, by their parts
+pub by_parts : (s : List ℕ) (x y : Judgement)
+    → judgement_eq s x y
+    ≡ (eq_name (name_of s x.name) (name_of s y.name) && eqb x.unique_id y.unique_id) && eq_name (name_of s x.datatype) (name_of s y.datatype)
+unfolding judgement_eq eq_identifier named_object rename_identifier object_of
+by_parts s x y = refl
 
 -- two conclusions, by their kinds
 module _ (s : List ℕ) {left right : Conclusion} {o : Outcome Bool} where

@@ -3,7 +3,6 @@
 #![tactic(auto)]
 
 ghost use Rattle.std.specs.Prelude.{◌≡◌, ◌<◌};
-ghost use Rattle.definitions.specs.Outcome.{accepted};
 ghost use Rattle.definitions.specs.Name.{eq_name};
 ghost use Rattle.definitions.specs.Sheet.{names, propositions, name_of};
 ghost use Rattle.definitions.specs.Comparison.{alpha_eq};
@@ -12,7 +11,6 @@ ghost use Rattle.alpha_eq.specs.Comparing.{outcome_of};
 ghost use Rattle.sheet.proofs.Admitted.{AcceptedSheet};
 ghost use Rattle.comparison.specs.Conclusions.{named_prop, JudgementIn, ConclusionIn, judgement_eq, conclusion_comparison};
 
-use alpha_eq::Answer;
 use definitions::Refusal;
 use identifier::same_bytes;
 use number::pair_offset;
@@ -29,25 +27,17 @@ fn same_named(s: &[u8], h: Sheet, a: u16, b: u16) -> bool
 }
 
 // Two type judgements: the names of the objects, their ids, the names of the datatypes.
-fn compare_judgements(s: &[u8], h: Sheet, x: Judgement, y: Judgement) -> Answer
+fn same_judgement(s: &[u8], h: Sheet, x: Judgement, y: Judgement) -> bool
     requires accepted_sheet { AcceptedSheet s.now h }
     requires judgement_in { JudgementIn s.now x × JudgementIn s.now y }
-    ensures { outcome_of result ≡ accepted (judgement_eq s.now x y) }
+    ensures { result ≡ judgement_eq s.now x y }
 {
-    if !same_named(s, h, x.name, y.name) {
-        return Answer::No;
-    }
-    if x.unique_id != y.unique_id {
-        return Answer::No;
-    }
-    if !same_named(s, h, x.datatype, y.datatype) {
-        return Answer::No;
-    }
-    Answer::Yes
+    let same_object = same_named(s, h, x.name, y.name) && x.unique_id == y.unique_id;
+    same_object && same_named(s, h, x.datatype, y.datatype)
 }
 
 // Two propositions, by their numbers.
-fn compare_propositions(s: &[u8], h: Sheet, p: u16, q: u16) -> Answer
+fn compare_propositions(s: &[u8], h: Sheet, p: u16, q: u16) -> Result<bool, Refusal>
     requires accepted_sheet { AcceptedSheet s.now h }
     requires p_bound { (p < propositions s.now) × (q < propositions s.now) }
     ensures { outcome_of result ≡ alpha_eq (named_prop s.now p) (named_prop s.now q) }
@@ -59,34 +49,32 @@ fn compare_propositions(s: &[u8], h: Sheet, p: u16, q: u16) -> Answer
 }
 
 // Two conclusions, be they those of steps or not: a proposition and a type judgement are a no.
-pub fn compare_conclusions(s: &[u8], h: Sheet, left: Conclusion, right: Conclusion) -> Answer
+pub fn compare_conclusions(
+    s: &[u8],
+    h: Sheet,
+    left: Conclusion,
+    right: Conclusion,
+) -> Result<bool, Refusal>
     requires accepted_sheet { AcceptedSheet s.now h }
     requires conclusion_in { ConclusionIn s.now left × ConclusionIn s.now right }
     ensures { outcome_of result ≡ conclusion_comparison s.now left right }
 {
-    match left {
-        Conclusion::PropIsTrue(p) => {
-            let Conclusion::PropIsTrue(q) = right else {
-                return Answer::No;
-            };
-            return compare_propositions(s, h, p, q);
+    match (left, right) {
+        (Conclusion::PropIsTrue(p), Conclusion::PropIsTrue(q)) => compare_propositions(s, h, p, q),
+        (Conclusion::TypeJudgement(x), Conclusion::TypeJudgement(y)) => {
+            Ok(same_judgement(s, h, x, y))
         }
-        Conclusion::TypeJudgement(x) => {
-            let Conclusion::TypeJudgement(y) = right else {
-                return Answer::No;
-            };
-            return compare_judgements(s, h, x, y);
-        }
+        _ => Ok(false),
     }
 }
 
 // Two steps of a sheet: 17 where it has no such step.
-fn compare_steps(s: &[u8], h: Sheet, i: usize, j: usize) -> Answer
+fn compare_steps(s: &[u8], h: Sheet, i: usize, j: usize) -> Result<bool, Refusal>
     requires { AcceptedSheet s.now h }
     ensures { outcome_of result ≡ comparison s.now i j }
 {
     if h.steps <= i || h.steps <= j {
-        return Answer::Refused(Refusal::at(17, 0));
+        return Err(Refusal::at(17, 0));
     }
     let records = step_records(s, h);
     let left = step_at(records, i).conclusion;
@@ -95,12 +83,9 @@ fn compare_steps(s: &[u8], h: Sheet, i: usize, j: usize) -> Answer
 }
 
 // The comparison of two steps' conclusions, for any bytes.
-pub fn compare(s: &[u8], i: usize, j: usize) -> Answer
+pub fn compare(s: &[u8], i: usize, j: usize) -> Result<bool, Refusal>
     ensures { outcome_of result ≡ comparison s.now i j }
 {
-    let checked = sheet::answer(s);
-    match checked {
-        Err(refusal) => Answer::Refused(refusal),
-        Ok(h) => compare_steps(s, h, i, j),
-    }
+    let h = sheet::answer(s)?;
+    compare_steps(s, h, i, j)
 }

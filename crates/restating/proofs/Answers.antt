@@ -7,7 +7,7 @@ use lib.ListN.{length, take, drop}
 use lib.Seq.{take_at}
 use Rattle.definitions.specs.declared.Refusal.{Refusal}
 use Rattle.definitions.specs.Outcome.{Outcome, refused, accepted, ◌>>=◌}
-use Rattle.definitions.specs.Sheet.{name_limit, names}
+use Rattle.definitions.specs.Sheet.{name_limit}
 use Rattle.definitions.specs.Admission.{admitted}
 use Rattle.definitions.specs.NameIndex.{index, index_of}
 use Rattle.definitions.specs.Restate.{Given, restated, restate_answer}

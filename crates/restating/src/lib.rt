@@ -22,7 +22,6 @@ ghost use Rattle.alpha_eq.specs.Comparing.{outcome_of};
 ghost use Rattle.restating.specs.Step.{given_of, header_numbers, sheet_with, root_compared, judged};
 ghost use Rattle.restating.specs.Slots.{slots_after};
 
-use alpha_eq::Answer;
 use comparison::compare_conclusions;
 use definitions::Refusal;
 use name_index::{SLOT_COUNT, build};
@@ -79,16 +78,12 @@ fn put_sheet(out: &mut [u8], s: &[u8], h: Sheet, step: &[u8], write: bool) -> us
     ensures { Wrote (sheet_with s.now step.now) write out.old 0 out.new result }
 {
     let new = Sheet {
-        text_length: h.text_length,
-        names: h.names,
-        code_length: h.code_length,
-        propositions: h.propositions,
         steps: h.steps + 1,
-        goal: h.goal,
+        ..h
     };
     let text = h.layout().text;
     let pairs_and_steps = &s[Sheet::HEADER_SIZE..text];
-    let text_and_code = &s[text..s.len()];
+    let text_and_code = &s[text..];
     let after_header = put_header(out, new, write);
     let after_steps = put_all(out, after_header, pairs_and_steps, write);
     let after_step = put_all(out, after_steps, step, write);
@@ -116,7 +111,7 @@ fn no_step_left(s: &[u8], h: Sheet, sizes: &[u16; Sheet::STEP_LIMIT]) -> bool
 }
 
 // The root's conclusion and that of one more step.
-fn compare_root(s: &[u8], h: Sheet, step: &[u8]) -> Answer
+fn compare_root(s: &[u8], h: Sheet, step: &[u8]) -> Result<bool, Refusal>
     requires accepted_sheet { AcceptedSheet s.now h × HasStep step.now 0 }
     requires step_value { bad_step (names s.now) (propositions s.now) step.now 0 ≡ false }
     ensures { outcome_of result ≡ root_compared s.now step.now }
@@ -127,16 +122,16 @@ fn compare_root(s: &[u8], h: Sheet, step: &[u8]) -> Answer
 }
 
 // 23, 24, and then whether the root's conclusion equals that of one more step.
-fn judge(s: &[u8], h: Sheet, sizes: &[u16; Sheet::STEP_LIMIT], step: &[u8]) -> Answer
+fn judge(s: &[u8], h: Sheet, sizes: &[u16; Sheet::STEP_LIMIT], step: &[u8]) -> Result<bool, Refusal>
     requires accepted_sheet { AcceptedSheet s.now h × HasStep step.now 0 }
     requires size_table { SizeTable (step_records s.now) (steps s.now) sizes.now }
     ensures { outcome_of result ≡ judged s.now step.now }
 {
     if bad_step(step, 0, h.names, h.propositions) {
-        return Answer::Refused(Refusal::at(23, 0));
+        return Err(Refusal::at(23, 0));
     }
     if no_step_left(s, h, sizes) {
-        return Answer::Refused(Refusal::at(24, 0));
+        return Err(Refusal::at(24, 0));
     }
     compare_root(s, h, step)
 }
@@ -170,18 +165,11 @@ fn restate_accepted(
 {
     let mut step = [0u8; Sheet::STEP_SIZE];
     put_record(&mut step, given);
-    let answer = judge(s, h, sizes, &step);
-    match answer {
-        Answer::Refused(refusal) => {
-            return Err(refusal);
-        }
-        Answer::No => {
-            return Err(Refusal::at(25, 0));
-        }
-        Answer::Yes => {
-            return write_sheet(s, h, &step, out);
-        }
+    let same = judge(s, h, sizes, &step)?;
+    if !same {
+        return Err(Refusal::at(25, 0));
     }
+    write_sheet(s, h, &step, out)
 }
 
 // The same, with the index of the new sheet's names, which are the old ones.
@@ -200,16 +188,9 @@ fn restate_indexed(
     ensures slots_after { slots.new ≡ slots_after
         (restate_answer s.now (given_of given) (length out.old)) slots.old }
 {
-    let written = restate_accepted(s, h, sizes, given, out);
-    match written {
-        Err(refusal) => {
-            return Err(refusal);
-        }
-        Ok(length) => {
-            build(slots, s, vocabulary(h));
-            return Ok(length);
-        }
-    }
+    let length = restate_accepted(s, h, sizes, given, out)?;
+    build(slots, s, vocabulary(h));
+    Ok(length)
 }
 
 // The old sheet with one more step, AlphaEquivalent over the old root. The slots are the index of the new sheet's names, or what
@@ -228,13 +209,6 @@ pub fn restate(
         → Restates s.now (given_of given) (take n out.new) }
 {
     let mut sizes = [0u16; Sheet::STEP_LIMIT];
-    let checked = check(s, &mut sizes);
-    match checked {
-        Err(refusal) => {
-            return Err(refusal);
-        }
-        Ok(h) => {
-            return restate_indexed(s, h, &sizes, given, slots, out);
-        }
-    }
+    let h = check(s, &mut sizes)?;
+    restate_indexed(s, h, &sizes, given, slots, out)
 }

@@ -2,17 +2,12 @@
 -- calls follow each other, the second finds the bindings as the first found them.
 use Prim.Native.Nat.{ℕ, ◌+◌, ◌*◌, ◌≤◌}
 use mathlib.Core.Path.{◌≡◌, ◌∙◌}
-use mathlib.Core.Bool.{Bool}
-use mathlib.Core.List.{List}
 use native.Mathlib.Omega.{arith}
 use lib.ListN.{length, length-set}
-use Rattle.definitions.specs.Outcome.{Outcome}
-use Rattle.definitions.specs.Prop.{Prop}
-use Rattle.prefix_code.specs.Scan.{proposition_coding}
+use Rattle.std.proofs.Common.{rules}
 use Rattle.identifier.proofs.Within.{last_within}
-use Rattle.alpha_eq.specs.declared.Compared.{Compared}
-use Rattle.alpha_eq.specs.Comparing.{Answers, of_sides, of_applied, of_scope}
-use Rattle.alpha_eq.proofs.Outcomes.{stops}
+use Rattle.alpha_eq.specs.Comparing.{of_sides, of_applied, of_scope}
+use Rattle.alpha_eq.proofs.Outcomes.{no_stops, refusal_stops}
 use Rattle.alpha_eq.proofs.Bindings.{kept_all, kept_fewer, kept_trans, kept_pushed}
 use Rattle.alpha_eq.proofs.Forms.{inside, other_front, same_leaf, same_connective, same_atom, same_quantifier}
 use Rattle.alpha_eq.proofs.Forms.{forms_asked, by_form, sides_under, atom_under, scope_under}
@@ -20,11 +15,6 @@ use Rattle.alpha_eq.proofs.Sides.{sides_inside, lefts_asked, lefts_stop, rights_
 use Rattle.alpha_eq.proofs.Scopes.{scope_at, other_datatype, room_here, bodies_decide, bodies_asked}
 use Rattle.alpha_eq.proofs.+alpha_eq_scope_alpha_eq_sides_alpha_eq_under.Goals as goal
 use Rattle.alpha_eq.proofs.+alpha_eq_scope_alpha_eq_sides_alpha_eq_under.Goals.{alpha_eq_scope-After-same_bytes}
-
--- an answer by what it equals
-answer_as : {code : List ℕ} {i j : ℕ} {outcome : Prop ℕ → Prop ℕ → Outcome Bool} {r q : Compared}
-    → r ≡ q → Answers proposition_coding code i j outcome r → Answers proposition_coding code i j outcome q
-answer_as e h = rw e at h
 
 -- `alpha_eq_scope` by its places: room for the binding of the two objects
 room : (t : ℕ) → (c : alpha_eq_scope-After-same_bytes t) → let s = c.args in
@@ -127,26 +117,30 @@ pub alpha_eq_scope-shape_of-bindings : goal.alpha_eq_scope-shape_of-bindings
 alpha_eq_scope-shape_of-bindings t c = c.alpha_eq_under.auto.bindings ∙ simp length-set
 
 -- `alpha_eq_sides` by its places
+pub alpha_eq_sides-returns-in_err-left-clause-answers : goal.alpha_eq_sides-returns-in_err-left-clause-answers
+alpha_eq_sides-returns-in_err-left-clause-answers t c =
+    let passed : c.from_residual.result ≡ c.alpha_eq_under.result = search rules in
+    rw passed (lefts_stop _ _ _ _ _ _ _ c.requires.i_value c.alpha_eq_under.ensures.answers (rw c.in_err-left.was (refusal_stops _)))
+
 pub alpha_eq_sides-returns-in_default : goal.alpha_eq_sides-returns-in_default
 alpha_eq_sides-returns-in_default t c =
-    let left = c.alpha_eq_under-left.ensures in
     record {
-      answers = lefts_stop _ _ _ _ _ _ _ c.requires.i_value left.answers (stops _ c.in_default.not-Same);
-      kept = left.kept;
+      answers = lefts_stop _ _ _ _ _ _ _ c.requires.i_value (rw c.in_default.is at c.in_ok-left.ensures.answers) no_stops;
+      kept = c.alpha_eq_under.ensures.kept;
     }
 
-pub alpha_eq_sides-alpha_eq_under-requires : goal.alpha_eq_sides-alpha_eq_under-requires
-alpha_eq_sides-alpha_eq_under-requires t c =
-    let yes = answer_as c.in-Same.is c.alpha_eq_under-left.ensures.answers in (
+pub alpha_eq_sides-alpha_eq_under-requires-2 : goal.alpha_eq_sides-alpha_eq_under-requires-2
+alpha_eq_sides-alpha_eq_under-requires-2 t c =
+    let yes = rw c.in-Some.is at c.in_ok-left.ensures.answers in (
       omega (arith, c.decreases, sides_inside c.requires.with_room, rights_after c.requires.with_room yes),
-      rights_asked c.requires.with_room yes c.alpha_eq_under-left.ensures.kept c.alpha_eq_under-left.auto.bindings,
+      rights_asked c.requires.with_room yes c.alpha_eq_under.ensures.kept c.alpha_eq_under.auto.bindings,
     )
 
 pub alpha_eq_sides-returns : goal.alpha_eq_sides-returns
 alpha_eq_sides-returns t c =
-    let left = c.alpha_eq_under-left.ensures in
-    let right = c.alpha_eq_under.ensures in
-    let yes = answer_as c.in-Same.is left.answers in record {
+    let left = c.alpha_eq_under.ensures in
+    let right = c.alpha_eq_under-2.ensures in
+    let yes = rw c.in-Some.is at c.in_ok-left.ensures.answers in record {
       answers = rights_decide _ _ _ _ _ _ _ c.requires.i_value yes left.kept right.answers;
       kept = kept_trans left.kept right.kept;
     }
@@ -157,8 +151,8 @@ alpha_eq_sides-overflow_add-i t c = omega (arith, sides_inside c.requires.with_r
 pub alpha_eq_sides-overflow_add-j : goal.alpha_eq_sides-overflow_add-j
 alpha_eq_sides-overflow_add-j t c = omega (arith, sides_inside c.requires.with_room)
 
-pub alpha_eq_sides-alpha_eq_under-left-requires : goal.alpha_eq_sides-alpha_eq_under-left-requires
-alpha_eq_sides-alpha_eq_under-left-requires t c = (omega (arith, c.decreases, sides_inside c.requires.with_room), lefts_asked c.requires.with_room)
+pub alpha_eq_sides-alpha_eq_under-requires : goal.alpha_eq_sides-alpha_eq_under-requires
+alpha_eq_sides-alpha_eq_under-requires t c = (omega (arith, c.decreases, sides_inside c.requires.with_room), lefts_asked c.requires.with_room)
 
 -- `alpha_eq_under` by its places
 pub alpha_eq_under-alpha_eq_sides-requires : goal.alpha_eq_under-alpha_eq_sides-requires

@@ -1,5 +1,4 @@
 -- The numbers that are read are those of the two atoms, so that each return is one case of their comparison.
-use Prim.Native.Nat.{◌+◌}
 use native.Mathlib.Omega.{arith}
 use Rattle.identifier.proofs.Within.{last_within}
 use Rattle.alpha_eq.proofs.Atoms.{atom_at, two_lists, other_name, other_count, by_parameters}
@@ -25,12 +24,13 @@ returns-then-count-other_count c =
 pub alpha_eq_parameters-requires : goal.alpha_eq_parameters-requires
 alpha_eq_parameters-requires c =
     let s = c.requires in
-    record { names = s.names; named = s.named; two = two_lists c.if-count-other_count.false s.two; bound = s.bound }
+    rw c.from.ensures (record { names = s.names; named = s.named; two = two_lists c.if-count-other_count.false s.two; bound = s.bound })
 
 pub returns : goal.returns
 returns c =
     by_parameters _ _ _ _ _ _ _ c.number_at-a.ensures.0 c.number_at-b.ensures.0
-    c.same_bytes-same_atom.ensures c.if-not-same_atom.false c.if-count-other_count.false c.alpha_eq_parameters.ensures
+    c.same_bytes-same_atom.ensures c.if-not-same_atom.false c.if-count-other_count.false
+    (rw c.from.ensures at c.alpha_eq_parameters.ensures)
 
 pub overflow_add-i : goal.overflow_add-i
 overflow_add-i c = omega (arith, atom_at c.requires.two.left)
@@ -61,6 +61,3 @@ overflow_add-i-2 c = omega (arith, atom_at c.requires.two.left)
 
 pub overflow_add-j-2 : goal.overflow_add-j-2
 overflow_add-j-2 c = omega (arith, atom_at c.requires.two.right)
-
-pub overflow_cast-count : goal.overflow_cast-count
-overflow_cast-count c = omega (arith, c.type_inv.code (c.args.i + 3))

@@ -1,24 +1,32 @@
--- The invariant: the parameters that are left decide the comparison. The measure is their count.
+-- The first two of the parameters that are left decide, and after a yes the others do.
+use Prim.Native.Nat.{◌+◌, ◌-◌}
+use mathlib.Core.Path.{◌≡◌}
 use native.Mathlib.Omega.{arith}
-use Rattle.alpha_eq.proofs.Outcomes.{stops}
-use Rattle.alpha_eq.proofs.Parameters.{first_asked, first_stops, others_left, none_left}
+use Rattle.std.proofs.Common.{rules}
+use Rattle.alpha_eq.proofs.Outcomes.{no_stops, refusal_stops}
+use Rattle.alpha_eq.proofs.Parameters.{all_left, first_asked, first_stops, others_left, none_left}
 use Rattle.alpha_eq.proofs.alpha_eq_parameters.Goals as goal
+
+pub loop-init : goal.loop-init
+loop-init c = all_left _ _ _ _ c.requires
+
+pub alpha_eq_parameter-requires : goal.alpha_eq_parameter-requires
+alpha_eq_parameter-requires c = first_asked c.loop.invariant (omega (arith, c.loop-test.true))
+
+pub returns-in_err-next : goal.returns-in_err-next
+returns-in_err-next c =
+    let passed : c.from_residual.result ≡ c.alpha_eq_parameter.result = search rules in
+    rw passed
+    (first_stops c.loop.invariant (omega (arith, c.loop-test.true)) c.alpha_eq_parameter.ensures (rw c.in_err-next.was (refusal_stops _)))
 
 pub returns-in_default : goal.returns-in_default
 returns-in_default c =
-    first_stops c.loop-needed.invariant c.loop-needed-test.true c.alpha_eq_parameter-next.ensures
-    (stops _ c.in_default.not-Same)
+    first_stops c.loop.invariant (omega (arith, c.loop-test.true)) (rw c.in_default.is at c.in_ok-next.ensures) no_stops
 
-pub loop-needed-preserved : goal.loop-needed-preserved
-loop-needed-preserved c =
-    others_left c.loop-needed.invariant c.loop-needed-test.true
-    (rw c.in-Same.is at c.alpha_eq_parameter-next.ensures)
-
-pub loop-needed-init : goal.loop-needed-init
-loop-needed-init c = record { asked = c.requires; decides = λ r h. h }
-
-pub alpha_eq_parameter-next-requires : goal.alpha_eq_parameter-next-requires
-alpha_eq_parameter-next-requires c = first_asked c.loop-needed.invariant c.loop-needed-test.true
+pub loop-preserved : goal.loop-preserved
+loop-preserved c =
+    let others : c.args.count - (c.loop.counter + 1) ≡ c.args.count - c.loop.counter - 1 = omega arith in
+    rw others (others_left c.loop.invariant (omega (arith, c.loop-test.true)) (rw c.in-Some.is at c.in_ok-next.ensures))
 
 pub returns : goal.returns
-returns c = none_left c.loop-needed.invariant (omega arith)
+returns c = none_left c.loop.invariant (omega (arith, c.loop-test.false))

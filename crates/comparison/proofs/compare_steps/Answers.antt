@@ -1,11 +1,8 @@
 -- 17 is tested for both numbers; then the two conclusions decide.
 use Prim.Native.Nat.{◌<◌}
 use mathlib.Core.Logic.{inl, inr, ⊎_elim}
-use borrow.Author.Rules.{rules}
-use borrow.Author.Tests.{leb-true, leb-false}
 use Rattle.definitions.specs.Outcome.{refuse}
 use Rattle.definitions.specs.Sheet.{steps}
-use Rattle.alpha_eq.specs.Comparing.{outcome_of}
 use Rattle.sheet.proofs.Admitted.{AcceptedSheet, its_header}
 use Rattle.comparison.proofs.Codes.{has_step, has_no_step, step_there}
 use Rattle.comparison.proofs.Conclusions.{conclusion_in}
@@ -29,7 +26,7 @@ both c =
     }
 
 pub returns-then-h-i : goal.returns-then-h-i
-unfolding outcome_of refuse
+unfolding refuse
 returns-then-h-i c =
     let sheet = c.requires in
     rw c.at.ensures

@@ -1,7 +1,6 @@
 -- The conclusions of the last step and of one more.
 use Rattle.sheet.proofs.Admitted.{its_header}
 use Rattle.restating.proofs.Tests.{some_step, last_step, root_in, step_in, compared}
-use borrow.Author.Rules.{rules}
 use Rattle.restating.proofs.compare_root.Goals as goal
 
 pub step_records-requires : goal.step_records-requires

@@ -1,18 +1,16 @@
 -- The tests in their order.
 use mathlib.Core.Path.{sym, ◌∙◌}
-use borrow.Author.Rules.{rules}
 use Rattle.definitions.specs.Outcome.{refuse}
-use Rattle.alpha_eq.specs.Comparing.{outcome_of}
 use Rattle.restating.proofs.Tests.{bad_known, judged_bad, judged_full, judged_compared}
 use Rattle.restating.proofs.judge.Goals as goal
 
 pub returns-then-bad_step : goal.returns-then-bad_step
-unfolding outcome_of refuse
+unfolding refuse
 returns-then-bad_step c =
     rw c.at.ensures (judged_bad _ _ (sym (bad_known c.requires.accepted_sheet.0 _ c.bad_step.ensures) ∙ c.if-bad_step.true))
 
 pub returns-then-no_step_left : goal.returns-then-no_step_left
-unfolding outcome_of refuse
+unfolding refuse
 returns-then-no_step_left c =
     rw c.at-then-no_step_left.ensures
     (judged_full _ _ (sym (bad_known c.requires.accepted_sheet.0 _ c.bad_step.ensures) ∙ c.if-bad_step.false)

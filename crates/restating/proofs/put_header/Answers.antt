@@ -1,6 +1,5 @@
 -- The numbers of the header lie in their ranges, so they fit two bytes each.
 use native.Mathlib.Omega.{arith}
-use borrow.Author.Rules.{rules}
 use Rattle.definitions.specs.Sheet.{text_limit, name_limit, code_limit, proposition_limit, step_limit}
 use Rattle.restating.specs.Step.{header_numbers}
 use Rattle.restating.proofs.put_header.Goals as goal

@@ -1,5 +1,4 @@
 -- The rule's bytes and then the given numbers fill the record.
-use borrow.Author.Rules.{rules}
 use Rattle.output.proofs.Writing.{then}
 use Rattle.restating.proofs.Bytes.{record_filled}
 use Rattle.restating.proofs.put_record.Goals as goal

@@ -1,6 +1,5 @@
 -- The header, what stands before the text, the step and the rest are written one after another.
 use native.Mathlib.Omega.{arith}
-use borrow.Author.Rules.{rules}
 use Rattle.definitions.specs.Sheet.{header_size, step_limit}
 use Rattle.sheet.proofs.Admitted.{its_header}
 use Rattle.output.proofs.Writing.{then}

@@ -4,11 +4,10 @@ use Rattle.sheet.proofs.Admitted.{its_header}
 use Rattle.restating.proofs.Answers.{told, vocabulary-within, few_names, built, slots_kept, slots-built}
 use Rattle.restating.proofs.restate_indexed.Goals as goal
 
-pub returns-in-Err : goal.returns-in-Err
-returns-in-Err c =
-    let is = c.in-Err.is in
-    let answer = c.restate_accepted-written.ensures in
-    record { fills = told answer is; slots_after = slots_kept _ _ _ answer is _ }
+pub returns-in_err-length : goal.returns-in_err-length
+returns-in_err-length c =
+    let answer = c.restate_accepted.ensures in
+    record { fills = told answer (search rules); slots_after = slots_kept _ _ _ answer c.in_err-length.was _ }
 
 pub vocabulary-requires : goal.vocabulary-requires
 vocabulary-requires c = (its_header c.requires.accepted_sheet.0).in_range
@@ -21,10 +20,10 @@ build-requires c =
       name_count_bound = few_names sheet c.vocabulary.ensures;
     }
 
-pub returns-in-Ok : goal.returns-in-Ok
-returns-in-Ok c =
-    let is = c.in-Ok.is in
-    let answer = c.restate_accepted-written.ensures in
+pub returns : goal.returns
+returns c =
+    let is = c.in_ok-length.was in
+    let answer = c.restate_accepted.ensures in
     let sheet = c.requires.accepted_sheet.0 in
     record {
       fills = told answer is;

@@ -1,6 +1,5 @@
 -- Measured by a dry run, and then written.
 use native.Mathlib.Omega.{arith}
-use borrow.Author.Rules.{rules}
 use Rattle.output.proofs.Writing as writing
 use Rattle.output.proofs.Filling.{too_long, fills}
 use Rattle.restating.proofs.write_sheet.Goals as goal
