@@ -1,4 +1,3 @@
-pub mod Either
 pub mod LastTrees
 pub mod Premisses
 pub mod Walk

@@ -1,7 +1,7 @@
 // The step records of a sheet: a step as a value, refusals 9, 10 and 11, and the sizes of the steps' trees.
 #![tactic(auto)]
 
-ghost use Rattle.std.specs.Prelude.{ℕ, ◌+◌, ◌≤◌, ◌<◌, max, ◌≡◌, List, length, get_or};
+ghost use Rattle.std.specs.Prelude.{ℕ, ◌+◌, ◌≤◌, ◌<◌, ◌≡◌, List, length, get_or};
 ghost use Rattle.definitions.specs.Outcome.{lowest};
 ghost use Rattle.definitions.specs.Sheet.{step_size, step_limit, rule_byte, premiss_count, step_number, column};
 ghost use Rattle.definitions.specs.Tree.{rules, Sorry, identifier_count, height, tree_in};
@@ -56,6 +56,7 @@ pub struct Step {
 }
 
 // The number at an offset of a step.
+#[tactic(auto, unfolding(definitions::specs::Sheet::step_size, definitions::specs::Sheet::step_number))]
 fn step_number(step_records: &[u8], k: usize, at: usize) -> usize
     requires { (HasStep step_records.now k) × (at + 1 < step_size) }
     ensures { (result ≡ step_number step_records.now k at) × (result < 65536) }
@@ -63,6 +64,7 @@ fn step_number(step_records: &[u8], k: usize, at: usize) -> usize
     number_at(step_records, STEP_SIZE * k + at)
 }
 
+#[tactic(auto, unfolding(definitions::specs::Sheet::step_size, definitions::specs::Sheet::rule_byte))]
 pub fn rule_byte(step_records: &[u8], k: usize) -> u8
     requires { HasStep step_records.now k }
     ensures { result ≡ rule_byte step_records.now k }
@@ -70,6 +72,7 @@ pub fn rule_byte(step_records: &[u8], k: usize) -> u8
     step_records[STEP_SIZE * k]
 }
 
+#[tactic(auto, unfolding(definitions::specs::Sheet::step_size, definitions::specs::Sheet::premiss_count))]
 pub fn premiss_count(step_records: &[u8], k: usize) -> u8
     requires { HasStep step_records.now k }
     ensures { result ≡ premiss_count step_records.now k }
@@ -78,6 +81,7 @@ pub fn premiss_count(step_records: &[u8], k: usize) -> u8
 }
 
 // The name and the id at an offset of a step.
+#[tactic(auto, unfolding(crate::specs::StepAt::identifier_at))]
 fn identifier_at(step_records: &[u8], k: usize, at: usize) -> Identifier
     requires { (HasStep step_records.now k) × (at + 3 < step_size) }
     ensures { result ≡ identifier_at step_records.now k at }
@@ -89,6 +93,7 @@ fn identifier_at(step_records: &[u8], k: usize, at: usize) -> Identifier
 }
 
 // The conclusion of a step: its kind says what the numbers after it are.
+#[tactic(auto, unfolding(definitions::specs::Sheet::step_size, crate::specs::StepAt::conclusion_at))]
 fn conclusion_at(step_records: &[u8], k: usize) -> Conclusion
     requires { HasStep step_records.now k }
     ensures { result ≡ conclusion_at step_records.now k }
@@ -105,6 +110,7 @@ fn conclusion_at(step_records: &[u8], k: usize) -> Conclusion
 }
 
 // The column that a step was drawn in: its last number.
+#[tactic(auto, unfolding(definitions::specs::Sheet::step_size, definitions::specs::Sheet::column))]
 fn column(step_records: &[u8], k: usize) -> u16
     requires { HasStep step_records.now k }
     ensures { result ≡ column step_records.now k }
@@ -113,6 +119,7 @@ fn column(step_records: &[u8], k: usize) -> u16
 }
 
 // Step k.
+#[tactic(auto, unfolding(definitions::specs::Sheet::step_size, crate::specs::StepAt::step_at))]
 pub fn step_at(step_records: &[u8], k: usize) -> Step
     requires { HasStep step_records.now k }
     ensures { result ≡ step_at step_records.now k }
@@ -128,6 +135,7 @@ pub fn step_at(step_records: &[u8], k: usize) -> Step
 }
 
 // The number at an offset of a step is that of no name.
+#[tactic(auto, unfolding(definitions::specs::Admission::no_name))]
 fn no_name(step_records: &[u8], k: usize, at: usize, names: usize) -> bool
     requires { (HasStep step_records.now k) × (at + 1 < step_size) }
     ensures { (propositions : ℕ) → result ≡ no_name names propositions step_records.now k at }
@@ -136,6 +144,7 @@ fn no_name(step_records: &[u8], k: usize, at: usize, names: usize) -> bool
 }
 
 // The number at an offset of a step is not 0.
+#[tactic(auto, unfolding(definitions::specs::Admission::not_zero))]
 fn not_zero(step_records: &[u8], k: usize, at: usize) -> bool
     requires { (HasStep step_records.now k) × (at + 1 < step_size) }
     ensures { (names propositions : ℕ) → result ≡ not_zero names propositions step_records.now k at }
@@ -144,6 +153,7 @@ fn not_zero(step_records: &[u8], k: usize, at: usize) -> bool
 }
 
 // The identifier at an offset of a step has no name where the rule has it, or is not 0 where the rule lacks it.
+#[tactic(auto, unfolding(definitions::specs::Admission::bad_identifier))]
 fn bad_identifier(step_records: &[u8], k: usize, at: usize, has: bool, names: usize) -> bool
     requires { (HasStep step_records.now k) × (at + 3 < step_size) }
     ensures { (propositions : ℕ) →
@@ -156,6 +166,7 @@ fn bad_identifier(step_records: &[u8], k: usize, at: usize, has: bool, names: us
 }
 
 // A conclusion of kind 0: a proposition number, 0, 0.
+#[tactic(auto, unfolding(definitions::specs::Sheet::step_size, definitions::specs::Admission::bad_prop_is_true))]
 fn bad_prop_is_true(step_records: &[u8], k: usize, propositions: usize) -> bool
     requires { HasStep step_records.now k }
     ensures { (names : ℕ) → result ≡ bad_prop_is_true names propositions step_records.now k }
@@ -165,6 +176,7 @@ fn bad_prop_is_true(step_records: &[u8], k: usize, propositions: usize) -> bool
 }
 
 // A conclusion of kind 1: a name, an id, a datatype name.
+#[tactic(auto, unfolding(definitions::specs::Sheet::step_size, definitions::specs::Admission::bad_type_judgement))]
 fn bad_type_judgement(step_records: &[u8], k: usize, names: usize) -> bool
     requires { HasStep step_records.now k }
     ensures { (propositions : ℕ) → result ≡ bad_type_judgement names propositions step_records.now k }
@@ -172,6 +184,7 @@ fn bad_type_judgement(step_records: &[u8], k: usize, names: usize) -> bool
     no_name(step_records, k, 12, names) || no_name(step_records, k, 16, names)
 }
 
+#[tactic(auto, unfolding(definitions::specs::Sheet::step_size, definitions::specs::Admission::bad_conclusion))]
 fn bad_conclusion(step_records: &[u8], k: usize, names: usize, propositions: usize) -> bool
     requires { HasStep step_records.now k }
     ensures { result ≡ bad_conclusion names propositions step_records.now k }
@@ -184,6 +197,7 @@ fn bad_conclusion(step_records: &[u8], k: usize, names: usize, propositions: usi
 }
 
 // A step's column is out of range.
+#[tactic(auto, unfolding(definitions::specs::Sheet::column_limit, definitions::specs::Admission::bad_column))]
 fn bad_column(step_records: &[u8], k: usize) -> bool
     requires { HasStep step_records.now k }
     ensures { (names propositions : ℕ) → result ≡ bad_column names propositions step_records.now k }
@@ -200,6 +214,7 @@ pub fn identifier_count(rule: usize) -> u8
 }
 
 // A step's rule, kind, name, proposition number or column is out of range, or an unused field is not 0.
+#[tactic(auto, unfolding(definitions::specs::Sheet::step_size, definitions::specs::Tree::rules, definitions::specs::Tree::rule_in, definitions::specs::Admission::identifiers, definitions::specs::Admission::bad_step))]
 pub fn bad_step(step_records: &[u8], k: usize, names: usize, propositions: usize) -> bool
     requires { HasStep step_records.now k }
     ensures { result ≡ bad_step names propositions step_records.now k }
@@ -251,6 +266,7 @@ fn tree_start(step_records: &[u8], k: usize, sizes: &[u16]) -> Option<usize>
 }
 
 // Refusal 10, its first part: the lowest step that finds too few trees. The sizes are those of the steps' trees.
+#[tactic(auto, unfolding(definitions::specs::Sheet::step_size, definitions::specs::Sheet::step_limit, crate::specs::Tables::TreeStart))]
 pub fn fill_sizes(step_records: &[u8], steps: usize, sizes: &mut [u16]) -> Option<usize>
     requires { (HasSteps step_records.now steps) × (steps ≤ step_limit) × (steps ≤ length sizes.old) }
     ensures { FilledSizes step_records.now steps sizes.old result sizes.new }
@@ -273,12 +289,6 @@ pub fn leaves_trees(step_records: &[u8], steps: usize, sizes: &[u16]) -> bool
     (sizes[steps - 1] as usize) < steps
 }
 
-fn max(a: u16, b: u16) -> u16
-    ensures { result ≡ max a b }
-{
-    if a < b { b } else { a }
-}
-
 // The nesting of the tree of step k: one more than that of its deepest premiss.
 fn tree_height(step_records: &[u8], k: usize, sizes: &[u16], heights: &[u16]) -> u16
     requires has_step { (HasStep step_records.now k) × (k < step_limit) × (k ≤ length sizes.now)
@@ -293,7 +303,7 @@ fn tree_height(step_records: &[u8], k: usize, sizes: &[u16], heights: &[u16]) ->
     let mut deepest = 0;
     for _ in 0..premisses {
         let last = start - 1;
-        deepest = max(heights[last], deepest);
+        deepest = heights[last].max(deepest);
         start -= sizes[last] as usize;
     }
     deepest + 1
@@ -301,6 +311,7 @@ fn tree_height(step_records: &[u8], k: usize, sizes: &[u16], heights: &[u16]) ->
 
 // The lowest step whose tree nests deeper than a limit: with that of a sheet, this is refusal 11. The heights are those of the
 // steps before it.
+#[tactic(auto, unfolding(definitions::specs::Sheet::step_size))]
 pub fn first_deep_tree(
     step_records: &[u8],
     steps: usize,

@@ -1,14 +1,13 @@
 -- The table is filled step by step, up to the first that finds too few trees.
-use Prim.Native.Nat.{ℕ, ◌-◌}
+use Prim.Native.Nat.{ℕ}
 use mathlib.Core.List.{List, []}
 use native.Mathlib.Omega.{arith}
-use borrow.Author.Rules.{rules}
 use Rattle.std.specs.Prelude.{Option, ℕ}
-use Rattle.definitions.specs.Sheet.{step_size, step_limit}
+use Rattle.definitions.specs.Sheet.{step_size}
 use Rattle.definitions.specs.Admission.{too_few_trees}
 use Rattle.steps.specs.Tables.{TreeStart, SizeTable, FilledSizes}
 use Rattle.steps.proofs.Tables.{size_table_none, size_table_more}
-use Rattle.steps.proofs.Filling.{Filling, Filled, filling_none, filling_more, filling_stopped, filling_done}
+use Rattle.steps.proofs.Filling.{Filled, filling_none, filling_more, filling_stopped, filling_done}
 use Rattle.steps.proofs.fill_sizes.Goals as goal
 
 answer : {records : List ℕ} {steps : ℕ} {before after : List ℕ} {r : Option ℕ}
@@ -32,9 +31,6 @@ overflow_sub-sizes c =
     let s = rw c.in-Some.is at c.tree_start.ensures in
     omega (arith, (s 0 [] []).1)
 
-pub bounds-sizes-k : goal.bounds-sizes-k
-bounds-sizes-k c = let f = c.loop-k.invariant in omega arith
-
 pub loop-k-preserved : goal.loop-k-preserved
 unfolding TreeStart
 loop-k-preserved c =
@@ -43,46 +39,8 @@ loop-k-preserved c =
     filling_more f _ c.loop-k-test.true (λ names pairs code. (s names pairs code).0)
     (size_table_more _ _ _ _ (omega arith) f.table s)
 
-pub loop-k-init : goal.loop-k-init
-unfolding step_limit
-loop-k-init c = filling_none _ _ _ _ (size_table_none _ _)
-
-pub enum_known-start : goal.enum_known-start
-unfolding step_limit
-enum_known-start c = search rules
-
-pub enum_told-1 : goal.enum_told-1
-unfolding step_limit
-enum_told-1 c = search rules
-
-pub shape_of-sizes-in_default : goal.shape_of-sizes-in_default
-unfolding step_limit
-shape_of-sizes-in_default c = c.loop-k.invariant.long
-
-pub overflow_add-sizes : goal.overflow_add-sizes
-unfolding step_limit
-overflow_add-sizes c = omega arith
-
-pub overflow_cast-sizes : goal.overflow_cast-sizes
-unfolding step_limit
-overflow_cast-sizes c = omega arith
-
-pub offset_bounds-sizes-k : goal.offset_bounds-sizes-k
-unfolding step_limit
-offset_bounds-sizes-k c = omega arith
-
-pub overflow_step-k : goal.overflow_step-k
-unfolding step_limit
-overflow_step-k c = omega arith
-
-pub loop-k-smaller : goal.loop-k-smaller
-unfolding step_limit
-loop-k-smaller c = omega arith
-
-pub shape_of-sizes : goal.shape_of-sizes
-unfolding step_limit
-shape_of-sizes c = c.loop-k.invariant.long
-
 pub returns : goal.returns
-unfolding step_limit
 returns c = answer (filling_done c.loop-k.invariant (omega arith))
+
+pub loop-k-init : goal.loop-k-init
+loop-k-init c = filling_none _ _ _ _ (size_table_none _ _)

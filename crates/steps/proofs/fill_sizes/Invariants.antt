@@ -1,14 +1,8 @@
 -- The table is filled step by step, up to the first that finds too few trees.
-use Prim.Native.Nat.{ℕ, ◌-◌}
-use mathlib.Core.List.{List, []}
-use native.Mathlib.Omega.{arith}
-use borrow.Author.Rules.{rules}
-use Rattle.std.specs.Prelude.{Option, ℕ}
-use Rattle.definitions.specs.Sheet.{step_size, step_limit}
+use Prim.Native.Nat.{◌-◌}
 use Rattle.definitions.specs.Admission.{too_few_trees}
-use Rattle.steps.specs.Tables.{TreeStart, SizeTable, FilledSizes}
-use Rattle.steps.proofs.Tables.{size_table_none, size_table_more}
-use Rattle.steps.proofs.Filling.{Filling, Filled, filling_none, filling_more, filling_stopped, filling_done}
+use Rattle.steps.specs.Tables.{SizeTable}
+use Rattle.steps.proofs.Filling.{Filling}
 use Rattle.steps.proofs.fill_sizes.Given as goal
 
 abbrev pub invariant-loop-k : goal.invariant-loop-k

@@ -1,11 +1,9 @@
 -- The search goes up from step 0 and stops at the first that is bad.
-use Prim.Native.Nat.{◌-◌}
 use mathlib.Core.Path.{sym, ◌∙◌}
 use native.Mathlib.Omega.{arith}
 use Rattle.definitions.specs.Sheet.{step_size}
-use Rattle.definitions.specs.Admission.{bad_step}
 use Rattle.definitions.proofs.Lowest.{found_here, found_nowhere}
-use Rattle.definitions.proofs.Upward.{Passed, at_start, onward}
+use Rattle.definitions.proofs.Upward.{at_start, onward}
 use Rattle.steps.proofs.first_bad_step.Goals as goal
 
 pub returns-then-bad_step : goal.returns-then-bad_step

@@ -1,16 +1,13 @@
 -- The nestings are kept step by step, up to the first that is too deep.
-use Prim.Native.Nat.{ℕ, ◌-◌}
-use mathlib.Core.Bool.{Bool}
+use Prim.Native.Nat.{ℕ}
 use mathlib.Core.List.{List}
 use native.Mathlib.Omega.{arith}
-use lib.Dec.{ltb}
 use borrow.Author.Tests.{lt-ltb, le-ltb}
 use Rattle.std.specs.Prelude.{Option, ℕ}
 use Rattle.definitions.specs.Sheet.{step_size}
-use Rattle.definitions.specs.Tree.{height, tree_in}
 use Rattle.steps.specs.Tables.{HeightTable, FilledHeights}
 use Rattle.steps.proofs.Tables.{size_table_shorter, height_table_none, height_table_more}
-use Rattle.steps.proofs.Filling.{Filling, Filled, filling_none, filling_more, filling_stopped, filling_done}
+use Rattle.steps.proofs.Filling.{Filled, filling_none, filling_more, filling_stopped, filling_done}
 use Rattle.steps.proofs.first_deep_tree.Goals as goal
 use Rattle.steps.proofs.first_deep_tree.Invariants.{deeper}
 
@@ -42,18 +39,6 @@ loop-k-preserved c =
 
 pub loop-k-init : goal.loop-k-init
 loop-k-init c = filling_none _ _ _ _ (height_table_none _ _)
-
-pub shape_of-heights-then-limit-height : goal.shape_of-heights-then-limit-height
-shape_of-heights-then-limit-height c = c.loop-k.invariant.long
-
-pub offset_bounds-heights-k : goal.offset_bounds-heights-k
-offset_bounds-heights-k c = let f = c.loop-k.invariant in omega arith
-
-pub bounds-heights-k : goal.bounds-heights-k
-bounds-heights-k c = let f = c.loop-k.invariant in omega arith
-
-pub shape_of-heights : goal.shape_of-heights
-shape_of-heights c = c.loop-k.invariant.long
 
 pub returns : goal.returns
 returns c = answer (filling_done c.loop-k.invariant (omega arith))

@@ -2,15 +2,11 @@
 use Prim.Native.Nat.{ℕ, ◌-◌}
 use mathlib.Core.Bool.{Bool}
 use mathlib.Core.List.{List}
-use native.Mathlib.Omega.{arith}
 use lib.Dec.{ltb}
-use borrow.Author.Tests.{lt-ltb, le-ltb}
-use Rattle.std.specs.Prelude.{Option, ℕ}
-use Rattle.definitions.specs.Sheet.{step_size}
+use Rattle.std.specs.Prelude.{ℕ}
 use Rattle.definitions.specs.Tree.{height, tree_in}
-use Rattle.steps.specs.Tables.{HeightTable, FilledHeights}
-use Rattle.steps.proofs.Tables.{size_table_shorter, height_table_none, height_table_more}
-use Rattle.steps.proofs.Filling.{Filling, Filled, filling_none, filling_more, filling_stopped, filling_done}
+use Rattle.steps.specs.Tables.{HeightTable}
+use Rattle.steps.proofs.Filling.{Filling}
 use Rattle.steps.proofs.first_deep_tree.Given as goal
 
 -- a step's tree nests deeper than the limit

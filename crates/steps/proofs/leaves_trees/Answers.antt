@@ -6,7 +6,6 @@ use native.Mathlib.Omega.{arith}
 use lib.ListN.{length}
 use lib.Dec.{ltb}
 use borrow.Author.Tests.{lt-ltb, le-ltb}
-use borrow.Author.Rules.{rules}
 use Rattle.definitions.specs.Sheet.{premiss_count}
 use Rattle.definitions.specs.Tree.{trees_before, tree_in}
 use Rattle.definitions.specs.Admission.{trees_left}

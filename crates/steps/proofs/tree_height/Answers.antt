@@ -1,13 +1,11 @@
 -- The walk back over the premisses by the size table meets the deepest of them.
-use Prim.Native.Nat.{◌-◌, ◌≤◌, ◌<◌}
-use mathlib.Core.Path.{◌≡◌}
+use Prim.Native.Nat.{◌-◌, ◌<◌}
 use mathlib.Core.List.{[]}
 use native.Mathlib.Omega.{arith}
-use borrow.Author.Rules.{rules}
-use Rattle.definitions.specs.Sheet.{premiss_count, step_limit}
+use Rattle.definitions.specs.Sheet.{step_limit}
 use Rattle.steps.specs.Tables.{SizeTable}
-use Rattle.steps.proofs.Walk.{Walk, walk_start, walk_within, size_fits, walk_on, walk_in}
-use Rattle.steps.proofs.Deepest.{Deepest, deepest_none, deepest_more, deepest_within, deepest_all}
+use Rattle.steps.proofs.Walk.{walk_start, walk_within, size_fits, walk_on, walk_in}
+use Rattle.steps.proofs.Deepest.{deepest_none, deepest_more, deepest_within, deepest_all}
 use Rattle.steps.proofs.Tables.{size_table_shorter}
 use Rattle.steps.proofs.tree_height.Goals as goal
 use Rattle.steps.proofs.tree_height.Goals.{In-loop, Start}

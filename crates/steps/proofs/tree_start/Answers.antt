@@ -1,10 +1,7 @@
 -- The walk back over the premisses by the size table.
-use Prim.Native.Nat.{◌-◌, ◌≤◌}
-use mathlib.Core.Path.{◌≡◌}
+use Prim.Native.Nat.{◌-◌}
 use native.Mathlib.Omega.{arith}
-use borrow.Author.Rules.{rules}
-use Rattle.definitions.specs.Sheet.{premiss_count}
-use Rattle.steps.proofs.Walk.{Walk, walk_start, walk_within, size_fits, walk_on, walk_out, walk_done}
+use Rattle.steps.proofs.Walk.{walk_start, walk_within, size_fits, walk_on, walk_out, walk_done}
 use Rattle.steps.proofs.tree_start.Goals as goal
 
 pub loop-init : goal.loop-init
