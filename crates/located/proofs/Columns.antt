@@ -39,7 +39,7 @@ module _ {s : List ℕ} (has : HasHeader s (header_of s)) where
   -- reading it finds no byte missing
   pub header_accepted : {r : Result Sheet Refusal} → r ≡ answered (header_of s) (short_check s) → r ≡ Ok (header_of s)
   unfolding answered short_check
-  header_accepted e = e ∙ ap (answered (header_of s)) (not_refused_if 1 0 (le-ltb _ _ whole_header))
+  header_accepted e = e ∙ ap (answered (header_of s)) (sym (not_refused_if 1 0 (le-ltb _ _ whole_header)))
 
   -- the header as it was read
   module _ {h : Sheet} (is : h ≡ header_of s) where

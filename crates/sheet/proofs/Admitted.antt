@@ -29,7 +29,6 @@ use Rattle.sheet.specs.Admitted.{Admitted}
 use Rattle.definitions.proofs.Outcomes.{each_accepted, test_failed, none_lowest}
 use Rattle.definitions.proofs.Lowest.{all_fail}
 use Rattle.number.specs.Pairs.{NameWithin}
-use Rattle.sheet.proofs.Ranges.{in_range}
 use Rattle.sheet.proofs.Given.{good_pairs, pair_within, good_name_pair, good_proposition_pair}
 use Rattle.sheet.proofs.Stages.{stage_accepted, stage_refuses}
 use Rattle.sheet.proofs.Order.{from_names, from_propositions, from_steps, from_trees, in_stages, header_given}

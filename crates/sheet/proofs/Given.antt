@@ -56,18 +56,18 @@ module _ {s : List ℕ} {h : Sheet} (has : HasHeader s h) where
   unfolding header_of
   steps_present = rw has.header (omega (arith, (lengths s has.whole).step_records))
 
-  -- a place fits a refusal
-  pub name_place : {i : ℕ} → i < sheet.names s → i < 65536
+  -- so every place fits a refusal
+  pub names_fit : sheet.names s ≤ 65536
   unfolding header_of name_limit
-  name_place l = omega (arith, in_range.names)
+  names_fit = omega (arith, in_range.names)
 
-  pub proposition_place : {i : ℕ} → i < sheet.propositions s → i < 65536
+  pub propositions_fit : sheet.propositions s ≤ 65536
   unfolding header_of proposition_limit
-  proposition_place l = omega (arith, in_range.propositions)
+  propositions_fit = omega (arith, in_range.propositions)
 
-  pub step_place : {k : ℕ} → k < sheet.steps s → k < 65536
+  pub steps_fit : sheet.steps s ≤ 65536
   unfolding header_of step_limit
-  step_place l = omega (arith, in_range.steps)
+  steps_fit = omega (arith, in_range.steps)
 
   -- 4 did not come
   pub has_name_pairs : ((i : ℕ) → i < sheet.names s → bad_name_pair (name_pairs s) (text_length s) i ≡ false)

@@ -5,6 +5,7 @@ pub mod Slices
 pub mod Placed
 pub mod Stages
 pub mod Order
+pub mod Short
 pub mod Given
 pub mod Admitted
 pub mod NamesAndCode

@@ -1,11 +1,12 @@
 -- What the answer of a search says of the places, and of the refusal that goes by it.
 use Prim.Native.Nat.{ℕ, zero, suc, ◌<◌}
-use mathlib.Core.Path.{◌≡◌, refl, sym, ◌∙◌}
+use mathlib.Core.Path.{◌≡◌, refl, sym}
 use mathlib.Core.Bool.{Bool, true, false}
-use Rattle.std.specs.Prelude.{Option, None, Some, ℕ}
+use Rattle.std.specs.Prelude.{Option, None, Some, ℕ, ◌≤◌, IfSome}
 use native.Mathlib.Omega.{arith}
-use Rattle.definitions.specs.Outcome.{accepted, refuse, first_of, lowest, refuse_at, refuse_lowest}
+use Rattle.definitions.specs.Outcome.{Outcome, accepted, refuse, first_of, lowest, refuse_at, refuse_lowest}
 use Rattle.definitions.proofs.Lowest.{all_fail}
+use Rattle.definitions.proofs.Outcomes.{none_lowest}
 
 -- the lowest place lies below the count
 lowest_below : (test : ℕ → Bool) (count : ℕ) {i : ℕ} → lowest test count ≡ Some i → i < count
@@ -19,26 +20,27 @@ lowest_below test (suc count) {i} e = go (lowest test count) (test count) refl e
     go None true same f below = let is : count ≡ i = cc in omega arith
     go None false same f below = absurd (let z : ◌≡◌ {A = ℕ} 0 1 = cc in omega arith)
 
-answer_some : (o : Option ℕ) {i : ℕ} → Some i ≡ o → o ≡ Some i
-answer_some None e = absurd (let z : ◌≡◌ {A = ℕ} 0 1 = cc in omega arith)
-answer_some (Some j) e = cc
+-- where a place would be refused and nothing is, there is none
+pub no_place : (o : Option ℕ) (number : ℕ) {a : Unit {0}} → accepted a ≡ refuse_at o number → o ≡ None
+unfolding refuse_at refuse
+no_place None number e = refl
+no_place (Some i) number e = absurd (let z : ◌≡◌ {A = ℕ} 0 1 = cc in omega arith)
 
-answer_none : (o : Option ℕ) → None ≡ o → o ≡ None
-answer_none None e = refl
-answer_none (Some j) e = absurd (let z : ◌≡◌ {A = ℕ} 0 1 = cc in omega arith)
+-- Of a search:
+module _ (test : ℕ → Bool) (count : ℕ) {r : Option ℕ} (answer : r ≡ lowest test count) where
+  -- the place that it finds fits a refusal
+  pub fits : count ≤ 65536 → IfSome r (λ k. k < 65536)
+  fits few = at r answer
+    where
+      at : (o : Option ℕ) → o ≡ lowest test count → IfSome o (λ k. k < 65536)
+      at None e = tt
+      at (Some i) e = omega (arith, lowest_below test count (sym e))
 
--- The search found a place, or none.
-module _ (test : ℕ → Bool) (count : ℕ) {r : Option ℕ} (answer : r ≡ (lowest test count)) where
-  pub found_below : {i : ℕ} → r ≡ Some i → i < count
-  found_below e = lowest_below test count (answer_some _ (sym e ∙ answer))
+  -- its refusal is the definition's
+  pub searched : (number : ℕ) {o : Outcome (Unit {0})} → o ≡ refuse_at r number → o ≡ refuse_lowest test count number
+  unfolding refuse_lowest
+  searched number e = rw answer at e
 
-  pub refused_at : (number : ℕ) {i : ℕ} → r ≡ Some i → refuse_lowest test count number ≡ refuse number i
-  unfolding refuse_lowest refuse_at
-  refused_at number e = rw (answer_some _ (sym e ∙ answer))
-
-  pub none_bad : r ≡ None → (i : ℕ) → i < count → test i ≡ false
-  none_bad e = all_fail test count (answer_none _ (sym e ∙ answer))
-
-  pub not_refused : (number : ℕ) → r ≡ None → refuse_lowest test count number ≡ accepted tt
-  unfolding refuse_lowest refuse_at
-  not_refused number e = rw (answer_none _ (sym e ∙ answer))
+  -- where nothing is refused, every test fails
+  pub none_bad : (number : ℕ) {a : Unit {0}} → accepted a ≡ refuse_at r number → (i : ℕ) → i < count → test i ≡ false
+  none_bad number e = all_fail test count (none_lowest test count number (sym (searched number e)))

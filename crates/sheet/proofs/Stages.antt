@@ -1,6 +1,6 @@
 -- How the checks of a stage, in their order, come to its answer.
 use Prim.Native.Nat.{ℕ}
-use mathlib.Core.Path.{◌≡◌, refl}
+use mathlib.Core.Path.{◌≡◌, refl, sym, ◌∙◌}
 use mathlib.Core.Bool.{Bool, true, false}
 use native.Mathlib.Omega.{arith}
 use Rattle.definitions.specs.declared.Refusal.{Refusal}
@@ -10,35 +10,36 @@ use Rattle.std.specs.Prelude.{Result, Ok, Err, ℕ}
 use Rattle.sheet.specs.Checks.{answered}
 
 module _ {b : Bool} (number place : ℕ) where
-  pub refused_if : b ≡ true → refuse_if b number place ≡ refuse number place
-  unfolding refuse_if
-  refused_if e = rw e
+  pub refused_if : {x : Refusal} → b ≡ true → x ≡ record { number = number; place = place } → refused x ≡ refuse_if b number place
+  unfolding refuse_if refuse
+  refused_if e is = rw (e, is)
 
-  pub not_refused_if : b ≡ false → refuse_if b number place ≡ accepted tt
+  pub not_refused_if : b ≡ false → accepted tt ≡ refuse_if b number place
   unfolding refuse_if
   not_refused_if e = rw e
 
+-- Of checks one after the other, the first that refuses answers, and one that accepts leaves it to the rest.
+module _ {A B : Type 0} {m : Outcome A} (rest : A → Outcome B) where
+  pub stops : {x : Refusal} → refused x ≡ m → refused x ≡ ◌>>=◌ m rest
+  unfolding ◌>>=◌
+  stops e = rw (← e)
+
+  pub passes : {a : A} {o : Outcome B} → accepted a ≡ m → o ≡ rest a → o ≡ ◌>>=◌ m rest
+  unfolding ◌>>=◌
+  passes e q = rw (← e) q
+
+pub stopped : {A : Type 0} {m : Outcome A} (rest : A → Outcome A) {x : Refusal} → refused x ≡ m → m ≡ ◌>>=◌ m rest
+stopped rest e = sym e ∙ stops rest e
+
+-- The answer that an outcome is:
 module _ {A : Type 0} (h : Sheet) {m : Outcome A} where
-  -- the last check refuses, or passes
-  pub refused_last : {number place : ℕ} {r : Result Sheet Refusal} → m ≡ refuse number place
-      → r ≡ Err (record { number = number; place = place }) → r ≡ answered h m
-  unfolding answered refuse
-  refused_last e q = rw e q
-
-  pub accepted_last : {a : A} → m ≡ accepted a → Ok h ≡ answered h m
+  pub answer_refused : {x : Refusal} → refused x ≡ m → Err x ≡ answered h m
   unfolding answered
-  accepted_last e = rw e
+  answer_refused e = rw (← e)
 
-  -- an earlier one refuses, or leaves it to the rest
-  module _ {B : Type 0} (rest : A → Outcome B) {r : Result Sheet Refusal} where
-    pub refused_now : {number place : ℕ} → m ≡ refuse number place
-        → r ≡ Err (record { number = number; place = place }) → r ≡ answered h (◌>>=◌ m rest)
-    unfolding answered refuse ◌>>=◌
-    refused_now e q = rw e q
-
-    pub passed_on : {a : A} → m ≡ accepted a → r ≡ answered h (rest a) → r ≡ answered h (◌>>=◌ m rest)
-    unfolding ◌>>=◌
-    passed_on e q = rw e q
+  pub answer_accepted : {a : A} {k : Sheet} → k ≡ h → accepted a ≡ m → Ok k ≡ answered h m
+  unfolding answered
+  answer_accepted same e = rw (same, ← e)
 
 pub refused_not_accepted : {r : Result Sheet Refusal} {x : Refusal} {h : Sheet} → r ≡ Err x → r ≡ Ok h → ⊥
 refused_not_accepted e q = let z : ◌≡◌ {A = ℕ} 0 1 = cc in omega arith
@@ -61,9 +62,3 @@ module _ {A : Type 0} (h : Sheet) {r : Result Sheet Refusal} where
       → r ≡ answered h (◌>>=◌ m rest)
   unfolding answered ◌>>=◌
   stage_refused m rest e q = rw (stage_refuses m e q) q
-
-  -- after the last stage nothing refuses
-  pub stage_last : {B : Type 0} (m : Outcome A) (b : B) → r ≡ answered h m → r ≡ answered h (◌>>=◌ m (λ _. accepted b))
-  unfolding answered ◌>>=◌
-  stage_last (refused y) b e = e
-  stage_last (accepted a) b e = e

@@ -7,6 +7,11 @@ use Rattle.sheet.specs.declared.header.Sheet.{Sheet}
 use Rattle.sheet.specs.Header.{header_of}
 use Rattle.definitions.specs.declared.Refusal.{Refusal}
 
+-- the outcome that an answer of the program is
+abbrev pub outcome_of : {A : Type 0} → Result A Refusal → Outcome A
+outcome_of (Err r) = refused r
+outcome_of (Ok a) = accepted a
+
 -- the header where the checks accept, else the refusal
 unfoldable pub answered : {A : Type 0} → Sheet → Outcome A → Result Sheet Refusal
 answered h (refused r) = Err r

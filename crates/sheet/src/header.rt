@@ -1,10 +1,10 @@
 // The header of a sheet, and where the parts lie that follow it.
-ghost use Rattle.std.specs.Prelude.{◌≡◌, List, ℕ, Err};
+ghost use Rattle.std.specs.Prelude.{◌*◌, ◌<◌, ◌≡◌, List, ℕ, Some, Err, MatchResult};
+ghost use Rattle.reader.specs.Reading.{number_after};
 ghost use Rattle.definitions.specs.Sheet.{header_out_of_range};
 ghost use Rattle.sheet.specs.Header.{header_of, InRange, layout_of};
 ghost use Rattle.sheet.specs.Checks.{answered, short_check};
 
-use crate::refuse;
 use definitions::Refusal;
 use reader::header_number;
 
@@ -29,11 +29,14 @@ pub struct Layout {
     pub end: usize,
 }
 
-// Refusal 1: fewer bytes came than a header has.
-fn too_short() -> Result<Sheet, Refusal>
-    ensures { result ≡ Err (record { number = 1; place = 0 }) }
+// The number k of the header, or refusal 1: fewer bytes came than a header has.
+#[tactic(auto, using(crate::proofs::Short::too_short))]
+fn header_field(s: &[u8], k: usize) -> Result<usize, Refusal>
+    requires { k < 6 }
+    ensures { MatchResult result (λ n. Some n ≡ number_after s.now (2 * k))
+        (λ refusal. Err refusal ≡ answered (header_of s.now) (short_check s.now)) }
 {
-    refuse(1, 0)
+    header_number(s, k).ok_or(Refusal::at(1, 0))
 }
 
 impl Sheet {
@@ -77,31 +80,13 @@ impl Sheet {
     pub fn header(s: &[u8]) -> Result<Sheet, Refusal>
         ensures { result ≡ answered (header_of s.now) (short_check s.now) }
     {
-        let Some(text_length) = header_number(s, 0) else {
-            return too_short();
-        };
-        let Some(names) = header_number(s, 1) else {
-            return too_short();
-        };
-        let Some(code_length) = header_number(s, 2) else {
-            return too_short();
-        };
-        let Some(propositions) = header_number(s, 3) else {
-            return too_short();
-        };
-        let Some(steps) = header_number(s, 4) else {
-            return too_short();
-        };
-        let Some(goal) = header_number(s, 5) else {
-            return too_short();
-        };
         Ok(Self {
-            text_length,
-            names,
-            code_length,
-            propositions,
-            steps,
-            goal,
+            text_length: header_field(s, 0)?,
+            names: header_field(s, 1)?,
+            code_length: header_field(s, 2)?,
+            propositions: header_field(s, 3)?,
+            steps: header_field(s, 4)?,
+            goal: header_field(s, 5)?,
         })
     }
 

@@ -17,11 +17,11 @@ use Rattle.sheet.specs.declared.header.Sheet.{Sheet}
 use Rattle.sheet.specs.Header.{header_of}
 use Rattle.sheet.specs.Checks.{tree_checks}
 use Rattle.sheet.specs.Sizes.{steps_finding_trees, Sized}
-use Rattle.sheet.proofs.Searched.{found_below, refused_at, not_refused}
-use Rattle.sheet.proofs.Given.{steps_present, step_place}
-use Rattle.sheet.proofs.Stages.{refused_if, not_refused_if, refused_last, accepted_last, refused_now, passed_on}
+use Rattle.sheet.proofs.Searched.{fits, searched, no_place}
+use Rattle.sheet.proofs.Given.{steps_present, steps_fit}
+use Rattle.sheet.proofs.Stages.{refused_if, not_refused_if, stops, stopped, passes}
 use Rattle.sheet.proofs.check_trees.Goals as goal
-use Rattle.sheet.proofs.check_trees.Goals.{After-fill_sizes, After-first_deep_tree, After-leaves_trees, After-slice_known-2-1, Else-leaves_trees, In_default}
+use Rattle.sheet.proofs.check_trees.Goals.{After-fill_sizes, After-first_deep_tree, After-leaves_trees, After-slice_known-2-1, Else-leaves_trees, In_ok-refuse_at}
 
 -- What holds of the step records and the steps as the program has them holds of the sheet's.
 module _ (s : List ℕ) {records : List ℕ} {h : Sheet} (same : records ≡ step_records s) (header : h ≡ header_of s) where
@@ -60,8 +60,8 @@ module _ (s : List ℕ) {before after : List ℕ} {r : Option ℕ} (f : FilledSi
 abbrev sheet : After-fill_sizes → List ℕ
 sheet c = c.args.s.now
 
-abbrev sheet_filled : In_default → List ℕ
-sheet_filled c = sheet (goal.at.In_default c).After-fill_sizes
+abbrev sheet_filled : In_ok-refuse_at → List ℕ
+sheet_filled c = sheet (goal.at.In_ok-refuse_at c).After-fill_sizes
 
 -- the table after it was filled
 abbrev table : After-fill_sizes → List ℕ
@@ -80,40 +80,40 @@ tree_search c = (filled c).found _ _ _
 sized : (c : After-fill_sizes) → Sized (sheet c) (steps_finding_trees (sheet c)) c.args.sizes.now (table c)
 sized c = sized_of _ (filled c)
 
-trees_passed : (c : In_default) →
+trees_passed : (c : In_ok-refuse_at) →
     let s = sheet_filled c in
-    refuse_lowest (too_few_trees (names s) (proposition_pairs s) (code_bytes s) (step_records s)) (steps s) 10 ≡ accepted tt
-trees_passed c = not_refused _ _ (tree_search (goal.at.In_default c).After-fill_sizes) 10 c.in_default.is
+    accepted c.in_ok-refuse_at.field-0 ≡ refuse_lowest (too_few_trees (names s) (proposition_pairs s) (code_bytes s) (step_records s)) (steps s) 10
+trees_passed c = searched _ _ (tree_search (goal.at.In_ok-refuse_at c).After-fill_sizes) 10 c.in_ok-refuse_at.ensures
 
-size_table : (c : In_default)
-    → SizeTable (step_records (sheet_filled c)) (steps (sheet_filled c)) (table (goal.at.In_default c).After-fill_sizes)
-size_table c = all_of _ (filled (goal.at.In_default c).After-fill_sizes) c.in_default.is
+size_table : (c : In_ok-refuse_at)
+    → SizeTable (step_records (sheet_filled c)) (steps (sheet_filled c)) (table (goal.at.In_ok-refuse_at c).After-fill_sizes)
+size_table c = all_of _ (filled (goal.at.In_ok-refuse_at c).After-fill_sizes) (no_place _ 10 c.in_ok-refuse_at.ensures)
 
 -- the table as it was filled, over the steps as the program has them
-program_table : (c : In_default) →
-    SizeTable c.step_records-records.result.now c.args.h.steps (table (goal.at.In_default c).After-fill_sizes)
+program_table : (c : In_ok-refuse_at) →
+    SizeTable c.step_records-records.result.now c.args.h.steps (table (goal.at.In_ok-refuse_at c).After-fill_sizes)
 program_table c =
     table_of _ c.step_records-records.ensures c.requires.0.header (size_table c)
 
-table_long_enough : (c : In_default) →
-    c.args.h.steps ≤ length (table (goal.at.In_default c).After-fill_sizes)
+table_long_enough : (c : In_ok-refuse_at) →
+    c.args.h.steps ≤ length (table (goal.at.In_ok-refuse_at c).After-fill_sizes)
 unfolding step_limit
 table_long_enough c =
     omega (arith, c.requires.0.in_range.steps, c.requires.1, c.fill_sizes.auto.sizes)
 
 trees_test : (c : After-leaves_trees) →
-    let s = sheet_filled (goal.at.After-leaves_trees c).In_default in
+    let s = sheet_filled (goal.at.After-leaves_trees c).In_ok-refuse_at in
     trees_left (names s) (proposition_pairs s) (code_bytes s) (step_records s) (steps s) ≡ c.leaves_trees.result
 trees_test c =
     left-of _ c.step_records-records.ensures c.requires.0.header (c.leaves_trees.ensures _ _ _)
 
 one_left : (c : Else-leaves_trees) →
-    let s = sheet_filled (goal.at.Else-leaves_trees c).In_default in
-    refuse_if (trees_left (names s) (proposition_pairs s) (code_bytes s) (step_records s) (steps s)) 10 (steps s - 1) ≡ accepted tt
+    let s = sheet_filled (goal.at.Else-leaves_trees c).In_ok-refuse_at in
+    accepted tt ≡ refuse_if (trees_left (names s) (proposition_pairs s) (code_bytes s) (step_records s) (steps s)) 10 (steps s - 1)
 one_left c = not_refused_if _ _ (trees_test (goal.at.Else-leaves_trees c).After-leaves_trees ∙ c.if-leaves_trees.false)
 
 height_search : (c : After-first_deep_tree) →
-    let s = sheet_filled (goal.at.After-first_deep_tree c).In_default in
+    let s = sheet_filled (goal.at.After-first_deep_tree c).In_ok-refuse_at in
     c.first_deep_tree.result
     ≡ (lowest (deep_tree (names s) (proposition_pairs s) (code_bytes s) (step_records s)) (steps s))
 height_search c =
@@ -129,65 +129,56 @@ fill_sizes-requires c =
       omega (arith, c.requires.0.in_range.steps, c.requires.1),
     )
 
-pub refuse-requires : goal.refuse-requires
-refuse-requires c =
-    step_place c.requires.0 (found_below _ _ (tree_search (goal.at.refuse-requires c).After-fill_sizes) c.in-Some.is)
+pub refuse_at-requires : goal.refuse_at-requires
+refuse_at-requires c = fits _ _ (tree_search (goal.at.refuse_at-requires c).After-fill_sizes) (steps_fit c.requires.0)
 
-pub returns-in-Some : goal.returns-in-Some
+pub returns-in_err-refuse_at : goal.returns-in_err-refuse_at
 unfolding tree_checks
-returns-in-Some c =
+returns-in_err-refuse_at c =
+    let filled_at = (goal.at.returns-in_err-refuse_at c).After-fill_sizes in
+    let same : c.from_residual.result ≡ c.refuse_at.result = search rules in
     record {
-      value = refused_now _ _ (refused_at _ _ (tree_search (goal.at.returns-in-Some c).After-fill_sizes) 10 c.in-Some.is) c.refuse.ensures;
-      sized = sized (goal.at.returns-in-Some c).After-fill_sizes;
+      value = rw same (searched _ _ (tree_search filled_at) 10 c.refuse_at.ensures
+          ∙ stopped _ (searched _ _ (tree_search filled_at) 10 c.in_err-refuse_at.ensures));
+      sized = sized filled_at;
     }
 
 pub leaves_trees-requires : goal.leaves_trees-requires
-leaves_trees-requires c =
-    (c.requires.0.in_range.some_step, table_long_enough (goal.at.leaves_trees-requires c).In_default, program_table (goal.at.leaves_trees-requires c).In_default)
+leaves_trees-requires c = (c.requires.0.in_range.some_step, table_long_enough c, program_table c)
 
-pub refuse-requires-then-leaves_trees : goal.refuse-requires-then-leaves_trees
+pub at-requires : goal.at-requires
 unfolding step_limit
-refuse-requires-then-leaves_trees c =
-    omega (arith, c.requires.0.in_range.steps)
+at-requires c = omega (arith, c.requires.0.in_range.steps)
 
 pub returns-then-leaves_trees : goal.returns-then-leaves_trees
 unfolding tree_checks header_of
 returns-then-leaves_trees c =
+    let at = goal.at.returns-then-leaves_trees c in
     record {
-      value = passed_on _ _ (trees_passed (goal.at.returns-then-leaves_trees c).In_default)
-          (refused_now _ _ (refused_if _ _ (trees_test (goal.at.returns-then-leaves_trees c).After-leaves_trees ∙ c.if-leaves_trees.true))
-          (rw c.requires.0.header at c.refuse-then-leaves_trees.ensures));
-      sized = sized (goal.at.returns-then-leaves_trees c).After-fill_sizes;
+      value = passes _ (trees_passed at.In_ok-refuse_at)
+          (stops _ (refused_if _ _ (trees_test at.After-leaves_trees ∙ c.if-leaves_trees.true) (rw c.requires.0.header at c.at.ensures)));
+      sized = sized at.After-fill_sizes;
     }
 
 pub first_deep_tree-requires : goal.first_deep_tree-requires
 unfolding step_limit
 first_deep_tree-requires c =
-    let has = c.requires.0 in record {
-      has_steps = (rw c.step_records-records.ensures (steps_present has), has.in_range.steps);
-      steps_in_bounds = (table_long_enough (goal.at.first_deep_tree-requires c).In_default, has.in_range.steps, program_table (goal.at.first_deep_tree-requires c).In_default);
-    }
-
-pub refuse-requires-in-Some-first_deep_tree : goal.refuse-requires-in-Some-first_deep_tree
-refuse-requires-in-Some-first_deep_tree c =
-    step_place c.requires.0 (found_below _ _ (height_search (goal.at.refuse-requires-in-Some-first_deep_tree c).After-first_deep_tree) c.in-Some-first_deep_tree.is)
-
-pub returns-in-Some-first_deep_tree : goal.returns-in-Some-first_deep_tree
-unfolding tree_checks
-returns-in-Some-first_deep_tree c =
+    let has = c.requires.0 in
+    let passed = (goal.at.first_deep_tree-requires c).In_ok-refuse_at in
     record {
-      value = passed_on _ _ (trees_passed (goal.at.returns-in-Some-first_deep_tree c).In_default)
-          (passed_on _ _ (one_left (goal.at.returns-in-Some-first_deep_tree c).Else-leaves_trees)
-          (refused_last _ (refused_at _ _ (height_search (goal.at.returns-in-Some-first_deep_tree c).After-first_deep_tree) 11 c.in-Some-first_deep_tree.is) c.refuse-in-Some-first_deep_tree.ensures));
-      sized = sized (goal.at.returns-in-Some-first_deep_tree c).After-fill_sizes;
+      has_steps = (rw c.step_records-records.ensures (steps_present has), has.in_range.steps);
+      steps_in_bounds = (table_long_enough passed, has.in_range.steps, program_table passed);
     }
+
+pub refuse_at-requires-2 : goal.refuse_at-requires-2
+refuse_at-requires-2 c = fits _ _ (height_search (goal.at.refuse_at-requires-2 c).After-first_deep_tree) (steps_fit c.requires.0)
 
 pub returns : goal.returns
 unfolding tree_checks
 returns c =
+    let at = goal.at.returns c in
     record {
-      value = passed_on _ _ (trees_passed (goal.at.returns c).In_default)
-          (passed_on _ _ (one_left (goal.at.returns c).Else-leaves_trees)
-          (accepted_last _ (not_refused _ _ (height_search (goal.at.returns c).After-first_deep_tree) 11 c.in_default-first_deep_tree.is)));
-      sized = sized (goal.at.returns c).After-fill_sizes;
+      value = passes _ (trees_passed at.In_ok-refuse_at)
+          (passes _ (one_left at.Else-leaves_trees) (searched _ _ (height_search at.After-first_deep_tree) 11 c.refuse_at-2.ensures));
+      sized = sized at.After-fill_sizes;
     }

@@ -1,10 +1,9 @@
 -- The propositions' codes are judged in their order.
-use Prim.Native.Nat.{◌-◌}
 use mathlib.Core.Bool.{not-not}
 use native.Mathlib.Omega.{arith}
 use Rattle.definitions.specs.Admission.{bad_code}
 use Rattle.definitions.proofs.Lowest.{found_here, found_nowhere}
-use Rattle.definitions.proofs.Upward.{Passed, at_start, onward}
+use Rattle.definitions.proofs.Upward.{at_start, onward}
 use Rattle.sheet.proofs.Given.{pair_within}
 use Rattle.sheet.proofs.pairs.first_bad_code.Goals as goal
 

@@ -1,9 +1,8 @@
 -- The names are judged in their order.
-use Prim.Native.Nat.{◌-◌}
 use native.Mathlib.Omega.{arith}
 use Rattle.definitions.specs.Admission.{bad_name}
 use Rattle.definitions.proofs.Lowest.{found_here, found_nowhere}
-use Rattle.definitions.proofs.Upward.{Passed, at_start, onward}
+use Rattle.definitions.proofs.Upward.{at_start, onward}
 use Rattle.sheet.proofs.Given.{pair_within}
 use Rattle.sheet.proofs.pairs.first_bad_name.Goals as goal
 

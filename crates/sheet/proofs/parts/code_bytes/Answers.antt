@@ -1,6 +1,5 @@
 -- The part lies where the vocabulary says.
 use Rattle.sheet.proofs.NamesAndCode.{code_is, within}
-use borrow.Author.Rules.{rules}
 use Rattle.sheet.proofs.parts.code_bytes.Goals as goal
 
 pub code_of-requires : goal.code_of-requires

@@ -1,6 +1,5 @@
 -- The part lies where the vocabulary says.
 use Rattle.sheet.proofs.NamesAndCode.{pairs_are, within}
-use borrow.Author.Rules.{rules}
 use Rattle.sheet.proofs.parts.name_pairs.Goals as goal
 
 pub pairs_of-requires : goal.pairs_of-requires

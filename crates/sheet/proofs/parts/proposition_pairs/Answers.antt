@@ -1,7 +1,6 @@
 -- The part lies where the layout says.
 use mathlib.Core.Path.{◌∙◌}
 use Rattle.sheet.proofs.Slices.{proposition_pairs_part}
-use borrow.Author.Rules.{rules}
 use Rattle.sheet.proofs.parts.proposition_pairs.Goals as goal
 
 pub between-requires : goal.between-requires

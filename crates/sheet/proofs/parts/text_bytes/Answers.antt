@@ -1,6 +1,5 @@
 -- The part lies where the vocabulary says.
 use Rattle.sheet.proofs.NamesAndCode.{text_is, within}
-use borrow.Author.Rules.{rules}
 use Rattle.sheet.proofs.parts.text_bytes.Goals as goal
 
 pub text_of-requires : goal.text_of-requires

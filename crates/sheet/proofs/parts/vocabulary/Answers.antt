@@ -1,5 +1,4 @@
 -- The layout says where the text and the code begin.
-use borrow.Author.Rules.{rules}
 use Rattle.definitions.specs.Sheet.{header_size}
 use Rattle.sheet.specs.Header.{vocabulary_of}
 use Rattle.sheet.proofs.parts.vocabulary.Goals as goal
