@@ -2,7 +2,7 @@
 use Prim.Native.Nat.{ℕ, ◌<◌}
 use mathlib.Core.Path.{◌≡◌, refl}
 use mathlib.Core.Logic.{◌⊎◌, inl, inr}
-use Rattle.std.specs.Prelude.{None, Some}
+use Rattle.std.specs.Prelude.{None, Some, Ok, Err}
 use mathlib.Core.List.{List}
 use native.Mathlib.Omega.{arith}
 use Rattle.definitions.specs.Outcome.{Outcome, accepted, map_outcome, refuse}
@@ -28,7 +28,6 @@ use Rattle.steps.specs.declared.Conclusion.TheVariants.{PropIsTrue, TypeJudgemen
 use Rattle.proof_term.specs.Records.{label_of, parameter_label}
 use Rattle.proof_tree.specs.declared.table.Ending.{Ending}
 use Rattle.proof_tree.specs.declared.table.Ending.TheVariants.{Bare, Ascribed, LeftLabelled, DatatypeLabelled, PremissOwn}
-use Rattle.proof_tree.specs.declared.conclusion.Annotation.TheVariants.{Label, Refused}
 use Rattle.proof_tree.specs.Table.{ending_of}
 use Rattle.proof_tree.specs.Labelling.{left_label_of, datatype_label_of, parameter_label_of, Means, stands, judges, Annotated, labelled, refuses}
 use Rattle.proof_tree.specs.Opening.{Readable}
@@ -45,10 +44,10 @@ no_parameter PremissOwn k c h = refl
 
 -- no function with a label is made
 pub unlabelled : (names : ℕ) (pairs code : List ℕ) (e : Ending) (c : Conclusion) (k : ℕ) (m : ProofTreeConclusion ℕ) → (e ≡ Bare) ⊎ ((e ≡ Ascribed) ⊎ (e ≡ PremissOwn))
-    → Annotated names pairs code c (parameter_label_of (ending_of e) k m) (Label 0 0)
+    → Annotated names pairs code c (parameter_label_of (ending_of e) k m) (Ok (record { kind = 0; number = 0 }))
 unfolding parameter_label
 unlabelled names pairs code e c k m h =
-    labelled {kind = 0} {number = 0} (record { is = no_parameter e k m h; known = omega arith; left = λ z. absurd (omega arith) })
+    labelled {l = record { kind = 0; number = 0 }} (record { is = no_parameter e k m h; known = omega arith; left = λ z. absurd (omega arith) })
 
 -- a proposition that stands at its pair's offset
 pub record Stated (names : ℕ) (pairs code : List ℕ) (p : ℕ) (m : ProofTreeConclusion ℕ) : Type 0 where
@@ -79,17 +78,17 @@ module _ {names : ℕ} {pairs code : List ℕ} {c : Conclusion} {m : ProofTreeCo
   stated is = stated_as (rw is at means)
 
   refused_label : {o : Outcome (term.Label ℕ)} {number k : ℕ} {r : Refusal} → o ≡ refuse number k → r ≡ record { number = number; place = k }
-      → Annotated names pairs code c (map_outcome Some o) (Refused r)
+      → Annotated names pairs code c (map_outcome Some o) (Err r)
   unfolding map_outcome refuse
   refused_label {r = r} e is = refuses {r = r} (rw (e, is))
 
   pub no_left_judged : {x : Judgement} {k : ℕ} {r : Refusal} → c ≡ TypeJudgement x → r ≡ record { number = 14; place = k }
-      → Annotated names pairs code c (left_label_of k m) (Refused r)
+      → Annotated names pairs code c (left_label_of k m) (Err r)
   unfolding left_label_of
   no_left_judged {k = k} is = refused_label (left_judged (rw is at means) k)
 
   pub no_datatype_judged : {x : Judgement} {k : ℕ} {r : Refusal} → c ≡ TypeJudgement x → r ≡ record { number = 15; place = k }
-      → Annotated names pairs code c (datatype_label_of k m) (Refused r)
+      → Annotated names pairs code c (datatype_label_of k m) (Err r)
   unfolding datatype_label_of
   no_datatype_judged {k = k} is = refused_label (datatype_judged (rw is at means) k)
 
@@ -100,47 +99,47 @@ module _ {names : ℕ} {pairs code : List ℕ} {c : Conclusion} {m : ProofTreeCo
 
     no_label : (label : ProofTreeConclusion ℕ → Outcome (term.Label ℕ)) {number k : ℕ} {r : Refusal}
         → label (tree.PropIsTrue (prop_at names code (pair_offset pairs p))) ≡ refuse number k
-        → r ≡ record { number = number; place = k } → Annotated names pairs code c (map_outcome Some (label m)) (Refused r)
+        → r ≡ record { number = number; place = k } → Annotated names pairs code c (map_outcome Some (label m)) (Err r)
     no_label label e is = rw (stated o.concludes).is (refused_label e is)
 
     pub no_left : {k : ℕ} {r : Refusal} → ((connective : Connective) (left : ℕ) → s ≡ Binary connective left → ⊥)
-        → r ≡ record { number = 14; place = k } → Annotated names pairs code c (left_label_of k m) (Refused r)
+        → r ≡ record { number = 14; place = k } → Annotated names pairs code c (left_label_of k m) (Err r)
     unfolding left_label_of
     no_left {k} other = no_label (left_label k) (no_binary k (is_shape refl) other)
 
     pub other_left : {connective : Connective} {k left : ℕ} {r : Refusal} → s ≡ Binary connective left → (connective ≡ Impl → ⊥)
-        → r ≡ record { number = 14; place = k } → Annotated names pairs code c (left_label_of k m) (Refused r)
+        → r ≡ record { number = 14; place = k } → Annotated names pairs code c (left_label_of k m) (Err r)
     unfolding left_label_of
     other_left {k} same other = no_label (left_label k) (other_connective k (is_shape same) other)
 
     pub left_side : (k : ℕ) {connective : Connective} {left : ℕ} → s ≡ Binary connective left → connective ≡ Impl
-        → Annotated names pairs code c (left_label_of k m) (Label 1 left)
+        → Annotated names pairs code c (left_label_of k m) (Ok (record { kind = 1; number = left }))
     unfolding left_label_of map_outcome parameter_label label_of
     left_side k {left = left} same impl =
         let its = stated o.concludes in
         let implies = implication_at its.here (is_shape (rw impl at same)) in
-        labelled {kind = 1} {number = left} (record {
+        labelled {l = record { kind = 1; number = left }} (record {
           is = rw (its.is, implication_label_lem k (is_shape same) impl);
           known = omega arith;
           left = λ z. record { proposition = p; concludes = o.concludes; implies = implies };
         })
 
     pub no_datatype : {k : ℕ} {r : Refusal} → ((quantifier : Quantifier) (object d body : ℕ) → s ≡ Quantified quantifier object d body → ⊥)
-        → r ≡ record { number = 15; place = k } → Annotated names pairs code c (datatype_label_of k m) (Refused r)
+        → r ≡ record { number = 15; place = k } → Annotated names pairs code c (datatype_label_of k m) (Err r)
     unfolding datatype_label_of
     no_datatype {k} other = no_label (datatype_label k) (no_quantified k (is_shape refl) other)
 
     pub other_datatype : {quantifier : Quantifier} {k object d body : ℕ} {r : Refusal} → s ≡ Quantified quantifier object d body
         → (quantifier ≡ ForAll → ⊥) → r ≡ record { number = 15; place = k }
-        → Annotated names pairs code c (datatype_label_of k m) (Refused r)
+        → Annotated names pairs code c (datatype_label_of k m) (Err r)
     unfolding datatype_label_of
     other_datatype {k} same other = no_label (datatype_label k) (other_quantifier k (is_shape same) other)
 
     pub datatype : (k : ℕ) {quantifier : Quantifier} {object d body : ℕ} → s ≡ Quantified quantifier object d body → quantifier ≡ ForAll
-        → Annotated names pairs code c (datatype_label_of k m) (Label 2 d)
+        → Annotated names pairs code c (datatype_label_of k m) (Ok (record { kind = 2; number = d }))
     unfolding datatype_label_of map_outcome parameter_label label_of
     datatype k {d = d} same universal =
-        labelled {kind = 2} {number = d} (record {
+        labelled {l = record { kind = 2; number = d }} (record {
           is = rw ((stated o.concludes).is, universal_label_lem k (is_shape same) universal);
           known = omega arith;
           left = λ z. absurd (omega arith);

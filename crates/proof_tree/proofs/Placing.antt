@@ -28,8 +28,7 @@ use Rattle.steps.specs.declared.Conclusion.{Conclusion}
 use Rattle.steps.specs.declared.Conclusion.TheVariants.{PropIsTrue}
 use Rattle.steps.specs.declared.Step as view
 use Rattle.steps.specs.StepAt.{identifier_at, step_at}
-use Rattle.proof_tree.specs.declared.conclusion.Annotation.{Annotation}
-use Rattle.proof_tree.specs.declared.conclusion.Annotation.TheVariants as annotation
+use Rattle.proof_tree.specs.declared.conclusion.Label as program
 use Rattle.proof_tree.specs.Table.{mode_of, ending_of, TableRow}
 use Rattle.prefix_code.specs.PropAt.{prop_at}
 use Rattle.proof_tree.specs.Terms.{HasProposition, term_over, part_terms, Ordered, MadeTerm}
@@ -103,16 +102,12 @@ unfolding ascription_label
 ascription (stands s) (ascribes made) = is_ascribed refl refl made
 ascription judges (wrapping.refuses e) = is_refused refl e
 
-label_in : {names : ℕ} {pairs code : List ℕ} {c : Conclusion} {o : Outcome (Option (Label ℕ))} {kind number : ℕ}
-    → Annotated names pairs code c o (annotation.Label kind number) → LabelOf names pairs code c o kind number
-label_in (labelled l) = l
-
-pub label_of : {names : ℕ} {pairs code : List ℕ} {c : Conclusion} {o : Outcome (Option (Label ℕ))} {kind number : ℕ} {a : Annotation}
-    → a ≡ annotation.Label kind number → Annotated names pairs code c o a → LabelOf names pairs code c o kind number
-label_of is given = label_in (rw is at given)
+pub label_of : {names : ℕ} {pairs code : List ℕ} {c : Conclusion} {o : Outcome (Option (Label ℕ))} {l : program.Label}
+    → Annotated names pairs code c o (Ok l) → LabelOf names pairs code c o l.kind l.number
+label_of (labelled l) = l
 
 refusal_of : {names : ℕ} {pairs code : List ℕ} {c : Conclusion} {o : Outcome (Option (Label ℕ))} {r : Refusal}
-    → Annotated names pairs code c o (annotation.Refused r) → o ≡ refused r
+    → Annotated names pairs code c o (Err r) → o ≡ refused r
 refusal_of (labelling.refuses e) = e
 
 -- step k as a value, its row, and its ending in its mode
@@ -142,10 +137,10 @@ module _ {names : ℕ} {pairs code records : List ℕ} {k : ℕ} {mode : own.Rea
       placed_parts (step_in names pairs code records k) ts (mode_of mode)
       ∙ rw (v.ends, v.is_row.ending_is) (inferring_parts (step_in names pairs code records k) ts (ending_at (mode_of mode) (ending (rule_in records k))))
 
-  pub label_refused : {r : Refusal} {before : List ℕ} {used : ℕ} {parts : (ℕ → Prop ℕ) → List (ProofTerm ℕ)} {least most : ℕ} {after : List ℕ} (ts : List (ProofTerm ℕ)) → Annotated names pairs code c label (annotation.Refused r)
-      → Answered names pairs code records k (placed ts) before used parts least most after (Err r)
+  pub label_refused : {r : Refusal} {before : List ℕ} {used : ℕ} {parts : (ℕ → Prop ℕ) → List (ProofTerm ℕ)} {least most : ℕ} {after : List ℕ} (ts : List (ProofTerm ℕ)) → Annotated names pairs code c label (Err r)
+      → {x : Result ℕ Refusal} → x ≡ Err r → Answered names pairs code records k (placed ts) before used parts least most after x
   unfolding ◌>>=◌
-  label_refused {r} ts a = refuses {r = r} (placed_is ts ∙ rw (refusal_of a))
+  label_refused {r} ts a is = rw is (refuses {r = r} (placed_is ts ∙ rw (refusal_of a)))
 
   step_term_is : (l : Option (Label ℕ)) (ts : List (ProofTerm ℕ)) → term_over row.4 z.first.name z.second.name l ts ≡ step_term (step_in names pairs code records k) l ts
   unfolding step_in identifier_in step_term term_over step_at identifier_at

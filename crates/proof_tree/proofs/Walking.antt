@@ -48,6 +48,12 @@ pub refusal_of : {names : ℕ} {pairs code records : List ℕ} {k : ℕ} {outcom
 refusal_of (gives t) e = let z : ◌≡◌ {A = ℕ} 0 1 = cc in absurd (omega arith)
 refusal_of (refuses h) e = cc
 
+-- an answer that is the refusal
+pub refused_as : {names : ℕ} {pairs code records : List ℕ} {k : ℕ} {outcome : Outcome (ProofTerm ℕ)} {before : List ℕ} {used : ℕ} {parts : (ℕ → Prop ℕ) → List (ProofTerm ℕ)} {least most : ℕ} {after : List ℕ} {r : Result ℕ Refusal} {x : Refusal}
+    → r ≡ Err x → Answered names pairs code records k outcome before used parts least most after (Err x)
+    → Answered names pairs code records k outcome before used parts least most after r
+refused_as is a = rw is a
+
 module _ (names : ℕ) (pairs code records : List ℕ) (k : ℕ) where
   premisses_are : last_trees (premiss_count records k) (trees_before names pairs code records k) none ≡ premisses_from names pairs code records k 0
   unfolding premisses_from

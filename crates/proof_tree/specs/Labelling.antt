@@ -1,5 +1,5 @@
 -- Which label a step's term has: document 01's last column in two parts, a function's parameter's and an ascription.
-use Rattle.std.specs.Prelude.{ℕ, ◌≤◌, ◌≡◌, List, Option, None, Some}
+use Rattle.std.specs.Prelude.{ℕ, ◌≤◌, ◌≡◌, List, Option, None, Some, Result, Ok, Err}
 use Rattle.definitions.specs.Outcome.{Outcome, accepted, refused, map_outcome}
 use Rattle.definitions.specs.declared.Refusal.{Refusal}
 use Rattle.definitions.specs.Sheet.{pair_offset}
@@ -11,8 +11,7 @@ use Rattle.proof_term.specs.Records.{parameter_label}
 use Rattle.steps.specs.declared.Judgement.{Judgement}
 use Rattle.steps.specs.declared.Conclusion.{Conclusion}
 use Rattle.steps.specs.declared.Conclusion.TheVariants.{PropIsTrue, TypeJudgement}
-use Rattle.proof_tree.specs.declared.conclusion.Annotation.{Annotation}
-use Rattle.proof_tree.specs.declared.conclusion.Annotation.TheVariants as annotation
+use Rattle.proof_tree.specs.declared.conclusion.Label as program
 use Rattle.prefix_code.specs.PropAt.{prop_at, Present}
 use Rattle.prefix_code.specs.Shape.{ImplicationAt}
 
@@ -54,12 +53,12 @@ pub record LabelOf (names : ℕ) (pairs code : List ℕ) (conclusion : Conclusio
   pub left : kind ≡ 1 → LeftSide pairs code conclusion number
 
 -- what each answer says of the outcome
-pub data Annotated (names : ℕ) (pairs code : List ℕ) (conclusion : Conclusion) (outcome : Outcome (Option (Label ℕ))) : Annotation → Type 0 where
-  labelled : {kind number : ℕ} → LabelOf names pairs code conclusion outcome kind number
-      → Annotated names pairs code conclusion outcome (annotation.Label kind number)
-  refuses : {r : Refusal} → outcome ≡ refused r → Annotated names pairs code conclusion outcome (annotation.Refused r)
+pub data Annotated (names : ℕ) (pairs code : List ℕ) (conclusion : Conclusion) (outcome : Outcome (Option (Label ℕ))) : Result program.Label Refusal → Type 0 where
+  labelled : {l : program.Label} → LabelOf names pairs code conclusion outcome l.kind l.number
+      → Annotated names pairs code conclusion outcome (Ok l)
+  refuses : {r : Refusal} → outcome ≡ refused r → Annotated names pairs code conclusion outcome (Err r)
 
 -- the answer to a question about a conclusion, with whatever count of names its code is read
-abbrev pub AnnotationOf : (ProofTreeConclusion ℕ → Outcome (Option (Label ℕ))) → List ℕ → List ℕ → Conclusion → Annotation → Type 0
+abbrev pub AnnotationOf : (ProofTreeConclusion ℕ → Outcome (Option (Label ℕ))) → List ℕ → List ℕ → Conclusion → Result program.Label Refusal → Type 0
 AnnotationOf label pairs code conclusion r =
     (names : ℕ) (m : ProofTreeConclusion ℕ) → Means names pairs code conclusion m → Annotated names pairs code conclusion (label m) r

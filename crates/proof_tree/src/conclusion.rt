@@ -11,38 +11,41 @@ use prefix_code::{Connective, Quantifier, Shape, shape_at};
 use proof_term::{DATATYPE, NO_LABEL, PROPOSITION};
 use steps::Conclusion;
 
-// The label of a function's parameter, as a kind and a number; or a refusal.
-#[derive(Drop)]
-pub enum Annotation {
-    Label(u16, u16),
-    Refused(Refusal),
+// The label of a function's parameter: its kind, and its number.
+#[derive(Clone, Copy)]
+pub struct Label {
+    pub kind: u16,
+    pub number: u16,
 }
 
 // The left side of the implication that step k concludes.
-fn left_label(pairs: &[u8], code: &[u8], conclusion: Conclusion, k: usize) -> Annotation
+fn left_label(pairs: &[u8], code: &[u8], conclusion: Conclusion, k: usize) -> Result<Label, Refusal>
     requires { (k < 65536) × Readable pairs.now code.now conclusion }
     ensures { AnnotationOf (left_label_of k) pairs.now code.now conclusion result }
 {
     let Conclusion::PropIsTrue(p) = conclusion else {
-        return Annotation::Refused(Refusal::at(14, k));
+        return Err(Refusal::at(14, k));
     };
     let at = pair_offset(pairs, p as usize);
     let Shape::Binary { connective, left } = shape_at(code, at) else {
-        return Annotation::Refused(Refusal::at(14, k));
+        return Err(Refusal::at(14, k));
     };
     if connective != Connective::Impl {
-        return Annotation::Refused(Refusal::at(14, k));
+        return Err(Refusal::at(14, k));
     }
-    Annotation::Label(PROPOSITION as u16, left as u16)
+    Ok(Label {
+        kind: PROPOSITION as u16,
+        number: left as u16,
+    })
 }
 
 // The datatype of the ∀ that step k concludes.
-fn datatype_label(pairs: &[u8], code: &[u8], conclusion: Conclusion, k: usize) -> Annotation
+fn datatype_label(pairs: &[u8], code: &[u8], conclusion: Conclusion, k: usize) -> Result<Label, Refusal>
     requires { (k < 65536) × Readable pairs.now code.now conclusion }
     ensures { AnnotationOf (datatype_label_of k) pairs.now code.now conclusion result }
 {
     let Conclusion::PropIsTrue(p) = conclusion else {
-        return Annotation::Refused(Refusal::at(15, k));
+        return Err(Refusal::at(15, k));
     };
     let at = pair_offset(pairs, p as usize);
     let Shape::Quantified {
@@ -52,12 +55,15 @@ fn datatype_label(pairs: &[u8], code: &[u8], conclusion: Conclusion, k: usize) -
         body: _,
     } = shape_at(code, at)
     else {
-        return Annotation::Refused(Refusal::at(15, k));
+        return Err(Refusal::at(15, k));
     };
     if quantifier != Quantifier::ForAll {
-        return Annotation::Refused(Refusal::at(15, k));
+        return Err(Refusal::at(15, k));
     }
-    Annotation::Label(DATATYPE as u16, datatype as u16)
+    Ok(Label {
+        kind: DATATYPE as u16,
+        number: datatype as u16,
+    })
 }
 
 // The label of the parameter of a function that step k makes, with that ending and conclusion.
@@ -67,7 +73,7 @@ pub fn annotation_of(
     ending: Ending,
     conclusion: Conclusion,
     k: usize,
-) -> Annotation
+) -> Result<Label, Refusal>
     requires { (k < 65536) × Readable pairs.now code.now conclusion }
     ensures { AnnotationOf (parameter_label_of (ending_of ending) k)
         pairs.now code.now conclusion result }
@@ -75,8 +81,9 @@ pub fn annotation_of(
     match ending {
         Ending::LeftLabelled => left_label(pairs, code, conclusion, k),
         Ending::DatatypeLabelled => datatype_label(pairs, code, conclusion, k),
-        Ending::Bare | Ending::Ascribed | Ending::PremissOwn => {
-            Annotation::Label(NO_LABEL as u16, 0)
-        }
+        Ending::Bare | Ending::Ascribed | Ending::PremissOwn => Ok(Label {
+            kind: NO_LABEL as u16,
+            number: 0,
+        }),
     }
 }

@@ -20,7 +20,7 @@ ghost use Rattle.proof_tree.specs.Exportable.{SomeGoodStep, Exportable};
 ghost use Rattle.proof_tree.specs.Exporting.{RoomFor, GoodStepPlaced, StepExported};
 ghost use Rattle.proof_tree.specs.Wrapping.{Wrapped};
 
-use conclusion::{Annotation, annotation_of};
+use conclusion::annotation_of;
 use definitions::Refusal;
 use number::pair_offset;
 use proof_term::{PROPOSITION, type_ascription};
@@ -83,19 +83,23 @@ fn placed_term(
     let ending = ending_in(mode, last_column);
     let step = step_at(step_records, k);
     let conclusion = step.conclusion;
-    let annotation = annotation_of(pairs, code, ending, conclusion, k);
-    match annotation {
-        Annotation::Refused(r) => Err(r),
-        Annotation::Label(kind, label) => {
-            let first = step.first.name;
-            let second = step.second.name;
-            let next = rule_term(term, first, second, kind, label, parts, term_records, used);
-            let Ending::Ascribed = ending else {
-                return Ok(next);
-            };
-            wrap_into_type_ascription(pairs, conclusion, k, term_records, next)
-        }
-    }
+    let label = annotation_of(pairs, code, ending, conclusion, k)?;
+    let first = step.first.name;
+    let second = step.second.name;
+    let next = rule_term(
+        term,
+        first,
+        second,
+        label.kind,
+        label.number,
+        parts,
+        term_records,
+        used,
+    );
+    let Ending::Ascribed = ending else {
+        return Ok(next);
+    };
+    wrap_into_type_ascription(pairs, conclusion, k, term_records, next)
 }
 
 // The term of step k in its mode: its premisses are counted on entering it and come next, in order; its conclusion comes last.
@@ -125,7 +129,7 @@ fn do_export_as_proof_term(
     let mut parts = [0usize; 3];
     let mut next = used;
     for i in 0..reads {
-        let exported = do_export_as_proof_term(
+        let after = do_export_as_proof_term(
             names,
             pairs,
             code,
@@ -135,10 +139,7 @@ fn do_export_as_proof_term(
             expected_premisse_mode(modes[i], mode),
             term_records,
             next,
-        );
-        let Ok(after) = exported else {
-            return exported;
-        };
+        )?;
         parts[i] = after - 1;
         next = after;
     }

@@ -1,8 +1,9 @@
 -- What is left of the premisses decides what they all come to. The calls end by the step's number.
 use Prim.Native.Nat.{ℕ, ◌≤◌}
-use mathlib.Core.Path.{◌≡◌, sym, ◌∙◌}
+use mathlib.Core.Path.{◌≡◌, refl, sym, ◌∙◌}
 use mathlib.Core.Bool.{false}
 use native.Mathlib.Omega.{arith}
+use borrow.Author.Rules.{rules}
 use Rattle.definitions.specs.Sheet.{premiss_count}
 use Rattle.definitions.specs.Tree.{rule_in}
 use Rattle.definitions.specs.Admission.{too_few_trees}
@@ -11,7 +12,7 @@ use Rattle.proof_tree.specs.Table.{mode_of, TableRow}
 use Rattle.proof_tree.specs.Exportable.{GoodStep}
 use Rattle.proof_tree.proofs.Counts.{enough}
 use Rattle.proof_tree.proofs.ReadPremisses.{read_none, read_more, read_refused, room_next, read_parts}
-use Rattle.proof_tree.proofs.Walking.{exportable_shorter, term_of, refusal_of, size_tree, count_refused, Entered, premiss_refused, step_placed}
+use Rattle.proof_tree.proofs.Walking.{exportable_shorter, term_of, refusal_of, refused_as, size_tree, count_refused, Entered, premiss_refused, step_placed}
 use Rattle.proof_tree.proofs.+do_export_as_proof_term.Goals as goal
 use Rattle.proof_tree.proofs.+do_export_as_proof_term.Goals.{Start, After-row_of-row, Else-not-admits_count, In-loop-i}
 
@@ -60,9 +61,9 @@ premiss-requires-clause-has_step t c =
     let there = (goal.at.premiss-requires-clause-has_step t c).Else-not-admits_count in
     ((good t (goal.at.premiss-requires-clause-has_step t c).Start).whole, omega (arith, has_premisses t there))
 
-pub do_export_as_proof_term-exported-requires : goal.do_export_as_proof_term-exported-requires
-do_export_as_proof_term-exported-requires t c =
-    let there = (goal.at.do_export_as_proof_term-exported-requires t c).Else-not-admits_count in
+pub do_export_as_proof_term-requires : goal.do_export_as_proof_term-requires
+do_export_as_proof_term-requires t c =
+    let there = (goal.at.do_export_as_proof_term-requires t c).Else-not-admits_count in
     let read = c.loop-i.invariant in
     let step = c.premiss.ensures in
     let room = room_next (entered t there).is_row read c.loop-i-test.true step c.expected_premisse_mode.ensures in
@@ -77,16 +78,16 @@ do_export_as_proof_term-exported-requires t c =
       ),
     )
 
-pub returns-in_default : goal.returns-in_default
-returns-in_default t c =
-    let there = entered t (goal.at.returns-in_default t c).Else-not-admits_count in
-    rw c.in_default.is
+pub returns-in_err-after : goal.returns-in_err-after
+returns-in_err-after t c =
+    let there = entered t (goal.at.returns-in_err-after t c).Else-not-admits_count in
+    refused_as (search rules)
     (premiss_refused (mode_of _) there
     (read_refused there.is_row c.loop-i.invariant c.loop-i-test.true c.premiss.ensures c.expected_premisse_mode.ensures
-    (refusal_of c.do_export_as_proof_term-exported.ensures c.in_default.is)))
+    (refusal_of c.in_err-after.ensures refl)))
 
 pub overflow_sub-parts : goal.overflow_sub-parts
-overflow_sub-parts t c = omega (arith, (term_of c.do_export_as_proof_term-exported.ensures c.in-Ok.is).low)
+overflow_sub-parts t c = omega (arith, (term_of c.in_ok-after.ensures refl).low)
 
 pub loop-i-preserved : goal.loop-i-preserved
 loop-i-preserved t c =
@@ -94,8 +95,8 @@ loop-i-preserved t c =
     let step = c.premiss.ensures in
     read_more there.is_row c.loop-i.invariant c.loop-i-test.true step
     c.expected_premisse_mode.ensures
-    (term_of c.do_export_as_proof_term-exported.ensures c.in-Ok.is)
-    (omega (arith, step.earlier)) c.do_export_as_proof_term-exported.auto.term_records
+    (term_of c.in_ok-after.ensures refl)
+    (omega (arith, step.earlier)) c.do_export_as_proof_term.auto.term_records
 
 pub placed_term-requires-clause-some_good_step : goal.placed_term-requires-clause-some_good_step
 placed_term-requires-clause-some_good_step t c =

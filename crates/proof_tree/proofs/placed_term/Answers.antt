@@ -1,12 +1,13 @@
 -- The label of a parameter first, then the rule's term, then an ascription.
 use Prim.Native.Nat.{ℕ}
 use native.Mathlib.Omega.{arith}
+use borrow.Author.Rules.{rules}
 use Rattle.proof_tree.specs.Exportable.{GoodStep}
 use Rattle.proof_tree.specs.Labelling.{LabelOf}
 use Rattle.proof_tree.proofs.Concluding.{means, readable}
 use Rattle.proof_tree.proofs.Placing.{Visited, concluded, label, label_of, label_refused, term_answer, ascription, ascribed_answer}
 use Rattle.proof_tree.proofs.placed_term.Goals as goal
-use Rattle.proof_tree.proofs.placed_term.Goals.{After-step_at-step, In-Label}
+use Rattle.proof_tree.proofs.placed_term.Goals.{After-step_at-step, In_ok-label}
 
 visited : (c : After-step_at-step) {names : ℕ} → let s = c.args in
     GoodStep names s.pairs.now s.code.now s.step_records.now s.k
@@ -21,28 +22,28 @@ visited c good =
     }
 
 -- the label of a parameter
-its_label : (c : In-Label) {names : ℕ} → let s = c.args in
+its_label : (c : In_ok-label) {names : ℕ} → let s = c.args in
     (good : GoodStep names s.pairs.now s.code.now s.step_records.now s.k)
-    → LabelOf names s.pairs.now s.code.now c.step_at-step.result.conclusion (label (visited (goal.at.In-Label c).After-step_at-step good)) c.in-Label.kind c.in-Label.label
+    → LabelOf names s.pairs.now s.code.now c.step_at-step.result.conclusion (label (visited (goal.at.In_ok-label c).After-step_at-step good)) c.in_ok-label.label.kind c.in_ok-label.label.number
 its_label c good =
-    let v = visited (goal.at.In-Label c).After-step_at-step good in
-    label_of c.in-Label.is (c.annotation_of-annotation.ensures _ _ (means v.good v.bytes (concluded v)))
+    let v = visited (goal.at.In_ok-label c).After-step_at-step good in
+    label_of (c.in_ok-label.ensures _ _ (means v.good v.bytes (concluded v)))
 
 pub step_at-step-requires : goal.step_at-step-requires
 step_at-step-requires c = c.requires.some_good_step.0.good.whole
 
-pub annotation_of-annotation-requires : goal.annotation_of-annotation-requires
-annotation_of-annotation-requires c =
+pub annotation_of-requires : goal.annotation_of-requires
+annotation_of-requires c =
     let v = visited c c.requires.some_good_step.0.good in (v.good.few, readable v.good v.bytes (concluded v))
 
 pub rule_term-next-requires : goal.rule_term-next-requires
 rule_term-next-requires c =
     let pre = c.requires in
-    (pre.parts.0, (its_label (goal.at.rule_term-next-requires c).In-Label pre.some_good_step.0.good).known)
+    (pre.parts.0, (its_label (goal.at.rule_term-next-requires c).In_ok-label pre.some_good_step.0.good).known)
 
 pub returns-in_default : goal.returns-in_default
 returns-in_default c names good =
-    term_answer (visited (goal.at.returns-in_default c).After-step_at-step good) (its_label (goal.at.returns-in_default c).In-Label good) c.rule_term-next.ensures c.in_default.not-Ascribed
+    term_answer (visited (goal.at.returns-in_default c).After-step_at-step good) (its_label (goal.at.returns-in_default c).In_ok-label good) c.rule_term-next.ensures c.in_default.not-Ascribed
 
 pub wrap_into_type_ascription-requires : goal.wrap_into_type_ascription-requires
 wrap_into_type_ascription-requires c =
@@ -56,13 +57,13 @@ wrap_into_type_ascription-requires c =
       (readable v.good v.bytes (concluded v)).paired,
     )
 
-pub returns-in-Refused : goal.returns-in-Refused
-returns-in-Refused c names good =
-    let v = visited (goal.at.returns-in-Refused c).After-step_at-step good in
-    label_refused v _ (rw c.in-Refused.is at (c.annotation_of-annotation.ensures _ _ (means v.good v.bytes (concluded v))))
+pub returns-in_err-label : goal.returns-in_err-label
+returns-in_err-label c names good =
+    let v = visited (goal.at.returns-in_err-label c).After-step_at-step good in
+    label_refused v _ (c.in_err-label.ensures _ _ (means v.good v.bytes (concluded v))) (search rules)
 
-pub returns-in-Ascribed : goal.returns-in-Ascribed
-returns-in-Ascribed c names good =
-    let v = visited (goal.at.returns-in-Ascribed c).After-step_at-step good in
-    ascribed_answer v (its_label (goal.at.returns-in-Ascribed c).In-Label good) c.rule_term-next.ensures c.in-Ascribed.is
+pub returns : goal.returns
+returns c names good =
+    let v = visited (goal.at.returns c).After-step_at-step good in
+    ascribed_answer v (its_label (goal.at.returns c).In_ok-label good) c.rule_term-next.ensures c.in-Ascribed.is
     (ascription (means v.good v.bytes (concluded v)) c.wrap_into_type_ascription.ensures)
