@@ -5,8 +5,9 @@ use mathlib.Core.Logic.{by_cases}
 use mathlib.Core.List.{List, [], ◌∷◌, ◌++◌, append_assoc}
 use native.Mathlib.Omega.{arith}
 use native.Mathlib.Decide.{dec_lt}
-use native.Mathlib.Numerals.{towards_suc}
-use lib.ListN.{length, get_or, set, take, drop, length-append, get_or-append}
+use borrow.Rule.Slice.PartMut.{put_mid}
+use Rattle.std.proofs.lemmas.Grind.{common_steps}
+use lib.ListN.{length, get_or, take, drop, length-append, get_or-append}
 use lib.Seq.{sets, sets-eq, length-take-le, take_at, drop_at, get_or-append-add}
 use Rattle.definitions.specs.Prop.{Prop}
 use Rattle.definitions.specs.Term.{ProofTerm, Unit, annotation_count}
@@ -18,13 +19,9 @@ use Rattle.proof_term.proofs.Records.{part_count_lem, form_same, fewer, same_fie
 use Rattle.proof_term.proofs.Labels.{own_labels_lem}
 use Rattle.proof_term.proofs.Tally.{over_counted}
 
--- seven stores in a row
-pub pushed :
-    (kind a b c d e tally : ℕ) (before : List ℕ) (used : ℕ) →
-    Pushed kind a b c d e tally before used
-    (set (set (set (set (set (set (set before (record_size * used) kind) (record_size * used + 1) a) (record_size * used + 2) b) (record_size * used + 3) c) (record_size * used + 4) d) (record_size * used + 5) e) (record_size * used + 6) tally)
-    (used + 1)
-pushed kind a b c d e tally before used = record { stored = simp towards_suc; counted = refl }
+-- a part that is copied in is stored
+pub stored : (i k : ℕ) (l vs : List ℕ) → k ≡ length vs → i + length vs ≤ length l → put_mid i k l vs ≡ sets l i vs
+stored i k l vs e fits = rw (e, sets-eq vs l i fits) (grind (arith, common_steps))
 
 -- memory that keeps its first numbers keeps the terms of the records that they make up
 pub kept : (used : ℕ) (before after : List ℕ) → take (record_size * used) after ≡ take (record_size * used) before → Kept used before after

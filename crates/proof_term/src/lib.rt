@@ -16,7 +16,7 @@ pub const RECORD_SIZE: usize = 7;
 // The number of a record that is its tally, and the most that it says.
 const TALLY: usize = 6;
 
-const TALLY_LIMIT: usize = 65535;
+const TALLY_LIMIT: usize = u16::MAX as usize;
 
 // The kinds of records, in the Rust's order.
 pub const IDENT: usize = 0;
@@ -61,6 +61,7 @@ pub const DATATYPE: usize = 2;
 const PART_COUNTS: [u8; KINDS] = [0, 2, 1, 1, 1, 2, 2, 1, 1, 3, 1, 1, 0, 0];
 
 // Stores record `used` and gives the number of the next one.
+#[tactic(auto, using(crate::proofs::Making::stored))]
 pub fn push(
     records: &mut [u16],
     used: usize,
@@ -76,41 +77,31 @@ pub fn push(
     ensures { Pushed kind a b c d e tally records.old used records.new result }
 {
     let at = RECORD_SIZE * used;
-    records[at] = kind;
-    records[at + 1] = a;
-    records[at + 2] = b;
-    records[at + 3] = c;
-    records[at + 4] = d;
-    records[at + 5] = e;
-    records[at + 6] = tally;
+    records[at..at + RECORD_SIZE].copy_from_slice(&[kind, a, b, c, d, e, tally]);
     used + 1
 }
 
 // How many labels a record has itself.
+#[tactic(auto, unfolding(crate::specs::Tally::own_count))]
 fn own_count(kind: usize, label: usize) -> usize
     ensures { result ≡ own_count kind label }
 {
-    if has_label(kind, label) {
-        return 1;
-    }
-    0
+    usize::from(has_label(kind, label))
 }
 
 // The tally of a record of this kind over earlier records, by its numbers a, b and c: its own label and the tallies of its parts, as
 // far as the limit.
+#[tactic(auto, using(crate::proofs::Records::few_parts))]
 fn tally_over(records: &[u16], used: usize, kind: usize, numbers: [usize; 3]) -> usize
     requires used_in_bounds { record_size * used ≤ length records.now }
     requires each { Each (λ part. part < used) (part_count kind) (get_or numbers 0 0) (get_or numbers 1 0) (get_or numbers 2 0) }
     ensures { (result ≡ tally_over records.now kind numbers) × (result < 65536) }
 {
     let mut tally = own_count(kind, numbers[2]);
-    for i in 0..part_count(kind) {
-        tally += field(records, numbers[i], TALLY);
+    for &part in &numbers[..part_count(kind)] {
+        tally += field(records, part, TALLY);
     }
-    if TALLY_LIMIT < tally {
-        return TALLY_LIMIT;
-    }
-    tally
+    tally.min(TALLY_LIMIT)
 }
 
 // Makes record `used`, of any kind, over earlier records, with its tally.
@@ -296,34 +287,30 @@ pub fn sorry(records: &mut [u16], used: usize) -> usize
 }
 
 // Number `i` of record `n`; number 0 is the kind, number 6 the tally.
+#[tactic(auto, unfolding(crate::specs::Records::field_at))]
 pub fn field(records: &[u16], n: usize, i: usize) -> usize
     requires { (record_size * (n + 1) ≤ length records.now) × (i < record_size) }
     ensures { (result ≡ field_at records.now n i) × (result < 65536) }
 {
-    records[RECORD_SIZE * n + i] as usize
+    usize::from(records[RECORD_SIZE * n + i])
 }
 
 // How many parts a record of this kind has; an unknown kind has none.
 pub fn part_count(kind: usize) -> usize
     ensures { result ≡ part_count kind }
 {
-    if kind < 14 {
-        return PART_COUNTS[kind] as usize;
+    if kind < KINDS {
+        return usize::from(PART_COUNTS[kind]);
     }
     0
 }
 
 // Whether a record has a label, by its kind and the kind of its label: an ascription, or a function whose parameter has one.
+#[tactic(auto, unfolding(crate::specs::Labels::has_label))]
 pub fn has_label(kind: usize, label: usize) -> bool
     ensures { result ≡ has_label kind label }
 {
-    if kind == TYPE_ASCRIPTION {
-        return true;
-    }
-    if kind == FUNCTION {
-        return label != NO_LABEL;
-    }
-    false
+    kind == TYPE_ASCRIPTION || kind == FUNCTION && label != NO_LABEL
 }
 
 // The label count of the term that record `n` holds, whose nodes keep theirs: the record's tally.

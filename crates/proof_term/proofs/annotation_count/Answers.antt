@@ -1,6 +1,5 @@
 -- The record itself is a node of the term that it holds.
 use mathlib.Core.Path.{◌∙◌}
-use borrow.Author.Rules.{rules}
 use Rattle.proof_term.specs.Tally.{tally_at, root}
 use Rattle.proof_term.proofs.annotation_count.Goals as goal
 

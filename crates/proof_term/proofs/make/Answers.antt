@@ -1,6 +1,5 @@
 -- What seven numbers stored as a record make, whatever its kind.
 use native.Mathlib.Omega.{arith}
-use borrow.Author.Rules.{rules}
 use Rattle.proof_term.proofs.Making.{made}
 use Rattle.proof_term.proofs.make.Goals as goal
 
