@@ -1,31 +1,20 @@
 -- One number of a record after the other is stored over other names.
 use Prim.Native.Nat.{ℕ, ◌+◌, ◌*◌, ◌≤◌, ◌<◌}
-use mathlib.Core.Path.{◌≡◌, refl, sym, ap, ◌∙◌}
+use mathlib.Core.Path.{◌≡◌, refl, ap, ◌∙◌}
 use mathlib.Core.Logic.{by_cases}
-use mathlib.Core.Bool.{Bool, true, false, cond}
+use mathlib.Core.Bool.{true, false}
 use mathlib.Core.List.{List}
 use native.Mathlib.Omega.{arith}
 use native.Mathlib.Decide.{ℕ_discrete, dec_lt}
 use lib.ListN.{length, get_or, set, length-set, get_or-eq_default}
 use lib.Seq.{get_or-set_same, get_or-set_other}
-use lib.Dec.{eqb}
-use borrow.Author.Tests.{eq-eqb, ne_eqb}
 use Rattle.proof_term.specs.Records.{record_size, field_at}
-use Rattle.renumbering.specs.Renumbered.{mapped}
-use Rattle.term_renumbering.specs.Over.{marks, mark_at, is_name, number_over, Over, RecordOver, RecordsOver}
+use Rattle.term_renumbering.specs.Over.{marks, is_name, number_over, Over, RecordOver, RecordsOver}
 
--- whether a number is a name, by its mark
+-- past the table no number is a name
 pub past_kinds : (kind label i : ℕ) → 14 ≤ kind → false ≡ is_name kind label i
 unfolding is_name
 past_kinds kind label i h = rw (get_or-eq_default marks 0 {n = 6 * kind + i} (omega arith))
-
-pub if_datatype : (kind label i mark : ℕ) → mark ≡ mark_at kind i → mark ≡ 100 → eqb label 2 ≡ is_name kind label i
-unfolding is_name
-if_datatype kind label i mark is e = rw (eq-eqb (mark_at kind i) 100 (sym is ∙ e))
-
-pub by_mark : (kind label i mark : ℕ) → mark ≡ mark_at kind i → (mark ≡ 100 → ⊥) → eqb mark 110 ≡ is_name kind label i
-unfolding is_name
-by_mark kind label i mark is e = rw (ne_eqb (mark_at kind i) 100 (λ z. e (is ∙ z)), is)
 
 -- A number of a record.
 module _ (f : ℕ → ℕ) (kind label i number : ℕ) where
@@ -36,15 +25,6 @@ module _ (f : ℕ → ℕ) (kind label i number : ℕ) where
   pub no_name : is_name kind label i ≡ false → number_over f kind label i number ≡ number
   unfolding number_over
   no_name e = rw e
-
--- the map has no number for a name past its end
-pub past_map : (numbers : List ℕ) (name : ℕ) → length numbers ≤ name → 0 ≡ mapped numbers name
-unfolding mapped
-past_map numbers name h = sym (get_or-eq_default numbers 0 h)
-
-pub in_map : (numbers : List ℕ) (name : ℕ) → get_or numbers name 0 ≡ mapped numbers name
-unfolding mapped
-in_map numbers name = refl
 
 module _ (f : ℕ → ℕ) (before : List ℕ) (m : ℕ) where
   -- the first numbers of record m are over other names, and all others are as they were

@@ -1,5 +1,5 @@
 -- Records over other name numbers: which of a record's numbers are names, and what becomes of each number.
-use Rattle.std.specs.Prelude.{ℕ, ◌+◌, ◌*◌, ◌≤◌, ◌<◌, ◌≡◌, Bool, cond, List, length, get_or, eqb}
+use Rattle.std.specs.Prelude.{ℕ, ◌+◌, ◌*◌, ◌≤◌, ◌<◌, ◌≡◌, Bool, cond, List, get_or, eqb}
 use Rattle.definitions.specs.Utf8.{utf8}
 use Rattle.definitions.specs.Prop.{Prop, rename_prop}
 use Rattle.proof_term.specs.Records.{record_size, field_at}

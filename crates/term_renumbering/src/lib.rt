@@ -12,36 +12,32 @@ use proof_term::{DATATYPE, KINDS, RECORD_SIZE, field};
 const NUMBERS: usize = RECORD_SIZE - 1;
 
 // Whether number `i` of a record is a name, by its kind and the kind of its label.
+#[tactic(auto, unfolding(crate::specs::Over::is_name))]
 fn is_name(kind: usize, label: usize, i: usize) -> bool
     requires { i < 6 }
     ensures { result ≡ is_name kind label i }
 {
-    if KINDS <= kind {
-        return false;
-    }
     // for each kind the marks of its numbers: `n` for a name, `d` for one if the label is a datatype
     let marks =
         b"-n------------------------n-d----------nn-----------------nn----------d-------------";
-    let mark = marks[NUMBERS * kind + i];
-    if mark == b'd' {
-        return label == DATATYPE;
-    }
-    mark == b'n'
+    kind < KINDS
+        && match marks[NUMBERS * kind + i] {
+            b'n' => true,
+            b'd' => label == DATATYPE,
+            _ => false,
+        }
 }
 
 // Number `i` of a record: what the map has for it if it is a name, and 0 past its end; else the number itself.
+#[tactic(auto, unfolding(crate::specs::Over::number_over, renumbering::specs::Renumbered::mapped))]
 fn number_over(numbers: &[u16], kind: usize, label: usize, i: usize, number: u16) -> u16
     requires { i < 6 }
     ensures { result ≡ number_over (mapped numbers.now) kind label i number }
 {
-    if !is_name(kind, label, i) {
-        return number;
+    if is_name(kind, label, i) {
+        return numbers.get(usize::from(number)).copied().unwrap_or(0);
     }
-    let name = number as usize;
-    if name < numbers.len() {
-        return numbers[name];
-    }
-    0
+    number
 }
 
 // The names of record `m`.

@@ -1,11 +1,6 @@
 -- The invariant: the numbers before i are over other names, and all others are as they were.
-use Prim.Native.Nat.{◌+◌, ◌-◌, ◌*◌, ◌≤◌}
-use mathlib.Core.Path.{◌≡◌}
 use native.Mathlib.Omega.{arith}
-use borrow.Author.Rules.{rules}
-use Rattle.proof_term.specs.Records.{field_at}
-use Rattle.renumbering.specs.Renumbered.{mapped}
-use Rattle.term_renumbering.proofs.Numbers.{Partly, partly_none, partly_more, partly_all}
+use Rattle.term_renumbering.proofs.Numbers.{partly_none, partly_more, partly_all}
 use Rattle.term_renumbering.proofs.renumber_record.Goals as goal
 
 pub loop-i-preserved : goal.loop-i-preserved

@@ -1,11 +1,7 @@
 -- The invariant: the numbers before i are over other names, and all others are as they were.
-use Prim.Native.Nat.{◌+◌, ◌-◌, ◌*◌, ◌≤◌}
-use mathlib.Core.Path.{◌≡◌}
-use native.Mathlib.Omega.{arith}
-use borrow.Author.Rules.{rules}
-use Rattle.proof_term.specs.Records.{field_at}
+use Prim.Native.Nat.{◌-◌}
 use Rattle.renumbering.specs.Renumbered.{mapped}
-use Rattle.term_renumbering.proofs.Numbers.{Partly, partly_none, partly_more, partly_all}
+use Rattle.term_renumbering.proofs.Numbers.{Partly}
 use Rattle.term_renumbering.proofs.renumber_record.Given as goal
 
 abbrev pub invariant-loop-i : goal.invariant-loop-i

@@ -1,9 +1,7 @@
 -- One record after the other is changed in place.
-use Prim.Native.Nat.{◌+◌, ◌-◌, ◌*◌, ◌≤◌}
-use mathlib.Core.Path.{◌≡◌, refl}
+use mathlib.Core.Path.{refl}
 use native.Mathlib.Omega.{arith}
-use Rattle.renumbering.specs.Renumbered.{mapped}
-use Rattle.term_renumbering.proofs.Numbers.{Upto, none_over, one_over, all_over}
+use Rattle.term_renumbering.proofs.Numbers.{none_over, one_over, all_over}
 use Rattle.term_renumbering.proofs.renumber_records.Goals as goal
 
 pub loop-m-init : goal.loop-m-init

@@ -1,9 +1,8 @@
 -- One record after the other is changed in place.
-use Prim.Native.Nat.{◌+◌, ◌-◌, ◌*◌, ◌≤◌}
-use mathlib.Core.Path.{◌≡◌, refl}
-use native.Mathlib.Omega.{arith}
+use Prim.Native.Nat.{◌+◌, ◌-◌, ◌≤◌}
+use mathlib.Core.Path.{◌≡◌}
 use Rattle.renumbering.specs.Renumbered.{mapped}
-use Rattle.term_renumbering.proofs.Numbers.{Upto, none_over, one_over, all_over}
+use Rattle.term_renumbering.proofs.Numbers.{Upto}
 use Rattle.term_renumbering.proofs.renumber_records.Given as goal
 
 abbrev pub invariant-loop-m : goal.invariant-loop-m
