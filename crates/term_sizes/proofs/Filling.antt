@@ -1,6 +1,6 @@
 -- Counts as far as a number goes are added up so and cut at the most that a number holds; a record that keeps its own leaves all
 -- terms, and the counts of earlier records, as they were.
-use Prim.Native.Nat.{ℕ, ◌+◌, ◌*◌, ◌≤◌, ◌<◌}
+use Prim.Native.Nat.{ℕ, ◌+◌, ◌*◌, ◌≤◌, ◌<◌, min}
 use mathlib.Core.Path.{◌≡◌, refl, ◌∙◌}
 use mathlib.Core.Logic.{by_cases}
 use mathlib.Core.List.{List}
@@ -30,8 +30,8 @@ add_counted {n} {r} {m} {k} a b = record {
 }
 
 -- past the most, the most stands for it
-pub cut_counted : {n r : ℕ} → CountedTo n r → most < r → CountedTo n most
-cut_counted {n} {r} a over = record { exact = λ l. let x = a.exact l in absurd (omega arith); many = λ l. omega arith }
+pub cut_counted : {n r : ℕ} → CountedTo n r → CountedTo n (min r most)
+cut_counted a = record { exact = λ l. let x = a.exact l in omega arith; many = λ l. let x = a.many l in omega arith }
 
 -- the records below m keep their counts, and all other numbers are as they were
 pub record Filled (before : List ℕ) (m : ℕ) (after : List ℕ) : Type 0 where

@@ -14,7 +14,7 @@ use proof_term::{RECORD_SIZE, field, part_count};
 pub const SIZE: usize = RECORD_SIZE - 1;
 
 // The most that a number of a record holds: nodes are counted as far.
-const MOST: usize = 65535;
+const MOST: usize = u16::MAX as usize;
 
 // The nodes of record m, by those of its parts.
 fn count_nodes(records: &[u16], m: usize) -> usize
@@ -23,20 +23,15 @@ fn count_nodes(records: &[u16], m: usize) -> usize
 {
     let parts = part_count(field(records, m, 0));
     let mut count = 1;
-    let mut i = 0;
-    while i < parts {
+    for i in 0..parts {
         let part = field(records, m, 1 + i);
         if part < m {
             count += field(records, part, SIZE);
         } else {
             count += 1;
         }
-        i += 1;
     }
-    if MOST < count {
-        return MOST;
-    }
-    count
+    count.min(MOST)
 }
 
 // Keeps the node counts of the records up to n.

@@ -19,7 +19,7 @@ pub part_count-parts-requires : goal.part_count-parts-requires
 part_count-parts-requires c = tt
 
 pub loop-i-init : goal.loop-i-init
-loop-i-init c = (cc, omega arith, omega arith, λ props. rw (sized_none props _ _) (counted_so 1))
+loop-i-init c = (cc, omega arith, λ props. rw (sized_none props _ _) (counted_so 1))
 
 pub overflow_add-i : goal.overflow_add-i
 overflow_add-i c = omega (arith, few_parts c.field.result)
@@ -42,27 +42,20 @@ loop-i-preserved c =
     let is = c.field-part.ensures.0 in
     let sofar = c.loop-i.invariant in (
       sofar.0,
-      omega arith,
       elim c.if-part-m.branch [
-        | then-part-m w ↦ omega (arith, w.count-is, w.field-count.ensures.1, sofar.2)
-        | else-part-m w ↦ omega (arith, w.count-is, sofar.2)
+        | then-part-m w ↦ omega (arith, w.count-is, w.field-count.ensures.1, sofar.1)
+        | else-part-m w ↦ omega (arith, w.count-is, sofar.1)
       ],
       λ props. elim c.if-part-m.branch [
-        | then-part-m w ↦ rw (sized_part props _ _ _ is w.if-part-m.true, w.count-is, w.field-count.ensures.0) (add_counted (sofar.3 props) (c.requires.1 _ w.if-part-m.true props))
-        | else-part-m w ↦ rw (sized_unit props _ _ _ is w.if-part-m.false, w.count-is) (add_counted (sofar.3 props) (counted_so 1))
+        | then-part-m w ↦ rw (sized_part props _ _ _ is w.if-part-m.true, w.count-is, w.field-count.ensures.0) (add_counted (sofar.2 props) (c.requires.1 _ w.if-part-m.true props))
+        | else-part-m w ↦ rw (sized_unit props _ _ _ is w.if-part-m.false, w.count-is) (add_counted (sofar.2 props) (counted_so 1))
       ],
     )
 
--- what the loop came to is the record's own count
-all_counted : (c : At-loop-i) → c.part_count-parts.result ≤ c.loop-i.i → (props : ℕ → Prop ℕ)
-    → CountedTo (nodes (term_at props c.args.records.now c.args.m)) c.loop-i.count
-all_counted c ended props =
-    let kind = field_at c.args.records.now c.args.m 0 in
-    let all : c.loop-i.i ≡ part_count kind = omega (arith, c.loop-i.invariant.0, c.loop-i.invariant.1) in
-    rw (← sized_all props _ _ all) (c.loop-i.invariant.3 props)
-
-pub returns-then-count-gt-MOST : goal.returns-then-count-gt-MOST
-returns-then-count-gt-MOST c = (omega arith, λ props. cut_counted (all_counted (goal.at.returns-then-count-gt-MOST c).At-loop-i c.loop-i-test.false props) c.if-count-gt-MOST.true)
-
 pub returns : goal.returns
-returns c = (c.if-count-gt-MOST.false, all_counted (goal.at.returns c).At-loop-i c.loop-i-test.false)
+returns c = (
+  omega (arith, c.min.ensures),
+  λ props.
+      let all : c.loop-i.i ≡ part_count (field_at c.args.records.now c.args.m 0) = omega (arith, c.loop-i.invariant.0) in
+      rw c.min.ensures (cut_counted (rw (← sized_all props _ _ all) (c.loop-i.invariant.2 props))),
+)
