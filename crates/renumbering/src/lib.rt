@@ -58,12 +58,10 @@ fn put_parameters(
         write out.old to out.new result }
 {
     let mut i = at;
-    let mut needed = count;
     let mut position = to;
-    while 0 < needed {
+    for _ in 0..count {
         position = put_parameter(code, i, names, numbers, out, position, write);
         i = parameter_end(code, i, names);
-        needed -= 1;
     }
     position
 }
@@ -166,18 +164,16 @@ fn renumber_step(numbers: &[u16], step: Step, shift: usize) -> Step
     let concluded = step.conclusion;
     let conclusion = renumber_conclusion(numbers, concluded, shift);
     Step {
-        rule: step.rule,
-        premiss_count: step.premiss_count,
         first: Identifier {
             name: first,
-            unique_id: step.first.unique_id,
+            ..step.first
         },
         second: Identifier {
             name: second,
-            unique_id: step.second.unique_id,
+            ..step.second
         },
         conclusion,
-        column: step.column,
+        ..step
     }
 }
 
@@ -234,12 +230,10 @@ pub fn put_steps(
     ensures { Wrote (steps_over (mapped numbers.now) shift records.now steps) write
         out.old to out.new result }
 {
-    let mut k = 0;
     let mut position = to;
-    while k < steps {
+    for k in 0..steps {
         let step = renumber_step(numbers, step_at(records, k), shift);
         position = put_step(out, position, step, write);
-        k += 1;
     }
     position
 }

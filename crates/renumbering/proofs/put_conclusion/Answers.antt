@@ -1,6 +1,5 @@
 -- The bytes of either kind of conclusion are those of five numbers.
 use Rattle.renumbering.proofs.Steps.{proposition_written, judgement_written}
-use borrow.Author.Rules.{rules}
 use Rattle.renumbering.proofs.put_conclusion.Goals as goal
 
 pub returns-in-PropIsTrue : goal.returns-in-PropIsTrue

@@ -2,7 +2,6 @@
 use native.Mathlib.Omega.{arith}
 use Rattle.definitions.specs.Code.{parameter_limit}
 use Rattle.renumbering.proofs.Heads.{head_at, atom_at, quantifier_at, parameters_at, bare_written, atom_written, quantifier_written}
-use borrow.Author.Rules.{rules}
 use Rattle.renumbering.proofs.put_head.Goals as goal
 
 pub bounds-code-at : goal.bounds-code-at

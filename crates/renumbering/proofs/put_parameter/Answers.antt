@@ -2,7 +2,6 @@
 use mathlib.Core.Path.{refl}
 use native.Mathlib.Omega.{arith}
 use Rattle.renumbering.proofs.Parameters.{parameter_at, second_inside, uninstantiated_written, instantiated_written}
-use borrow.Author.Rules.{rules}
 use Rattle.renumbering.proofs.put_parameter.Goals as goal
 
 pub bounds-code-at : goal.bounds-code-at

@@ -1,11 +1,7 @@
--- The invariant: the parameters that are left decide what is left to write. The measure is their count.
-use native.Mathlib.Omega.{arith}
-use Rattle.output.proofs.Writing as writing
-use Rattle.renumbering.proofs.Parameters.{Remaining, at_first, next_asked, one_written, all_written}
+-- The parameters that are left decide what is left to write.
+use Prim.Native.Nat.{◌-◌}
+use Rattle.renumbering.proofs.Parameters.{Remaining}
 use Rattle.renumbering.proofs.put_parameters.Given as goal
 
-abbrev pub invariant-loop-needed : goal.invariant-loop-needed
-invariant-loop-needed l = Remaining l.names l.code l.numbers l.write l.initial.out l.to l.at l.count l.out l.i l.needed l.position
-
-abbrev pub decreases-loop-needed : goal.decreases-loop-needed
-decreases-loop-needed l = l.needed
+abbrev pub invariant-loop : goal.invariant-loop
+invariant-loop l = Remaining l.names l.code l.numbers l.write l.initial.out l.to l.at l.count l.out l.i (l.count - l.counter) l.position

@@ -1,9 +1,7 @@
 -- The invariant: the propositions that are left decide what is left to write. The measure is the code that is left.
-use Prim.Native.Nat.{◌-◌}
 use native.Mathlib.Omega.{arith}
-use lib.ListN.{length}
 use Rattle.output.proofs.Writing as writing
-use Rattle.renumbering.proofs.Rows.{Remaining, at_first, next_asked, next_inside, one_written, all_written}
+use Rattle.renumbering.proofs.Rows.{at_first, next_asked, next_inside, one_written, all_written}
 use Rattle.renumbering.proofs.put_renumbered.Goals as goal
 
 pub loop-i-init : goal.loop-i-init

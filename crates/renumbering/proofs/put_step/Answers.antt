@@ -1,6 +1,5 @@
 -- The rule, the premiss count, the identifiers and the conclusion with the column stand one after another.
 use Rattle.renumbering.proofs.Steps.{step_written}
-use borrow.Author.Rules.{rules}
 use Rattle.renumbering.proofs.put_step.Goals as goal
 
 pub returns : goal.returns

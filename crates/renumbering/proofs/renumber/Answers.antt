@@ -1,5 +1,4 @@
 -- A name's number is the map's, and any other number stays.
-use borrow.Author.Rules.{rules}
 use Rattle.renumbering.proofs.Steps.{as_it_stands, through_map}
 use Rattle.renumbering.specs.Renumbered.{mapped}
 use Rattle.renumbering.proofs.renumber.Goals as goal

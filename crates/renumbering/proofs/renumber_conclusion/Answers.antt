@@ -2,7 +2,6 @@
 use native.Mathlib.Omega.{arith}
 use Rattle.renumbering.specs.Renumbered.{mapped}
 use Rattle.renumbering.proofs.Steps.{proposition_over, judgement_over}
-use borrow.Author.Rules.{rules}
 use Rattle.renumbering.proofs.renumber_conclusion.Goals as goal
 
 pub overflow_add-result : goal.overflow_add-result

@@ -1,6 +1,5 @@
 -- The identifiers that the rule has go through the map, and so does the conclusion.
 use Rattle.renumbering.proofs.Steps.{has_identifiers, step_over_lem}
-use borrow.Author.Rules.{rules}
 use Rattle.renumbering.proofs.renumber_step.Goals as goal
 
 pub renumber-first-requires : goal.renumber-first-requires
