@@ -24,14 +24,10 @@ fn are_instantiated(code: &[u8], at: usize, count: usize) -> bool
     ensures { (names : ℕ) (ps : List (PropParameter ℕ)) (rest : List ℕ)
         → Stands (parameters_coding names count) code.now at ps rest → result ≡ all_instantiated ps }
 {
-    let mut i = at;
-    let mut needed = count;
-    while 0 < needed {
-        if code[i] == 0 {
+    for k in 0..count {
+        if code[at + 5 * k] == 0 {
             return false;
         }
-        needed -= 1;
-        i += 5;
     }
     true
 }
@@ -105,17 +101,11 @@ pub fn is_checkable(records: &[u16], n: usize, code: &[u8], names: usize) -> boo
         return false;
     }
     let parts = part_count(field(records, n, 0));
-    let mut i = 0;
-    while i < parts {
+    for i in 0..parts {
         let part = field(records, n, 1 + i);
-        if n <= part {
-            i += 1;
-            continue;
-        }
-        if !is_checkable(records, part, code, names) {
+        if part < n && !is_checkable(records, part, code, names) {
             return false;
         }
-        i += 1;
     }
     true
 }

@@ -1,5 +1,4 @@
 -- The record by itself, and then one part after the other; a part's number is below the record's.
-use Prim.Native.Nat.{◌-◌, ◌≤◌}
 use mathlib.Core.Path.{◌≡◌}
 use Rattle.prefix_code.specs.PropAt.{prop_at}
 use Rattle.proof_term.specs.Records.{field_at, part_count}
@@ -11,7 +10,4 @@ decreases-is_checkable l = l.n
 
 abbrev pub invariant-loop-i : goal.invariant-loop-i
 invariant-loop-i l =
-    (l.parts ≡ part_count (field_at l.records l.n 0)) × (l.i ≤ l.parts) × Checked (prop_at l.names l.code) l.records l.n l.i
-
-abbrev pub decreases-loop-i : goal.decreases-loop-i
-decreases-loop-i l = l.parts - l.i
+    (l.parts ≡ part_count (field_at l.records l.n 0)) × Checked (prop_at l.names l.code) l.records l.n l.i

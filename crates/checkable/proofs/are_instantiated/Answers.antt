@@ -1,22 +1,33 @@
 -- One parameter after the other; the first that is uninstantiated decides.
+use Prim.Native.Nat.{◌+◌, ◌-◌, ◌*◌}
+use mathlib.Core.Path.{◌≡◌}
 use native.Mathlib.Omega.{arith}
 use Rattle.checkable.proofs.Plain.{left_all, left_inside, left_stop, left_next, left_none}
 use Rattle.checkable.proofs.are_instantiated.Goals as goal
 
-pub loop-needed-init : goal.loop-needed-init
-loop-needed-init c = left_all _ _ _ c.requires.inside
+pub loop-k-init : goal.loop-k-init
+loop-k-init c =
+    let first : c.args.at + 0 ≡ c.args.at = omega arith in
+    let all : c.args.count - 0 ≡ c.args.count = omega arith in
+    rw (first, all) (left_all _ _ _ c.requires.inside)
 
-pub bounds-code-i : goal.bounds-code-i
-bounds-code-i c = left_inside c.loop-needed.invariant c.requires c.loop-needed-test.true
+pub overflow_mul-k : goal.overflow_mul-k
+overflow_mul-k c = omega (arith, left_inside c.loop-k.invariant c.requires (omega arith))
 
-pub returns-then-code-i-eq0 : goal.returns-then-code-i-eq0
-returns-then-code-i-eq0 c = left_stop c.loop-needed.invariant c.loop-needed-test.true c.if-code-i-eq0.true
+pub overflow_add-at : goal.overflow_add-at
+overflow_add-at c = omega (arith, left_inside c.loop-k.invariant c.requires (omega arith))
 
-pub overflow_add-i : goal.overflow_add-i
-overflow_add-i c = omega (arith, left_inside c.loop-needed.invariant c.requires c.loop-needed-test.true)
+pub bounds-code-at : goal.bounds-code-at
+bounds-code-at c = left_inside c.loop-k.invariant c.requires (omega arith)
 
-pub loop-needed-preserved : goal.loop-needed-preserved
-loop-needed-preserved c = left_next c.loop-needed.invariant c.requires c.loop-needed-test.true c.if-code-i-eq0.false
+pub returns-then-code-at-eq0 : goal.returns-then-code-at-eq0
+returns-then-code-at-eq0 c = left_stop c.loop-k.invariant (omega arith) c.if-code-at-eq0.true
+
+pub loop-k-preserved : goal.loop-k-preserved
+loop-k-preserved c =
+    let next : c.args.at + 5 * (c.loop-k.k + 1) ≡ c.args.at + 5 * c.loop-k.k + 5 = omega arith in
+    let fewer : c.args.count - (c.loop-k.k + 1) ≡ c.args.count - c.loop-k.k - 1 = omega arith in
+    rw (next, fewer) (left_next c.loop-k.invariant c.requires (omega arith) c.if-code-at-eq0.false)
 
 pub returns : goal.returns
-returns c = left_none c.loop-needed.invariant (omega arith)
+returns c = left_none c.loop-k.invariant (omega arith)
