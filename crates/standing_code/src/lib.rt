@@ -6,12 +6,12 @@ ghost use Rattle.standing_code.specs.Over.{Codes, CodeOver, CodeStands};
 use number::{marked_bytes, pair_offset};
 use renumbering::put_renumbered;
 
-// So many bytes of code a sheet has at most; ⊤ and ⊥ are two more.
-pub const CODE_SIZE: usize = 8194;
-
+// Behind the most bytes of code that a sheet has stand ⊤ and ⊥.
 const TOP: usize = 8192;
 
-const BOTTOM: usize = 8193;
+const BOTTOM: usize = TOP + 1;
+
+pub const CODE_SIZE: usize = BOTTOM + 1;
 
 // The propositions, one after another.
 fn put_propositions(
