@@ -342,10 +342,7 @@ fn part(
 fn is_between(b: u8, first: u8, last: u8) -> bool
     ensures { result ≡ leb first b && leb b last }
 {
-    if b < first {
-        return false;
-    }
-    b <= last
+    (first..=last).contains(&b)
 }
 
 // What a byte of a format stands for in record `n`. One test tells most of the bytes that stand for themselves: those outside 1 to M.
@@ -407,14 +404,11 @@ fn print_node(
 {
     let kind = kind_at(records, n);
     let mut at = to;
-    let mut i = 0;
-    while i < FORMAT_SIZE {
-        let b = formats[kind][i];
+    for &b in &formats[kind] {
         if b == b'.' {
             return at;
         }
         at = put_item(out, at, b, formats, records, n, bytes, ends, p);
-        i += 1;
     }
     at
 }

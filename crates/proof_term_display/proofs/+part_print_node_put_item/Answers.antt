@@ -85,35 +85,32 @@ part-shape_of-out t c = same_length (part-returns t c)
 
 pub print_node-returns-then-b-eq46 : goal.print_node-returns-then-b-eq46
 print_node-returns-then-b-eq46 t c =
-    ends_here _ _ _ _ _ _ c.loop-i.invariant c.if-b-eq46.true c.loop-i-test.true
+    ends_here _ _ _ _ _ _ c.loop-b.invariant c.if-b-eq46.true (omega (arith, c.loop-b.invariant.size))
 
 pub print_node-put_item-at-requires : goal.print_node-put_item-at-requires
 print_node-put_item-at-requires t c =
-    let ready = item_ready _ _ _ _ _ _ c.loop-i.invariant c.loop-i-test.true c.if-b-eq46.false in
+    let ready = item_ready _ _ _ _ _ _ c.loop-b.invariant (omega (arith, c.loop-b.invariant.size)) c.if-b-eq46.false in
     (omega (arith, c.decreases), (c.requires.format_table, (c.requires.printable_term, ready)))
 
-pub print_node-loop-i-preserved : goal.print_node-loop-i-preserved
-print_node-loop-i-preserved t c =
-    goes_on _ _ _ _ _ _ c.loop-i.invariant c.loop-i-test.true c.if-b-eq46.false
+pub print_node-loop-b-preserved : goal.print_node-loop-b-preserved
+print_node-loop-b-preserved t c =
+    goes_on _ _ _ _ _ _ c.loop-b.invariant (omega (arith, c.loop-b.invariant.size)) c.if-b-eq46.false
     c.put_item-at.ensures
 
 pub print_node-returns : goal.print_node-returns
-print_node-returns t c = ends_past _ _ _ _ _ _ c.loop-i.invariant c.loop-i-test.false
+print_node-returns t c = ends_past _ _ _ _ _ _ c.loop-b.invariant (omega (arith, c.loop-b.invariant.size))
 
 pub print_node-kind_at-kind-requires : goal.print_node-kind_at-kind-requires
 print_node-kind_at-kind-requires t c = c.requires.printable_term.held
 
-pub print_node-loop-i-init : goal.print_node-loop-i-init
-print_node-loop-i-init t c = let entry = c.requires in start _ _ _ _ _ _ entry.printable_term c.kind_at-kind.ensures entry.format_table
+pub print_node-loop-b-init : goal.print_node-loop-b-init
+print_node-loop-b-init t c = let entry = c.requires in start _ _ _ _ _ _ entry.printable_term c.kind_at-kind.ensures entry.format_table
 
 pub print_node-offset_bounds-formats-kind : goal.print_node-offset_bounds-formats-kind
 print_node-offset_bounds-formats-kind t c = let known = c.kind_at-kind.ensures.known in omega arith
 
 pub print_node-bounds-formats-kind : goal.print_node-bounds-formats-kind
 print_node-bounds-formats-kind t c = c.kind_at-kind.ensures.known
-
-pub print_node-bounds-formats-i : goal.print_node-bounds-formats-i
-print_node-bounds-formats-i t c = c.loop-i-test.true
 
 pub print_node-shape_of-out-then-b-eq46 : goal.print_node-shape_of-out-then-b-eq46
 print_node-shape_of-out-then-b-eq46 t c = same_length (print_node-returns-then-b-eq46 t c)

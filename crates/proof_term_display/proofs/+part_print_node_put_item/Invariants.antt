@@ -1,6 +1,6 @@
 -- A part is an earlier record, and a record's items come before its term: so the number falls, and of one number first the
 -- term, then its items, then its parts. The term's text is written by the items of its format, one after the other.
-use Prim.Native.Nat.{◌+◌, ◌*◌, ◌-◌}
+use Prim.Native.Nat.{◌+◌, ◌*◌}
 use mathlib.Core.List.{[]}
 use lib.ListN.{get_or}
 use Rattle.proof_term_display.proofs.Progress.{Underway}
@@ -15,9 +15,6 @@ decreases-print_node l = 3 * l.n + 2
 abbrev pub decreases-put_item : goal.decreases-put_item
 decreases-put_item l = 3 * l.n + 1
 
-abbrev pub invariant-print_node-loop-i : goal.invariant-print_node-loop-i
-invariant-print_node-loop-i l =
-    Underway l.p.style l.bytes l.p.vocabulary l.ends l.records l.n l.p.write l.initial.out l.to (get_or l.formats l.kind []) l.out l.at l.i
-
-abbrev pub decreases-print_node-loop-i : goal.decreases-print_node-loop-i
-decreases-print_node-loop-i l = 32 - l.i
+abbrev pub invariant-print_node-loop-b : goal.invariant-print_node-loop-b
+invariant-print_node-loop-b l =
+    Underway l.p.style l.bytes l.p.vocabulary l.ends l.records l.n l.p.write l.initial.out l.to (get_or l.formats l.kind []) l.out l.at l.b-index
