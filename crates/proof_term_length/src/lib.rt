@@ -53,13 +53,7 @@ fn row_of(kind: usize) -> [u8; 6]
 fn sum(a: usize, b: usize, cap: usize) -> usize
     ensures { result ≡ min (a + b) cap }
 {
-    if cap <= a {
-        return cap;
-    }
-    if cap - a <= b {
-        return cap;
-    }
-    a + b
+    a.saturating_add(b).min(cap)
 }
 
 // The length of the name in number `i` of record `n`, and 0 if `i` is. A number of no name stands for no byte.
@@ -199,12 +193,10 @@ pub fn term_length(
 {
     let mut known = [0u32; KNOWN_LIMIT];
     let mut lengths = [0usize; RECORD_LIMIT];
-    let mut m = 0;
-    while m <= n {
+    for m in 0..n + 1 {
         let bare = bare_length(records, m, bytes, v, &lengths, style, cap);
         let label = label_length(records, m, bytes, v, ends, &mut known);
         lengths[m] = sum(bare, label, cap);
-        m += 1;
     }
     lengths[n]
 }

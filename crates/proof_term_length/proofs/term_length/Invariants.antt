@@ -7,7 +7,4 @@ use Rattle.proof_term_length.proofs.term_length.Given as goal
 
 abbrev pub invariant-loop-m : goal.invariant-loop-m
 invariant-loop-m l =
-    (l.m ≤ l.n + 1) × (length l.lengths ≡ 2048) × MeasuredBelow l.bytes l.v l.records l.style l.cap l.lengths l.m × Known l.bytes l.v l.known
-
-abbrev pub decreases-loop-m : goal.decreases-loop-m
-decreases-loop-m l = l.n + 1 - l.m
+    (length l.lengths ≡ 2048) × MeasuredBelow l.bytes l.v l.records l.style l.cap l.lengths l.m × Known l.bytes l.v l.known
