@@ -1,9 +1,9 @@
 -- The scope that hypotheses fill holds for each name its latest hypothesis.
-use Prim.Native.Nat.{ℕ, ◌+◌, ◌≤◌, ◌<◌}
+use Prim.Native.Nat.{ℕ, ◌+◌, ◌<◌}
 use mathlib.Core.Path.{◌≡◌, refl, sym, ◌∙◌}
 use mathlib.Core.Bool.{false, true≢false}
 use mathlib.Core.List.{List, [], ◌∷◌}
-use lib.ListN.{length, get_or, set, drop, length-set}
+use lib.ListN.{length, get_or, set, length-set}
 use borrow.Author.Tests.{leb-false}
 use Rattle.definitions.specs.Name.{Name}
 use Rattle.definitions.specs.Prop.{rename_prop}
@@ -17,28 +17,27 @@ use Rattle.checker.specs.Scope.{Entries, Scoped}
 use Rattle.checker.proofs.Scopes.{bound_scope, bound_entries}
 use Rattle.hypotheses.specs.Pairs.{out_of}
 use Rattle.hypotheses.specs.Entered.{entered, Enterable}
-use Rattle.hypotheses.proofs.Walking.{none_ahead, Next}
+use Rattle.hypotheses.proofs.Walking.{none_left, Next}
 
 -- One hypothesis after another:
 module _ {numbers pairs hs first : List ℕ} (e : Enterable numbers pairs hs first) where
   -- those that are left have to be entered yet, and none of them is out
-  pub record Before (i : ℕ) (scope : List ℕ) : Type 0 where
-    pub same : entered numbers pairs hs first ≡ entered numbers pairs (drop i hs) scope
-    pub inside : out_of (length numbers) e.count (drop i hs) ≡ false
+  pub record Before (left scope : List ℕ) : Type 0 where
+    pub same : entered numbers pairs hs first ≡ entered numbers pairs left scope
+    pub inside : out_of (length numbers) e.count left ≡ false
     pub space : length scope ≡ name_space
 
-  pub none_entered : Before 0 first
+  pub none_entered : Before hs first
   none_entered = record { same = refl; inside = e.inside; space = e.space }
 
-  module _ {i : ℕ} {scope : List ℕ} (b : Before i scope) where
-    pub one_entered : Next (length numbers) e.count hs i → {at : ℕ} → at ≡ pair_offset pairs (get_or hs (i + 1) 0)
-        → Before (i + 2) (set scope (get_or numbers (get_or hs i 0) 0) (at + 1))
-    unfolding entered
-    one_entered n is = record { same = b.same ∙ rw (n.ahead, is); inside = n.rest; space = rw length-set b.space }
+  pub one_entered : {rest pair left scope : List ℕ} → Before rest scope → Next (length numbers) e.count rest pair left
+      → {at : ℕ} → at ≡ pair_offset pairs (get_or pair 1 0) → Before left (set scope (get_or numbers (get_or pair 0 0) 0) (at + 1))
+  unfolding entered
+  one_entered b n is = record { same = b.same ∙ rw (n.ahead, is); inside = n.none; space = rw length-set b.space }
 
-    pub all_entered : length hs ≤ i → scope ≡ entered numbers pairs hs first
-    unfolding entered
-    all_entered l = sym (b.same ∙ rw (none_ahead hs i l))
+  pub all_entered : {left scope : List ℕ} → Before left scope → length left < 2 → scope ≡ entered numbers pairs hs first
+  unfolding entered
+  all_entered {left} b l = sym (b.same ∙ rw (none_left _ _ left l b.inside))
 
 -- Of a sheet whose names have numbers by a naming, and whose propositions stand in a code under it:
 module _ (s numbers pairs code : List ℕ) (count : ℕ) (f : ℕ → Name) (one : Distinct f)

@@ -1,9 +1,9 @@
 -- 22 of the hypotheses: one that is not free decides, wherever it stands.
-use Prim.Native.Nat.{ℕ, ◌+◌, ◌≤◌, ◌<◌}
+use Prim.Native.Nat.{ℕ, ◌<◌}
 use mathlib.Core.Path.{◌≡◌, refl, sym, ap, ◌∙◌}
 use mathlib.Core.Bool.{Bool, true, false, ◌&&◌}
 use mathlib.Core.List.{List, [], ◌∷◌}
-use lib.ListN.{length, get_or, drop}
+use lib.ListN.{length, get_or}
 use Rattle.definitions.specs.Code.{encode, Codable}
 use Rattle.definitions.specs.Sheet.{name_of, names, propositions, proposition_pairs, code_bytes, marked}
 use Rattle.definitions.specs.Tree.{prop_of, root_of}
@@ -18,7 +18,7 @@ use Rattle.sheet.specs.declared.header.Sheet.{Sheet}
 use Rattle.sheet.specs.Header.{header_of}
 use Rattle.sheet.proofs.Admitted.{AcceptedSheet}
 use Rattle.hypotheses.specs.Pairs.{out_of}
-use Rattle.hypotheses.proofs.Walking.{out_is, none_ahead, Next}
+use Rattle.hypotheses.proofs.Walking.{out_is, none_left, Next}
 
 -- the code that a proposition's pair marks is its own
 module _ {s : List ℕ} {h : Sheet} (a : AcceptedSheet s h) (bytes : Bytes s) {k : ℕ} (l : k < propositions s) where
@@ -46,36 +46,36 @@ module _ (s : List ℕ) where
   still_not_free (x ∷ p ∷ hs) g e = still_not_free hs (bind (name_of s x) (named_prop s p) g) (rw e (and_false (is_quantifier_free (named_prop s p))))
 
   module _ (hs : List ℕ) where
-    -- all hypotheses before the next are free, and none that is left is out
-    pub record FreeBefore (i : ℕ) : Type 0 where
+    -- all hypotheses before those that are left are free, and none that is left is out
+    pub record FreeBefore (left : List ℕ) : Type 0 where
       pub context : Context
-      pub same : assumed s hs [] ≡ assumed s (drop i hs) context
+      pub same : assumed s hs [] ≡ assumed s left context
       pub free : all_quantifier_free context ≡ true
-      pub inside : out_of (names s) (propositions s) (drop i hs) ≡ false
+      pub inside : out_of (names s) (propositions s) left ≡ false
 
-    pub none_before : hypothesis_out s hs ≡ false → FreeBefore 0
+    pub none_before : hypothesis_out s hs ≡ false → FreeBefore hs
     unfolding all_quantifier_free
     none_before e = record { context = []; same = refl; free = refl; inside = sym (out_is s hs) ∙ e }
 
-    module _ {i : ℕ} (b : FreeBefore i) where
-      module _ (n : Next (names s) (propositions s) hs i) {r : Bool} (is : r ≡ is_quantifier_free (named_prop s (get_or hs (i + 1) 0))) where
-        step : assumed s hs [] ≡ assumed s (drop (i + 2) hs) (bind (name_of s (get_or hs i 0)) (named_prop s (get_or hs (i + 1) 0)) b.context)
-        unfolding assumed
-        step = b.same ∙ rw n.ahead
-
-        pub one_free : r ≡ true → FreeBefore (i + 2)
-        unfolding all_quantifier_free
-        one_free e = record {
-          context = bind (name_of s (get_or hs i 0)) (named_prop s (get_or hs (i + 1) 0)) b.context;
-          same = step;
-          free = rw (sym is ∙ e) b.free;
-          inside = n.rest;
-        }
-
-        pub one_not_free : r ≡ false → false ≡ all_quantifier_free (assumed s hs [])
-        unfolding all_quantifier_free
-        one_not_free e = sym (ap all_quantifier_free step ∙ still_not_free (drop (i + 2) hs) _ (rw (sym is ∙ e)))
-
-      pub all_free : length hs ≤ i → true ≡ all_quantifier_free (assumed s hs [])
+    module _ {rest pair left : List ℕ} (b : FreeBefore rest) (n : Next (names s) (propositions s) rest pair left)
+        {r : Bool} (is : r ≡ is_quantifier_free (named_prop s (get_or pair 1 0))) where
+      step : assumed s hs [] ≡ assumed s left (bind (name_of s (get_or pair 0 0)) (named_prop s (get_or pair 1 0)) b.context)
       unfolding assumed
-      all_free l = sym (ap all_quantifier_free (b.same ∙ rw (none_ahead hs i l)) ∙ b.free)
+      step = b.same ∙ rw n.ahead
+
+      pub one_free : r ≡ true → FreeBefore left
+      unfolding all_quantifier_free
+      one_free e = record {
+        context = bind (name_of s (get_or pair 0 0)) (named_prop s (get_or pair 1 0)) b.context;
+        same = step;
+        free = rw (sym is ∙ e) b.free;
+        inside = n.none;
+      }
+
+      pub one_not_free : r ≡ false → false ≡ all_quantifier_free (assumed s hs [])
+      unfolding all_quantifier_free
+      one_not_free e = sym (ap all_quantifier_free step ∙ still_not_free left _ (rw (sym is ∙ e)))
+
+    pub all_free : {left : List ℕ} → FreeBefore left → length left < 2 → true ≡ all_quantifier_free (assumed s hs [])
+    unfolding assumed
+    all_free {left} b e = sym (ap all_quantifier_free (b.same ∙ rw (none_left _ _ left e b.inside)) ∙ b.free)

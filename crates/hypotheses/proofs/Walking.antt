@@ -1,14 +1,10 @@
 -- One pair after the other.
-use Prim.Native.Nat.{ℕ, suc, ◌+◌, ◌-◌, ◌≤◌, ◌<◌}
-use mathlib.Core.Path.{◌≡◌, refl, sym, ap, ◌∙◌}
-use mathlib.Core.Logic.{by_cases}
+use Prim.Native.Nat.{ℕ, ◌≤◌, ◌<◌, min}
+use mathlib.Core.Path.{◌≡◌, refl, sym}
 use mathlib.Core.Bool.{Bool, true, false, ◌||◌, true≢false}
-use mathlib.Core.List.{List, [], ◌∷◌}
+use mathlib.Core.List.{List, [], ◌∷◌, ◌++◌}
 use native.Mathlib.Omega.{arith}
-use native.Mathlib.Decide.{dec_lt}
-use native.Mathlib.Numerals.{add-one}
-use lib.ListN.{length, get_or, drop, length-drop}
-use lib.Seq.{drop-cons}
+use lib.ListN.{length, get_or}
 use lib.Dec.{leb}
 use borrow.Author.Tests.{le-leb, lt-leb, leb-false}
 use Rattle.definitions.specs.Sheet.{names, propositions}
@@ -23,87 +19,86 @@ out_is s [] = refl
 out_is s (x ∷ []) = refl
 out_is s (x ∷ p ∷ hs) = rw (out_is s hs)
 
--- the next name, and the next proposition if there is one
-module _ (hs : List ℕ) (i : ℕ) where
-  pub one_ahead : i < length hs → drop i hs ≡ get_or hs i 0 ∷ drop (i + 1) hs
-  one_ahead h = rw (add-one, drop-cons hs i 0)
+or_true : (a : Bool) → a || true ≡ true
+or_true true = refl
+or_true false = refl
 
-  pub two_ahead : i + 1 < length hs → drop i hs ≡ get_or hs i 0 ∷ get_or hs (i + 1) 0 ∷ drop (i + 2) hs
-  two_ahead h =
-      let low : i < length hs = omega arith in
-      let next : drop (i + 1) hs ≡ get_or hs (i + 1) 0 ∷ drop (i + 2) hs = second h in
-      one_ahead low ∙ ap (λ (l : List ℕ). get_or hs i 0 ∷ l) next
-    where
-      second : i + 1 < length hs → drop (i + 1) hs ≡ get_or hs (i + 1) 0 ∷ drop (i + 2) hs
-      second k =
-          let last : i + 2 ≡ suc (i + 1) = omega arith in
-          rw (last, drop-cons hs (i + 1) 0)
+-- The next two of what is left of the hypotheses, or the last name alone, decide.
+module _ (n p : ℕ) where
+  alone : (pair left : List ℕ) → length pair ≡ min 2 (length (pair ++ left)) → length pair ≡ 1 → true ≡ out_of n p (pair ++ left)
+  unfolding out_of
+  alone [] left s e = absurd (omega arith)
+  alone (x ∷ []) [] s e = refl
+  alone (x ∷ []) (y ∷ left) s e = absurd (omega arith)
+  alone (x ∷ y ∷ pair) left s e = absurd (omega arith)
 
-  pub none_ahead : length hs ≤ i → drop i hs ≡ []
-  none_ahead h = empty (drop i hs) (omega (arith, length-drop i hs))
-    where
-      empty : (l : List ℕ) → length l ≡ 0 → l ≡ []
-      empty [] e = refl
-      empty (a ∷ l) e = absurd (omega arith)
+  name_out : (pair left : List ℕ) → length pair ≡ min 2 (length (pair ++ left)) → 0 < length (pair ++ left) → n ≤ get_or pair 0 0
+      → true ≡ out_of n p (pair ++ left)
+  unfolding out_of
+  name_out [] [] s l h = absurd (omega arith)
+  name_out [] (y ∷ left) s l h = absurd (omega arith)
+  name_out (x ∷ []) left s l h = alone (x ∷ []) left s refl
+  name_out (x ∷ y ∷ []) left s l h = rw (le-leb n x h)
+  name_out (x ∷ y ∷ z ∷ pair) left s l h = absurd (omega arith)
 
--- Where what is left of the hypotheses decides:
-module _ (n p : ℕ) (hs : List ℕ) where
-  pub record Deciding (i : ℕ) : Type 0 where
-    pub same : out_of n p hs ≡ out_of n p (drop i hs)
+  prop_out : (pair left : List ℕ) → length pair ≡ min 2 (length (pair ++ left)) → 1 < length pair → p ≤ get_or pair 1 0
+      → true ≡ out_of n p (pair ++ left)
+  unfolding out_of
+  prop_out [] left s l h = absurd (omega arith)
+  prop_out (x ∷ []) left s l h = absurd (omega arith)
+  prop_out (x ∷ y ∷ []) left s l h = rw (le-leb p y h) (sym (or_true (leb n x)))
+  prop_out (x ∷ y ∷ z ∷ pair) left s l h = absurd (omega arith)
 
-  pub at_first : Deciding 0
-  at_first = record { same = refl }
+  both_in : (pair left : List ℕ) → length pair ≡ min 2 (length (pair ++ left)) → 1 < length pair → get_or pair 0 0 < n → get_or pair 1 0 < p
+      → out_of n p (pair ++ left) ≡ out_of n p left
+  unfolding out_of
+  both_in [] left s l a b = absurd (omega arith)
+  both_in (x ∷ []) left s l a b = absurd (omega arith)
+  both_in (x ∷ y ∷ []) left s l a b = rw (lt-leb n x a, lt-leb p y b)
+  both_in (x ∷ y ∷ z ∷ pair) left s l a b = absurd (omega arith)
 
-  or_true : (a : Bool) → a || true ≡ true
-  or_true true = refl
-  or_true false = refl
+  pub none_out : (l : List ℕ) → length l ≡ 0 → false ≡ out_of n p l
+  unfolding out_of
+  none_out [] e = refl
+  none_out (x ∷ l) e = absurd (omega arith)
 
-  module _ {i : ℕ} (d : Deciding i) where
-    -- a last name alone
-    pub alone : length hs - i ≡ 1 → i < length hs → true ≡ out_of n p hs
-    unfolding out_of
-    alone h l = sym (d.same ∙ rw (one_ahead hs i l, none_ahead hs (i + 1) (omega arith)))
+  -- the same of a chunk of what is left
+  module _ {rest : List ℕ} (pair left : List ℕ) (is : rest ≡ pair ++ left) (size : length pair ≡ min 2 (length rest)) where
+    pub chunk_alone : length pair ≡ 1 → true ≡ out_of n p rest
+    chunk_alone e = rw is (alone pair left (rw is at size) e)
 
-    -- a name that is out
-    pub name_out : i < length hs → n ≤ get_or hs i 0 → true ≡ out_of n p hs
-    unfolding out_of
-    name_out l h = by_cases (dec_lt (i + 1) (length hs))
-        (λ more. sym (d.same ∙ rw (two_ahead hs i more, le-leb n (get_or hs i 0) h)))
-        (λ last. alone (omega arith) l)
+    pub chunk_name_out : 0 < length rest → n ≤ get_or pair 0 0 → true ≡ out_of n p rest
+    chunk_name_out l h = rw is (name_out pair left (rw is at size) (rw is at l) h)
 
-    module _ (l : i + 1 < length hs) where
-      pub prop_out : p ≤ get_or hs (i + 1) 0 → true ≡ out_of n p hs
-      unfolding out_of
-      prop_out h = sym (d.same ∙ rw (two_ahead hs i l, le-leb p (get_or hs (i + 1) 0) h) (or_true (leb n (get_or hs i 0))))
+    pub chunk_prop_out : 1 < length pair → p ≤ get_or pair 1 0 → true ≡ out_of n p rest
+    chunk_prop_out l h = rw is (prop_out pair left (rw is at size) l h)
 
-      pub both_in : get_or hs i 0 < n → get_or hs (i + 1) 0 < p → Deciding (i + 2)
-      unfolding out_of
-      both_in a b = record { same = d.same ∙ rw (two_ahead hs i l, lt-leb n (get_or hs i 0) a, lt-leb p (get_or hs (i + 1) 0) b) }
-
-    pub all_in : length hs ≤ i → false ≡ out_of n p hs
-    unfolding out_of
-    all_in h = sym (d.same ∙ rw (none_ahead hs i h))
+    pub chunk_in : 1 < length pair → get_or pair 0 0 < n → get_or pair 1 0 < p → out_of n p rest ≡ out_of n p left
+    chunk_in l a b = rw is (both_in pair left (rw is at size) l a b)
 
   -- Where none that is left is out, the next is a name and a proposition that are in, and none after them is out.
-  pub record Next (i : ℕ) : Type 0 where
-    pub paired : i + 1 < length hs
-    pub name : get_or hs i 0 < n
-    pub proposition : get_or hs (i + 1) 0 < p
-    pub rest : out_of n p (drop (i + 2) hs) ≡ false
-    pub ahead : drop i hs ≡ get_or hs i 0 ∷ get_or hs (i + 1) 0 ∷ drop (i + 2) hs
+  pub record Next (rest pair left : List ℕ) : Type 0 where
+    pub name : get_or pair 0 0 < n
+    pub proposition : get_or pair 1 0 < p
+    pub none : out_of n p left ≡ false
+    pub ahead : rest ≡ get_or pair 0 0 ∷ get_or pair 1 0 ∷ left
 
-  pub next : {i : ℕ} → out_of n p (drop i hs) ≡ false → i < length hs → Next i
+  next_of : (pair left : List ℕ) → length pair ≡ 2 → out_of n p (pair ++ left) ≡ false → Next (pair ++ left) pair left
   unfolding out_of
-  next {i} e l = by_cases (dec_lt (i + 1) (length hs))
-      (λ more.
-      let ahead = two_ahead hs i more in
-      let (name, after) = neither _ _ (rw ahead at e) in
+  next_of [] left s e = absurd (omega arith)
+  next_of (x ∷ []) left s e = absurd (omega arith)
+  next_of (x ∷ y ∷ []) left s e =
+      let (name, after) = neither _ _ e in
       let (proposition, rest) = neither _ _ after in
-      record {
-        paired = more;
-        name = leb-false n (get_or hs i 0) name;
-        proposition = leb-false p (get_or hs (i + 1) 0) proposition;
-        rest = rest;
-        ahead = ahead;
-      })
-      (λ last. absurd (true≢false (rw (one_ahead hs i l, none_ahead hs (i + 1) (omega arith)) at e)))
+      record { name = leb-false n x name; proposition = leb-false p y proposition; none = rest; ahead = refl }
+  next_of (x ∷ y ∷ z ∷ pair) left s e = absurd (omega arith)
+
+  pub next : {rest : List ℕ} (pair left : List ℕ) → rest ≡ pair ++ left → length pair ≡ 2 → out_of n p rest ≡ false → Next rest pair left
+  next pair left is s e = rw is (next_of pair left s (rw is at e))
+
+  -- where none is out, no name is left alone
+  pub none_left : (l : List ℕ) → length l < 2 → out_of n p l ≡ false → l ≡ []
+  unfolding out_of
+  none_left [] h e = refl
+  none_left (x ∷ []) h e = absurd (true≢false e)
+  none_left (x ∷ y ∷ l) h e = absurd (omega arith)

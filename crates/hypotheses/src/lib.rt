@@ -19,19 +19,10 @@ use sheet::{Sheet, code_bytes, proposition_pairs};
 pub fn is_out(hypotheses: &[u16], names: usize, propositions: usize) -> bool
     ensures { result ≡ out_of names propositions hypotheses.now }
 {
-    let count = hypotheses.len();
-    let mut i = 0;
-    while i < count {
-        if names <= hypotheses[i] as usize {
+    for pair in hypotheses.chunks(2) {
+        if pair.len() == 1 || names <= pair[0] as usize || propositions <= pair[1] as usize {
             return true;
         }
-        if count - i == 1 {
-            return true;
-        }
-        if propositions <= hypotheses[i + 1] as usize {
-            return true;
-        }
-        i += 2;
     }
     false
 }
@@ -50,13 +41,10 @@ pub fn are_free(s: &[u8], h: Sheet, hypotheses: &[u16]) -> bool
     requires { AcceptedSheet s.now h × (hypothesis_out s.now hypotheses.now ≡ false) }
     ensures { result ≡ all_quantifier_free (assumed s.now hypotheses.now []) }
 {
-    let count = hypotheses.len();
-    let mut i = 0;
-    while i < count {
-        if !is_free(s, h, hypotheses[i + 1] as usize) {
+    for pair in hypotheses.chunks_exact(2) {
+        if !is_free(s, h, pair[1] as usize) {
             return false;
         }
-        i += 2;
     }
     true
 }
@@ -68,12 +56,9 @@ pub fn assume(hypotheses: &[u16], numbers: &[u16], pairs: &[u8], scope: &mut [u3
     ensures { scope.new ≡ entered numbers.now pairs.now hypotheses.now
         scope.old }
 {
-    let count = hypotheses.len();
-    let mut i = 0;
-    while i < count {
-        let name = numbers[hypotheses[i] as usize] as usize;
-        let at = pair_offset(pairs, hypotheses[i + 1] as usize);
+    for pair in hypotheses.chunks_exact(2) {
+        let name = numbers[pair[0] as usize] as usize;
+        let at = pair_offset(pairs, pair[1] as usize);
         scope[name] = (at + 1) as u32;
-        i += 2;
     }
 }

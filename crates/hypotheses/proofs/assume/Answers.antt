@@ -1,73 +1,38 @@
 -- One hypothesis after another takes the entry of its name.
-use Prim.Native.Nat.{◌+◌, ◌-◌, ◌<◌}
-use mathlib.Core.Path.{◌≡◌, refl}
+use Prim.Native.Nat.{◌<◌}
+use mathlib.Core.Path.{◌∙◌}
 use native.Mathlib.Omega.{arith}
 use lib.ListN.{length, get_or}
 use Rattle.definitions.specs.Sheet.{pair_size}
-use Rattle.hypotheses.specs.Entered.{Enterable}
+use Rattle.std.specs.Slice.Iter.{chunks_exact_rest}
 use Rattle.hypotheses.proofs.Walking.{Next, next}
-use Rattle.hypotheses.proofs.Entering.{Before, none_entered, one_entered, all_entered}
+use Rattle.hypotheses.proofs.Entering.{none_entered, one_entered, all_entered}
 use Rattle.hypotheses.proofs.assume.Goals as goal
-use Rattle.hypotheses.proofs.assume.Goals.{After-pair_offset-at, In-loop-i}
+use Rattle.hypotheses.proofs.assume.Goals.{After-pair_offset-at, In-Some}
 
 -- the hypothesis of a turn
-one : (c : In-loop-i) → let start = c.args in
-    Next (length start.numbers.now) c.loop-i.invariant.0.count start.hypotheses.now c.loop-i.i
-one c = let (e, b, all) = c.loop-i.invariant in next _ _ _ b.inside (omega (arith, all, c.loop-i-test.true))
+one : (c : In-Some) → Next (length c.args.numbers.now) c.loop-pair.invariant.1.0.count (chunks_exact_rest c.loop-pair.pair-iterator) c.in-Some.pair.now (chunks_exact_rest c.next.new.self)
+one c = next _ _ _ _ c.in-Some.ensures.steps.1.0 (c.in-Some.ensures.steps.1.1 ∙ c.loop-pair.invariant.0) c.loop-pair.invariant.1.1.inside
 
 -- its name's number is one of the space
-low : (c : In-loop-i) → let start = c.args in
-    get_or start.numbers.now (get_or start.hypotheses.now c.loop-i.i 0) 0 < 1024
-low c = c.loop-i.invariant.0.low _ (one c).name
+low : (c : In-Some) → get_or c.args.numbers.now (get_or c.in-Some.pair.now 0 0) 0 < 1024
+low c = c.loop-pair.invariant.1.0.low _ (one c).name
+
+pub loop-pair-init : goal.loop-pair-init
+loop-pair-init c =
+    rw c.into_iter-pair-iterator.ensures.into_iter_gives
+    (c.chunks_exact-pair-items.ensures.size, (c.requires, rw c.chunks_exact-pair-items.ensures.rest (none_entered c.requires)))
+
+pub bounds-numbers-pair : goal.bounds-numbers-pair
+bounds-numbers-pair c = omega (arith, (one (goal.at.bounds-numbers-pair c).In-Some).name)
 
 pub pair_offset-at-requires : goal.pair_offset-at-requires
 unfolding pair_size
-pair_offset-at-requires c = omega (arith, (one (goal.at.pair_offset-at-requires c).In-loop-i).proposition, c.loop-i.invariant.0.present)
+pair_offset-at-requires c = omega (arith, (one (goal.at.pair_offset-at-requires c).In-Some).proposition, c.loop-pair.invariant.1.0.present)
 
 -- the offset of its proposition
 stands : (c : After-pair_offset-at) → c.pair_offset-at.result < 139266
-stands c = omega (arith, c.loop-i.invariant.0.stand _ (one (goal.at.After-pair_offset-at c).In-loop-i).proposition, c.pair_offset-at.ensures)
-
-pub loop-i-preserved : goal.loop-i-preserved
-loop-i-preserved c =
-    let (e, b, all) = c.loop-i.invariant in
-    (e, one_entered e b (one (goal.at.loop-i-preserved c).In-loop-i) c.pair_offset-at.ensures, all)
-
-pub returns : goal.returns
-returns c = let (e, b, all) = c.loop-i.invariant in all_entered e b (omega (arith, all, c.loop-i-test.false))
-
-pub loop-i-init : goal.loop-i-init
-loop-i-init c = (c.requires, none_entered _, refl)
-
-pub offset_bounds-hypotheses-i : goal.offset_bounds-hypotheses-i
-offset_bounds-hypotheses-i c = omega (arith, (one c).paired)
-
-pub bounds-hypotheses-i : goal.bounds-hypotheses-i
-bounds-hypotheses-i c = omega (arith, (one (goal.at.bounds-hypotheses-i c).In-loop-i).paired)
-
-pub overflow_cast-name : goal.overflow_cast-name
-overflow_cast-name c = omega (arith, c.type_inv.hypotheses c.loop-i.i)
-
-pub offset_bounds-numbers-hypotheses : goal.offset_bounds-numbers-hypotheses
-offset_bounds-numbers-hypotheses c = omega (arith, (one (goal.at.offset_bounds-numbers-hypotheses c).In-loop-i).name)
-
-pub bounds-numbers-hypotheses : goal.bounds-numbers-hypotheses
-bounds-numbers-hypotheses c = omega (arith, (one (goal.at.bounds-numbers-hypotheses c).In-loop-i).name)
-
-pub overflow_cast-name-in-loop-i : goal.overflow_cast-name-in-loop-i
-overflow_cast-name-in-loop-i c = omega (arith, low (goal.at.overflow_cast-name-in-loop-i c).In-loop-i)
-
-pub overflow_add-i : goal.overflow_add-i
-overflow_add-i c = omega (arith, (one (goal.at.overflow_add-i c).In-loop-i).paired)
-
-pub offset_bounds-hypotheses-i-in-loop-i : goal.offset_bounds-hypotheses-i-in-loop-i
-offset_bounds-hypotheses-i-in-loop-i c = omega (arith, (one (goal.at.offset_bounds-hypotheses-i-in-loop-i c).In-loop-i).paired)
-
-pub bounds-hypotheses-i-in-loop-i : goal.bounds-hypotheses-i-in-loop-i
-bounds-hypotheses-i-in-loop-i c = omega (arith, (one (goal.at.bounds-hypotheses-i-in-loop-i c).In-loop-i).paired)
-
-pub overflow_cast-hypotheses : goal.overflow_cast-hypotheses
-overflow_cast-hypotheses c = omega (arith, (one (goal.at.overflow_cast-hypotheses c).In-loop-i).paired, c.type_inv.hypotheses (c.loop-i.i + 1))
+stands c = omega (arith, c.loop-pair.invariant.1.0.stand _ (one (goal.at.After-pair_offset-at c).In-Some).proposition, c.pair_offset-at.ensures)
 
 pub overflow_add-scope : goal.overflow_add-scope
 overflow_add-scope c = omega (arith, stands c)
@@ -75,14 +40,12 @@ overflow_add-scope c = omega (arith, stands c)
 pub overflow_cast-scope : goal.overflow_cast-scope
 overflow_cast-scope c = omega (arith, stands c)
 
-pub offset_bounds-scope-name : goal.offset_bounds-scope-name
-offset_bounds-scope-name c = omega (arith, low (goal.at.offset_bounds-scope-name c).In-loop-i)
+pub loop-pair-preserved : goal.loop-pair-preserved
+loop-pair-preserved c =
+    let (e, b) = c.loop-pair.invariant.1 in
+    (c.in-Some.ensures.steps.0 ∙ c.loop-pair.invariant.0, (e, one_entered e b (one (goal.at.loop-pair-preserved c).In-Some) c.pair_offset-at.ensures))
 
-pub bounds-scope-name : goal.bounds-scope-name
-bounds-scope-name c = omega (arith, low (goal.at.bounds-scope-name c).In-loop-i, c.loop-i.invariant.1.space)
-
-pub overflow_add-i-in-loop-i : goal.overflow_add-i-in-loop-i
-overflow_add-i-in-loop-i c = omega (arith, (one (goal.at.overflow_add-i-in-loop-i c).In-loop-i).paired)
-
-pub loop-i-smaller : goal.loop-i-smaller
-loop-i-smaller c = omega (arith, (one (goal.at.loop-i-smaller c).In-loop-i).paired, c.loop-i.invariant.2)
+pub returns : goal.returns
+returns c =
+    let (e, b) = c.loop-pair.invariant.1 in
+    all_entered e b (omega (arith, c.in-None.ensures.steps.1.0, c.loop-pair.invariant.0))

@@ -1,54 +1,36 @@
--- The invariant: what is left of the hypotheses decides.
-use Prim.Native.Nat.{◌+◌, ◌-◌, ◌≤◌, ◌<◌}
-use mathlib.Core.Path.{◌≡◌, refl}
+-- A chunk that is short or has a number that is out decides, and else what is left after it.
+use Prim.Native.Nat.{min}
+use mathlib.Core.Path.{◌≡◌, ap, ◌∙◌}
 use native.Mathlib.Omega.{arith}
 use lib.ListN.{length}
-use Rattle.hypotheses.proofs.Walking.{Deciding, at_first, alone, name_out, prop_out, both_in, all_in}
+use Rattle.std.specs.Slice.Iter.{chunks_rest}
+use Rattle.hypotheses.proofs.Walking.{chunk_alone, chunk_name_out, chunk_prop_out, chunk_in, none_out}
 use Rattle.hypotheses.proofs.is_out.Goals as goal
-use Rattle.hypotheses.proofs.is_out.Goals.{Else-count-i-eq1}
+use Rattle.hypotheses.proofs.is_out.Goals.{In-Some, then-pair-eq1-via-then-pair-eq1, then-pair-eq1-via-else-pair-eq1+then-names-pair, then-pair-eq1-via-else-pair-eq1+else-names-pair+then-propositions-pair}
 
--- a proposition follows
-paired : (c : Else-count-i-eq1) → c.loop-i.i + 1 < length c.args.hypotheses.now
-paired c = omega (arith, c.loop-i.invariant.1, c.loop-i-test.true, c.if-count-i-eq1.false)
+-- a chunk has two numbers, or the last
+size : (c : In-Some) → length c.in-Some.pair.now ≡ min 2 (length (chunks_rest c.loop-pair.pair-iterator))
+size c = c.in-Some.ensures.steps.1.1 ∙ ap (λ k. min k (length (chunks_rest c.loop-pair.pair-iterator))) c.loop-pair.invariant.0
 
-pub loop-i-init : goal.loop-i-init
-loop-i-init c = (at_first _ _ _, refl)
+pub returns-then-pair-eq1 : goal.returns-then-pair-eq1
+returns-then-pair-eq1 c =
+    let is = c.in-Some.ensures.steps.1.0 in
+    let sized = size (goal.at.returns-then-pair-eq1 c).In-Some in
+    rw c.loop-pair.invariant.1 (elim c.then-pair-eq1.branch [
+      | then-pair-eq1-via-then-pair-eq1 w ↦ chunk_alone _ _ _ _ is sized w.if-pair-eq1.true
+      | then-pair-eq1-via-else-pair-eq1+then-names-pair w ↦ chunk_name_out _ _ _ _ is sized c.in-Some.ensures.steps.1.2 w.if-names-pair.true
+      | then-pair-eq1-via-else-pair-eq1+else-names-pair+then-propositions-pair w ↦
+          chunk_prop_out _ _ _ _ is sized (omega (arith, sized, w.if-pair-eq1.false, c.in-Some.ensures.steps.1.2)) w.if-propositions-pair.true
+    ])
 
-pub bounds-hypotheses-i : goal.bounds-hypotheses-i
-bounds-hypotheses-i c = omega (arith, c.loop-i.invariant.1)
-
-pub overflow_cast-hypotheses : goal.overflow_cast-hypotheses
-overflow_cast-hypotheses c = omega (arith, c.type_inv.hypotheses c.loop-i.i)
-
-pub returns-then-names-hypotheses : goal.returns-then-names-hypotheses
-returns-then-names-hypotheses c = name_out _ _ _ c.loop-i.invariant.0 (omega (arith, c.loop-i.invariant.1, c.loop-i-test.true)) c.if-names-hypotheses.true
-
-pub returns-then-count-i-eq1 : goal.returns-then-count-i-eq1
-returns-then-count-i-eq1 c = alone _ _ _ c.loop-i.invariant.0 (omega (arith, c.loop-i.invariant.1, c.if-count-i-eq1.true)) (omega (arith, c.loop-i.invariant.1))
-
-pub overflow_add-i : goal.overflow_add-i
-overflow_add-i c = omega (arith, paired c)
-
-pub offset_bounds-hypotheses-i-in-loop-i : goal.offset_bounds-hypotheses-i-in-loop-i
-offset_bounds-hypotheses-i-in-loop-i c = omega (arith, paired c)
-
-pub bounds-hypotheses-i-in-loop-i : goal.bounds-hypotheses-i-in-loop-i
-bounds-hypotheses-i-in-loop-i c = paired (goal.at.bounds-hypotheses-i-in-loop-i c).Else-count-i-eq1
-
-pub overflow_cast-hypotheses-in-loop-i : goal.overflow_cast-hypotheses-in-loop-i
-overflow_cast-hypotheses-in-loop-i c = omega (arith, c.type_inv.hypotheses (c.loop-i.i + 1))
-
-pub returns-then-propositions-hypotheses : goal.returns-then-propositions-hypotheses
-returns-then-propositions-hypotheses c = prop_out _ _ _ c.loop-i.invariant.0 (paired (goal.at.returns-then-propositions-hypotheses c).Else-count-i-eq1) c.if-propositions-hypotheses.true
-
-pub overflow_add-i-in-loop-i : goal.overflow_add-i-in-loop-i
-overflow_add-i-in-loop-i c = omega (arith, paired (goal.at.overflow_add-i-in-loop-i c).Else-count-i-eq1)
-
-pub loop-i-smaller : goal.loop-i-smaller
-loop-i-smaller c = omega (arith, paired (goal.at.loop-i-smaller c).Else-count-i-eq1, c.loop-i.invariant.1)
-
-pub loop-i-preserved : goal.loop-i-preserved
-loop-i-preserved c = (both_in _ _ _ c.loop-i.invariant.0 (paired (goal.at.loop-i-preserved c).Else-count-i-eq1) c.if-names-hypotheses.false c.if-propositions-hypotheses.false, c.loop-i.invariant.1)
+pub loop-pair-preserved : goal.loop-pair-preserved
+loop-pair-preserved c =
+    let sized = size (goal.at.loop-pair-preserved c).In-Some in (
+      c.in-Some.ensures.steps.0 ∙ c.loop-pair.invariant.0,
+      c.loop-pair.invariant.1
+          ∙ chunk_in _ _ _ _ c.in-Some.ensures.steps.1.0 sized (omega (arith, sized, c.if-pair-eq1.false, c.in-Some.ensures.steps.1.2))
+          c.if-names-pair.false c.if-propositions-pair.false,
+    )
 
 pub returns : goal.returns
-returns c = all_in _ _ _ c.loop-i.invariant.0 (omega (arith, c.loop-i.invariant.1, c.loop-i-test.false))
+returns c = rw c.loop-pair.invariant.1 (none_out _ _ _ c.in-None.ensures.steps.1.0)
