@@ -120,6 +120,7 @@ pub fn put_renumbered(
 {
     let mut i = 0;
     let mut position = to;
+    // A head's own bytes say where it ends, so the place moves by no fixed step.
     while i < code.len() {
         position = put_head(code, i, names, numbers, out, position, write);
         i = head_end(code, i, names);
