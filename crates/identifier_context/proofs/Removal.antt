@@ -11,8 +11,6 @@ use Rattle.definitions.specs.Name.{Name}
 use Rattle.definitions.specs.IdentifierContext as definition
 use Rattle.identifier_context.specs.declared.Entry.{Entry}
 use Rattle.identifier_context.specs.declared.Lookup.{Lookup}
-use Rattle.identifier_context.specs.declared.Removed.{Removed}
-use Rattle.identifier_context.specs.declared.Removed.TheVariants.{Nothing, Latest}
 use Rattle.number.specs.Pairs.{NameWithin}
 use Rattle.identifier_context.specs.Memory.{entry_size, name_at, entry_at, context_of, Holds}
 use Rattle.identifier_context.specs.Promises.{latest_at, entry_found, closed, closed_at, removed_at, entry_removed, length_after, admitted, Removes}
@@ -41,7 +39,7 @@ module _ (before : List ℕ) (n i : ℕ) (present : entry_size * suc n ≤ lengt
 
 module _ {name_of : ℕ → Name} {lookup : Lookup} {before : List ℕ} where
   -- where the lookup finds nothing the memory stays
-  pub removes_nothing : {n : ℕ} → latest_at (admitted name_of lookup) (context_of before n) ≡ None → Removes name_of lookup before before n Nothing
+  pub removes_nothing : {n : ℕ} → latest_at (admitted name_of lookup) (context_of before n) ≡ None → Removes name_of lookup before before n None
   unfolding closed_at removed_at entry_removed length_after entry_found
   removes_nothing {n} missing =
       let search = rw missing at (searched (admitted name_of lookup) before n) in
@@ -54,7 +52,7 @@ module _ {name_of : ℕ → Name} {lookup : Lookup} {before : List ℕ} where
 
   -- else it is closed over the entry that is found
   pub removes_entry : {n i : ℕ} → entry_size * n ≤ length before → latest_at (admitted name_of lookup) (context_of before n) ≡ Some i
-      → Removes name_of lookup before (closed before n i) n (Latest (entry_at before i) (n - 1))
+      → Removes name_of lookup before (closed before n i) n (Some (entry_at before i, n - 1))
   unfolding closed_at removed_at entry_removed length_after entry_found
   removes_entry {n = zero} present found =
       let below = found_below _ _ (rw found at (searched (admitted name_of lookup) before zero)) in absurd (omega arith)
@@ -104,7 +102,7 @@ module _ {pairs text before : List ℕ} where
       let one_less : suc n - 1 ≡ n = omega arith in
       rw one_less (closed_holds n i (omega arith) holds)
 
-  pub removed_holds : {name_of : ℕ → Name} {lookup : Lookup} {after : List ℕ} {n : ℕ} {r : Removed} → Removes name_of lookup before after n r
+  pub removed_holds : {name_of : ℕ → Name} {lookup : Lookup} {after : List ℕ} {n : ℕ} {r : Option (Entry × ℕ)} → Removes name_of lookup before after n r
       → Holds pairs text before n → Holds pairs text after (length_after n r)
   removed_holds {name_of} {lookup} {n} removes holds =
       rw (removes.memory, removes.answer)

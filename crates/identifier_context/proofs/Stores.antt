@@ -5,6 +5,9 @@ use mathlib.Core.List.{List, [], ◌∷◌, ◌++◌}
 use native.Mathlib.Omega.{arith}
 use lib.ListN.{length, get_or, take, drop, set, length-drop, length-set, get_or-append}
 use lib.Seq.{sets, paste, paste-zero, paste-suc, drop-paste, drop_at, length-paste, length_paste_head, length-take-le, get_or-set_same, get_or-set_other, get_or-take, get_or-drop}
+use borrow.Rule.Slice.PartMut.{put_mid}
+use Rattle.std.proofs.lemmas.Grind.{common_steps}
+use Rattle.std.proofs.lemmas.List.Edits.{sets-eq}
 use Rattle.identifier_context.specs.Memory.{entry_size}
 use Rattle.identifier_context.specs.Promises.{shifted}
 
@@ -24,6 +27,11 @@ sets_in (v ∷ values) memory at zero fits h =
 sets_in (v ∷ values) memory at (suc k) fits h =
     let here : at + suc k ≡ suc at + k = omega arith in
     rw here (sets_in values (set memory at v) (suc at) k (simp length-set (omega arith)) (omega arith))
+
+-- numbers that are written at once stand as after a run of stores
+pub put_mid_sets : (at : ℕ) (memory values : List ℕ) → at + length values ≤ length memory
+    → put_mid at (length values) memory values ≡ sets memory at values
+put_mid_sets at memory values fits = rw sets-eq (grind (arith, common_steps))
 
 module _ (memory : List ℕ) (at : ℕ) where
   later : List ℕ

@@ -1,14 +1,15 @@
 -- Which entries are visible: an entry is where the lookup of its own name finds it, and each in its turn is what `getAllVisible` lists next.
-use Prim.Native.Nat.{ℕ, zero, suc, ◌-◌, ◌≤◌, ◌<◌}
+use Prim.Native.Nat.{ℕ, zero, suc, min, ◌-◌, ◌≤◌, ◌<◌}
 use mathlib.Core.Path.{◌≡◌, refl, sym, ◌∙◌}
 use mathlib.Core.Bool.{Bool, true, false, true≢false, ◌&&◌, not}
-use Rattle.std.specs.Prelude.{Option, None, Some}
+use Rattle.std.specs.Prelude.{Option, Some}
 use mathlib.Core.List.{List, [], ◌∷◌, ◌++◌}
 use native.Mathlib.Omega.{arith}
 use native.Mathlib.Decide.{dec_lt}
 use lib.ListN.{length, take, drop, get_or}
 use lib.Seq.{take-suc, drop-cons}
 use lib.Dec.{eqb}
+use Rattle.std.specs.Option.{option_eq}
 use borrow.Author.Tests.{eq-eqb, ne_eqb, not-true, not-false}
 use Rattle.definitions.specs.Name.{Name}
 use Rattle.definitions.specs.Text.{occurs, firsts_after}
@@ -16,15 +17,10 @@ use Rattle.definitions.specs.IdentifierContext.{len, same_name}
 use Rattle.definitions.specs.IdentifierContext as definition
 use Rattle.identifier_context.specs.declared.Lookup.TheVariants.{ByName}
 use Rattle.identifier_context.specs.Memory.{name_at, entry_of, entry_at, context_of}
-use Rattle.identifier_context.specs.Promises.{latest_at, admitted, is_visible, visible_before}
+use Rattle.identifier_context.specs.Promises.{latest_at, admitted, is_visible, visible_before, latest_visible}
 use Rattle.identifier_context.proofs.Firsts.{listed, same_self, passed_over}
 use Rattle.identifier_context.proofs.Contexts.{context_length}
 use Rattle.identifier_context.proofs.LatestEntry.{Search, over, passes, ends, searched}
-
--- an index was found, and it is this one
-unfoldable pub is_at : Option ℕ → ℕ → Bool
-is_at None i = false
-is_at (Some j) i = eqb j i
 
 module _ (name_of : ℕ → Name) (entries : List ℕ) where
   entry_in : ℕ → definition.Entry
@@ -44,12 +40,12 @@ module _ (name_of : ℕ → Name) (entries : List ℕ) where
 
   -- an entry is visible where the lookup of its own name finds it
   visible_found : (i : ℕ) {n : ℕ} {found : Option ℕ} → i < n → Search (same_name name_of (entry_in i)) entries n found
-      → is_at found i ≡ is_visible name_of entries n i
-  unfolding is_at entry_in
+      → option_eq eqb found (Some i) ≡ is_visible name_of entries n i
+  unfolding entry_in
   visible_found i h over = absurd (omega arith)
   visible_found i {found = found} h (passes {n = n} e s) = go (dec_lt i n) (λ l. visible_found i l s)
     where
-      go : Dec (i < n) → (i < n → is_at found i ≡ is_visible name_of entries n i) → is_at found i ≡ is_visible name_of entries (suc n) i
+      go : Dec (i < n) → (i < n → option_eq eqb found (Some i) ≡ is_visible name_of entries n i) → option_eq eqb found (Some i) ≡ is_visible name_of entries (suc n) i
       go (yes l) again = again l ∙ sym (visible_earlier n i false l e)
       go (no l) again = let same : n ≡ i = omega arith in absurd (true≢false (sym (same_self name_of (entry_in i)) ∙ rw same at e))
   visible_found i h (ends {i = j} e) = go (dec_lt i j)
@@ -59,7 +55,7 @@ module _ (name_of : ℕ → Name) (entries : List ℕ) where
       go (no l) = let same : j ≡ i = omega arith in rw (same, visible_last i) (eq-eqb i i refl)
 
   pub visible_at : {n i : ℕ} {found : Option ℕ} → i < n
-      → latest_at (admitted name_of (ByName (name_at entries i))) (context_of entries n) ≡ found → is_at found i ≡ is_visible name_of entries n i
+      → latest_at (admitted name_of (ByName (name_at entries i))) (context_of entries n) ≡ found → option_eq eqb found (Some i) ≡ is_visible name_of entries n i
   unfolding admitted same_name entry_in entry_of entry_at
   visible_at {n} {i} h e = visible_found i h (rw e at (searched (admitted name_of (ByName (name_at entries i))) entries n))
 
@@ -97,11 +93,21 @@ module _ (name_of : ℕ → Name) (entries : List ℕ) where
   visible_none n = visible_before_lem n 0 (omega arith)
 
   -- and past the latest there is no more
-  pub visible_all : (n i : ℕ) → n ≤ i → visible_before name_of (context_of entries n) i ≡ visible_before name_of (context_of entries n) n
+  pub visible_within : (n i : ℕ) → visible_before name_of (context_of entries n) i ≡ visible_before name_of (context_of entries n) (min i n)
   unfolding visible_before len
-  visible_all n i h =
-      let past : n - i ≡ n - n = omega arith in
+  visible_within n i =
+      let past : n - i ≡ n - min i n = omega arith in
       rw (context_length entries n, past)
+
+  -- the search for a visible entry passes one that is hidden, and ends at one that is not
+  pub passes_hidden : (n : ℕ) {i j : ℕ} → i ≡ suc j → is_visible name_of entries n j ≡ false
+      → latest_visible name_of entries n i ≡ latest_visible name_of entries n j
+  unfolding latest_visible
+  passes_hidden n here hidden = rw (here, hidden)
+
+  pub ends_shown : (n : ℕ) {i j : ℕ} → i ≡ suc j → is_visible name_of entries n j ≡ true → latest_visible name_of entries n i ≡ Some j
+  unfolding latest_visible
+  ends_shown n here shown = rw (here, shown)
 
   -- an entry that is hidden is passed over, and one that is visible is the next
   pub visible_passed : (n : ℕ) {i j : ℕ} → i ≡ suc j → j < n → is_visible name_of entries n j ≡ false

@@ -11,8 +11,6 @@ use Rattle.definitions.specs.IdentifierContext as definition
 use Rattle.identifier_context.specs.declared.Entry.{Entry}
 use Rattle.identifier_context.specs.declared.Lookup.{Lookup}
 use Rattle.identifier_context.specs.declared.Lookup.TheVariants.{ByName, ByIdentifier}
-use Rattle.identifier_context.specs.declared.Removed.{Removed}
-use Rattle.identifier_context.specs.declared.Removed.TheVariants.{Nothing, Latest}
 use Rattle.identifier_context.specs.Memory.{entry_size, entry_of, entry_at, context_of}
 use Rattle.definitions.specs.declared.Refusal.{Refusal}
 
@@ -61,17 +59,17 @@ closed_at before n None = before
 closed_at before n (Some i) = closed before n i
 
 -- its answer, and what that says
-unfoldable pub removed_at : List ℕ → ℕ → Option ℕ → Removed
-removed_at before n None = Nothing
-removed_at before n (Some i) = Latest (entry_at before i) (n - 1)
+unfoldable pub removed_at : List ℕ → ℕ → Option ℕ → Option (Entry × ℕ)
+removed_at before n None = None
+removed_at before n (Some i) = Some (entry_at before i, n - 1)
 
-unfoldable pub entry_removed : Removed → Option definition.Entry
-entry_removed Nothing = None
-entry_removed (Latest e m) = Some (entry_of e)
+unfoldable pub entry_removed : Option (Entry × ℕ) → Option definition.Entry
+entry_removed None = None
+entry_removed (Some (e, m)) = Some (entry_of e)
 
-unfoldable pub length_after : ℕ → Removed → ℕ
-length_after n Nothing = n
-length_after n (Latest e m) = m
+unfoldable pub length_after : ℕ → Option (Entry × ℕ) → ℕ
+length_after n None = n
+length_after n (Some (e, m)) = m
 
 -- Of the name of each number:
 module _ (name_of : ℕ → Name) where
@@ -98,7 +96,7 @@ module _ (name_of : ℕ → Name) where
     pub entry : entry_found entries r ≡ sought lookup (context_of entries n)
 
   -- a removal answers that entry and the length after it, and takes the entry out
-  pub record Removes (lookup : Lookup) (before after : List ℕ) (n : ℕ) (r : Removed) : Type 0 where
+  pub record Removes (lookup : Lookup) (before after : List ℕ) (n : ℕ) (r : Option (Entry × ℕ)) : Type 0 where
     pub memory : after ≡ closed_at before n (latest_at (admitted lookup) (context_of before n))
     pub answer : r ≡ removed_at before n (latest_at (admitted lookup) (context_of before n))
     pub entry : entry_removed r ≡ sought lookup (context_of before n)

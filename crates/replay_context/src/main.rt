@@ -2,34 +2,43 @@
 // holds: the Rust's, and document 01's where the lent room is full. tests/oracle/README.md has the form of the list.
 #![tactic(auto)]
 
-ghost use Rattle.std.specs.Prelude.{◌≡◌, Bool, ◌<◌, ◌≤◌, length, take};
+ghost use Rattle.std.specs.Prelude.{◌≡◌, Bool, ◌≤◌};
 ghost use Rattle.number.specs.Pairs.{NameWithin};
 ghost use Rattle.identifier_context.specs.Memory.{Holds};
 ghost use Rattle.identifier_context.specs.Promises.{length_after};
 ghost use Rattle.replay_context.specs.Lengths.{length_inserted};
 
 use definitions::Refusal;
-use identifier_context::{ENTRY_SIZE, Entry, Removed};
-use number::{PAIR_SIZE, number_at, pair_length, pair_offset};
+use identifier_context::{ENTRY_SIZE, Entry, Names};
+use number::{PAIR_SIZE, pair_length, pair_offset};
 use std::{fs, io};
 
-// The kinds of questions; any other asks for the latest entry of a name.
-const INSERT: u16 = 0;
+// What a question asks for. The entry beside it is to be inserted, or has the name and the id that are looked for.
+#[derive(Debug, Clone, Copy, PartialEq, Eq)]
+enum Question {
+    Insert,
+    RemoveByName,
+    Remove,
+    FirstVisible,
+    NextVisible,
+    Get,
+    GetByName,
+}
 
-const REMOVE_BY_NAME: u16 = 1;
-
-const REMOVE: u16 = 2;
-
-const FIRST_VISIBLE: u16 = 3;
-
-const NEXT_VISIBLE: u16 = 4;
-
-const GET: u16 = 5;
-
-// What an answer says beside the length: no entry, or one. Another number is a refusal's.
-const NOTHING: u16 = 0;
-
-const AN_ENTRY: u16 = 1;
+impl From<u16> for Question {
+    // The list's numbers of the questions; any other asks for the latest entry of a name.
+    fn from(number: u16) -> Self {
+        match number {
+            0 => Question::Insert,
+            1 => Question::RemoveByName,
+            2 => Question::Remove,
+            3 => Question::FirstVisible,
+            4 => Question::NextVisible,
+            5 => Question::Get,
+            _ => Question::GetByName,
+        }
+    }
+}
 
 // The most numbers that are lent.
 const ROOM: usize = 64;
@@ -42,12 +51,8 @@ const TEXT_BYTES: usize = 64;
 // The questions on a context.
 const QUESTIONS: usize = 40;
 
-// Whether there is an entry, or why there is none, and the entry.
-#[derive(Drop)]
-struct Answer {
-    outcome: u16,
-    entry: Entry,
-}
+// The entry that a question finds or takes out, if any, or a refusal's number.
+type Answer = Result<Option<Entry>, u16>;
 
 // A context's length after a question, the index before which the next visible entry is sought, and the answer.
 #[derive(Drop)]
@@ -57,305 +62,194 @@ struct Turn {
     answer: Answer,
 }
 
-fn number_of(bytes: &[u8; 2]) -> u16 {
-    number_at(bytes, 0) as u16
+impl Turn {
+    // A turn after which all entries are left to be sought.
+    fn new(len: usize, answer: Answer) -> Self
+        ensures { result.«len» ≡ len }
+    {
+        Self {
+            len,
+            before: len,
+            answer,
+        }
+    }
 }
 
 // The list's next number. `rest` is what is left of the list; past its end there are zeros.
 fn read_number(rest: &mut &[u8]) -> u16 {
     let mut bytes = [0u8; 2];
     input::read_full(rest, &mut bytes);
-    number_of(&bytes)
-}
-
-fn wide(number: u16) -> usize
-    ensures { result < 65536 }
-{
-    number as usize
+    u16::from_le_bytes(bytes)
 }
 
 fn read_entry(rest: &mut &[u8]) -> Entry {
-    let name = read_number(rest);
-    let id = read_number(rest);
-    let kind = read_number(rest);
-    let number = read_number(rest);
     Entry {
-        name: name,
-        id: id,
-        kind: kind,
-        number: number,
+        name: read_number(rest),
+        id: read_number(rest),
+        kind: read_number(rest),
+        number: read_number(rest),
     }
 }
 
+// The list has an entry in each answer: 0 and one that does not count, 1 and the answer's, or a refusal's number and one that does not
+// count.
 fn read_answer(rest: &mut &[u8]) -> Answer {
     let outcome = read_number(rest);
     let entry = read_entry(rest);
-    Answer {
-        outcome: outcome,
-        entry: entry,
-    }
-}
-
-fn same_entry(a: Entry, b: Entry) -> bool {
-    if a.name != b.name {
-        return false;
-    }
-    if a.id != b.id {
-        return false;
-    }
-    if a.kind != b.kind {
-        return false;
-    }
-    a.number == b.number
-}
-
-fn same_answer(a: Answer, b: Answer) -> bool {
-    if a.outcome != b.outcome {
-        return false;
-    }
-    same_entry(a.entry, b.entry)
-}
-
-fn without_entry(outcome: u16) -> Answer {
-    Answer {
-        outcome: outcome,
-        entry: Entry {
-            name: 0,
-            id: 0,
-            kind: 0,
-            number: 0,
-        },
-    }
-}
-
-fn with_entry(entry: Entry) -> Answer {
-    Answer {
-        outcome: AN_ENTRY,
-        entry: entry,
+    match outcome {
+        0 => Ok(None),
+        1 => Ok(Some(entry)),
+        number => Err(number),
     }
 }
 
 // The entry of an index that an operation found.
-fn found_entry(entries: &[u16], found: Option<usize>) -> Answer {
-    let Some(i) = found else {
-        return without_entry(NOTHING);
-    };
+fn found_entry(entries: &[u16], found: Option<usize>) -> Option<Entry> {
+    let i = found?;
     if entries.len() / ENTRY_SIZE <= i {
-        return without_entry(NOTHING);
+        return None;
     }
-    with_entry(identifier_context::entry_at(entries, i))
+    Some(identifier_context::entry_at(entries, i))
 }
 
-// The lesser of a number and the numbers that the memory has.
-fn numbers_within(n: usize, memory: &[u16]) -> usize
-    ensures within { result ≤ length memory.now }
-    ensures prefix { result ≡ length (take result memory.now) }
-{
-    let most = memory.len();
-    if n < most {
-        return n;
-    }
-    most
-}
-
-// Whether a number has a pair that ends within the text.
+// Whether a number has a pair that ends within the text. Both slices are passed, since what bytes are at most is known of a parameter.
 fn is_name(pairs: &[u8], text: &[u8], name: usize) -> bool
     ensures { result ≡ Bool.true → NameWithin pairs.now text.now name }
 {
     if pairs.len() / PAIR_SIZE <= name {
         return false;
     }
-    let offset = pair_offset(pairs, name);
-    let length = pair_length(pairs, name);
-    if text.len() < offset + length {
-        return false;
-    }
-    true
+    pair_offset(pairs, name) + pair_length(pairs, name) <= text.len()
 }
 
+#[tactic(auto, unfolding(crate::specs::Lengths::length_inserted))]
 fn inserted_turn(len: usize, inserted: Result<usize, Refusal>) -> Turn
     ensures { result.«len» ≡ length_inserted len inserted }
 {
     match inserted {
-        Ok(longer) => Turn {
-            len: longer,
-            before: longer,
-            answer: without_entry(NOTHING),
-        },
-        Err(refusal) => Turn {
-            len: len,
-            before: len,
-            answer: without_entry(refusal.number as u16),
-        },
+        Ok(longer) => Turn::new(longer, Ok(None)),
+        Err(refusal) => Turn::new(len, Err(u16::from(refusal.number))),
     }
 }
 
-fn removed_turn(len: usize, removed: Removed) -> Turn
+#[tactic(auto, unfolding(identifier_context::specs::Promises::length_after))]
+fn removed_turn(len: usize, removed: Option<(Entry, usize)>) -> Turn
     ensures { result.«len» ≡ length_after len removed }
 {
     match removed {
-        Removed::Nothing => Turn {
-            len: len,
-            before: len,
-            answer: without_entry(NOTHING),
-        },
-        Removed::Latest(entry, shorter) => Turn {
-            len: shorter,
-            before: shorter,
-            answer: with_entry(entry),
-        },
+        None => Turn::new(len, Ok(None)),
+        Some((entry, shorter)) => Turn::new(shorter, Ok(Some(entry))),
     }
 }
 
 // Makes an entry the latest.
-fn insert(entries: &mut [u16], len: usize, pairs: &[u8], text: &[u8], entry: Entry) -> Turn
-    requires { Holds pairs.now text.now entries.old len × NameWithin pairs.now text.now entry.«name» }
-    ensures { Holds pairs.now text.now entries.new result.«len» }
+fn insert(entries: &mut [u16], len: usize, names: Names, entry: Entry) -> Turn
+    requires { Holds names.pairs.now names.text.now entries.old len
+        × NameWithin names.pairs.now names.text.now entry.«name» }
+    ensures { Holds names.entry.pairs.now names.entry.text.now entries.new result.«len» }
 {
     inserted_turn(len, identifier_context::insert(entries, len, entry))
 }
 
 // Takes out the latest entry of a name.
-fn remove_by_name(entries: &mut [u16], len: usize, pairs: &[u8], text: &[u8], name: u16) -> Turn
-    requires { Holds pairs.now text.now entries.old len × NameWithin pairs.now text.now name }
-    ensures { Holds pairs.now text.now entries.new result.«len» }
+fn remove_by_name(entries: &mut [u16], len: usize, names: Names, name: u16) -> Turn
+    requires { Holds names.pairs.now names.text.now entries.old len
+        × NameWithin names.pairs.now names.text.now name }
+    ensures { Holds names.entry.pairs.now names.entry.text.now entries.new result.«len» }
 {
     removed_turn(
         len,
-        identifier_context::remove_by_name(entries, len, pairs, text, name),
+        identifier_context::remove_by_name(entries, len, names, name),
     )
 }
 
 // Takes out the latest entry of a name and an id.
-fn remove(entries: &mut [u16], len: usize, pairs: &[u8], text: &[u8], name: u16, id: u16) -> Turn
-    requires { Holds pairs.now text.now entries.old len × NameWithin pairs.now text.now name }
-    ensures { Holds pairs.now text.now entries.new result.«len» }
+fn remove(entries: &mut [u16], len: usize, names: Names, name: u16, id: u16) -> Turn
+    requires { Holds names.pairs.now names.text.now entries.old len
+        × NameWithin names.pairs.now names.text.now name }
+    ensures { Holds names.entry.pairs.now names.entry.text.now entries.new result.«len» }
 {
     removed_turn(
         len,
-        identifier_context::remove(entries, len, pairs, text, name, id),
-    )
-}
-
-// The latest entry of a name, or of a name and an id.
-fn look_up(
-    entries: &[u16],
-    len: usize,
-    pairs: &[u8],
-    text: &[u8],
-    kind: u16,
-    entry: Entry,
-) -> Answer
-    requires { Holds pairs.now text.now entries.now len × NameWithin pairs.now text.now entry.«name» }
-{
-    if kind == GET {
-        let found = identifier_context::get(entries, len, pairs, text, entry.name, entry.id);
-        return found_entry(entries, found);
-    }
-    found_entry(
-        entries,
-        identifier_context::get_by_name(entries, len, pairs, text, entry.name),
+        identifier_context::remove(entries, len, names, name, id),
     )
 }
 
 // The latest visible entry before an index.
-fn visible(entries: &[u16], len: usize, pairs: &[u8], text: &[u8], before: usize) -> Turn
-    requires { Holds pairs.now text.now entries.now len }
-    ensures { Holds pairs.now text.now entries.now result.«len» }
+fn visible(entries: &[u16], len: usize, names: Names, before: usize) -> Turn
+    requires { Holds names.pairs.now names.text.now entries.now len }
+    ensures { result.«len» ≡ len }
 {
-    let Some(i) = identifier_context::next_visible(entries, len, pairs, text, before) else {
-        return Turn {
-            len: len,
-            before: 0,
-            answer: without_entry(NOTHING),
-        };
-    };
+    let found = identifier_context::next_visible(entries, len, names, before);
     Turn {
-        len: len,
-        before: i,
-        answer: found_entry(entries, Some(i)),
+        len,
+        before: found.unwrap_or(0),
+        answer: Ok(found_entry(entries, found)),
     }
 }
 
-// The turn that a question asks for: its kind, and the entry, name or identifier that it is about.
+// The turn that a question asks for, with the entry, name or identifier that it is about.
 fn ask(
     entries: &mut [u16],
     len: usize,
     before: usize,
-    pairs: &[u8],
-    text: &[u8],
-    kind: u16,
+    names: Names,
+    question: Question,
     entry: Entry,
 ) -> Turn
-    requires { Holds pairs.now text.now entries.old len × NameWithin pairs.now text.now entry.«name» }
-    ensures { Holds pairs.now text.now entries.new result.«len» }
+    requires { Holds names.pairs.now names.text.now entries.old len
+        × NameWithin names.pairs.now names.text.now entry.«name» }
+    ensures { Holds names.entry.pairs.now names.entry.text.now entries.new result.«len» }
 {
-    match kind {
-        INSERT => insert(entries, len, pairs, text, entry),
-        REMOVE_BY_NAME => remove_by_name(entries, len, pairs, text, entry.name),
-        REMOVE => remove(entries, len, pairs, text, entry.name, entry.id),
-        FIRST_VISIBLE => visible(entries, len, pairs, text, len),
-        NEXT_VISIBLE => visible(entries, len, pairs, text, before),
-        _ => Turn {
-            len: len,
-            before: len,
-            answer: look_up(entries, len, pairs, text, kind, entry),
-        },
+    match question {
+        Question::Insert => insert(entries, len, names, entry),
+        Question::RemoveByName => remove_by_name(entries, len, names, entry.name),
+        Question::Remove => remove(entries, len, names, entry.name, entry.id),
+        Question::FirstVisible => visible(entries, len, names, len),
+        Question::NextVisible => visible(entries, len, names, before),
+        Question::Get => {
+            let found = identifier_context::get(entries, len, names, entry.name, entry.id);
+            Turn::new(len, Ok(found_entry(entries, found)))
+        }
+        Question::GetByName => {
+            let found = identifier_context::get_by_name(entries, len, names, entry.name);
+            Turn::new(len, Ok(found_entry(entries, found)))
+        }
     }
 }
 
 // The turn of the list's next question.
-fn ask_next(
-    rest: &mut &[u8],
-    entries: &mut [u16],
-    len: usize,
-    before: usize,
-    pairs: &[u8],
-    text: &[u8],
-) -> Turn
-    requires { Holds pairs.now text.now entries.old len }
-    ensures { Holds pairs.now text.now entries.new result.«len» }
+fn ask_next(rest: &mut &[u8], entries: &mut [u16], len: usize, before: usize, names: Names) -> Turn
+    requires { Holds names.pairs.now names.text.now entries.old len }
+    ensures { Holds names.entry.pairs.now names.entry.text.now entries.new result.«len» }
 {
-    let kind = read_number(rest);
+    let question = Question::from(read_number(rest));
     let entry = read_entry(rest);
-    if is_name(pairs, text, entry.name as usize) {
-        return ask(entries, len, before, pairs, text, kind, entry);
+    if is_name(names.pairs, names.text, usize::from(entry.name)) {
+        return ask(entries, len, before, names, question, entry);
     }
-    Turn {
-        len: len,
-        before: len,
-        answer: without_entry(NOTHING),
-    }
-}
-
-fn one_if(yes: bool) -> usize
-    ensures { result ≤ 1 }
-{
-    if yes { 1 } else { 0 }
+    Turn::new(len, Ok(None))
 }
 
 // Whether the list's next answer is that of a turn.
 fn agrees(rest: &mut &[u8], turn: Turn) -> bool {
-    let len = wide(read_number(rest));
+    let len = usize::from(read_number(rest));
     let answer = read_answer(rest);
-    if len != turn.len {
-        return false;
-    }
-    same_answer(answer, turn.answer)
+    len == turn.len && answer == turn.answer
 }
 
 // How many of the answers to a context's questions agree. The context is empty at first.
-fn agreeing(rest: &mut &[u8], entries: &mut [u16], pairs: &[u8], text: &[u8]) -> usize
+fn agreeing(rest: &mut &[u8], entries: &mut [u16], names: Names) -> usize
     ensures { result ≤ 40 }
 {
     let mut len = 0;
     let mut before = 0;
     let mut agreed = 0;
-    for i in 0..QUESTIONS {
-        let turn = ask_next(rest, entries, len, before, pairs, text);
+    for _ in 0..QUESTIONS {
+        let turn = ask_next(rest, entries, len, before, names);
         len = turn.len;
         before = turn.before;
-        agreed += one_if(agrees(rest, turn));
+        agreed += usize::from(agrees(rest, turn));
     }
     agreed
 }
@@ -369,14 +263,19 @@ fn ask_all(rest: &mut &[u8]) -> usize
     let mut text = [0u8; TEXT_BYTES];
     input::read_full(rest, &mut text);
     let mut memory = [0u16; ROOM];
-    let lent = numbers_within(wide(read_number(rest)), &memory);
-    agreeing(rest, &mut memory[..lent], &pairs, &text)
+    let lent = usize::from(read_number(rest)).min(ROOM);
+    let names = Names {
+        pairs: &pairs,
+        text: &text,
+    };
+    agreeing(rest, &mut memory[..lent], names)
 }
 
+// The list is read at once, into memory of std's: a read for each number would ask the system 117,000 times.
 fn main(rt: HostRuntime) -> io::Result<()> {
     let bytes = fs::read(&rt, "contexts")?;
     let mut rest = bytes.as_slice();
-    let contexts = wide(read_number(&mut rest));
+    let contexts = usize::from(read_number(&mut rest));
     let mut agreed = 0;
     for _ in 0..contexts {
         agreed += ask_all(&mut rest);

@@ -1,34 +1,13 @@
--- The name that is asked for is in the lookup, and the entry's numbers are those of the index.
-use mathlib.Core.Path.{◌∙◌, ap, sym}
+-- A lookup by name and id admits an entry of the name's bytes only where the id is the same.
 use borrow.Author.Rules.{rules}
-use Rattle.definitions.specs.Name.{is_equal}
-use Rattle.identifier.proofs.Comparing.{is_equal_is}
-use Rattle.identifier_context.specs.Memory.{entry_at}
-use Rattle.identifier_context.proofs.Lookups.{admits_name, admits_no_other_id, admits_identifier}
+use borrow.Author.Tests.{tests}
+use Rattle.identifier_context.proofs.Lookups.{admits_identifier, admits_no_other_id}
 use Rattle.identifier_context.proofs.admits.Goals as goal
 
-pub compare_bytes-requires : goal.compare_bytes-requires
-unfolding entry_at
-compare_bytes-requires c =
-    let pre = c.requires in
-    (rw c.in-ByName.is at pre.2, rw c.entry_at-entry.ensures pre.1)
+pub returns-then-id-entry : goal.returns-then-id-entry
+returns-then-id-entry c =
+    rw (c.same-then-id-entry.ensures, ← c.entry_at-entry.ensures)
+    (admits_identifier _ _ c.in-ByIdentifier.is (search (rules, tests)))
 
-pub compare_bytes-requires-in-ByIdentifier : goal.compare_bytes-requires-in-ByIdentifier
-unfolding entry_at
-compare_bytes-requires-in-ByIdentifier c =
-    let pre = c.requires in
-    (rw c.in-ByIdentifier.is at pre.2, rw c.entry_at-entry.ensures pre.1)
-
-pub returns-then-entry-id : goal.returns-then-entry-id
-returns-then-entry-id c =
-    admits_no_other_id _ _ _ c.in-ByIdentifier.is c.entry_at-entry.ensures c.if-entry-id.true
-
-pub returns-in-ByName : goal.returns-in-ByName
-returns-in-ByName c =
-    admits_name _ _ _ c.in-ByName.is c.entry_at-entry.ensures
-    (c.is_eq.ensures ∙ sym (is_equal_is _) ∙ ap is_equal c.compare_bytes.ensures)
-
-pub returns-else-entry-id : goal.returns-else-entry-id
-returns-else-entry-id c =
-    admits_identifier _ _ _ c.in-ByIdentifier.is c.entry_at-entry.ensures c.if-entry-id.false
-    (c.is_eq-in-ByIdentifier.ensures ∙ sym (is_equal_is _) ∙ ap is_equal c.compare_bytes-in-ByIdentifier.ensures)
+pub returns-else-id-entry : goal.returns-else-id-entry
+returns-else-id-entry c = rw (← c.entry_at-entry.ensures) (admits_no_other_id _ _ c.in-ByIdentifier.is (search (rules, tests)))

@@ -1,11 +1,8 @@
--- The invariant: the latest entry that the lookup admits is that of the entries that are left.
-use Prim.Native.Nat.{◌≤◌}
-use mathlib.Core.Path.{◌≡◌, refl, sym, ap, ◌∙◌}
+-- Each entry that the search passes is none that the lookup admits, and the one that it meets is the latest.
+use mathlib.Core.Path.{◌≡◌, sym, ◌∙◌}
 use native.Mathlib.Omega.{arith}
-use borrow.Author.Rules.{rules}
-use Rattle.definitions.specs.Sheet.{marked}
 use Rattle.identifier_context.specs.Memory.{context_of}
-use Rattle.identifier_context.specs.Promises.{latest_at, admitted}
+use Rattle.identifier_context.specs.Promises.{latest_at}
 use Rattle.identifier_context.proofs.LatestEntry.{search_passes, search_ends}
 use Rattle.identifier_context.proofs.Lookups.{finds}
 use Rattle.identifier_context.proofs.find.Goals as goal
@@ -18,18 +15,15 @@ admits-requires c =
 pub returns-then-admits : goal.returns-then-admits
 returns-then-admits c =
     let admitted = sym c.admits.ensures ∙ c.if-admits.true in
-    finds (sym (c.loop-left.invariant.1 ∙ search_ends _ _ (omega arith) admitted))
+    finds (sym (c.loop-i.invariant ∙ search_ends _ _ (omega arith) admitted))
 
-pub loop-left-preserved : goal.loop-left-preserved
-loop-left-preserved c =
+pub loop-i-preserved : goal.loop-i-preserved
+loop-i-preserved c =
     let passed = sym c.admits.ensures ∙ c.if-admits.false in
-    (omega arith, c.loop-left.invariant.1 ∙ search_passes _ _ (omega arith) passed)
+    c.loop-i.invariant ∙ search_passes _ _ (omega arith) passed
 
 pub returns : goal.returns
 unfolding latest_at context_of
 returns c =
-    let none_left : c.loop-left.left ≡ 0 = omega arith in
-    finds (sym (rw none_left at c.loop-left.invariant.1))
-
-pub loop-left-init : goal.loop-left-init
-loop-left-init c = (omega arith, refl)
+    let none_left : c.loop-i.i ≡ 0 = omega arith in
+    finds (sym (rw none_left at c.loop-i.invariant))

@@ -3,6 +3,6 @@ use Rattle.std.proofs.Common.{◌≤◌, ◌≡◌, length}
 use Rattle.identifier_context.specs.Memory.{Holds}
 use Rattle.replay_context.proofs.agreeing.Given as goal
 
-abbrev pub invariant-loop-i : goal.invariant-loop-i
-invariant-loop-i l =
-    (l.agreed ≤ l.i) × (length l.entries ≡ length l.initial.entries) × Holds l.pairs l.text l.entries l.len
+abbrev pub invariant-loop : goal.invariant-loop
+invariant-loop l =
+    (l.agreed ≤ l.counter) × (length l.entries ≡ length l.initial.entries) × Holds l.names.pairs.now l.names.text.now l.entries l.len

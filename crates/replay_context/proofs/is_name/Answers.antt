@@ -1,23 +1,24 @@
 -- Both tests hold of a number where the answer is yes.
-use Rattle.std.proofs.Common.{◌+◌, ◌*◌, arith}
+use Rattle.std.proofs.Common.{◌+◌, ◌*◌, rules, arith}
+use borrow.Author.Tests.{tests}
 use Rattle.definitions.specs.Sheet.{pair_size, number_at, pair_offset, pair_length, pair_end}
 use Rattle.replay_context.proofs.is_name.Goals as goal
 
-pub pair_offset-offset-requires : goal.pair_offset-offset-requires
+pub pair_offset-requires : goal.pair_offset-requires
 unfolding pair_size
-pair_offset-offset-requires c = omega arith
+pair_offset-requires c = omega arith
 
-pub pair_length-length-requires : goal.pair_length-length-requires
+pub pair_length-requires : goal.pair_length-requires
 unfolding pair_size
-pair_length-length-requires c = omega arith
+pair_length-requires c = omega arith
 
-pub overflow_add-offset : goal.overflow_add-offset
+pub overflow_add-result : goal.overflow_add-result
 unfolding pair_offset pair_length number_at
-overflow_add-offset c =
+overflow_add-result c =
     let byte = c.type_inv.pairs in
     let at = pair_size * c.args.name in
     omega (arith, byte at, byte (at + 1), byte (at + 2), byte (at + 2 + 1))
 
 pub returns : goal.returns
 unfolding pair_end pair_size
-returns c = λ _. record { present = omega arith; ends = omega arith }
+returns c = λ yes. record { present = omega arith; ends = search (rules, tests) }
