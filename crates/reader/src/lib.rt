@@ -16,10 +16,11 @@ pub struct Reader<'a> {
 pub fn bytes_after(s: &[u8], at: usize) -> usize
     ensures { result ≡ bytes_after s.now at }
 {
-    if at < s.len() { s.len() - at } else { 0 }
+    s.len().saturating_sub(at)
 }
 
 // The number at a position, low byte first.
+#[tactic(auto, unfolding(crate::specs::Reading::number_after))]
 pub fn number_after(s: &[u8], at: usize) -> Option<usize>
     ensures { result ≡ number_after s.now at }
 {
@@ -30,6 +31,7 @@ pub fn number_after(s: &[u8], at: usize) -> Option<usize>
 }
 
 // The position so many numbers on, or the end where fewer are left.
+#[tactic(auto, unfolding(crate::specs::Reading::position_after))]
 pub fn position_after(s: &[u8], at: usize, numbers: usize) -> usize
     ensures { result ≡ position_after s.now at numbers }
 {
