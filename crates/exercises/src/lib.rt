@@ -14,6 +14,7 @@ ghost use Rattle.exercises.specs.Sizes.{Few, size, CountOf, Located, Divided, ro
 use definitions::Refusal;
 use names::count_names;
 use output::{put, put_all};
+use prefix_code::{AND, ATOM, IMPL, OR};
 
 // At most so many connectives.
 const CONNECTIVE_LIMIT: usize = 3;
@@ -29,15 +30,6 @@ const COUNTS: [usize; 16] = [
     // three
     5, 75, 2250, 84375,
 ];
-
-// The byte in front of a proposition's code.
-const AND: u8 = 2;
-
-const OR: u8 = 3;
-
-const IMPL: u8 = 4;
-
-const ATOM: u8 = 5;
 
 // How many propositions have exactly k connectives.
 fn count(names: usize, k: usize) -> usize
@@ -60,15 +52,13 @@ fn locate(names: usize, n: usize, ordinal: usize) -> Option<Place>
     requires { Few names n }
     ensures { Located names n ordinal result }
 {
-    let mut size = 0;
     let mut index = ordinal;
-    while size <= n {
+    for size in 0..=n {
         let c = count(names, size);
         if index < c {
             return Some(Place { size, index });
         }
         index -= c;
-        size += 1;
     }
     None
 }
@@ -151,30 +141,14 @@ pub fn exercise(text: &[u8], n: usize, ordinal: usize, out: &mut [u8]) -> Result
     ensures { Fills (exercise_answer text.now n ordinal (length out.old))
         out.old out.new result }
 {
-    let Some(names) = count_names(text) else {
-        return Err(Refusal {
-            number: 29,
-            place: 0,
-        });
-    };
+    let names = count_names(text).ok_or(Refusal::at(29, 0))?;
     if CONNECTIVE_LIMIT < n {
-        return Err(Refusal {
-            number: 29,
-            place: 0,
-        });
+        return Err(Refusal::at(29, 0));
     }
-    let Some(place) = locate(names, n, ordinal) else {
-        return Err(Refusal {
-            number: 30,
-            place: 0,
-        });
-    };
+    let place = locate(names, n, ordinal).ok_or(Refusal::at(30, 0))?;
     let end = put_sized(out, 0, names, place.size, place.index, false);
     if out.len() < end {
-        return Err(Refusal {
-            number: 16,
-            place: 0,
-        });
+        return Err(Refusal::at(16, 0));
     }
     put_sized(out, 0, names, place.size, place.index, true);
     Ok(end)

@@ -40,9 +40,6 @@ divide-parts-requires t c =
 pub root_byte-requires : goal.root_byte-requires
 root_byte-requires t c = tt
 
-pub put-start-requires : goal.put-start-requires
-put-start-requires t c = tt
-
 pub put_sized-middle-requires : goal.put_sized-middle-requires
 put_sized-middle-requires t c =
     let few = c.requires.0 in

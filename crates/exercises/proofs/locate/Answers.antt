@@ -11,13 +11,13 @@ pub count-c-requires : goal.count-c-requires
 count-c-requires c = fewer c.requires (omega arith)
 
 pub returns-then-index-c : goal.returns-then-index-c
-returns-then-index-c c = this_size c.loop-size.invariant c.loop-size-test.true c.count-c.ensures c.if-index-c.true
+returns-then-index-c c = this_size c.loop-size.invariant (omega arith) c.count-c.ensures c.if-index-c.true
 
-pub overflow_add-size : goal.overflow_add-size
-overflow_add-size c = omega (arith, c.requires.connectives_few)
+pub returns-else-index-c : goal.returns-else-index-c
+returns-else-index-c c = past_all (next_size c.loop-size.invariant (omega arith) c.count-c.ensures c.if-index-c.false) (omega arith)
 
 pub loop-size-preserved : goal.loop-size-preserved
-loop-size-preserved c = rw add-one (next_size c.loop-size.invariant c.loop-size-test.true c.count-c.ensures c.if-index-c.false)
+loop-size-preserved c = rw add-one (next_size c.loop-size.invariant (omega arith) c.count-c.ensures c.if-index-c.false)
 
 pub returns : goal.returns
-returns c = past_all c.loop-size.invariant c.loop-size-test.false
+returns c = past_all c.loop-size.invariant (omega arith)

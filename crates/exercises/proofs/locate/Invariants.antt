@@ -1,10 +1,6 @@
 -- The invariant: all of fewer connectives are passed.
-use Prim.Native.Nat.{suc, ◌-◌}
 use Rattle.exercises.proofs.Unranked.{Locating}
 use Rattle.exercises.proofs.locate.Given as goal
 
 abbrev pub invariant-loop-size : goal.invariant-loop-size
 invariant-loop-size l = Locating l.names l.n l.ordinal l.size l.index
-
-abbrev pub decreases-loop-size : goal.decreases-loop-size
-decreases-loop-size l = suc l.n - l.size
