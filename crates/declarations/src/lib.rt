@@ -3,7 +3,8 @@
 // The search among them follows the chain of a start slot, so that first occurrences take a time that grows with the uses.
 #![tactic(auto)]
 
-ghost use Rattle.std.specs.Prelude.{◌≡◌, [], ◌∷◌, ◌≤◌, ◌<◌};
+ghost use Rattle.std.specs.Prelude.{◌≡◌, [], ◌∷◌, ◌+◌, ◌*◌, ◌≤◌, ◌<◌, ◌&&◌, eqb, length, get_or, set};
+ghost use Rattle.definitions.specs.Name.{eq_name};
 ghost use Rattle.definitions.specs.Code.{parameter_limit};
 ghost use Rattle.definitions.specs.NameIndex.{start_slot};
 ghost use Rattle.output.specs.Wrote.{Wrote};
@@ -15,20 +16,57 @@ ghost use Rattle.declarations.specs.Memory.{use_over, is_declared, declared_uses
 ghost use Rattle.declarations.specs.Lines.{count_text, break_before, declaration, declaration_lines};
 
 use definitions::TermList;
+use identifier::same_name;
 use name_index::{SLOT_COUNT, start_slot};
-use number::{pair_length, pair_offset};
 use output::{put, put_all, put_decimal};
 use prefix_code::{PARAMETER_LIMIT, scan};
 use proof_term_lists::{Added, record_adds};
-use prop_lists::{NextEntry, next_entry};
-use vocabulary::{Vocabulary, code_of, pairs_of, text_of};
+use prop_lists::next_entry;
+use vocabulary::{Vocabulary, code_of};
 
 // The flags of a name: one for each count of parameters from 0 on.
 const NAME_FLAGS: usize = PARAMETER_LIMIT as usize + 1;
 
+// A declaration: the number of a name, and a count. Number j stands at 2 * j and behind it.
+#[derive(Clone, Copy)]
+pub struct Declaration {
+    pub name: usize,
+    pub count: usize,
+}
+
+// Declaration j.
+pub fn declaration_at(declared: &[u16], j: usize) -> Declaration
+    requires { 2 * (j + 1) ≤ length declared.now }
+    ensures name { result.name ≡ get_or declared.now (2 * j) 0 }
+    ensures count { result.count ≡ get_or declared.now (2 * j + 1) 0 }
+    ensures small { (result.name < 65536) × (result.count < 65536) }
+{
+    Declaration {
+        name: declared[2 * j] as usize,
+        count: declared[2 * j + 1] as usize,
+    }
+}
+
+// Makes a declaration number j.
+pub fn set_declaration(declared: &mut [u16], j: usize, to: Declaration)
+    requires room { 2 * (j + 1) ≤ length declared.old }
+    requires small { (to.name < 65536) × (to.count < 65536) }
+    ensures { declared.new ≡ set (set declared.old (2 * j) to.name) (2 * j + 1) to.count }
+{
+    declared[2 * j] = to.name as u16;
+    declared[2 * j + 1] = to.count as u16;
+}
+
+// Whether a declaration has this count and these name bytes. The counts are compared first, so that few names are.
+fn has(other: Declaration, wanted: &[u8], count: usize, bytes: &[u8], v: Vocabulary) -> bool
+    requires { Names bytes.now v other.name }
+    ensures { result ≡ (eq_name wanted.now (name_in bytes.now v other.name) && eqb count other.count) }
+{
+    count == other.count && same_name(wanted, vocabulary::name(bytes, v, other.name))
+}
+
 // Whether one of the first `len` declarations has this count and the bytes of this name. The last of them is the newest of the name's
-// slot, and the search goes from it to older ones of that slot. At the first that has both, the two loops are left, and more than 0
-// declarations are left to search.
+// slot, and the search goes from it to older ones of that slot.
 fn is_declared(
     declared: &[u16],
     len: usize,
@@ -44,39 +82,16 @@ fn is_declared(
         (start_slot (name_in bytes.now v name)) len len }
     ensures { result ≡ is_declared (name_in bytes.now v) declared.now len (use_of name count) }
 {
-    let pairs = pairs_of(bytes, v);
-    let text = text_of(bytes, v);
-    let offset = pair_offset(pairs, name);
-    let length = pair_length(pairs, name);
+    let wanted = vocabulary::name(bytes, v, name);
     let mut left = len;
-    'declarations: while 0 < left {
+    while 0 < left {
         let j = left - 1;
-        let other = declared[2 * j] as usize;
-        let older = chains[SLOT_COUNT + j] as usize;
-        if declared[2 * j + 1] as usize != count {
-            left = older;
-            continue 'declarations;
+        if has(declaration_at(declared, j), wanted, count, bytes, v) {
+            return true;
         }
-        if pair_length(pairs, other) != length {
-            left = older;
-            continue 'declarations;
-        }
-        let earlier = pair_offset(pairs, other);
-        let mut k = 0;
-        loop {
-            if length <= k {
-                break 'declarations;
-            }
-            let byte = text[earlier + k];
-            let wanted = text[offset + k];
-            if byte != wanted {
-                left = older;
-                continue 'declarations;
-            }
-            k += 1;
-        }
+        left = chains[SLOT_COUNT + j] as usize;
     }
-    0 < left
+    false
 }
 
 // Adds a use, unless a declaration has its name bytes and count. A use that was noted under the same number is known by its flag,
@@ -107,8 +122,7 @@ fn note(
     if is_declared(declared, newest as usize, chains, name, count, bytes, v) {
         return len;
     }
-    declared[2 * len] = name as u16;
-    declared[2 * len + 1] = count as u16;
+    set_declaration(declared, len, Declaration { name, count });
     chains[SLOT_COUNT + len] = newest;
     chains[slot] = len as u16 + 1;
     len + 1
@@ -136,18 +150,25 @@ pub fn note_entries(
     let end = scan(code, at, names);
     let mut i = at;
     let mut noted = len;
-    loop {
-        let NextEntry::Entry { name, count, next } = next_entry(code, i, end, names, list) else {
-            return noted;
-        };
-        noted = note(declared, noted, seen, chains, name, count, bytes, v);
-        i = next;
+    while let Some(entry) = next_entry(code, i, end, names, list) {
+        noted = note(
+            declared,
+            noted,
+            seen,
+            chains,
+            entry.name,
+            entry.count,
+            bytes,
+            v,
+        );
+        i = entry.next;
     }
+    noted
 }
 
 // Notes what a label adds to a list.
 fn note_added(
-    added: Added,
+    added: Option<Added>,
     list: TermList,
     bytes: &[u8],
     v: Vocabulary,
@@ -163,14 +184,10 @@ fn note_added(
         (lent declared.new result seen.new chains.new) }
 {
     match added {
-        Added::Nothing => {
-            return len;
-        }
-        Added::Datatype(name) => {
-            return note(declared, len, seen, chains, name, 0, bytes, v);
-        }
-        Added::Proposition(at) => {
-            return note_entries(bytes, v, at, list, declared, len, seen, chains);
+        None => len,
+        Some(Added::Datatype(name)) => note(declared, len, seen, chains, name, 0, bytes, v),
+        Some(Added::Proposition(at)) => {
+            note_entries(bytes, v, at, list, declared, len, seen, chains)
         }
     }
 }
@@ -218,23 +235,22 @@ fn put_count(out: &mut [u8], to: usize, count: usize, write: bool) -> usize
 fn put_declaration(
     out: &mut [u8],
     to: usize,
-    name: usize,
-    count: usize,
+    this: Declaration,
     list: TermList,
     bytes: &[u8],
     v: Vocabulary,
     write: bool,
 ) -> usize
-    requires { Names bytes.now v name }
-    ensures { Wrote (declaration list (use_over (name_in bytes.now v) (use_of name count)))
+    requires { Names bytes.now v this.name }
+    ensures { Wrote (declaration list (use_over (name_in bytes.now v) (use_of this.name this.count)))
         write out.old to out.new result }
 {
-    let text = vocabulary::name(bytes, v, name);
+    let text = vocabulary::name(bytes, v, this.name);
     match list {
         TermList::Atoms => {
             let word = put_all(out, to, b"atom ", write);
             let named = put_all(out, word, text, write);
-            let counted = put_count(out, named, count, write);
+            let counted = put_count(out, named, this.count, write);
             return put(out, counted, b';', write);
         }
         TermList::Datatypes(_) => {
@@ -272,13 +288,9 @@ pub fn put_declarations(
         write out.old to out.new result }
 {
     let mut at = to;
-    let mut j = 0;
-    while j < len {
-        let name = declared[2 * j] as usize;
-        let count = declared[2 * j + 1] as usize;
+    for j in 0..len {
         at = put_line_break(out, at, j, write);
-        at = put_declaration(out, at, name, count, list, bytes, v, write);
-        j += 1;
+        at = put_declaration(out, at, declaration_at(declared, j), list, bytes, v, write);
     }
     at
 }

@@ -70,48 +70,29 @@ returns-then-is_declared c =
     let record { held = held; name_bound = (below, few) } = c.requires in
     noted_known held below few (slot (goal.at.returns-then-is_declared c).After-start_slot-slot) refl c.if-seen-flag-ne0.false (sym c.is_declared.ensures ∙ c.if-is_declared.true)
 
-pub overflow_mul-declared : goal.overflow_mul-declared
-overflow_mul-declared c = omega (arith, (room c).0)
-
-pub offset_bounds-declared-len : goal.offset_bounds-declared-len
-offset_bounds-declared-len c = omega (arith, (room c).0)
-
-pub bounds-declared-len : goal.bounds-declared-len
-bounds-declared-len c = omega (arith, (room c).0)
-
-pub overflow_cast-declared-2 : goal.overflow_cast-declared-2
+pub set_declaration-requires : goal.set_declaration-requires
 unfolding parameter_limit
-overflow_cast-declared-2 c = omega (arith, c.requires.name_bound.1)
-
-pub overflow_mul-declared-2 : goal.overflow_mul-declared-2
-overflow_mul-declared-2 c = omega (arith, (room c).0)
-
-pub overflow_add-declared : goal.overflow_add-declared
-overflow_add-declared c = omega (arith, (room c).0)
-
-pub offset_bounds-declared-len-2 : goal.offset_bounds-declared-len-2
-offset_bounds-declared-len-2 c = omega (arith, (room c).0)
-
-pub bounds-declared-len-2 : goal.bounds-declared-len-2
-bounds-declared-len-2 c = simp length-set (omega (arith, (room c).0))
+set_declaration-requires c =
+    let record { held = held; name_bound = (below, few) } = c.requires in
+    record { room = omega (arith, (room (goal.at.set_declaration-requires c).Else-is_declared).0); small = (omega (arith, held.small), omega arith) }
 
 pub overflow_add-chains : goal.overflow_add-chains
 unfolding slot_count
-overflow_add-chains c = omega (arith, (room c).1)
+overflow_add-chains c = omega (arith, (room (goal.at.overflow_add-chains c).Else-is_declared).1)
 
 pub offset_bounds-chains-len : goal.offset_bounds-chains-len
 unfolding slot_count
-offset_bounds-chains-len c = omega (arith, (room c).1)
+offset_bounds-chains-len c = omega (arith, (room (goal.at.offset_bounds-chains-len c).Else-is_declared).1)
 
 pub bounds-chains-len : goal.bounds-chains-len
 unfolding slot_count
-bounds-chains-len c = (room c).1.0
+bounds-chains-len c = (room (goal.at.bounds-chains-len c).Else-is_declared).1.0
 
 pub overflow_cast-chains : goal.overflow_cast-chains
-overflow_cast-chains c = omega (arith, (room c).1.1)
+overflow_cast-chains c = omega (arith, (room (goal.at.overflow_cast-chains c).Else-is_declared).1.1)
 
 pub overflow_add-chains-2 : goal.overflow_add-chains-2
-overflow_add-chains-2 c = omega (arith, (room c).1.1)
+overflow_add-chains-2 c = omega (arith, (room (goal.at.overflow_add-chains-2 c).Else-is_declared).1.1)
 
 pub offset_bounds-chains-slot-2 : goal.offset_bounds-chains-slot-2
 offset_bounds-chains-slot-2 c = omega (arith, head (goal.at.offset_bounds-chains-slot-2 c).After-start_slot-slot)
@@ -120,10 +101,11 @@ pub bounds-chains-slot-2 : goal.bounds-chains-slot-2
 bounds-chains-slot-2 c = simp length-set (head (goal.at.bounds-chains-slot-2 c).After-start_slot-slot)
 
 pub overflow_add-result : goal.overflow_add-result
-overflow_add-result c = omega (arith, (room c).0)
+overflow_add-result c = omega (arith, (room (goal.at.overflow_add-result c).Else-is_declared).0)
 
 pub returns : goal.returns
 unfolding slot_count
 returns c =
     let record { held = held; name_bound = (below, few) } = c.requires in
-    noted_new held below few (slot (goal.at.returns c).After-start_slot-slot) refl c.if-seen-flag-ne0.false (sym c.is_declared.ensures ∙ c.if-is_declared.false)
+    rw c.set_declaration.ensures
+    (noted_new held below few (slot (goal.at.returns c).After-start_slot-slot) refl c.if-seen-flag-ne0.false (sym c.is_declared.ensures ∙ c.if-is_declared.false))

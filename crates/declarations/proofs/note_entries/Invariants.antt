@@ -6,11 +6,11 @@ use Rattle.declarations.specs.Memory.{lent}
 use Rattle.declarations.proofs.Threads.{Left}
 use Rattle.declarations.proofs.note_entries.Given as goal
 
-abbrev pub invariant-loop-name : goal.invariant-loop-name
-invariant-loop-name l =
+abbrev pub invariant-loop-entry : goal.invariant-loop-entry
+invariant-loop-entry l =
     Row l.names l.code l.i l.end
     × Left l.bytes l.v (entries_from l.names l.list l.code l.at l.end) (entries_from l.names l.list l.code l.i l.end) (lent l.initial.declared l.len l.initial.seen l.initial.chains)
     (lent l.declared l.noted l.seen l.chains)
 
-abbrev pub decreases-loop-name : goal.decreases-loop-name
-decreases-loop-name l = l.end - l.i
+abbrev pub decreases-loop-entry : goal.decreases-loop-entry
+decreases-loop-entry l = l.end - l.i

@@ -7,7 +7,7 @@ pub overflow_add-m-end : goal.overflow_add-m-end
 overflow_add-m-end c = omega (arith, c.requires.listable.held)
 
 pub loop-m-init : goal.loop-m-init
-loop-m-init c = (omega arith, rw uses_none (notes_none c.requires.held))
+loop-m-init c = rw uses_none (notes_none c.requires.held)
 
 pub record_adds-added-requires : goal.record_adds-added-requires
 record_adds-added-requires c = omega (arith, c.requires.listable.held)
@@ -16,20 +16,17 @@ pub note_added-noted-requires : goal.note_added-noted-requires
 note_added-noted-requires c =
     record {
       added_stands = added_stands c.requires.listable _ c.loop-m.m (omega arith) c.record_adds-added.ensures;
-      held = c.loop-m.invariant.1.held;
+      held = c.loop-m.invariant.held;
     }
 
 pub loop-m-preserved : goal.loop-m-preserved
 loop-m-preserved c =
-    let s = c.args in (
-      omega arith,
-      rw (uses_more _ _ s.list _ _ c.record_adds-added.ensures) (notes_then c.loop-m.invariant.1 c.note_added-noted.ensures),
-    )
+    rw (uses_more _ _ c.args.list _ _ c.record_adds-added.ensures) (notes_then c.loop-m.invariant c.note_added-noted.ensures)
 
 pub returns : goal.returns
 returns c =
     let all = uses_all c.requires.listable c.args.list c.loop-m.m (omega arith) in
-    rw all at c.loop-m.invariant.1
+    rw all at c.loop-m.invariant
 
 pub shape_of-declared : goal.shape_of-declared
 shape_of-declared c = (returns c).sized

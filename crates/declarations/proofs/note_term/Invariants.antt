@@ -1,13 +1,8 @@
 -- The loop's invariant: what the labels of the records below m add is noted.
-use Prim.Native.Nat.{◌-◌, ◌≤◌}
 use Rattle.proof_term_lists.proofs.Labels.{uses_below}
 use Rattle.declarations.specs.Memory.{lent, Notes}
 use Rattle.declarations.proofs.note_term.Given as goal
 
 abbrev pub invariant-loop-m : goal.invariant-loop-m
 invariant-loop-m l =
-    (l.m ≤ l.m-end)
-    × Notes l.bytes l.v (uses_below l.bytes l.v l.list l.term_records l.m) (lent l.initial.declared l.len l.initial.seen l.initial.chains) (lent l.declared l.noted l.seen l.chains)
-
-abbrev pub decreases-loop-m : goal.decreases-loop-m
-decreases-loop-m l = l.m-end - l.m
+    Notes l.bytes l.v (uses_below l.bytes l.v l.list l.term_records l.m) (lent l.initial.declared l.len l.initial.seen l.initial.chains) (lent l.declared l.noted l.seen l.chains)

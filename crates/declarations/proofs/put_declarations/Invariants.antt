@@ -1,5 +1,4 @@
 -- The loop's invariant: the lines of the first j declarations are written.
-use Prim.Native.Nat.{◌≤◌, ◌-◌}
 use Rattle.output.specs.Wrote.{Wrote}
 use Rattle.vocabulary.specs.Vocabulary.{name_in}
 use Rattle.declarations.specs.Memory.{declared_uses}
@@ -8,7 +7,4 @@ use Rattle.declarations.proofs.put_declarations.Given as goal
 
 abbrev pub invariant-loop-j : goal.invariant-loop-j
 invariant-loop-j l =
-    (l.j ≤ l.len) × Wrote (declaration_lines l.list (declared_uses (name_in l.bytes l.v) l.declared l.j)) l.write l.initial.out l.to l.out l.at
-
-abbrev pub decreases-loop-j : goal.decreases-loop-j
-decreases-loop-j l = l.len - l.j
+    Wrote (declaration_lines l.list (declared_uses (name_in l.bytes l.v) l.declared l.j)) l.write l.initial.out l.to l.out l.at
