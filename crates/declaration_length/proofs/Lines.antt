@@ -1,8 +1,12 @@
 -- The length of a declaration's line by its parts.
-use Prim.Native.Nat.{ℕ, ◌+◌, ◌≤◌, ◌<◌}
+use Prim.Native.Nat.{ℕ, ◌+◌, ◌*◌, ◌^◌, ◌≤◌, ◌<◌}
 use mathlib.Core.Path.{◌≡◌}
 use mathlib.Core.List.{List, [], ◌∷◌, ◌++◌}
+use mathlib.Core.Logic.{by_cases}
 use native.Mathlib.Omega.{arith}
+use native.Mathlib.Decide.{dec_lt}
+use native.Mathlib.Nat.{pow-succ', pow-le-pow_right}
+use native.Mathlib.Numerals.{add-one}
 use lib.ListN.{length, length-append}
 use borrow.Author.Tests.{ne_eqb}
 use Rattle.definitions.specs.declared.Version.{Version}
@@ -21,6 +25,18 @@ use Rattle.declaration_length.specs.Lengths.{LineLength}
 -- a number of 16 bits has five digits at the most
 pub few_digits : (n : ℕ) → n < 65536 → length (decimal n) ≤ 5
 few_digits n h = (least_digits n).least 5 (omega arith) (omega arith)
+
+-- it has one more than the greatest power of ten within it
+pub digits_counted : (n r : ℕ) → 10 ^ r ≤ n → n < 10 * 10 ^ r → length (decimal n) ≡ r + 1
+digits_counted n r low high =
+    let digits = least_digits n in
+    let most : length (decimal n) ≤ r + 1 = digits.least (r + 1) (omega arith) (rw (add-one, pow-succ') high) in
+    let least : r < length (decimal n) = by_cases (dec_lt r (length (decimal n)))
+    (λ h. h)
+    (λ h.
+    let within : 10 ^ length (decimal n) ≤ 10 ^ r = pow-le-pow_right (omega arith) (omega arith) in
+    absurd (omega (arith, digits.holds))) in
+    omega arith
 
 -- a count that is not 0 stands in brackets
 pub count_length : (count : ℕ) → (count ≡ 0 → ⊥) → length (count_text count) ≡ 2 + length (decimal count)

@@ -9,8 +9,8 @@ ghost use Rattle.declarations.specs.Memory.{use_over, declared_uses, Declared};
 ghost use Rattle.declarations.specs.Lines.{count_text, break_before, declaration, declaration_lines};
 ghost use Rattle.declaration_length.specs.Lengths.{LineLength};
 
+use declarations::{Declaration, declaration_at};
 use definitions::TermList;
-use output::put_decimal;
 use prop_length::name_length;
 use vocabulary::Vocabulary;
 
@@ -19,10 +19,8 @@ const ATOM: usize = 6;
 
 const DATATYPE: usize = 10;
 
-// A bracket on each side of a count, and the most digits of a number of 16 bits.
+// A bracket on each side of a count.
 const BRACKETS: usize = 2;
-
-const MOST_DIGITS: usize = 5;
 
 // How many bytes the count of an atom has: none where it is 0.
 fn count_length(count: usize) -> usize
@@ -32,34 +30,28 @@ fn count_length(count: usize) -> usize
     if count == 0 {
         return 0;
     }
-    let mut digits = [0u8; MOST_DIGITS];
-    BRACKETS + put_decimal(&mut digits, 0, count as u64, false)
+    BRACKETS + 1 + count.ilog10() as usize
 }
 
 // How many bytes the line of an entry of a list has.
-fn line_length(name: usize, count: usize, list: TermList, bytes: &[u8], v: Vocabulary) -> usize
-    requires { Names bytes.now v name × (count < 65536) }
-    ensures { LineLength (declaration list (use_over (name_in bytes.now v) (use_of name count))) result }
+fn line_length(this: Declaration, list: TermList, bytes: &[u8], v: Vocabulary) -> usize
+    requires { Names bytes.now v this.name × (this.count < 65536) }
+    ensures { LineLength
+        (declaration list (use_over (name_in bytes.now v) (use_of this.name this.count))) result }
 {
-    let named = name_length(bytes, v, name);
+    let named = name_length(bytes, v, this.name);
     match list {
-        TermList::Atoms => {
-            return ATOM + named + count_length(count);
-        }
-        TermList::Datatypes(_) => {
-            return DATATYPE + named;
-        }
+        TermList::Atoms => ATOM + named + count_length(this.count),
+        TermList::Datatypes(_) => DATATYPE + named,
     }
 }
 
 // How many bytes stand before a line: a newline, but none before the first.
+#[tactic(auto, unfolding(declarations::specs::Lines::break_before))]
 fn break_length(line: usize) -> usize
     ensures { (result ≡ length (break_before line)) × (result ≤ 1) }
 {
-    if line == 0 {
-        return 0;
-    }
-    1
+    usize::from(line != 0)
 }
 
 // How many bytes the lines of the declarations of a list have, joined by newlines.
@@ -75,12 +67,8 @@ pub fn lines_length(
         (declaration_lines list (declared_uses (name_in bytes.now v) declared.now len)) result }
 {
     let mut total = 0;
-    let mut j = 0;
-    while j < len {
-        let name = declared[2 * j] as usize;
-        let count = declared[2 * j + 1] as usize;
-        total += break_length(j) + line_length(name, count, list, bytes, v);
-        j += 1;
+    for j in 0..len {
+        total += break_length(j) + line_length(declaration_at(declared, j), list, bytes, v);
     }
     total
 }

@@ -1,5 +1,5 @@
 -- The loop's invariant: the lines of the first j declarations are counted.
-use Prim.Native.Nat.{◌*◌, ◌-◌, ◌≤◌}
+use Prim.Native.Nat.{◌*◌, ◌≤◌}
 use mathlib.Core.Path.{◌≡◌}
 use lib.ListN.{length}
 use Rattle.vocabulary.specs.Vocabulary.{name_in}
@@ -9,7 +9,4 @@ use Rattle.declaration_length.proofs.lines_length.Given as goal
 
 abbrev pub invariant-loop-j : goal.invariant-loop-j
 invariant-loop-j l =
-    (l.j ≤ l.len) × (l.total ≡ length (declaration_lines l.list (declared_uses (name_in l.bytes l.v) l.declared l.j))) × (l.total ≤ 65600 * l.j)
-
-abbrev pub decreases-loop-j : goal.decreases-loop-j
-decreases-loop-j l = l.len - l.j
+    (l.total ≡ length (declaration_lines l.list (declared_uses (name_in l.bytes l.v) l.declared l.j))) × (l.total ≤ 65600 * l.j)
