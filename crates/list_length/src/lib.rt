@@ -14,7 +14,7 @@ ghost use Rattle.list_length.specs.Counts.{Counts, TermCounts, NumbersOf};
 use definitions::{Refusal, TermList};
 use prefix_code::scan;
 use proof_term_lists::{Added, record_adds};
-use prop_lists::{NextEntry, next_entry};
+use prop_lists::next_entry;
 use sheet::vocabulary;
 use sheet_term::{SheetTerm, TERM_NUMBERS, sheet_term};
 use vocabulary::{Vocabulary, code_of};
@@ -29,29 +29,22 @@ fn entry_count(bytes: &[u8], v: Vocabulary, at: usize, list: TermList) -> usize
     let end = scan(code, at, names);
     let mut i = at;
     let mut entries = 0;
-    loop {
-        let NextEntry::Entry {
-            name: _,
-            count: _,
-            next,
-        } = next_entry(code, i, end, names, list)
-        else {
-            return entries;
-        };
+    while let Some(entry) = next_entry(code, i, end, names, list) {
         entries += 1;
-        i = next;
+        i = entry.next;
     }
+    entries
 }
 
 // How many entries a label adds to a list.
-fn added_count(added: Added, list: TermList, bytes: &[u8], v: Vocabulary) -> usize
+fn added_count(added: Option<Added>, list: TermList, bytes: &[u8], v: Vocabulary) -> usize
     requires { AddedStands bytes.now v added × (length (code_in bytes.now v) ≤ 8192) }
     ensures { Counts (added_uses bytes.now v list added) result }
 {
     match added {
-        Added::Nothing => 0,
-        Added::Datatype(_) => 1,
-        Added::Proposition(at) => entry_count(bytes, v, at, list),
+        None => 0,
+        Some(Added::Datatype(_)) => 1,
+        Some(Added::Proposition(at)) => entry_count(bytes, v, at, list),
     }
 }
 

@@ -5,28 +5,28 @@ use lib.ListN.{length}
 use Rattle.prop_lists.specs.Entries.{use_of, FirstEntry}
 use Rattle.prop_lists.proofs.Rows.{begins, row_there, entries_there}
 use Rattle.list_length.proofs.entry_count.Goals as goal
-use Rattle.list_length.proofs.entry_count.Goals.{In-Entry}
+use Rattle.list_length.proofs.entry_count.Goals.{In-Some}
 
 -- the entry is the first from `i` on
-found : (c : In-Entry) →
+found : (c : In-Some) →
     let s = c.args in
-    let e = c.in-Entry in
-    FirstEntry s.v.name_count s.list c.code_of-code.result.now c.loop-next.i c.scan-end.result (use_of e.name e.count) e.next
-found c = rw c.in-Entry.is at c.next_entry.ensures
+    let e = c.in-Some.entry in
+    FirstEntry s.v.name_count s.list c.code_of-code.result.now c.loop-entry.i c.scan-end.result (use_of e.name e.count) e.next
+found c = rw c.in-Some.is at c.next_entry.ensures
 
-pub returns-in_default : goal.returns-in_default
-returns-in_default c =
+pub returns : goal.returns
+returns c =
     let none = rw c.in_default.is at c.next_entry.ensures in
     let there = c.requires in
     let is = c.code_of-code.ensures in
     let all = entries_there there.0 is c.scan-end.ensures c.args.list in
-    let (row, counted, few) = c.loop-next.invariant in
+    let (row, counted, few) = c.loop-entry.invariant in
     record { is = omega (arith, counted, ap length none, ap length all); few = omega (arith, few, row.forward, row.inside, ap length is, there.1) }
 
-pub loop-next-preserved : goal.loop-next-preserved
-loop-next-preserved c =
+pub loop-entry-preserved : goal.loop-entry-preserved
+loop-entry-preserved c =
     let entry = found c in
-    let (row, counted, few) = c.loop-next.invariant in
+    let (row, counted, few) = c.loop-entry.invariant in
     (entry.row, omega (arith, counted, ap length entry.adds), omega (arith, few, entry.forward))
 
 pub code_of-code-requires : goal.code_of-code-requires
@@ -35,14 +35,14 @@ code_of-code-requires c = c.requires.0.within
 pub scan-end-requires : goal.scan-end-requires
 scan-end-requires c = begins c.requires.0 c.code_of-code.ensures
 
-pub loop-next-init : goal.loop-next-init
-loop-next-init c = (row_there c.requires.0 c.code_of-code.ensures c.scan-end.ensures, omega arith, omega arith)
+pub loop-entry-init : goal.loop-entry-init
+loop-entry-init c = (row_there c.requires.0 c.code_of-code.ensures c.scan-end.ensures, omega arith, omega arith)
 
 pub next_entry-requires : goal.next_entry-requires
-next_entry-requires c = c.loop-next.invariant.0
+next_entry-requires c = c.loop-entry.invariant.0
 
 pub overflow_add-entries : goal.overflow_add-entries
-overflow_add-entries c = omega (arith, c.loop-next.invariant.2)
+overflow_add-entries c = omega (arith, c.loop-entry.invariant.2)
 
-pub loop-next-smaller : goal.loop-next-smaller
-loop-next-smaller c = let entry = found c in omega (arith, entry.forward, entry.row)
+pub loop-entry-smaller : goal.loop-entry-smaller
+loop-entry-smaller c = let entry = found c in omega (arith, entry.forward, entry.row)

@@ -12,9 +12,8 @@ added_count-entries-requires c =
 pub loop-m-preserved : goal.loop-m-preserved
 loop-m-preserved c =
     let s = c.args in
-    let (_, is, few) = c.loop-m.invariant in
+    let (is, few) = c.loop-m.invariant in
     let added = c.added_count-entries.ensures in (
-      omega arith,
       rw (uses_more _ _ s.list _ _ c.record_adds-added.ensures, length-append) (omega (arith, is, added.is)),
       omega (arith, few, added.few),
     )
@@ -23,11 +22,11 @@ pub returns : goal.returns
 returns c =
     let record { listable = (listable, small); v_len_bound = _ } = c.requires in
     let all = uses_all listable c.args.list c.loop-m.m (omega arith) in
-    let (_, is, few) = c.loop-m.invariant in
+    let (is, few) = c.loop-m.invariant in
     record { is = rw (← all) is; few = omega (arith, few, small) }
 
 pub loop-m-init : goal.loop-m-init
-loop-m-init c = (omega arith, rw uses_none (omega arith), omega arith)
+loop-m-init c = (rw uses_none (omega arith), omega arith)
 
 pub overflow_add-entries : goal.overflow_add-entries
-overflow_add-entries c = omega (arith, c.added_count-entries.ensures.few, c.loop-m.invariant.2, c.requires.listable.1)
+overflow_add-entries c = omega (arith, c.added_count-entries.ensures.few, c.loop-m.invariant.1, c.requires.listable.1)
