@@ -57,11 +57,12 @@ pub fn set_declaration(declared: &mut [u16], j: usize, to: Declaration)
     declared[2 * j + 1] = to.count as u16;
 }
 
-// Whether a declaration has this count and these name bytes. The counts are compared first, so that few names are.
-fn has(other: Declaration, wanted: &[u8], count: usize, bytes: &[u8], v: Vocabulary) -> bool
-    requires { Names bytes.now v other.name }
-    ensures { result ≡ (eq_name wanted.now (name_in bytes.now v other.name) && eqb count other.count) }
+// Whether a declaration has this count and the bytes of this name. The counts are compared first, so that few names are.
+fn has(other: Declaration, name: usize, count: usize, bytes: &[u8], v: Vocabulary) -> bool
+    requires { Names bytes.now v name × Names bytes.now v other.name }
+    ensures { result ≡ (eq_name (name_in bytes.now v name) (name_in bytes.now v other.name) && eqb count other.count) }
 {
+    let wanted = vocabulary::name(bytes, v, name);
     count == other.count && same_name(wanted, vocabulary::name(bytes, v, other.name))
 }
 
@@ -82,11 +83,10 @@ fn is_declared(
         (start_slot (name_in bytes.now v name)) len len }
     ensures { result ≡ is_declared (name_in bytes.now v) declared.now len (use_of name count) }
 {
-    let wanted = vocabulary::name(bytes, v, name);
     let mut left = len;
     while 0 < left {
         let j = left - 1;
-        if has(declaration_at(declared, j), wanted, count, bytes, v) {
+        if has(declaration_at(declared, j), name, count, bytes, v) {
             return true;
         }
         left = chains[SLOT_COUNT + j] as usize;

@@ -17,10 +17,7 @@ before c = omega (arith, c.loop-left.invariant.up_to, c.loop-left-test.true)
 tested : (c : After-has) → let s = c.args in
     c.has.result ≡ same (name_in s.bytes.now s.v) s.declared.now (use_of s.name s.count) (c.loop-left.left - 1)
 tested c =
-    rw (same_is, ← c.name-wanted.ensures, ← c.declaration_at.ensures.name, ← c.declaration_at.ensures.count) c.has.ensures
-
-pub name-wanted-requires : goal.name-wanted-requires
-name-wanted-requires c = c.requires.declared.1
+    rw (same_is, ← c.declaration_at.ensures.name, ← c.declaration_at.ensures.count) c.has.ensures
 
 pub loop-left-init : goal.loop-left-init
 loop-left-init c = all_remain c.requires.newest
@@ -29,7 +26,10 @@ pub declaration_at-requires : goal.declaration_at-requires
 declaration_at-requires c = omega (arith, before c, c.requires.declared.0.there)
 
 pub has-requires : goal.has-requires
-has-requires c = rw c.declaration_at.ensures.name (c.requires.declared.0.named _ (before (goal.at.has-requires c).In-loop-left))
+has-requires c = (
+  c.requires.declared.1,
+  rw c.declaration_at.ensures.name (c.requires.declared.0.named _ (before (goal.at.has-requires c).In-loop-left)),
+)
 
 pub bounds-chains-j : goal.bounds-chains-j
 unfolding slot_count
