@@ -2,65 +2,61 @@
 use Prim.Native.Nat.{ℕ, ◌+◌, ◌<◌, max}
 use mathlib.Core.Path.{◌≡◌, refl, sym, ap, ◌∙◌}
 use mathlib.Core.Bool.{Bool, true, false, not, and-eq-true_iff}
-use Rattle.std.specs.Prelude.{Some}
+use Rattle.std.specs.Prelude.{None, Some}
 use mathlib.Core.List.{List}
+use lib.ListN.{drop}
 use native.Mathlib.Omega.{arith}
 use borrow.Author.Tests.{le-leb, lt-leb}
 use Rattle.definitions.specs.Name.{Name}
-use Rattle.definitions.specs.Prop.{Prop, Connective, and, or, impl, connective_byte, is_false, nesting}
+use Rattle.definitions.specs.Prop.{Prop, Connective, connective_byte, is_false, nesting}
 use Rattle.definitions.specs.Display.{connective_precedence, is_negation, precedence, wraps_left, wraps_right}
-use Rattle.definitions.specs.TermReader.{Shown, standing, same, strong_enough, goes_on}
-use Rattle.prop_parts.specs.Found.{ConnectiveAt, joins, joins_not}
+use Rattle.definitions.specs.TermReader.{Shown, standing, same, connective, strong_enough, goes_on}
+use Rattle.prop_parts.specs.declared.Connective as read
+use Rattle.prop_parts.specs.declared.Connective.TheVariants.{And, Or, Impl}
+use Rattle.prop_parts.specs.Found.{meant, ConnectiveAt}
 use Rattle.atom_reader.specs.declared.PropRead.{PropRead}
 use Rattle.atom_reader.specs.Reading.{Measured}
-use Rattle.prop_frames.specs.Sides.{GoesOnAt, goes_on_lem, ends_here, sides_agree, inserted, Joins}
+use Rattle.prop_frames.specs.Sides.{GoesOnAt, sides_agree, inserted, Joins}
 use Rattle.prop_frames.proofs.Insertion.{inserted_dry}
 use Rattle.atom_reader.proofs.Sizes.{binary_bytes}
 
-pub connective_below : (c : Connective) → connective_byte c < 9
-unfolding connective_byte
-connective_below and = omega arith
-connective_below or = omega arith
-connective_below impl = omega arith
-
 -- The connective at a place, if it binds strongly enough.
-module _ {text : List ℕ} {at least : ℕ} where
-  pub none_there : {b : ℕ} → ConnectiveAt text at b → b ≡ 9 → GoesOnAt text at least 9
-  unfolding goes_on strong_enough
-  none_there (joins c h e) k = absurd (omega (arith, connective_below c))
-  none_there (joins_not e) k = ends_here (rw e refl)
+pub none_there : (text : List ℕ) (at least : ℕ) → connective (drop at text) ≡ None → goes_on least (drop at text) ≡ None
+unfolding goes_on strong_enough
+none_there text at least e = rw e refl
 
-  pub too_weak : {b s : ℕ} → ConnectiveAt text at b → (b ≡ 9 → ⊥) → ((c : Connective) → b ≡ connective_byte c → s ≡ connective_precedence c) → s < least
-      → GoesOnAt text at least 9
+module _ {text : List ℕ} {at : ℕ} {c : read.Connective} (there : ConnectiveAt text at c) (least : ℕ) {s : ℕ} (strength : s ≡ connective_precedence (meant c)) where
+  pub too_weak : s < least → goes_on least (drop at text) ≡ None
   unfolding goes_on strong_enough
-  too_weak (joins c h e) k strength l = ends_here (rw (e, lt-leb least (connective_precedence c) (omega (arith, strength c refl))) refl)
-  too_weak (joins_not e) k strength l = absurd (k refl)
+  too_weak l = rw (there.reads, lt-leb least (connective_precedence (meant c)) (omega (arith, strength))) refl
 
-  pub strong_enough_lem : {b s : ℕ} → ConnectiveAt text at b → (b ≡ 9 → ⊥) → ((c : Connective) → b ≡ connective_byte c → s ≡ connective_precedence c)
-      → (s < least → ⊥) → GoesOnAt text at least b
+  pub strong_enough_lem : (s < least → ⊥) → GoesOnAt text at least c
   unfolding goes_on strong_enough
-  strong_enough_lem (joins c h e) k strength l = goes_on_lem c h (rw (e, le-leb least (connective_precedence c) (omega (arith, strength c refl))) refl)
-  strong_enough_lem (joins_not e) k strength l = absurd (k refl)
+  strong_enough_lem l = record {
+    within = there.within;
+    reads = rw (there.reads, le-leb least (connective_precedence (meant c)) (omega (arith, strength))) refl;
+  }
 
 same_false : (t : Bool) → same t false ≡ not t
 unfolding same
 same_false true = refl
 same_false false = refl
 
-negates : (q : Prop Name) (k : Connective) → connective_byte k ≡ 4 → is_negation k q ≡ is_false q
-unfolding connective_byte is_negation
-negates q and h = absurd (omega arith)
-negates q or h = absurd (omega arith)
-negates q impl h = refl
+negates : (q : Prop Name) (k : read.Connective) → k ≡ Impl → is_negation (meant k) q ≡ is_false q
+unfolding is_negation
+negates q k h = rw h refl
 
-negates_not : (q : Prop Name) (k : Connective) → (connective_byte k ≡ 4 → ⊥) → is_negation k q ≡ false
-unfolding connective_byte is_negation
-negates_not q and h = refl
-negates_not q or h = refl
-negates_not q impl h = absurd (h refl)
+negates_not : (q : Prop Name) (k : read.Connective) → (k ≡ Impl → ⊥) → is_negation (meant k) q ≡ false
+unfolding is_negation
+negates_not q And h = refl
+negates_not q Or h = refl
+negates_not q Impl h = absurd (h refl)
 
 -- Whether the sides agree with the connective.
-module _ (c : Connective) {p q : Prop Name} {left right : PropRead} (m : Measured left p) (n : Measured right q) where
+module _ (k : read.Connective) {p q : Prop Name} {left right : PropRead} (m : Measured left p) (n : Measured right q) where
+  abbrev c : Connective
+  c = meant k
+
   abbrev agrees : Bool
   agrees = sides_agree c (standing left.own p) (standing right.own q)
 
@@ -84,12 +80,12 @@ module _ (c : Connective) {p q : Prop Name} {left right : PropRead} (m : Measure
       unfolding sides_agree standing
       rest_agrees g = rw (sym left_due ∙ e, sym right_due ∙ g) refl
 
-      pub no_negation : f ≡ true → connective_byte c ≡ 4 → not right.bottom ≡ agrees
-      no_negation g h = sym (rest_agrees g ∙ (same_false (is_negation c q) ∙ ap not (negates q c h ∙ sym n.bottom_is)))
+      pub no_negation : f ≡ true → k ≡ Impl → not right.bottom ≡ agrees
+      no_negation g h = sym (rest_agrees g ∙ (same_false (is_negation c q) ∙ ap not (negates q k h ∙ sym n.bottom_is)))
 
-      pub other_agrees : f ≡ true → (connective_byte c ≡ 4 → ⊥) → true ≡ agrees
+      pub other_agrees : f ≡ true → (k ≡ Impl → ⊥) → true ≡ agrees
       unfolding same
-      other_agrees g h = sym (rest_agrees g ∙ ap (λ t. same t false) (negates_not q c h))
+      other_agrees g h = sym (rest_agrees g ∙ ap (λ t. same t false) (negates_not q k h))
 
 -- what it is that they agree
 pub sides_are : (c : Connective) (p q : Shown (Prop Name)) → sides_agree c p q ≡ true

@@ -1,18 +1,20 @@
 -- The two sides of a connective.
-use Rattle.std.specs.Prelude.{ℕ, ◌+◌, ◌<◌, ◌≤◌, ◌≡◌, Bool, true, false, ◌&&◌, List, ◌∷◌, length, drop, take, None, Option, MatchOption}
+use Rattle.std.specs.Prelude.{ℕ, ◌+◌, ◌<◌, ◌≤◌, ◌≡◌, Bool, true, false, ◌&&◌, List, ◌∷◌, length, drop, take, Option, MatchOption}
 use Rattle.definitions.specs.Name.{Name}
 use Rattle.definitions.specs.Prop.{Prop, Binary, Connective, connective_byte}
 use Rattle.definitions.specs.Display.{precedence, is_negation, wraps_left, wraps_right}
 use Rattle.definitions.specs.TermReader.{Shown, standing, same, goes_on}
 use Rattle.definitions.proofs.Readings.{given}
 use Rattle.output.specs.Wrote.{puts}
+use Rattle.prop_parts.specs.declared.Connective as read
+use Rattle.prop_parts.specs.Found.{meant}
 use Rattle.atom_reader.specs.declared.PropRead.{PropRead}
 use Rattle.atom_reader.specs.Reading.{Measured}
 
--- the connective at a place that binds at least so strongly: its byte, and 9 for none
-pub data GoesOnAt (text : List ℕ) (at least : ℕ) : ℕ → Type 0 where
-  goes_on_lem : (c : Connective) → at + 5 ≤ length text → goes_on least (drop at text) ≡ given c (drop (at + 5) text) → GoesOnAt text at least (connective_byte c)
-  ends_here : goes_on least (drop at text) ≡ None → GoesOnAt text at least 9
+-- the connective at a place that binds at least so strongly
+pub record GoesOnAt (text : List ℕ) (at least : ℕ) (c : read.Connective) : Type 0 where
+  pub within : at + 5 ≤ length text
+  pub reads : goes_on least (drop at text) ≡ given (meant c) (drop (at + 5) text)
 
 -- whether both sides stand in the brackets that are due, and this is no negation
 unfoldable pub sides_agree : Connective → Shown (Prop Name) → Shown (Prop Name) → Bool

@@ -3,14 +3,14 @@
 // too many names.
 #![tactic(auto)]
 
-ghost use Rattle.std.specs.Prelude.{◌≡◌, List, ℕ, ◌+◌, ◌≤◌, ◌<◌, length, drop, Some, MatchOption};
+ghost use Rattle.std.specs.Prelude.{◌≡◌, List, ℕ, ◌+◌, ◌≤◌, ◌<◌, length, drop, None, Some, MatchOption};
 ghost use Rattle.definitions.specs.Name.{Name};
-ghost use Rattle.definitions.specs.Prop.{Prop, Connective, connective_byte};
-ghost use Rattle.definitions.specs.TermReader.{standing, same, Sign, signed};
+ghost use Rattle.definitions.specs.Prop.{Prop};
+ghost use Rattle.definitions.specs.TermReader.{standing, same, Sign, signed, goes_on};
 ghost use Rattle.definitions.specs.TermText.{term_text_limit};
 ghost use Rattle.output.specs.Wrote.{puts};
 ghost use Rattle.words.specs.Table.{table_names, Table};
-ghost use Rattle.prop_parts.specs.Found.{sign_number, sign_size};
+ghost use Rattle.prop_parts.specs.Found.{meant, sign_number, sign_size};
 ghost use Rattle.atom_reader.specs.Scope.{Binds};
 ghost use Rattle.atom_reader.specs.Reading.{Measured, PropAnswer};
 ghost use Rattle.prop_frames.specs.Fronts.{Part, Front, front_number, part_least, BinderLacks, Binder, BinderGiven, binder_code, FrontBegins, FrontAnswer, Closable, enclosed, Closes};
@@ -19,10 +19,7 @@ ghost use Rattle.prop_frames.specs.Sides.{GoesOnAt, sides_agree, inserted, Joina
 use atom_reader::{Place, PropRead, STRONGEST};
 use output::put;
 use prefix_code::{FALSE, IMPL};
-use prop_parts::{
-    BRACKET, NO_HEAD, connective_at, put_u16, read_name, sign_size, strength_of, wraps_left,
-    wraps_right,
-};
+use prop_parts::{BRACKET, Connective, connective_at, put_u16, read_name, sign_size};
 use words::expect;
 
 // The names of a quantifier: where they end, their numbers, and how many names there are now.
@@ -196,36 +193,33 @@ pub fn read_constant(text: &[u8], code: &mut [u8], p: Place, sign: u8, write: bo
     }
 }
 
-// The connective at `at` that binds at least so strongly, and NO_HEAD where none stands.
-pub fn goes_on(text: &[u8], at: usize, least: usize) -> u8
+// The connective at `at` that binds at least so strongly.
+pub fn goes_on(text: &[u8], at: usize, least: usize) -> Option<Connective>
     requires { at ≤ length text.now }
-    ensures { GoesOnAt text.now at least result }
+    ensures { MatchOption result (goes_on least (drop at text.now) ≡ None) (GoesOnAt text.now at least) }
 {
-    let connective = connective_at(text, at);
-    if connective == NO_HEAD {
-        return NO_HEAD;
+    let connective = connective_at(text, at)?;
+    if connective.strength() < least {
+        return None;
     }
-    if strength_of(connective) < least {
-        return NO_HEAD;
-    }
-    connective
+    Some(connective)
 }
 
 // Whether a connective may join these sides: they stand in the brackets that are due, and this is no negation.
-fn may_join(connective: u8, left: PropRead, right: PropRead) -> bool
-    ensures { (c : Connective) (p q : Prop Name) →
-        connective ≡ connective_byte c → Measured left p → Measured right q → result ≡ sides_agree c (standing left.own p) (standing right.own q) }
+fn may_join(connective: Connective, left: PropRead, right: PropRead) -> bool
+    ensures { (p q : Prop Name) → Measured left p → Measured right q →
+        result ≡ sides_agree (meant connective) (standing left.own p) (standing right.own q) }
 {
-    if !agree(left.own, wraps_left(connective, left.strength)) {
+    if !agree(left.own, connective.wraps_left(left.strength)) {
         return false;
     }
-    if !agree(right.own, wraps_right(connective, right.strength)) {
+    if !agree(right.own, connective.wraps_right(right.strength)) {
         return false;
     }
-    if connective == IMPL {
-        return !right.bottom;
+    match connective {
+        Connective::Impl => !right.bottom,
+        _ => true,
     }
-    true
 }
 
 // Puts one byte in front of so many from `to` on.
@@ -256,26 +250,25 @@ pub fn join(
     text: &[u8],
     code: &mut [u8],
     to: usize,
-    connective: u8,
+    connective: Connective,
     left: PropRead,
     right: PropRead,
     write: bool,
 ) -> Option<PropRead>
     requires { Joinable text.now to left right }
-    ensures { (c : Connective) (p q : Prop Name) →
-        connective ≡ connective_byte c → Measured left p → Measured right q →
-        Joins c p q text.now code.old to write left right code.new result }
+    ensures { (p q : Prop Name) → Measured left p → Measured right q →
+        Joins (meant connective) p q text.now code.old to write left right code.new result }
 {
     if !may_join(connective, left, right) {
         return None;
     }
-    insert(code, to, left.size + right.size, connective, write);
+    insert(code, to, left.size + right.size, connective.byte(), write);
     Some(PropRead {
         end: right.end,
         count: right.count,
         size: 1 + left.size + right.size,
         nesting: left.nesting.max(right.nesting) + 1,
-        strength: strength_of(connective),
+        strength: connective.strength(),
         bottom: false,
         own: false,
     })

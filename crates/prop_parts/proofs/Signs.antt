@@ -7,29 +7,11 @@ use native.Mathlib.Omega.{arith}
 use lib.ListN.{drop}
 use Rattle.definitions.specs.Utf8.{utf8}
 use Rattle.definitions.specs.Code.{yield}
-use Rattle.definitions.specs.Prop.{Connective, and, or, impl, connective_byte, for_all, exists, quantifier_byte}
+use Rattle.definitions.specs.Prop.{for_all, exists, quantifier_byte}
 use Rattle.definitions.specs.TermReader.{expect, connective, Sign, top, bottom, negation, bracket, binder, sign, if_read, or_read, means}
 use Rattle.words.specs.Places.{Expected}
-use Rattle.prop_parts.specs.Found.{ConnectiveAt, joins, joins_not, sign_number, sign_size, SignAt, signs, signs_not}
-
--- a connective by its byte
-pub and_is : (b : ℕ) → b ≡ 2 → (c : Connective) → b ≡ connective_byte c → c ≡ and
-unfolding connective_byte
-and_is b h and e = refl
-and_is b h or e = absurd (omega arith)
-and_is b h impl e = absurd (omega arith)
-
-pub or_is : (b : ℕ) → b ≡ 3 → (c : Connective) → b ≡ connective_byte c → c ≡ or
-unfolding connective_byte
-or_is b h and e = absurd (omega arith)
-or_is b h or e = refl
-or_is b h impl e = absurd (omega arith)
-
-pub impl_is : (b : ℕ) → (b ≡ 2 → ⊥) → (b ≡ 3 → ⊥) → (c : Connective) → b ≡ connective_byte c → c ≡ impl
-unfolding connective_byte
-impl_is b h k and e = absurd (omega arith)
-impl_is b h k or e = absurd (omega arith)
-impl_is b h k impl e = refl
+use Rattle.prop_parts.specs.declared.Connective.TheVariants.{And, Or, Impl}
+use Rattle.prop_parts.specs.Found.{ConnectiveAt, sign_number, sign_size, SignAt, signs, signs_not}
 
 -- a sign by its number
 pub size_bracket : (b : ℕ) → b ≡ 8 → (g : Sign) → b ≡ sign_number g → 1 ≡ sign_size g
@@ -60,21 +42,23 @@ size_other b h k (binder q) e = refl
 
 -- Each connective in turn: none of those before it stands there.
 module _ {text : List ℕ} {at : ℕ} where
-  pub and_found : Expected (utf8 " ∧ ") text at (at + 5) → ConnectiveAt text at 2
-  unfolding connective or_read means if_read yield connective_byte
-  and_found there = joins and there.within (rw (there.reads))
+  pub and_found : Expected (utf8 " ∧ ") text at (at + 5) → ConnectiveAt text at And
+  unfolding connective or_read means if_read yield
+  and_found there = record { within = there.within; reads = rw there.reads }
 
-  pub or_found : expect (utf8 " ∧ ") (drop at text) ≡ None → Expected (utf8 " ∨ ") text at (at + 5) → ConnectiveAt text at 3
-  unfolding connective or_read means if_read yield connective_byte
-  or_found e0 there = joins or there.within (rw (e0, there.reads))
+  pub or_found : expect (utf8 " ∧ ") (drop at text) ≡ None → Expected (utf8 " ∨ ") text at (at + 5) → ConnectiveAt text at Or
+  unfolding connective or_read means if_read yield
+  or_found e₀ there = record { within = there.within; reads = rw (e₀, there.reads) }
 
-  pub impl_found : expect (utf8 " ∧ ") (drop at text) ≡ None → expect (utf8 " ∨ ") (drop at text) ≡ None → Expected (utf8 " ⊃ ") text at (at + 5) → ConnectiveAt text at 4
-  unfolding connective or_read means if_read yield connective_byte
-  impl_found e0 e1 there = joins impl there.within (rw (e0, e1, there.reads))
+  pub impl_found : expect (utf8 " ∧ ") (drop at text) ≡ None → expect (utf8 " ∨ ") (drop at text) ≡ None
+      → Expected (utf8 " ⊃ ") text at (at + 5) → ConnectiveAt text at Impl
+  unfolding connective or_read means if_read yield
+  impl_found e₀ e₁ there = record { within = there.within; reads = rw (e₀, e₁, there.reads) }
 
-  pub none_found : expect (utf8 " ∧ ") (drop at text) ≡ None → expect (utf8 " ∨ ") (drop at text) ≡ None → expect (utf8 " ⊃ ") (drop at text) ≡ None → ConnectiveAt text at 9
-  unfolding connective or_read means if_read
-  none_found e0 e1 e2 = joins_not (rw (e0, e1, e2))
+pub none_found : (text : List ℕ) (at : ℕ) → expect (utf8 " ∧ ") (drop at text) ≡ None → expect (utf8 " ∨ ") (drop at text) ≡ None
+    → expect (utf8 " ⊃ ") (drop at text) ≡ None → connective (drop at text) ≡ None
+unfolding connective or_read means if_read
+none_found text at e₀ e₁ e₂ = rw (e₀, e₁, e₂)
 
 -- Each sign in turn.
 module _ {text : List ℕ} {at : ℕ} where

@@ -1,7 +1,8 @@
 -- What stands at a place of the text, as the reader of propositions finds it.
 use Rattle.std.specs.Prelude.{ℕ, zero, suc, ◌+◌, ◌<◌, ◌≤◌, ◌≡◌, Bool, true, false, List, [], ◌∷◌, length, get_or, drop, eqb, None, Some}
 use Rattle.definitions.specs.Name.{Name}
-use Rattle.definitions.specs.Prop.{Connective, connective_byte, PropParameter, Uninstantiated, Instantiated, quantifier_byte}
+use Rattle.definitions.specs.Prop as prop
+use Rattle.definitions.specs.Prop.{and, or, impl, PropParameter, Uninstantiated, Instantiated, quantifier_byte}
 use Rattle.definitions.specs.Sheet.{marked}
 use Rattle.definitions.specs.Code.{Read, encode_parameter}
 use Rattle.definitions.specs.TermReader.{connective, Sign, top, bottom, negation, bracket, binder, sign, name}
@@ -11,11 +12,19 @@ use Rattle.output.specs.Wrote.{puts}
 use Rattle.words.specs.Places.{between}
 use Rattle.words.specs.Table.{add_name, number_in, table_names, TooMany, Noted}
 use Rattle.prop_parts.specs.declared.NameRead.{NameRead}
+use Rattle.prop_parts.specs.declared.Connective.{Connective}
+use Rattle.prop_parts.specs.declared.Connective.TheVariants.{And, Or, Impl}
 
--- the connective at a place: its byte, and 9 for none
-pub data ConnectiveAt (text : List ℕ) (at : ℕ) : ℕ → Type 0 where
-  joins : (c : Connective) → at + 5 ≤ length text → connective (drop at text) ≡ given c (drop (at + 5) text) → ConnectiveAt text at (connective_byte c)
-  joins_not : connective (drop at text) ≡ None → ConnectiveAt text at 9
+-- the connective as the program names it
+abbrev pub meant : Connective → prop.Connective
+meant And = and
+meant Or = or
+meant Impl = impl
+
+-- the connective at a place
+pub record ConnectiveAt (text : List ℕ) (at : ℕ) (c : Connective) : Type 0 where
+  pub within : at + 5 ≤ length text
+  pub reads : connective (drop at text) ≡ given (meant c) (drop (at + 5) text)
 
 -- the number of a sign: a head byte, 4 for a negation and 8 for a bracket; and how many bytes it has
 unfoldable pub sign_number : Sign → ℕ

@@ -1,25 +1,33 @@
 // The parts of a label's text and of its code: signs, connectives and names, and the bytes that stand for them.
 #![tactic(auto)]
 
-ghost use Rattle.std.specs.Prelude.{◌≡◌, ◌≤◌, ◌<◌, length, MatchOption};
-ghost use Rattle.definitions.specs.Prop.{Connective, connective_byte};
+ghost use Rattle.std.specs.Prelude.{◌≡◌, ◌≤◌, ◌<◌, length, drop, None, MatchOption};
+ghost use Rattle.definitions.specs.Prop.{connective_byte};
 ghost use Rattle.definitions.specs.Code.{u16};
 ghost use Rattle.definitions.specs.Display.{connective_precedence, wraps_left, wraps_right};
-ghost use Rattle.definitions.specs.TermReader.{Sign, right_least};
+ghost use Rattle.definitions.specs.TermReader.{Sign, connective, right_least};
 ghost use Rattle.definitions.specs.TermText.{term_text_limit};
 ghost use Rattle.output.specs.Wrote.{puts};
 ghost use Rattle.words.specs.Table.{Table};
-ghost use Rattle.prop_parts.specs.Found.{ConnectiveAt, sign_number, sign_size, SignAt, NameLacks, NameGiven, BoundNumber, ParameterPut};
+ghost use Rattle.prop_parts.specs.Found.{meant, ConnectiveAt, sign_number, sign_size, SignAt, NameLacks, NameGiven, BoundNumber, ParameterPut};
 
 use output::put;
-use prefix_code::{AND, EXISTS, FALSE, FOR_ALL, IMPL, OR, TRUE};
+use prefix_code::{EXISTS, FALSE, FOR_ALL, IMPL, TRUE};
 use words::{expect, name_end, number_of_name};
 
 // What follows is in brackets: no head byte.
 pub const BRACKET: u8 = 8;
 
-// No head stands here.
+// No sign stands here.
 pub const NO_HEAD: u8 = 9;
+
+// A connective, by the head byte of its code.
+#[derive(Clone, Copy, PartialEq, Eq)]
+pub enum Connective {
+    And = 2,
+    Or = 3,
+    Impl = 4,
+}
 
 // The bytes of a connective with its blanks.
 pub const CONNECTIVE_SIZE: usize = 5;
@@ -32,21 +40,21 @@ pub struct NameRead {
     pub count: usize,
 }
 
-// The connective at `at`, and NO_HEAD where none stands.
-pub fn connective_at(text: &[u8], at: usize) -> u8
+// The connective at `at`.
+pub fn connective_at(text: &[u8], at: usize) -> Option<Connective>
     requires { at ≤ length text.now }
-    ensures { ConnectiveAt text.now at result }
+    ensures { MatchOption result (connective (drop at text.now) ≡ None) (ConnectiveAt text.now at) }
 {
     if expect(text, at, b" \xE2\x88\xA7 ").is_some() {
-        return AND;
+        return Some(Connective::And);
     }
     if expect(text, at, b" \xE2\x88\xA8 ").is_some() {
-        return OR;
+        return Some(Connective::Or);
     }
     if expect(text, at, b" \xE2\x8A\x83 ").is_some() {
-        return IMPL;
+        return Some(Connective::Impl);
     }
-    NO_HEAD
+    None
 }
 
 // The sign at `at`: a head byte, IMPL for a negation, BRACKET, or NO_HEAD.
@@ -88,56 +96,62 @@ pub fn sign_size(sign: u8) -> usize
     3
 }
 
-// How strongly a connective binds.
-pub fn strength_of(connective: u8) -> usize
-    ensures { (c : Connective) → connective ≡ connective_byte c → result ≡ connective_precedence c }
-{
-    if connective == AND {
-        return 4;
+impl Connective {
+    // The head byte of its code.
+    #[tactic(auto, unfolding(definitions::specs::Prop::connective_byte))]
+    pub fn byte(self) -> u8
+        ensures { result ≡ connective_byte (meant self) }
+    {
+        self as u8
     }
-    if connective == OR {
-        return 3;
-    }
-    2
-}
 
-// How strongly the right side of a connective binds at least.
-pub fn right_least(connective: u8) -> usize
-    ensures { (c : Connective) → connective ≡ connective_byte c → result ≡ right_least c }
-{
-    if connective == AND {
-        return 5;
+    // How strongly it binds.
+    #[tactic(auto, unfolding(definitions::specs::Display::connective_precedence))]
+    pub fn strength(self) -> usize
+        ensures { result ≡ connective_precedence (meant self) }
+    {
+        match self {
+            Connective::And => 4,
+            Connective::Or => 3,
+            Connective::Impl => 2,
+        }
     }
-    if connective == OR {
-        return 4;
-    }
-    2
-}
 
-// Whether the left side of a connective is bracketed.
-pub fn wraps_left(connective: u8, strength: usize) -> bool
-    ensures { (c : Connective) → connective ≡ connective_byte c → result ≡ wraps_left c strength }
-{
-    if connective == AND {
-        return strength < 4;
+    // How strongly its right side binds at least.
+    #[tactic(auto, unfolding(definitions::specs::TermReader::right_least))]
+    pub fn right_least(self) -> usize
+        ensures { result ≡ right_least (meant self) }
+    {
+        match self {
+            Connective::And => 5,
+            Connective::Or => 4,
+            Connective::Impl => 2,
+        }
     }
-    if connective == OR {
-        return strength < 3;
-    }
-    strength <= 2
-}
 
-// Whether the right side of a connective is bracketed.
-pub fn wraps_right(connective: u8, strength: usize) -> bool
-    ensures { (c : Connective) → connective ≡ connective_byte c → result ≡ wraps_right c strength }
-{
-    if connective == AND {
-        return strength <= 4;
+    // Whether a left side that binds so strongly is bracketed.
+    #[tactic(auto, unfolding(definitions::specs::Display::wraps_left))]
+    pub fn wraps_left(self, strength: usize) -> bool
+        ensures { result ≡ wraps_left (meant self) strength }
+    {
+        match self {
+            Connective::And => strength < 4,
+            Connective::Or => strength < 3,
+            Connective::Impl => strength <= 2,
+        }
     }
-    if connective == OR {
-        return strength <= 3;
+
+    // Whether a right side that binds so strongly is bracketed.
+    #[tactic(auto, unfolding(definitions::specs::Display::wraps_right))]
+    pub fn wraps_right(self, strength: usize) -> bool
+        ensures { result ≡ wraps_right (meant self) strength }
+    {
+        match self {
+            Connective::And => strength <= 4,
+            Connective::Or => strength <= 3,
+            Connective::Impl => strength < 2,
+        }
     }
-    strength < 2
 }
 
 // The name at `at`, with its number; none where no name stands there or there are too many.

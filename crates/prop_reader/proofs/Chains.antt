@@ -23,13 +23,12 @@ use Rattle.atom_reader.specs.declared.PropRead.{PropRead}
 use Rattle.atom_reader.specs.Scope.{Met, Crowded, Binds}
 use Rattle.atom_reader.specs.Reading.{Begins, code_over, Measured, PropGiven, PropAnswer}
 use Rattle.prop_frames.specs.Fronts.{Part}
-use Rattle.prop_frames.specs.Sides.{GoesOnAt, goes_on_lem, ends_here, sides_agree, inserted, Joinable, Joins}
+use Rattle.prop_frames.specs.Sides.{sides_agree, inserted, Joinable, Joins}
 use Rattle.atom_reader.proofs.Storing.{stored_then}
 use Rattle.prop_frames.proofs.Insertion.{insert_stored}
 use Rattle.atom_reader.proofs.Sizes.{code_length_lem, nesting_code, binary_bytes}
 use Rattle.atom_reader.proofs.Scopes.{added_meets, code_kept, binds_noted, crowded_first, crowded_second}
 use Rattle.atom_reader.proofs.Readings.{gives_any}
-use Rattle.prop_frames.proofs.Sides.{connective_below}
 
 -- With a reading of the sides:
 module _ (part : Part) (names : List Name) where
@@ -79,17 +78,6 @@ module _ (part : Part) (names : List Name) where
       gives_due _ (is_negation c q.shown) false _ u λ n.
       joined_crowded seen most least (standing false (Binary c p.shown q.shown)) u
       (crowded_second seen (prop_names p.shown) (prop_names q.shown) j))
-
--- The connective that follows, by its number.
-module _ {text : List ℕ} {at least : ℕ} where
-  pub goes_found : {b : ℕ} → GoesOnAt text at least b → (b ≡ 9 → ⊥)
-      → (c : Connective) × (b ≡ connective_byte c) × (at + 5 ≤ length text) × (goes_on least (drop at text) ≡ given c (drop (at + 5) text))
-  goes_found (goes_on_lem c h e) k = (c, refl, h, e)
-  goes_found (ends_here e) k = absurd (k refl)
-
-  goes_lacks : {b : ℕ} → GoesOnAt text at least b → b ≡ 9 → goes_on least (drop at text) ≡ None
-  goes_lacks (goes_on_lem c h e) k = absurd (omega (arith, connective_below c))
-  goes_lacks (ends_here e) k = e
 
 binary_code : (seen : List Name) (c : Connective) (p q : Prop Name) → code_over seen (Binary c p q) ≡ connective_byte c ∷ (code_over seen p ++ code_over seen q)
 unfolding code_over encode rename_prop
@@ -173,11 +161,11 @@ module _ {names : List Name} {text pairs bound code after bound' code' : List �
   unfolding joined yield
   joining_done e = ends (j.reads ∙ rw e refl)
 
-  pub joining_ends : {b : ℕ} → 0 < most → GoesOnAt text left.end least b → b ≡ 9
+  pub joining_ends : 0 < most → goes_on least (drop left.end text) ≡ None
       → PropAnswer (read_prop levels least names (drop p.at text)) text pairs bound code p write after bound' code' (Some left)
-  joining_ends h found e =
+  joining_ends h e =
       let more : most ≡ suc (most - 1) = omega arith in
-      ends (j.reads ∙ rw more (joined_ends (read_prop (levels - 1)) names (most - 1) least _ _ (goes_lacks found e)))
+      ends (j.reads ∙ rw more (joined_ends (read_prop (levels - 1)) names (most - 1) least _ _ e))
 
   -- where the right side may begin
   pub right_begins : Begins text pairs bound p levels 0 → Binds names (table_names pairs text p.count) bound p.depth → (levels ≡ 0 → ⊥)

@@ -2,7 +2,7 @@
 use Prim.Native.Nat.{ℕ, ◌+◌, ◌/◌, ◌%◌, ◌≤◌, ◌<◌}
 use mathlib.Core.Path.{◌≡◌, refl, sym, ap, ◌∙◌}
 use mathlib.Core.Bool.{Bool, true, false, ◌&&◌, and-false, true≢false}
-use Rattle.std.specs.Prelude.{Option, None, Some, MatchOption}
+use Rattle.std.specs.Prelude.{Option, None, Some, MatchOption, is_some}
 use mathlib.Core.List.{List, [], ◌∷◌}
 use native.Mathlib.Omega.{arith}
 use lib.ListN.{length, drop}
@@ -24,7 +24,8 @@ use Rattle.words.specs.Places.{between, Expected, NameEnds}
 use Rattle.words.specs.Table.{add_name, added, TooMany, number_in, table_names, NamePlace, Noted, NumberOf}
 use Rattle.words.specs.declared.Numbered.{Numbered}
 use Rattle.words.proofs.Numbers.{names_length}
-use Rattle.prop_parts.specs.Found.{ConnectiveAt, joins, joins_not, bound_numbers}
+use Rattle.prop_parts.specs.declared.Connective as read
+use Rattle.prop_parts.specs.Found.{ConnectiveAt, bound_numbers}
 use Rattle.atom_reader.specs.declared.PropRead.{PropRead}
 use Rattle.prop_reader.specs.declared.LabelRead.{LabelRead}
 use Rattle.prop_reader.specs.Limits.{fits_label}
@@ -33,7 +34,6 @@ use Rattle.atom_reader.specs.Reading.{Begins, PropAnswer}
 use Rattle.prop_reader.specs.Answer.{LabelBegins, of_proposition, of_datatype, LabelAnswer, LoneLacks, LoneEnds, DatatypeGiven, PropositionAnswer}
 use Rattle.atom_reader.proofs.Readings.{gives_from, gives_holds}
 use Rattle.prop_reader.proofs.Lone.{is_lone, label_other, lone_reads, lone_only}
-use Rattle.prop_frames.proofs.Sides.{connective_below}
 use Rattle.std.proofs.lemmas.Option.{same_Some}
 use Rattle.std.proofs.lemmas.Option.{none-some}
 
@@ -49,23 +49,22 @@ module _ {text : List ℕ} {at end : ℕ} (ends : NameEnds text at end) where
   pub lone_bracket : {after : ℕ} → Expected (utf8 "(") text end after → LoneLacks text at
   lone_bracket found a s e f g = none-some _ (sym (rw (rest_is e) at f) ∙ found.reads)
 
-  pub lone_connective : {b : ℕ} → ConnectiveAt text end b → (b ≡ 9 → ⊥) → LoneLacks text at
-  lone_connective (joins c l e) k = λ a s e' f g. none-some _ (sym (rw (rest_is e') at g) ∙ e)
-  lone_connective (joins_not e) k = absurd (k refl)
+  pub lone_connective : (o : Option read.Connective) → MatchOption o (connective (drop end text) ≡ None) (ConnectiveAt text end)
+      → is_some o ≡ true → LoneLacks text at
+  lone_connective None none h = absurd (true≢false (sym h))
+  lone_connective (Some k) found h = λ a s e f g. none-some _ (sym (rw (rest_is e) at g) ∙ found.reads)
 
-  lacks_connective : {b : ℕ} → ConnectiveAt text end b → b ≡ 9 → connective (drop end text) ≡ None
-  lacks_connective (joins c l e) k = absurd (omega (arith, connective_below c))
-  lacks_connective (joins_not e) k = e
-
-  pub lone_there : {b : ℕ} → expect (utf8 "(") (drop end text) ≡ None → ConnectiveAt text end b → b ≡ 9 → LoneEnds text at end
-  lone_there no_bracket found e = record {
+  pub lone_there : (o : Option read.Connective) → MatchOption o (connective (drop end text) ≡ None) (ConnectiveAt text end)
+      → is_some o ≡ false → expect (utf8 "(") (drop end text) ≡ None → LoneEnds text at end
+  lone_there None none h no_bracket = record {
     within = ends.within;
     reads = ends.reads;
     no_bracket = no_bracket;
-    no_connective = lacks_connective found e;
+    no_connective = none;
     from = ends.from;
     short = ends.short;
   }
+  lone_there (Some k) found h no_bracket = absurd (true≢false h)
 
 -- The number of a datatype.
 pub datatype_given : {text pairs after : List ℕ} {at end count to : ℕ} {found : Numbered} → NumberOf (between at end text) text pairs count after found

@@ -16,7 +16,7 @@ use atom_reader::{Place, PropRead, read_atom};
 use caller_names::is_listed;
 use prefix_code::FALSE;
 use prop_frames::{close_prop, goes_on, join, open_front, part_least, read_constant};
-use prop_parts::{CONNECTIVE_SIZE, NO_HEAD, connective_at, right_least, sign_at};
+use prop_parts::{CONNECTIVE_SIZE, NO_HEAD, connective_at, sign_at};
 use words::{expect, name_end, number_of_name};
 
 // The limits of a label's proposition.
@@ -88,17 +88,16 @@ fn read_prop(
     let mut most = levels - 1;
     let mut left = read_unit(text, names, bound, code, p, most, write)?;
     while 0 < most {
-        let connective = goes_on(text, left.end, least);
-        if connective == NO_HEAD {
+        let Some(connective) = goes_on(text, left.end, least) else {
             return Some(left);
-        }
+        };
         let place = Place {
             at: left.end + CONNECTIVE_SIZE,
             count: left.count,
             depth,
             to: to + left.size,
         };
-        let asked = right_least(connective);
+        let asked = connective.right_least();
         let right = read_prop(text, names, bound, code, place, levels - 1, asked, write)?;
         left = join(text, code, to, connective, left, right, write)?;
         most -= 1;
@@ -125,10 +124,10 @@ fn lone_end(text: &[u8], at: usize) -> Option<usize>
     if expect(text, end, b"(").is_some() {
         return None;
     }
-    if connective_at(text, end) == NO_HEAD {
-        return Some(end);
+    if connective_at(text, end).is_some() {
+        return None;
     }
-    None
+    Some(end)
 }
 
 // The kinds of labels, as in records.

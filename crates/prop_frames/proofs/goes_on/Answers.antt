@@ -1,15 +1,18 @@
 -- The connective there, and then its strength.
+use mathlib.Core.Path.{◌≡◌}
+use Rattle.std.specs.Prelude.{None}
 use native.Mathlib.Omega.{arith}
+use borrow.Author.Rules.{rules}
 use Rattle.prop_frames.proofs.Sides.{none_there, too_weak, strong_enough_lem}
 use Rattle.prop_frames.proofs.goes_on.Goals as goal
 
-pub returns-then-connective-eq-NO_HEAD : goal.returns-then-connective-eq-NO_HEAD
-returns-then-connective-eq-NO_HEAD c = none_there c.connective_at-connective.ensures c.if-connective-eq-NO_HEAD.true
+pub returns-in_err-connective : goal.returns-in_err-connective
+returns-in_err-connective c =
+    let none : c.from_residual.result ≡ None = search rules in
+    rw none (none_there c.args.text.now c.args.at c.args.least c.in_err-connective.ensures)
 
-pub returns-then-strength_of-least : goal.returns-then-strength_of-least
-returns-then-strength_of-least c =
-    too_weak c.connective_at-connective.ensures c.if-connective-eq-NO_HEAD.false c.strength_of.ensures c.if-strength_of-least.true
+pub returns-then-strength-least : goal.returns-then-strength-least
+returns-then-strength-least c = too_weak c.in_ok-connective.ensures c.args.least c.strength.ensures c.if-strength-least.true
 
 pub returns : goal.returns
-returns c =
-    strong_enough_lem c.connective_at-connective.ensures c.if-connective-eq-NO_HEAD.false c.strength_of.ensures (λ h. absurd (omega arith))
+returns c = strong_enough_lem c.in_ok-connective.ensures c.args.least c.strength.ensures (λ h. absurd (omega arith))

@@ -8,8 +8,7 @@ use lib.ListN.{length, drop}
 use borrow.Author.Rules.{rules}
 use Rattle.definitions.specs.Name.{Name}
 use Rattle.definitions.specs.TermText.{term_text_limit}
-use Rattle.definitions.specs.Prop.{Connective, connective_byte}
-use Rattle.definitions.specs.TermReader.{Sign, sign, goes_on, read_prop}
+use Rattle.definitions.specs.TermReader.{Sign, sign, read_prop}
 use Rattle.definitions.proofs.Readings.{given}
 use Rattle.words.specs.Table.{table_names}
 use Rattle.prop_parts.specs.Found.{sign_number, sign_size}
@@ -19,9 +18,9 @@ use Rattle.atom_reader.specs.Reading.{Begins}
 use Rattle.prop_frames.specs.Fronts.{part_bound}
 use Rattle.atom_reader.proofs.Scopes.{binds_noted}
 use Rattle.prop_reader.proofs.Units.{sign_found, unit_atom, unit_signed, answers_none, no_unit, constant_size, begins_less, front_begins, front_not, closable, part_not, part_closed}
-use Rattle.prop_reader.proofs.Chains.{goes_found, no_level, Joining, unit_fails, joining_starts, joining_done, joining_ends, right_begins, right_not, joinable, joining_not, joining_on, turned}
+use Rattle.prop_reader.proofs.Chains.{no_level, Joining, unit_fails, joining_starts, joining_done, joining_ends, right_begins, right_not, joinable, joining_not, joining_on, turned}
 use Rattle.prop_reader.proofs.+read_prop_read_unit.Goals as goal
-use Rattle.prop_reader.proofs.+read_prop_read_unit.Goals.{read_prop-After-read_prop, read_prop-At-loop-most, read_prop-Else-connective-eq-NO_HEAD, read_unit-After-read_prop, read_unit-Else-sign-eq-NO_HEAD}
+use Rattle.prop_reader.proofs.+read_prop_read_unit.Goals.{read_prop-After-read_prop, read_prop-At-loop-most, read_prop-In-Some, read_unit-After-read_prop, read_unit-Else-sign-eq-NO_HEAD}
 
 pub read_prop-returns-then-levels-eq0 : goal.read_prop-returns-then-levels-eq0
 read_prop-returns-then-levels-eq0 t c ns b = answers_none (no_level _ ns _ c.if-levels-eq0.true)
@@ -43,73 +42,62 @@ so_far : (t : ℕ) → (c : read_prop-At-loop-most t) → let s = c.args in
 so_far t c ns b =
     c.loop-most.invariant.keeps ns _ _ _ _ _ b (joining_starts ns _ c.if-levels-eq0.false (c.in_ok-left.ensures ns b))
 
-pub read_prop-returns-then-connective-eq-NO_HEAD : goal.read_prop-returns-then-connective-eq-NO_HEAD
-read_prop-returns-then-connective-eq-NO_HEAD t c ns b =
-    joining_ends (so_far t (goal.at.read_prop-returns-then-connective-eq-NO_HEAD t c).At-loop-most ns b) c.loop-most-test.true c.goes_on-connective.ensures c.if-connective-eq-NO_HEAD.true
-
--- the connective that follows
-connective : (t : ℕ) → (c : read_prop-Else-connective-eq-NO_HEAD t) → let s = c.args in
-    let end = c.loop-most.left.end in
-    (k : Connective) × (c.goes_on-connective.result ≡ connective_byte k) × (end + 5 ≤ length s.text.now)
-    × (goes_on s.least (drop end s.text.now) ≡ given k (drop (end + 5) s.text.now))
-connective t c = goes_found c.goes_on-connective.ensures c.if-connective-eq-NO_HEAD.false
+pub read_prop-returns-in_default : goal.read_prop-returns-in_default
+read_prop-returns-in_default t c ns b =
+    joining_ends (so_far t (goal.at.read_prop-returns-in_default t c).At-loop-most ns b) c.loop-most-test.true c.in_default.ensures
 
 -- the right side may begin where it does
-right_place : (t : ℕ) → (c : read_prop-Else-connective-eq-NO_HEAD t) → let loop = c.loop-most in
+right_place : (t : ℕ) → (c : read_prop-In-Some t) → let loop = c.loop-most in
     let s = c.args in
     Begins s.text.now loop.names loop.bound
     (record { at = loop.left.end + 5; count = loop.left.count; depth = s.p.depth; to = s.p.to + loop.left.size }) (s.levels - 1) 0
 right_place t c =
     let (ns, b) = c.requires.binds in
-    right_begins (so_far t (goal.at.read_prop-Else-connective-eq-NO_HEAD t c).At-loop-most ns b) c.requires b c.if-levels-eq0.false
-    (c.loop-most.invariant.bound_long ∙ c.read_unit.auto.bound) (connective t c).2
+    right_begins (so_far t (goal.at.read_prop-In-Some t c).At-loop-most ns b) c.requires b c.if-levels-eq0.false
+    (c.loop-most.invariant.bound_long ∙ c.read_unit.auto.bound) c.in-Some.ensures.within
 
 pub read_prop-overflow_add-place : goal.read_prop-overflow_add-place
 unfolding term_text_limit
 read_prop-overflow_add-place t c =
-    let place = right_place t (goal.at.read_prop-overflow_add-place t c).Else-connective-eq-NO_HEAD in
+    let place = right_place t (goal.at.read_prop-overflow_add-place t c).In-Some in
     omega (arith, place.within, place.short)
 
 pub read_prop-overflow_add-place-in-loop-most : goal.read_prop-overflow_add-place-in-loop-most
 unfolding term_text_limit
 read_prop-overflow_add-place-in-loop-most t c =
-    let place = right_place t (goal.at.read_prop-overflow_add-place-in-loop-most t c).Else-connective-eq-NO_HEAD in
+    let place = right_place t (goal.at.read_prop-overflow_add-place-in-loop-most t c).In-Some in
     omega (arith, place.near, place.within, place.short)
 
 pub read_prop-read_prop-requires : goal.read_prop-read_prop-requires
 read_prop-read_prop-requires t c =
-    (omega (arith, c.decreases, c.if-levels-eq0.false), right_place t (goal.at.read_prop-read_prop-requires t c).Else-connective-eq-NO_HEAD)
+    (omega (arith, c.decreases, c.if-levels-eq0.false), right_place t (goal.at.read_prop-read_prop-requires t c).In-Some)
 
 pub read_prop-returns-in_err-right : goal.read_prop-returns-in_err-right
 read_prop-returns-in_err-right t c ns b =
     let j = so_far t (goal.at.read_prop-returns-in_err-right t c).At-loop-most ns b in
-    let (k, e, l, goes) = connective t (goal.at.read_prop-returns-in_err-right t c).Else-connective-eq-NO_HEAD in
     let none : c.from_residual-in_err-right.result ≡ None = search rules in
-    rw none (right_not j c.loop-most-test.true goes (c.right_least-asked.ensures k e) (c.in_err-right.ensures ns (binds_noted b j.read.noted j.bound_kept)))
+    rw none (right_not j c.loop-most-test.true c.in-Some.ensures.reads c.right_least-asked.ensures (c.in_err-right.ensures ns (binds_noted b j.read.noted j.bound_kept)))
 
 pub read_prop-join-requires : goal.read_prop-join-requires
 read_prop-join-requires t c =
     let (ns, b) = c.requires.binds in
     let j = so_far t (goal.at.read_prop-join-requires t c).At-loop-most ns b in
-    let (k, e, l, goes) = connective t (goal.at.read_prop-join-requires t c).Else-connective-eq-NO_HEAD in
-    joinable j c.loop-most-test.true goes (c.right_least-asked.ensures k e) (c.in_ok-right.ensures ns (binds_noted b j.read.noted j.bound_kept)) c.requires
+    joinable j c.loop-most-test.true c.in-Some.ensures.reads c.right_least-asked.ensures (c.in_ok-right.ensures ns (binds_noted b j.read.noted j.bound_kept)) c.requires
 
 pub read_prop-returns-in_err-left-2 : goal.read_prop-returns-in_err-left-2
 read_prop-returns-in_err-left-2 t c ns b =
     let j = so_far t (goal.at.read_prop-returns-in_err-left-2 t c).At-loop-most ns b in
-    let (k, e, l, goes) = connective t (goal.at.read_prop-returns-in_err-left-2 t c).Else-connective-eq-NO_HEAD in
     let none : c.from_residual-in_err-left-2.result ≡ None = search rules in
-    rw none (joining_not j c.loop-most-test.true goes (c.right_least-asked.ensures k e) (c.in_ok-right.ensures ns (binds_noted b j.read.noted j.bound_kept))
-    (λ q m. c.in_err-left-2.ensures k j.prop q e j.read.measured m))
+    rw none (joining_not j c.loop-most-test.true c.in-Some.ensures.reads c.right_least-asked.ensures (c.in_ok-right.ensures ns (binds_noted b j.read.noted j.bound_kept))
+    (λ q m. c.in_err-left-2.ensures j.prop q j.read.measured m))
 
 pub read_prop-loop-most-preserved : goal.read_prop-loop-most-preserved
 read_prop-loop-most-preserved t c =
     let inv = c.loop-most.invariant in
-    let (k, e, l, goes) = connective t (goal.at.read_prop-loop-most-preserved t c).Else-connective-eq-NO_HEAD in
     let (ns₀, b₀) = c.requires.binds in
     let j₀ = so_far t (goal.at.read_prop-loop-most-preserved t c).At-loop-most ns₀ b₀ in
     let (q, reads, right) = (c.in_ok-right.ensures ns₀ (binds_noted b₀ j₀.read.noted j₀.bound_kept)).answer in
-    let made = (c.in_ok-left-2.ensures k j₀.prop q e j₀.read.measured right.measured).answer in
+    let made = (c.in_ok-left-2.ensures j₀.prop q j₀.read.measured right.measured).answer in
     record {
       within = rw made.end_is right.within;
       names_long = c.read_prop.auto.names ∙ inv.names_long;
@@ -117,8 +105,8 @@ read_prop-loop-most-preserved t c =
       code_long = c.join.auto.code ∙ (c.read_prop.auto.code ∙ inv.code_long);
       keeps = λ ns pairs₀ bound₀ code₀ at count b j₀.
           let j = inv.keeps ns pairs₀ bound₀ code₀ at count b j₀ in
-          joining_on j c.loop-most-test.true goes (c.right_least-asked.ensures k e) (c.in_ok-right.ensures ns (binds_noted b j.read.noted j.bound_kept))
-          (λ q m. c.in_ok-left-2.ensures k j.prop q e j.read.measured m);
+          joining_on j c.loop-most-test.true c.in-Some.ensures.reads c.right_least-asked.ensures (c.in_ok-right.ensures ns (binds_noted b j.read.noted j.bound_kept))
+          (λ q m. c.in_ok-left-2.ensures j.prop q j.read.measured m);
     }
 
 pub read_prop-returns : goal.read_prop-returns
@@ -146,17 +134,17 @@ read_prop-loop-most-init t c =
     let (q, reads, given) = (c.in_ok-left.ensures ns b).answer in
     turned given.within
 
-pub read_prop-goes_on-connective-requires : goal.read_prop-goes_on-connective-requires
-read_prop-goes_on-connective-requires t c = c.loop-most.invariant.within
+pub read_prop-goes_on-requires : goal.read_prop-goes_on-requires
+read_prop-goes_on-requires t c = c.loop-most.invariant.within
 
-pub read_prop-shape_of-names-then-connective-eq-NO_HEAD : goal.read_prop-shape_of-names-then-connective-eq-NO_HEAD
-read_prop-shape_of-names-then-connective-eq-NO_HEAD t c = (looped t (goal.at.read_prop-shape_of-names-then-connective-eq-NO_HEAD t c).At-loop-most).0
+pub read_prop-shape_of-names-in_default : goal.read_prop-shape_of-names-in_default
+read_prop-shape_of-names-in_default t c = (looped t (goal.at.read_prop-shape_of-names-in_default t c).At-loop-most).0
 
-pub read_prop-shape_of-bound-then-connective-eq-NO_HEAD : goal.read_prop-shape_of-bound-then-connective-eq-NO_HEAD
-read_prop-shape_of-bound-then-connective-eq-NO_HEAD t c = (looped t (goal.at.read_prop-shape_of-bound-then-connective-eq-NO_HEAD t c).At-loop-most).1
+pub read_prop-shape_of-bound-in_default : goal.read_prop-shape_of-bound-in_default
+read_prop-shape_of-bound-in_default t c = (looped t (goal.at.read_prop-shape_of-bound-in_default t c).At-loop-most).1
 
-pub read_prop-shape_of-code-then-connective-eq-NO_HEAD : goal.read_prop-shape_of-code-then-connective-eq-NO_HEAD
-read_prop-shape_of-code-then-connective-eq-NO_HEAD t c = (looped t (goal.at.read_prop-shape_of-code-then-connective-eq-NO_HEAD t c).At-loop-most).2
+pub read_prop-shape_of-code-in_default : goal.read_prop-shape_of-code-in_default
+read_prop-shape_of-code-in_default t c = (looped t (goal.at.read_prop-shape_of-code-in_default t c).At-loop-most).2
 
 pub read_prop-shape_of-names-in_err-right : goal.read_prop-shape_of-names-in_err-right
 read_prop-shape_of-names-in_err-right t c = (sided t (goal.at.read_prop-shape_of-names-in_err-right t c).After-read_prop).0

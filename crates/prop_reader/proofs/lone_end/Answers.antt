@@ -17,11 +17,11 @@ returns-then-is_some c =
     lone_bracket c.in_ok-end.ensures
     (stands (utf8 "(") c.args.text.now c.in_ok-end.end c.expect.result c.expect.ensures (sym c.is_some.ensures ∙ c.if-is_some.true))
 
-pub returns-then-connective_at-eq-NO_HEAD : goal.returns-then-connective_at-eq-NO_HEAD
-returns-then-connective_at-eq-NO_HEAD c =
-    lone_there c.in_ok-end.ensures
-    (stands_not (utf8 "(") c.args.text.now c.in_ok-end.end c.expect.result c.expect.ensures (sym c.is_some.ensures ∙ c.if-is_some.false))
-    c.connective_at.ensures c.if-connective_at-eq-NO_HEAD.true
+pub returns-then-is_some-2 : goal.returns-then-is_some-2
+returns-then-is_some-2 c =
+    lone_connective c.in_ok-end.ensures c.connective_at.result c.connective_at.ensures (sym c.is_some-2.ensures ∙ c.if-is_some-2.true)
 
 pub returns : goal.returns
-returns c = lone_connective c.in_ok-end.ensures c.connective_at.ensures c.if-connective_at-eq-NO_HEAD.false
+returns c =
+    lone_there c.in_ok-end.ensures c.connective_at.result c.connective_at.ensures (sym c.is_some-2.ensures ∙ c.if-is_some-2.false)
+    (stands_not (utf8 "(") c.args.text.now c.in_ok-end.end c.expect.result c.expect.ensures (sym c.is_some.ensures ∙ c.if-is_some.false))
