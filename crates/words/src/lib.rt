@@ -98,7 +98,7 @@ pub enum Start {
 }
 
 // The start of a term whose first word these bytes are.
-// A `match` on byte strings proves too, but by an answer for each length and byte, 35 in all.
+// Tried: a `match` on byte strings leaves more than thirty goals that are not found, and these tests leave none.
 #[tactic(auto, unfolding(definitions::specs::TermReader::start_of, crate::specs::Starts::as_start, crate::specs::Starts::as_call))]
 pub fn start_of(word: &[u8]) -> Start
     ensures { result ≡ as_start (start_of word.now) }
