@@ -4,7 +4,7 @@ use mathlib.Core.Path.{◌≡◌, refl, sym, ap, ap₂, ◌∙◌}
 use mathlib.Core.List.{List, [], ◌∷◌, ◌++◌, map}
 use native.Mathlib.Omega.{arith}
 use native.Mathlib.Numerals.{add-one}
-use lib.ListN.{length, take, drop, length-append, length-take}
+use lib.ListN.{length, drop, length-append, length-take}
 use Rattle.definitions.specs.Sheet.{name_limit, text_limit, code_limit, proposition_limit, text_length, code_length, names, propositions, name_pairs, proposition_pairs, code_bytes, name_of, pair_offset, pair_length, pair_end, last_end, marked}
 use Rattle.definitions.specs.Tree.{prop_of, root_of}
 use Rattle.definitions.specs.Encode.{concat}
@@ -15,7 +15,7 @@ use Rattle.definitions.proofs.Readings.{Bytes}
 use Rattle.writer_laws.proofs.Checks.{Checks, admitted_checks}
 use Rattle.graft_laws.specs.Missing.{missing_below, Numbering, given_before, given_next}
 use Rattle.graft_laws.proofs.MergedNumbers.{numbering, none_missing, few_missing}
-use Rattle.graft_laws.proofs.MergedNames.{up_to_length, row_length}
+use Rattle.graft_laws.proofs.MergedNames.{row_length}
 use Rattle.graft_laws.proofs.MergedChecks.{name_length}
 use Rattle.graft_laws.proofs.MergedSheet.{rename_same}
 use Rattle.merged_names.specs.Numbered.{Numbered}

@@ -104,10 +104,8 @@ pub fn append_names<'a>(
         count: 0,
         length: 0,
     };
-    let mut n = 0;
-    while n < g.names {
+    for n in 0..g.names {
         appended = append_name(host, h, donor, g, numbers, n, appended, pairs, text);
-        n += 1;
     }
     appended
 }
@@ -162,10 +160,8 @@ pub fn append_propositions(
         count: 0,
         length: 0,
     };
-    let mut i = 0;
-    while i < g.propositions {
+    for i in 0..g.propositions {
         appended = append_proposition(donor, g, numbers, i, from, appended, pairs, code);
-        i += 1;
     }
     appended
 }

@@ -1,13 +1,13 @@
 -- What the tests of 28 and 16 make of the answer.
 use Prim.Native.Nat.{ℕ, ◌+◌, ◌≤◌, ◌<◌}
-use mathlib.Core.Path.{◌≡◌, refl, sym, ap, ◌∙◌}
+use mathlib.Core.Path.{◌≡◌, refl, ◌∙◌}
 use mathlib.Core.Bool.{Bool, true, false, ◌||◌}
-use mathlib.Core.List.{List, ◌++◌}
+use mathlib.Core.List.{List}
 use native.Mathlib.Omega.{arith}
-use lib.ListN.{length, drop}
+use lib.ListN.{length}
 use lib.Seq.{sets-eq}
 use borrow.Author.Tests.{lt-ltb, le-ltb}
-use Rattle.definitions.specs.Outcome.{Outcome, refused, accepted, refuse, refuse_if, ◌>>=◌}
+use Rattle.definitions.specs.Outcome.{refuse, refuse_if, ◌>>=◌}
 use Rattle.definitions.specs.Sheet.{header_out_of_range}
 use Rattle.definitions.specs.Answers.{is_in_room}
 use Rattle.definitions.specs.Graft.{merged_sheet}

@@ -26,15 +26,8 @@ use steps::STEP_SIZE;
 // The room for the pairs of the most names or propositions.
 const PAIR_ROOM: usize = PAIR_SIZE * Sheet::NAME_LIMIT;
 
-// The first bytes of a memory, so many.
-fn first(bytes: &[u8], count: usize) -> &[u8]
-    requires { count ≤ length bytes.now }
-    ensures { result.now ≡ take count bytes.now }
-{
-    &bytes[0..count]
-}
-
 // The header of the merged sheet m, and all pairs.
+#[tactic(auto, unfolding(definitions::specs::Sheet::pair_size, definitions::specs::Sheet::name_limit, definitions::specs::Sheet::proposition_limit))]
 fn put_pairs(
     host: &[u8],
     h: Sheet,
@@ -48,11 +41,8 @@ fn put_pairs(
     ensures { Wrote (head_and_pairs host.now h m new_names.now new_propositions.now)
         true out.old 0 out.new result }
 {
-    let names = first(new_names, PAIR_SIZE * (m.names - h.names));
-    let propositions = first(
-        new_propositions,
-        PAIR_SIZE * (m.propositions - h.propositions),
-    );
+    let names = &new_names[..PAIR_SIZE * (m.names - h.names)];
+    let propositions = &new_propositions[..PAIR_SIZE * (m.propositions - h.propositions)];
     let after_header = put_header(out, m, true);
     let after_names = put_all(out, after_header, name_pairs(host, h), true);
     let after_new_names = put_all(out, after_names, names, true);
@@ -78,7 +68,7 @@ fn put_records(
 {
     let records = step_records(host, h);
     let before = &records[0..STEP_SIZE * k];
-    let after = &records[STEP_SIZE * (k + 1)..records.len()];
+    let after = &records[STEP_SIZE * (k + 1)..];
     let after_before = put_all(out, to, before, true);
     let after_donor = put_steps(
         step_records(donor, g),
@@ -93,6 +83,7 @@ fn put_records(
 }
 
 // The text and the code.
+#[tactic(auto, unfolding(definitions::specs::Sheet::text_limit, definitions::specs::Sheet::code_limit))]
 fn put_text_and_code(
     host: &[u8],
     h: Sheet,
@@ -107,8 +98,8 @@ fn put_text_and_code(
     ensures { Wrote (text_and_code host.now h m new_text.now new_code.now) true
         out.old to out.new result }
 {
-    let text = first(new_text, m.text_length - h.text_length);
-    let code = first(new_code, m.code_length - h.code_length);
+    let text = &new_text[..m.text_length - h.text_length];
+    let code = &new_code[..m.code_length - h.code_length];
     let after_text = put_all(out, to, text_bytes(host, h), true);
     let after_new_text = put_all(out, after_text, text, true);
     let after_code = put_all(out, after_new_text, code_bytes(host, h), true);
@@ -191,10 +182,7 @@ pub fn merge<'a>(
         &mut new_propositions,
         &mut new_code,
     );
-    if m.out_of_range() {
-        return Err(Refusal::at(28, 0));
-    }
-    if deep {
+    if m.out_of_range() || deep {
         return Err(Refusal::at(28, 0));
     }
     if out.len() < m.layout().end {

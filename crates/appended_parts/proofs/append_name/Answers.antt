@@ -2,7 +2,6 @@
 use mathlib.Core.Path.{sym, ◌∙◌}
 use mathlib.Core.Bool.{true≢false}
 use native.Mathlib.Omega.{arith}
-use borrow.Author.Rules.{rules}
 use Rattle.definitions.specs.Sheet.{name_limit}
 use Rattle.sheet.proofs.Admitted.{its_header}
 use Rattle.equal_conclusions.proofs.Codes.{has_numbers}

@@ -1,10 +1,8 @@
--- The invariant: the missing names below n are appended. The measure is how many names are left.
-use Prim.Native.Nat.{◌-◌}
+-- The invariant: the missing names below n are appended.
 use mathlib.Core.Path.{refl}
 use native.Mathlib.Omega.{arith}
-use Rattle.definitions.specs.Sheet.{names, text_length}
 use Rattle.graft_laws.specs.Missing.{missing_below}
-use Rattle.appended_parts.proofs.Turns.{Turning, turned, name_count, no_names, all_names}
+use Rattle.appended_parts.proofs.Turns.{turned, name_count, no_names, all_names}
 use Rattle.appended_parts.proofs.append_names.Goals as goal
 
 pub loop-n-init : goal.loop-n-init
@@ -20,11 +18,6 @@ append_name-appended-requires c =
       n_bound = (omega (arith, name_count donor, c.loop-n-test.true), numbered);
       appends = c.loop-n.invariant.so;
     }
-
-pub loop-n-smaller : goal.loop-n-smaller
-loop-n-smaller c =
-    let record { accepted_sheet = (_, donor); numbered = _; room = _ } = c.requires in
-    omega (arith, name_count donor, c.loop-n-test.true)
 
 pub loop-n-preserved : goal.loop-n-preserved
 loop-n-preserved c =

@@ -1,15 +1,9 @@
--- The invariant: the missing names below n are appended. The measure is how many names are left.
-use Prim.Native.Nat.{◌-◌}
-use mathlib.Core.Path.{refl}
-use native.Mathlib.Omega.{arith}
+-- The invariant: the missing names below n are appended.
 use Rattle.definitions.specs.Sheet.{names, text_length}
 use Rattle.graft_laws.specs.Missing.{missing_below}
-use Rattle.appended_parts.proofs.Turns.{Turning, turned, name_count, no_names, all_names}
+use Rattle.appended_parts.proofs.Turns.{Turning}
 use Rattle.appended_parts.proofs.append_names.Given as goal
 
 abbrev pub invariant-loop-n : goal.invariant-loop-n
 invariant-loop-n l =
     Turning (names l.donor) l.n (text_length l.host) (missing_below l.host l.donor) l.initial.pairs l.initial.text l.pairs l.text l.appended
-
-abbrev pub decreases-loop-n : goal.decreases-loop-n
-decreases-loop-n l = names l.donor - l.n

@@ -1,7 +1,6 @@
 -- The pair and the bytes are stored after those before them.
 use mathlib.Core.Path.{refl}
 use native.Mathlib.Omega.{arith}
-use borrow.Author.Rules.{rules}
 use Rattle.definitions.specs.Sheet.{pair_size, name_limit, text_limit}
 use Rattle.appended_parts.proofs.Pieces.{one_appended}
 use Rattle.appended_parts.proofs.append_piece.Goals as goal

@@ -2,11 +2,10 @@
 use mathlib.Core.Path.{sym, ap, ◌∙◌}
 use native.Mathlib.Omega.{arith}
 use lib.ListN.{length}
-use borrow.Author.Rules.{rules}
 use Rattle.definitions.specs.Sheet.{pair_size, name_limit, text_limit}
 use Rattle.definitions.proofs.Readings.{Bytes}
 use Rattle.equal_conclusions.proofs.Codes.{whole_code, code_written, code_length_lem, names_in}
-use Rattle.appended_parts.specs.Appended.{Addable, Appends}
+use Rattle.appended_parts.specs.Appended.{Addable}
 use Rattle.appended_parts.proofs.Pieces.{one_appended}
 use Rattle.appended_parts.proofs.Short.{codes_more, code_addable}
 use Rattle.appended_parts.proofs.append_proposition.Goals as goal

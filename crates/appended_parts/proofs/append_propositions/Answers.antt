@@ -1,10 +1,8 @@
--- The invariant: the propositions below i are appended. The measure is how many are left.
-use Prim.Native.Nat.{◌-◌}
+-- The invariant: the propositions below i are appended.
 use mathlib.Core.Path.{refl}
 use native.Mathlib.Omega.{arith}
-use Rattle.definitions.specs.Sheet.{propositions}
 use Rattle.appended_parts.specs.Appended.{codes_below}
-use Rattle.appended_parts.proofs.Turns.{Turning, turned, proposition_count, no_codes}
+use Rattle.appended_parts.proofs.Turns.{turned, proposition_count, no_codes}
 use Rattle.appended_parts.proofs.append_propositions.Goals as goal
 
 pub loop-i-init : goal.loop-i-init
@@ -20,11 +18,6 @@ append_proposition-appended-requires c =
       numbers = numbers;
       appends = c.loop-i.invariant.so;
     }
-
-pub loop-i-smaller : goal.loop-i-smaller
-loop-i-smaller c =
-    let record { accepted_sheet = (donor, _); numbers = _; room = _ } = c.requires in
-    omega (arith, proposition_count donor, c.loop-i-test.true)
 
 pub loop-i-preserved : goal.loop-i-preserved
 loop-i-preserved c =

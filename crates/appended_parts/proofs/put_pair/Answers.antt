@@ -1,5 +1,4 @@
 -- The two numbers of a pair, one after the other.
-use borrow.Author.Rules.{rules}
 use Rattle.output.specs.Wrote.{puts}
 use Rattle.appended_parts.proofs.put_pair.Goals as goal
 

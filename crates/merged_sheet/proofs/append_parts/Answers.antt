@@ -1,6 +1,5 @@
 -- What is appended gives the header.
 use native.Mathlib.Omega.{arith}
-use borrow.Author.Rules.{rules}
 use Rattle.definitions.proofs.Readings.{Bytes}
 use Rattle.sheet.proofs.Admitted.{its_header}
 use Rattle.equal_conclusions.proofs.Codes.{has_numbers}

@@ -2,17 +2,16 @@
 use Prim.Native.Nat.{ℕ}
 use mathlib.Core.Path.{◌≡◌, sym, ap, ◌∙◌}
 use mathlib.Core.Bool.{false}
+use mathlib.Core.Logic.{⊎_elim}
 use mathlib.Core.List.{List}
 use native.Mathlib.Omega.{arith}
 use lib.ListN.{length}
-use borrow.Author.Rules.{rules}
 use Rattle.definitions.specs.Sheet.{pair_size, name_limit, text_limit, header_out_of_range}
 use Rattle.definitions.specs.Graft.{merged_sheet}
 use Rattle.graft_laws.proofs.MergedSheet.{Grafts, here}
 use Rattle.output.proofs.Writing.{then}
 use Rattle.sheet.specs.Header.{header_of}
 use Rattle.equal_conclusions.proofs.Codes.{has_numbers}
-use Rattle.appended_parts.specs.Appended.{Room}
 use Rattle.merged_sheet.proofs.Bytes.{grafts, longer, merged_bytes, header_is, end_is, range}
 use Rattle.merged_sheet.proofs.Answers.{over-by-header, over-by-levels, inside_both, passes-limit, no_room, written}
 use Rattle.merged_sheet.proofs.merge.Goals as goal
@@ -54,12 +53,11 @@ append_parts-m-requires c =
 
 pub returns-then-out_of_range : goal.returns-then-out_of_range
 returns-then-out_of_range c =
-    rw c.at.ensures (passes-limit _ _ _ _ (over-by-header _ _ _ _ (sym (outside (goal.at.returns-then-out_of_range c).After-out_of_range) ∙ c.if-out_of_range.true)) _ _)
-
-pub returns-then-deep : goal.returns-then-deep
-returns-then-deep c =
-    rw c.at-then-deep.ensures
-    (passes-limit _ _ _ _ (over-by-levels _ _ _ _ (sym (outside (goal.at.returns-then-deep c).After-out_of_range) ∙ c.if-out_of_range.false) c.if-deep.true) _ _)
+    let there = sym (outside (goal.at.returns-then-out_of_range c).After-out_of_range) in
+    rw c.at.ensures
+    (passes-limit _ _ _ _
+    (⊎_elim (λ header. over-by-header _ _ _ _ (there ∙ header)) (λ levels. over-by-levels _ _ _ _ (there ∙ levels.0) levels.1)
+    c.then-out_of_range.either) _ _)
 
 pub layout-requires : goal.layout-requires
 layout-requires c =

@@ -1,7 +1,6 @@
 -- Sums of numbers within their limits.
 use mathlib.Core.Path.{refl}
 use native.Mathlib.Omega.{arith}
-use borrow.Author.Rules.{rules}
 use Rattle.definitions.specs.Sheet.{text_limit, name_limit, code_limit, proposition_limit, step_limit}
 use Rattle.merged_sheet.specs.Parts.{header_with}
 use Rattle.merged_sheet.proofs.merged_header.Goals as goal

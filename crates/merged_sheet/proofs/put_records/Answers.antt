@@ -1,6 +1,5 @@
 -- The host's steps before step k, the donor's over the merged numbers, and the host's after it.
 use native.Mathlib.Omega.{arith}
-use borrow.Author.Rules.{rules}
 use Rattle.definitions.specs.Sheet.{step_size, step_limit}
 use Rattle.sheet.proofs.Admitted.{its_header}
 use Rattle.output.proofs.Writing.{then}
