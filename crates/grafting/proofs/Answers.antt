@@ -1,14 +1,15 @@
 -- What an answer says of the bytes that are handed over and of the slots, and whose a refusal is.
-use Prim.Native.Nat.{ℕ, ◌+◌, ◌*◌, ◌≤◌, ◌<◌}
+use Prim.Native.Nat.{ℕ, ◌+◌, ◌*◌, ◌≤◌}
 use mathlib.Core.Path.{◌≡◌, refl, sym, ap, ap₂, ◌∙◌}
 use mathlib.Core.List.{List, ◌++◌}
 use native.Mathlib.Omega.{arith}
 use lib.ListN.{length, take, drop, length-append, length-drop}
 use lib.Seq.{take_at, take-append-le, drop-append-le}
 use Rattle.definitions.specs.declared.Refusal.{Refusal}
+use Rattle.definitions.specs.declared.Whose.{Whose}
 use Rattle.definitions.specs.declared.Whose.TheVariants.{Neither, Host, Donor}
 use Rattle.definitions.specs.Outcome.{Outcome, refused, accepted}
-use Rattle.definitions.specs.Sheet.{pair_size, name_limit, names, marked, sheet_length}
+use Rattle.definitions.specs.Sheet.{pair_size, name_limit, marked}
 use Rattle.definitions.specs.Admission.{admitted}
 use Rattle.definitions.specs.NameIndex.{index, index_of}
 use Rattle.definitions.specs.Graft as defined
@@ -17,7 +18,8 @@ use Rattle.definitions.proofs.Readings.{Bytes}
 use Rattle.graft_laws.specs.Merges.{Merges}
 use Rattle.graft_laws.proofs.Answered.{answer_admitted}
 use Rattle.graft_laws.proofs.AnswerMerges.{answer_merges}
-use Rattle.std.specs.Prelude.{Result, Err, Ok, ℕ}
+use Rattle.std.specs.Prelude.{Result, Err, Ok, MatchResult, IsErrAnd}
+use Rattle.std.proofs.lemmas.Result.{err_from_is_err_and}
 use Rattle.output.specs.Written.{Fills, written_of, filled}
 use Rattle.vocabulary.specs.declared.Vocabulary.{Vocabulary}
 use Rattle.vocabulary.specs.Vocabulary.{pairs_in, text_in, name_in, Within}
@@ -28,9 +30,28 @@ use Rattle.sheet.proofs.NamesAndCode.{count_is, names_are, within}
 use Rattle.restating.specs.Slots.{slots_after}
 use Rattle.merged_sheet.specs.Merging.{headed, Merging}
 use Rattle.merged_sheet.proofs.Bytes.{layout_end}
-use Rattle.grafting.specs.declared.Merged.{Merged}
-use Rattle.grafting.specs.declared.Merged.TheVariants.{Length, Refused}
 use Rattle.grafting.specs.Answered.{merged_of, filled_by, slots_by, FillsBy}
+
+-- a result whose refusal is told with whose it is
+abbrev pub By : {A : Type 0} → Result A Refusal → Whose → Result A (Whose × Refusal) → Type 0
+By a w r = MatchResult a (λ x. r ≡ Ok x) (λ x. r ≡ Err (w, x))
+
+pub by_mapped : {A : Type 0} (a : Result A Refusal) (r : Result A (Whose × Refusal)) (w : Whose) {P : Refusal → Whose × Refusal → Type 0}
+    → MatchResult a (λ x. r ≡ Ok x) (λ x. IsErrAnd r (P x)) → ((x : Refusal) (e : Whose × Refusal) → P x e → e ≡ (w, x)) → By a w r
+by_mapped (Ok x) r w cases says = cases
+by_mapped (Err x) r w cases says = let (e, is, p) = err_from_is_err_and r cases in is ∙ ap (λ y. Err y) (says x e p)
+
+pub accepted_by : {A : Type 0} (a : Result A Refusal) {r : Result A (Whose × Refusal)} (w : Whose) {x : A} → By a w r → r ≡ Ok x → a ≡ Ok x
+accepted_by (Ok y) w cases is = cc
+accepted_by (Err y) w cases is = absurd (let z : ◌≡◌ {A = ℕ} 0 1 = cc in omega arith)
+
+pub refused_as : {A : Type 0} (a : Result A Refusal) {r : Result A (Whose × Refusal)} {w : Whose} {e : Whose × Refusal} → By a w r → r ≡ Err e
+    → (x : Refusal) × (a ≡ Err x) × (e ≡ (w, x))
+refused_as (Ok y) cases is = absurd (let z : ◌≡◌ {A = ℕ} 0 1 = cc in omega arith)
+refused_as (Err x) cases is = (x, refl, cc)
+
+pub told_by : {o : defined.Grafted} {before after : List ℕ} {r x : Result ℕ (Whose × Refusal)} → FillsBy o before after r → r ≡ x → FillsBy o before after x
+told_by f e = rw e at f
 
 -- a part of bytes that others follow
 part_of : (a rest : List ℕ) (p n : ℕ) → p + n ≤ length a → take n (drop p (a ++ rest)) ≡ take n (drop p a)
@@ -130,15 +151,15 @@ module _ {s t : List ℕ} {h g : Sheet} (a : AcceptedSheet s h) (b : AcceptedShe
           ap (λ x. (layout_of x).end) o.header ∙ (layout_end o.sheet ∙ sym o.has.whole) in
           rw (o.is, e, size) (record { answer = refl; memory = o.memory }, f)
 
-  -- an answer of neither sheet
-  pub neither : {before after : List ℕ} {w : Result ℕ Refusal} {r : Merged} → Fills (graft s t k room) before after w
-      → ((o : Outcome (List ℕ)) → w ≡ written_of o → r ≡ merged_of (by Neither o merged)) → FillsBy (graft_answer s t k room) before after r
-  unfolding by filled filled_by
-  neither {before} {after} f e = rw by-graft (record { answered = e (graft s t k room) f.answer; memory = f.memory ∙ same (graft s t k room) })
+  -- an answer of neither sheet: the length, or the refusal
+  pub neither : {before after : List ℕ} {w : Result ℕ Refusal} {r : Result ℕ (Whose × Refusal)} → Fills (graft s t k room) before after w
+      → MatchResult w (λ n. r ≡ Ok n) (λ x. r ≡ Err (Neither, x)) → FillsBy (graft_answer s t k room) before after r
+  unfolding by filled filled_by written_of merged_of
+  neither {before} {after} {w} {r} f cases = rw by-graft (go (graft s t k room) f.answer f.memory)
     where
-      same : (o : Outcome (List ℕ)) → filled o before ≡ filled_by (by Neither o merged) before
-      same (refused x) = refl
-      same (accepted m) = refl
+      go : (o : Outcome (List ℕ)) → w ≡ written_of o → after ≡ filled o before → FillsBy (by Neither o merged) before after r
+      go (refused x) e m = record { answered = rw e at cases; memory = m }
+      go (accepted a) e m = record { answered = rw e at cases; memory = m }
 
   pub slots-of-neither : (slots : List ℕ) → slots_after (graft s t k room) slots ≡ slots_by (graft_answer s t k room) slots
   unfolding slots_after slots_by by
@@ -151,18 +172,18 @@ module _ {s t : List ℕ} {h g : Sheet} (a : AcceptedSheet s h) (b : AcceptedShe
 -- the host's refusal, and the donor's
 module _ (s t : List ℕ) (k room : ℕ) where
   pub host-refused : {x : Refusal} → admitted s ≡ refused x → (before slots : List ℕ)
-      → FillsBy (graft_answer s t k room) before before (Refused Host x) × (slots ≡ slots_by (graft_answer s t k room) slots)
+      → FillsBy (graft_answer s t k room) before before (Err (Host, x)) × (slots ≡ slots_by (graft_answer s t k room) slots)
   unfolding graft_answer by merged_of filled_by slots_by
   host-refused e before slots = rw e (record { answered = refl; memory = refl }, refl)
 
   pub donor-refused : {h : Sheet} → AcceptedSheet s h → {x : Refusal} → admitted t ≡ refused x → (before slots : List ℕ)
-      → FillsBy (graft_answer s t k room) before before (Refused Donor x) × (slots ≡ slots_by (graft_answer s t k room) slots)
+      → FillsBy (graft_answer s t k room) before before (Err (Donor, x)) × (slots ≡ slots_by (graft_answer s t k room) slots)
   unfolding graft_answer by merged_of filled_by slots_by
   donor-refused a e before slots = rw (a.root, e) (record { answered = refl; memory = refl }, refl)
 
   -- the bytes of an accepted answer are those of a sheet that merges the two
-  pub bytes-merge : Bytes s → Bytes t → {before after : List ℕ} {r : Merged} → FillsBy (graft_answer s t k room) before after r
-      → (n : ℕ) → r ≡ Length n → Merges s t k (take n after)
+  pub bytes-merge : Bytes s → Bytes t → {before after : List ℕ} {r : Result ℕ (Whose × Refusal)} → FillsBy (graft_answer s t k room) before after r
+      → (n : ℕ) → r ≡ Ok n → Merges s t k (take n after)
   unfolding merged_of filled_by
   bytes-merge s-bytes t-bytes {before} {after} {r} f n e = go (graft_answer s t k room) refl
     where
@@ -173,14 +194,3 @@ module _ (s t : List ℕ) (k room : ℕ) where
           let memory = rw is at f.memory in
           let long : length m ≡ n = cc in
           rw (memory, take_at m (drop (length m) before) n long) (answer_merges s t k room m s-bytes t-bytes is)
-
--- an answer after both sheets' refusals
-pub length_merged : {n : ℕ} (o : Outcome (List ℕ)) → Ok n ≡ written_of o → Length n ≡ merged_of (by Neither o merged)
-unfolding written_of merged_of by
-length_merged (accepted a) e = cc
-length_merged (refused r) e = cc
-
-pub refusal-merged : {x : Refusal} (o : Outcome (List ℕ)) → Err x ≡ written_of o → Refused Neither x ≡ merged_of (by Neither o merged)
-unfolding written_of merged_of by
-refusal-merged (accepted a) e = cc
-refusal-merged (refused r) e = cc

@@ -1,24 +1,24 @@
 -- The steps above a step by the table of sizes, and the nesting of a root by the table of nestings.
 use Prim.Native.Nat.{ℕ, suc, ◌+◌, ◌-◌, ◌≤◌, ◌<◌}
-use mathlib.Core.Path.{◌≡◌, refl, sym, ap, ◌∙◌}
+use mathlib.Core.Path.{◌≡◌, refl, sym, ◌∙◌}
 use mathlib.Core.Bool.{Bool, true, false, cond}
 use mathlib.Core.List.{List}
 use native.Mathlib.Omega.{arith}
 use native.Mathlib.Decide.{dec_lt}
 use native.Mathlib.Numerals.{add-one}
-use lib.ListN.{length, get_or, drop}
+use lib.ListN.{get_or, drop}
 use lib.Dec.{ltb}
 use borrow.Author.Tests.{lt-ltb, le-ltb}
-use Rattle.std.specs.Prelude.{Option, None, ℕ}
+use Rattle.std.specs.Int.{from_bool}
+use Rattle.std.specs.Prelude.{Option, None}
 use Rattle.definitions.specs.Sheet.{step_limit, tree_nesting_limit, names, steps, proposition_pairs, code_bytes, step_records, premiss_count}
-use Rattle.definitions.specs.Tree.{step_in, height, tree_in, tree_of, root_of}
+use Rattle.definitions.specs.Tree.{step_in, height, tree_of, root_of}
 use Rattle.definitions.specs.Admission.{deep_tree}
 use Rattle.writer_laws.proofs.Checks.{Checks, admitted_checks}
 use Rattle.graft_laws.specs.Levels.{above, above_in}
 use Rattle.graft_laws.proofs.Stack.{stack}
 use Rattle.graft_laws.proofs.GraftSheets.{steps_of, counts_of, as_stack, one_root}
 use Rattle.graft_laws.proofs.Above.{above_last, above_passed, above_taken, above_root}
-use Rattle.steps.specs.Size.{size}
 use Rattle.steps.specs.Tables.{SizeTable, HeightTable, FilledHeights, passed}
 use Rattle.steps.proofs.Premisses.{seam, tree_steps}
 use Rattle.sheet.specs.declared.header.Sheet.{Sheet}
@@ -31,6 +31,10 @@ pub record Counting (s : List ℕ) (k count j : ℕ) : Type 0 where
   pub later : k < j
   pub small : count ≤ j
   pub counted : count ≡ above_in k (stack (steps_of s) (counts_of s) j)
+
+one_if : (b : Bool) → from_bool b ≡ cond b 1 0
+one_if true = refl
+one_if false = refl
 
 -- Of an accepted sheet and a step:
 module _ {s : List ℕ} {h : Sheet} (a : AcceptedSheet s h) where
@@ -80,13 +84,13 @@ module _ {s : List ℕ} {h : Sheet} (a : AcceptedSheet s h) where
               rw (le-ltb j (k + get_or table j 0) (omega arith))
               (above_passed (steps_of s) (counts_of s) numbers k j p later below (omega arith) ∙ omega arith)
 
-      pub one_counted : {count j r : ℕ} → Counting s k count j → j < steps s → r ≡ cond (ltb j (k + get_or table j 0)) 1 0 → Counting s k (count + r) (j + 1)
+      pub one_counted : {count j r : ℕ} → Counting s k count j → j < steps s → r ≡ from_bool (ltb j (k + get_or table j 0)) → Counting s k (count + r) (j + 1)
       one_counted {count} {j} {r} c l e =
           record {
             reached = omega arith;
             later = omega (arith, c.later);
-            small = omega (arith, c.small, at_most_one (ltb j (k + get_or table j 0)));
-            counted = rw (add-one j, e, c.counted) (sym (next_counted j c.later l));
+            small = omega (arith, c.small, at_most_one (ltb j (k + get_or table j 0)), e, one_if (ltb j (k + get_or table j 0)));
+            counted = rw (add-one j, e, one_if, c.counted) (sym (next_counted j c.later l));
           }
         where
           at_most_one : (b : Bool) → cond b 1 0 ≤ 1

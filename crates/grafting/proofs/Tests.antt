@@ -1,22 +1,22 @@
 -- The tests of 26 and 27, and what they make of the answer.
 use Prim.Native.Nat.{ℕ, ◌+◌, ◌-◌, ◌≤◌, ◌<◌}
 use mathlib.Core.Path.{◌≡◌, refl, sym, ap, ◌∙◌}
-use mathlib.Core.Bool.{Bool, true, false, ◌||◌, not}
+use mathlib.Core.Bool.{Bool, true, false, not}
 use mathlib.Core.List.{List}
 use native.Mathlib.Omega.{arith}
 use lib.ListN.{length}
-use lib.Dec.{ltb, leb, eqb}
+use lib.Dec.{ltb, eqb}
 use borrow.Author.Tests.{le-leb, lt-leb, eq-eqb, ne_eqb}
-use Rattle.definitions.specs.Outcome.{Outcome, refused, accepted, refuse, refuse_if, ◌>>=◌}
+use Rattle.definitions.specs.Outcome.{refuse, refuse_if, ◌>>=◌}
 use Rattle.definitions.specs.Sheet.{step_size, name_limit, tree_nesting_limit, steps, step_records, rule_byte, premiss_count}
-use Rattle.definitions.specs.Tree.{height, root_of, Sorry}
+use Rattle.definitions.specs.Tree.{height, root_of}
 use Rattle.definitions.specs.Encode.{rule_number}
 use Rattle.definitions.specs.Equal.{eq_conclusion}
 use Rattle.definitions.specs.Answers.{named_conclusion}
 use Rattle.definitions.specs.NameIndex.{slot_count, index_of}
 use Rattle.definitions.specs.Graft.{not_open, differ, passes_limit, graft}
 use Rattle.graft_laws.specs.Levels.{above}
-use Rattle.graft_laws.proofs.MergedSheet.{Grafts, here}
+use Rattle.graft_laws.proofs.MergedSheet.{Grafts}
 use Rattle.graft_laws.proofs.MergedLevels.{merged_levels}
 use Rattle.output.specs.Written.{filled}
 use Rattle.vocabulary.specs.declared.Vocabulary.{Vocabulary}

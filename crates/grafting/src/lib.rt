@@ -2,22 +2,20 @@
 // has no premisses; or the first of the host's 1 to 11, the donor's, 26, 27, 28 and 16, and whose it is.
 #![tactic(auto)]
 
-ghost use Rattle.std.specs.Prelude.{◌≡◌, false, cond, List, ℕ, ◌+◌, ◌≤◌, ◌<◌, length, take, ltb};
+ghost use Rattle.std.specs.Prelude.{◌≡◌, false, ℕ, ◌+◌, ◌≤◌, ◌<◌, length, take, ltb, Ok};
 ghost use Rattle.definitions.specs.Sheet.{name_limit, tree_nesting_limit, names, steps, step_records};
 ghost use Rattle.definitions.specs.Tree.{height, root_of};
 ghost use Rattle.definitions.specs.NameIndex.{slot_count};
-ghost use Rattle.definitions.specs.Outcome.{Outcome};
-ghost use Rattle.definitions.specs.declared.Whose.TheVariants.{Neither};
-ghost use Rattle.definitions.specs.Graft.{not_open, graft, merged, by, graft_answer};
+ghost use Rattle.definitions.specs.Graft.{not_open, graft, graft_answer};
 ghost use Rattle.graft_laws.specs.Levels.{above};
 ghost use Rattle.graft_laws.specs.Merges.{Merges};
-ghost use Rattle.output.specs.Written.{written_of, Fills};
+ghost use Rattle.output.specs.Written.{Fills};
 ghost use Rattle.merged_names.specs.Numbered.{Numbered};
 ghost use Rattle.steps.specs.Tables.{SizeTable};
 ghost use Rattle.sheet.proofs.Admitted.{AcceptedSheet};
 ghost use Rattle.restating.specs.Slots.{slots_after};
 ghost use Rattle.merged_sheet.specs.Merging.{Merging};
-ghost use Rattle.grafting.specs.Answered.{equal_and_limited, merged_of, FillsBy, slots_by};
+ghost use Rattle.grafting.specs.Answered.{equal_and_limited, FillsBy, slots_by};
 
 use definitions::{Refusal, Whose};
 use equal_conclusions::same_conclusion;
@@ -29,13 +27,6 @@ use steps::{first_deep_tree, premiss_count, rule_byte};
 
 // The byte of the rule Sorry.
 const SORRY: u8 = 15;
-
-// The length of the merged sheet, or a refusal and whose it is.
-#[derive(Drop)]
-pub enum Merged {
-    Length(usize),
-    Refused(Whose, Refusal),
-}
 
 // 26: the host step is no Sorry without premisses.
 fn not_open(host: &[u8], h: Sheet, k: usize) -> bool
@@ -52,17 +43,6 @@ fn not_open(host: &[u8], h: Sheet, k: usize) -> bool
     premiss_count(records, k) != 0
 }
 
-// Whether the tree of step j, of a size, begins at step k or before it: 1 or 0.
-fn reaches(size: u16, j: usize, k: usize) -> usize
-    requires { k < 1024 }
-    ensures { result ≡ cond (ltb j (k + size)) 1 0 }
-{
-    if j < k + size as usize {
-        return 1;
-    }
-    0
-}
-
 // How many steps stand above step k: the later ones whose trees reach it.
 fn steps_above(host: &[u8], h: Sheet, sizes: &[u16; Sheet::STEP_LIMIT], k: usize) -> usize
     requires accepted_sheet { AcceptedSheet host.now h × (k < steps host.now) }
@@ -70,10 +50,8 @@ fn steps_above(host: &[u8], h: Sheet, sizes: &[u16; Sheet::STEP_LIMIT], k: usize
     ensures { (result ≡ above k (root_of host.now)) × (result ≤ 1024) }
 {
     let mut count = 0;
-    let mut j = k + 1;
-    while j < h.steps {
-        count += reaches(sizes[j], j, k);
-        j += 1;
+    for j in k + 1..h.steps {
+        count += usize::from(j < k + usize::from(sizes[j]));
     }
     count
 }
@@ -207,16 +185,9 @@ fn graft_indexed<'a>(
     ensures slots_after { slots.new ≡ slots_after
         (graft host.now donor.now k (length out.old)) slots.old }
 {
-    let merged = graft_accepted(host, h, host_sizes, k, donor, g, donor_sizes, out);
-    match merged {
-        Err(refusal) => {
-            return Err(refusal);
-        }
-        Ok(m) => {
-            build(slots, out, vocabulary(m));
-            return Ok(m.layout().end);
-        }
-    }
+    let m = graft_accepted(host, h, host_sizes, k, donor, g, donor_sizes, out)?;
+    build(slots, out, vocabulary(m));
+    Ok(m.layout().end)
 }
 
 // The donor's refusals, and then those of neither, of an accepted host.
@@ -228,7 +199,7 @@ fn graft_donor<'a>(
     donor: &'a [u8],
     slots: &mut [u16],
     out: &mut [u8],
-) -> Merged
+) -> Result<usize, (Whose, Refusal)>
     requires accepted_sheet { AcceptedSheet host.now h × (length slots.old ≡ slot_count) }
     requires size_table { SizeTable (step_records host.now) (steps host.now) host_sizes.now }
     ensures fills_by { FillsBy (graft_answer host.now donor.now k (length out.old))
@@ -237,26 +208,9 @@ fn graft_donor<'a>(
         (graft_answer host.now donor.now k (length out.old)) slots.old }
 {
     let mut donor_sizes = [0u16; Sheet::STEP_LIMIT];
-    let checked = check(donor, &mut donor_sizes);
-    match checked {
-        Err(refusal) => {
-            return Merged::Refused(Whose::Donor, refusal);
-        }
-        Ok(g) => {
-            let written = graft_indexed(host, h, host_sizes, k, donor, g, &donor_sizes, slots, out);
-            return by_neither(written);
-        }
-    }
-}
-
-// An answer after both sheets' refusals.
-fn by_neither(written: Result<usize, Refusal>) -> Merged
-    ensures { (o : Outcome (List ℕ)) → written ≡ written_of o → result ≡ merged_of (by Neither o merged) }
-{
-    match written {
-        Ok(length) => Merged::Length(length),
-        Err(refusal) => Merged::Refused(Whose::Neither, refusal),
-    }
+    let g = check(donor, &mut donor_sizes).map_err(|refusal| (Whose::Donor, refusal))?;
+    let written = graft_indexed(host, h, host_sizes, k, donor, g, &donor_sizes, slots, out);
+    written.map_err(|refusal| (Whose::Neither, refusal))
 }
 
 // The donor's steps in place of step k of the host. The slots are the index of the merged sheet's names, or what they were where
@@ -267,22 +221,15 @@ pub fn graft<'a>(
     donor: &'a [u8],
     slots: &mut [u16; SLOT_COUNT],
     out: &mut [u8],
-) -> Merged
+) -> Result<usize, (Whose, Refusal)>
     ensures fills_by { FillsBy (graft_answer host.now donor.now k (length out.old))
         out.old out.new result }
     ensures slots_after { slots.new ≡ slots_by
         (graft_answer host.now donor.now k (length out.old)) slots.old }
-    ensures by_index { (n : ℕ) → result ≡ Merged.Length n
+    ensures by_index { (n : ℕ) → result ≡ Ok n
         → Merges host.now donor.now k (take n out.new) }
 {
     let mut host_sizes = [0u16; Sheet::STEP_LIMIT];
-    let checked = check(host, &mut host_sizes);
-    match checked {
-        Err(refusal) => {
-            return Merged::Refused(Whose::Host, refusal);
-        }
-        Ok(h) => {
-            return graft_donor(host, h, &host_sizes, k, donor, slots, out);
-        }
-    }
+    let h = check(host, &mut host_sizes).map_err(|refusal| (Whose::Host, refusal))?;
+    graft_donor(host, h, &host_sizes, k, donor, slots, out)
 }

@@ -1,7 +1,7 @@
 -- No restated sheet, no merged one and no code of an exercise is longer than the longest: in that room each is whole.
-use Prim.Native.Nat.{ℕ, ◌≤◌, ◌<◌}
-use mathlib.Core.Path.{◌≡◌, refl, sym, ap, ◌∙◌}
-use mathlib.Core.Bool.{Bool, true, false, ◌||◌, true≢false}
+use Prim.Native.Nat.{ℕ, ◌≤◌}
+use mathlib.Core.Path.{◌≡◌, refl, ap, ◌∙◌}
+use mathlib.Core.Bool.{Bool, true, false, ◌||◌}
 use mathlib.Core.List.{List}
 use native.Mathlib.Omega.{arith}
 use lib.ListN.{length, get_or}
@@ -11,7 +11,7 @@ use Rattle.definitions.specs.declared.Whose.TheVariants.{Neither}
 use Rattle.definitions.specs.Outcome.{Outcome, accepted, refused, refuse, ◌>>=◌, refuse_if}
 use Rattle.definitions.specs.Prop.{Prop, True}
 use Rattle.definitions.specs.Code.{encode}
-use Rattle.definitions.specs.Sheet.{header_size, pair_size, name_limit, proposition_limit, step_size, step_limit, text_limit, code_limit, text_length, names, code_length, propositions, steps, name_pairs_start, proposition_pairs_start, steps_start, text_start, code_start, sheet_length}
+use Rattle.definitions.specs.Sheet.{header_size, pair_size, name_limit, proposition_limit, step_size, step_limit, text_limit, code_limit, name_pairs_start, proposition_pairs_start, steps_start, text_start, code_start, sheet_length}
 use Rattle.definitions.specs.Tree.{ProofTree}
 use Rattle.definitions.specs.Admission.{admitted}
 use Rattle.definitions.specs.Answers.{is_in_room}

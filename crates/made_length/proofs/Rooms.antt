@@ -1,6 +1,6 @@
 -- An answer in a room is the whole one, cut by the room alone.
 use Prim.Native.Nat.{ℕ}
-use mathlib.Core.Path.{◌≡◌, refl, sym, ap, ◌∙◌}
+use mathlib.Core.Path.{◌≡◌, refl, ap, ◌∙◌}
 use mathlib.Core.Bool.{Bool, true, false, ◌||◌}
 use mathlib.Core.List.{List}
 use lib.ListN.{length, get_or}
@@ -13,7 +13,7 @@ use Rattle.definitions.specs.Admission.{admitted}
 use Rattle.definitions.specs.Answers.{is_in_room}
 use Rattle.definitions.specs.CallerNames.{names_in}
 use Rattle.definitions.specs.Exercises.{connective_limit, exercises, bad_names, exercise_answer}
-use Rattle.definitions.specs.Graft.{Grafted, refused_by, merged, by, not_open, differ, passes_limit, merged_sheet, graft, graft_answer}
+use Rattle.definitions.specs.Graft.{merged, by, not_open, differ, passes_limit, merged_sheet, graft, graft_answer}
 use Rattle.made_length.specs.Whole.{merges, whole_graft, graft_in_room, whole_exercise}
 
 -- a test before the room is one before the answer

@@ -9,9 +9,9 @@ ghost use Rattle.restating.specs.Step.{given_of};
 ghost use Rattle.grafting.specs.Answered.{merged_of};
 ghost use Rattle.made_length.specs.Whole.{whole_graft, whole_exercise};
 
-use definitions::Refusal;
+use definitions::{Refusal, Whose};
 use exercises::exercise;
-use grafting::{Merged, graft};
+use grafting::graft;
 use name_index::SLOT_COUNT;
 use restating::{Given, restate};
 use sheet::Sheet;
@@ -29,7 +29,11 @@ pub fn restate_length(s: &[u8], given: Given) -> Result<usize, Refusal>
 }
 
 // How long the sheet of a graft is, or the refusal and whose it is.
-pub fn graft_length<'a>(host: &'a [u8], k: usize, donor: &'a [u8]) -> Merged
+pub fn graft_length<'a>(
+    host: &'a [u8],
+    k: usize,
+    donor: &'a [u8],
+) -> Result<usize, (Whose, Refusal)>
     ensures { result ≡ merged_of (whole_graft host.now donor.now k) }
 {
     let mut slots = [0u16; SLOT_COUNT];

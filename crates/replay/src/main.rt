@@ -9,7 +9,7 @@ use definitions::{Located, Style, Whose};
 use name_index::{FREE, SLOT_COUNT};
 use number::number_at;
 use restating::Given;
-use skriduhol::{Grafted, Searched, Verdict};
+use skriduhol::Searched;
 use skriduhol_terms::Judged;
 use std::{fs, io};
 use term_reader::TermSize;
@@ -189,11 +189,10 @@ fn count_result(count: Result<usize, Located>) -> Answer {
     }
 }
 
-fn verdict_result(verdict: Verdict) -> Answer {
+fn verdict_result(verdict: Result<bool, Located>) -> Answer {
     match verdict {
-        Verdict::Yes => accepted(1),
-        Verdict::No => accepted(0),
-        Verdict::Refused(located) => refused(located),
+        Ok(same) => accepted(usize::from(same)),
+        Err(located) => refused(located),
     }
 }
 
@@ -588,13 +587,13 @@ fn whose_number(whose: Whose) -> usize {
     }
 }
 
-fn grafted_result(grafted: Grafted) -> GraftResult {
+fn grafted_result(grafted: Result<usize, (Whose, Located)>) -> GraftResult {
     match grafted {
-        Grafted::Length(length) => GraftResult {
+        Ok(length) => GraftResult {
             result: accepted(length),
             whose: 0,
         },
-        Grafted::Refused(whose, located) => GraftResult {
+        Err((whose, located)) => GraftResult {
             result: refused(located),
             whose: whose_number(whose),
         },

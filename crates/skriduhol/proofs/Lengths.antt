@@ -21,15 +21,12 @@ use Rattle.definitions.specs.Restate.{Given, restated, restate_answer}
 use Rattle.std.specs.Prelude.{Result, Err, Ok, ℕ}
 use Rattle.output.specs.Written.{written_of}
 use Rattle.proof_term_lists.specs.Numbers.{list_numbers}
-use Rattle.grafting.specs.declared.Merged.{Merged}
-use Rattle.grafting.specs.declared.Merged.TheVariants as merging
 use Rattle.grafting.specs.Answered.{merged_of, filled_by, FillsBy}
 use Rattle.made_length.specs.Whole.{whole_graft, whole_exercise}
 use Rattle.made_length.proofs.Rooms.{graft_in_room_lem, exercise_in_room}
 use Rattle.made_length.proofs.Enough.{merged_whole}
 use Rattle.located.specs.AfterHeader.{AfterHeader}
 use Rattle.located.proofs.AfterHeader.{text_after_header, list_after_header, restatement_after_header}
-use Rattle.skriduhol.specs.declared.Grafted.TheVariants as handed
 use Rattle.skriduhol.specs.Asked.{asked_of}
 use Rattle.skriduhol.specs.Located.{filled_of}
 use Rattle.skriduhol.specs.Grafts.{grafted_of}
@@ -85,30 +82,34 @@ module _ (s : List ℕ) {w : Result ℕ Refusal} {r : Refusal} where
   list_locatable list is e = list_after_header s (list_numbers list) 0 (length_refused (map_outcome (list_numbers list) (sheet_term s)) is e)
 
 -- Of two sheets and a step of the first, by what the layer below answers:
-module _ (h d : List ℕ) (k : ℕ) {m : Merged} (is : m ≡ merged_of (whole_graft h d k)) where
+module _ (h d : List ℕ) (k : ℕ) {m : Result ℕ (Whose × Refusal)} (is : m ≡ merged_of (whole_graft h d k)) where
   -- so it answers in the room of the longest sheet, whatever is lent
   as_filled : Bytes h → Bytes d → FillsBy (graft_answer h d k 40972) [] (filled_by (graft_answer h d k 40972) []) m
   as_filled host_bytes donor_bytes = record { answered = is ∙ ap merged_of (sym (merged_whole h d k host_bytes donor_bytes)); memory = refl }
 
-  pub graft_locatable : Bytes h → Bytes d → {w : Whose} {x : Refusal} → m ≡ merging.Refused w x
+  pub graft_locatable : Bytes h → Bytes d → {w : Whose} {x : Refusal} → m ≡ Err (w, x)
       → (w ≡ Host → AfterHeader h x) × (w ≡ Donor → AfterHeader d x)
   graft_locatable host_bytes donor_bytes e = after_headers h d k 40972 (as_filled host_bytes donor_bytes) e
 
-  pub graft_measured : {n : ℕ} → m ≡ merging.Length n → MeasuresGraft h d k (handed.Length n)
+  pub graft_measured : {n : ℕ} → m ≡ Ok n → MeasuresGraft h d k (Ok n)
   unfolding grafted_of merged_of
   graft_measured {n} e = record { told = go (whole_graft h d k) is; in_room = graft_in_room_lem h d k }
     where
-      go : (o : graft.Grafted) → m ≡ merged_of o → handed.Length n ≡ grafted_of h d o
+      go : (o : graft.Grafted) → m ≡ merged_of o → Ok n ≡ grafted_of h d o
       go (refused_by v y) g = absurd (let z : ◌≡◌ {A = ℕ} 0 1 = cc in omega arith)
       go (merged a) g = cc
 
-  pub graft_unmeasured : {w : Whose} {x : Refusal} {l : Located} → m ≡ merging.Refused w x → l ≡ located_by h d w x
-      → MeasuresGraft h d k (handed.Refused w l)
+  pub graft_unmeasured : {w : Whose} {x : Refusal} {l : Located} → m ≡ Err (w, x) → l ≡ located_by h d w x
+      → MeasuresGraft h d k (Err (w, l))
   unfolding grafted_of merged_of
   graft_unmeasured {w} {x} {l} e at = record { told = go (whole_graft h d k) is; in_room = graft_in_room_lem h d k }
     where
-      go : (o : graft.Grafted) → m ≡ merged_of o → handed.Refused w l ≡ grafted_of h d o
-      go (refused_by v y) g = let same : w ≡ v = cc in let other : x ≡ y = cc in rw (at, same, other)
+      go : (o : graft.Grafted) → m ≡ merged_of o → Err (w, l) ≡ grafted_of h d o
+      go (refused_by v y) g =
+          let both : ◌≡◌ {A = Whose × Refusal} (w, x) (v, y) = cc in
+          let same : w ≡ v = ap (λ (p : Whose × Refusal). p.0) both in
+          let other : x ≡ y = ap (λ (p : Whose × Refusal). p.1) both in
+          rw (at, same, other)
       go (merged a) g = absurd (let z : ◌≡◌ {A = ℕ} 0 1 = cc in omega arith)
 
 -- Of an exercise, by what the layer below answers:

@@ -6,7 +6,7 @@ use Rattle.definitions.specs.Term.{atom_list, datatype_list}
 use Rattle.definitions.specs.Answers.{atom_numbers, is_in_room, version_of, sheet_term, sheet_text}
 use Rattle.definitions.specs.Graft.{graft_answer}
 use Rattle.made_length.specs.Whole.{whole_graft, graft_in_room}
-use Rattle.skriduhol.specs.declared.Grafted.{Grafted}
+use Rattle.definitions.specs.declared.Whose.{Whose}
 use Rattle.skriduhol.specs.Located.{filled_of}
 use Rattle.skriduhol.specs.Grafts.{grafted_of}
 use Rattle.definitions.specs.declared.Located.{Located}
@@ -34,6 +34,6 @@ module _ (s : List ℕ) where
     pub in_room : (room : ℕ) → answer room ≡ is_in_room room whole
 
 -- the same of a graft, and whose a refusal is
-pub record MeasuresGraft (h d : List ℕ) (k : ℕ) (r : Grafted) : Type 0 where
+pub record MeasuresGraft (h d : List ℕ) (k : ℕ) (r : Result ℕ (Whose × Located)) : Type 0 where
   pub told : r ≡ grafted_of h d (whole_graft h d k)
   pub in_room : (room : ℕ) → graft_answer h d k room ≡ graft_in_room room (whole_graft h d k)

@@ -1,10 +1,8 @@
 -- Each answer as it is handed back: a refusal with its column.
-use Rattle.std.specs.Prelude.{ℕ, ◌≡◌, Bool, true, false, List, length, Err, Ok, Result}
+use Rattle.std.specs.Prelude.{ℕ, ◌≡◌, Bool, List, length, Err, Ok, Result}
 use Rattle.definitions.specs.Outcome.{Outcome, accepted, refused}
 use Rattle.definitions.specs.Answers.{located}
 use Rattle.output.specs.Written.{filled}
-use Rattle.skriduhol.specs.declared.Verdict.{Verdict}
-use Rattle.skriduhol.specs.declared.Verdict.TheVariants as verdict
 use Rattle.definitions.specs.declared.Located.{Located}
 
 -- Of a sheet's bytes:
@@ -22,7 +20,6 @@ module _ (s : List ℕ) where
   count_of (accepted n) = Ok n
   count_of (refused r) = Err (located s r)
 
-  unfoldable pub verdict_of : Outcome Bool → Verdict
-  verdict_of (accepted true) = verdict.Yes
-  verdict_of (accepted false) = verdict.No
-  verdict_of (refused r) = verdict.Refused (located s r)
+  unfoldable pub verdict_of : Outcome Bool → Result Bool Located
+  verdict_of (accepted same) = Ok same
+  verdict_of (refused r) = Err (located s r)

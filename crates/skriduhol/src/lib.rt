@@ -30,9 +30,7 @@ ghost use Rattle.skriduhol.specs.Grafts.{GraftsOf};
 ghost use Rattle.skriduhol.specs.Board.{Prints};
 ghost use Rattle.skriduhol.specs.Searched.{searched_of, plain_answer};
 
-use alpha_eq::Answer;
 use definitions::{Located, Refusal, Style, TermList, Version, Whose};
-use grafting::Merged;
 use list_length::list_length;
 use located::{locate, put_refusal};
 use name_index::SLOT_COUNT;
@@ -42,27 +40,12 @@ use sheet::{Sheet, check_header, vocabulary};
 use sheet_term::{SheetTerm, TERM_NUMBERS, sheet_term};
 use text::{sheet_text_length, text};
 
-// A comparison, or a refusal with its column.
-#[derive(Drop)]
-pub enum Verdict {
-    Yes,
-    No,
-    Refused(Located),
-}
-
 // What a search for a name answers: the lowest number of its bytes, or that there is none; or a refusal with its column.
 #[derive(Drop)]
 pub enum Searched {
     At(usize),
     Nowhere,
     Refused(Located),
-}
-
-// The length of a merged sheet in lent memory, or a refusal with its column and whose it is.
-#[derive(Drop)]
-pub enum Grafted {
-    Length(usize),
-    Refused(Whose, Located),
 }
 
 // An answer in lent memory as it is handed back.
@@ -247,14 +230,12 @@ pub fn label_count(s: &[u8]) -> Result<usize, Located>
 }
 
 // The comparison of two steps' conclusions.
-pub fn compare(s: &[u8], i: usize, j: usize) -> Verdict
+pub fn compare(s: &[u8], i: usize, j: usize) -> Result<bool, Located>
     ensures { result ≡ verdict_of s.now (comparison s.now i j) }
 {
-    let answer = comparison::compare(s, i, j);
-    match answer {
-        Answer::Yes => Verdict::Yes,
-        Answer::No => Verdict::No,
-        Answer::Refused(refusal) => Verdict::Refused(locate(s, refusal)),
+    match comparison::compare(s, i, j) {
+        Ok(same) => Ok(same),
+        Err(refusal) => Err(locate(s, refusal)),
     }
 }
 
@@ -306,33 +287,31 @@ pub fn graft<'a>(
     donor: &'a [u8],
     slots: &mut [u16; SLOT_COUNT],
     out: &mut [u8],
-) -> Grafted
+) -> Result<usize, (Whose, Located)>
     ensures grafts_of { GraftsOf host.now donor.now
         (graft_answer host.now donor.now k (length out.old)) out.old out.new result }
     ensures slots_after { slots.new ≡ slots_by
         (graft_answer host.now donor.now k (length out.old)) slots.old }
-    ensures by_index { (n : ℕ) → result ≡ Grafted.Length n
+    ensures by_index { (n : ℕ) → result ≡ Ok n
         → Merges host.now donor.now k (take n out.new) }
 {
-    let merged = grafting::graft(host, k, donor, slots, out);
-    match merged {
-        Merged::Length(length) => Grafted::Length(length),
-        Merged::Refused(whose, refusal) => {
-            Grafted::Refused(whose, locate_by(host, donor, whose, refusal))
-        }
+    match grafting::graft(host, k, donor, slots, out) {
+        Ok(merged) => Ok(merged),
+        Err((whose, refusal)) => Err((whose, locate_by(host, donor, whose, refusal))),
     }
 }
 
 // How long the merged sheet is.
-pub fn graft_length<'a>(host: &'a [u8], k: usize, donor: &'a [u8]) -> Grafted
+pub fn graft_length<'a>(
+    host: &'a [u8],
+    k: usize,
+    donor: &'a [u8],
+) -> Result<usize, (Whose, Located)>
     ensures { MeasuresGraft host.now donor.now k result }
 {
-    let merged = made_length::graft_length(host, k, donor);
-    match merged {
-        Merged::Length(bytes) => Grafted::Length(bytes),
-        Merged::Refused(whose, refusal) => {
-            Grafted::Refused(whose, locate_by(host, donor, whose, refusal))
-        }
+    match made_length::graft_length(host, k, donor) {
+        Ok(length) => Ok(length),
+        Err((whose, refusal)) => Err((whose, locate_by(host, donor, whose, refusal))),
     }
 }
 

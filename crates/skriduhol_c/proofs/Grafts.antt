@@ -1,6 +1,6 @@
 -- A graft handed over: its length, or its refusal by its parts and whose it is.
 use Prim.Native.Nat.{ℕ}
-use mathlib.Core.Path.{◌≡◌, refl}
+use mathlib.Core.Path.{◌≡◌, refl, ap}
 use mathlib.Core.List.{List}
 use native.Mathlib.Omega.{arith}
 use lib.ListN.{length}
@@ -11,9 +11,8 @@ use Rattle.definitions.specs.declared.Whose.TheVariants.{Neither, Host, Donor}
 use Rattle.definitions.specs.Answers.{located}
 use Rattle.definitions.specs.Graft as graft
 use Rattle.definitions.specs.Graft.{refused_by, merged, graft_answer, located_by}
-use Rattle.skriduhol.specs.declared.Grafted.{Grafted}
-use Rattle.skriduhol.specs.declared.Grafted.TheVariants.{Length, Refused}
 use Rattle.skriduhol.specs.Grafts.{grafted_of, GraftsOf}
+use Rattle.std.specs.Prelude.{Result, Ok, Err}
 use Rattle.skriduhol.specs.Lengths.{MeasuresGraft}
 use Rattle.skriduhol_c.specs.Handed.{HandsRefusal}
 use Rattle.skriduhol_c.specs.Grafts.{whose_number, number_by, value_by, whose_by, column_by, HandsBy, HandsGrafted, HandsGraftLength}
@@ -26,18 +25,19 @@ refusal_of h d Host r = refl
 refusal_of h d Donor r = refl
 
 -- Of what is answered of a graft:
-module _ (h d : List ℕ) {r : Grafted} where
-  pub length_handed : {n : ℕ} → r ≡ Length n → (o : graft.Grafted) → r ≡ grafted_of h d o → HandsBy h d o n 0 0 0
+module _ (h d : List ℕ) {r : Result ℕ (Whose × Located)} where
+  pub length_handed : {n : ℕ} → r ≡ Ok n → (o : graft.Grafted) → r ≡ grafted_of h d o → HandsBy h d o n 0 0 0
   unfolding number_by value_by whose_by column_by grafted_of
   length_handed e (refused_by w x) g = absurd (let z : ◌≡◌ {A = ℕ} 0 1 = cc in omega arith)
   length_handed e (merged m) g = record { number = refl; said = cc; drawn = refl; by = refl }
 
-  pub refusal_handed : {w : Whose} {l : Located} {value column whose result : ℕ} → r ≡ Refused w l → HandsRefusal l value column result
+  pub refusal_handed : {w : Whose} {l : Located} {value column whose result : ℕ} → r ≡ Err (w, l) → HandsRefusal l value column result
       → whose ≡ whose_number w → (o : graft.Grafted) → r ≡ grafted_of h d o → HandsBy h d o value column whose result
   unfolding number_by value_by whose_by column_by grafted_of
   refusal_handed {w} {l} e parts by-whom (refused_by v x) g =
-      let same : w ≡ v = cc in
-      let place : l ≡ located_by h d v x = cc in
+      let both : ◌≡◌ {A = Whose × Located} (w, l) (v, located_by h d v x) = cc in
+      let same : w ≡ v = ap (λ (p : Whose × Located). p.0) both in
+      let place : l ≡ located_by h d v x = ap (λ (p : Whose × Located). p.1) both in
       let is = refusal_of h d v x in
       let number = parts.number in
       let value-is = parts.place in
@@ -46,7 +46,7 @@ module _ (h d : List ℕ) {r : Grafted} where
   refusal_handed e parts by-whom (merged m) g = absurd (let z : ◌≡◌ {A = ℕ} 0 1 = cc in omega arith)
 
 -- Of two sheets, a step of the first, and what is handed over:
-module _ (h d : List ℕ) (k : ℕ) {r : Grafted} {value column whose result : ℕ}
+module _ (h d : List ℕ) (k : ℕ) {r : Result ℕ (Whose × Located)} {value column whose result : ℕ}
     (hands : (h d : List ℕ) (o : graft.Grafted) → r ≡ grafted_of h d o → HandsBy h d o value column whose result) where
   -- a graft in lent memory
   pub grafts : {before after : List ℕ} → GraftsOf h d (graft_answer h d k (length before)) before after r

@@ -9,7 +9,6 @@ use Rattle.definitions.specs.declared.Refusal.{Refusal}
 use Rattle.definitions.specs.declared.Located.{Located}
 use Rattle.definitions.specs.Outcome.{Outcome, accepted, refused}
 use Rattle.definitions.specs.Answers.{located}
-use Rattle.skriduhol.specs.declared.Verdict.TheVariants as verdict
 use Rattle.skriduhol.specs.declared.Searched.TheVariants as searched
 use Rattle.skriduhol.specs.Searched.{searched_of}
 use Rattle.skriduhol.specs.Located.{filled_of, FillsOf, count_of, verdict_of}
@@ -57,22 +56,14 @@ module _ (s : List ℕ) where
   count_refused (accepted n) e = record { refusal = record { number = 0; place = 0 }; is = cc; at = cc }
   count_refused (refused r) e = record { refusal = r; is = refl; at = cc }
 
-  pub verdict_yes : (o : Outcome Bool) → verdict.Yes ≡ verdict_of s o → o ≡ accepted true
+  pub verdict_accepted : {same : Bool} (o : Outcome Bool) → Ok same ≡ verdict_of s o → o ≡ accepted same
   unfolding verdict_of
-  verdict_yes (accepted true) e = refl
-  verdict_yes (accepted false) e = cc
-  verdict_yes (refused r) e = cc
+  verdict_accepted (accepted b) e = cc
+  verdict_accepted (refused r) e = cc
 
-  pub verdict_no : (o : Outcome Bool) → verdict.No ≡ verdict_of s o → o ≡ accepted false
+  pub verdict_refused : {l : Located} (o : Outcome Bool) → Err l ≡ verdict_of s o → RefusedAs s o l
   unfolding verdict_of
-  verdict_no (accepted true) e = cc
-  verdict_no (accepted false) e = refl
-  verdict_no (refused r) e = cc
-
-  pub verdict_refused : {l : Located} (o : Outcome Bool) → verdict.Refused l ≡ verdict_of s o → RefusedAs s o l
-  unfolding verdict_of
-  verdict_refused (accepted true) e = record { refusal = record { number = 0; place = 0 }; is = cc; at = cc }
-  verdict_refused (accepted false) e = record { refusal = record { number = 0; place = 0 }; is = cc; at = cc }
+  verdict_refused (accepted b) e = record { refusal = record { number = 0; place = 0 }; is = cc; at = cc }
   verdict_refused (refused r) e = record { refusal = r; is = refl; at = cc }
 
   pub number_found : {i : ℕ} (o : Outcome (Option ℕ)) → searched.At i ≡ searched_of s o → o ≡ accepted (Some i)

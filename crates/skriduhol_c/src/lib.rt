@@ -32,7 +32,7 @@ ghost use Rattle.skriduhol_c.specs.TermsRead.{HandsSizes, HandsRead, HandsReadLe
 use definitions::{Located, Style, Whose};
 use name_index::{FREE, SLOT_COUNT};
 use restating::Given;
-use skriduhol::{BOARD_ROOM, Grafted, Searched, Verdict};
+use skriduhol::{BOARD_ROOM, Searched};
 use skriduhol_terms::Judged;
 use term_reader::TermSize;
 
@@ -317,21 +317,13 @@ pub extern "C" fn skriduhol_compare(
 ) -> u8
     ensures { Hands yes_or_no sheet.now (comparison sheet.now i j) value.new column.new result }
 {
-    let verdict = skriduhol::compare(sheet, i, j);
-    match verdict {
-        Verdict::Yes => {
-            *value = 1;
+    match skriduhol::compare(sheet, i, j) {
+        Ok(same) => {
+            *value = usize::from(same);
             *column = 0;
-            return 0;
+            0
         }
-        Verdict::No => {
-            *value = 0;
-            *column = 0;
-            return 0;
-        }
-        Verdict::Refused(located) => {
-            return hand_refusal(located, value, column);
-        }
+        Err(located) => hand_refusal(located, value, column),
     }
 }
 
@@ -399,20 +391,25 @@ fn whose_number(whose: Whose) -> usize
 }
 
 // The length of a merged sheet is the value; a refusal says whose it is.
-fn hand_grafted(grafted: Grafted, value: &mut usize, column: &mut usize, whose: &mut usize) -> u8
+fn hand_grafted(
+    grafted: Result<usize, (Whose, Located)>,
+    value: &mut usize,
+    column: &mut usize,
+    whose: &mut usize,
+) -> u8
     ensures { (h d : List ℕ) (o : graft.Grafted) → grafted ≡ grafted_of h d o
         → HandsBy h d o value.new column.new whose.new result }
 {
     match grafted {
-        Grafted::Length(merged) => {
+        Ok(merged) => {
             *value = merged;
             *column = 0;
             *whose = 0;
-            return 0;
+            0
         }
-        Grafted::Refused(by, located) => {
+        Err((by, located)) => {
             *whose = whose_number(by);
-            return hand_refusal(located, value, column);
+            hand_refusal(located, value, column)
         }
     }
 }

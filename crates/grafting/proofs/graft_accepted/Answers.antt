@@ -1,8 +1,6 @@
 -- 26, and then the others.
-use Prim.Native.Nat.{ℕ}
 use mathlib.Core.Path.{sym, ◌∙◌}
 use native.Mathlib.Omega.{arith}
-use borrow.Author.Rules.{rules}
 use Rattle.graft_laws.proofs.MergedSheet.{Grafts, here}
 use Rattle.merged_sheet.proofs.Bytes.{grafts}
 use Rattle.grafting.proofs.Tests.{not_open_refused, open_grafted}

@@ -1,7 +1,5 @@
 -- 27, and then the merged sheet.
 use native.Mathlib.Omega.{arith}
-use borrow.Author.Rules.{rules}
-use borrow.Author.Tests.{not-true, not-false}
 use Rattle.definitions.specs.Sheet.{name_limit}
 use Rattle.graft_laws.proofs.MergedSheet.{Grafts, here}
 use Rattle.merged_sheet.proofs.Bytes.{grafts}

@@ -1,5 +1,4 @@
 -- Each sheet has its index beside it; the host grafted into itself has its own lowest numbers.
-use native.Mathlib.Omega.{arith}
 use borrow.Author.Rules.{rules}
 use Rattle.definitions.specs.NameIndex.{slot_count}
 use Rattle.sheet.proofs.Admitted.{its_header}

@@ -1,6 +1,5 @@
 -- The nesting of the root is the last of the table of nestings.
 use native.Mathlib.Omega.{arith}
-use borrow.Author.Rules.{rules}
 use Rattle.definitions.specs.Sheet.{step_limit, tree_nesting_limit}
 use Rattle.sheet.proofs.Admitted.{its_header}
 use Rattle.restating.proofs.Tests.{some_step, few_steps, all_steps, sizes_known}

@@ -1,6 +1,5 @@
 -- The steps above and the donor's levels are added.
 use native.Mathlib.Omega.{arith}
-use borrow.Author.Rules.{rules}
 use Rattle.definitions.specs.Sheet.{tree_nesting_limit}
 use Rattle.grafting.proofs.too_deep.Goals as goal
 

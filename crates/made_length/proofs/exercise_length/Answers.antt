@@ -1,8 +1,7 @@
 -- The code fills memory that has room for the longest.
 use Prim.Native.Nat.{ℕ}
-use mathlib.Core.Path.{◌≡◌, ap, ◌∙◌}
+use mathlib.Core.Path.{ap, ◌∙◌}
 use lib.ListN.{length-replicate}
-use borrow.Author.Rules.{rules}
 use Rattle.definitions.specs.Exercises.{exercise_answer}
 use Rattle.output.specs.Written.{written_of}
 use Rattle.made_length.proofs.Rooms.{exercise_in_room}

@@ -1,9 +1,8 @@
 -- The merged sheet fills memory that has room for the longest.
 use Prim.Native.Nat.{ℕ}
-use mathlib.Core.Path.{◌≡◌, ap, ◌∙◌}
+use mathlib.Core.Path.{ap, ◌∙◌}
 use native.Mathlib.Omega.{arith}
 use lib.ListN.{length-replicate}
-use borrow.Author.Rules.{rules}
 use Rattle.definitions.specs.Graft.{graft_answer}
 use Rattle.definitions.proofs.PrefixCode.{Bytes}
 use Rattle.grafting.specs.Answered.{merged_of}

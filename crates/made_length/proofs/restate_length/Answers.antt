@@ -1,8 +1,7 @@
 -- The new sheet fills memory that has room for the longest.
 use Prim.Native.Nat.{ℕ}
-use mathlib.Core.Path.{◌≡◌, ap, ◌∙◌}
+use mathlib.Core.Path.{ap, ◌∙◌}
 use lib.ListN.{length-replicate}
-use borrow.Author.Rules.{rules}
 use Rattle.definitions.specs.Restate.{restate_answer}
 use Rattle.output.specs.Written.{written_of}
 use Rattle.restating.specs.Step.{given_of}

@@ -4,21 +4,21 @@ use borrow.Author.Rules.{rules}
 use Rattle.definitions.proofs.PrefixCode.{Bytes}
 use Rattle.skriduhol.proofs.Lengths.{graft_locatable, graft_measured, graft_unmeasured}
 use Rattle.skriduhol.proofs.graft_length.Goals as goal
-use Rattle.skriduhol.proofs.graft_length.Goals.{After-graft_length-merged}
+use Rattle.skriduhol.proofs.graft_length.Goals.{After-graft_length}
 
-host_bytes : (c : After-graft_length-merged) → Bytes c.args.host.now
+host_bytes : (c : After-graft_length) → Bytes c.args.host.now
 host_bytes c = λ i. omega (arith, c.type_inv.host i)
 
-donor_bytes : (c : After-graft_length-merged) → Bytes c.args.donor.now
+donor_bytes : (c : After-graft_length) → Bytes c.args.donor.now
 donor_bytes c = λ i. omega (arith, c.type_inv.donor i)
 
 pub locate_by-requires : goal.locate_by-requires
 locate_by-requires c =
-    graft_locatable _ _ _ c.graft_length-merged.ensures (host_bytes (goal.at.locate_by-requires c).After-graft_length-merged) (donor_bytes (goal.at.locate_by-requires c).After-graft_length-merged) c.in-Refused.is
+    graft_locatable _ _ _ c.graft_length.ensures (host_bytes (goal.at.locate_by-requires c).After-graft_length) (donor_bytes (goal.at.locate_by-requires c).After-graft_length) c.in-Err.is
 
-pub returns-in-Length : goal.returns-in-Length
-returns-in-Length c = graft_measured _ _ _ c.graft_length-merged.ensures c.in-Length.is
+pub returns-in-Ok : goal.returns-in-Ok
+returns-in-Ok c = graft_measured _ _ _ c.graft_length.ensures c.in-Ok.is
 
-pub returns-in-Refused : goal.returns-in-Refused
-returns-in-Refused c =
-    graft_unmeasured _ _ _ c.graft_length-merged.ensures c.in-Refused.is c.locate_by.ensures
+pub returns-in-Err : goal.returns-in-Err
+returns-in-Err c =
+    graft_unmeasured _ _ _ c.graft_length.ensures c.in-Err.is c.locate_by.ensures

@@ -1,18 +1,20 @@
 -- Yes and no are values; a refusal is handed over by its parts.
-use mathlib.Core.Path.{sym, ◌∙◌}
-use borrow.Author.Rules.{rules}
+use mathlib.Core.Path.{◌≡◌, refl, sym, ◌∙◌}
+use mathlib.Core.Bool.{Bool, true, false}
+use Prim.Native.Nat.{ℕ}
+use Rattle.std.specs.Int.{from_bool}
 use Rattle.skriduhol_c.specs.Handed.{yes_or_no}
-use Rattle.skriduhol_c.proofs.Handing.{accepts, refuses, verdict_yes, verdict_no, verdict_refused}
+use Rattle.skriduhol_c.proofs.Handing.{accepts, refuses, verdict_accepted, verdict_refused}
 use Rattle.skriduhol_c.proofs.skriduhol_compare.Goals as goal
 
-pub returns-in-Yes : goal.returns-in-Yes
+one_if : (b : Bool) → yes_or_no b ≡ from_bool b
 unfolding yes_or_no
-returns-in-Yes c = accepts _ yes_or_no (verdict_yes _ _ (sym c.in-Yes.is ∙ c.compare-verdict.ensures))
+one_if true = refl
+one_if false = refl
 
-pub returns-in-No : goal.returns-in-No
-unfolding yes_or_no
-returns-in-No c = accepts _ yes_or_no (verdict_no _ _ (sym c.in-No.is ∙ c.compare-verdict.ensures))
+pub returns-in-Ok : goal.returns-in-Ok
+returns-in-Ok c =
+    rw (c.from.ensures, ← one_if) (accepts _ yes_or_no (verdict_accepted _ _ (sym c.in-Ok.is ∙ c.compare.ensures)))
 
-pub returns-in-Refused : goal.returns-in-Refused
-returns-in-Refused c =
-    refuses _ (verdict_refused _ _ (sym c.in-Refused.is ∙ c.compare-verdict.ensures)) c.hand_refusal.ensures
+pub returns-in-Err : goal.returns-in-Err
+returns-in-Err c = refuses _ (verdict_refused _ _ (sym c.in-Err.is ∙ c.compare.ensures)) c.hand_refusal.ensures
