@@ -29,8 +29,7 @@ use Rattle.hypotheses.specs.Pairs.{out_of}
 use Rattle.hypotheses.proofs.Walking.{out_is}
 use Rattle.sheet_term.specs.Held.{HeldTerm}
 use Rattle.sheet_term.proofs.Held.{label_present}
-use Rattle.judgement.specs.declared.Judgement.{Judgement}
-use Rattle.judgement.specs.declared.Judgement.TheVariants.{Yes, No, Refused}
+use Rattle.std.specs.Prelude.{Option, None, Some, Result, Ok, Err}
 use Rattle.judgement.specs.Asked.{Known, held_term, may_check, ruled}
 use Rattle.judgement.specs.Answered.{judgement_of, Judges}
 use Rattle.judgement.proofs.Asking.{held_named}
@@ -53,7 +52,7 @@ module _ {s : List ℕ} {h : Sheet} (a : AcceptedSheet s h) (k : ℕ) (hs : List
   known e = let (low, none) = neither _ _ (sym same_test ∙ e) in record { proposition = leb-false _ _ low; hypotheses = none }
 
   pub refused-31 : out ≡ true → {terms : List ℕ} {n : ℕ} → HeldTerm s terms n
-      → Refused (record { number = 31; place = 0 }) ≡ judgement_of (judgement s (held_term s terms n) hs k)
+      → Err (record { number = 31; place = 0 }) ≡ judgement_of (judgement s (held_term s terms n) hs k)
   unfolding judgement refuse_if ◌>>=◌ refuse judgement_of
   refused-31 e t = rw (← same_test, e)
 
@@ -85,17 +84,17 @@ module _ {s : List ℕ} {h : Sheet} (a : AcceptedSheet s h) (bytes : Bytes s) {t
 
 module _ {s hs : List ℕ} {k : ℕ} (known : Known s hs k) {terms : List ℕ} {n : ℕ} (t : HeldTerm s terms n)
     {free : Bool} (is : free ≡ may_check s terms n hs k) where
-  pub refused-22 : free ≡ false → Refused (record { number = 22; place = 0 }) ≡ judgement_of (judgement s (held_term s terms n) hs k)
+  pub refused-22 : free ≡ false → Err (record { number = 22; place = 0 }) ≡ judgement_of (judgement s (held_term s terms n) hs k)
   unfolding judgement refuse_if ◌>>=◌ refuse judgement_of may_check
   refused-22 e = rw (lt-leb (propositions s) k known.proposition, known.hypotheses, ← is, e)
 
-  pub answered : free ≡ true → {x : Judgement} → x ≡ judgement_of (accepted (ruled s terms n hs k))
+  pub answered : free ≡ true → {x : Result (Option ℕ) Refusal} → x ≡ judgement_of (accepted (ruled s terms n hs k))
       → x ≡ judgement_of (judgement s (held_term s terms n) hs k)
   unfolding judgement refuse_if ◌>>=◌ ruled may_check
   answered e same = rw (lt-leb (propositions s) k known.proposition, known.hypotheses, ← is, e) same
 
 -- a number as an answer
-pub says-yes : {r : ℕ} → r ≡ 0 → (j : Judged (Unit {0})) → Checks j r → Yes ≡ judgement_of (accepted j)
+pub says-yes : {r : ℕ} → r ≡ 0 → (j : Judged (Unit {0})) → Checks j r → Ok None ≡ judgement_of (accepted j)
 unfolding judgement_of
 says-yes e (derived u) (yes is) = refl
 says-yes e (stopped n) (node _ is) = absurd (omega arith)
@@ -104,14 +103,14 @@ pub past_all : {r : ℕ} {j : Judged (Unit {0})} → (r ≡ 0 → ⊥) → Check
 past_all e (yes is) = absurd (e is)
 past_all e (node n is) = omega arith
 
-pub says-no : {r : ℕ} → (r ≡ 0 → ⊥) → (j : Judged (Unit {0})) → Checks j r → No (r - stops) ≡ judgement_of (accepted j)
+pub says-no : {r : ℕ} → (r ≡ 0 → ⊥) → (j : Judged (Unit {0})) → Checks j r → Ok (Some (r - stops)) ≡ judgement_of (accepted j)
 unfolding judgement_of
 says-no e (derived u) (yes is) = absurd (e is)
-says-no {r} e (stopped n) (node _ is) = let at : r - stops ≡ n = omega arith in ap No at
+says-no {r} e (stopped n) (node _ is) = let at : r - stops ≡ n = omega arith in ap (λ n. Ok (Some n)) at
 
 -- Of every sequence of bytes:
 module _ (s hs : List ℕ) (k : ℕ) where
-  judged : {r : Judgement} → r ≡ judgement_of (sheet_judgement s hs k) → Judges s hs k r
+  judged : {r : Result (Option ℕ) Refusal} → r ≡ judgement_of (sheet_judgement s hs k) → Judges s hs k r
   unfolding judgement_of
   judged e = record {
     answer = e;
@@ -119,11 +118,11 @@ module _ (s hs : List ℕ) (k : ℕ) where
     root = λ d none is. e ∙ rw (none, is, sound_yes s d);
   }
 
-  pub no_term : {x : Refusal} → sheet_term s ≡ refused x → Judges s hs k (Refused x)
+  pub no_term : {x : Refusal} {r : Result (Option ℕ) Refusal} → sheet_term s ≡ refused x → r ≡ Err x → Judges s hs k r
   unfolding sheet_judgement named_term map_outcome ◌>>=◌ judgement_of
-  no_term e = judged (rw e)
+  no_term e is = judged (rw (is, e))
 
-  pub of-the-term : {terms : List ℕ} {n : ℕ} {r : Judgement} → HeldTerm s terms n
+  pub of-the-term : {terms : List ℕ} {n : ℕ} {r : Result (Option ℕ) Refusal} → HeldTerm s terms n
       → r ≡ judgement_of (judgement s (held_term s terms n) hs k) → Judges s hs k r
   unfolding sheet_judgement ◌>>=◌
   of-the-term t e = judged (rw (held_named t) e)

@@ -1,5 +1,5 @@
 -- The answer as the program gives it, for every sequence of bytes, every hypotheses and every proposition.
-use Rattle.std.specs.Prelude.{ℕ, ◌<◌, ◌≡◌, List, []}
+use Rattle.std.specs.Prelude.{ℕ, ◌<◌, ◌≡◌, List, [], Option, None, Some, Result, Ok, Err}
 use Rattle.definitions.specs.Outcome.{Outcome, accepted, refused}
 use Rattle.definitions.specs.Sheet.{propositions}
 use Rattle.definitions.specs.Checker.{Judged, derived, stopped}
@@ -7,13 +7,13 @@ use Rattle.definitions.specs.Sound.{Sound}
 use Rattle.definitions.specs.CheckAnswers.{named_prop, sheet_judgement}
 use Rattle.checker_laws.specs.Judgements.{root_number}
 use Rattle.checker.specs.Judging.{Checks}
-use Rattle.judgement.specs.declared.Judgement.{Judgement}
-use Rattle.judgement.specs.declared.Judgement.TheVariants.{Yes, No, Refused}
+use Rattle.definitions.specs.declared.Refusal.{Refusal}
 
-unfoldable pub judgement_of : Outcome (Judged (Unit {0})) → Judgement
-judgement_of (accepted (derived u)) = Yes
-judgement_of (accepted (stopped n)) = No n
-judgement_of (refused r) = Refused r
+-- the node at which the rules stop, or none where they derive the judgement
+unfoldable pub judgement_of : Outcome (Judged (Unit {0})) → Result (Option ℕ) Refusal
+judgement_of (accepted (derived u)) = Ok None
+judgement_of (accepted (stopped n)) = Ok (Some n)
+judgement_of (refused r) = Err r
 
 -- a number that the checker may answer
 pub record Decided (r : ℕ) : Type 0 where
@@ -22,7 +22,7 @@ pub record Decided (r : ℕ) : Type 0 where
 
 -- What is answered: document 02, ticket 5. On a sound sheet, from no hypotheses, it is yes for each number of the root's proposition,
 -- and so for the one that the root has.
-pub record Judges (s hs : List ℕ) (k : ℕ) (r : Judgement) : Type 0 where
+pub record Judges (s hs : List ℕ) (k : ℕ) (r : Result (Option ℕ) Refusal) : Type 0 where
   pub answer : r ≡ judgement_of (sheet_judgement s hs k)
-  pub sound : (d : Sound s) → hs ≡ [] → k < propositions s → named_prop s k ≡ d.deduced.prop → r ≡ Yes
-  pub root : Sound s → hs ≡ [] → k ≡ root_number s → r ≡ Yes
+  pub sound : (d : Sound s) → hs ≡ [] → k < propositions s → named_prop s k ≡ d.deduced.prop → r ≡ Ok None
+  pub root : Sound s → hs ≡ [] → k ≡ root_number s → r ≡ Ok None

@@ -2,7 +2,7 @@
 // are asked, every name gets the lowest number of its bytes, in the term and in the code.
 #![tactic(auto)]
 
-ghost use Rattle.std.specs.Prelude.{◌≡◌, ◌||◌, ◌+◌, ◌≤◌, length, take, leb};
+ghost use Rattle.std.specs.Prelude.{◌≡◌, ◌||◌, ◌+◌, ◌≤◌, length, take, leb, Ok};
 ghost use Rattle.definitions.specs.Outcome.{accepted};
 ghost use Rattle.definitions.specs.Sheet.{name_limit, names, propositions, proposition_pairs, code_bytes};
 ghost use Rattle.definitions.specs.Checker.{Judged};
@@ -25,18 +25,10 @@ use name_index::{SLOT_COUNT, build};
 use number::pair_offset;
 use prop_numbers::{MADE_NUMBERS, NAMES, STOPS};
 use sheet::{Sheet, code_bytes, proposition_pairs, vocabulary};
-use sheet_term::{SheetTerm, TERM_NUMBERS, sheet_term};
+use sheet_term::{TERM_NUMBERS, sheet_term};
 use standing_code::{CODE_SIZE, put_code};
 use term_renumbering::renumber_records;
 use term_sizes::fill_sizes;
-
-// The rules derive the judgement, or they stop at a node of the term; or the first of refusals 1 to 15, 31 and 22.
-#[derive(Drop)]
-pub enum Judgement {
-    Yes,
-    No(usize),
-    Refused(Refusal),
-}
 
 // Stores for each name the lowest number with its bytes.
 fn number_names(s: &[u8], h: Sheet, numbers: &mut [u16])
@@ -125,15 +117,15 @@ fn decide(
     check(terms, n, 0, &code, 1, &mut scope, &mut made, at)
 }
 
-// That number as an answer.
-fn answer(r: usize) -> Judgement
+// The node at which the rules stop, if they do, by that number.
+fn stopping_node(r: usize) -> Option<usize>
     requires { Decided r }
-    ensures { (j : Judged (Unit {0})) → Checks j r → result ≡ judgement_of (accepted j) }
+    ensures { (j : Judged (Unit {0})) → Checks j r → Ok result ≡ judgement_of (accepted j) }
 {
     if r == 0 {
-        return Judgement::Yes;
+        return None;
     }
-    Judgement::No(r - STOPS)
+    Some(r - STOPS)
 }
 
 // 31, 22 and the answer, of the term that is held.
@@ -144,32 +136,30 @@ fn judge_held(
     n: usize,
     hypotheses: &[u16],
     k: usize,
-) -> Judgement
+) -> Result<Option<usize>, Refusal>
     requires { AcceptedSheet s.now h × HeldTerm s.now terms.old n }
     ensures { result ≡ judgement_of (judgement s.now (held_term s.now terms.old n)
         hypotheses.now k) }
 {
     if is_outside(h, hypotheses, k) {
-        return Judgement::Refused(Refusal::at(31, 0));
+        return Err(Refusal::at(31, 0));
     }
     if !may_check(s, h, terms, n, hypotheses, k) {
-        return Judgement::Refused(Refusal::at(22, 0));
+        return Err(Refusal::at(22, 0));
     }
     let mut numbers = [0u16; Sheet::NAME_LIMIT];
     number_names(s, h, &mut numbers);
     let r = decide(s, h, terms, n, hypotheses, k, first(&numbers, h.names));
-    answer(r)
+    Ok(stopping_node(r))
 }
 
 // The judgement that the sheet's own term checks against its proposition k, from hypotheses given as a name's number and a
-// proposition's number each, the latest last.
-pub fn judge(s: &[u8], hypotheses: &[u16], k: usize) -> Judgement
+// proposition's number each, the latest last: the node of the term at which the rules stop, or none where they derive it; or the
+// first of refusals 1 to 15, 31 and 22.
+pub fn judge(s: &[u8], hypotheses: &[u16], k: usize) -> Result<Option<usize>, Refusal>
     ensures { Judges s.now hypotheses.now k result }
 {
     let mut terms = [0u16; TERM_NUMBERS];
-    let found = sheet_term(s, &mut terms);
-    match found {
-        SheetTerm::Refused(refusal) => Judgement::Refused(refusal),
-        SheetTerm::Held(h, n) => judge_held(s, h, &mut terms, n, hypotheses, k),
-    }
+    let (h, n) = sheet_term(s, &mut terms)?;
+    judge_held(s, h, &mut terms, n, hypotheses, k)
 }

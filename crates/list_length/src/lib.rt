@@ -16,7 +16,7 @@ use prefix_code::scan;
 use proof_term_lists::{Added, record_adds};
 use prop_lists::next_entry;
 use sheet::vocabulary;
-use sheet_term::{SheetTerm, TERM_NUMBERS, sheet_term};
+use sheet_term::{TERM_NUMBERS, sheet_term};
 use vocabulary::{Vocabulary, code_of};
 
 // How many entries in a list the proposition at an offset of the code has.
@@ -78,12 +78,7 @@ pub fn list_length(s: &[u8], list: TermList) -> Result<usize, Refusal>
     ensures { result ≡ written_of (map_outcome (list_numbers list) (sheet_term s.now)) }
 {
     let mut terms = [0u16; TERM_NUMBERS];
-    let found = sheet_term(s, &mut terms);
-    match found {
-        SheetTerm::Refused(refusal) => Err(refusal),
-        SheetTerm::Held(h, n) => {
-            let entries = list_count(&terms, n, list, s, vocabulary(h));
-            Ok(number_count(list, entries))
-        }
-    }
+    let (h, n) = sheet_term(s, &mut terms)?;
+    let entries = list_count(&terms, n, list, s, vocabulary(h));
+    Ok(number_count(list, entries))
 }

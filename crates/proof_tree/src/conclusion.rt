@@ -40,7 +40,12 @@ fn left_label(pairs: &[u8], code: &[u8], conclusion: Conclusion, k: usize) -> Re
 }
 
 // The datatype of the ∀ that step k concludes.
-fn datatype_label(pairs: &[u8], code: &[u8], conclusion: Conclusion, k: usize) -> Result<Label, Refusal>
+fn datatype_label(
+    pairs: &[u8],
+    code: &[u8],
+    conclusion: Conclusion,
+    k: usize,
+) -> Result<Label, Refusal>
     requires { (k < 65536) × Readable pairs.now code.now conclusion }
     ensures { AnnotationOf (datatype_label_of k) pairs.now code.now conclusion result }
 {

@@ -34,8 +34,7 @@ use Rattle.proof_tree.specs.Exporting.{LabelOffset, StepExported}
 use Rattle.proof_tree.proofs.Labels.{has_proposition}
 use Rattle.proof_tree.proofs.ExportedNames.{exported_names}
 use Rattle.proof_tree.proofs.Walking.{term_of, refusal_of, size_within}
-use Rattle.sheet_term.specs.declared.SheetTerm.TheVariants as answer
-use Rattle.sheet_term.specs.Held.{LabelStands, HeldTerm, Gives, holds, refuses}
+use Rattle.sheet_term.specs.Held.{LabelStands, HeldTerm, Gives, holds}
 
 -- what is no sheet has no term
 pub not_a_sheet : (s : List ℕ) {r : Refusal} → admitted s ≡ refused r → sheet_term s ≡ refused r
@@ -109,9 +108,9 @@ module _ {s : List ℕ} {h : Sheet} (a : AcceptedSheet s h) where
             };
           }
 
-      pub gives_term : {next : ℕ} → r ≡ Ok next → Gives s after (answer.Held h (next - 1))
+      pub gives_term : {next : ℕ} → r ≡ Ok next → Gives s after (Ok (h, next - 1))
       gives_term {next} e = holds {h = h} {n = next - 1} a (held e)
 
-      pub gives_refusal : {x : Refusal} → r ≡ Err x → Gives s after (answer.Refused x)
+      pub gives_refusal : {x : Refusal} → r ≡ Err x → sheet_term s ≡ refused x
       unfolding header_of
-      gives_refusal {x} e = refuses {r = x} (root_outcome ∙ refusal_of (rw a.header at walked) e)
+      gives_refusal {x} e = root_outcome ∙ refusal_of (rw a.header at walked) e

@@ -1,5 +1,5 @@
 -- What the readers of a sheet's term in records may know of it.
-use Rattle.std.specs.Prelude.{ℕ, ◌+◌, ◌*◌, ◌≤◌, ◌<◌, ◌≡◌, ◌⊎◌, List, length}
+use Rattle.std.specs.Prelude.{ℕ, ◌+◌, ◌*◌, ◌≤◌, ◌<◌, ◌≡◌, ◌⊎◌, List, length, Result, Ok, Err}
 use Rattle.definitions.specs.declared.Refusal.{Refusal}
 use Rattle.definitions.specs.Outcome.{accepted, refused}
 use Rattle.definitions.specs.Sheet.{names, propositions, proposition_pairs, code_bytes, pair_offset, step_limit}
@@ -12,8 +12,6 @@ use Rattle.proof_term.specs.Tally.{PartsEarlier, NodesTallied}
 use Rattle.proof_term.specs.Readable.{NamesBelow}
 use Rattle.sheet.specs.declared.header.Sheet.{Sheet}
 use Rattle.sheet.proofs.Admitted.{AcceptedSheet}
-use Rattle.sheet_term.specs.declared.SheetTerm as answer
-use Rattle.sheet_term.specs.declared.SheetTerm.TheVariants.{Held, Refused}
 
 -- the offset of a proposition of the sheet, or of the left side of an implication
 pub record LabelStands (s : List ℕ) (offset : ℕ) : Type 0 where
@@ -36,6 +34,6 @@ pub record HeldTerm (s terms : List ℕ) (n : ℕ) : Type 0 where
   pub labels : LabelsFit (names s) (LabelStands s) terms n
 
 -- what each answer says
-pub data Gives (s terms : List ℕ) : answer.SheetTerm → Type 0 where
-  holds : {h : Sheet} {n : ℕ} → AcceptedSheet s h → HeldTerm s terms n → Gives s terms (Held h n)
-  refuses : {r : Refusal} → sheet_term s ≡ refused r → Gives s terms (Refused r)
+pub data Gives (s terms : List ℕ) : Result (Sheet × ℕ) Refusal → Type 0 where
+  holds : {h : Sheet} {n : ℕ} → AcceptedSheet s h → HeldTerm s terms n → Gives s terms (Ok (h, n))
+  refuses : {r : Refusal} → sheet_term s ≡ refused r → Gives s terms (Err r)

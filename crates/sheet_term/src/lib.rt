@@ -17,20 +17,13 @@ use sheet::{Sheet, code_bytes, proposition_pairs, step_records};
 // Room for two term records for each step.
 pub const TERM_NUMBERS: usize = 2 * RECORD_SIZE * Sheet::STEP_LIMIT;
 
-// The header of a sheet and the record that holds its term; or the first of refusals 1 to 15.
-#[derive(Drop)]
-pub enum SheetTerm {
-    Held(Sheet, usize),
-    Refused(Refusal),
-}
-
-// The term of an accepted sheet.
+// The term of an accepted sheet: its header, and the record that holds the term.
 fn export(
     s: &[u8],
     h: Sheet,
     sizes: &[u16; Sheet::STEP_LIMIT],
     terms: &mut [u16; TERM_NUMBERS],
-) -> SheetTerm
+) -> Result<(Sheet, usize), Refusal>
     requires accepted_sheet { AcceptedSheet s.now h }
     requires size_table { SizeTable (step_records s.now) (steps s.now) sizes.now }
     ensures { Gives s.now terms.new result }
@@ -38,26 +31,18 @@ fn export(
     let pairs = proposition_pairs(s, h);
     let code = code_bytes(s, h);
     let records = step_records(s, h);
-    let exported = export_as_proof_term(h.names, pairs, code, records, sizes, h.steps, terms);
-    match exported {
-        Ok(next) => {
-            let last = next - 1;
-            SheetTerm::Held(h, last)
-        }
-        Err(refusal) => SheetTerm::Refused(refusal),
-    }
+    let next = export_as_proof_term(h.names, pairs, code, records, sizes, h.steps, terms)?;
+    Ok((h, next - 1))
 }
 
-// The term of any bytes. Where they are refused, what the records hold is left open.
-pub fn sheet_term(s: &[u8], terms: &mut [u16; TERM_NUMBERS]) -> SheetTerm
+// The header of a sheet and the record that holds its term, or the first of refusals 1 to 15, of any bytes. Where they are refused,
+// what the records hold is left open.
+pub fn sheet_term(s: &[u8], terms: &mut [u16; TERM_NUMBERS]) -> Result<(Sheet, usize), Refusal>
     ensures { Gives s.now terms.new result }
 {
     let mut sizes = [0u16; Sheet::STEP_LIMIT];
-    let checked = sheet::check(s, &mut sizes);
-    match checked {
-        Err(refusal) => SheetTerm::Refused(refusal),
-        Ok(h) => export(s, h, &sizes, terms),
-    }
+    let h = sheet::check(s, &mut sizes)?;
+    export(s, h, &sizes, terms)
 }
 
 // The label count of any bytes.
@@ -65,9 +50,6 @@ pub fn label_count(s: &[u8]) -> Result<usize, Refusal>
     ensures { result ≡ counted_of (label_count s.now) }
 {
     let mut terms = [0u16; TERM_NUMBERS];
-    let found = sheet_term(s, &mut terms);
-    match found {
-        SheetTerm::Refused(refusal) => Err(refusal),
-        SheetTerm::Held(_, n) => Ok(annotation_count(&terms, n)),
-    }
+    let (_, n) = sheet_term(s, &mut terms)?;
+    Ok(annotation_count(&terms, n))
 }

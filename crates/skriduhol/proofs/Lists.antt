@@ -9,7 +9,7 @@ use Rattle.definitions.specs.declared.TermList.{TermList}
 use Rattle.definitions.specs.Outcome.{refused, accepted, map_outcome}
 use Rattle.definitions.specs.Term.{ProofTerm}
 use Rattle.definitions.specs.Answers.{is_in_room, sheet_term}
-use Rattle.std.specs.Prelude.{Ok, Err}
+use Rattle.std.specs.Prelude.{Result, Ok, Err}
 use Rattle.output.specs.Wrote.{Wrote}
 use Rattle.output.specs.Written.{Fills}
 use Rattle.output.proofs.Filling as filling
@@ -26,9 +26,10 @@ use Rattle.skriduhol.specs.Lists.{list_answer}
 -- Whichever list is asked for:
 module _ (list : TermList) (s : List ℕ) where
   -- the refusal of a term is the answer
-  pub no_list : {x : Refusal} → sheet_term s ≡ refused x → (before : List ℕ) → Fills (list_answer list s (length before)) before before (Err x)
+  pub no_list : {x : Refusal} {r : Result ℕ Refusal} → sheet_term s ≡ refused x → r ≡ Err x
+      → (before : List ℕ) → Fills (list_answer list s (length before)) before before r
   unfolding list_answer map_outcome
-  no_list e before = filling.refuses (rw e) (length before) before
+  no_list e is before = rw is (filling.refuses (rw e) (length before) before)
 
   -- a term's list is, in enough room
   list_of : {t : ProofTerm ℕ} → sheet_term s ≡ accepted t → (room : ℕ) → list_answer list s room ≡ is_in_room room (accepted (list_numbers list t))

@@ -1,7 +1,7 @@
 -- The index of a sheet's names in lent memory, and what a search in slots answers.
 use Prim.Native.Nat.{ℕ, ◌≤◌}
 use mathlib.Core.Path.{◌≡◌, refl, sym, ap, ap₂, ◌∙◌}
-use Rattle.std.specs.Prelude.{Option, None, Some, Err, Ok}
+use Rattle.std.specs.Prelude.{Option, None, Some, Result, Err, Ok}
 use mathlib.Core.List.{List, [], append-nil}
 use native.Mathlib.Omega.{arith}
 use lib.ListN.{length, drop}
@@ -23,8 +23,6 @@ use Rattle.sheet.proofs.Admitted.{AcceptedSheet, its_header}
 use Rattle.sheet.proofs.Order.{header_given}
 use Rattle.sheet.proofs.NamesAndCode.{count_is, names_are}
 use Rattle.vocabulary.specs.Vocabulary.{name_in}
-use Rattle.skriduhol.specs.declared.Searched.{Searched}
-use Rattle.skriduhol.specs.declared.Searched.TheVariants as searched
 use Rattle.skriduhol.specs.Located.{filled_of, FillsOf}
 use Rattle.skriduhol.specs.Searched.{searched_of, plain_answer}
 
@@ -65,17 +63,6 @@ pub index_refused : {s before : List ℕ} {r : Refusal} {l : Located} → admitt
 unfolding index_answer map_outcome filled_of filled
 index_refused e at = record { answer = rw (e, at); memory = rw e }
 
--- a number that was found, or none, as it is handed back
-at_number : (s : List ℕ) (o : Option ℕ) {i : ℕ} → Some i ≡ o → searched.At i ≡ searched_of s (accepted o)
-unfolding searched_of
-at_number s None e = cc
-at_number s (Some j) e = cc
-
-at_none : (s : List ℕ) (o : Option ℕ) → None ≡ o → searched.Nowhere ≡ searched_of s (accepted o)
-unfolding searched_of
-at_none s None e = refl
-at_none s (Some j) e = cc
-
 -- Of a search in slots for a name:
 module _ (s slots : List ℕ) (x : Name) where
   -- the sheet's own index answers as the plain search
@@ -84,13 +71,13 @@ module _ (s slots : List ℕ) (x : Name) where
   own_plain (refused r) e own = rw e
   own_plain (accepted t) e own = rw (e, own, sheet_agrees s x (few_names (header_given s refl e)))
 
-  pub own_too : {r : Searched} → r ≡ searched_of s (find_answer s slots x)
+  pub own_too : {r : Result (Option ℕ) Located} → r ≡ searched_of s (find_answer s slots x)
       → (r ≡ searched_of s (find_answer s slots x)) × (slots ≡ index_of s → r ≡ searched_of s (plain_answer s x))
   own_too e = (e, λ own. e ∙ ap (searched_of s) (own_plain (header_checks s) refl own))
 
   -- a refusal of the header
   pub search_refused : {r : Refusal} {l : Located} → header_checks s ≡ refused r → l ≡ located s r
-      → searched.Refused l ≡ searched_of s (find_answer s slots x)
+      → Err l ≡ searched_of s (find_answer s slots x)
   unfolding find_answer map_outcome searched_of
   search_refused e at = rw (e, at)
 
@@ -100,10 +87,7 @@ module _ (s slots : List ℕ) (x : Name) where
     unfolding find_answer map_outcome
     answered = rw (passed, names_are has)
 
-    pub search_found : {i : ℕ} → Some i ≡ (find (name_in s (vocabulary_of h)) slots x)
-        → searched.At i ≡ searched_of s (find_answer s slots x)
-    search_found e = rw answered (at_number s _ e)
-
-    pub search_missed : None ≡ (find (name_in s (vocabulary_of h)) slots x)
-        → searched.Nowhere ≡ searched_of s (find_answer s slots x)
-    search_missed e = rw answered (at_none s _ e)
+    pub search_found : {found : Option ℕ} → found ≡ find (name_in s (vocabulary_of h)) slots x
+        → Ok found ≡ searched_of s (find_answer s slots x)
+    unfolding searched_of
+    search_found e = rw (answered, e)

@@ -1,20 +1,18 @@
 -- What a search for a name of a sheet answers, as it is handed back.
-use Rattle.std.specs.Prelude.{ℕ, List, Option, None, Some}
+use Rattle.std.specs.Prelude.{ℕ, List, Option, Result, Ok, Err}
 use Rattle.definitions.specs.Outcome.{Outcome, accepted, refused, map_outcome}
 use Rattle.definitions.specs.Name.{Name}
 use Rattle.definitions.specs.Sheet.{names, name_of}
 use Rattle.definitions.specs.Admission.{header_checks}
 use Rattle.definitions.specs.Answers.{located}
 use Rattle.definitions.specs.NameIndex.{plain_search}
-use Rattle.skriduhol.specs.declared.Searched.{Searched}
-use Rattle.skriduhol.specs.declared.Searched.TheVariants.{At, Nowhere, Refused}
+use Rattle.definitions.specs.declared.Located.{Located}
 
 -- Of a sheet's bytes:
 module _ (s : List ℕ) where
-  unfoldable pub searched_of : Outcome (Option ℕ) → Searched
-  searched_of (accepted (Some i)) = At i
-  searched_of (accepted None) = Nowhere
-  searched_of (refused r) = Refused (located s r)
+  unfoldable pub searched_of : Outcome (Option ℕ) → Result (Option ℕ) Located
+  searched_of (accepted found) = Ok found
+  searched_of (refused r) = Err (located s r)
 
   -- the plain search's answer, or the first of refusals 1 to 3
   unfoldable pub plain_answer : Name → Outcome (Option ℕ)

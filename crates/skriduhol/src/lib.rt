@@ -37,16 +37,8 @@ use name_index::SLOT_COUNT;
 use proof_term_lists::put_list;
 use restating::Given;
 use sheet::{Sheet, check_header, vocabulary};
-use sheet_term::{SheetTerm, TERM_NUMBERS, sheet_term};
+use sheet_term::{TERM_NUMBERS, sheet_term};
 use text::{sheet_text_length, text};
-
-// What a search for a name answers: the lowest number of its bytes, or that there is none; or a refusal with its column.
-#[derive(Drop)]
-pub enum Searched {
-    At(usize),
-    Nowhere,
-    Refused(Located),
-}
 
 // An answer in lent memory as it is handed back.
 fn locate_written(s: &[u8], written: Result<usize, Refusal>) -> Result<usize, Located>
@@ -79,11 +71,8 @@ fn styled_text(s: &[u8], version: Version, style: Style, out: &mut [u8]) -> Resu
     ensures { Fills (is_in_room (length out.old) (sheet_text s.now version style)) out.old out.new result }
 {
     let mut terms = [0u16; TERM_NUMBERS];
-    let found = sheet_term(s, &mut terms);
-    match found {
-        SheetTerm::Refused(refusal) => Err(refusal),
-        SheetTerm::Held(h, n) => text(s, h, &terms, n, version, style, out),
-    }
+    let (h, n) = sheet_term(s, &mut terms)?;
+    text(s, h, &terms, n, version, style, out)
 }
 
 // The text of a version of the handout, 1 to 3, in a style.
@@ -158,11 +147,8 @@ fn label_list(s: &[u8], which: TermList, out: &mut [u16]) -> Result<usize, Refus
     ensures { Fills (list_answer which s.now (length out.old)) out.old out.new result }
 {
     let mut terms = [0u16; TERM_NUMBERS];
-    let found = sheet_term(s, &mut terms);
-    match found {
-        SheetTerm::Refused(refusal) => Err(refusal),
-        SheetTerm::Held(h, n) => list(s, h, &terms, n, which, out),
-    }
+    let (h, n) = sheet_term(s, &mut terms)?;
+    list(s, h, &terms, n, which, out)
 }
 
 // The atom list, in every version the same: the number of a name and a parameter count for each atom.
@@ -368,19 +354,16 @@ pub fn name_index(s: &[u8], slots: &mut [u16; SLOT_COUNT]) -> Result<usize, Loca
     }
 }
 
-// The number of a name by slots beside the sheet: by its own index, the lowest of equal bytes. Of the sheet no more is asked than
-// where its names lie.
-pub fn find_name(s: &[u8], slots: &[u16; SLOT_COUNT], name: &[u8]) -> Searched
+// The number of a name by slots beside the sheet, if it has one: by its own index, the lowest of equal bytes. Of the sheet no more is
+// asked than where its names lie.
+pub fn find_name(s: &[u8], slots: &[u16; SLOT_COUNT], name: &[u8]) -> Result<Option<usize>, Located>
     ensures value { result ≡ searched_of s.now (find_answer s.now slots.now name.now) }
     ensures value_2 { slots.now ≡ index_of s.now
         → result ≡ searched_of s.now (plain_answer s.now name.now) }
 {
     let checked = check_header(s);
     match checked {
-        Err(refusal) => Searched::Refused(locate(s, refusal)),
-        Ok(h) => match name_index::find(slots, s, vocabulary(h), name) {
-            Some(i) => Searched::At(i),
-            None => Searched::Nowhere,
-        },
+        Err(refusal) => Err(locate(s, refusal)),
+        Ok(h) => Ok(name_index::find(slots, s, vocabulary(h), name)),
     }
 }

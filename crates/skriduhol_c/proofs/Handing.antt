@@ -9,7 +9,6 @@ use Rattle.definitions.specs.declared.Refusal.{Refusal}
 use Rattle.definitions.specs.declared.Located.{Located}
 use Rattle.definitions.specs.Outcome.{Outcome, accepted, refused}
 use Rattle.definitions.specs.Answers.{located}
-use Rattle.skriduhol.specs.declared.Searched.TheVariants as searched
 use Rattle.skriduhol.specs.Searched.{searched_of}
 use Rattle.skriduhol.specs.Located.{filled_of, FillsOf, count_of, verdict_of}
 use Rattle.skriduhol.specs.Lengths.{Measures}
@@ -66,22 +65,14 @@ module _ (s : List ℕ) where
   verdict_refused (accepted b) e = record { refusal = record { number = 0; place = 0 }; is = cc; at = cc }
   verdict_refused (refused r) e = record { refusal = r; is = refl; at = cc }
 
-  pub number_found : {i : ℕ} (o : Outcome (Option ℕ)) → searched.At i ≡ searched_of s o → o ≡ accepted (Some i)
+  pub number_found : {found : Option ℕ} (o : Outcome (Option ℕ)) → Ok found ≡ searched_of s o → o ≡ accepted found
   unfolding searched_of
-  number_found (accepted (Some i)) e = cc
-  number_found (accepted None) e = cc
+  number_found (accepted x) e = cc
   number_found (refused r) e = cc
 
-  pub none_found : (o : Outcome (Option ℕ)) → searched.Nowhere ≡ searched_of s o → o ≡ accepted None
+  pub search_refused : {l : Located} (o : Outcome (Option ℕ)) → Err l ≡ searched_of s o → RefusedAs s o l
   unfolding searched_of
-  none_found (accepted (Some i)) e = cc
-  none_found (accepted None) e = refl
-  none_found (refused r) e = cc
-
-  pub search_refused : {l : Located} (o : Outcome (Option ℕ)) → searched.Refused l ≡ searched_of s o → RefusedAs s o l
-  unfolding searched_of
-  search_refused (accepted (Some i)) e = record { refusal = record { number = 0; place = 0 }; is = cc; at = cc }
-  search_refused (accepted None) e = record { refusal = record { number = 0; place = 0 }; is = cc; at = cc }
+  search_refused (accepted x) e = record { refusal = record { number = 0; place = 0 }; is = cc; at = cc }
   search_refused (refused r) e = record { refusal = r; is = refl; at = cc }
 
   -- an answer that fills lent memory, handed over

@@ -32,8 +32,7 @@ ghost use Rattle.skriduhol_c.specs.TermsRead.{HandsSizes, HandsRead, HandsReadLe
 use definitions::{Located, Style, Whose};
 use name_index::{FREE, SLOT_COUNT};
 use restating::Given;
-use skriduhol::{BOARD_ROOM, Searched};
-use skriduhol_terms::Judged;
+use skriduhol::BOARD_ROOM;
 use term_reader::TermSize;
 
 // A refusal's place is the value, and its column the column.
@@ -530,17 +529,19 @@ pub extern "C" fn skriduhol_find_name(
 {
     let searched = skriduhol::find_name(sheet, slots, name);
     match searched {
-        Searched::At(i) => {
-            *value = i;
-            *column = 0;
-            return 0;
-        }
-        Searched::Nowhere => {
-            *value = FREE as usize;
-            *column = 0;
-            return 0;
-        }
-        Searched::Refused(located) => {
+        Ok(found) => match found {
+            Some(i) => {
+                *value = i;
+                *column = 0;
+                return 0;
+            }
+            None => {
+                *value = FREE as usize;
+                *column = 0;
+                return 0;
+            }
+        },
+        Err(located) => {
             return hand_refusal(located, value, column);
         }
     }
@@ -562,19 +563,21 @@ pub extern "C" fn skriduhol_judge(
 {
     let judged = skriduhol_terms::judge(sheet, hypotheses, proposition);
     match judged {
-        Judged::Yes => {
-            *value = 1;
-            *column = 0;
-            *node = 0;
-            return 0;
-        }
-        Judged::No(at) => {
-            *value = 0;
-            *column = 0;
-            *node = at;
-            return 0;
-        }
-        Judged::Refused(located) => {
+        Ok(stopped) => match stopped {
+            None => {
+                *value = 1;
+                *column = 0;
+                *node = 0;
+                return 0;
+            }
+            Some(at) => {
+                *value = 0;
+                *column = 0;
+                *node = at;
+                return 0;
+            }
+        },
+        Err(located) => {
             *node = 0;
             return hand_refusal(located, value, column);
         }

@@ -12,28 +12,19 @@ ghost use Rattle.skriduhol_terms.specs.Judged.{JudgesOf};
 ghost use Rattle.skriduhol_terms.specs.Reading.{reading_of, ReadsOf, RestoresOf, MeansTerm};
 
 use definitions::{Located, Refusal};
-use judgement::Judgement;
 use located::locate;
 use term_reader::TermSize;
 
-// The rules derive the judgement, or they stop at a node of the term; or a refusal with its column.
-#[derive(Drop)]
-pub enum Judged {
-    Yes,
-    No(usize),
-    Refused(Located),
-}
-
 // The judgement that the sheet's own term checks against its proposition k, from hypotheses given as a name's number and a
-// proposition's number each, the latest last.
-pub fn judge(s: &[u8], hypotheses: &[u16], k: usize) -> Judged
+// proposition's number each, the latest last: the node of the term at which the rules stop, or none where they derive it; or a refusal
+// with its column.
+pub fn judge(s: &[u8], hypotheses: &[u16], k: usize) -> Result<Option<usize>, Located>
     ensures { JudgesOf s.now hypotheses.now k result }
 {
     let judged = judgement::judge(s, hypotheses, k);
     match judged {
-        Judgement::Yes => Judged::Yes,
-        Judgement::No(node) => Judged::No(node),
-        Judgement::Refused(refusal) => Judged::Refused(locate(s, refusal)),
+        Ok(node) => Ok(node),
+        Err(refusal) => Err(locate(s, refusal)),
     }
 }
 

@@ -28,7 +28,7 @@ use proof_term_display::print_term;
 use proof_term_length::term_length;
 use prop::fill_all_ends;
 use sheet::{Sheet, code_bytes, name_pairs, proposition_pairs, text_bytes, vocabulary};
-use sheet_term::{SheetTerm, TERM_NUMBERS, sheet_term};
+use sheet_term::{TERM_NUMBERS, sheet_term};
 
 // One flag for each name and each count of parameters.
 const FLAGS: usize = Sheet::NAME_LIMIT * (Sheet::PARAMETER_LIMIT + 1);
@@ -243,11 +243,8 @@ pub fn sheet_text_length(s: &[u8], version: Version, style: Style) -> Result<usi
     ensures { result ≡ written_of (sheet_text s.now version style) }
 {
     let mut terms = [0u16; TERM_NUMBERS];
-    let found = sheet_term(s, &mut terms);
-    match found {
-        SheetTerm::Refused(refusal) => Err(refusal),
-        SheetTerm::Held(h, n) => { Ok(text_length(s, h, &terms, n, version, style)) }
-    }
+    let (h, n) = sheet_term(s, &mut terms)?;
+    Ok(text_length(s, h, &terms, n, version, style))
 }
 
 // The text of a sheet's term in a version, in lent memory: measured, and then written where it fits. A term that is too long for the

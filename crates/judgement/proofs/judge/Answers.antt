@@ -5,14 +5,10 @@ use Rattle.judgement.proofs.Answers.{no_term, of-the-term}
 use Rattle.judgement.proofs.judge.Goals as goal
 
 pub judge_held-requires : goal.judge_held-requires
-judge_held-requires c =
-    let gives = c.sheet_term-found.ensures in
-    let is = c.in-Held.is in
-    (accepted-of gives is, term_of gives is)
+judge_held-requires c = (accepted-of c.in_ok-h.ensures, term_of c.in_ok-h.ensures)
 
-pub returns-in-Refused : goal.returns-in-Refused
-returns-in-Refused c = no_term _ _ _ (refusal_of c.sheet_term-found.ensures c.in-Refused.is)
+pub returns-in_err-h : goal.returns-in_err-h
+returns-in_err-h c = no_term _ _ _ (refusal_of c.in_err-h.ensures) (search rules)
 
-pub returns-in-Held : goal.returns-in-Held
-returns-in-Held c =
-    of-the-term _ _ _ (term_of c.sheet_term-found.ensures c.in-Held.is) c.judge_held.ensures
+pub returns : goal.returns
+returns c = of-the-term _ _ _ (term_of c.in_ok-h.ensures) c.judge_held.ensures

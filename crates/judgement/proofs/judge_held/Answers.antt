@@ -6,7 +6,7 @@ use borrow.Author.Tests.{not-true, not-false}
 use Rattle.definitions.specs.Sheet.{name_limit}
 use Rattle.definitions.proofs.PrefixCode.{Bytes}
 use Rattle.sheet.proofs.Admitted.{its_header}
-use Rattle.judgement.specs.declared.Judgement.TheVariants.{Refused}
+use Rattle.std.specs.Prelude.{Err}
 use Rattle.judgement.specs.Asked.{Known}
 use Rattle.judgement.proofs.Numbering.{lowest_numbers}
 use Rattle.judgement.proofs.Answers.{known, refused-31, refused-22, answered}
@@ -23,14 +23,14 @@ are_known c = known c.requires.0 _ _ c.is_outside.ensures c.if-is_outside.false
 pub returns-then-is_outside : goal.returns-then-is_outside
 returns-then-is_outside c =
     let (sheet, term) = c.requires in
-    ap Refused c.at.ensures ∙ refused-31 sheet _ _ c.is_outside.ensures c.if-is_outside.true term
+    ap Err c.at.ensures ∙ refused-31 sheet _ _ c.is_outside.ensures c.if-is_outside.true term
 
 pub may_check-requires : goal.may_check-requires
 may_check-requires c = record { accepted_sheet = c.requires; known = are_known (goal.at.may_check-requires c).Else-is_outside }
 
 pub returns-then-not-may_check : goal.returns-then-not-may_check
 returns-then-not-may_check c =
-    ap Refused c.at-then-not-may_check.ensures ∙ refused-22 (are_known (goal.at.returns-then-not-may_check c).Else-is_outside) c.requires.1 c.may_check.ensures c.if-not-may_check.true
+    ap Err c.at-then-not-may_check.ensures ∙ refused-22 (are_known (goal.at.returns-then-not-may_check c).Else-is_outside) c.requires.1 c.may_check.ensures c.if-not-may_check.true
 
 pub number_names-requires : goal.number_names-requires
 unfolding name_limit
@@ -53,4 +53,4 @@ decide-r-requires c =
 pub returns : goal.returns
 returns c =
     answered (are_known (goal.at.returns c).Else-is_outside) c.requires.1 c.may_check.ensures c.if-not-may_check.false
-    (c.answer.ensures _ c.decide-r.ensures)
+    (c.stopping_node.ensures _ c.decide-r.ensures)

@@ -10,7 +10,7 @@ use Rattle.sheet.proofs.Stages.{stage_accepted, stage_refuses}
 use Rattle.sheet.proofs.Order.{header_given}
 use Rattle.sheet.proofs.NamesAndCode.{within}
 use Rattle.located.proofs.AfterHeader.{header_after_header}
-use Rattle.skriduhol.proofs.Names.{own_too, search_refused, search_found, search_missed}
+use Rattle.skriduhol.proofs.Names.{own_too, search_refused, search_found}
 use Rattle.skriduhol.proofs.find_name.Goals as goal
 use Rattle.skriduhol.proofs.find_name.Goals.{In-Ok, In-Err}
 
@@ -38,16 +38,8 @@ returns-in-Err c =
     let p = own_too _ _ _ (search_refused _ _ _ (is_refused (goal.at.returns-in-Err c).In-Err) c.locate.ensures) in
     record { value = p.0; value_2 = p.1 }
 
-pub returns-in-Some : goal.returns-in-Some
-returns-in-Some c =
-    let p = own_too _ _ _
-    (search_found _ _ _ (has_header (goal.at.returns-in-Some c).In-Ok) (has_passed (goal.at.returns-in-Some c).In-Ok)
-    (sym c.in-Some.is ∙ (rw c.vocabulary.ensures at c.find.ensures))) in
-    record { value = p.0; value_2 = p.1 }
-
-pub returns-in-None : goal.returns-in-None
-returns-in-None c =
-    let p = own_too _ _ _
-    (search_missed _ _ _ (has_header (goal.at.returns-in-None c).In-Ok) (has_passed (goal.at.returns-in-None c).In-Ok)
-    (sym c.in-None.is ∙ (rw c.vocabulary.ensures at c.find.ensures))) in
+pub returns-in-Ok : goal.returns-in-Ok
+returns-in-Ok c =
+    let passed = (goal.at.returns-in-Ok c).In-Ok in
+    let p = own_too _ _ _ (search_found _ _ _ (has_header passed) (has_passed passed) (rw c.vocabulary.ensures at c.find.ensures)) in
     record { value = p.0; value_2 = p.1 }

@@ -8,11 +8,11 @@ use Rattle.skriduhol.proofs.label_list.Goals as goal
 
 pub slice_bounds-list-end : goal.slice_bounds-list-end
 unfolding step_limit
-slice_bounds-list-end c = sym (term_of c.sheet_term-found.ensures c.in-Held.is).room
+slice_bounds-list-end c = sym (term_of c.in_ok-h.ensures).room
 
 pub list-requires : goal.list-requires
 list-requires c =
-    (accepted-of c.sheet_term-found.ensures c.in-Held.is, term_of c.sheet_term-found.ensures c.in-Held.is)
+    (accepted-of c.in_ok-h.ensures, term_of c.in_ok-h.ensures)
 
-pub returns-in-Refused : goal.returns-in-Refused
-returns-in-Refused c = no_list _ _ (refusal_of c.sheet_term-found.ensures c.in-Refused.is) _
+pub returns-in_err-h : goal.returns-in_err-h
+returns-in_err-h c = no_list _ _ (refusal_of c.in_err-h.ensures) (search rules) _

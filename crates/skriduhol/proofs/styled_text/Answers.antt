@@ -8,14 +8,14 @@ use Rattle.skriduhol.proofs.styled_text.Goals as goal
 
 pub slice_bounds-text-end : goal.slice_bounds-text-end
 unfolding step_limit
-slice_bounds-text-end c = sym (term_of c.sheet_term-found.ensures c.in-Held.is).room
+slice_bounds-text-end c = sym (term_of c.in_ok-h.ensures).room
 
 pub text-requires : goal.text-requires
 text-requires c =
     record {
-      accepted_sheet = accepted-of c.sheet_term-found.ensures c.in-Held.is;
-      held_term = term_of c.sheet_term-found.ensures c.in-Held.is;
+      accepted_sheet = accepted-of c.in_ok-h.ensures;
+      held_term = term_of c.in_ok-h.ensures;
     }
 
-pub returns-in-Refused : goal.returns-in-Refused
-returns-in-Refused c = no_text _ _ _ (refusal_of c.sheet_term-found.ensures c.in-Refused.is) _
+pub returns-in_err-h : goal.returns-in_err-h
+returns-in_err-h c = no_text _ _ _ (refusal_of c.in_err-h.ensures) (search rules) _
