@@ -9,8 +9,6 @@ use definitions::{Located, Style, Whose};
 use name_index::{FREE, SLOT_COUNT};
 use number::number_at;
 use restating::Given;
-use skriduhol::Searched;
-use skriduhol_terms::Judged;
 use std::{fs, io};
 use term_reader::TermSize;
 
@@ -196,19 +194,17 @@ fn verdict_result(verdict: Result<bool, Located>) -> Answer {
     }
 }
 
-fn searched_result(searched: Searched) -> Answer {
+fn searched_result(searched: Result<Option<usize>, Located>) -> Answer {
     match searched {
-        Searched::At(i) => accepted(i),
-        Searched::Nowhere => accepted(FREE as usize),
-        Searched::Refused(located) => refused(located),
+        Ok(found) => accepted(found.unwrap_or(FREE as usize)),
+        Err(located) => refused(located),
     }
 }
 
-fn judged_result(judged: Judged) -> Answer {
+fn judged_result(judged: Result<Option<usize>, Located>) -> Answer {
     match judged {
-        Judged::Yes => accepted(YES),
-        Judged::No(node) => accepted(node),
-        Judged::Refused(located) => refused(located),
+        Ok(stopped) => accepted(stopped.unwrap_or(YES)),
+        Err(located) => refused(located),
     }
 }
 
