@@ -15,8 +15,9 @@ use Rattle.proof_term.specs.Records.{record_size, field_at, leaf, form_term, for
 use Rattle.proof_term.specs.Labels.{has_label}
 use Rattle.proof_term.proofs.Records.{term_at_kind}
 use Rattle.proof_term.proofs.Labels.{no_label}
+use Rattle.proof_term_display.specs.declared.PartPosition.{PartPosition}
 use Rattle.proof_term_display.specs.Brackets.{position_of, columns, column, is_bracketed, bracket_row}
-use Rattle.proof_term_display.specs.Format.{part_field, part_position}
+use Rattle.proof_term_display.specs.Format.{part_field}
 use Rattle.proof_term_display.specs.Item.{KindAt}
 
 -- a table that has what the rule gives of each key
@@ -30,9 +31,6 @@ mapped rule (x ∷ xs) d e (suc k) h = mapped rule xs d e k (omega arith)
 pub part_field_below : (k : ℕ) → part_field k < record_size
 part_field_below k = omega (arith, entry_below (1 ∷ 2 ∷ 3 ∷ 1 ∷ 1 ∷ 1 ∷ 2 ∷ 1 ∷ 2 ∷ []) k)
 
-pub part_position_below : (k : ℕ) → part_position k < 6
-part_position_below k = omega (arith, entry_below (5 ∷ 5 ∷ 5 ∷ 2 ∷ 3 ∷ 0 ∷ 1 ∷ 4 ∷ 4 ∷ []) k)
-
 -- The forms, by their numbers:
 pub column_form : (f : Form) → (column f < 5) × (get_or columns (column f) closed ≡ f)
 unfolding column
@@ -43,12 +41,12 @@ column_form block = (omega arith, refl)
 column_form ascription = (omega arith, refl)
 
 -- a row of the table of brackets
-pub bracket_rule : (p k : ℕ) (s : Style) (f : Form) → k ≡ column f → get_or (bracket_row p s) k false ≡ is_bracketed (position_of p) s f
+pub bracket_rule : (p : PartPosition) (k : ℕ) (s : Style) (f : Form) → k ≡ column f → get_or (bracket_row p s) k false ≡ is_bracketed (position_of p) s f
 bracket_rule p k s f formed =
     mapped (is_bracketed (position_of p) s) columns closed false k (rw formed (column_form f).0)
     ∙ ap (is_bracketed (position_of p) s) (ap (λ i. get_or columns i closed) formed ∙ (column_form f).1)
 
-pub at_position : (p q : ℕ) (s : Style) (f : Form) {r : Bool} → p ≡ q → r ≡ is_bracketed (position_of p) s f → r ≡ is_bracketed (position_of q) s f
+pub at_position : (p q : PartPosition) (s : Style) (f : Form) {r : Bool} → p ≡ q → r ≡ is_bracketed (position_of p) s f → r ≡ is_bracketed (position_of q) s f
 at_position p q s f e h = h ∙ ap (λ i. is_bracketed (position_of i) s f) e
 
 -- the form of each kind

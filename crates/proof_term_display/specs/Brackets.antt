@@ -1,18 +1,22 @@
 -- The table of brackets, by positions, styles and forms.
-use Rattle.std.specs.Prelude.{ℕ, Bool, List, [], ◌∷◌, map, get_or}
+use Rattle.std.specs.Prelude.{ℕ, Bool, List, [], ◌∷◌, map}
 use Rattle.definitions.specs.declared.Style.{Style}
 use Rattle.definitions.specs.Name.{Name}
 use Rattle.definitions.specs.Prop.{Prop}
 use Rattle.definitions.specs.Term.{rename_term}
 use Rattle.definitions.specs.Display.{Form, closed, call, function, block, ascription, form, Position, function_of, argument_of, body_of, ascribed_by, part_of, within, brackets, bracketed}
 use Rattle.proof_term.specs.Records.{term_at}
+use Rattle.proof_term_display.specs.declared.PartPosition.{PartPosition}
+use Rattle.proof_term_display.specs.declared.PartPosition.TheVariants.{FunctionOf, ArgumentOf, BodyOf, AscribedBy, PartOf, Within}
 
--- the positions by their numbers
-abbrev pub positions : List Position
-positions = function_of ∷ argument_of ∷ body_of ∷ ascribed_by ∷ part_of ∷ within ∷ []
-
-abbrev pub position_of : ℕ → Position
-position_of p = get_or positions p part_of
+-- the rule's positions
+abbrev pub position_of : PartPosition → Position
+position_of FunctionOf = function_of
+position_of ArgumentOf = argument_of
+position_of BodyOf = body_of
+position_of AscribedBy = ascribed_by
+position_of PartOf = part_of
+position_of Within = within
 
 -- the forms by their numbers
 abbrev pub columns : List Form
@@ -30,7 +34,7 @@ unfoldable pub is_bracketed : Position → Style → Form → Bool
 is_bracketed p s f = bracketed (brackets p s) f
 
 -- the row of a position and a style
-abbrev pub bracket_row : ℕ → Style → List Bool
+abbrev pub bracket_row : PartPosition → Style → List Bool
 bracket_row p s = map (is_bracketed (position_of p) s) columns
 
 -- the form of record n's term, over any names

@@ -7,6 +7,8 @@ use Rattle.definitions.specs.Prop.{Prop}
 use Rattle.definitions.specs.Term.{ProofTerm, rename_label, rename_parameter_label, rename_term}
 use Rattle.definitions.specs.Display.{wrap, form, display_label, display_parameter_label, display_term}
 use Rattle.proof_term.specs.Records.{label_of, parameter_label}
+use Rattle.proof_term_display.specs.declared.PartPosition.{PartPosition}
+use Rattle.proof_term_display.specs.declared.PartPosition.TheVariants.{FunctionOf, ArgumentOf, BodyOf, AscribedBy, PartOf, Within}
 use Rattle.proof_term_display.specs.Brackets.{position_of, is_bracketed}
 
 pub data Item : Type 0 where
@@ -24,8 +26,9 @@ pub data Item : Type 0 where
 abbrev pub part_field : ℕ → ℕ
 part_field k = get_or (1 ∷ 2 ∷ 3 ∷ 1 ∷ 1 ∷ 1 ∷ 2 ∷ 1 ∷ 2 ∷ []) k 0
 
-abbrev pub part_position : ℕ → ℕ
-part_position k = get_or (5 ∷ 5 ∷ 5 ∷ 2 ∷ 3 ∷ 0 ∷ 1 ∷ 4 ∷ 4 ∷ []) k 0
+abbrev pub part_position : ℕ → PartPosition
+part_position k =
+    get_or (Within ∷ Within ∷ Within ∷ BodyOf ∷ AscribedBy ∷ FunctionOf ∷ ArgumentOf ∷ PartOf ∷ PartOf ∷ []) k FunctionOf
 
 -- 49 to 53 are 1 to 5, 65 to 73 are A to I, 76 is L and 77 is M
 unfoldable pub item_of : ℕ → Item

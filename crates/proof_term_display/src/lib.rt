@@ -31,17 +31,15 @@ const BLOCK: usize = 3;
 const ASCRIPTION: usize = 4;
 
 // The positions of parts.
-const FUNCTION_OF: u8 = 0;
-
-const ARGUMENT_OF: u8 = 1;
-
-const BODY_OF: u8 = 2;
-
-const ASCRIBED_BY: u8 = 3;
-
-const PART_OF: u8 = 4;
-
-const WITHIN: u8 = 5;
+#[derive(Clone, Copy, PartialEq, Eq)]
+pub enum PartPosition {
+    FunctionOf,
+    ArgumentOf,
+    BodyOf,
+    AscribedBy,
+    PartOf,
+    Within,
+}
 
 const FORMAT_SIZE: usize = 32;
 
@@ -64,20 +62,20 @@ pub fn part_field(k: usize) -> usize
 }
 
 // The position of each of them.
-pub fn part_position(k: usize) -> u8
+pub fn part_position(k: usize) -> PartPosition
     requires { k < 9 }
     ensures { result ≡ part_position k }
 {
     match k {
-        0 => WITHIN,
-        1 => WITHIN,
-        2 => WITHIN,
-        3 => BODY_OF,
-        4 => ASCRIBED_BY,
-        5 => FUNCTION_OF,
-        6 => ARGUMENT_OF,
-        7 => PART_OF,
-        _ => PART_OF,
+        0 => PartPosition::Within,
+        1 => PartPosition::Within,
+        2 => PartPosition::Within,
+        3 => PartPosition::BodyOf,
+        4 => PartPosition::AscribedBy,
+        5 => PartPosition::FunctionOf,
+        6 => PartPosition::ArgumentOf,
+        7 => PartPosition::PartOf,
+        _ => PartPosition::PartOf,
     }
 }
 
@@ -118,33 +116,33 @@ fn form_of(kind: usize) -> usize
 }
 
 // Whether a part is bracketed, by its position, the style and its form: closed, call, function, block, ascription.
-fn brackets_of(position: u8, style: Style) -> [bool; 5]
-    requires { position < 6 }
+#[tactic(auto, unfolding(crate::specs::Brackets::is_bracketed, definitions::specs::Display::brackets_of, definitions::specs::Display::is_strict, definitions::specs::Display::brackets, definitions::specs::Display::bracketed))]
+fn brackets_of(position: PartPosition, style: Style) -> [bool; 5]
     ensures { result ≡ bracket_row position style }
 {
     match style {
         Style::Plain => match position {
-            FUNCTION_OF => [false, false, true, false, true], // the function of an application, plain
-            ARGUMENT_OF => [false, true, true, false, true], // its argument, plain
-            BODY_OF => [false, true, true, true, true], // the body of a named function, plain
-            ASCRIBED_BY => [false, false, true, true, true], // the body of an ascription, plain
-            PART_OF => [false, false, false, false, false], // a part of a pair, plain
-            _ => [false, false, false, false, false], // within a function, a case or a let, plain
+            PartPosition::FunctionOf => [false, false, true, false, true], // the function of an application, plain
+            PartPosition::ArgumentOf => [false, true, true, false, true], // its argument, plain
+            PartPosition::BodyOf => [false, true, true, true, true], // the body of a named function, plain
+            PartPosition::AscribedBy => [false, false, true, true, true], // the body of an ascription, plain
+            PartPosition::PartOf => [false, false, false, false, false], // a part of a pair, plain
+            PartPosition::Within => [false, false, false, false, false], // within a function, a case or a let, plain
         },
         Style::Strict => match position {
-            FUNCTION_OF => [false, false, true, true, true], // the function of an application, strict
-            ARGUMENT_OF => [false, true, true, true, true], // its argument, strict
-            BODY_OF => [false, true, true, true, true], // the body of a named function, strict
-            ASCRIBED_BY => [false, false, true, true, true], // the body of an ascription, strict
-            PART_OF => [false, false, false, false, false], // a part of a pair, strict
-            _ => [false, false, false, false, true], // within a function, a case or a let, strict
+            PartPosition::FunctionOf => [false, false, true, true, true], // the function of an application, strict
+            PartPosition::ArgumentOf => [false, true, true, true, true], // its argument, strict
+            PartPosition::BodyOf => [false, true, true, true, true], // the body of a named function, strict
+            PartPosition::AscribedBy => [false, false, true, true, true], // the body of an ascription, strict
+            PartPosition::PartOf => [false, false, false, false, false], // a part of a pair, strict
+            PartPosition::Within => [false, false, false, false, true], // within a function, a case or a let, strict
         },
     }
 }
 
 // Whether the term of record `n` is bracketed in a position.
-pub fn is_bracketed(records: &[u16], n: usize, position: u8, style: Style) -> bool
-    requires { (record_size * (n + 1) ≤ length records.now) × (position < 6) }
+pub fn is_bracketed(records: &[u16], n: usize, position: PartPosition, style: Style) -> bool
+    requires { record_size * (n + 1) ≤ length records.now }
     ensures { (f : ℕ → Name) (props : ℕ → Prop ℕ) →
         result ≡ is_bracketed (position_of position) style (form_at f props records.now n) }
 {
@@ -264,7 +262,7 @@ fn is_body_bracketed(records: &[u16], n: usize, body: usize, style: Style) -> bo
     if body == n {
         return false;
     }
-    is_bracketed(records, body, ASCRIBED_BY, style)
+    is_bracketed(records, body, PartPosition::AscribedBy, style)
 }
 
 // What stands after the body of an ascription: a colon and its label.

@@ -143,10 +143,8 @@ fn known_length(
     let slot = at % KNOWN_LIMIT;
     let upper = at / KNOWN_LIMIT;
     let before = known[slot];
-    if before != 0 {
-        if before % 2 == upper as u32 {
-            return (before / 2) as usize;
-        }
+    if before != 0 && before % 2 == upper as u32 {
+        return (before / 2) as usize;
     }
     let length = text_length(bytes, v, ends, at);
     known[slot] = (2 * length + upper) as u32;

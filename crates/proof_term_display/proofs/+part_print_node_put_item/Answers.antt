@@ -11,7 +11,7 @@ use Rattle.prop.proofs.Shown.{below_as, written_as}
 use Rattle.proof_term_display.specs.Format.{part_field, item_text}
 use Rattle.proof_term_display.specs.Printable.{PrintableTerm}
 use Rattle.proof_term_display.specs.Item.{ItemReady}
-use Rattle.proof_term_display.proofs.Tables.{part_field_below, part_position_below, at_position}
+use Rattle.proof_term_display.proofs.Tables.{part_field_below, at_position}
 use Rattle.proof_term_display.proofs.Items.{between, item_outside, item_name, item_part, item_fixed}
 use Rattle.proof_term_display.proofs.Items.{item_of_parameter, item_of_ascription}
 use Rattle.proof_term_display.proofs.Progress.{start, ends_here, ends_past, item_ready, goes_on}
@@ -41,7 +41,7 @@ part-returns-then-n-number t c =
 
 pub part-is_bracketed-bracketed-requires : goal.part-is_bracketed-bracketed-requires
 part-is_bracketed-bracketed-requires t c =
-    (omega (arith, c.requires.printable_term.held), omega (arith, c.part_position.ensures, part_position_below c.args.k))
+    omega (arith, c.requires.printable_term.held)
 
 pub part-print_node-end-requires : goal.part-print_node-end-requires
 part-print_node-end-requires t c =

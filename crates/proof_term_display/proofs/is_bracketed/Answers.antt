@@ -25,11 +25,8 @@ returns c = λ f props.
     ap (λ row. get_or row c.form_of-column.result false) c.brackets_of-brackets.ensures
     ∙ bracket_rule c.args.position _ c.args.style _ (form_is c f props)
 
-pub brackets_of-brackets-requires : goal.brackets_of-brackets-requires
-brackets_of-brackets-requires c = c.requires.1
-
 pub kind_at-requires : goal.kind_at-requires
-kind_at-requires c = c.requires.0
+kind_at-requires c = c.requires
 
 pub form_of-column-requires : goal.form_of-column-requires
 form_of-column-requires c = c.kind_at.ensures.known

@@ -4,7 +4,7 @@ use mathlib.Core.Path.{◌≡◌, refl, sym, ap, ◌∙◌}
 use native.Mathlib.Omega.{arith}
 use Rattle.proof_term.specs.Records.{field_at}
 use Rattle.proof_term_display.specs.Format.{part_field}
-use Rattle.proof_term_display.proofs.Tables.{part_field_below, part_position_below, at_position}
+use Rattle.proof_term_display.proofs.Tables.{part_field_below, at_position}
 use Rattle.proof_term_length.proofs.Sums.{agree_exactly, agree_as_far, agree_sum}
 use Rattle.proof_term_length.proofs.Counting.{no_part_size, unit_size, bracketed_size, bare_size}
 use Rattle.proof_term_length.proofs.part_in.Goals as goal
@@ -25,7 +25,7 @@ returns-then-n-number c = λ bytes v measured.
 
 pub is_bracketed-requires : goal.is_bracketed-requires
 is_bracketed-requires c =
-    (omega (arith, c.requires.0, c.if-n-number.false), omega (arith, c.part_position.ensures, part_position_below (c.args.k - 1)))
+    omega (arith, c.requires.0, c.if-n-number.false)
 
 pub returns-then-is_bracketed : goal.returns-then-is_bracketed
 returns-then-is_bracketed c = λ bytes v measured.

@@ -1,5 +1,4 @@
 -- The loop's invariant: the records below m are measured, and the table of texts has only lengths of texts.
-use Prim.Native.Nat.{◌+◌, ◌-◌, ◌≤◌}
 use mathlib.Core.Path.{◌≡◌}
 use lib.ListN.{length}
 use Rattle.proof_term_length.specs.Measure.{MeasuredBelow, Known}
