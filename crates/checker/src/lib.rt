@@ -18,15 +18,10 @@ use proof_term::{
     PROJECT_FST, PROJECT_SND, SORRY, TYPE_ASCRIPTION, field,
 };
 use prop_numbers::{
-    MADE_NUMBERS, NAMES, STOPS, agree, expect, left, make, project, right, same_code, side_of,
+    AND, IMPL, MADE_NUMBERS, NAMES, OR, STOPS, agree, expect, left, make, project, right,
+    same_code, side_of,
 };
 use term_sizes::SIZE;
-
-const AND: usize = prefix_code::AND as usize;
-
-const OR: usize = prefix_code::OR as usize;
-
-const IMPL: usize = prefix_code::IMPL as usize;
 
 // The node after those of the term of record m, whose own is `node`.
 fn after(records: &[u16], m: usize, node: usize) -> usize
@@ -130,11 +125,7 @@ fn leaf(code: &[u8], kind: usize, node: usize) -> usize
     ensures { Leaf code.now kind node result }
 {
     match kind {
-        LET_IN => STOPS + node,
-        OR_LEFT => STOPS + node,
-        OR_RIGHT => STOPS + node,
-        ABORT => STOPS + node,
-        SORRY => STOPS + node,
+        LET_IN | OR_LEFT | OR_RIGHT | ABORT | SORRY => STOPS + node,
         _ => code.len() - 2,
     }
 }

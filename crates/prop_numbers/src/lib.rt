@@ -29,7 +29,12 @@ pub const NAMES: usize = 1024;
 // What stops, stops at this plus the node.
 pub const STOPS: usize = STANDING + NODES;
 
-const AND: usize = prefix_code::AND as usize;
+// The connectives, as `head` gives them.
+pub const AND: usize = prefix_code::AND as usize;
+
+pub const OR: usize = prefix_code::OR as usize;
+
+pub const IMPL: usize = prefix_code::IMPL as usize;
 
 // The head byte of a proposition.
 fn head(code: &[u8], made: &[u32], p: usize) -> usize
