@@ -2,5 +2,5 @@
 use Rattle.std.proofs.Common.{◌≤◌}
 use Rattle.replay.proofs.agreeing.Given as goal
 
-abbrev pub invariant-loop-i : goal.invariant-loop-i
-invariant-loop-i l = l.agreed ≤ l.i
+abbrev pub invariant-loop : goal.invariant-loop
+invariant-loop l = l.agreed ≤ l.counter
