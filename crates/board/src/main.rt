@@ -12,7 +12,7 @@ use std::io;
 // One byte more than the longest sheet: a longer input has the answer of its first part.
 const INPUT_ROOM: usize = Sheet::LENGTH_LIMIT + 1;
 
-// Memory for the input.
+// Memory for the input, in a function of its own: its contract ties the length to the longest sheet's.
 fn input_memory() -> [u8; INPUT_ROOM]
     ensures { input_room ≡ length result }
 {
