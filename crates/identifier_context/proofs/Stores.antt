@@ -1,15 +1,16 @@
 -- What stands at each place of the memory after a run of stores and after a move down.
-use Prim.Native.Nat.{ℕ, zero, suc, ◌+◌, ◌≤◌, ◌<◌}
+use Prim.Native.Nat.{ℕ, zero, suc, ◌+◌, ◌≤◌, ◌<◌, ◌*◌, ◌-◌}
 use mathlib.Core.Path.{◌≡◌, refl, sym, ◌∙◌}
 use mathlib.Core.List.{List, [], ◌∷◌, ◌++◌}
 use native.Mathlib.Omega.{arith}
 use lib.ListN.{length, get_or, take, drop, set, length-drop, length-set, get_or-append}
-use lib.Seq.{sets, paste, paste-zero, paste-suc, drop-paste, drop_at, length-paste, length_paste_head, length-take-le, get_or-set_same, get_or-set_other, get_or-take, get_or-drop}
+use lib.Seq.{sets, drop_at, length-paste, length_paste_head, length-take-le, get_or-set_same, get_or-set_other, get_or-take, get_or-drop}
 use borrow.Rule.Slice.PartMut.{put_mid}
 use Rattle.std.proofs.lemmas.Grind.{common_steps}
 use Rattle.std.proofs.lemmas.List.Edits.{sets-eq}
+use Rattle.std.specs.List.{copy_within}
 use Rattle.identifier_context.specs.Memory.{entry_size}
-use Rattle.identifier_context.specs.Promises.{shifted}
+use Rattle.identifier_context.specs.Promises.{shifted, closed}
 
 -- stores do not touch what stands before them
 pub sets_before : (values memory : List ℕ) (at m : ℕ) → m < at → get_or (sets memory at values) m 0 ≡ get_or memory m 0
@@ -62,27 +63,15 @@ module _ (memory : List ℕ) (at : ℕ) where
         ∙ rw (drop_at (take at memory) (take count later) at (length-take-le at memory (omega arith)))
         (get_or-take count later m 0 h ∙ get_or-drop (at + entry_size) memory m 0))
 
-    -- and nothing after it
-    pub shifted_after : (m : ℕ) → get_or (shifted memory at count) (at + count + m) 0 ≡ get_or memory (at + count + m) 0
-    unfolding shifted later
-    shifted_after m =
-        sym (get_or-drop (at + count) (paste memory at later count) m 0)
-        ∙ rw (drop-paste memory at later count (omega arith) later_fits) (get_or-drop (at + count) memory m 0)
-
+    -- and keeps their count
     pub shifted_length : length (shifted memory at count) ≡ length memory
     unfolding shifted later
     shifted_length = length-paste memory at later count (omega arith) later_fits
 
-  pub shifted_none : memory ≡ shifted memory at 0
-  unfolding shifted later
-  shifted_none = paste-zero memory at later
-
-  -- one number more
-  pub shifted_more : (count : ℕ) → at + entry_size + count < length memory
-      → set (shifted memory at count) (at + count) (get_or (shifted memory at count) (at + count + entry_size) 0) ≡ shifted memory at (suc count)
-  unfolding shifted later
-  shifted_more count fits =
-      let same : at + count + entry_size ≡ at + entry_size + count = omega arith in
-      let read : get_or (shifted memory at count) (at + count + entry_size) 0 ≡ get_or later count 0 =
-      shifted_after count (omega arith) entry_size ∙ rw same (sym (get_or-drop (at + entry_size) memory count 0)) in
-      rw read (paste-suc memory at later count 0 (omega arith) (simp length-drop (omega arith)))
+-- the later entries are copied one place down
+pub closed_is : (before : List ℕ) (n i : ℕ) → copy_within before (entry_size * (i + 1)) (entry_size * n) (entry_size * i) ≡ closed before n i
+unfolding closed shifted
+closed_is before n i =
+    let count : entry_size * n - entry_size * (i + 1) ≡ entry_size * (n - (i + 1)) = omega arith in
+    let from : entry_size * (i + 1) ≡ entry_size * i + entry_size = omega arith in
+    rw (count, from)

@@ -8,7 +8,7 @@ ghost use Rattle.definitions.specs.Name.{eq_name};
 ghost use Rattle.definitions.specs.Sheet.{marked};
 ghost use Rattle.number.specs.Pairs.{NameWithin};
 ghost use Rattle.identifier_context.specs.Memory.{Holds, entry_size, name_at, entry_of, entry_at};
-ghost use Rattle.identifier_context.specs.Promises.{Inserts, Finds, Removes, name_asked, admitted, shifted, closed, is_visible, Shows};
+ghost use Rattle.identifier_context.specs.Promises.{Inserts, Finds, Removes, name_asked, admitted, closed, is_visible, Shows};
 
 use definitions::Refusal;
 use identifier::same_bytes;
@@ -46,7 +46,7 @@ impl Names<'_> {
     }
 }
 
-// What is looked up: the latest entry of a name, or of a name and an id.
+// What is looked up: the latest entry of a name, or of a name and an id. The contracts speak of it, where a closure would have no name.
 #[derive(Debug, Clone, Copy, PartialEq, Eq)]
 pub enum Lookup {
     ByName(u16),
@@ -130,24 +130,14 @@ pub fn get(entries: &[u16], len: usize, names: Names, name: u16, id: u16) -> Opt
     find(entries, len, names, Lookup::ByIdentifier(name, id))
 }
 
-// Replaces so many numbers, from a place on, by those that stand one entry later.
-fn shift_down(entries: &mut [u16], at: usize, count: usize)
-    requires { at + entry_size + count ≤ length entries.old }
-    ensures { entries.new ≡ shifted entries.old at count }
-{
-    for moved in 0..count {
-        entries[at + moved] = entries[at + moved + ENTRY_SIZE];
-    }
-}
-
 // Takes out the entry of an index.
-#[tactic(auto, unfolding(crate::specs::Promises::closed))]
+#[tactic(auto, using(crate::proofs::Stores::closed_is))]
 fn take_out(entries: &mut [u16], len: usize, i: usize) -> Entry
     requires { (i < len) × (entry_size * len ≤ length entries.old) }
     ensures { (result ≡ entry_at entries.old i) × (entries.new ≡ closed entries.old len i) }
 {
     let entry = entry_at(entries, i);
-    shift_down(entries, ENTRY_SIZE * i, ENTRY_SIZE * (len - (i + 1)));
+    entries.copy_within(ENTRY_SIZE * (i + 1)..ENTRY_SIZE * len, ENTRY_SIZE * i);
     entry
 }
 
