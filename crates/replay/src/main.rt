@@ -8,8 +8,6 @@ ghost use Rattle.std.specs.Prelude.{◌≡◌, ◌<◌, ◌≤◌, length};
 use definitions::{Located, Style, Whose};
 use name_index::{FREE, SLOT_COUNT};
 use restating::Given;
-use skriduhol::{Grafted, Searched, Verdict};
-use skriduhol_terms::Judged;
 use std::{fs, io};
 use term_reader::TermSize;
 
@@ -141,30 +139,6 @@ fn listed(answer: Result<usize, Located>) -> Answer {
     Ok(answer?)
 }
 
-fn verdict_answer(verdict: Verdict) -> Answer {
-    match verdict {
-        Verdict::Yes => Ok(1),
-        Verdict::No => Ok(0),
-        Verdict::Refused(located) => Err(Refused::from(located)),
-    }
-}
-
-fn searched_answer(searched: Searched) -> Answer {
-    match searched {
-        Searched::At(i) => Ok(i),
-        Searched::Nowhere => Ok(usize::from(FREE)),
-        Searched::Refused(located) => Err(Refused::from(located)),
-    }
-}
-
-fn judged_answer(judged: Judged) -> Answer {
-    match judged {
-        Judged::Yes => Ok(YES),
-        Judged::No(node) => Ok(node),
-        Judged::Refused(located) => Err(Refused::from(located)),
-    }
-}
-
 // So many bytes of the list, at most the room, and zeros past them.
 fn read_bytes(rest: &mut &[u8], count: usize) -> [u8; ROOM] {
     let mut bytes = zeros();
@@ -208,7 +182,7 @@ fn list_agrees<F: FnOnce(&mut [u16]) -> Result<usize, Located>>(rest: &mut &[u8]
 fn comparison_agrees(rest: &mut &[u8], s: &[u8]) -> bool {
     let i = usize::from(read_u16(rest));
     let j = usize::from(read_u16(rest));
-    read_answer(rest) == verdict_answer(skriduhol::compare(s, i, j))
+    read_answer(rest) == listed(skriduhol::compare(s, i, j).map(|same| usize::from(same)))
 }
 
 fn handout_agrees(rest: &mut &[u8], s: &[u8], style: Style) -> bool {
@@ -253,7 +227,8 @@ fn search_agrees(rest: &mut &[u8], s: &[u8]) -> bool {
     let expected = read_answer(rest);
     let mut slots = [0; SLOT_COUNT];
     let _ = skriduhol::name_index(s, &mut slots);
-    searched_answer(skriduhol::find_name(s, &slots, &name[..length])) == expected
+    let found = skriduhol::find_name(s, &slots, &name[..length]);
+    listed(found.map(|number| number.unwrap_or(usize::from(FREE)))) == expected
 }
 
 // What is given for a restatement stands in the order of a step record.
@@ -274,7 +249,8 @@ fn judge_agrees(rest: &mut &[u8], s: &[u8]) -> bool {
     let hypotheses = read_numbers::<HYPOTHESES>(rest, count);
     let proposition = read_u64(rest);
     let expected = read_answer(rest);
-    judged_answer(skriduhol_terms::judge(s, &hypotheses[..count], proposition)) == expected
+    let judged = skriduhol_terms::judge(s, &hypotheses[..count], proposition);
+    listed(judged.map(|node| node.unwrap_or(YES))) == expected
 }
 
 // The nodes of a term, its names and its bytes of code; or how many numbers of records and bytes of names and of code are lent for it.
@@ -359,11 +335,8 @@ fn whose_number(whose: Whose) -> u8 {
     }
 }
 
-fn grafted_answer(grafted: Grafted) -> GraftAnswer {
-    match grafted {
-        Grafted::Length(length) => Ok(length),
-        Grafted::Refused(whose, located) => Err((whose_number(whose), Refused::from(located))),
-    }
+fn grafted_answer(grafted: Result<usize, (Whose, Located)>) -> GraftAnswer {
+    grafted.map_err(|(whose, located)| (whose_number(whose), Refused::from(located)))
 }
 
 // Only a refusal is somebody's.
