@@ -10,7 +10,8 @@ use Rattle.definitions.specs.Sheet.{proposition_nesting_limit, marked}
 use Rattle.definitions.specs.Comparison.{alpha_eq}
 use Rattle.prefix_code.specs.Scan.{proposition_coding}
 use Rattle.alpha_eq.specs.Bindings.{bindings_of}
-use Rattle.alpha_eq.specs.Comparing.{Compared, outcome_of, alpha_eq_under_in, Answers, WithRoom, TwoPropositions, Decides}
+use Rattle.alpha_eq.specs.Comparing.{Compared, alpha_eq_under_in, Answers, WithRoom, TwoPropositions, Decides}
+use Rattle.sheet.specs.Checks.{outcome_of}
 use Rattle.alpha_eq.proofs.Outcomes.{told, told_compared}
 
 module _ {code : List ℕ} {i j : ℕ} {pairs text : List ℕ} where

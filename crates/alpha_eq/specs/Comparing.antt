@@ -10,11 +10,7 @@ use Rattle.prefix_code.specs.Scan.{Coding, Stands, proposition_coding, parameter
 use Rattle.identifier.specs.Pairs.{PairsWithin}
 use Rattle.definitions.specs.declared.Refusal.{Refusal}
 use Rattle.alpha_eq.specs.Bindings.{bindings_of, Bound}
-
--- document 01's outcome of an answer
-abbrev pub outcome_of : {A : Type 0} → Result A Refusal → Outcome A
-outcome_of (Err r) = refused r
-outcome_of (Ok a) = accepted a
+use Rattle.sheet.specs.Checks.{outcome_of}
 
 -- what the walk answers: where two codes end that are the same
 abbrev pub Compared : Type 0

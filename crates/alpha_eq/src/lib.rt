@@ -8,7 +8,8 @@ ghost use Rattle.definitions.specs.Sheet.{marked};
 ghost use Rattle.number.specs.Pairs.{NameWithin};
 ghost use Rattle.prefix_code.specs.Scan.{proposition_coding, parameter_coding};
 ghost use Rattle.alpha_eq.specs.Bindings.{Bound, Kept};
-ghost use Rattle.alpha_eq.specs.Comparing.{outcome_of, of_sides, of_applied, of_scope, form_coding, several_coding, bound_alike_in, alpha_eq_parameter_in, alpha_eq_parameters_in, alpha_eq_atom_in, alpha_eq_under_in, alpha_eq_sides_in, alpha_eq_scope_in, Comparable, Answers, WithRoom, TwoPropositions, Decides};
+ghost use Rattle.alpha_eq.specs.Comparing.{of_sides, of_applied, of_scope, form_coding, several_coding, bound_alike_in, alpha_eq_parameter_in, alpha_eq_parameters_in, alpha_eq_atom_in, alpha_eq_under_in, alpha_eq_sides_in, alpha_eq_scope_in, Comparable, Answers, WithRoom, TwoPropositions, Decides};
+ghost use Rattle.sheet.specs.Checks.{outcome_of};
 
 use definitions::Refusal;
 use identifier::same_bytes;

@@ -17,7 +17,8 @@ use Rattle.steps.specs.Records.{HasStep}
 use Rattle.sheet.specs.declared.header.Sheet.{Sheet}
 use Rattle.sheet.specs.Header.{header_of}
 use Rattle.sheet.proofs.Admitted.{AcceptedSheet, code_of_bytes, has_codes, has_steps, names_within}
-use Rattle.alpha_eq.specs.Comparing.{Standing, Two, TwoPropositions, outcome_of, Decides}
+use Rattle.alpha_eq.specs.Comparing.{Standing, Two, TwoPropositions, Decides}
+use Rattle.sheet.specs.Checks.{outcome_of}
 use Rattle.comparison.specs.Conclusions.{named_prop}
 
 module _ {s : List ℕ} {h : Sheet} (a : AcceptedSheet s h) where

@@ -7,7 +7,7 @@ ghost use Rattle.definitions.specs.Name.{eq_name};
 ghost use Rattle.definitions.specs.Sheet.{names, propositions, name_of};
 ghost use Rattle.definitions.specs.Comparison.{alpha_eq};
 ghost use Rattle.definitions.specs.Answers.{comparison};
-ghost use Rattle.alpha_eq.specs.Comparing.{outcome_of};
+ghost use Rattle.sheet.specs.Checks.{outcome_of};
 ghost use Rattle.sheet.proofs.Admitted.{AcceptedSheet};
 ghost use Rattle.comparison.specs.Conclusions.{named_prop, JudgementIn, ConclusionIn, judgement_eq, conclusion_comparison};
 

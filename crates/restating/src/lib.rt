@@ -18,7 +18,7 @@ ghost use Rattle.steps.specs.Records.{HasStep};
 ghost use Rattle.steps.specs.Tables.{SizeTable};
 ghost use Rattle.sheet.specs.Header.{InRange};
 ghost use Rattle.sheet.proofs.Admitted.{AcceptedSheet};
-ghost use Rattle.alpha_eq.specs.Comparing.{outcome_of};
+ghost use Rattle.sheet.specs.Checks.{outcome_of};
 ghost use Rattle.restating.specs.Step.{given_of, header_numbers, sheet_with, root_compared, judged};
 ghost use Rattle.restating.specs.Slots.{slots_after};
 

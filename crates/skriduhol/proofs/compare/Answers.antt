@@ -2,7 +2,7 @@
 use mathlib.Core.Path.{◌≡◌, sym, ap, ◌∙◌}
 use Rattle.definitions.specs.Outcome.{refused}
 use Rattle.definitions.specs.Answers.{comparison}
-use Rattle.alpha_eq.specs.Comparing.{outcome_of}
+use Rattle.sheet.specs.Checks.{outcome_of}
 use Rattle.located.proofs.AfterHeader.{comparison_after_header}
 use Rattle.skriduhol.specs.Located.{verdict_of}
 use Rattle.skriduhol.proofs.compare.Goals as goal
