@@ -91,15 +91,20 @@ fn read_entry(rest: &mut &[u8]) -> Entry {
     }
 }
 
-// The list has an entry in each answer: 0 and one that does not count, 1 and the answer's, or a refusal's number and one that does not
-// count.
-fn read_answer(rest: &mut &[u8]) -> Answer {
-    let outcome = read_number(rest);
-    let entry = read_entry(rest);
-    match outcome {
-        0 => Ok(None),
-        1 => Ok(Some(entry)),
-        number => Err(number),
+// The entry of an answer without one.
+const NO_ENTRY: Entry = Entry {
+    name: 0,
+    id: 0,
+    kind: 0,
+    number: 0,
+};
+
+// An answer as the list has it: 0 for no entry, 1 for one, or a refusal's number; and the entry.
+fn listed(answer: Answer) -> (u16, Entry) {
+    match answer {
+        Ok(None) => (0, NO_ENTRY),
+        Ok(Some(entry)) => (1, entry),
+        Err(number) => (number, NO_ENTRY),
     }
 }
 
@@ -234,8 +239,9 @@ fn ask_next(rest: &mut &[u8], entries: &mut [u16], len: usize, before: usize, na
 // Whether the list's next answer is that of a turn.
 fn agrees(rest: &mut &[u8], turn: Turn) -> bool {
     let len = usize::from(read_number(rest));
-    let answer = read_answer(rest);
-    len == turn.len && answer == turn.answer
+    let outcome = read_number(rest);
+    let entry = read_entry(rest);
+    len == turn.len && (outcome, entry) == listed(turn.answer)
 }
 
 // How many of the answers to a context's questions agree. The context is empty at first.
