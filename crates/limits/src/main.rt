@@ -58,8 +58,9 @@ fn answer_file(rt: &(impl Files + Print), path: &str, room: usize) -> io::Result
 
 fn main(rt: HostRuntime) -> io::Result<()> {
     let arguments = env::args(&rt)?.skip(1).collect::<Vec<String>>(rt.alloc())?;
-    for pair in arguments.chunks_exact(2) {
-        answer_file(&rt, pair[1].as_str(), room_of(pair[0].as_bytes()))?;
+    for pair in arguments.chunks(2) {
+        let path = pair.get(1).map_or("", |path| path.as_str());
+        answer_file(&rt, path, room_of(pair[0].as_bytes()))?;
     }
     Ok(())
 }
