@@ -12,7 +12,7 @@ use Rattle.definitions.specs.Prop.{Prop, Connective, and, or, impl, connective_b
 use Rattle.definitions.specs.Code.{encode}
 use Rattle.prefix_code.specs.Scan.{Stands}
 use Rattle.prefix_code.specs.PropAt.{prop_at, Present}
-use Rattle.prefix_code.specs.Shape.{connective_at, quantifier_at, ImplicationAt, ShapeOf, is_true, is_false, is_binary, is_atom, is_quantified}
+use Rattle.prefix_code.specs.Shape.{connective_at, meant, quantifier_at, ImplicationAt, ShapeOf, is_true, is_false, is_binary, is_atom, is_quantified}
 use Rattle.prefix_code.specs.declared.Connective.TheVariants.{Impl}
 use Rattle.prefix_code.specs.declared.Shape.{Shape}
 use Rattle.prefix_code.specs.declared.Shape.TheVariants.{True, False, Binary, Atom, Quantified}
@@ -82,3 +82,10 @@ module _ {names : ℕ} {l : List ℕ} {at : ℕ} (h : Present names l at) where
   left_present (byte, after) =
       let b = binary_at names l at h.rest (prop_at names l at) h.stands (omega arith) (omega arith) in
       rw after (present names l (at + 1) b.left _ b.left_at)
+
+-- the byte of a connective stands for that connective
+pub meant_at : (c : Connective) → meant (connective_at (connective_byte c)) ≡ c
+unfolding connective_byte
+meant_at and = refl
+meant_at or = refl
+meant_at impl = refl

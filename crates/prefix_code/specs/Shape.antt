@@ -16,10 +16,17 @@ pub record SomeProposition (code : List ℕ) (at : ℕ) : Type 0 where
   pub names : ℕ
   pub present : Present names code at
 
--- the connective and the quantifier that a byte in front stands for
+-- the connective that a byte in front stands for
 abbrev pub connective_at : ℕ → Connective
 connective_at head = cond (eqb head 2) And (cond (eqb head 3) Or Impl)
 
+-- the connective as document 01 names it
+abbrev pub meant : Connective → proposition.Connective
+meant And = proposition.and
+meant Or = proposition.or
+meant Impl = proposition.impl
+
+-- the quantifier that a byte in front stands for
 abbrev pub quantifier_at : ℕ → Quantifier
 quantifier_at head = cond (eqb head 6) ForAll Exists
 

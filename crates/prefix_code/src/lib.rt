@@ -2,13 +2,15 @@
 #![tactic(auto)]
 
 ghost use Rattle.std.specs.Prelude.{◌≡◌, ℕ, ◌≤◌, ◌<◌, false, not, length, ltb, unwrap_or};
-ghost use Rattle.definitions.specs.Prop.{False, nesting};
+ghost use Rattle.definitions.specs.Prop.{False, nesting, connective_byte};
+ghost use Rattle.definitions.specs.Display.{connective_precedence, wraps_left, wraps_right};
+ghost use Rattle.definitions.specs.TermReader.{right_least};
 ghost use Rattle.definitions.specs.Code.{decode};
 ghost use Rattle.definitions.specs.Admission.{is_none};
 ghost use Rattle.prefix_code.specs.Scan.{Ends, Scanned, parameter_coding, parameters_coding, shallow_coding};
 ghost use Rattle.prefix_code.specs.Head.{head_coding, parts_after};
 ghost use Rattle.prefix_code.specs.PropAt.{Present};
-ghost use Rattle.prefix_code.specs.Shape.{SomeProposition, connective_at, quantifier_at, ShapeOf};
+ghost use Rattle.prefix_code.specs.Shape.{SomeProposition, connective_at, meant, quantifier_at, ShapeOf};
 
 // An atom has at most so many parameters.
 pub const PARAMETER_LIMIT: u8 = 8;
@@ -185,12 +187,83 @@ pub fn is_deep(code: &[u8], names: usize, limit: usize) -> bool
     code.len() < shallow_end(code, 0, names, limit)
 }
 
-// ∧, ∨ and ⊃.
+// ∧, ∨ and ⊃, each with its byte in front.
 #[derive(Debug, Clone, Copy, PartialEq, Eq)]
 pub enum Connective {
-    And,
-    Or,
-    Impl,
+    And = 2,
+    Or = 3,
+    Impl = 4,
+}
+
+impl Connective {
+    // The connective that a byte in front stands for.
+    pub fn of_byte(head: u8) -> Connective
+        ensures { result ≡ connective_at head }
+    {
+        match head {
+            AND => Connective::And,
+            OR => Connective::Or,
+            _ => Connective::Impl,
+        }
+    }
+
+    // Its byte in front.
+    #[tactic(auto, unfolding(definitions::specs::Prop::connective_byte))]
+    pub fn byte(self) -> u8
+        ensures { result ≡ connective_byte (meant self) }
+    {
+        self as u8
+    }
+
+    // How strongly it binds.
+    #[tactic(auto, unfolding(definitions::specs::Display::connective_precedence))]
+    pub fn strength(self) -> usize
+        ensures { result ≡ connective_precedence (meant self) }
+    {
+        match self {
+            Connective::And => 4,
+            Connective::Or => 3,
+            Connective::Impl => 2,
+        }
+    }
+
+    // How strongly its left side must bind to stand without brackets: ∧ and ∨ associate to the left, ⊃ to the right.
+    #[tactic(auto, unfolding(definitions::specs::Display::wraps_left))]
+    pub fn left_least(self) -> usize
+        ensures { (strength : ℕ) → ltb strength result ≡ wraps_left (meant self) strength }
+    {
+        match self {
+            Connective::And => 4,
+            Connective::Or | Connective::Impl => 3,
+        }
+    }
+
+    // The same for its right side.
+    #[tactic(auto, unfolding(definitions::specs::TermReader::right_least, definitions::specs::Display::wraps_right))]
+    pub fn right_least(self) -> usize
+        ensures is { result ≡ right_least (meant self) }
+        ensures wraps { (strength : ℕ) → ltb strength result ≡ wraps_right (meant self) strength }
+    {
+        match self {
+            Connective::And => 5,
+            Connective::Or => 4,
+            Connective::Impl => 2,
+        }
+    }
+
+    // Whether a left side that binds so strongly is bracketed.
+    pub fn wraps_left(self, strength: usize) -> bool
+        ensures { result ≡ wraps_left (meant self) strength }
+    {
+        strength < self.left_least()
+    }
+
+    // Whether a right side that binds so strongly is bracketed.
+    pub fn wraps_right(self, strength: usize) -> bool
+        ensures { result ≡ wraps_right (meant self) strength }
+    {
+        strength < self.right_least()
+    }
 }
 
 // ∀ and ∃.
@@ -198,17 +271,6 @@ pub enum Connective {
 pub enum Quantifier {
     ForAll,
     Exists,
-}
-
-// The connective that a byte in front stands for.
-fn connective_of(head: u8) -> Connective
-    ensures { result ≡ connective_at head }
-{
-    match head {
-        AND => Connective::And,
-        OR => Connective::Or,
-        _ => Connective::Impl,
-    }
 }
 
 // The quantifier that a byte in front stands for.
@@ -258,7 +320,7 @@ pub fn shape_at(code: &[u8], at: usize) -> Shape
     }
     if head < ATOM {
         return Shape::Binary {
-            connective: connective_of(head),
+            connective: Connective::of_byte(head),
             left: at + 1,
         };
     }

@@ -31,7 +31,7 @@ pub overflow_add-result : goal.overflow_add-result
 overflow_add-result c = omega (arith, inside c.requires.present)
 
 pub returns-then-head-lt-ATOM : goal.returns-then-head-lt-ATOM
-returns-then-head-lt-ATOM c names h = rw c.connective_of.ensures (binary_shape h (omega (arith, c.if-head-eq-TRUE.false, c.if-head-eq-FALSE.false)) c.if-head-lt-ATOM.true)
+returns-then-head-lt-ATOM c names h = rw c.of_byte.ensures (binary_shape h (omega (arith, c.if-head-eq-TRUE.false, c.if-head-eq-FALSE.false)) c.if-head-lt-ATOM.true)
 
 pub overflow_add-at : goal.overflow_add-at
 overflow_add-at c = omega (arith, named c)
