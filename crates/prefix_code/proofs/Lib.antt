@@ -9,3 +9,4 @@ pub mod Depth
 pub mod Whole
 pub mod Reading
 pub mod Shapes
+pub mod Fronts

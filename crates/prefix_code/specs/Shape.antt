@@ -8,6 +8,9 @@ use Rattle.prefix_code.specs.declared.Connective.{Connective}
 use Rattle.prefix_code.specs.declared.Connective.TheVariants.{And, Or, Impl}
 use Rattle.prefix_code.specs.declared.Quantifier.{Quantifier}
 use Rattle.prefix_code.specs.declared.Quantifier.TheVariants.{ForAll, Exists}
+use Rattle.prefix_code.specs.declared.Head.{Head}
+use Rattle.prefix_code.specs.declared.ParameterKind.{ParameterKind}
+use Rattle.prefix_code.specs.declared.ParameterKind.TheVariants.{Uninstantiated, Instantiated}
 use Rattle.prefix_code.specs.declared.Shape.{Shape}
 use Rattle.prefix_code.specs.declared.Shape.TheVariants.{True, False, Binary, Atom, Quantified}
 
@@ -29,6 +32,24 @@ meant Impl = proposition.impl
 -- the quantifier that a byte in front stands for
 abbrev pub quantifier_at : ℕ → Quantifier
 quantifier_at head = cond (eqb head 6) ForAll Exists
+
+-- the quantifier as document 01 names it
+abbrev pub quantifier_meant : Quantifier → proposition.Quantifier
+quantifier_meant ForAll = proposition.for_all
+quantifier_meant Exists = proposition.exists
+
+-- the byte of what stands in front
+abbrev pub head_byte : Head → ℕ
+head_byte Head.True = 0
+head_byte Head.False = 1
+head_byte (Head.Binary c) = connective_byte (meant c)
+head_byte Head.Atom = 5
+head_byte (Head.Quantified q) = quantifier_byte (quantifier_meant q)
+
+-- the byte in front of a parameter
+abbrev pub kind_byte : ParameterKind → ℕ
+kind_byte Uninstantiated = 0
+kind_byte Instantiated = 1
 
 -- what each shape says of the proposition at a position
 pub data ShapeOf (names : ℕ) (code : List ℕ) (at : ℕ) : Shape → Type 0 where

@@ -1,7 +1,7 @@
 // A proposition's prefix code: where it ends, whether it is one, and whether it nests too deep.
 #![tactic(auto)]
 
-ghost use Rattle.std.specs.Prelude.{◌≡◌, ℕ, ◌≤◌, ◌<◌, false, not, length, ltb, unwrap_or};
+ghost use Rattle.std.specs.Prelude.{◌≡◌, ℕ, ◌≤◌, ◌<◌, false, not, length, ltb, get_or, MatchOption, unwrap_or};
 ghost use Rattle.definitions.specs.Prop.{False, nesting, connective_byte};
 ghost use Rattle.definitions.specs.Display.{connective_precedence, wraps_left, wraps_right};
 ghost use Rattle.definitions.specs.TermReader.{right_least};
@@ -10,12 +10,12 @@ ghost use Rattle.definitions.specs.Admission.{is_none};
 ghost use Rattle.prefix_code.specs.Scan.{Ends, Scanned, parameter_coding, parameters_coding, shallow_coding};
 ghost use Rattle.prefix_code.specs.Head.{head_coding, parts_after};
 ghost use Rattle.prefix_code.specs.PropAt.{Present};
-ghost use Rattle.prefix_code.specs.Shape.{SomeProposition, connective_at, meant, quantifier_at, ShapeOf};
+ghost use Rattle.prefix_code.specs.Shape.{SomeProposition, connective_at, kind_byte, meant, head_byte, ShapeOf};
 
 // An atom has at most so many parameters.
 pub const PARAMETER_LIMIT: u8 = 8;
 
-// The bytes in front. Each names one form of proposition for every crate.
+// The bytes in front, as they are written. Each names one form of proposition for every crate, and is read as a `Head`.
 pub const TRUE: u8 = 0;
 
 pub const FALSE: u8 = 1;
@@ -32,11 +32,31 @@ pub const FOR_ALL: u8 = 6;
 
 pub const EXISTS: u8 = 7;
 
-// How many propositions follow each head byte.
-const PARTS: [u8; 8] = [0, 0, 2, 2, 2, 0, 1, 1];
+// Code, a place in it and the count of its names stand loose: the place moves from call to call, and in a struct of the other two each
+// clause would read `code.bytes.now` and `code.names`. What a function promises of an end is one relation, `Ends`, of its own coding.
 
 // An end below is a position past the end of the code where nothing stands, and no Option: most callers know that something stands,
 // and use the end as it is, where each would have to unwrap it.
+
+// A parameter that a quantifier binds, and one with an id, each by the byte in front of its name.
+#[derive(Debug, Clone, Copy, PartialEq, Eq)]
+pub enum ParameterKind {
+    Uninstantiated,
+    Instantiated,
+}
+
+impl ParameterKind {
+    // The kind of a byte in front.
+    pub fn of_byte(b: u8) -> Option<ParameterKind>
+        ensures { MatchOption result (2 ≤ b) (λ k. b ≡ kind_byte k) }
+    {
+        match b {
+            0 => Some(ParameterKind::Uninstantiated),
+            1 => Some(ParameterKind::Instantiated),
+            _ => None,
+        }
+    }
+}
 
 // Where the parameter at `at` ends, and past the end of the code if none stands there.
 pub fn parameter_end(code: &[u8], at: usize, names: usize) -> usize
@@ -50,17 +70,14 @@ pub fn parameter_end(code: &[u8], at: usize, names: usize) -> usize
     if names <= number::number_at(code, at + 1) {
         return none;
     }
-    let kind = code[at];
-    if kind == 0 {
-        return at + 3;
-    }
-    if 1 < kind {
+    let Some(kind) = ParameterKind::of_byte(code[at]) else {
         return none;
+    };
+    match kind {
+        ParameterKind::Uninstantiated => at + 3,
+        ParameterKind::Instantiated if 5 <= code.len() - at => at + 5,
+        ParameterKind::Instantiated => none,
     }
-    if code.len() - at < 5 {
-        return none;
-    }
-    at + 5
 }
 
 // Where so many parameters from `at` on end, and past the end of the code if fewer stand there.
@@ -79,37 +96,36 @@ pub fn parameters_end(code: &[u8], at: usize, count: usize, names: usize) -> usi
     i
 }
 
-// Where the head at `at` ends, and past the end of the code if none stands there.
+// Where the atom at `at` ends with its parameters, and past the end of the code if none stands there.
 #[tactic(auto, unfolding(definitions::specs::Code::parameter_limit))]
-pub fn head_end(code: &[u8], at: usize, names: usize) -> usize
-    requires { at ≤ length code.now }
+fn atom_end(code: &[u8], at: usize, names: usize) -> usize
+    requires { (at < length code.now) × (get_or code.now at 0 ≡ 5) }
     ensures { Ends (head_coding names) code.now at result }
 {
     let none = code.len() + 1;
-    if code.len() <= at {
-        return none;
-    }
-    let head = code[at];
-    if head < ATOM {
-        return at + 1;
-    }
-    if EXISTS < head {
-        return none;
-    }
     if code.len() - at < 4 {
         return none;
     }
     if names <= number::number_at(code, at + 1) {
         return none;
     }
-    if head == ATOM {
-        let count = code[at + 3];
-        if PARAMETER_LIMIT < count {
-            return none;
-        }
-        return parameters_end(code, at + 4, count as usize, names);
+    let count = code[at + 3];
+    if PARAMETER_LIMIT < count {
+        return none;
     }
+    parameters_end(code, at + 4, count as usize, names)
+}
+
+// Where the quantifier at `at` ends with its object and its datatype, and past the end of the code if none stands there.
+fn quantifier_end(code: &[u8], at: usize, names: usize) -> usize
+    requires { (at < length code.now) × (5 < get_or code.now at 0) × (get_or code.now at 0 < 8) }
+    ensures { Ends (head_coding names) code.now at result }
+{
+    let none = code.len() + 1;
     if code.len() - at < 5 {
+        return none;
+    }
+    if names <= number::number_at(code, at + 1) {
         return none;
     }
     if names <= number::number_at(code, at + 3) {
@@ -118,13 +134,36 @@ pub fn head_end(code: &[u8], at: usize, names: usize) -> usize
     at + 5
 }
 
+// Where the head at `at` ends, and past the end of the code if none stands there.
+pub fn head_end(code: &[u8], at: usize, names: usize) -> usize
+    requires { at ≤ length code.now }
+    ensures { Ends (head_coding names) code.now at result }
+{
+    let none = code.len() + 1;
+    if code.len() <= at {
+        return none;
+    }
+    let Some(head) = Head::of_byte(code[at]) else {
+        return none;
+    };
+    match head {
+        Head::Atom => atom_end(code, at, names),
+        Head::Quantified(_) => quantifier_end(code, at, names),
+        Head::True | Head::False | Head::Binary(_) => at + 1,
+    }
+}
+
 // How many propositions follow a head byte.
 #[tactic(auto, unfolding(crate::specs::Head::parts_after))]
 pub fn parts_after(head: u8) -> usize
     requires { head < 8 }
     ensures { result ≡ parts_after head }
 {
-    PARTS[head as usize] as usize
+    match head {
+        AND | OR | IMPL => 2,
+        FOR_ALL | EXISTS => 1,
+        _ => 0,
+    }
 }
 
 // Where the proposition at `at` ends, and past the end of the code if none stands there. How many are still needed grows on the way, so
@@ -273,13 +312,33 @@ pub enum Quantifier {
     Exists,
 }
 
-// The quantifier that a byte in front stands for.
-fn quantifier_of(head: u8) -> Quantifier
-    ensures { result ≡ quantifier_at head }
-{
-    match head {
-        FOR_ALL => Quantifier::ForAll,
-        _ => Quantifier::Exists,
+// What stands in front of a proposition's code.
+#[derive(Debug, Clone, Copy, PartialEq, Eq)]
+pub enum Head {
+    True,
+    False,
+    Binary(Connective),
+    Atom,
+    Quantified(Quantifier),
+}
+
+impl Head {
+    // The head of a byte in front.
+    #[tactic(auto, unfolding(definitions::specs::Prop::connective_byte, definitions::specs::Prop::quantifier_byte))]
+    pub fn of_byte(b: u8) -> Option<Head>
+        ensures { MatchOption result (8 ≤ b) (λ h. b ≡ head_byte h) }
+    {
+        match b {
+            TRUE => Some(Head::True),
+            FALSE => Some(Head::False),
+            AND => Some(Head::Binary(Connective::And)),
+            OR => Some(Head::Binary(Connective::Or)),
+            IMPL => Some(Head::Binary(Connective::Impl)),
+            ATOM => Some(Head::Atom),
+            FOR_ALL => Some(Head::Quantified(Quantifier::ForAll)),
+            EXISTS => Some(Head::Quantified(Quantifier::Exists)),
+            _ => None,
+        }
     }
 }
 
@@ -311,31 +370,26 @@ pub fn shape_at(code: &[u8], at: usize) -> Shape
     requires { SomeProposition code.now at }
     ensures { (names : ℕ) → Present names code.now at → ShapeOf names code.now at result }
 {
-    let head = code[at];
-    if head == TRUE {
-        return Shape::True;
-    }
-    if head == FALSE {
-        return Shape::False;
-    }
-    if head < ATOM {
-        return Shape::Binary {
-            connective: Connective::of_byte(head),
+    let Some(head) = Head::of_byte(code[at]) else {
+        unreachable!();
+    };
+    match head {
+        Head::True => Shape::True,
+        Head::False => Shape::False,
+        Head::Binary(connective) => Shape::Binary {
+            connective,
             left: at + 1,
-        };
-    }
-    let name = number::number_at(code, at + 1);
-    if head == ATOM {
-        return Shape::Atom {
-            name,
+        },
+        Head::Atom => Shape::Atom {
+            name: number::number_at(code, at + 1),
             count: code[at + 3],
             parameters: at + 4,
-        };
-    }
-    Shape::Quantified {
-        quantifier: quantifier_of(head),
-        object: name,
-        datatype: number::number_at(code, at + 3),
-        body: at + 5,
+        },
+        Head::Quantified(quantifier) => Shape::Quantified {
+            quantifier,
+            object: number::number_at(code, at + 1),
+            datatype: number::number_at(code, at + 3),
+            body: at + 5,
+        },
     }
 }
