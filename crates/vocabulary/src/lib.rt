@@ -10,6 +10,10 @@ use number::{PAIR_SIZE, marked_bytes};
 use prefix_code::{Shape, shape_at};
 use std::cmp::Ordering;
 
+// A memory and its vocabulary stand loose: a vocabulary is a plain value that settings of a printing carry too, and a clause on both says
+// `name_in bytes.now v i` where one on a struct of them would say `name_in m.now.bytes.now m.now.vocabulary i`. That the parts lie within
+// the memory is a field of `Names` and of `SomeProposition`, which the functions that read through a vocabulary ask for.
+
 // The count of names, and where their pairs, their text and the code begin; how long the last two are.
 #[derive(Clone, Copy)]
 pub struct Vocabulary {
@@ -21,21 +25,13 @@ pub struct Vocabulary {
     pub code_length: usize,
 }
 
-// So many bytes from a place on.
-fn part(bytes: &[u8], start: usize, count: usize) -> &[u8]
-    requires { start + count ≤ length bytes.now }
-    ensures { result.now ≡ take count (drop start bytes.now) }
-{
-    &bytes[start..start + count]
-}
-
 // The names' pairs.
 #[tactic(auto, unfolding(crate::specs::Vocabulary::pairs_in, definitions::specs::Sheet::pair_size))]
 pub fn pairs_of(bytes: &[u8], v: Vocabulary) -> &[u8]
     requires { Within bytes.now v }
     ensures { result.now ≡ pairs_in bytes.now v }
 {
-    part(bytes, v.pairs, PAIR_SIZE * v.name_count)
+    &bytes[v.pairs..v.pairs + PAIR_SIZE * v.name_count]
 }
 
 // Their text.
@@ -44,7 +40,7 @@ pub fn text_of(bytes: &[u8], v: Vocabulary) -> &[u8]
     requires { Within bytes.now v }
     ensures { result.now ≡ text_in bytes.now v }
 {
-    part(bytes, v.text, v.text_length)
+    &bytes[v.text..v.text + v.text_length]
 }
 
 // The code of the propositions.
@@ -53,7 +49,7 @@ pub fn code_of(bytes: &[u8], v: Vocabulary) -> &[u8]
     requires { Within bytes.now v }
     ensures { result.now ≡ code_in bytes.now v }
 {
-    part(bytes, v.code, v.code_length)
+    &bytes[v.code..v.code + v.code_length]
 }
 
 // The bytes of a name.
