@@ -84,28 +84,27 @@ module _ (names : ℕ) {code : List ℕ} {at : ℕ} (numbers : List ℕ) {write 
   pub bare_written : get_or code at 0 < 5 → Renumbers (head_coding names) rename_head code at numbers write before to first next
   bare_written k = record { wrote = λ h rest s. rw (bare_text names code at (mapped numbers) h rest s k) w }
 
-  module _ {second : List ℕ} {name position : ℕ} (name_at : name ≡ number_at code (at + 1))
-      (v : Wrote (u16 (get_or numbers name 0)) write first next second position) where
+  module _ {second : List ℕ} {position : ℕ} (v : Wrote (u16 (mapped numbers (number_at code (at + 1)))) write first next second position) where
     pub atom_written : get_or code at 0 ≡ 5 → {third fourth : List ℕ} {counted end : ℕ}
         → Wrote (get_or code (at + 3) 0 ∷ []) write second position third counted
         → Renumbers (parameters_coding names (get_or code (at + 3) 0)) rename_parameters code (at + 4) numbers write third counted fourth end
         → Renumbers (head_coding names) rename_head code at numbers write before to fourth end
-    unfolding encode_head rename_head rename_parameters mapped
+    unfolding encode_head rename_head rename_parameters
     atom_written k u ps = record {
       wrote = λ h rest s.
           let a = atom_there names code at h rest s k in
           let b = a.bytes in
           let joined = writing.then (rw k at w) (writing.then v (writing.then u (ps.wrote a.parameters rest b.parameters))) in
-          rw (a.is, length-map, ← b.count, ← b.name, ← name_at) joined;
+          rw (a.is, length-map, ← b.count, ← b.name) joined;
     }
 
-    pub quantifier_written : 5 < get_or code at 0 → {third : List ℕ} {datatype end : ℕ} → datatype ≡ number_at code (at + 3)
-        → Wrote (u16 (get_or numbers datatype 0)) write second position third end
+    pub quantifier_written : 5 < get_or code at 0 → {third : List ℕ} {end : ℕ}
+        → Wrote (u16 (mapped numbers (number_at code (at + 3)))) write second position third end
         → Renumbers (head_coding names) rename_head code at numbers write before to third end
-    unfolding encode_head rename_head mapped
-    quantifier_written k datatype-at u = record {
+    unfolding encode_head rename_head
+    quantifier_written k u = record {
       wrote = λ h rest s.
           let a = quantifier_there names code at h rest s k in
           let b = a.bytes in
-          rw (a.is, ← b.byte, ← b.object, ← b.datatype, ← name_at, ← datatype-at) (writing.then w (writing.then v u));
+          rw (a.is, ← b.byte, ← b.object, ← b.datatype) (writing.then w (writing.then v u));
     }

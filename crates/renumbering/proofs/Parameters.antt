@@ -1,6 +1,6 @@
 -- What is written for a parameter, and for parameters one after another.
 use Prim.Native.Nat.{ℕ, ◌+◌, ◌-◌, ◌≤◌, ◌<◌}
-use mathlib.Core.Path.{◌≡◌, refl, sym, ◌∙◌}
+use mathlib.Core.Path.{◌≡◌, refl, ◌∙◌}
 use mathlib.Core.Bool.{Bool}
 use mathlib.Core.List.{List, [], ◌∷◌, ◌++◌, append_assoc}
 use native.Mathlib.Omega.{arith}
@@ -21,34 +21,25 @@ module _ (names : ℕ) {code : List ℕ} {at : ℕ} where
   pub parameter_at : (s : Standing (parameter_coding names) code at) → ParameterBytes names code at s.value s.rest
   parameter_at s = parameter_bytes names code at s.value s.rest s.stands
 
-  -- an instantiated one has two bytes more
-  pub second_inside : Standing (parameter_coding names) code at → (get_or code at 0 ≡ 0 → ⊥) → at + 5 ≤ length code
-  second_inside s h =
-      let b = parameter_at s in
-      let one : get_or code at 0 ≡ 1 = omega (arith, b.kind) in
-      (b.instantiated one).1
-
-module _ (names : ℕ) {code : List ℕ} {at : ℕ} (numbers : List ℕ) {write : Bool} {before first second : List ℕ} {to kind name next position : ℕ}
-    (kind_at : kind ≡ get_or code at 0) (name_at : name ≡ number_at code (at + 1))
-    (w : Wrote (kind ∷ []) write before to first next) (v : Wrote (u16 (get_or numbers name 0)) write first next second position) where
-  pub uninstantiated_written : kind ≡ 0 → Renumbers (parameter_coding names) rename_parameter code at numbers write before to second position
-  unfolding encode_parameter rename_parameter mapped
-  uninstantiated_written zero-kind = record {
+module _ (names : ℕ) {code : List ℕ} {at : ℕ} (numbers : List ℕ) {write : Bool} {before first second : List ℕ} {to next position : ℕ}
+    (w : Wrote (get_or code at 0 ∷ []) write before to first next)
+    (v : Wrote (u16 (mapped numbers (number_at code (at + 1)))) write first next second position) where
+  pub uninstantiated_written : get_or code at 0 ≡ 0 → Renumbers (parameter_coding names) rename_parameter code at numbers write before to second position
+  unfolding encode_parameter rename_parameter
+  uninstantiated_written byte = record {
     wrote = λ p rest s.
         let b = parameter_bytes names code at p rest s in
-        let is = (b.uninstantiated (sym kind_at ∙ zero-kind)).0 in
-        rw (is, ← name_at) (writing.then (rw zero-kind at w) v);
+        rw (b.uninstantiated byte).0 (writing.then (rw byte at w) v);
   }
 
-  pub instantiated_written : {third : List ℕ} {id end : ℕ} → (kind ≡ 0 → ⊥) → id ≡ number_at code (at + 3) → Wrote (u16 id) write second position third end
+  pub instantiated_written : {third : List ℕ} {id end : ℕ} → get_or code at 0 ≡ 1 → id ≡ number_at code (at + 3)
+      → Wrote (u16 id) write second position third end
       → Renumbers (parameter_coding names) rename_parameter code at numbers write before to third end
-  unfolding encode_parameter rename_parameter mapped
-  instantiated_written {third} {id} {end} some-kind id_at u = record {
+  unfolding encode_parameter rename_parameter
+  instantiated_written byte id_at u = record {
     wrote = λ p rest s.
         let b = parameter_bytes names code at p rest s in
-        let one : kind ≡ 1 = omega (arith, b.kind) in
-        let is = (b.instantiated (sym kind_at ∙ one)).0 in
-        rw (is, ← name_at, ← id_at) (writing.then (rw one at w) (writing.then v u));
+        rw ((b.instantiated byte).0, ← id_at) (writing.then (rw byte at w) (writing.then v u));
   }
 
 -- The parameters that are left decide what is left to write.

@@ -1,12 +1,10 @@
 -- What is made of a conclusion and a step, and what is written of them, piece by piece.
 use Prim.Native.Nat.{ℕ, ◌+◌}
-use mathlib.Core.Path.{◌≡◌, refl, sym, ap, ◌∙◌}
-use mathlib.Core.Bool.{Bool, true, false}
+use mathlib.Core.Path.{◌≡◌, refl, ap}
+use mathlib.Core.Bool.{Bool}
 use mathlib.Core.List.{List, [], ◌∷◌, ◌++◌, map, append_assoc, append-nil}
 use native.Mathlib.Numerals.{add-one}
-use lib.ListN.{get_or}
 use lib.Dec.{leb}
-use Rattle.definitions.specs.Tree.{rules, Sorry, identifier_count}
 use Rattle.definitions.specs.Encode.{concat}
 use Rattle.definitions.specs.Graft.{up_to}
 use Rattle.output.specs.Numbers.{u16s}
@@ -19,20 +17,6 @@ use Rattle.steps.specs.declared.Step.{Step}
 use Rattle.steps.specs.StepAt.{step_at}
 use Rattle.renumbering.specs.StepOver.{identifiers_of, name_over, conclusion_over, step_over, conclusion_bytes, step_bytes, steps_over}
 
--- a number that is a name's, and one that is not
-pub as_it_stands : (f : ℕ → ℕ) (named : Bool) (n : ℕ) → named ≡ false → n ≡ name_over f named n
-unfolding name_over
-as_it_stands f named n e = rw e
-
-pub through_map : (f : ℕ → ℕ) (named : Bool) (n : ℕ) → named ≡ true → f n ≡ name_over f named n
-unfolding name_over
-through_map f named n e = rw e
-
--- the count of a step's identifiers
-pub has_identifiers : (s : Step) (n : ℕ) {ids : ℕ} → ids ≡ identifier_count (get_or rules s.rule Sorry) → leb n ids ≡ true → leb n (identifiers_of s) ≡ true
-unfolding identifiers_of
-has_identifiers s n e h = ap (leb n) (sym e) ∙ h
-
 module _ (f : ℕ → ℕ) (shift : ℕ) {c : Conclusion} where
   pub proposition_over : {p : ℕ} → c ≡ PropIsTrue p → PropIsTrue (shift + p) ≡ conclusion_over f shift c
   unfolding conclusion_over
@@ -44,8 +28,8 @@ module _ (f : ℕ → ℕ) (shift : ℕ) {c : Conclusion} where
   judgement_over e = rw e
 
 -- the step that is made of a step's parts over the map
-pub step_over_lem : (f : ℕ → ℕ) (shift : ℕ) (s : Step) {ids first second : ℕ} {c : Conclusion} → ids ≡ identifier_count (get_or rules s.rule Sorry)
-    → first ≡ name_over f (leb 1 ids) s.first.name → second ≡ name_over f (leb 2 ids) s.second.name
+pub step_over_lem : (f : ℕ → ℕ) (shift : ℕ) (s : Step) {first second : ℕ} {c : Conclusion}
+    → first ≡ name_over f (leb 1 (identifiers_of s)) s.first.name → second ≡ name_over f (leb 2 (identifiers_of s)) s.second.name
     → c ≡ conclusion_over f shift s.conclusion
     → record {
       rule = s.rule;
@@ -55,8 +39,8 @@ pub step_over_lem : (f : ℕ → ℕ) (shift : ℕ) (s : Step) {ids first second
       conclusion = c;
       column = s.column;
     } ≡ step_over f shift s
-unfolding step_over identifiers_of
-step_over_lem f shift s e x y z = rw (x, y, z, e)
+unfolding step_over
+step_over_lem f shift s x y z = rw (x, y, z)
 
 module _ (c : Conclusion) (column : ℕ) {write : Bool} {before after : List ℕ} {to next : ℕ} where
   pub proposition_written : (p : ℕ) → c ≡ PropIsTrue p → Wrote (u16s (0 ∷ p ∷ 0 ∷ 0 ∷ column ∷ [])) write before to after next

@@ -56,7 +56,13 @@ pub record ConclusionMapped (c : Conclusion) (shift : ℕ) (numbers : List ℕ) 
   pub object : (x : Judgement) → c ≡ TypeJudgement x → x.name < length numbers
   pub datatype : (x : Judgement) → c ≡ TypeJudgement x → x.datatype < length numbers
 
--- so it is with the names of a step, whose rule is one
+-- so it is with the identifiers of a step, whose rule is one
+pub record IdentifiersMapped (s : Step) (numbers : List ℕ) : Type 0 where
+  pub rule : s.rule < length rules
+  pub first : leb 1 (identifiers_of s) ≡ true → s.first.name < length numbers
+  pub second : leb 2 (identifiers_of s) ≡ true → s.second.name < length numbers
+
+-- and with all the names of a step
 pub record StepMapped (s : Step) (shift : ℕ) (numbers : List ℕ) : Type 0 where
   pub rule : s.rule < length rules
   pub first : leb 1 (identifiers_of s) ≡ true → s.first.name < length numbers

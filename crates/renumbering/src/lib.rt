@@ -2,20 +2,41 @@
 // from another sheet's, and all else stays as it is.
 #![tactic(auto)]
 
-ghost use Rattle.std.specs.Prelude.{◌≡◌, true, ◌<◌, ◌≤◌, length};
+ghost use Rattle.std.specs.Prelude.{◌≡◌, ◌+◌, ◌<◌, ◌≤◌, leb, length};
+ghost use Rattle.definitions.specs.Sheet.{number_at};
+ghost use Rattle.definitions.specs.Code.{u16};
 ghost use Rattle.output.specs.Wrote.{Wrote};
 ghost use Rattle.prefix_code.specs.Scan.{proposition_coding, parameter_coding, parameters_coding};
 ghost use Rattle.prefix_code.specs.Head.{head_coding};
 ghost use Rattle.renumbering.specs.Renumbered.{Standing, Renumbers, rename_head, rename_parameters, Whole, RenumbersWhole};
 ghost use Rattle.definitions.specs.Prop.{rename_parameter};
 ghost use Rattle.renumbering.specs.Renumbered.{mapped};
-ghost use Rattle.renumbering.specs.StepOver.{name_over, conclusion_over, step_over, conclusion_bytes, step_bytes, steps_over};
-ghost use Rattle.renumbering.specs.StepOver.{ConclusionMapped, StepMapped, StepsMapped};
+ghost use Rattle.renumbering.specs.StepOver.{identifiers_of, name_over, conclusion_over, step_over, conclusion_bytes, step_bytes, steps_over};
+ghost use Rattle.renumbering.specs.StepOver.{ConclusionMapped, IdentifiersMapped, StepMapped, StepsMapped};
 
 use number::number_at;
 use output::{put, put_u16, put_u16s};
-use prefix_code::{head_end, parameter_end};
+use prefix_code::{Head, ParameterKind, head_end, parameter_end};
 use steps::{Conclusion, Identifier, Judgement, Step, identifier_count, step_at};
+
+// Code, place, map and memory stand loose in what follows: both places move from call to call, and a struct that holds the memory to be
+// written must be named in each clause that speaks of it before and after, which makes the clauses longer than these are.
+
+// The name whose number stands at a position, through the map.
+#[tactic(auto, unfolding(crate::specs::Renumbered::mapped))]
+fn put_name(
+    code: &[u8],
+    at: usize,
+    numbers: &[u16],
+    out: &mut [u8],
+    to: usize,
+    write: bool,
+) -> usize
+    requires { (at + 1 < length code.now) × (number_at code.now at < length numbers.now) }
+    ensures { Wrote (u16 (mapped numbers.now (number_at code.now at))) write out.old to out.new result }
+{
+    put_u16(out, to, numbers[number_at(code, at)], write)
+}
 
 // The parameter at a position: its kind, its name through the map, and its id if it has one.
 fn put_parameter(
@@ -31,15 +52,19 @@ fn put_parameter(
     ensures { Renumbers (parameter_coding names) rename_parameter code.now at numbers.now write
         out.old to out.new result }
 {
-    let kind = code[at];
-    let name = number_at(code, at + 1);
-    let named = put(out, to, kind, write);
-    let next = put_u16(out, named, numbers[name], write);
-    if kind == 0 {
-        return next;
+    let byte = code[at];
+    let Some(kind) = ParameterKind::of_byte(byte) else {
+        unreachable!();
+    };
+    let started = put(out, to, byte, write);
+    let named = put_name(code, at + 1, numbers, out, started, write);
+    match kind {
+        ParameterKind::Uninstantiated => named,
+        ParameterKind::Instantiated => {
+            let id = number_at(code, at + 3);
+            put_u16(out, named, id as u16, write)
+        }
     }
-    let id = number_at(code, at + 3);
-    put_u16(out, next, id as u16, write)
 }
 
 // So many parameters from a position on.
@@ -80,29 +105,34 @@ fn put_head(
     ensures { Renumbers (head_coding names) rename_head code.now at numbers.now write
         out.old to out.new result }
 {
-    let head = code[at];
-    let after_head = put(out, to, head, write);
-    if head < 5 {
-        return after_head;
+    let byte = code[at];
+    let Some(head) = Head::of_byte(byte) else {
+        unreachable!();
+    };
+    let next = put(out, to, byte, write);
+    match head {
+        Head::True | Head::False | Head::Binary(_) => next,
+        Head::Atom => {
+            let count = code[at + 3];
+            let named = put_name(code, at + 1, numbers, out, next, write);
+            let counted = put(out, named, count, write);
+            let first = at + 4;
+            put_parameters(
+                code,
+                first,
+                count as usize,
+                names,
+                numbers,
+                out,
+                counted,
+                write,
+            )
+        }
+        Head::Quantified(_) => {
+            let named = put_name(code, at + 1, numbers, out, next, write);
+            put_name(code, at + 3, numbers, out, named, write)
+        }
     }
-    let name = number_at(code, at + 1);
-    let after_name = put_u16(out, after_head, numbers[name], write);
-    if head == 5 {
-        let count = code[at + 3];
-        let after_count = put(out, after_name, count, write);
-        return put_parameters(
-            code,
-            at + 4,
-            count as usize,
-            names,
-            numbers,
-            out,
-            after_count,
-            write,
-        );
-    }
-    let datatype = number_at(code, at + 3);
-    put_u16(out, after_name, numbers[datatype], write)
 }
 
 // The proposition that is all of the code, head by head.
@@ -128,15 +158,20 @@ pub fn put_renumbered(
     position
 }
 
-// The number that the map has for a name; one that is no name's stays.
-fn renumber(numbers: &[u16], n: u16, named: bool) -> u16
-    requires { named ≡ true → n < length numbers.now }
-    ensures { result ≡ name_over (mapped numbers.now) named n }
+// The numbers of a step's identifiers: the map's for those that its rule has, and the others as they stand.
+#[tactic(auto, unfolding(crate::specs::Renumbered::mapped, crate::specs::StepOver::name_over, crate::specs::StepOver::identifiers_of))]
+fn renumber_identifiers(numbers: &[u16], step: &Step) -> (u16, u16)
+    requires { IdentifiersMapped step.now numbers.now }
+    ensures first { result.0 ≡ name_over (mapped numbers.now) (leb 1 (identifiers_of step.now)) step.now.first.name }
+    ensures second { result.1 ≡ name_over (mapped numbers.now) (leb 2 (identifiers_of step.now)) step.now.second.name }
 {
-    if named {
-        return numbers[n as usize];
+    let first = step.first.name;
+    let second = step.second.name;
+    match identifier_count(usize::from(step.rule)) {
+        0 => (first, second),
+        1 => (numbers[usize::from(first)], second),
+        _ => (numbers[usize::from(first)], numbers[usize::from(second)]),
     }
-    n
 }
 
 // A conclusion over the map's numbers, its proposition counted on from `shift`.
@@ -159,9 +194,7 @@ fn renumber_step(numbers: &[u16], step: Step, shift: usize) -> Step
     requires { StepMapped step shift numbers.now }
     ensures { result ≡ step_over (mapped numbers.now) shift step }
 {
-    let identifiers = identifier_count(step.rule as usize);
-    let first = renumber(numbers, step.first.name, 1 <= identifiers);
-    let second = renumber(numbers, step.second.name, 2 <= identifiers);
+    let (first, second) = renumber_identifiers(numbers, &step);
     let concluded = step.conclusion;
     let conclusion = renumber_conclusion(numbers, concluded, shift);
     Step {
@@ -178,7 +211,8 @@ fn renumber_step(numbers: &[u16], step: Step, shift: usize) -> Step
     }
 }
 
-// A conclusion and the column after it: kind 0, a proposition and two zeros, or kind 1, an object and its datatype.
+// A conclusion and the column after it: kind 0, a proposition and two zeros, or kind 1, an object and its datatype. The
+// kinds are bytes of document 01's format, which are written here alone, and read as a `Conclusion`.
 fn put_conclusion(
     out: &mut [u8],
     to: usize,

@@ -1,34 +1,40 @@
 -- An uninstantiated parameter is a byte and a name, an instantiated one has an id too.
-use mathlib.Core.Path.{refl}
+use mathlib.Core.Path.{◌≡◌, ap, ◌∙◌}
 use native.Mathlib.Omega.{arith}
-use Rattle.renumbering.proofs.Parameters.{parameter_at, second_inside, uninstantiated_written, instantiated_written}
+use lib.ListN.{get_or}
+use Rattle.prefix_code.specs.Shape.{kind_byte}
+use Rattle.renumbering.proofs.Parameters.{parameter_at, uninstantiated_written, instantiated_written}
 use Rattle.renumbering.proofs.put_parameter.Goals as goal
+use Rattle.renumbering.proofs.put_parameter.Goals.{In-Instantiated}
+
+free : (c : In-Instantiated) → get_or c.args.code.now c.args.at 0 ≡ 1
+free c = c.in-Some.ensures ∙ ap kind_byte c.in-Instantiated.is
 
 pub bounds-code-at : goal.bounds-code-at
 bounds-code-at c = omega (arith, (parameter_at _ c.requires.0).inside)
 
+pub unreachable-requires : goal.unreachable-requires
+unreachable-requires c = omega (arith, (parameter_at _ c.requires.0).kind, c.in_default.ensures)
+
 pub overflow_add-at : goal.overflow_add-at
 overflow_add-at c = omega (arith, (parameter_at _ c.requires.0).inside)
 
-pub number_at-name-requires : goal.number_at-name-requires
-number_at-name-requires c = omega (arith, (parameter_at _ c.requires.0).inside)
-
-pub bounds-numbers-name : goal.bounds-numbers-name
-bounds-numbers-name c =
+pub put_name-named-requires : goal.put_name-named-requires
+put_name-named-requires c =
     let there = parameter_at _ c.requires.0 in
-    omega (arith, c.number_at-name.ensures.0, there.name, there.below, c.requires.1)
+    (omega (arith, there.inside), omega (arith, there.name, there.below, c.requires.1))
 
-pub returns-then-kind-eq0 : goal.returns-then-kind-eq0
-returns-then-kind-eq0 c =
-    uninstantiated_written _ _ refl c.number_at-name.ensures.0 c.put-named.ensures c.put_u16-next.ensures c.if-kind-eq0.true
-
-pub overflow_add-at-2 : goal.overflow_add-at-2
-overflow_add-at-2 c = omega (arith, second_inside _ c.requires.0 c.if-kind-eq0.false)
+pub overflow_add-at-in-Instantiated : goal.overflow_add-at-in-Instantiated
+overflow_add-at-in-Instantiated c = omega (arith, ((parameter_at _ c.requires.0).instantiated (free (goal.at.overflow_add-at-in-Instantiated c).In-Instantiated)).1)
 
 pub number_at-id-requires : goal.number_at-id-requires
-number_at-id-requires c = omega (arith, second_inside _ c.requires.0 c.if-kind-eq0.false)
+number_at-id-requires c = omega (arith, ((parameter_at _ c.requires.0).instantiated (free (goal.at.number_at-id-requires c).In-Instantiated)).1)
 
-pub returns : goal.returns
-returns c =
-    instantiated_written _ _ refl c.number_at-name.ensures.0 c.put-named.ensures c.put_u16-next.ensures
-    c.if-kind-eq0.false c.number_at-id.ensures.0 c.put_u16.ensures
+pub returns-in-Uninstantiated : goal.returns-in-Uninstantiated
+returns-in-Uninstantiated c =
+    uninstantiated_written _ _ c.put-started.ensures c.put_name-named.ensures (c.in-Some.ensures ∙ ap kind_byte c.in-Uninstantiated.is)
+
+pub returns-in-Instantiated : goal.returns-in-Instantiated
+returns-in-Instantiated c =
+    instantiated_written _ _ c.put-started.ensures c.put_name-named.ensures (free (goal.at.returns-in-Instantiated c).In-Instantiated)
+    c.number_at-id.ensures.0 c.put_u16.ensures

@@ -1,13 +1,11 @@
 -- The identifiers that the rule has go through the map, and so does the conclusion.
-use Rattle.renumbering.proofs.Steps.{has_identifiers, step_over_lem}
+use Rattle.renumbering.proofs.Steps.{step_over_lem}
 use Rattle.renumbering.proofs.renumber_step.Goals as goal
 
-pub renumber-first-requires : goal.renumber-first-requires
-renumber-first-requires c = λ e. c.requires.first (has_identifiers _ 1 c.identifier_count-identifiers.ensures e)
-
-pub renumber-second-requires : goal.renumber-second-requires
-renumber-second-requires c = λ e. c.requires.second (has_identifiers _ 2 c.identifier_count-identifiers.ensures e)
+pub renumber_identifiers-first-requires : goal.renumber_identifiers-first-requires
+renumber_identifiers-first-requires c = record { rule = c.requires.rule; first = c.requires.first; second = c.requires.second }
 
 pub returns : goal.returns
 returns c =
-    step_over_lem _ _ _ c.identifier_count-identifiers.ensures c.renumber-first.ensures c.renumber-second.ensures c.renumber_conclusion-conclusion.ensures
+    step_over_lem _ _ _ c.renumber_identifiers-first.ensures.first c.renumber_identifiers-first.ensures.second
+    c.renumber_conclusion-conclusion.ensures
