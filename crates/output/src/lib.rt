@@ -11,9 +11,9 @@ ghost use Rattle.output.specs.Wrote.{puts, Wrote};
 
 use definitions::Refusal;
 
-// One element: a byte, or a number into memory of numbers.
+// One element. Elements without a size would let a memory have more than 2^63 of them, and then there might be no position past its end.
 #[tactic(auto, unfolding(crate::specs::Wrote::puts))]
-pub fn put<T: Copy + Drop>(out: &mut [T], to: usize, item: T, write: bool) -> usize
+fn put_item<T: Copy + Drop>(out: &mut [T], to: usize, item: T, write: bool) -> usize
     requires { length out.old < 2 ^ 63 }
     ensures { Wrote (item ∷ []) write out.old to out.new result }
 {
@@ -24,6 +24,20 @@ pub fn put<T: Copy + Drop>(out: &mut [T], to: usize, item: T, write: bool) -> us
         out[to] = item;
     }
     to + 1
+}
+
+// One byte.
+pub fn put(out: &mut [u8], to: usize, b: u8, write: bool) -> usize
+    ensures { Wrote (b ∷ []) write out.old to out.new result }
+{
+    put_item(out, to, b, write)
+}
+
+// One number, into memory of numbers.
+pub fn put_number(out: &mut [u16], to: usize, n: u16, write: bool) -> usize
+    ensures { Wrote (n ∷ []) write out.old to out.new result }
+{
+    put_item(out, to, n, write)
 }
 
 // A number of a sheet: two bytes, the low one first.

@@ -10,7 +10,7 @@ ghost use Rattle.prop_lists.specs.Entries.{use_of, entries, entry_numbers, has_e
 
 use definitions::TermList;
 use number::number_at;
-use output::put;
+use output::put_number;
 use prefix_code::{ATOM, head_end, scan};
 use vocabulary::{Vocabulary, code_of};
 
@@ -90,10 +90,10 @@ pub fn put_entry(
     ensures { Wrote (entry_numbers list (use_of name count ∷ []))
         write out.old to out.new result }
 {
-    let named = put(out, to, name as u16, write);
+    let named = put_number(out, to, name as u16, write);
     match list {
         TermList::Atoms => {
-            return put(out, named, count as u16, write);
+            return put_number(out, named, count as u16, write);
         }
         TermList::Datatypes(_) => {
             return named;

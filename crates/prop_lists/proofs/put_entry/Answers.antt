@@ -8,8 +8,8 @@ pub returns-in-Atoms : goal.returns-in-Atoms
 unfolding entry_numbers atom_numbers
 returns-in-Atoms c =
     rw c.in-Atoms.is
-    (writing.then c.put-named.ensures c.put.ensures)
+    (writing.then c.put_number-named.ensures c.put_number.ensures)
 
 pub returns-in-Datatypes : goal.returns-in-Datatypes
 unfolding entry_numbers
-returns-in-Datatypes c = rw c.in-Datatypes.is c.put-named.ensures
+returns-in-Datatypes c = rw c.in-Datatypes.is c.put_number-named.ensures
