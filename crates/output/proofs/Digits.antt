@@ -1,19 +1,19 @@
 -- The digits of a number: how many there are, and how they are stored from the last one back.
 use Prim.Native.Nat.{ℕ, zero, suc, ◌+◌, ◌-◌, ◌*◌, ◌/◌, ◌%◌, ◌^◌, ◌≤◌, ◌<◌, max}
-use mathlib.Core.Path.{◌≡◌, refl, sym, ap, ◌∙◌}
+use mathlib.Core.Path.{◌≡◌, refl, sym, ◌∙◌}
 use mathlib.Core.Logic.{by_cases}
-use mathlib.Core.List.{List, [], ◌∷◌, ◌++◌, append_assoc, append-nil}
+use mathlib.Core.List.{List, [], ◌++◌, append_assoc, append-nil}
 use native.Mathlib.Omega.{arith}
 use native.Mathlib.Decide.{dec_lt}
 use native.Mathlib.Nat.{pow-suc, pow-le-pow_right}
 use native.Mathlib.Numerals.{add-one}
-use lib.ListN.{length, set, drop, length-append, length-set}
-use lib.Seq.{sets, set_comm, drop_at, drop-length}
+use lib.ListN.{length, set, take, drop, length-append, length-set, length-take}
+use Rattle.std.proofs.lemmas.List.{drop-set}
+use lib.Seq.{drop-length}
 use Rattle.std.proofs.lemmas.Grind.{pow_more}
 use Rattle.definitions.specs.Text.{last_digit, decimal}
 use Rattle.definitions.proofs.Decimal.{decimal_below_ten, decimal_from_ten}
 use Rattle.output.specs.LeastDigits.{LeastDigits}
-use Rattle.output.proofs.Writing.{sets_past}
 
 pub one_digit : (n : ℕ) → n < 10 → length (decimal n) ≡ 1
 unfolding last_digit
@@ -63,9 +63,13 @@ least_is_length {n} {count} l =
     let down = d.least count l.some l.holds in
     omega arith
 
--- and 1 for 0
-pub digits_of_zero : {count : ℕ} → LeastDigits 0 count → count ≡ 1
-digits_of_zero l = least_is_length l ∙ one_digit 0 (omega arith)
+-- a number of 64 bits has at most twenty
+pub at_most_twenty : {n count : ℕ} → n < 2 ^ 64 → LeastDigits n count → count ≤ 20
+at_most_twenty h l = l.least 20 (omega arith) (omega arith)
+
+-- so many of a long list
+pub taken_whole : (l : List ℕ) {count : ℕ} → count ≤ length l → count ≡ length (take count l)
+taken_whole l {count} h = omega (arith, length-take count l)
 
 -- the digits of a number are one more than the greatest power of ten within it, and 0 has as many as 1
 pub least_count : (n power : ℕ) → 10 ^ power ≤ max n 1 → max n 1 < 10 * 10 ^ power → LeastDigits n (power + 1)
@@ -102,72 +106,35 @@ whole (suc more) n h = by_cases (dec_lt n 10)
     let large : 10 ≤ n = omega arith in
     rw (one_more_digit n large, add-one, whole more (n / 10) (omega arith)) (sym (decimal_from_ten n large)))
 
--- what is stored later in front of a text could have been stored before it
-front : (s l : List ℕ) (i j a : ℕ) → i < j → set (sets l j s) i a ≡ sets (set l i a) j s
-front [] l i j a h = refl
-front (b ∷ s) l i j a h =
-    front s (set l j b) i (suc j) a (omega arith) ∙ ap (λ m. sets m (suc j) s) (set_comm l j i b a (λ e. omega arith))
-
--- The digits from number i on are stored, and those before it are the last digits of the rest.
-pub record Stored (before : List ℕ) (to n : ℕ) (i rest : ℕ) (after : List ℕ) : Type 0 where
-  pub reached : i ≤ length (decimal n)
-  pub sized : length after ≡ length before
-  pub digits : decimal n ≡ last_digits i rest ++ drop i (decimal n)
-  pub stored : after ≡ sets before (to + i) (drop i (decimal n))
+-- From number i on the digits are stored, and those before it are the last digits of the rest.
+pub record Stored (n i rest : ℕ) (after : List ℕ) : Type 0 where
+  pub sized : length after ≡ length (decimal n)
+  pub reached : i ≤ length after
+  pub digits : decimal n ≡ last_digits i rest ++ drop i after
 
 -- none yet
-pub starts : (before : List ℕ) (to n : ℕ) → Stored before to n (length (decimal n)) n before
-starts before to n =
-    record {
-      reached = omega arith;
-      sized = refl;
-      digits = rw (drop-length, append-nil) (sym (whole (suc n) n (omega arith)));
-      stored = rw drop-length refl;
-    }
+pub starts : (n : ℕ) (out : List ℕ) → LeastDigits n (length out) → Stored n (length out) n out
+starts n out least =
+    let sized = least_is_length least in
+    record { sized = sized; reached = omega arith; digits = rw (drop-length, append-nil, sized) (sym (whole (suc n) n (omega arith))) }
 
 -- a digit is left
-pub one_left : {before : List ℕ} {to n i rest : ℕ} {after : List ℕ} → 0 < i
-    → Stored before to n i rest after → Stored before to n (suc (i - 1)) rest after
+pub one_left : {n i rest : ℕ} {after : List ℕ} → 0 < i → Stored n i rest after → Stored n (suc (i - 1)) rest after
 one_left {i = i} h st = let less : suc (i - 1) ≡ i = omega arith in rw less st
 
 -- one more, from the last one back
-module _ {before : List ℕ} {to n i rest : ℕ} {after : List ℕ} (st : Stored before to n (suc i) rest after) where
-  next_digits : decimal n ≡ last_digits i (rest / 10) ++ (last_digit rest ++ drop (suc i) (decimal n))
-  unfolding last_digits
-  next_digits = rw append_assoc at st.digits
-
-  next_drop : drop i (decimal n) ≡ (48 + rest % 10) ∷ drop (suc i) (decimal n)
-  unfolding last_digit
-  next_drop = ap (drop i) next_digits ∙ drop_at (last_digits i (rest / 10)) _ i (last_digits_length i (rest / 10))
-
-  split : decimal n ≡ last_digits i (rest / 10) ++ drop i (decimal n)
-  unfolding last_digit
-  split = rw next_drop next_digits
-
-  pub digit_stored : to + i < length before → Stored before to n i (rest / 10) (set after (to + i) (48 + rest % 10))
-  digit_stored h =
-      let place : to + suc i ≡ suc (to + i) = omega arith in
-      record {
-        reached = omega (arith, st.reached);
-        sized = length-set after (to + i) (48 + rest % 10) ∙ st.sized;
-        digits = split;
-        stored = rw (next_drop, st.stored, place)
-            (front (drop (suc i) (decimal n)) before (to + i) (suc (to + i)) (48 + rest % 10) (omega arith));
-      }
-
-  -- or dropped, past the end
-  pub digit_dropped : length before ≤ to + i → Stored before to n i (rest / 10) after
-  digit_dropped h =
-      record {
-        reached = omega (arith, st.reached);
-        sized = st.sized;
-        digits = split;
-        stored = rw st.stored
-            (sets_past before (to + suc i) (drop (suc i) (decimal n)) (omega arith)
-            ∙ sym (sets_past before (to + i) (drop i (decimal n)) h));
-      }
+pub digit_stored : {n i rest : ℕ} {after : List ℕ} → Stored n (suc i) rest after
+    → Stored n i (rest / 10) (set after i (48 + rest % 10))
+unfolding last_digits last_digit
+digit_stored {n} {i} {rest} {after} st =
+    let same = length-set after i (48 + rest % 10) in
+    record {
+      sized = same ∙ st.sized;
+      reached = omega (arith, st.reached);
+      digits = rw (drop-set after i (48 + rest % 10) (omega (arith, st.reached)), add-one) (rw append_assoc at st.digits);
+    }
 
 -- all of them
-pub all_stored : {before : List ℕ} {to n rest : ℕ} {after : List ℕ} → Stored before to n 0 rest after
-    → after ≡ sets before to (decimal n)
-all_stored {before} {to} {n} st = st.stored ∙ ap (λ k. sets before k (decimal n)) (omega arith)
+pub all_stored : {n rest : ℕ} {after : List ℕ} → Stored n 0 rest after → after ≡ decimal n
+unfolding last_digits
+all_stored st = sym st.digits

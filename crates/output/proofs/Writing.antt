@@ -1,43 +1,22 @@
 -- How writes join, and what a dry run tells of the write that follows it.
-use Prim.Native.Nat.{ℕ, suc, ◌+◌, ◌-◌, ◌≤◌, ◌<◌, min}
+use Prim.Native.Nat.{ℕ, ◌+◌, ◌-◌, ◌≤◌, ◌<◌, ◌^◌, min}
 use mathlib.Core.Path.{◌≡◌, refl, sym, ap, ◌∙◌}
 use mathlib.Core.Bool.{Bool, true, false}
 use mathlib.Core.Logic.{by_cases}
 use mathlib.Core.List.{List, [], ◌∷◌, ◌++◌, append_assoc}
 use native.Mathlib.Omega.{arith}
 use native.Mathlib.Decide.{dec_le}
-use lib.ListN.{length, set, take, drop, length-append, length-take, take-append-drop}
-use lib.Seq.{sets, set_out, sets-eq, length-sets, take-length}
+use lib.ListN.{length, set, take, drop, length-take, take-append-drop}
+use lib.Seq.{sets, sets-eq, take-length}
 use borrow.Author.Tests.{lt-ltb, le-ltb}
 use borrow.Rule.Slice.PartMut.{put_mid}
 use Rattle.std.proofs.lemmas.Grind.{common_steps}
 use Rattle.definitions.specs.Outcome.{accepted, refuse, refuse_if, ◌>>=◌}
 use Rattle.definitions.specs.Answers.{is_in_room}
 use Rattle.output.specs.Wrote.{puts, Wrote}
-
--- what is stored past the end is dropped
-pub sets_past : {A : Type 0} (l : List A) (i : ℕ) (s : List A) → length l ≤ i → sets l i s ≡ l
-sets_past l i [] h = refl
-sets_past l i (a ∷ s) h = rw (set_out l i a) (sets_past l (suc i) s (omega arith))
-
--- a text is stored and then another after it
-pub sets_append : {A : Type 0} (l : List A) (i : ℕ) (s t : List A) → sets (sets l i s) (i + length s) t ≡ sets l i (s ++ t)
-sets_append l i [] t = ap (λ k. sets l k t) (omega arith)
-sets_append l i (a ∷ s) t = ap (λ k. sets (sets (set l i a) (suc i) s) k t) (omega arith) ∙ sets_append (set l i a) (suc i) s t
-
--- Whether the text is written or not:
-module _ {A : Type 0} (write : Bool) (l : List A) (i : ℕ) (s : List A) where
-  pub puts_past : length l ≤ i → puts write l i s ≡ l
-  unfolding puts
-  puts_past = elim write as (λ k. length l ≤ i → puts k l i s ≡ l) [ true ↦ sets_past l i s | false ↦ λ h. refl ]
-
-  puts_append : (t : List A) → puts write (puts write l i s) (i + length s) t ≡ puts write l i (s ++ t)
-  unfolding puts
-  puts_append t = elim write as (λ k. puts k (puts k l i s) (i + length s) t ≡ puts k l i (s ++ t)) [ true ↦ sets_append l i s t | false ↦ refl ]
-
-  puts_length : length (puts write l i s) ≡ length l
-  unfolding puts
-  puts_length = elim write as (λ k. length (puts k l i s) ≡ length l) [ true ↦ length-sets l i s | false ↦ refl ]
+use Rattle.output.specs.Sinks.{CounterPuts}
+use Rattle.output.specs.declared.counter.Counter.{Counter}
+pub use Rattle.output.specs.Joins.{sets_past, sets_append, puts_past, puts_append, puts_length, same_length, none, then}
 
 -- whether the elements are written or not
 pub dry : {A : Type 0} {write : Bool} (before : List A) (to : ℕ) (text : List A) → write ≡ false → before ≡ puts write before to text
@@ -54,21 +33,11 @@ unfolding puts
 kept w = w.stored
 
 module _ {A : Type 0} {text before after : List A} {write : Bool} {to next : ℕ} (w : Wrote text write before to after next) where
-  -- a write keeps the length of the memory
-  pub same_length : length after ≡ length before
-  same_length = ap length w.stored ∙ puts_length _ _ _ _
-
   -- a position within the memory says that the text fits
   pub fitted : next ≤ length before → to + length text ≤ length before
   fitted h = by_cases (dec_le (to + length text) (length before))
       (λ k. k)
       (λ k. let past = w.beyond (omega arith) in absurd (omega arith))
-
--- nothing is written
-pub none : {A : Type 0} (write : Bool) (before : List A) (to : ℕ) → Wrote [] write before to before to
-unfolding puts
-none write before to =
-    record { stored = elim write as (λ k. before ≡ puts k before to []) [ true ↦ refl | false ↦ refl ]; within = omega arith; beyond = omega arith }
 
 -- an element is written within the memory
 pub one :
@@ -124,46 +93,6 @@ module _
         let same : length after ≡ length before = rw stored (puts_length write before to text) in
         record { stored = stored; within = λ k. omega arith; beyond = λ k. omega arith }
 
--- A text is written and then another where the first one ended: that is to write both at once.
-module _
-    {A : Type 0}
-    {s t before mid after : List A}
-    {write : Bool}
-    {to at next : ℕ}
-    (a : Wrote s write before to mid at)
-    (b : Wrote t write mid at after next)
-  where
-    -- the first one fits
-    then_within : to + length s ≤ length before → Wrote (s ++ t) write before to after next
-    then_within h =
-        let sum = length-append s t in
-        let same = same_length a in
-        let here = a.within h in
-        record {
-          stored = b.stored ∙ rw (here, a.stored) (puts_append write before to s t);
-          within = λ k. let e = b.within (omega arith) in omega arith;
-          beyond = λ k. let e = b.beyond (omega arith) in omega arith;
-        }
-
-    -- the first one does not fit, and all of the other is dropped
-    then_past : length before < to + length s → Wrote (s ++ t) write before to after next
-    then_past h =
-        let sum = length-append s t in
-        let same = same_length a in
-        let past = a.beyond h in
-        record {
-          stored = cc (
-            puts_append write before to s t,
-            puts_past write mid at t (omega arith),
-            puts_past write mid (to + length s) t (omega arith),
-          );
-          within = omega arith;
-          beyond = λ k. let e = b.beyond (omega arith) in omega arith;
-        }
-
-    pub then : Wrote (s ++ t) write before to after next
-    then = by_cases (dec_le (to + length s) (length before)) then_within (λ h. then_past (omega arith))
-
 -- after a dry run that ends within the memory, the write ends there too, fills its part and leaves the rest
 pub fits :
     {A : Type 0} {text before dry after : List A} {to end next : ℕ} →
@@ -201,3 +130,8 @@ measured {text} {before} {dry} {end} d =
       size = λ h. d.within (fitted d h) ∙ start;
       filled = λ h w. rw start at (fits d h w).1;
     }
+
+-- a counter counts where a text would end
+pub counted_dry : {A : Type 0} {write : Bool} {memory text : List A} {a b : Counter} → write ≡ false → length memory < 2 ^ 63
+    → CounterPuts a text b → Wrote text write memory a.count memory b.count
+counted_dry e bounded h = dry_run e (λ k. omega (arith, h.counted)) (λ k. omega (arith, h.counted))

@@ -1,6 +1,7 @@
--- Each turn of the loop writes one number more.
-use Rattle.output.proofs.Numbers.{one_more}
+-- A counter finds where the text would end.
+use Rattle.std.proofs.Common.{rules}
+use Rattle.output.proofs.Writing.{counted_dry}
 use Rattle.output.proofs.put_u16s.Goals as goal
 
-pub loop-n-preserved : goal.loop-n-preserved
-loop-n-preserved c = one_more _ _ c.loop-n.invariant c.loop-n-test.true c.put_u16-at.ensures
+pub returns : goal.returns
+returns c = counted_dry c.if-write.false (search rules) c.put_u16s-2.ensures

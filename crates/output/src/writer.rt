@@ -1,0 +1,78 @@
+// The sink that writes into lent memory.
+#![tactic(auto)]
+
+ghost use Rattle.std.specs.Prelude.{[], ◌∷◌, ◌≡◌, ◌-◌, ◌^◌, ◌<◌, ◌≤◌, true, min, length, take};
+ghost use Rattle.output.specs.Wrote.{puts, Wrote};
+
+use crate::sink::Sink;
+
+// Lent memory, and the position of what is put next, which is past the end once something did not fit. What does not fit is dropped.
+#[derive(Drop)]
+pub struct Writer<'a, T> {
+    pub out: &'a mut [T],
+    pub to: usize,
+    // So there is a position past the end. Bytes and numbers have a size, and no memory of them is longer.
+    pub ghost bounded: { length out.now < 2 ^ 63 },
+}
+
+impl<'a, T: Copy + Drop> Sink<T> for Writer<'a, T> {
+    ghost use Rattle.output.specs.Sinks.{WriterPuts};
+    ghost use Rattle.output.specs.Laws.{writer_laws};
+
+    ghost puts = { WriterPuts };
+
+    ghost laws = { writer_laws };
+
+    fn put(&mut self, item: T) {
+        self.to = store(self.out, self.to, item);
+    }
+
+    fn put_all(&mut self, s: &[T]) {
+        self.to = store_all(self.out, self.to, s);
+    }
+}
+
+// Stores an element, and returns the position behind it, or one past the end.
+#[tactic(auto, unfolding(crate::specs::Wrote::puts))]
+fn store<T: Copy + Drop>(out: &mut [T], to: usize, item: T) -> usize
+    requires { length out.old < 2 ^ 63 }
+    ensures { Wrote (item ∷ []) true out.old to out.new result }
+{
+    if out.len() <= to {
+        return out.len() + 1;
+    }
+    out[to] = item;
+    to + 1
+}
+
+// Stores all elements that fit, and returns the position behind them, or one past the end.
+fn store_all<T: Copy + Drop>(out: &mut [T], to: usize, s: &[T]) -> usize
+    requires { length out.old < 2 ^ 63 }
+    ensures { Wrote s.now true out.old to out.new result }
+{
+    let count = fitting(out.len(), to, s.len());
+    copy(out, to, &s[..count]);
+    if count < s.len() {
+        return out.len() + 1;
+    }
+    to + count
+}
+
+// How many of so many elements lie within the memory from `to` on.
+fn fitting(length: usize, to: usize, count: usize) -> usize
+    ensures { result ≡ min (length - to) count }
+{
+    length.saturating_sub(to).min(count)
+}
+
+// Stores elements that lie within the memory.
+#[tactic(auto, using(crate::proofs::Writing::stored_part), unfolding(crate::specs::Wrote::puts))]
+fn copy<T: Copy + Drop>(out: &mut [T], to: usize, part: &[T])
+    requires { length part.now ≤ length out.old - to }
+    ensures { out.new ≡ puts true out.old to part.now }
+{
+    // Past the end nothing fits, and there is no part to name.
+    if 0 < part.len() {
+        out[to..to + part.len()].copy_from_slice(part);
+    }
+}
