@@ -1,7 +1,6 @@
 -- The text of an atom: its name, and the names of its parameters one after the other.
 use Prim.Native.Nat.{ℕ, ◌+◌, ◌-◌, ◌≤◌, ◌<◌}
 use mathlib.Core.Path.{◌≡◌, refl, sym, ap, ◌∙◌}
-use mathlib.Core.Bool.{Bool}
 use mathlib.Core.List.{List, [], ◌∷◌, ◌++◌, map, append_assoc, append-nil}
 use native.Mathlib.Nat.{pos_of_ne-zero}
 use native.Mathlib.Omega.{arith}
@@ -12,8 +11,7 @@ use Rattle.definitions.specs.Prop.{Prop, True, False, Binary, Atom, Quantified, 
 use Rattle.definitions.specs.Code.{encode_parameter, encode_parameters}
 use Rattle.definitions.specs.Sheet.{number_at}
 use Rattle.definitions.specs.Display.{following_parameters, display_parameters, display_prop}
-use Rattle.output.specs.Wrote.{Wrote}
-use Rattle.output.proofs.Writing.{then, none as nothing}
+use Rattle.output.specs.SinkLaws.{SinkLaws}
 use Rattle.prefix_code.specs.Scan.{Stands, Ends, parameter_coding, Several, parameters_coding}
 use Rattle.prefix_code.proofs.Parameters.{ParameterBytes, parameter_bytes, FirstParameter, first_parameter, none_stand}
 use Rattle.prefix_code.proofs.Forms.{AtomAt, atom_at}
@@ -101,18 +99,18 @@ module _ (f : ℕ → Name) (names : ℕ) (l : List ℕ) (at : ℕ) where
     full_atom some = sym (shown ∙ rw (displayed_listed (parameters_of named) (omega (arith, count, pos_of_ne-zero some))))
 
   -- The part `done` of the list of parameters is written, and so many from i on are still to be listed.
-  pub record Listing (write : Bool) (before : List ℕ) (to : ℕ) (out : List ℕ) (i end needed : ℕ) : Type 0 where
+  pub record Listing {S : Type 0} (puts : S → List ℕ → S → Type 0) (before after : S) (i needed : ℕ) : Type 0 where
     done : List ℕ
     todo : List (PropParameter ℕ)
     rest : List ℕ
     stands : Stands (parameters_coding names needed) l i todo rest
     whole : listed (parameters_of named) ≡ done ++ listed (map (rename_parameter f) todo)
-    wrote : Wrote done write before to out end
+    wrote : puts before done after
 
-  pub listing_starts : Present names l at → get_or l at 0 ≡ 5 → (write : Bool) (out : List ℕ) (to : ℕ)
-      → Listing write out to out (at + 4) to (get_or l (at + 3) 0)
+  pub listing_starts : {S : Type 0} {puts : S → List ℕ → S → Type 0} → SinkLaws puts → Present names l at → get_or l at 0 ≡ 5
+      → (sink : S) → Listing puts sink sink (at + 4) (get_or l (at + 3) 0)
   unfolding rename_prop
-  listing_starts h byte write out to =
+  listing_starts laws h byte sink =
       let atom = atom_here h byte in
       record {
         done = [];
@@ -120,11 +118,11 @@ module _ (f : ℕ → Name) (names : ℕ) (l : List ℕ) (at : ℕ) where
         rest = h.rest;
         stands = atom.bytes.parameters;
         whole = rw atom.is;
-        wrote = nothing write out to;
+        wrote = laws.none sink;
       }
 
-  module _ {write : Bool} {before : List ℕ} {to : ℕ} {out : List ℕ} {i end needed : ℕ}
-      (s : Listing write before to out i end needed) where
+  module _ {S : Type 0} {puts : S → List ℕ → S → Type 0} (laws : SinkLaws puts) {before out : S} {i needed : ℕ}
+      (s : Listing puts before out i needed) where
     module _ (some : 0 < needed) where
       -- the next parameter, and those behind it
       abbrev next : FirstParameter names l i needed s.todo s.rest
@@ -149,9 +147,9 @@ module _ (f : ℕ → Name) (names : ℕ) (l : List ℕ) (at : ℕ) where
 
       module _ {j : ℕ} (ends : Ends (parameter_coding names) l i j) where
         -- its name, and what separates it from the others
-        listing_with : {after : List ℕ} {r : ℕ} (separator : List ℕ)
+        listing_with : {after : S} (separator : List ℕ)
             → following_parameters others ≡ separator ++ listed others
-            → Wrote (f (number_at l (i + 1)) ++ separator) write out end after r → Listing write before to after j r (needed - 1)
+            → puts out (f (number_at l (i + 1)) ++ separator) after → Listing puts before after j (needed - 1)
         listing_with separator separated w =
             let here : j ≡ i + length (encode_parameter next.parameter) = ends.found next.parameter _ next.first in
             record {
@@ -160,18 +158,18 @@ module _ (f : ℕ → Name) (names : ℕ) (l : List ℕ) (at : ℕ) where
               rest = s.rest;
               stands = rw here next.stands;
               whole = whole ∙ rw (separated, bytes.name) (simp append_assoc);
-              wrote = then s.wrote w;
+              wrote = laws.then s.wrote w;
             }
 
-        module _ {mid : List ℕ} {named-End : ℕ} (name : Wrote (f (number_at l (i + 1))) write out end mid named-End) where
-          pub listing_last : needed - 1 ≤ 0 → Listing write before to mid j named-End (needed - 1)
+        module _ {mid : S} (name : puts out (f (number_at l (i + 1))) mid) where
+          pub listing_last : needed - 1 ≤ 0 → Listing puts before mid j (needed - 1)
           listing_last last = listing_with [] (followed_last _ (omega (arith, count_others))) (rw append-nil name)
 
-          pub listing_comma : {after : List ℕ} {r : ℕ} → 0 < needed - 1 → Wrote (utf8 ", ") write mid named-End after r
-              → Listing write before to after j r (needed - 1)
-          listing_comma more comma = listing_with (utf8 ", ") (followed_comma _ (omega (arith, count_others))) (then name comma)
+          pub listing_comma : {after : S} → 0 < needed - 1 → puts mid (utf8 ", ") after
+              → Listing puts before after j (needed - 1)
+          listing_comma more comma = listing_with (utf8 ", ") (followed_comma _ (omega (arith, count_others))) (laws.then name comma)
 
-    pub listing_ends : needed ≤ 0 → Wrote (listed (parameters_of named)) write before to out end
+    pub listing_ends : needed ≤ 0 → puts before (listed (parameters_of named)) out
     listing_ends none =
         let empty = none_stand names l i needed s.todo s.rest none s.stands in
         let all : listed (parameters_of named) ≡ s.done ++ [] = s.whole ∙ rw empty in

@@ -13,7 +13,7 @@ ghost use Rattle.prop.specs.Ends.{Known, Fillable, Filled, AllFillable};
 ghost use Rattle.prop.specs.Printing.{quantifier_head, prop_text, part_text, AtomPrintable, Printable, Legible, sign};
 
 use number::{number_at, pair_offset};
-use output::{put, put_all};
+use output::{Counter, Sink, Writer};
 use prefix_code::{
     AND, ATOM, FALSE, FOR_ALL, IMPL, OR, TRUE, head_end, parameter_end, parts_after,
 };
@@ -118,98 +118,138 @@ fn sign_of(head: u8) -> [u8; 3]
 }
 
 // The sign of a head.
-fn put_sign(out: &mut [u8], to: usize, head: u8, write: bool) -> usize
+fn put_sign<S: Sink<u8>>(sink: &mut S, head: u8)
     requires { head < 8 }
-    ensures { Wrote (sign head) write out.old to out.new result }
+    ensures { S.puts sink.old (sign head) sink.new }
 {
-    let bytes = sign_of(head);
-    put_all(out, to, &bytes, write)
+    sink.put_all(&sign_of(head));
 }
 
 // A connective with a blank on each side.
-fn put_connective(out: &mut [u8], to: usize, head: u8, write: bool) -> usize
+fn put_connective<S: Sink<u8>>(sink: &mut S, head: u8)
     requires { head < 8 }
     ensures { (c : Connective) → head ≡ connective_byte c →
-        Wrote (connective_text c) write out.old to out.new result }
+        S.puts sink.old (connective_text c) sink.new }
 {
-    let start = put(out, to, b' ', write);
-    let end = put_sign(out, start, head, write);
-    put(out, end, b' ', write)
+    sink.put(b' ');
+    put_sign(sink, head);
+    sink.put(b' ');
 }
 
 // A quantifier with its object and its datatype, up to its body.
-fn put_quantifier(
-    out: &mut [u8],
-    to: usize,
+fn put_quantifier<S: Sink<u8>>(
+    sink: &mut S,
     head: u8,
     bytes: &[u8],
     v: Vocabulary,
     object: usize,
     datatype: usize,
-    write: bool,
-) -> usize
+)
     requires head_bound { head < 8 }
     requires names { Names bytes.now v object × Names bytes.now v datatype }
     ensures { (q : Quantifier) → head ≡ quantifier_byte q →
-        Wrote (quantifier_head (name_in bytes.now v) q object datatype)
-        write out.old to out.new result }
+        S.puts sink.old (quantifier_head (name_in bytes.now v) q object datatype) sink.new }
 {
-    let signed = put_sign(out, to, head, write);
-    let bound = put_all(out, signed, name(bytes, v, object), write);
-    let colon = put(out, bound, b':', write);
-    let typed = put_all(out, colon, name(bytes, v, datatype), write);
-    put_all(out, typed, b". ", write)
+    put_sign(sink, head);
+    sink.put_all(name(bytes, v, object));
+    sink.put(b':');
+    sink.put_all(name(bytes, v, datatype));
+    sink.put_all(b". ");
 }
 
 // An atom with its parameters.
-fn put_atom(out: &mut [u8], to: usize, bytes: &[u8], v: Vocabulary, at: usize, write: bool) -> usize
+fn put_atom<S: Sink<u8>>(sink: &mut S, bytes: &[u8], v: Vocabulary, at: usize)
     requires { AtomPrintable bytes.now v at }
-    ensures { Wrote (prop_text bytes.now v at) write out.old to out.new result }
+    ensures { S.puts sink.old (prop_text bytes.now v at) sink.new }
 {
     let code = code_of(bytes, v);
-    let named = put_all(out, to, name(bytes, v, number_at(code, at + 1)), write);
+    sink.put_all(name(bytes, v, number_at(code, at + 1)));
     let count = code[at + 3];
     if count == 0 {
-        return named;
+        return;
     }
-    let mut end = put(out, named, b'(', write);
+    sink.put(b'(');
     let mut i = at + 4;
     for left in (0..count).rev() {
-        end = put_all(out, end, name(bytes, v, number_at(code, i + 1)), write);
+        sink.put_all(name(bytes, v, number_at(code, i + 1)));
         i = parameter_end(code, i, v.name_count);
         if 0 < left {
-            end = put_all(out, end, b", ", write);
+            sink.put_all(b", ");
         }
     }
-    put(out, end, b')', write)
+    sink.put(b')');
 }
 
 // The text of the proposition at `at`, in brackets if it binds less strongly than `least`.
-#[cycle(part_print)]
-fn part(
-    out: &mut [u8],
-    to: usize,
+#[cycle(put_proposition)]
+fn put_part<S: Sink<u8>>(
+    sink: &mut S,
     bytes: &[u8],
     v: Vocabulary,
     ends: &[u16],
     at: usize,
     least: usize,
-    write: bool,
-) -> usize
+)
     requires { Printable bytes.now v ends.now at }
-    ensures { Wrote (part_text bytes.now v at least)
-        write out.old to out.new result }
+    ensures { S.puts sink.old (part_text bytes.now v at least) sink.new }
 {
     if precedence(code_of(bytes, v), ends, at) < least {
-        let start = put(out, to, b'(', write);
-        let end = print(out, start, bytes, v, ends, at, write);
-        return put(out, end, b')', write);
+        sink.put(b'(');
+        put_proposition(sink, bytes, v, ends, at);
+        sink.put(b')');
+        return;
     }
-    print(out, to, bytes, v, ends, at, write)
+    put_proposition(sink, bytes, v, ends, at);
 }
 
 // The text of the proposition at `at`.
-#[cycle(part_print)]
+#[cycle(put_proposition)]
+pub fn put_proposition<S: Sink<u8>>(
+    sink: &mut S,
+    bytes: &[u8],
+    v: Vocabulary,
+    ends: &[u16],
+    at: usize,
+)
+    requires { Printable bytes.now v ends.now at }
+    ensures { S.puts sink.old (prop_text bytes.now v at) sink.new }
+{
+    let code = code_of(bytes, v);
+    let head = code[at];
+    if head < AND {
+        put_sign(sink, head);
+        return;
+    }
+    if head == ATOM {
+        put_atom(sink, bytes, v, at);
+        return;
+    }
+    if ATOM < head {
+        let object = number_at(code, at + 1);
+        let datatype = number_at(code, at + 3);
+        put_quantifier(sink, head, bytes, v, object, datatype);
+        put_proposition(sink, bytes, v, ends, at + 5);
+        return;
+    }
+    let left = at + 1;
+    if precedence(code, ends, at) == ATOM_STRENGTH {
+        sink.put_all(b"\xC2\xAC");
+        put_part(sink, bytes, v, ends, left, ATOM_STRENGTH);
+        return;
+    }
+    put_part(sink, bytes, v, ends, left, left_strength(head));
+    put_connective(sink, head);
+    put_part(
+        sink,
+        bytes,
+        v,
+        ends,
+        ends[left] as usize,
+        right_strength(head),
+    );
+}
+
+// The text of the proposition at `at`, in lent memory by a position and a flag.
 pub fn print(
     out: &mut [u8],
     to: usize,
@@ -222,30 +262,12 @@ pub fn print(
     requires { Printable bytes.now v ends.now at }
     ensures { Wrote (prop_text bytes.now v at) write out.old to out.new result }
 {
-    let code = code_of(bytes, v);
-    let head = code[at];
-    if head < AND {
-        return put_sign(out, to, head, write);
+    if write {
+        let mut writer = Writer { out, to };
+        put_proposition(&mut writer, bytes, v, ends, at);
+        return writer.to;
     }
-    if head == ATOM {
-        return put_atom(out, to, bytes, v, at, write);
-    }
-    if ATOM < head {
-        let object = number_at(code, at + 1);
-        let datatype = number_at(code, at + 3);
-        let body = put_quantifier(out, to, head, bytes, v, object, datatype, write);
-        return print(out, body, bytes, v, ends, at + 5, write);
-    }
-    let left = at + 1;
-    if precedence(code, ends, at) == ATOM_STRENGTH {
-        let least = ATOM_STRENGTH;
-        let not = put_all(out, to, b"\xC2\xAC", write);
-        return part(out, not, bytes, v, ends, left, least, write);
-    }
-    let least = left_strength(head);
-    let end = part(out, to, bytes, v, ends, left, least, write);
-    let to = put_connective(out, end, head, write);
-    let right = ends[left] as usize;
-    let least = right_strength(head);
-    part(out, to, bytes, v, ends, right, least, write)
+    let mut counter = Counter { count: to };
+    put_proposition(&mut counter, bytes, v, ends, at);
+    counter.count
 }

@@ -4,5 +4,5 @@ use Rattle.prop.proofs.Atoms.{Listing}
 use Rattle.prop.proofs.put_atom.Given as goal
 
 abbrev pub invariant-loop-left : goal.invariant-loop-left
-invariant-loop-left l =
-    Listing (name_in l.bytes l.v) l.v.name_count l.code l.at l.write l.initial.out l.initial.end l.out l.i l.end l.left
+invariant-loop-left g l =
+    Listing (name_in l.bytes l.v) l.v.name_count l.code l.at g.S.Sink.puts l.initial.sink l.sink l.i l.left

@@ -1,10 +1,9 @@
 -- A blank, the sign and a blank are the connective's text.
-use Rattle.output.proofs.Writing.{then}
 use Rattle.prop.proofs.Shown.{connective_sign}
 use Rattle.prop.proofs.put_connective.Goals as goal
 
 pub returns : goal.returns
-returns c = λ connective e.
+returns g c = λ connective e.
+    let laws = g.met.S.Sink.laws in
     rw (← (connective_sign connective), ← e)
-    (then c.put-start.ensures
-    (then c.put_sign-end.ensures c.put.ensures))
+    (laws.then c.put.ensures (laws.then c.put_sign.ensures c.put-2.ensures))
