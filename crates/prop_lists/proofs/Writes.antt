@@ -1,14 +1,12 @@
--- Entries are written one after another: once what is left of them is written, all of them are.
+-- Entries are put one after another: once what is left of them is put, all of them are.
 use Prim.Native.Nat.{ℕ}
 use mathlib.Core.Path.{◌≡◌, refl}
-use mathlib.Core.Bool.{Bool}
 use mathlib.Core.List.{List, [], ◌∷◌, ◌++◌}
 use Rattle.definitions.specs.declared.TermList.{TermList}
 use Rattle.definitions.specs.declared.TermList.TheVariants.{Atoms, Datatypes}
 use Rattle.definitions.specs.Prop.{AtomUse}
 use Rattle.definitions.specs.Answers.{atom_numbers}
-use Rattle.output.specs.Wrote.{Wrote}
-use Rattle.output.proofs.Writing as writing
+use Rattle.output.specs.SinkLaws.{SinkLaws}
 use Rattle.prop_lists.specs.Entries.{entry_numbers}
 
 -- entries joined have their numbers joined
@@ -19,24 +17,23 @@ numbers_join Atoms (e ∷ a) b = rw (numbers_join Atoms a b)
 numbers_join (Datatypes v) [] b = refl
 numbers_join (Datatypes v) (e ∷ a) b = rw (numbers_join (Datatypes v) a b)
 
--- some of the entries are written, and the rest are left
-pub record Left (list : TermList) (all rest : List (AtomUse ℕ)) (write : Bool) (before : List ℕ) (to : ℕ) (mid : List ℕ) (position : ℕ) : Type 0 where
-  pub written : (after : List ℕ) (next : ℕ) → Wrote (entry_numbers list rest) write mid position after next
-      → Wrote (entry_numbers list all) write before to after next
+-- no entry has no number
+pub no_numbers : (list : TermList) → entry_numbers list [] ≡ []
+unfolding entry_numbers atom_numbers
+no_numbers Atoms = refl
+no_numbers (Datatypes v) = refl
 
-module _ {list : TermList} {all : List (AtomUse ℕ)} {write : Bool} {before : List ℕ} {to : ℕ} where
-  pub all_left : Left list all all write before to before to
-  all_left = record { written = λ after next w. w }
+-- some of the entries are put, and the rest are left
+pub record Left {S : Type 0} (puts : S → List ℕ → S → Type 0) (list : TermList) (all rest : List (AtomUse ℕ)) (before mid : S) : Type 0 where
+  pub put : (after : S) → puts mid (entry_numbers list rest) after → puts before (entry_numbers list all) after
 
-  pub one_less : {e : AtomUse ℕ} {rest : List (AtomUse ℕ)} {mid after : List ℕ} {position next : ℕ} → Left list all (e ∷ rest) write before to mid position
-      → Wrote (entry_numbers list (e ∷ [])) write mid position after next → Left list all rest write before to after next
-  one_less {e} {rest} l w = record { written = λ after next v. l.written after next (rw (numbers_join list (e ∷ []) rest) (writing.then w v)) }
+module _ {S : Type 0} {puts : S → List ℕ → S → Type 0} (laws : SinkLaws puts) {list : TermList} {all : List (AtomUse ℕ)} {before : S} where
+  pub all_left : Left puts list all all before before
+  all_left = record { put = λ after w. w }
 
-  pub none_left : {mid : List ℕ} {position : ℕ} → Left list all [] write before to mid position
-      → Wrote (entry_numbers list all) write before to mid position
-  unfolding entry_numbers atom_numbers
-  none_left {mid} {position} l = l.written mid position (nothing list)
-    where
-      nothing : (list : TermList) → Wrote (entry_numbers list []) write mid position mid position
-      nothing Atoms = writing.none write mid position
-      nothing (Datatypes v) = writing.none write mid position
+  pub one_less : {e : AtomUse ℕ} {rest : List (AtomUse ℕ)} {mid after : S} → Left puts list all (e ∷ rest) before mid
+      → puts mid (entry_numbers list (e ∷ [])) after → Left puts list all rest before after
+  one_less {e} {rest} l w = record { put = λ after v. l.put after (rw (numbers_join list (e ∷ []) rest) (laws.then w v)) }
+
+  pub none_left : {mid : S} → Left puts list all [] before mid → puts before (entry_numbers list all) mid
+  none_left {mid} l = l.put mid (rw (no_numbers list) (laws.none mid))

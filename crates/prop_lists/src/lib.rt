@@ -3,14 +3,13 @@
 #![tactic(auto)]
 
 ghost use Rattle.std.specs.Prelude.{◌≡◌, [], ◌∷◌, ◌<◌};
-ghost use Rattle.output.specs.Wrote.{Wrote};
 ghost use Rattle.vocabulary.specs.Vocabulary.{prop_in, SomeProposition};
 ghost use Rattle.prop_lists.specs.Row.{Row};
 ghost use Rattle.prop_lists.specs.Entries.{use_of, entries, entry_numbers, has_entry, NextHead, GivesEntry};
 
 use definitions::TermList;
 use number::number_at;
-use output::put_number;
+use output::Sink;
 use prefix_code::{ATOM, head_end, scan};
 use vocabulary::{Vocabulary, code_of};
 
@@ -78,51 +77,34 @@ pub fn next_entry(code: &[u8], at: usize, end: usize, names: usize, list: TermLi
 }
 
 // The numbers of an entry: an atom's name and count, a datatype's name.
-pub fn put_entry(
-    list: TermList,
-    name: usize,
-    count: usize,
-    out: &mut [u16],
-    to: usize,
-    write: bool,
-) -> usize
+pub fn put_entry<S: Sink<u16>>(sink: &mut S, list: TermList, name: usize, count: usize)
     requires { (name < 65536) × (count < 65536) }
-    ensures { Wrote (entry_numbers list (use_of name count ∷ []))
-        write out.old to out.new result }
+    ensures { S.puts sink.old (entry_numbers list (use_of name count ∷ [])) sink.new }
 {
-    let named = put_number(out, to, name as u16, write);
+    sink.put(name as u16);
     match list {
-        TermList::Atoms => {
-            return put_number(out, named, count as u16, write);
-        }
-        TermList::Datatypes(_) => {
-            return named;
-        }
+        TermList::Atoms => sink.put(count as u16),
+        TermList::Datatypes(_) => {}
     }
 }
 
 // The numbers of the entries of the proposition at an offset of the code.
-pub fn put_entries(
+pub fn put_entries<S: Sink<u16>>(
+    sink: &mut S,
+    list: TermList,
     bytes: &[u8],
     v: Vocabulary,
     at: usize,
-    list: TermList,
-    out: &mut [u16],
-    to: usize,
-    write: bool,
-) -> usize
+)
     requires { SomeProposition bytes.now v at }
-    ensures { Wrote (entry_numbers list (entries list (prop_in bytes.now v at)))
-        write out.old to out.new result }
+    ensures { S.puts sink.old (entry_numbers list (entries list (prop_in bytes.now v at))) sink.new }
 {
     let code = code_of(bytes, v);
     let names = v.name_count;
     let end = scan(code, at, names);
     let mut i = at;
-    let mut position = to;
     while let Some(entry) = next_entry(code, i, end, names, list) {
-        position = put_entry(list, entry.name, entry.count, out, position, write);
+        put_entry(sink, list, entry.name, entry.count);
         i = entry.next;
     }
-    position
 }

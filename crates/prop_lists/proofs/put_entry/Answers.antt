@@ -1,15 +1,12 @@
 -- The name, and then the count of an atom.
 use Rattle.definitions.specs.Answers.{atom_numbers}
-use Rattle.output.proofs.Writing as writing
 use Rattle.prop_lists.specs.Entries.{entry_numbers}
 use Rattle.prop_lists.proofs.put_entry.Goals as goal
 
 pub returns-in-Atoms : goal.returns-in-Atoms
 unfolding entry_numbers atom_numbers
-returns-in-Atoms c =
-    rw c.in-Atoms.is
-    (writing.then c.put_number-named.ensures c.put_number.ensures)
+returns-in-Atoms g c = rw c.in-Atoms.is (g.met.S.Sink.laws.then c.put.ensures c.put-in-Atoms.ensures)
 
 pub returns-in-Datatypes : goal.returns-in-Datatypes
 unfolding entry_numbers
-returns-in-Datatypes c = rw c.in-Datatypes.is c.put_number-named.ensures
+returns-in-Datatypes g c = rw c.in-Datatypes.is c.put.ensures
