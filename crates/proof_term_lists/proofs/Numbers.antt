@@ -5,17 +5,10 @@ use mathlib.Core.List.{List, [], ◌∷◌, map}
 use Rattle.definitions.specs.declared.TermList.{TermList}
 use Rattle.definitions.specs.declared.TermList.TheVariants.{Atoms, Datatypes}
 use Rattle.definitions.specs.Term.{ProofTerm, atom_list}
-use Rattle.definitions.specs.Answers.{atom_numbers}
 use Rattle.prop_lists.specs.Entries.{datatype_uses, entry_numbers}
 use Rattle.proof_term_lists.specs.Labels.{label_uses, term_uses}
 use Rattle.proof_term_lists.specs.Numbers.{list_numbers}
 use Rattle.proof_term_lists.proofs.Labels.{datatypes_are}
-
--- no entries have no numbers
-pub no_numbers : (list : TermList) → entry_numbers list [] ≡ []
-unfolding entry_numbers atom_numbers
-no_numbers Atoms = refl
-no_numbers (Datatypes v) = refl
 
 names_of : (ts : List ℕ) → map (λ e. e.name) (datatype_uses ts) ≡ ts
 names_of [] = refl

@@ -10,6 +10,7 @@ ghost use Rattle.proof_term_lists.specs.Labels.{label_adds, record_adds, added_u
 ghost use Rattle.proof_term_lists.specs.Numbers.{list_numbers};
 
 use definitions::{TermList, Version};
+use output::{Counter, Sink, Writer};
 use proof_term::{DATATYPE, field, has_label};
 use prop_lists::{put_entries, put_entry};
 use vocabulary::Vocabulary;
@@ -60,28 +61,43 @@ pub fn record_adds(term_records: &[u16], m: usize, list: TermList) -> Option<Add
     None
 }
 
-// Writes what a label adds to a list.
-fn put_added(
-    added: Option<Added>,
+// The numbers of what a label adds to a list.
+fn put_added<S: Sink<u16>>(
+    sink: &mut S,
     list: TermList,
     bytes: &[u8],
     v: Vocabulary,
-    out: &mut [u16],
-    to: usize,
-    write: bool,
-) -> usize
+    added: Option<Added>,
+)
     requires { AddedStands bytes.now v added }
-    ensures { Wrote (entry_numbers list (added_uses bytes.now v list added))
-        write out.old to out.new result }
+    ensures { S.puts sink.old (entry_numbers list (added_uses bytes.now v list added)) sink.new }
 {
     match added {
-        None => to,
-        Some(Added::Datatype(name)) => put_entry(list, name, 0, out, to, write),
-        Some(Added::Proposition(at)) => put_entries(bytes, v, at, list, out, to, write),
+        None => {}
+        Some(Added::Datatype(name)) => put_entry(sink, list, name, 0),
+        Some(Added::Proposition(at)) => put_entries(sink, list, bytes, v, at),
     }
 }
 
-// Writes a list of the term that record `n` holds: what the label of each record up to it adds.
+// A list of the term that record `n` holds: what the label of each record up to it adds.
+pub fn put_term_list<S: Sink<u16>>(
+    sink: &mut S,
+    list: TermList,
+    bytes: &[u8],
+    v: Vocabulary,
+    term_records: &[u16],
+    n: usize,
+)
+    requires { Listable bytes.now v term_records.now n }
+    ensures { S.puts sink.old (list_numbers list (term_in bytes.now v term_records.now n)) sink.new }
+{
+    for m in 0..n + 1 {
+        let added = record_adds(term_records, m, list);
+        put_added(sink, list, bytes, v, added);
+    }
+}
+
+// The same in lent memory, by a position and a flag.
 pub fn put_list(
     term_records: &[u16],
     n: usize,
@@ -96,10 +112,12 @@ pub fn put_list(
     ensures { Wrote (list_numbers list (term_in bytes.now v term_records.now n))
         write out.old to out.new result }
 {
-    let mut position = to;
-    for m in 0..n + 1 {
-        let added = record_adds(term_records, m, list);
-        position = put_added(added, list, bytes, v, out, position, write);
+    if write {
+        let mut writer = Writer { out, to };
+        put_term_list(&mut writer, list, bytes, v, term_records, n);
+        return writer.to;
     }
-    position
+    let mut counter = Counter { count: to };
+    put_term_list(&mut counter, list, bytes, v, term_records, n);
+    counter.count
 }
