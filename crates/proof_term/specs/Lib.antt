@@ -1,4 +1,5 @@
 pub mod Records
+pub mod Views
 pub mod Labels
 pub mod Tally
 pub mod Making

@@ -2,6 +2,8 @@
 // before the term.
 #![tactic(auto)]
 
+mod nodes;
+
 ghost use Rattle.std.specs.Prelude.{◌≡◌, ℕ, ◌+◌, ◌*◌, ◌≤◌, ◌<◌, length, get_or};
 ghost use Rattle.definitions.specs.Prop.{Prop};
 ghost use Rattle.definitions.specs.Term.{Ident, Pair, ProjectFst, ProjectSnd, Function, Application, LetIn, OrLeft, OrRight, Case, Abort, TypeAscription, Unit, Sorry, annotation_count};
@@ -9,6 +11,8 @@ ghost use Rattle.proof_term.specs.Records.{record_size, field_at, record_term, p
 ghost use Rattle.proof_term.specs.Labels.{has_label};
 ghost use Rattle.proof_term.specs.Tally.{own_count, tally_over, NodesTallied};
 ghost use Rattle.proof_term.specs.Making.{Room, Pushed, Made};
+
+pub use nodes::{Kind, Label, Node, kind_at, node_at};
 
 // The numbers of a record.
 pub const RECORD_SIZE: usize = 7;

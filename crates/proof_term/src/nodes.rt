@@ -1,0 +1,213 @@
+// The kinds of records as values, and a record as a node of its term, with its parts, names and label by name.
+ghost use Rattle.std.specs.Prelude.{◌≡◌, ◌+◌, ◌*◌, ◌≤◌, length};
+ghost use Rattle.proof_term.specs.Records.{record_size, field_at};
+ghost use Rattle.proof_term.specs.Views.{kind_number, kind_of, label_of_numbers, parameter_of_numbers, node_of, node_at};
+
+use crate::{DATATYPE, NO_LABEL, RECORD_SIZE, field};
+
+// The kinds of records, in the Rust's order: a record keeps the number of its own.
+#[derive(Debug, Clone, Copy, PartialEq, Eq)]
+pub enum Kind {
+    Ident,
+    Pair,
+    ProjectFst,
+    ProjectSnd,
+    Function,
+    Application,
+    LetIn,
+    OrLeft,
+    OrRight,
+    Case,
+    Abort,
+    TypeAscription,
+    Unit,
+    Sorry,
+}
+
+impl Kind {
+    // The kind of a number. It is the arm of a match and no entry of a table, which each look would lay down in the frame of a walk.
+    #[tactic(auto, unfolding(crate::specs::Views::kind_of), using(crate::proofs::Views::kind_unknown))]
+    pub fn of(number: usize) -> Kind
+        ensures { result ≡ kind_of number }
+    {
+        match number {
+            0 => Kind::Ident,
+            1 => Kind::Pair,
+            2 => Kind::ProjectFst,
+            3 => Kind::ProjectSnd,
+            4 => Kind::Function,
+            5 => Kind::Application,
+            6 => Kind::LetIn,
+            7 => Kind::OrLeft,
+            8 => Kind::OrRight,
+            9 => Kind::Case,
+            10 => Kind::Abort,
+            11 => Kind::TypeAscription,
+            13 => Kind::Sorry,
+            // An unknown kind counts as this one.
+            _ => Kind::Unit,
+        }
+    }
+
+    // The number of a kind, as a record keeps it.
+    pub fn number(self) -> u16
+        ensures { result ≡ kind_number self }
+    {
+        self as u16
+    }
+}
+
+// A label: the number that stands for a proposition, or the name of a datatype.
+#[derive(Debug, Clone, Copy, PartialEq, Eq)]
+pub enum Label {
+    Proposition(u16),
+    Datatype(u16),
+}
+
+// A record as a node of its term: its parts, numbers of records, its names and its label.
+#[derive(Debug, Clone, Copy, PartialEq, Eq)]
+pub enum Node {
+    Ident {
+        name: u16,
+    },
+    Pair {
+        first: u16,
+        second: u16,
+    },
+    ProjectFst {
+        body: u16,
+    },
+    ProjectSnd {
+        body: u16,
+    },
+    Function {
+        parameter: u16,
+        label: Option<Label>,
+        body: u16,
+    },
+    Application {
+        function: u16,
+        argument: u16,
+    },
+    LetIn {
+        first: u16,
+        second: u16,
+        head: u16,
+        body: u16,
+    },
+    OrLeft {
+        body: u16,
+    },
+    OrRight {
+        body: u16,
+    },
+    Case {
+        head: u16,
+        first: u16,
+        left: u16,
+        second: u16,
+        right: u16,
+    },
+    Abort {
+        body: u16,
+    },
+    TypeAscription {
+        body: u16,
+        label: Label,
+    },
+    Unit,
+    Sorry,
+}
+
+// The label of two numbers of a record, the kind of a label and its number.
+#[tactic(auto, unfolding(crate::specs::Views::label_of_numbers))]
+fn label_of_numbers(kind: u16, number: u16) -> Label
+    ensures { result ≡ label_of_numbers kind number }
+{
+    if usize::from(kind) == DATATYPE {
+        return Label::Datatype(number);
+    }
+    Label::Proposition(number)
+}
+
+// The same of a parameter, which may have none.
+#[tactic(auto, unfolding(crate::specs::Views::parameter_of_numbers))]
+fn parameter_of_numbers(kind: u16, number: u16) -> Option<Label>
+    ensures { result ≡ parameter_of_numbers kind number }
+{
+    if usize::from(kind) == NO_LABEL {
+        return None;
+    }
+    Some(label_of_numbers(kind, number))
+}
+
+// The node of a kind and five numbers, in the order of a record.
+fn node_of(kind: Kind, a: u16, b: u16, c: u16, d: u16, e: u16) -> Node
+    ensures { result ≡ node_of kind a b c d e }
+{
+    match kind {
+        Kind::Ident => Node::Ident { name: a },
+        Kind::Pair => Node::Pair {
+            first: a,
+            second: b,
+        },
+        Kind::ProjectFst => Node::ProjectFst { body: a },
+        Kind::ProjectSnd => Node::ProjectSnd { body: a },
+        Kind::Function => Node::Function {
+            parameter: b,
+            label: parameter_of_numbers(c, d),
+            body: a,
+        },
+        Kind::Application => Node::Application {
+            function: a,
+            argument: b,
+        },
+        Kind::LetIn => Node::LetIn {
+            first: c,
+            second: d,
+            head: a,
+            body: b,
+        },
+        Kind::OrLeft => Node::OrLeft { body: a },
+        Kind::OrRight => Node::OrRight { body: a },
+        Kind::Case => Node::Case {
+            head: a,
+            first: d,
+            left: b,
+            second: e,
+            right: c,
+        },
+        Kind::Abort => Node::Abort { body: a },
+        Kind::TypeAscription => Node::TypeAscription {
+            body: a,
+            label: label_of_numbers(c, d),
+        },
+        Kind::Unit => Node::Unit,
+        Kind::Sorry => Node::Sorry,
+    }
+}
+
+// The kind of record `n`.
+pub fn kind_at(records: &[u16], n: usize) -> Kind
+    requires { record_size * (n + 1) ≤ length records.now }
+    ensures { result ≡ kind_of (field_at records.now n 0) }
+{
+    Kind::of(field(records, n, 0))
+}
+
+// The node that record `n` is.
+#[tactic(auto, unfolding(crate::specs::Records::field_at, crate::specs::Views::node_at))]
+pub fn node_at(records: &[u16], n: usize) -> Node
+    requires { record_size * (n + 1) ≤ length records.now }
+    ensures { result ≡ node_at records.now n }
+{
+    let at = RECORD_SIZE * n;
+    node_of(
+        kind_at(records, n),
+        records[at + 1],
+        records[at + 2],
+        records[at + 3],
+        records[at + 4],
+        records[at + 5],
+    )
+}
