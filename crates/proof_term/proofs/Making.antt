@@ -12,7 +12,7 @@ use lib.Seq.{sets, sets-eq, length-take-le, take_at, drop_at, get_or-append-add}
 use Rattle.definitions.specs.Prop.{Prop}
 use Rattle.definitions.specs.Term.{ProofTerm, Unit, annotation_count}
 use Rattle.proof_term.specs.Records.{record_size, field_at, leaf, forms, record_term, record_term_at, part_count, Each, term_at, part_at}
-use Rattle.proof_term.specs.Labels.{single}
+use Rattle.proof_term.specs.Labels.{single, term_labels}
 use Rattle.proof_term.specs.Tally.{tally_limit, tally_at, tally_over, Tallied}
 use Rattle.proof_term.specs.Making.{Pushed, Kept, Made}
 use Rattle.proof_term.proofs.Records.{part_count_lem, form_same, fewer, same_field, frame_below, parts_same, part_below, term_at_is}
@@ -124,3 +124,15 @@ module _
       beyond = beyond;
       counted = p.counted;
     }
+
+-- the same of a term that is said otherwise
+pub made_as : {term term' : (ℕ → Prop ℕ) → (ℕ → ProofTerm ℕ) → ProofTerm ℕ} {before after : List ℕ} {used next : ℕ}
+    → ((props : ℕ → Prop ℕ) (part : ℕ → ProofTerm ℕ) → term props part ≡ term' props part) → Made term before used after next → Made term' before used after next
+made_as same m = record {
+  holds = λ props. m.holds props ∙ same props _;
+  label = λ props. m.label props ∙ ap term_labels (same props _);
+  kept = m.kept;
+  tallied = m.tallied;
+  beyond = m.beyond;
+  counted = m.counted;
+}

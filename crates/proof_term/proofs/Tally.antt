@@ -8,12 +8,13 @@ use native.Mathlib.Omega.{arith}
 use native.Mathlib.Decide.{dec_le}
 use native.Mathlib.Nat.{zero-add, add-zero}
 use native.Mathlib.Numerals.{add-one}
-use lib.ListN.{length, get_or, get_or-map}
+use lib.ListN.{length, get_or, get_or-map, take}
+use lib.Seq.{length-take-le, get_or-take}
 use Rattle.definitions.specs.Prop.{Prop}
 use Rattle.definitions.specs.Term.{ProofTerm, Unit, annotation_count}
 use Rattle.proof_term.specs.Records.{field_at, leaf, form_term, label_of, forms, record_term, record_term_at, part_count, Each, term_at, part_at}
 use Rattle.proof_term.specs.Labels.{has_label, of_own_label, single, InOrder}
-use Rattle.proof_term.specs.Tally.{tally_limit, tally_at, own_count, sum_of, tally_over, Tallied, Node, root, part_of, NodesTallied}
+use Rattle.proof_term.specs.Tally.{tally_limit, tally_at, own_count, sum_of, sum_over, tally_over, Tallied, Node, root, part_of, NodesTallied}
 use Rattle.proof_term.proofs.Records.{arity, part_count_lem, few_parts, term_at_is, part_below}
 use Rattle.proof_term.proofs.Labels.{own_labels_lem}
 use Rattle.proof_term.proofs.Counting.{count_labels, few_labels, count_in_order}
@@ -59,22 +60,28 @@ each_at P numbers (suc (suc (suc n))) (suc zero) h l all = all.1
 each_at P numbers (suc (suc (suc n))) (suc (suc zero)) h l all = all.2
 each_at P numbers (suc (suc (suc n))) (suc (suc (suc i))) h l all = absurd (omega arith)
 
--- The tally, part by part, not yet cut.
-module _ (records : List ℕ) (kind : ℕ) (numbers : List ℕ) where
-  pub uncut : ℕ → ℕ
-  uncut i = own_count kind (get_or numbers 2 0) + sum_of i (λ j. tally_at records (get_or numbers j 0))
+-- no part, and one more
+pub sum_none : (f : ℕ → ℕ) → sum_of 0 f ≡ 0
+unfolding sum_of
+sum_none f = refl
 
-  pub uncut_none : uncut 0 ≡ own_count kind (get_or numbers 2 0)
-  unfolding uncut sum_of
-  uncut_none = omega arith
+pub sum_more : (f : ℕ → ℕ) (i : ℕ) → sum_of (i + 1) f ≡ sum_of i f + f i
+unfolding sum_of
+sum_more f i = rw add-one refl
 
-  pub uncut_more : (i : ℕ) → uncut (i + 1) ≡ uncut i + tally_at records (get_or numbers i 0)
-  unfolding uncut sum_of
-  uncut_more i = rw add-one (omega arith)
+-- a loop over all parts comes to that, once it is cut
+pub sum_over_is : {i sum r : ℕ} (own : ℕ) (parts : List ℕ) (value : ℕ → ℕ) → i ≡ length parts → sum ≡ own + sum_of i (λ j. value (get_or parts j 0))
+    → r ≡ min sum tally_limit → r ≡ sum_over own parts value
+unfolding sum_over
+sum_over_is own parts value all is cut = cut ∙ rw (is, all) refl
 
-  pub uncut_all : {i : ℕ} → i ≡ part_count kind → min (uncut i) tally_limit ≡ tally_over records kind numbers
-  unfolding uncut tally_over
-  uncut_all all = rw all
+-- the parts are the first of a record's numbers
+pub sum_over_first : (own count : ℕ) (numbers : List ℕ) (value : ℕ → ℕ) → count ≤ length numbers
+    → sum_over own (take count numbers) value ≡ min (own + sum_of count (λ i. value (get_or numbers i 0))) tally_limit
+unfolding sum_over
+sum_over_first own count numbers value few =
+    rw (length-take-le count numbers few)
+    (ap (λ n. min (own + n) tally_limit) (sum_same count (λ i. value (get_or (take count numbers) i 0)) (λ i. value (get_or numbers i 0)) (λ i l. ap value (get_or-take count numbers i 0 l))))
 
 -- two measures that agree on each entry of a table agree on what stands at any index
 same_at : {A : Type 0} (m w : A → ℕ) (l : List A) (d : A) → m d ≡ w d → map m l ≡ map w l → (i : ℕ) → m (get_or l i d) ≡ w (get_or l i d)

@@ -3,7 +3,7 @@ use Prim.Native.Nat.{ℕ, ◌≤◌, ◌<◌}
 use mathlib.Core.Path.{◌≡◌, refl, sym, ap, ◌∙◌}
 use mathlib.Core.Logic.{by_cases}
 use mathlib.Core.Bool.{Bool, true, false, cond}
-use Rattle.std.specs.Prelude.{None, Some}
+use Rattle.std.specs.Prelude.{Option, None, Some}
 use mathlib.Core.List.{List, map}
 use native.Mathlib.Omega.{arith}
 use native.Mathlib.Decide.{dec_lt}
@@ -15,33 +15,50 @@ use Rattle.std.proofs.lemmas.List.FromFn.{get_or-range_with_len}
 use Rattle.definitions.specs.Prop.{Prop}
 use Rattle.definitions.specs.Term as term
 use Rattle.definitions.specs.Term.{ProofTerm}
-use Rattle.proof_term.specs.Records.{field_at, Form, leaf, form_term, label_of, parameter_label, forms, record_term, record_term_at, term_at, part_at}
-use Rattle.proof_term.specs.Views.{kind_number, kinds, kind_of, label_of_numbers, parameter_of_numbers, node_of, node_at, label_meant, parameter_meant, node_term}
+use Rattle.proof_term.specs.Records.{field_at, Form, leaf, form_term, label_of, parameter_label, forms, record_term, record_term_at, part_counts, part_count, Each, term_at, part_at}
+use Rattle.proof_term.specs.Views.{kind_number, kinds, kind_of, label_of_numbers, parameter_of_numbers, node_of, node_at, label_meant, parameter_meant, node_term, label_numbers, parameter_numbers, node_kind, node_numbers, PartsBelow}
 use Rattle.proof_term.specs.declared.nodes.Kind.{Kind}
-use Rattle.proof_term.specs.declared.nodes.Kind.TheVariants.{Unit}
+use Rattle.proof_term.specs.declared.nodes.Kind.TheVariants as variant
+use Rattle.proof_term.specs.declared.nodes.Label.{Label}
 use Rattle.proof_term.specs.declared.nodes.Label.TheVariants.{Proposition, Datatype}
+use Rattle.proof_term.specs.declared.nodes.Node.{Node}
+use Rattle.proof_term.specs.declared.nodes.Node.TheVariants.{Ident, Pair, ProjectFst, ProjectSnd, Function, Application, LetIn, OrLeft, OrRight, Case, Abort, TypeAscription, Unit, Sorry}
+use Rattle.proof_term.specs.Labels.{has_label}
 use Rattle.proof_term.proofs.Records.{term_at_is}
+use Rattle.proof_term.proofs.Labels.{no_label}
 
 -- an unknown number counts as Unit
-pub kind_unknown : (number : ℕ) → 14 ≤ number → kind_of number ≡ Unit
+pub kind_unknown : (number : ℕ) → 14 ≤ number → kind_of number ≡ variant.Unit
 unfolding kind_of
-kind_unknown number h = get_or_past kinds number Unit h
+kind_unknown number h = get_or_past kinds number variant.Unit h
 
 -- any other is the number of its kind
 pub kind_known : (number : ℕ) → number < 14 → kind_number (kind_of number) ≡ number
 unfolding kind_of
 kind_known number h =
-    sym (get_or-map kind_number kinds number Unit) ∙ (get_or-range_with_len 0 14 number 12 h ∙ zero-add number)
+    sym (get_or-map kind_number kinds number variant.Unit) ∙ (get_or-range_with_len 0 14 number 12 h ∙ zero-add number)
 
 -- a kind other than Unit has its own number alone
-pub number_of_kind : {number : ℕ} {kind : Kind} → kind_of number ≡ kind → (kind ≡ Unit → ⊥) → number ≡ kind_number kind
+pub number_of_kind : {number : ℕ} {kind : Kind} → kind_of number ≡ kind → (kind ≡ variant.Unit → ⊥) → number ≡ kind_number kind
 number_of_kind {number} {kind} is other = by_cases (dec_lt number 14)
     (λ l. sym (kind_known number l) ∙ ap kind_number is)
     (λ l. absurd (other (sym is ∙ kind_unknown number (omega arith))))
 
+-- an unknown kind has as many parts as Unit, and as few labels
+pub parts_of_kind : (number : ℕ) → part_count (kind_number (kind_of number)) ≡ part_count number
+parts_of_kind number = by_cases (dec_lt number 14)
+    (λ l. rw (kind_known number l))
+    (λ l. rw (kind_unknown number (omega arith)) (sym (get_or_past part_counts number 0 (omega arith))))
+
+pub label_of_kind : (number label : ℕ) → has_label (kind_number (kind_of number)) label ≡ has_label number label
+unfolding has_label
+label_of_kind number label = by_cases (dec_lt number 14)
+    (λ l. rw (kind_known number l))
+    (λ l. rw (kind_unknown number (omega arith)) (sym (no_label number label (omega arith) (omega arith))))
+
 -- What a record means, by its numbers and by its node.
 module _ (props : ℕ → Prop ℕ) where
-  label_same : (kind number : ℕ) → label_meant props (label_of_numbers kind number) ≡ label_of props kind number
+  pub label_same : (kind number : ℕ) → label_meant props (label_of_numbers kind number) ≡ label_of props kind number
   unfolding label_of_numbers label_of
   label_same kind number = go (eqb kind 2)
     where
@@ -49,7 +66,7 @@ module _ (props : ℕ → Prop ℕ) where
       go true = refl
       go false = refl
 
-  parameter_same : (kind number : ℕ) → parameter_meant props (parameter_of_numbers kind number) ≡ parameter_label props kind number
+  pub parameter_same : (kind number : ℕ) → parameter_meant props (parameter_of_numbers kind number) ≡ parameter_label props kind number
   unfolding parameter_of_numbers parameter_label
   parameter_same kind number = go (eqb kind 0)
     where
@@ -64,7 +81,7 @@ module _ (props : ℕ → Prop ℕ) where
       let by_node = λ (k : Kind). node_term props part (node_of k a b c d e) in
       let by_form = λ (form : Form). form_term part form a b c in
       let same : map by_node kinds ≡ map by_form (forms props a b c d e) = rw (parameter_same c d, label_same c d) in
-      sym (get_or-map by_node kinds kind Unit)
+      sym (get_or-map by_node kinds kind variant.Unit)
       ∙ (ap (λ l. get_or l kind term.Unit) same ∙ get_or-map by_form (forms props a b c d e) kind (leaf term.Unit))
 
   -- the term that record n holds is its node's, over the terms of its parts
@@ -73,3 +90,56 @@ module _ (props : ℕ → Prop ℕ) where
   node_holds records n =
       term_at_is props records n
       ∙ sym (node_is (part_at props records n) (field_at records n 0) (field_at records n 1) (field_at records n 2) (field_at records n 3) (field_at records n 4) (field_at records n 5))
+
+  label_kept : (l : Label) → label_of props (label_numbers l).0 (label_numbers l).1 ≡ label_meant props l
+  unfolding label_of
+  label_kept (Proposition number) = refl
+  label_kept (Datatype name) = refl
+
+  parameter_kept : (l : Option Label) → parameter_label props (parameter_numbers l).0 (parameter_numbers l).1 ≡ parameter_meant props l
+  unfolding parameter_label
+  parameter_kept None = refl
+  parameter_kept (Some (Proposition number)) = ap Some (label_kept (Proposition number))
+  parameter_kept (Some (Datatype name)) = ap Some (label_kept (Datatype name))
+
+-- the term of the record that a node's numbers are
+abbrev pub stored_term : (ℕ → Prop ℕ) → (ℕ → ProofTerm ℕ) → Node → ProofTerm ℕ
+stored_term props part node =
+    let numbers = node_numbers node in
+    record_term props part (kind_number (node_kind node)) (get_or numbers 0 0) (get_or numbers 1 0) (get_or numbers 2 0) (get_or numbers 3 0) (get_or numbers 4 0)
+
+-- it is the node's
+pub node_stored : (props : ℕ → Prop ℕ) (part : ℕ → ProofTerm ℕ) (node : Node) → stored_term props part node ≡ node_term props part node
+node_stored props part (Ident name) = refl
+node_stored props part (Pair first second) = refl
+node_stored props part (ProjectFst body) = refl
+node_stored props part (ProjectSnd body) = refl
+node_stored props part (Function parameter label body) = rw (parameter_kept props label)
+node_stored props part (Application function argument) = refl
+node_stored props part (LetIn first second head body) = refl
+node_stored props part (OrLeft body) = refl
+node_stored props part (OrRight body) = refl
+node_stored props part (Case head first left second right) = refl
+node_stored props part (Abort body) = refl
+node_stored props part (TypeAscription body label) = rw (label_kept props label)
+node_stored props part Unit = refl
+node_stored props part Sorry = refl
+
+-- and its parts are the node's
+pub parts_stored : (used : ℕ) (node : Node) → PartsBelow used node
+    → let numbers = node_numbers node in
+    Each (λ part. part < used) (part_count (kind_number (node_kind node))) (get_or numbers 0 0) (get_or numbers 1 0) (get_or numbers 2 0)
+parts_stored used (Ident name) h = h
+parts_stored used (Pair first second) h = h
+parts_stored used (ProjectFst body) h = h
+parts_stored used (ProjectSnd body) h = h
+parts_stored used (Function parameter label body) h = h
+parts_stored used (Application function argument) h = h
+parts_stored used (LetIn first second head body) h = h
+parts_stored used (OrLeft body) h = h
+parts_stored used (OrRight body) h = h
+parts_stored used (Case head first left second right) h = h
+parts_stored used (Abort body) h = h
+parts_stored used (TypeAscription body label) h = h
+parts_stored used Unit h = h
+parts_stored used Sorry h = h

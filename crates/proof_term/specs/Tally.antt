@@ -1,5 +1,5 @@
 -- The tally of a record: the label count of its term, as far as a u16 holds it. Document 02, ticket 10.
-use Rattle.std.specs.Prelude.{ℕ, zero, suc, ◌+◌, ◌<◌, min, ◌≡◌, cond, List, get_or}
+use Rattle.std.specs.Prelude.{ℕ, zero, suc, ◌+◌, ◌<◌, min, ◌≡◌, cond, List, length, get_or}
 use Rattle.definitions.specs.Prop.{Prop}
 use Rattle.definitions.specs.Term.{annotation_count}
 use Rattle.proof_term.specs.Records.{field_at, part_count, Each, term_at}
@@ -26,6 +26,10 @@ own_count kind label = cond (has_label kind label) 1 0
 unfoldable pub sum_of : ℕ → (ℕ → ℕ) → ℕ
 sum_of zero f = 0
 sum_of (suc n) f = sum_of n f + f n
+
+-- a number and the values of some parts, as far as the limit
+unfoldable pub sum_over : ℕ → List ℕ → (ℕ → ℕ) → ℕ
+sum_over own parts value = min (own + sum_of (length parts) (λ i. value (get_or parts i 0))) tally_limit
 
 -- the tally of a record of this kind by its numbers a, b and c: its own label and the tallies of its parts, as far as the limit
 unfoldable pub tally_over : List ℕ → ℕ → List ℕ → ℕ

@@ -95,7 +95,50 @@ module _ (props : ℕ → Prop ℕ) where
   node_term part Unit = term.Unit
   node_term part Sorry = term.Sorry
 
--- the parts of a node are earlier records
+-- the kind of a node
+abbrev pub node_kind : Node → Kind
+node_kind (Ident name) = kind.Ident
+node_kind (Pair first second) = kind.Pair
+node_kind (ProjectFst body) = kind.ProjectFst
+node_kind (ProjectSnd body) = kind.ProjectSnd
+node_kind (Function parameter label body) = kind.Function
+node_kind (Application function argument) = kind.Application
+node_kind (LetIn first second head body) = kind.LetIn
+node_kind (OrLeft body) = kind.OrLeft
+node_kind (OrRight body) = kind.OrRight
+node_kind (Case head first left second right) = kind.Case
+node_kind (Abort body) = kind.Abort
+node_kind (TypeAscription body label) = kind.TypeAscription
+node_kind Unit = kind.Unit
+node_kind Sorry = kind.Sorry
+
+-- the two numbers of a label
+abbrev pub label_numbers : Label → ℕ × ℕ
+label_numbers (Proposition number) = (1, number)
+label_numbers (Datatype name) = (2, name)
+
+abbrev pub parameter_numbers : Option Label → ℕ × ℕ
+parameter_numbers None = (0, 0)
+parameter_numbers (Some l) = label_numbers l
+
+-- the five numbers that the record of a node keeps behind its kind
+abbrev pub node_numbers : Node → List ℕ
+node_numbers (Ident name) = name ∷ 0 ∷ 0 ∷ 0 ∷ 0 ∷ []
+node_numbers (Pair first second) = first ∷ second ∷ 0 ∷ 0 ∷ 0 ∷ []
+node_numbers (ProjectFst body) = body ∷ 0 ∷ 0 ∷ 0 ∷ 0 ∷ []
+node_numbers (ProjectSnd body) = body ∷ 0 ∷ 0 ∷ 0 ∷ 0 ∷ []
+node_numbers (Function parameter label body) = body ∷ parameter ∷ (parameter_numbers label).0 ∷ (parameter_numbers label).1 ∷ 0 ∷ []
+node_numbers (Application function argument) = function ∷ argument ∷ 0 ∷ 0 ∷ 0 ∷ []
+node_numbers (LetIn first second head body) = head ∷ body ∷ first ∷ second ∷ 0 ∷ []
+node_numbers (OrLeft body) = body ∷ 0 ∷ 0 ∷ 0 ∷ 0 ∷ []
+node_numbers (OrRight body) = body ∷ 0 ∷ 0 ∷ 0 ∷ 0 ∷ []
+node_numbers (Case head first left second right) = head ∷ left ∷ right ∷ first ∷ second ∷ []
+node_numbers (Abort body) = body ∷ 0 ∷ 0 ∷ 0 ∷ 0 ∷ []
+node_numbers (TypeAscription body label) = body ∷ 0 ∷ (label_numbers label).0 ∷ (label_numbers label).1 ∷ 0 ∷ []
+node_numbers Unit = 0 ∷ 0 ∷ 0 ∷ 0 ∷ 0 ∷ []
+node_numbers Sorry = 0 ∷ 0 ∷ 0 ∷ 0 ∷ 0 ∷ []
+
+-- the parts of a node are records below that number
 abbrev pub PartsBelow : ℕ → Node → Type 0
 PartsBelow used (Ident name) = Prim.Unit {0}
 PartsBelow used (Pair first second) = (first < used) × (second < used)

@@ -9,9 +9,11 @@ ghost use Rattle.definitions.specs.Prop.{Prop};
 ghost use Rattle.definitions.specs.Term.{Ident, Pair, ProjectFst, ProjectSnd, Function, Application, LetIn, OrLeft, OrRight, Case, Abort, TypeAscription, Unit, Sorry, annotation_count};
 ghost use Rattle.proof_term.specs.Records.{record_size, field_at, record_term, part_count, Each, label_of, parameter_label, term_at};
 ghost use Rattle.proof_term.specs.Labels.{has_label};
-ghost use Rattle.proof_term.specs.Tally.{own_count, tally_over, NodesTallied};
+ghost use Rattle.proof_term.specs.Views.{kind_number, node_term, PartsBelow};
+ghost use Rattle.proof_term.specs.Tally.{tally_limit, sum_over, tally_over, NodesTallied};
 ghost use Rattle.proof_term.specs.Making.{Room, Pushed, Made};
 
+use nodes::{label_of_numbers, parameter_of_numbers};
 pub use nodes::{Kind, Label, Node, kind_at, node_at};
 
 // The numbers of a record.
@@ -61,10 +63,7 @@ pub const PROPOSITION: usize = 1;
 
 pub const DATATYPE: usize = 2;
 
-// How many of a record's numbers are parts, for each kind; in bytes, since each look lays the table down in the frame of a walk.
-const PART_COUNTS: [u8; KINDS] = [0, 2, 1, 1, 1, 2, 2, 1, 1, 3, 1, 1, 0, 0];
-
-// Stores record `used` and gives the number of the next one.
+// Stores record `used` and gives the number of the next one. Below, `make` finds a record's tally; the reader of terms hands its own.
 #[tactic(auto, using(crate::proofs::Making::stored))]
 pub fn push(
     records: &mut [u16],
@@ -85,45 +84,44 @@ pub fn push(
     used + 1
 }
 
-// How many labels a record has itself.
-#[tactic(auto, unfolding(crate::specs::Tally::own_count))]
-fn own_count(kind: usize, label: usize) -> usize
-    ensures { result ≡ own_count kind label }
+// A number and the values of some parts of a record, as far as a number of a record goes.
+pub fn sum_over<F: Fn(usize) -> usize>(own: usize, parts: &[u16], value: F) -> usize
+    requires few { (own ≤ 1) × (length parts.now ≤ 3) }
+    requires asked { (k : ℕ) → k < length parts.now → F.pre value (get_or parts.now k 0) }
+    requires small { (k r : ℕ) → k < length parts.now → F.post value (get_or parts.now k 0) r → r ≤ tally_limit }
+    ensures { (is : ℕ → ℕ) → ((k r : ℕ) → k < length parts.now → F.post value (get_or parts.now k 0) r → r ≡ is (get_or parts.now k 0))
+        → result ≡ sum_over own parts.now is }
 {
-    usize::from(has_label(kind, label))
+    let mut sum = own;
+    for &part in parts {
+        sum += value(usize::from(part));
+    }
+    sum.min(TALLY_LIMIT)
 }
 
 // The tally of a record of this kind over earlier records, by its numbers a, b and c: its own label and the tallies of its parts, as
 // far as the limit.
 #[tactic(auto, using(crate::proofs::Records::few_parts))]
-fn tally_over(records: &[u16], used: usize, kind: usize, numbers: [usize; 3]) -> usize
+fn tally_over(records: &[u16], used: usize, kind: Kind, numbers: [u16; 3]) -> usize
     requires used_in_bounds { record_size * used ≤ length records.now }
-    requires each { Each (λ part. part < used) (part_count kind) (get_or numbers 0 0) (get_or numbers 1 0) (get_or numbers 2 0) }
-    ensures { (result ≡ tally_over records.now kind numbers) × (result < 65536) }
+    requires each { Each (λ part. part < used) (part_count (kind_number kind)) (get_or numbers 0 0) (get_or numbers 1 0) (get_or numbers 2 0) }
+    ensures { (result ≡ tally_over records.now (kind_number kind) numbers) × (result < 65536) }
 {
-    let mut tally = own_count(kind, numbers[2]);
-    for &part in &numbers[..part_count(kind)] {
-        tally += field(records, part, TALLY);
-    }
-    tally.min(TALLY_LIMIT)
+    let own = usize::from(kind.has_label(usize::from(numbers[2])));
+    sum_over(own, &numbers[..kind.part_count()], |part| {
+        field(records, part, TALLY)
+    })
 }
 
-// Makes record `used`, of any kind, over earlier records, with its tally.
-fn make(
-    records: &mut [u16],
-    used: usize,
-    kind: usize,
-    a: u16,
-    b: u16,
-    c: u16,
-    d: u16,
-    e: u16,
-) -> usize
-    requires { (record_size * (used + 1) ≤ length records.old) × (kind < 14) × Each (λ part. part < used) (part_count kind) a b c }
-    ensures { Made (λ props part. record_term props part kind a b c d e) records.old used records.new result }
+// Makes record `used` of a node over earlier records, with its tally, and gives the number of the next one.
+pub fn make(records: &mut [u16], used: usize, node: Node) -> usize
+    requires { (record_size * (used + 1) ≤ length records.old) × PartsBelow used node }
+    ensures { Made (λ props part. node_term props part node) records.old used records.new result }
 {
-    let tally = tally_over(records, used, kind, [a as usize, b as usize, c as usize]);
-    push(records, used, kind as u16, a, b, c, d, e, tally as u16)
+    let kind = node.kind();
+    let [a, b, c, d, e] = node.numbers();
+    let tally = tally_over(records, used, kind, [a, b, c]);
+    push(records, used, kind.number(), a, b, c, d, e, tally as u16)
 }
 
 // The makers. Each makes record `used` over earlier records and gives the number of the next one. A label is a kind and a number.
@@ -132,28 +130,32 @@ pub fn ident(records: &mut [u16], used: usize, ident: u16) -> usize
     requires { record_size * (used + 1) ≤ length records.old }
     ensures { Made (λ props part. Ident ident) records.old used records.new result }
 {
-    make(records, used, IDENT, ident, 0, 0, 0, 0)
+    make(records, used, Node::Ident { name: ident })
 }
 
 pub fn pair(records: &mut [u16], used: usize, fst: usize, snd: usize) -> usize
     requires { Room records.old used × (fst < used) × (snd < used) }
     ensures { Made (λ props part. Pair (part fst) (part snd)) records.old used records.new result }
 {
-    make(records, used, PAIR, fst as u16, snd as u16, 0, 0, 0)
+    let first = fst as u16;
+    let second = snd as u16;
+    make(records, used, Node::Pair { first, second })
 }
 
 pub fn project_fst(records: &mut [u16], used: usize, body: usize) -> usize
     requires { Room records.old used × (body < used) }
     ensures { Made (λ props part. ProjectFst (part body)) records.old used records.new result }
 {
-    make(records, used, PROJECT_FST, body as u16, 0, 0, 0, 0)
+    let body = body as u16;
+    make(records, used, Node::ProjectFst { body })
 }
 
 pub fn project_snd(records: &mut [u16], used: usize, body: usize) -> usize
     requires { Room records.old used × (body < used) }
     ensures { Made (λ props part. ProjectSnd (part body)) records.old used records.new result }
 {
-    make(records, used, PROJECT_SND, body as u16, 0, 0, 0, 0)
+    let body = body as u16;
+    make(records, used, Node::ProjectSnd { body })
 }
 
 pub fn function(
@@ -167,23 +169,23 @@ pub fn function(
     requires { Room records.old used × (body < used) }
     ensures { Made (λ props part. Function param (parameter_label props kind label) (part body)) records.old used records.new result }
 {
-    make(records, used, FUNCTION, body as u16, param, kind, label, 0)
+    let node = Node::Function {
+        parameter: param,
+        label: parameter_of_numbers(kind, label),
+        body: body as u16,
+    };
+    make(records, used, node)
 }
 
 pub fn application(records: &mut [u16], used: usize, function: usize, applicant: usize) -> usize
     requires { Room records.old used × (function < used) × (applicant < used) }
     ensures { Made (λ props part. Application (part function) (part applicant)) records.old used records.new result }
 {
-    make(
-        records,
-        used,
-        APPLICATION,
-        function as u16,
-        applicant as u16,
-        0,
-        0,
-        0,
-    )
+    let node = Node::Application {
+        function: function as u16,
+        argument: applicant as u16,
+    };
+    make(records, used, node)
 }
 
 pub fn let_in(
@@ -197,30 +199,29 @@ pub fn let_in(
     requires { Room records.old used × (head < used) × (body < used) }
     ensures { Made (λ props part. LetIn first second (part head) (part body)) records.old used records.new result }
 {
-    make(
-        records,
-        used,
-        LET_IN,
-        head as u16,
-        body as u16,
+    let node = Node::LetIn {
         first,
         second,
-        0,
-    )
+        head: head as u16,
+        body: body as u16,
+    };
+    make(records, used, node)
 }
 
 pub fn or_left(records: &mut [u16], used: usize, body: usize) -> usize
     requires { Room records.old used × (body < used) }
     ensures { Made (λ props part. OrLeft (part body)) records.old used records.new result }
 {
-    make(records, used, OR_LEFT, body as u16, 0, 0, 0, 0)
+    let body = body as u16;
+    make(records, used, Node::OrLeft { body })
 }
 
 pub fn or_right(records: &mut [u16], used: usize, body: usize) -> usize
     requires { Room records.old used × (body < used) }
     ensures { Made (λ props part. OrRight (part body)) records.old used records.new result }
 {
-    make(records, used, OR_RIGHT, body as u16, 0, 0, 0, 0)
+    let body = body as u16;
+    make(records, used, Node::OrRight { body })
 }
 
 pub fn case(
@@ -235,23 +236,22 @@ pub fn case(
     requires { Room records.old used × (head < used) × (left < used) × (right < used) }
     ensures { Made (λ props part. Case (part head) first (part left) second (part right)) records.old used records.new result }
 {
-    make(
-        records,
-        used,
-        CASE,
-        head as u16,
-        left as u16,
-        right as u16,
+    let node = Node::Case {
+        head: head as u16,
         first,
+        left: left as u16,
         second,
-    )
+        right: right as u16,
+    };
+    make(records, used, node)
 }
 
 pub fn abort(records: &mut [u16], used: usize, body: usize) -> usize
     requires { Room records.old used × (body < used) }
     ensures { Made (λ props part. Abort (part body)) records.old used records.new result }
 {
-    make(records, used, ABORT, body as u16, 0, 0, 0, 0)
+    let body = body as u16;
+    make(records, used, Node::Abort { body })
 }
 
 pub fn type_ascription(
@@ -264,30 +264,25 @@ pub fn type_ascription(
     requires { Room records.old used × (body < used) }
     ensures { Made (λ props part. TypeAscription (part body) (label_of props kind label)) records.old used records.new result }
 {
-    make(
-        records,
-        used,
-        TYPE_ASCRIPTION,
-        body as u16,
-        0,
-        kind,
-        label,
-        0,
-    )
+    let node = Node::TypeAscription {
+        body: body as u16,
+        label: label_of_numbers(kind, label),
+    };
+    make(records, used, node)
 }
 
 pub fn unit(records: &mut [u16], used: usize) -> usize
     requires { record_size * (used + 1) ≤ length records.old }
     ensures { Made (λ props part. Unit) records.old used records.new result }
 {
-    make(records, used, UNIT, 0, 0, 0, 0, 0)
+    make(records, used, Node::Unit)
 }
 
 pub fn sorry(records: &mut [u16], used: usize) -> usize
     requires { record_size * (used + 1) ≤ length records.old }
     ensures { Made (λ props part. Sorry) records.old used records.new result }
 {
-    make(records, used, SORRY, 0, 0, 0, 0, 0)
+    make(records, used, Node::Sorry)
 }
 
 // Number `i` of record `n`; number 0 is the kind, number 6 the tally.
@@ -300,21 +295,19 @@ pub fn field(records: &[u16], n: usize, i: usize) -> usize
 }
 
 // How many parts a record of this kind has; an unknown kind has none.
+#[tactic(auto, using(crate::proofs::Views::parts_of_kind))]
 pub fn part_count(kind: usize) -> usize
     ensures { result ≡ part_count kind }
 {
-    if kind < KINDS {
-        return usize::from(PART_COUNTS[kind]);
-    }
-    0
+    Kind::of(kind).part_count()
 }
 
 // Whether a record has a label, by its kind and the kind of its label: an ascription, or a function whose parameter has one.
-#[tactic(auto, unfolding(crate::specs::Labels::has_label))]
+#[tactic(auto, using(crate::proofs::Views::label_of_kind))]
 pub fn has_label(kind: usize, label: usize) -> bool
     ensures { result ≡ has_label kind label }
 {
-    kind == TYPE_ASCRIPTION || kind == FUNCTION && label != NO_LABEL
+    Kind::of(kind).has_label(label)
 }
 
 // The label count of the term that record `n` holds, whose nodes keep theirs: the record's tally.

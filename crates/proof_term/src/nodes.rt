@@ -1,9 +1,10 @@
 // The kinds of records as values, and a record as a node of its term, with its parts, names and label by name.
 ghost use Rattle.std.specs.Prelude.{◌≡◌, ◌+◌, ◌*◌, ◌≤◌, length};
-ghost use Rattle.proof_term.specs.Records.{record_size, field_at};
-ghost use Rattle.proof_term.specs.Views.{kind_number, kind_of, label_of_numbers, parameter_of_numbers, node_of, node_at};
+ghost use Rattle.proof_term.specs.Records.{record_size, field_at, part_count};
+ghost use Rattle.proof_term.specs.Labels.{has_label};
+ghost use Rattle.proof_term.specs.Views.{label_numbers, node_kind, node_numbers, kind_number, kind_of, label_of_numbers, parameter_of_numbers, node_of, node_at};
 
-use crate::{DATATYPE, NO_LABEL, RECORD_SIZE, field};
+use crate::{DATATYPE, NO_LABEL, PROPOSITION, RECORD_SIZE, field};
 
 // The kinds of records, in the Rust's order: a record keeps the number of its own.
 #[derive(Debug, Clone, Copy, PartialEq, Eq)]
@@ -46,6 +47,30 @@ impl Kind {
             13 => Kind::Sorry,
             // An unknown kind counts as this one.
             _ => Kind::Unit,
+        }
+    }
+
+    // How many of a record's numbers are parts.
+    pub fn part_count(self) -> usize
+        ensures { result ≡ part_count (kind_number self) }
+    {
+        match self {
+            Kind::Ident | Kind::Unit | Kind::Sorry => 0,
+            Kind::Pair | Kind::Application | Kind::LetIn => 2,
+            Kind::Case => 3,
+            _ => 1,
+        }
+    }
+
+    // Whether a record of this kind has a label, by the kind of its label: an ascription, or a function whose parameter has one.
+    #[tactic(auto, unfolding(crate::specs::Labels::has_label))]
+    pub fn has_label(self, label: usize) -> bool
+        ensures { result ≡ has_label (kind_number self) label }
+    {
+        match self {
+            Kind::TypeAscription => true,
+            Kind::Function => label != NO_LABEL,
+            _ => false,
         }
     }
 
@@ -119,9 +144,89 @@ pub enum Node {
     Sorry,
 }
 
+// The numbers of a label in a record: its kind, and the number itself.
+impl Label {
+    fn numbers(self) -> (u16, u16)
+        ensures { result ≡ label_numbers self }
+    {
+        match self {
+            Label::Proposition(number) => (PROPOSITION as u16, number),
+            Label::Datatype(name) => (DATATYPE as u16, name),
+        }
+    }
+}
+
+impl Node {
+    pub fn kind(self) -> Kind
+        ensures { result ≡ node_kind self }
+    {
+        match self {
+            Node::Ident { .. } => Kind::Ident,
+            Node::Pair { .. } => Kind::Pair,
+            Node::ProjectFst { .. } => Kind::ProjectFst,
+            Node::ProjectSnd { .. } => Kind::ProjectSnd,
+            Node::Function { .. } => Kind::Function,
+            Node::Application { .. } => Kind::Application,
+            Node::LetIn { .. } => Kind::LetIn,
+            Node::OrLeft { .. } => Kind::OrLeft,
+            Node::OrRight { .. } => Kind::OrRight,
+            Node::Case { .. } => Kind::Case,
+            Node::Abort { .. } => Kind::Abort,
+            Node::TypeAscription { .. } => Kind::TypeAscription,
+            Node::Unit => Kind::Unit,
+            Node::Sorry => Kind::Sorry,
+        }
+    }
+
+    // The numbers of its record behind the kind, as far as the tally.
+    pub fn numbers(self) -> [u16; 5]
+        ensures { result ≡ node_numbers self }
+    {
+        match self {
+            Node::Ident { name } => [name, 0, 0, 0, 0],
+            Node::Pair { first, second } => [first, second, 0, 0, 0],
+            Node::Function {
+                parameter,
+                label,
+                body,
+            } => {
+                let (kind, number) = match label {
+                    Some(l) => l.numbers(),
+                    None => (NO_LABEL as u16, 0),
+                };
+                [body, parameter, kind, number, 0]
+            }
+            Node::Application { function, argument } => [function, argument, 0, 0, 0],
+            Node::LetIn {
+                first,
+                second,
+                head,
+                body,
+            } => [head, body, first, second, 0],
+            Node::Case {
+                head,
+                first,
+                left,
+                second,
+                right,
+            } => [head, left, right, first, second],
+            Node::TypeAscription { body, label } => {
+                let (kind, number) = label.numbers();
+                [body, 0, kind, number, 0]
+            }
+            Node::ProjectFst { body }
+            | Node::ProjectSnd { body }
+            | Node::OrLeft { body }
+            | Node::OrRight { body }
+            | Node::Abort { body } => [body, 0, 0, 0, 0],
+            Node::Unit | Node::Sorry => [0, 0, 0, 0, 0],
+        }
+    }
+}
+
 // The label of two numbers of a record, the kind of a label and its number.
 #[tactic(auto, unfolding(crate::specs::Views::label_of_numbers))]
-fn label_of_numbers(kind: u16, number: u16) -> Label
+pub fn label_of_numbers(kind: u16, number: u16) -> Label
     ensures { result ≡ label_of_numbers kind number }
 {
     if usize::from(kind) == DATATYPE {
@@ -132,7 +237,7 @@ fn label_of_numbers(kind: u16, number: u16) -> Label
 
 // The same of a parameter, which may have none.
 #[tactic(auto, unfolding(crate::specs::Views::parameter_of_numbers))]
-fn parameter_of_numbers(kind: u16, number: u16) -> Option<Label>
+pub fn parameter_of_numbers(kind: u16, number: u16) -> Option<Label>
     ensures { result ≡ parameter_of_numbers kind number }
 {
     if usize::from(kind) == NO_LABEL {

@@ -1,27 +1,27 @@
--- The loop adds the tallies of one part after the other, and what they come to is cut at the limit.
-use Prim.Native.Nat.{min}
-use mathlib.Core.Path.{sym, ap, ◌∙◌}
+-- What the parts keep is added to the record's own label.
+use Prim.Native.Nat.{ℕ}
+use mathlib.Core.Path.{◌≡◌, ◌∙◌}
 use native.Mathlib.Omega.{arith}
 use lib.ListN.{get_or}
-use lib.Seq.{get_or-take}
 use borrow.Author.Rules.{rules}
-use Rattle.proof_term.specs.Tally.{tally_limit, tally_at}
-use Rattle.proof_term.proofs.Tally.{own_few, uncut_none, uncut_more, uncut_all}
+use Rattle.proof_term.specs.Views.{kind_number}
+use Rattle.proof_term.specs.Tally.{tally_at, own_count, tally_over}
+use Rattle.proof_term.proofs.Records.{few_parts}
+use Rattle.proof_term.proofs.Tally.{sum_over_first}
 use Rattle.proof_term.proofs.tally_over.Goals as goal
+use Rattle.proof_term.proofs.tally_over.Goals.{After-sum_over}
 
-pub loop-part-init : goal.loop-part-init
-loop-part-init c =
-    (c.own_count-tally.ensures ∙ sym (uncut_none _ _ _), omega (arith, c.own_count-tally.ensures, own_few c.args.kind (get_or c.args.numbers 2 0)))
-
-pub loop-part-preserved : goal.loop-part-preserved
-unfolding tally_at
-loop-part-preserved c =
-    let args = c.args in
-    let same = get_or-take c.part_count.result args.numbers c.loop-part.part-index 0 (search rules) in (
-      omega (arith, ap (tally_at args.records.now) same, c.loop-part.invariant.0, c.field-tally.ensures.0, uncut_more args.records.now args.kind args.numbers c.loop-part.part-index),
-      omega (arith, c.loop-part.invariant.1, c.field-tally.ensures.1),
-    )
+-- the record's own label
+own : (c : After-sum_over) → c.from-own.result ≡ own_count (kind_number c.args.kind) (get_or c.args.numbers 2 0)
+unfolding own_count
+own c = search rules
 
 pub returns : goal.returns
+unfolding tally_at tally_over
 returns c =
-    (c.min.ensures ∙ (ap (λ n. min n tally_limit) c.loop-part.invariant.0 ∙ uncut_all _ _ _ (search rules)), search rules)
+    let value = λ (part : ℕ). tally_at c.args.records.now part in
+    let sum = c.sum_over.ensures value (λ k r l post. search rules) in
+    let first = sum_over_first c.from-own.result c.part_count.result c.args.numbers value (omega (arith, few_parts (kind_number c.args.kind), c.part_count.ensures)) in
+    let is : c.sum_over.result ≡ tally_over c.args.records.now (kind_number c.args.kind) c.args.numbers =
+    sum ∙ first ∙ rw (own c, c.part_count.ensures) in
+    (is, omega (arith, sum, first))
