@@ -1,5 +1,5 @@
 -- A kind is the number that it has, and a record's term is that of its node.
-use Prim.Native.Nat.{ℕ, ◌≤◌, ◌<◌}
+use Prim.Native.Nat.{ℕ, ◌+◌, ◌*◌, ◌-◌, ◌≤◌, ◌<◌}
 use mathlib.Core.Path.{◌≡◌, refl, sym, ap, ◌∙◌}
 use mathlib.Core.Logic.{by_cases}
 use mathlib.Core.Bool.{Bool, true, false, cond}
@@ -7,16 +7,17 @@ use Rattle.std.specs.Prelude.{Option, None, Some}
 use mathlib.Core.List.{List, map}
 use native.Mathlib.Omega.{arith}
 use native.Mathlib.Decide.{dec_lt}
-use native.Mathlib.Nat.{zero-add}
-use lib.ListN.{get_or, get_or-map}
+use native.Mathlib.Nat.{zero-add, add_assoc}
+use lib.ListN.{length, get_or, take, drop, get_or-map, length-drop}
+use lib.Seq.{length-take-le}
 use lib.Dec.{eqb}
-use Rattle.std.proofs.lemmas.List.{get_or_past}
+use Rattle.std.proofs.lemmas.List.{get_or_past, get_or-take, get_or-drop}
 use Rattle.std.proofs.lemmas.List.FromFn.{get_or-range_with_len}
 use Rattle.definitions.specs.Prop.{Prop}
 use Rattle.definitions.specs.Term as term
 use Rattle.definitions.specs.Term.{ProofTerm}
-use Rattle.proof_term.specs.Records.{field_at, Form, leaf, form_term, label_of, parameter_label, forms, record_term, record_term_at, part_counts, part_count, Each, term_at, part_at}
-use Rattle.proof_term.specs.Views.{kind_number, kinds, kind_of, label_of_numbers, parameter_of_numbers, node_of, node_at, label_meant, parameter_meant, node_term, label_numbers, parameter_numbers, node_kind, node_numbers, PartsBelow}
+use Rattle.proof_term.specs.Records.{record_size, field_at, Form, leaf, form_term, label_of, parameter_label, forms, record_term, record_term_at, part_counts, part_count, Each, term_at, part_at}
+use Rattle.proof_term.specs.Views.{kind_number, kinds, kind_of, label_of_numbers, parameter_of_numbers, node_of, node_at, label_meant, parameter_meant, node_term, label_numbers, parameter_numbers, node_kind, node_numbers, PartsBelow, PartsOf}
 use Rattle.proof_term.specs.declared.nodes.Kind.{Kind}
 use Rattle.proof_term.specs.declared.nodes.Kind.TheVariants as variant
 use Rattle.proof_term.specs.declared.nodes.Label.{Label}
@@ -24,7 +25,7 @@ use Rattle.proof_term.specs.declared.nodes.Label.TheVariants.{Proposition, Datat
 use Rattle.proof_term.specs.declared.nodes.Node.{Node}
 use Rattle.proof_term.specs.declared.nodes.Node.TheVariants.{Ident, Pair, ProjectFst, ProjectSnd, Function, Application, LetIn, OrLeft, OrRight, Case, Abort, TypeAscription, Unit, Sorry}
 use Rattle.proof_term.specs.Labels.{has_label}
-use Rattle.proof_term.proofs.Records.{term_at_is}
+use Rattle.proof_term.proofs.Records.{few_parts, term_at_is}
 use Rattle.proof_term.proofs.Labels.{no_label}
 
 -- an unknown number counts as Unit
@@ -143,3 +144,19 @@ parts_stored used (Abort body) h = h
 parts_stored used (TypeAscription body label) h = h
 parts_stored used Unit h = h
 parts_stored used Sorry h = h
+
+-- the part of a memory that starts behind a record's kind
+pub parts_there : {records : List ℕ} {n count kind : ℕ} → record_size * (n + 1) ≤ length records → count ≡ part_count kind → kind ≡ field_at records n 0
+    → PartsOf records n (take (record_size * n + 1 + count - (record_size * n + 1)) (drop (record_size * n + 1) records))
+unfolding field_at
+parts_there {records} {n} {count} {kind} held counted is =
+    let first = record_size * n + 1 in
+    let width : first + count - first ≡ count = omega arith in
+    let few : count ≤ 3 = omega (arith, counted, few_parts kind) in
+    let long : length (take count (drop first records)) ≡ count = length-take-le count (drop first records) (omega (arith, length-drop first records)) in
+    rw width (record {
+      count = long ∙ counted ∙ ap part_count is;
+      part = λ i l.
+          get_or-take count (drop first records) i 0 (omega (arith, l, long))
+          ∙ (get_or-drop first records i 0 ∙ ap (λ at. get_or records at 0) (add_assoc (record_size * n) 1 i));
+    })

@@ -1,9 +1,9 @@
 -- The kinds of records as values, and the node of a term that a record is: what it is made of, by name.
-use Rattle.std.specs.Prelude.{ℕ, ◌<◌, cond, List, [], ◌∷◌, get_or, eqb, Option, None, Some}
+use Rattle.std.specs.Prelude.{ℕ, ◌+◌, ◌<◌, ◌≡◌, length, cond, List, [], ◌∷◌, get_or, eqb, Option, None, Some}
 use Rattle.definitions.specs.Prop.{Prop}
 use Rattle.definitions.specs.Term as term
 use Rattle.definitions.specs.Term.{ProofTerm}
-use Rattle.proof_term.specs.Records.{field_at}
+use Rattle.proof_term.specs.Records.{field_at, part_count}
 use Rattle.proof_term.specs.declared.nodes.Kind.{Kind}
 use Rattle.proof_term.specs.declared.nodes.Kind.TheVariants as kind
 use Rattle.proof_term.specs.declared.nodes.Label.{Label}
@@ -67,6 +67,11 @@ node_of kind.Sorry a b c d e = Sorry
 unfoldable pub node_at : List ℕ → ℕ → Node
 node_at records n =
     node_of (kind_of (field_at records n 0)) (field_at records n 1) (field_at records n 2) (field_at records n 3) (field_at records n 4) (field_at records n 5)
+
+-- the parts of record n, in their order
+pub record PartsOf (records : List ℕ) (n : ℕ) (parts : List ℕ) : Type 0 where
+  pub count : length parts ≡ part_count (field_at records n 0)
+  pub part : (i : ℕ) → i < length parts → get_or parts i 0 ≡ field_at records n (1 + i)
 
 -- `props` says which proposition the number of a proposition label stands for
 module _ (props : ℕ → Prop ℕ) where

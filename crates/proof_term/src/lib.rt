@@ -14,7 +14,7 @@ ghost use Rattle.proof_term.specs.Tally.{tally_limit, sum_over, tally_over, Node
 ghost use Rattle.proof_term.specs.Making.{Room, Pushed, Made};
 
 use nodes::{label_of_numbers, parameter_of_numbers};
-pub use nodes::{Kind, Label, Node, kind_at, node_at};
+pub use nodes::{Kind, Label, Node, kind_at, node_at, parts_at};
 
 // The numbers of a record.
 pub const RECORD_SIZE: usize = 7;

@@ -2,9 +2,9 @@
 ghost use Rattle.std.specs.Prelude.{◌≡◌, ◌+◌, ◌*◌, ◌≤◌, length};
 ghost use Rattle.proof_term.specs.Records.{record_size, field_at, part_count};
 ghost use Rattle.proof_term.specs.Labels.{has_label};
-ghost use Rattle.proof_term.specs.Views.{label_numbers, node_kind, node_numbers, kind_number, kind_of, label_of_numbers, parameter_of_numbers, node_of, node_at};
+ghost use Rattle.proof_term.specs.Views.{label_numbers, node_kind, node_numbers, kind_number, kind_of, label_of_numbers, parameter_of_numbers, node_of, node_at, PartsOf};
 
-use crate::{DATATYPE, NO_LABEL, PROPOSITION, RECORD_SIZE, field};
+use crate::{DATATYPE, NO_LABEL, PROPOSITION, RECORD_SIZE, field, part_count};
 
 // The kinds of records, in the Rust's order: a record keeps the number of its own.
 #[derive(Debug, Clone, Copy, PartialEq, Eq)]
@@ -315,4 +315,13 @@ pub fn node_at(records: &[u16], n: usize) -> Node
         records[at + 4],
         records[at + 5],
     )
+}
+
+// The parts of record `n`.
+pub fn parts_at(records: &[u16], n: usize) -> &[u16]
+    requires { record_size * (n + 1) ≤ length records.now }
+    ensures { PartsOf records.now n result.now }
+{
+    let first = RECORD_SIZE * n + 1;
+    &records[first..first + part_count(field(records, n, 0))]
 }

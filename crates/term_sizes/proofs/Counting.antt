@@ -1,26 +1,22 @@
 -- A record's nodes are its own and those of its parts, one part after the other.
 use Prim.Native.Nat.{ℕ, zero, suc, ◌+◌, ◌≤◌, ◌<◌}
-use mathlib.Core.Path.{◌≡◌, refl, sym, ◌∙◌}
+use mathlib.Core.Path.{◌≡◌, refl}
 use mathlib.Core.Logic.{by_cases}
 use mathlib.Core.List.{List, map}
 use native.Mathlib.Omega.{arith}
-use native.Mathlib.Decide.{dec_le}
+use native.Mathlib.Decide.{dec_lt}
 use native.Mathlib.Nat.{zero-add, add_assoc}
-use native.Mathlib.Numerals.{add-one}
-use lib.ListN.{get_or, get_or-map}
+use lib.ListN.{length, get_or, get_or-map}
+use borrow.Author.Tests.{lt-ltb, le-ltb}
 use Rattle.definitions.specs.Prop.{Prop}
 use Rattle.definitions.specs.Term.{ProofTerm, Unit}
 use Rattle.definitions.specs.TermText.{nodes}
-use Rattle.proof_term.specs.Tally.{sum_of}
+use Rattle.proof_term.specs.Tally.{sum_of, sum_over}
+use Rattle.proof_term.specs.Views.{PartsOf}
 use Rattle.proof_term.specs.Records.{field_at, leaf, form_term, forms, record_term_at, part_count, term_at, part_at}
+use Rattle.term_sizes.specs.Sizes.{most, CountedTo, Sized, part_size}
+use Rattle.term_sizes.proofs.Filling.{counted_so, add_counted, cut_counted}
 use Rattle.proof_term.proofs.Records.{arity, part_count_lem, term_at_is, part_below, part_else}
-
-sum_of_le : (f : ℕ → ℕ) (i n : ℕ) → i ≤ n → sum_of i f ≤ sum_of n f
-unfolding sum_of
-sum_of_le f i zero h = let none : i ≡ 0 = omega arith in rw none (omega arith)
-sum_of_le f i (suc n) h = by_cases (dec_le i n)
-    (λ l. omega (arith, sum_of_le f i n l))
-    (λ l. let all : i ≡ suc n = omega arith in rw all (omega arith))
 
 same_at : {A : Type 0} (m w : A → ℕ) (l : List A) (d : A) → m d ≡ w d → map m l ≡ map w l → (i : ℕ) → m (get_or l i d) ≡ w (get_or l i d)
 same_at m w l d p q i = cc (get_or-map m l i d, get_or-map w l i d)
@@ -34,37 +30,38 @@ size_is props number d e part kind =
     (same_at (λ form. nodes (form_term part form (number 1) (number 2) (number 3))) (λ form. 1 + sum_of (arity form) (λ i. nodes (part (number (1 + i)))))
     (forms props (number 1) (number 2) (number 3) d e) (leaf Unit) refl (simp (zero-add, add_assoc)) kind)
 
--- the nodes of record n itself and of its first parts
-pub sized : (ℕ → Prop ℕ) → List ℕ → ℕ → ℕ → ℕ
-sized props records n i = 1 + sum_of i (λ j. nodes (part_at props records n (field_at records n (1 + j))))
+-- the nodes of record n are its own and those of its parts
+pub nodes_of_parts : (props : ℕ → Prop ℕ) (records : List ℕ) (n : ℕ)
+    → nodes (term_at props records n) ≡ 1 + sum_of (part_count (field_at records n 0)) (λ i. nodes (part_at props records n (field_at records n (1 + i))))
+unfolding record_term_at
+nodes_of_parts props records n =
+    rw (term_at_is props records n) (size_is props (field_at records n) (field_at records n 4) (field_at records n 5) (part_at props records n) (field_at records n 0))
 
-pub sized_none : (props : ℕ → Prop ℕ) (records : List ℕ) (n : ℕ) → sized props records n 0 ≡ 1
-unfolding sized sum_of
-sized_none props records n = refl
+-- what a part keeps is the count of its nodes, as far as a number goes
+part_counted : (props : ℕ → Prop ℕ) (records : List ℕ) (n part : ℕ) → ((k : ℕ) → k < n → Sized records k)
+    → CountedTo (nodes (part_at props records n part)) (part_size records n part)
+unfolding part_size Sized nodes
+part_counted props records n part sized = by_cases (dec_lt part n)
+    (λ l. rw (part_below props records n part l, lt-ltb part n l) (sized part l props))
+    (λ l. rw (part_else props records n part (omega arith), le-ltb part n (omega arith)) (counted_so 1))
 
-pub sized_all : (props : ℕ → Prop ℕ) (records : List ℕ) (n : ℕ) {i : ℕ} → i ≡ part_count (field_at records n 0)
-    → sized props records n i ≡ nodes (term_at props records n)
-unfolding sized record_term_at
-sized_all props records n all =
-    rw (all, term_at_is props records n) (sym (size_is props (field_at records n) (field_at records n 4) (field_at records n 5) (part_at props records n) (field_at records n 0)))
+-- counts that are so are added up so
+sum_counted : (n : ℕ) (f g : ℕ → ℕ) → ((i : ℕ) → i < n → CountedTo (f i) (g i)) → CountedTo (1 + sum_of n f) (1 + sum_of n g)
+unfolding sum_of
+sum_counted zero f g h = counted_so 1
+sum_counted (suc n) f g h =
+    rw (← add_assoc 1 (sum_of n f) (f n), ← add_assoc 1 (sum_of n g) (g n)) (add_counted (sum_counted n f g (λ i l. h i (omega arith))) (h n (omega arith)))
 
--- Part i of record n.
-module _ (props : ℕ → Prop ℕ) (records : List ℕ) (n i : ℕ) {part : ℕ} (is : part ≡ field_at records n (1 + i)) where
-  sized_more : sized props records n (i + 1) ≡ sized props records n i + nodes (part_at props records n part)
-  unfolding sized sum_of
-  sized_more = rw (is, add-one) (omega arith)
+-- the sum over the parts of record n, cut at the most that a number holds
+pub parts_counted : (props : ℕ → Prop ℕ) {records : List ℕ} {n : ℕ} {parts : List ℕ} {r : ℕ} → PartsOf records n parts → ((k : ℕ) → k < n → Sized records k)
+    → r ≡ sum_over 1 parts (part_size records n) → CountedTo (nodes (term_at props records n)) r
+unfolding sum_over
+parts_counted props {records} {n} {parts} p sized is =
+    rw (is, nodes_of_parts props records n, ← p.count)
+    (cut_counted (sum_counted (length parts) (λ i. nodes (part_at props records n (field_at records n (1 + i)))) (λ i. part_size records n (get_or parts i 0))
+    (λ i l. rw (p.part i l) (part_counted props records n (field_at records n (1 + i)) sized))))
 
-  pub sized_part : part < n → sized props records n (i + 1) ≡ sized props records n i + nodes (term_at props records part)
-  sized_part l = rw (← part_below props records n part l) sized_more
-
-  pub sized_unit : n ≤ part → sized props records n (i + 1) ≡ sized props records n i + 1
-  unfolding nodes
-  sized_unit l = sized_more ∙ rw (part_else props records n part l)
-
-  pub sized_few : i < part_count (field_at records n 0) → sized props records n (i + 1) ≤ nodes (term_at props records n)
-  unfolding sized
-  sized_few h = omega (
-    arith,
-    sum_of_le (λ j. nodes (part_at props records n (field_at records n (1 + j)))) (i + 1) (part_count (field_at records n 0)) (omega arith),
-    sized_all props records n refl,
-  )
+-- and no more than that
+pub sum_cut : (parts : List ℕ) (value : ℕ → ℕ) {r : ℕ} → r ≡ sum_over 1 parts value → r ≤ most
+unfolding sum_over
+sum_cut parts value is = omega (arith, is)

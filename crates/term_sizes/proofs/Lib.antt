@@ -1,3 +1,3 @@
-pub mod Counting
 pub mod Kept
 pub mod Filling
+pub mod Counting

@@ -1,5 +1,5 @@
 -- Node counts kept in records: the last number of a record is how many nodes its term has, as far as a number goes.
-use Rattle.std.specs.Prelude.{ℕ, ◌≤◌, ◌<◌, ◌≡◌, List, length}
+use Rattle.std.specs.Prelude.{ℕ, ◌≤◌, ◌<◌, ◌≡◌, List, length, ltb, cond}
 use Rattle.definitions.specs.Prop.{Prop}
 use Rattle.definitions.specs.TermText.{nodes}
 use Rattle.proof_term.specs.Records.{field_at, term_at}
@@ -16,6 +16,10 @@ pub record CountedTo (n r : ℕ) : Type 0 where
 -- record k keeps its node count; no proposition that a label may stand for changes it
 unfoldable pub Sized : List ℕ → ℕ → Type 0
 Sized records k = (props : ℕ → Prop ℕ) → CountedTo (nodes (term_at props records k)) (field_at records k 6)
+
+-- the nodes that a part of record m keeps; what is no earlier record counts as a leaf
+unfoldable pub part_size : List ℕ → ℕ → ℕ → ℕ
+part_size records m part = cond (ltb part m) (field_at records part 6) 1
 
 -- the records up to n keep their node counts, and all other numbers are as they were
 pub record SizesFilled (before : List ℕ) (n : ℕ) (after : List ℕ) : Type 0 where

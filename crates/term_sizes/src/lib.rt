@@ -6,35 +6,35 @@ ghost use Rattle.std.specs.Prelude.{◌≡◌, ℕ, ◌+◌, ◌*◌, ◌≤◌,
 ghost use Rattle.definitions.specs.Prop.{Prop};
 ghost use Rattle.definitions.specs.TermText.{nodes};
 ghost use Rattle.proof_term.specs.Records.{record_size, term_at};
-ghost use Rattle.term_sizes.specs.Sizes.{CountedTo, Sized, SizesFilled};
+ghost use Rattle.term_sizes.specs.Sizes.{CountedTo, Sized, part_size, SizesFilled};
 
-use proof_term::{RECORD_SIZE, field, part_count};
+use proof_term::{RECORD_SIZE, field, parts_at, sum_over};
 
 // Which number of a record it is.
 pub const SIZE: usize = RECORD_SIZE - 1;
 
-// The most that a number of a record holds: nodes are counted as far.
-const MOST: usize = u16::MAX as usize;
+// The nodes that a part of record m keeps. What is no earlier record counts as a leaf.
+#[tactic(auto, unfolding(crate::specs::Sizes::part_size))]
+fn part_size(records: &[u16], m: usize, part: usize) -> usize
+    requires { record_size * (m + 1) ≤ length records.now }
+    ensures { (result ≡ part_size records.now m part) × (result ≤ 65535) }
+{
+    if part < m {
+        return field(records, part, SIZE);
+    }
+    1
+}
 
-// The nodes of record m, by those of its parts.
+// The nodes of record m, by those of its parts, as far as a number of a record goes.
 fn count_nodes(records: &[u16], m: usize) -> usize
     requires { (record_size * (m + 1) ≤ length records.now) × ((k : ℕ) → k < m → Sized records.now k) }
     ensures { (result ≤ 65535) × ((props : ℕ → Prop ℕ) → CountedTo (nodes (term_at props records.now m)) result) }
 {
-    let parts = part_count(field(records, m, 0));
-    let mut count = 1;
-    for i in 0..parts {
-        let part = field(records, m, 1 + i);
-        if part < m {
-            count += field(records, part, SIZE);
-        } else {
-            count += 1;
-        }
-    }
-    count.min(MOST)
+    sum_over(1, parts_at(records, m), |part| part_size(records, m, part))
 }
 
-// Keeps the node counts of the records up to n.
+// Keeps the node counts of the records up to n. A record's count is made of those of earlier ones, so no iterator goes over the
+// records while they are written.
 pub fn fill_sizes(records: &mut [u16], n: usize)
     requires { record_size * (n + 1) ≤ length records.old }
     ensures { SizesFilled records.old n records.new }
