@@ -1,6 +1,6 @@
 -- A kind is the number that it has, and a record's term is that of its node.
 use Prim.Native.Nat.{ℕ, ◌+◌, ◌*◌, ◌-◌, ◌≤◌, ◌<◌}
-use mathlib.Core.Path.{◌≡◌, refl, sym, ap, ◌∙◌}
+use mathlib.Core.Path.{◌≡◌, refl, sym, ap, ◌∙◌, subst}
 use mathlib.Core.Logic.{by_cases}
 use mathlib.Core.Bool.{Bool, true, false, cond}
 use Rattle.std.specs.Prelude.{Option, None, Some}
@@ -44,6 +44,12 @@ pub number_of_kind : {number : ℕ} {kind : Kind} → kind_of number ≡ kind �
 number_of_kind {number} {kind} is other = by_cases (dec_lt number 14)
     (λ l. sym (kind_known number l) ∙ ap kind_number is)
     (λ l. absurd (other (sym is ∙ kind_unknown number (omega arith))))
+
+-- what holds of each kind's number, and of each past these, holds of every number
+pub by_kind : (P : ℕ → Type 0) → ((kind : Kind) → P (kind_number kind)) → ((number : ℕ) → 14 ≤ number → P number) → (number : ℕ) → P number
+by_kind P known unknown number = by_cases (dec_lt number 14)
+    (λ l. subst P (kind_known number l) (known (kind_of number)))
+    (λ l. unknown number (omega arith))
 
 -- an unknown kind has as many parts as Unit, and as few labels
 pub parts_of_kind : (number : ℕ) → part_count (kind_number (kind_of number)) ≡ part_count number

@@ -2,42 +2,28 @@
 use Prim.Native.Nat.{ℕ, ◌+◌, ◌*◌, ◌≤◌, ◌<◌}
 use mathlib.Core.Path.{◌≡◌, refl, ap, ◌∙◌}
 use mathlib.Core.Logic.{by_cases}
-use mathlib.Core.Bool.{true, false}
 use mathlib.Core.List.{List}
 use native.Mathlib.Omega.{arith}
 use native.Mathlib.Decide.{ℕ_discrete, dec_lt}
-use lib.ListN.{length, get_or, set, length-set, get_or-eq_default}
+use lib.ListN.{length, get_or, set, length-set}
 use lib.Seq.{get_or-set_same, get_or-set_other}
 use Rattle.proof_term.specs.Records.{record_size, field_at}
-use Rattle.term_renumbering.specs.Over.{marks, is_name, number_over, Over, RecordOver, RecordsOver}
-
--- past the table no number is a name
-pub past_kinds : (kind label i : ℕ) → 14 ≤ kind → false ≡ is_name kind label i
-unfolding is_name
-past_kinds kind label i h = rw (get_or-eq_default marks 0 {n = 6 * kind + i} (omega arith))
-
--- A number of a record.
-module _ (f : ℕ → ℕ) (kind label i number : ℕ) where
-  pub a_name : is_name kind label i ≡ true → number_over f kind label i number ≡ f number
-  unfolding number_over
-  a_name e = rw e
-
-  pub no_name : is_name kind label i ≡ false → number_over f kind label i number ≡ number
-  unfolding number_over
-  no_name e = rw e
+use Rattle.proof_term.specs.Views.{kind_of}
+use Rattle.proof_term.specs.declared.nodes.Kind.{Kind}
+use Rattle.term_renumbering.specs.Over.{number_over, Over, RecordOver, RecordsOver}
 
 module _ (f : ℕ → ℕ) (before : List ℕ) (m : ℕ) where
   -- the first numbers of record m are over other names, and all others are as they were
-  pub record Partly (kind label i : ℕ) (records : List ℕ) : Type 0 where
+  pub record Partly (kind : Kind) (label i : ℕ) (records : List ℕ) : Type 0 where
     pub long : length records ≡ length before
     pub reached : i ≤ 6
     pub done : (j : ℕ) → j < i → field_at records m j ≡ number_over f kind label j (field_at before m j)
     pub other : (k j : ℕ) → j < record_size → (k ≡ m → i ≤ j) → field_at records k j ≡ field_at before k j
 
-  pub partly_none : (kind label : ℕ) → Partly kind label 0 before
+  pub partly_none : (kind : Kind) (label : ℕ) → Partly kind label 0 before
   partly_none kind label = record { long = refl; reached = omega arith; done = λ j h. absurd (omega arith); other = λ k j h e. refl }
 
-  pub partly_more : {kind label i : ℕ} {records : List ℕ} (number : ℕ) → record_size * (m + 1) ≤ length before → i < 6 → Partly kind label i records
+  pub partly_more : {kind : Kind} {label i : ℕ} {records : List ℕ} (number : ℕ) → record_size * (m + 1) ≤ length before → i < 6 → Partly kind label i records
       → number ≡ number_over f kind label i (get_or records (record_size * m + i) 0) → Partly kind label (i + 1) (set records (record_size * m + i) number)
   unfolding field_at
   partly_more {kind} {label} {i} {records} number room l p is = record {
@@ -56,7 +42,7 @@ module _ (f : ℕ → ℕ) (before : List ℕ) (m : ℕ) where
       clash : (k j : ℕ) → j < record_size → (k ≡ m → i + 1 ≤ j) → record_size * k + j ≡ record_size * m + i → ⊥
       clash k j h e same = by_cases (ℕ_discrete k m) (λ eq. omega (arith, e eq)) (λ ne. omega arith)
 
-  pub partly_all : {kind label i : ℕ} {records : List ℕ} → kind ≡ field_at before m 0 → label ≡ field_at before m 3 → 6 ≤ i → Partly kind label i records
+  pub partly_all : {kind : Kind} {label i : ℕ} {records : List ℕ} → kind ≡ kind_of (field_at before m 0) → label ≡ field_at before m 3 → 6 ≤ i → Partly kind label i records
       → RecordOver f before m records
   partly_all {kind} {label} {i} {records} k l all p = record {
     here = record {

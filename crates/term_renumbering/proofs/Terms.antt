@@ -10,16 +10,21 @@ use native.Mathlib.Decide.{dec_lt}
 use lib.Dec.{eqb}
 use borrow.Author.Tests.{eqb-false, ne_eqb}
 use Rattle.definitions.specs.Prop.{Prop, rename_prop}
+use Rattle.definitions.specs.Term as term
 use Rattle.definitions.specs.Term.{proposition, datatype, ProofTerm, rename_label, rename_parameter_label, rename_term}
-use Rattle.proof_term.specs.Records.{field_at, label_of, parameter_label, record_term, record_term_at, part_count, Each, term_at, part_at}
+use Rattle.proof_term.specs.Records.{field_at, leaf, label_of, parameter_label, forms, record_term, record_term_at, part_count, Each, term_at, part_at}
+use Rattle.proof_term.specs.Views.{kind_number, kind_of}
+use Rattle.proof_term.specs.declared.nodes.Kind.{Kind}
+use Rattle.proof_term.specs.declared.nodes.Kind.TheVariants.{Ident, Pair, ProjectFst, ProjectSnd, Function, Application, LetIn, OrLeft, OrRight, Case, Abort, TypeAscription, Unit, Sorry}
+use Rattle.std.proofs.lemmas.List.{get_or_past}
+use Rattle.proof_term.proofs.Views.{by_kind, kind_unknown}
 use Rattle.proof_term.specs.Labels.{has_label, Labelled}
 use Rattle.proof_term.proofs.Labels.{labelled_kind}
 use Rattle.proof_term.proofs.Records.{term_at_is, part_below, part_else}
 use Rattle.term_renumbering.specs.Over.{is_name, number_over, RecordsOver, LabelOver}
-use Rattle.term_renumbering.proofs.Numbers.{past_kinds, no_name}
 
 module _ (f : ℕ → ℕ) where
-  abbrev over : ℕ → ℕ → ℕ → ℕ → ℕ
+  abbrev over : Kind → ℕ → ℕ → ℕ → ℕ
   over = number_over f
 
   -- labels over other names
@@ -50,53 +55,67 @@ module _ (f : ℕ → ℕ) where
   module _ (props renamed : ℕ → Prop ℕ) (part : ℕ → ProofTerm ℕ) (a b c d e : ℕ) where
     abbrev Same : ℕ → Type 0
     Same kind =
-        record_term renamed (λ i. rename_term f (part i)) kind (over kind c 1 a) (over kind c 2 b) (over kind c 3 c) (over kind c 4 d) (over kind c 5 e)
+        (has_label kind c ≡ true → (c ≡ 2 → ⊥) → renamed d ≡ rename_prop f (props d))
+        → let k = kind_of kind in
+        record_term renamed (λ i. rename_term f (part i)) kind (over k c 1 a) (over k c 2 b) (over k c 3 c) (over k c 4 d) (over k c 5 e)
         ≡ rename_term f (record_term props part kind a b c d e)
 
-    kind_over : (kind : ℕ) → (has_label kind c ≡ true → (c ≡ 2 → ⊥) → renamed d ≡ rename_prop f (props d)) → Same kind
-    unfolding rename_term number_over is_name has_label
-    kind_over zero h = refl
-    kind_over (suc zero) h = refl
-    kind_over (suc (suc zero)) h = refl
-    kind_over (suc (suc (suc zero))) h = refl
-    kind_over (suc (suc (suc (suc zero)))) h = rw (parameter_over props renamed c d (λ x y. h (rw (ne_eqb c 0 x)) y))
-    kind_over (suc (suc (suc (suc (suc zero))))) h = refl
-    kind_over (suc (suc (suc (suc (suc (suc zero)))))) h = refl
-    kind_over (suc (suc (suc (suc (suc (suc (suc zero))))))) h = refl
-    kind_over (suc (suc (suc (suc (suc (suc (suc (suc zero)))))))) h = refl
-    kind_over (suc (suc (suc (suc (suc (suc (suc (suc (suc zero))))))))) h = refl
-    kind_over (suc (suc (suc (suc (suc (suc (suc (suc (suc (suc zero)))))))))) h = refl
-    kind_over (suc (suc (suc (suc (suc (suc (suc (suc (suc (suc (suc zero))))))))))) h = rw (label_over props renamed c d (λ y. h refl y))
-    kind_over (suc (suc (suc (suc (suc (suc (suc (suc (suc (suc (suc (suc zero)))))))))))) h = refl
-    kind_over (suc (suc (suc (suc (suc (suc (suc (suc (suc (suc (suc (suc (suc zero))))))))))))) h = refl
-    kind_over (suc (suc (suc (suc (suc (suc (suc (suc (suc (suc (suc (suc (suc (suc n)))))))))))))) h = refl
+    known_over : (kind : Kind) → Same (kind_number kind)
+    unfolding rename_term number_over is_name kind_of has_label
+    known_over Ident h = refl
+    known_over Pair h = refl
+    known_over ProjectFst h = refl
+    known_over ProjectSnd h = refl
+    known_over Function h = rw (parameter_over props renamed c d (λ x y. h (rw (ne_eqb c 0 x)) y))
+    known_over Application h = refl
+    known_over LetIn h = refl
+    known_over OrLeft h = refl
+    known_over OrRight h = refl
+    known_over Case h = refl
+    known_over Abort h = refl
+    known_over TypeAscription h = rw (label_over props renamed c d (λ y. h refl y))
+    known_over Unit h = refl
+    known_over Sorry h = refl
+
+    unknown_over : (kind : ℕ) → 14 ≤ kind → Same kind
+    unfolding rename_term
+    unknown_over kind l h =
+        let k = kind_of kind in
+        rw (get_or_past (forms renamed (over k c 1 a) (over k c 2 b) (over k c 3 c) (over k c 4 d) (over k c 5 e)) kind (leaf term.Unit) l, get_or_past (forms props a b c d e) kind (leaf term.Unit) l)
+
+    kind_over : (kind : ℕ) → Same kind
+    kind_over = by_kind Same known_over unknown_over
 
   -- the kind and the parts are no names
-  record Keeps (P : ℕ → Type 0) (kind a b c : ℕ) : Type 0 where
-    kind_kept : over kind c 0 kind ≡ kind
-    parts_kept : Each P (part_count kind) a b c → Each P (part_count kind) (over kind c 1 a) (over kind c 2 b) (over kind c 3 c)
+  record Keeps (P : ℕ → Type 0) (a b c kind : ℕ) : Type 0 where
+    kind_kept : over (kind_of kind) c 0 kind ≡ kind
+    parts_kept : Each P (part_count kind) a b c → Each P (part_count kind) (over (kind_of kind) c 1 a) (over (kind_of kind) c 2 b) (over (kind_of kind) c 3 c)
 
   module _ (P : ℕ → Type 0) (a b c : ℕ) where
-    kind_keeps : (kind : ℕ) → Keeps P kind a b c
+    known_keeps : (kind : Kind) → Keeps P a b c (kind_number kind)
+    unfolding number_over is_name kind_of
+    known_keeps Ident = record { kind_kept = refl; parts_kept = λ h. h }
+    known_keeps Pair = record { kind_kept = refl; parts_kept = λ h. h }
+    known_keeps ProjectFst = record { kind_kept = refl; parts_kept = λ h. h }
+    known_keeps ProjectSnd = record { kind_kept = refl; parts_kept = λ h. h }
+    known_keeps Function = record { kind_kept = refl; parts_kept = λ h. h }
+    known_keeps Application = record { kind_kept = refl; parts_kept = λ h. h }
+    known_keeps LetIn = record { kind_kept = refl; parts_kept = λ h. h }
+    known_keeps OrLeft = record { kind_kept = refl; parts_kept = λ h. h }
+    known_keeps OrRight = record { kind_kept = refl; parts_kept = λ h. h }
+    known_keeps Case = record { kind_kept = refl; parts_kept = λ h. h }
+    known_keeps Abort = record { kind_kept = refl; parts_kept = λ h. h }
+    known_keeps TypeAscription = record { kind_kept = refl; parts_kept = λ h. h }
+    known_keeps Unit = record { kind_kept = refl; parts_kept = λ h. h }
+    known_keeps Sorry = record { kind_kept = refl; parts_kept = λ h. h }
+
+    unknown_keeps : (kind : ℕ) → 14 ≤ kind → Keeps P a b c kind
     unfolding number_over is_name
-    kind_keeps zero = record { kind_kept = refl; parts_kept = λ h. h }
-    kind_keeps (suc zero) = record { kind_kept = refl; parts_kept = λ h. h }
-    kind_keeps (suc (suc zero)) = record { kind_kept = refl; parts_kept = λ h. h }
-    kind_keeps (suc (suc (suc zero))) = record { kind_kept = refl; parts_kept = λ h. h }
-    kind_keeps (suc (suc (suc (suc zero)))) = record { kind_kept = refl; parts_kept = λ h. h }
-    kind_keeps (suc (suc (suc (suc (suc zero))))) = record { kind_kept = refl; parts_kept = λ h. h }
-    kind_keeps (suc (suc (suc (suc (suc (suc zero)))))) = record { kind_kept = refl; parts_kept = λ h. h }
-    kind_keeps (suc (suc (suc (suc (suc (suc (suc zero))))))) = record { kind_kept = refl; parts_kept = λ h. h }
-    kind_keeps (suc (suc (suc (suc (suc (suc (suc (suc zero)))))))) = record { kind_kept = refl; parts_kept = λ h. h }
-    kind_keeps (suc (suc (suc (suc (suc (suc (suc (suc (suc zero))))))))) = record { kind_kept = refl; parts_kept = λ h. h }
-    kind_keeps (suc (suc (suc (suc (suc (suc (suc (suc (suc (suc zero)))))))))) = record { kind_kept = refl; parts_kept = λ h. h }
-    kind_keeps (suc (suc (suc (suc (suc (suc (suc (suc (suc (suc (suc zero))))))))))) = record { kind_kept = refl; parts_kept = λ h. h }
-    kind_keeps (suc (suc (suc (suc (suc (suc (suc (suc (suc (suc (suc (suc zero)))))))))))) = record { kind_kept = refl; parts_kept = λ h. h }
-    kind_keeps (suc (suc (suc (suc (suc (suc (suc (suc (suc (suc (suc (suc (suc zero))))))))))))) = record { kind_kept = refl; parts_kept = λ h. h }
-    kind_keeps (suc (suc (suc (suc (suc (suc (suc (suc (suc (suc (suc (suc (suc (suc n)))))))))))))) = record {
-      kind_kept = no_name f (suc (suc (suc (suc (suc (suc (suc (suc (suc (suc (suc (suc (suc (suc n)))))))))))))) c 0 (suc (suc (suc (suc (suc (suc (suc (suc (suc (suc (suc (suc (suc (suc n)))))))))))))) (sym (past_kinds (suc (suc (suc (suc (suc (suc (suc (suc (suc (suc (suc (suc (suc (suc n)))))))))))))) c 0 (omega arith)));
-      parts_kept = λ h. h;
-    }
+    unknown_keeps kind l =
+        record { kind_kept = rw (kind_unknown kind l); parts_kept = λ h. rw (kind_unknown kind l) h }
+
+    kind_keeps : (kind : ℕ) → Keeps P a b c kind
+    kind_keeps = by_kind (Keeps P a b c) known_keeps unknown_keeps
 
   -- Of the records up to n:
   module _ {before after : List ℕ} {n : ℕ} (r : RecordsOver f before n after) where
@@ -116,19 +135,19 @@ module _ (f : ℕ → ℕ) where
     -- the names
     module _ (m : ℕ) (h : m ≤ n) where
       pub ident_over : field_at after m 0 ≡ 0 → field_at after m 1 ≡ f (field_at before m 1)
-      unfolding number_over is_name
+      unfolding number_over is_name kind_of
       ident_over k = rw (sym (same_kind m h) ∙ k) at ((r.up_to m h).numbers 1 (omega arith))
 
       pub function_over : field_at after m 0 ≡ 4 → field_at after m 2 ≡ f (field_at before m 2)
-      unfolding number_over is_name
+      unfolding number_over is_name kind_of
       function_over k = rw (sym (same_kind m h) ∙ k) at ((r.up_to m h).numbers 2 (omega arith))
 
       pub left_over : field_at after m 0 ≡ 9 → field_at after m 4 ≡ f (field_at before m 4)
-      unfolding number_over is_name
+      unfolding number_over is_name kind_of
       left_over k = rw (sym (same_kind m h) ∙ k) at ((r.up_to m h).numbers 4 (omega arith))
 
       pub right_over : field_at after m 0 ≡ 9 → field_at after m 5 ≡ f (field_at before m 5)
-      unfolding number_over is_name
+      unfolding number_over is_name kind_of
       right_over k = rw (sym (same_kind m h) ∙ k) at ((r.up_to m h).numbers 5 (omega arith))
 
       -- a proposition label is as it was
@@ -138,18 +157,18 @@ module _ (f : ℕ → ℕ) where
         pub number : (field_at before m 3 ≡ 2 → ⊥) → field_at after m 4 ≡ field_at before m 4
 
       pub same_label : Labelled after m → SameLabel
-      unfolding has_label number_over is_name
+      unfolding has_label number_over is_name kind_of
       same_label l = go (labelled_kind (field_at after m 0) (field_at after m 3) l)
         where
-          o : (i : ℕ) → i < 6 → field_at after m i ≡ number_over f (field_at before m 0) (field_at before m 3) i (field_at before m i)
+          o : (i : ℕ) → i < 6 → field_at after m i ≡ number_over f (kind_of (field_at before m 0)) (field_at before m 3) i (field_at before m i)
           o = (r.up_to m h).numbers
 
-          third : (kind : ℕ) → field_at before m 0 ≡ kind → number_over f kind (field_at before m 3) 3 (field_at before m 3) ≡ field_at before m 3
+          third : (kind : ℕ) → field_at before m 0 ≡ kind → number_over f (kind_of kind) (field_at before m 3) 3 (field_at before m 3) ≡ field_at before m 3
               → field_at after m 3 ≡ field_at before m 3
           third kind k e = o 3 (omega arith) ∙ rw k e
 
           fourth : (kind : ℕ) → field_at before m 0 ≡ kind
-              → ((field_at before m 3 ≡ 2 → ⊥) → number_over f kind (field_at before m 3) 4 (field_at before m 4) ≡ field_at before m 4)
+              → ((field_at before m 3 ≡ 2 → ⊥) → number_over f (kind_of kind) (field_at before m 3) 4 (field_at before m 4) ≡ field_at before m 4)
               → (field_at before m 3 ≡ 2 → ⊥) → field_at after m 4 ≡ field_at before m 4
           fourth kind k e other = o 4 (omega arith) ∙ rw k (e other)
 

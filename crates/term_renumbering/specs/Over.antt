@@ -1,29 +1,37 @@
 -- Records over other name numbers: which of a record's numbers are names, and what becomes of each number.
-use Rattle.std.specs.Prelude.{ℕ, ◌+◌, ◌*◌, ◌≤◌, ◌<◌, ◌≡◌, Bool, cond, List, get_or, eqb}
-use Rattle.definitions.specs.Utf8.{utf8}
+use Rattle.std.specs.Prelude.{ℕ, ◌≤◌, ◌<◌, ◌≡◌, Bool, false, ◌||◌, ◌&&◌, cond, List, eqb}
 use Rattle.definitions.specs.Prop.{Prop, rename_prop}
 use Rattle.proof_term.specs.Records.{record_size, field_at}
 use Rattle.proof_term.specs.Labels.{Labelled}
+use Rattle.proof_term.specs.Views.{kind_of}
+use Rattle.proof_term.specs.declared.nodes.Kind.{Kind}
+use Rattle.proof_term.specs.declared.nodes.Kind.TheVariants.{Ident, Pair, ProjectFst, ProjectSnd, Function, Application, LetIn, OrLeft, OrRight, Case, Abort, TypeAscription, Unit, Sorry}
 
--- for each kind, which of the first six numbers of its records are names: `n` for a name, `d` for one if the label is a datatype
-abbrev pub marks : List ℕ
-marks = utf8 "-n------------------------n-d----------nn-----------------nn----------d-------------"
-
-abbrev pub mark_at : ℕ → ℕ → ℕ
-mark_at kind i = get_or marks (6 * kind + i) 0
-
--- whether number i of a record is a name, by its kind and the kind of its label
-unfoldable pub is_name : ℕ → ℕ → ℕ → Bool
-is_name kind label i = cond (eqb (mark_at kind i) 100) (eqb label 2) (eqb (mark_at kind i) 110)
+-- whether number i of a record of a kind is a name, by the kind of its label: a label's number is one if it is a datatype
+unfoldable pub is_name : Kind → ℕ → ℕ → Bool
+is_name Ident label i = eqb i 1
+is_name Function label i = eqb i 2 || (eqb i 4 && eqb label 2)
+is_name LetIn label i = eqb i 3 || eqb i 4
+is_name Case label i = eqb i 4 || eqb i 5
+is_name TypeAscription label i = eqb i 4 && eqb label 2
+is_name Pair label i = false
+is_name ProjectFst label i = false
+is_name ProjectSnd label i = false
+is_name Application label i = false
+is_name OrLeft label i = false
+is_name OrRight label i = false
+is_name Abort label i = false
+is_name Unit label i = false
+is_name Sorry label i = false
 
 module _ (f : ℕ → ℕ) where
   -- number i of a record: over other names if it is a name, else as it was
-  unfoldable pub number_over : ℕ → ℕ → ℕ → ℕ → ℕ
+  unfoldable pub number_over : Kind → ℕ → ℕ → ℕ → ℕ
   number_over kind label i number = cond (is_name kind label i) (f number) number
 
   -- record m is that of before over other names, with the same tally
   pub record Over (before : List ℕ) (m : ℕ) (after : List ℕ) : Type 0 where
-    pub numbers : (i : ℕ) → i < 6 → field_at after m i ≡ number_over (field_at before m 0) (field_at before m 3) i (field_at before m i)
+    pub numbers : (i : ℕ) → i < 6 → field_at after m i ≡ number_over (kind_of (field_at before m 0)) (field_at before m 3) i (field_at before m i)
     pub tally : field_at after m 6 ≡ field_at before m 6
 
   -- and no other record has changed

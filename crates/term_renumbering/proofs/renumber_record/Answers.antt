@@ -7,16 +7,13 @@ pub loop-i-preserved : goal.loop-i-preserved
 loop-i-preserved c = partly_more _ _ _ _ c.requires c.loop-i-test.true c.loop-i.invariant c.number_over.ensures
 
 pub returns : goal.returns
-returns c = partly_all _ _ _ c.field-kind.ensures.0 c.field-label.ensures.0 c.loop-i-test.false c.loop-i.invariant
+returns c = partly_all _ _ _ c.kind_at-kind.ensures c.field-label.ensures.0 c.loop-i-test.false c.loop-i.invariant
 
 pub loop-i-init : goal.loop-i-init
 loop-i-init c = partly_none _ _ _ _ _
 
 pub bounds-records-at : goal.bounds-records-at
 bounds-records-at c = omega (arith, c.loop-i.invariant.long)
-
-pub number_over-requires : goal.number_over-requires
-number_over-requires c = c.loop-i-test.true
 
 pub bounds-records-at-in-loop-i : goal.bounds-records-at-in-loop-i
 bounds-records-at-in-loop-i c = omega (arith, c.loop-i.invariant.long)
