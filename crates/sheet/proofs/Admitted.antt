@@ -25,7 +25,7 @@ use Rattle.sheet.specs.Header.{header_of, InRange, HasHeader}
 use Rattle.sheet.specs.Pairs.{HasPairs, HasCodes}
 use Rattle.sheet.specs.Checks.{checked_of, tree_checks}
 use Rattle.sheet.specs.Sizes.{steps_finding_trees, unless_refused, sized_steps, Sized}
-use Rattle.sheet.specs.Admitted.{Admitted}
+use Rattle.sheet.specs.Admitted.{Admitted, Accepted}
 use Rattle.definitions.proofs.Outcomes.{each_accepted, test_failed, none_lowest}
 use Rattle.definitions.proofs.Lowest.{all_fail}
 use Rattle.number.specs.Pairs.{NameWithin}
@@ -199,3 +199,10 @@ module _ {s : List ℕ} (a : Admitted s) where
 
 pub its_header : {s : List ℕ} {h : Sheet} → AcceptedSheet s h → HasHeader s h
 its_header a = rw a.header (has_header a.sheet)
+
+-- an accepted sheet without and with its header
+pub without_header : {s : List ℕ} {h : Sheet} → Bytes s → AcceptedSheet s h → Accepted s
+without_header bytes a = record { bytes = bytes; root = a.root; sheet = a.sheet }
+
+pub with_header : {s : List ℕ} → Accepted s → AcceptedSheet s (header_of s)
+with_header a = record { header = refl; root = a.root; sheet = a.sheet }

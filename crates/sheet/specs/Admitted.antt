@@ -1,11 +1,13 @@
 -- What a sheet is that refusals 1 to 11 let pass.
-use Rattle.std.specs.Prelude.{ℕ, ◌<◌, ◌≤◌, ◌≡◌, true, false, List, [], ◌∷◌, length, Some}
+use Rattle.std.specs.Prelude.{ℕ, ◌<◌, ◌≤◌, ◌≡◌, true, false, List, [], ◌∷◌, length, get_or, Some, Result, Ok, Err}
+use Rattle.definitions.specs.declared.Refusal.{Refusal}
+use Rattle.definitions.specs.Outcome.{accepted, refused}
 use Rattle.definitions.specs.Name.{is_name}
 use Rattle.definitions.specs.Prop.{nesting}
 use Rattle.definitions.specs.Code.{decode}
 use Rattle.definitions.specs.Sheet.{text_length, names, code_length, propositions, steps, sheet_length, name_length_limit, proposition_nesting_limit, tree_nesting_limit, name_pairs, proposition_pairs, step_records, code_bytes, name_of, marked, premiss_count}
 use Rattle.definitions.specs.Tree.{height, prop_of, tree_of, root_of, trees_before}
-use Rattle.definitions.specs.Admission.{bad_step}
+use Rattle.definitions.specs.Admission.{bad_step, admitted}
 use Rattle.sheet.specs.Header.{header_of, InRange}
 use Rattle.sheet.specs.Pairs.{GoodPair}
 
@@ -27,3 +29,14 @@ pub record Admitted (s : List ℕ) : Type 0 where
       → premiss_count (step_records s) k ≤ length (trees_before (names s) (proposition_pairs s) (code_bytes s) (step_records s) k)
   pub one_tree : trees_before (names s) (proposition_pairs s) (code_bytes s) (step_records s) (steps s) ≡ root_of s ∷ []
   pub shallow_tree : (k : ℕ) → k < steps s → height (tree_of s k) ≤ tree_nesting_limit
+
+-- an accepted sheet of bytes: its root and what refusals 1 to 11 have shown
+pub record Accepted (s : List ℕ) : Type 0 where
+  pub bytes : (i : ℕ) → get_or s i 0 < 256
+  pub root : admitted s ≡ accepted (root_of s)
+  pub sheet : Admitted s
+
+-- what the checks answer: a sheet of these bytes, or the refusal that the bytes meet
+abbrev pub Admits : List ℕ → Result (List ℕ) Refusal → Type 0
+Admits s (Ok t) = (t ≡ s) × Accepted s
+Admits s (Err r) = admitted s ≡ refused r

@@ -1,6 +1,7 @@
 // The sheet: its header, its parts, and which bytes are one.
 #![tactic(auto)]
 
+mod admitted_sheet;
 mod header;
 mod pairs;
 mod parts;
@@ -13,6 +14,7 @@ ghost use Rattle.sheet.specs.Header.{header_of, HasHeader};
 ghost use Rattle.sheet.specs.Checks.{outcome_of, checked_of, answered, name_checks, proposition_checks, step_checks, tree_checks};
 ghost use Rattle.sheet.specs.Sizes.{steps_finding_trees, sized_steps, Sized};
 
+pub use admitted_sheet::AdmittedSheet;
 use definitions::Refusal;
 pub use header::{Layout, Sheet};
 pub use pairs::{first_bad_code, first_bad_name, first_bad_pair, first_deep_proposition};

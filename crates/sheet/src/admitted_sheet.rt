@@ -1,0 +1,118 @@
+// A sheet that refusals 1 to 11 let pass. A clause sees it as its bytes.
+ghost use Rattle.std.specs.Prelude.{◌≡◌, IfOk};
+ghost use Rattle.definitions.specs.Sheet.{steps, name_pairs, proposition_pairs, step_records, text_bytes, code_bytes};
+ghost use Rattle.steps.specs.Tables.{SizeTable};
+ghost use Rattle.sheet.specs.Header.{header_of, vocabulary_of};
+ghost use Rattle.sheet.specs.Admitted.{Accepted, Admits};
+
+use crate::header::Sheet;
+use crate::{answer, check, parts};
+use definitions::Refusal;
+use std::marker::Model;
+use vocabulary::Vocabulary;
+
+// The bytes, beside their header. What hands out a part also tells what the refusals have shown of the bytes.
+#[derive(Drop)]
+pub struct AdmittedSheet<'a> {
+    bytes: &'a [u8],
+    header: Sheet,
+}
+
+impl<'a> Model for AdmittedSheet<'a> {
+    ghost use Rattle.std.specs.Prelude.{◌≡◌, List, ℕ};
+
+    ghost Value = { List ℕ };
+
+    ghost use Rattle.sheet.specs.Header.{header_of};
+    ghost use Rattle.sheet.specs.Admitted.{Accepted};
+
+    ghost view = { λ a. a.bytes.now };
+
+    ghost invariant = { λ a. (a.header ≡ header_of a.bytes.now) × Accepted a.bytes.now };
+}
+
+impl<'a> AdmittedSheet<'a> {
+    // The sheet of these bytes, or the first of refusals 1 to 11.
+    pub fn new(bytes: &'a [u8]) -> Result<AdmittedSheet<'a>, Refusal>
+        ensures { Admits bytes.now result }
+    {
+        let header = answer(bytes)?;
+        Ok(AdmittedSheet { bytes, header })
+    }
+
+    // The same, and the sizes of its steps' trees.
+    pub fn with_sizes(
+        bytes: &'a [u8],
+        sizes: &mut [u16; Sheet::STEP_LIMIT],
+    ) -> Result<AdmittedSheet<'a>, Refusal>
+        ensures admits { Admits bytes.now result }
+        ensures sized { IfOk result (λ _. SizeTable (step_records bytes.now) (steps bytes.now) sizes.new) }
+    {
+        let header = check(bytes, sizes)?;
+        Ok(AdmittedSheet { bytes, header })
+    }
+
+    // Its bytes.
+    pub fn bytes(&self) -> &'a [u8]
+        ensures is { result.now ≡ self.now }
+        ensures accepted { Accepted self.now }
+    {
+        self.bytes
+    }
+
+    // Its header.
+    pub fn header(&self) -> Sheet
+        ensures is { result ≡ header_of self.now }
+        ensures accepted { Accepted self.now }
+    {
+        self.header
+    }
+
+    // Where its names and its code lie.
+    pub fn vocabulary(&self) -> Vocabulary
+        ensures is { result ≡ vocabulary_of (header_of self.now) }
+        ensures accepted { Accepted self.now }
+    {
+        parts::vocabulary(self.header)
+    }
+
+    // The pairs of its names.
+    pub fn name_pairs(&self) -> &'a [u8]
+        ensures is { result.now ≡ name_pairs self.now }
+        ensures accepted { Accepted self.now }
+    {
+        parts::name_pairs(self.bytes, self.header)
+    }
+
+    // The pairs of its propositions.
+    pub fn proposition_pairs(&self) -> &'a [u8]
+        ensures is { result.now ≡ proposition_pairs self.now }
+        ensures accepted { Accepted self.now }
+    {
+        parts::proposition_pairs(self.bytes, self.header)
+    }
+
+    // Its steps.
+    pub fn step_records(&self) -> &'a [u8]
+        ensures is { result.now ≡ step_records self.now }
+        ensures accepted { Accepted self.now }
+    {
+        parts::step_records(self.bytes, self.header)
+    }
+
+    // The text of its names.
+    pub fn text_bytes(&self) -> &'a [u8]
+        ensures is { result.now ≡ text_bytes self.now }
+        ensures accepted { Accepted self.now }
+    {
+        parts::text_bytes(self.bytes, self.header)
+    }
+
+    // The code of its propositions.
+    pub fn code_bytes(&self) -> &'a [u8]
+        ensures is { result.now ≡ code_bytes self.now }
+        ensures accepted { Accepted self.now }
+    {
+        parts::code_bytes(self.bytes, self.header)
+    }
+}
