@@ -6,9 +6,10 @@ use mathlib.Core.List.{List}
 use native.Mathlib.Omega.{arith}
 use native.Mathlib.Nat.{le_refl}
 use lib.ListN.{length}
+use Rattle.definitions.specs.Code.{decode}
 use Rattle.definitions.specs.Sheet as sheet
-use Rattle.definitions.specs.Sheet.{name_limit, proposition_limit, step_limit, pair_size, step_size, name_length_limit, text_length, code_length, name_pairs, text_bytes, proposition_pairs, code_bytes, step_records}
-use Rattle.definitions.specs.Admission.{bad_name_pair, bad_proposition_pair, bad_code}
+use Rattle.definitions.specs.Sheet.{name_limit, proposition_limit, step_limit, pair_size, step_size, name_length_limit, text_length, code_length, name_pairs, text_bytes, proposition_pairs, code_bytes, step_records, marked}
+use Rattle.definitions.specs.Admission.{is_none, bad_name_pair, bad_proposition_pair, bad_code}
 use Rattle.number.specs.Pairs.{NameWithin}
 use Rattle.sheet.specs.declared.header.Sheet.{Sheet}
 use Rattle.sheet.specs.Header.{header_of, InRange, HasHeader}
@@ -25,6 +26,12 @@ good_pairs p b good = record { present = omega arith; ends = λ i h. omega (arit
 pub pair_within : {pairs bytes : List ℕ} {count i : ℕ} → HasPairs pairs bytes count → i < count → NameWithin pairs bytes i
 unfolding pair_size
 pair_within has l = record { present = omega (arith, has.present); ends = has.ends _ l }
+
+-- and where each marks a code, that part is one
+pub code_at : {names count i : ℕ} {pairs code : List ℕ} → HasCodes names pairs code count → i < count
+    → is_none (decode names (marked pairs code i)) ≡ false
+unfolding bad_code
+code_at has l = has.decoded _ l
 
 -- 4 did not come
 pub good_name_pair : (s : List ℕ) (i : ℕ) → bad_name_pair (name_pairs s) (text_length s) i ≡ false

@@ -1,7 +1,7 @@
 -- What the answer of a search says of the places, and of the refusal that goes by it.
 use Prim.Native.Nat.{ℕ, zero, suc, ◌<◌}
 use mathlib.Core.Path.{◌≡◌, refl, sym}
-use mathlib.Core.Bool.{Bool, true, false}
+use mathlib.Core.Bool.{Bool, true, false, not}
 use Rattle.std.specs.Prelude.{Option, None, Some, ℕ, ◌≤◌, IfSome}
 use native.Mathlib.Omega.{arith}
 use Rattle.definitions.specs.Outcome.{Outcome, accepted, refuse, first_of, lowest, refuse_at, refuse_lowest}
@@ -44,3 +44,8 @@ module _ (test : ℕ → Bool) (count : ℕ) {r : Option ℕ} (answer : r ≡ lo
   -- where nothing is refused, every test fails
   pub none_bad : (number : ℕ) {a : Unit {0}} → accepted a ≡ refuse_at r number → (i : ℕ) → i < count → test i ≡ false
   none_bad number e = all_fail test count (none_lowest test count number (sym (searched number e)))
+
+-- a test that is denied twice
+pub denied_twice : (b : Bool) → not (not b) ≡ b
+denied_twice true = refl
+denied_twice false = refl

@@ -8,7 +8,8 @@ ghost use Rattle.sheet.specs.Checks.{answered, short_check};
 use definitions::Refusal;
 use reader::header_number;
 
-// The six header numbers: T, N, C, P, S and the goal.
+// The six header numbers: T, N, C, P, S and the goal. A header that was only read may lie outside its ranges, so the ranges are asked
+// for where a place is reckoned.
 #[derive(Clone, Copy)]
 pub struct Sheet {
     pub text_length: usize,
@@ -76,7 +77,7 @@ impl Sheet {
         + Self::TEXT_LIMIT
         + Self::CODE_LIMIT;
 
-    // The header of these bytes, number by number through a reader.
+    // The header of these bytes, number by number through a reader. A table of six numbers would name none of them here.
     pub fn header(s: &[u8]) -> Result<Sheet, Refusal>
         ensures { result ≡ answered (header_of s.now) (short_check s.now) }
     {

@@ -47,7 +47,7 @@ pub fn check_header(s: &[u8]) -> Result<Sheet, Refusal>
     Ok(h)
 }
 
-// Refusals 4 and 5: the names.
+// The stages after it run over bytes that are not admitted yet, so each takes them with their header. Refusals 4 and 5: the names.
 fn check_names(s: &[u8], h: Sheet) -> Result<(), Refusal>
     requires { HasHeader s.now h }
     ensures { outcome_of result ≡ name_checks s.now }
@@ -118,7 +118,7 @@ pub fn check(s: &[u8], sizes: &mut [u16; Sheet::STEP_LIMIT]) -> Result<Sheet, Re
     Ok(h)
 }
 
-// The same with a table of its own.
+// The same where nobody asks for the sizes: a caller's frame has no table then.
 pub fn answer(s: &[u8]) -> Result<Sheet, Refusal>
     ensures { result ≡ checked_of s.now }
 {

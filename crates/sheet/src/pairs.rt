@@ -9,8 +9,10 @@ use crate::header::Sheet;
 use identifier::is_name;
 use number::{marked_bytes, pair_length, pair_offset};
 use prefix_code::{is_code, is_deep};
+use search::lowest;
 
 // Refusals 4 and 6: the lowest pair that starts before the last one's end, ends past so many bytes, or is empty or too long.
+// Each pair is judged by the end of the one before it, which goes along: a test of a place alone would read that pair again.
 pub fn first_bad_pair(pairs: &[u8], count: usize, bytes: usize, longest: usize) -> Option<usize>
     requires { pair_size * count ≤ length pairs.now }
     ensures { result ≡ lowest (bad_pair pairs.now bytes longest) count }
@@ -29,34 +31,25 @@ pub fn first_bad_pair(pairs: &[u8], count: usize, bytes: usize, longest: usize) 
 }
 
 // Refusal 5: the lowest name with a byte that its position does not allow.
+#[tactic(auto, unfolding(definitions::specs::Admission::bad_name))]
 pub fn first_bad_name(pairs: &[u8], text: &[u8], count: usize) -> Option<usize>
     requires { HasPairs pairs.now text.now count }
     ensures { result ≡ lowest (bad_name pairs.now text.now) count }
 {
-    for i in 0..count {
-        let name = marked_bytes(pairs, text, i);
-        if !is_name(name) {
-            return Some(i);
-        }
-    }
-    None
+    lowest(count, |i| !is_name(marked_bytes(pairs, text, i)))
 }
 
 // Refusal 7: the lowest proposition whose code is not exactly one proposition.
+#[tactic(auto, unfolding(definitions::specs::Admission::bad_code), using(crate::proofs::Searched::denied_twice))]
 pub fn first_bad_code(pairs: &[u8], code: &[u8], count: usize, names: usize) -> Option<usize>
     requires { HasPairs pairs.now code.now count }
     ensures { result ≡ lowest (bad_code names pairs.now code.now) count }
 {
-    for i in 0..count {
-        let proposition = marked_bytes(pairs, code, i);
-        if !is_code(proposition, names) {
-            return Some(i);
-        }
-    }
-    None
+    lowest(count, |i| !is_code(marked_bytes(pairs, code, i), names))
 }
 
 // Refusal 8: the lowest proposition that nests too deep.
+#[tactic(auto, unfolding(definitions::specs::Sheet::proposition_nesting_limit, definitions::specs::Tree::prop_in, definitions::specs::Admission::deep_proposition), using(crate::proofs::Given::pair_within, crate::proofs::Given::code_at))]
 pub fn first_deep_proposition(
     pairs: &[u8],
     code: &[u8],
@@ -66,11 +59,8 @@ pub fn first_deep_proposition(
     requires { HasCodes names pairs.now code.now count }
     ensures { result ≡ lowest (deep_proposition names pairs.now code.now) count }
 {
-    for i in 0..count {
+    lowest(count, |i| {
         let proposition = marked_bytes(pairs, code, i);
-        if is_deep(proposition, names, Sheet::PROPOSITION_NESTING_LIMIT) {
-            return Some(i);
-        }
-    }
-    None
+        is_deep(proposition, names, Sheet::PROPOSITION_NESTING_LIMIT)
+    })
 }

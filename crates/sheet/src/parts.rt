@@ -1,5 +1,5 @@
 // The parts of a sheet, as slices of its bytes, and where its names and its code lie.
-ghost use Rattle.std.specs.Prelude.{◌≡◌, ◌-◌, ◌≤◌, length, take, drop};
+ghost use Rattle.std.specs.Prelude.{◌≡◌};
 ghost use Rattle.definitions.specs.Sheet.{name_pairs, proposition_pairs, step_records, text_bytes, code_bytes};
 ghost use Rattle.sheet.specs.Header.{InRange, HasHeader, vocabulary_of};
 
@@ -22,14 +22,6 @@ pub fn vocabulary(h: Sheet) -> Vocabulary
     }
 }
 
-// The bytes from one place up to another.
-pub fn between(s: &[u8], start: usize, end: usize) -> &[u8]
-    requires { (start ≤ end) × (end ≤ length s.now) }
-    ensures { result.now ≡ take (end - start) (drop start s.now) }
-{
-    &s[start..end]
-}
-
 // The names' pairs of a sheet.
 pub fn name_pairs(s: &[u8], h: Sheet) -> &[u8]
     requires { HasHeader s.now h }
@@ -44,7 +36,7 @@ pub fn proposition_pairs(s: &[u8], h: Sheet) -> &[u8]
     ensures { result.now ≡ proposition_pairs s.now }
 {
     let layout = h.layout();
-    between(s, layout.proposition_pairs, layout.steps)
+    &s[layout.proposition_pairs..layout.steps]
 }
 
 // The steps.
@@ -53,7 +45,7 @@ pub fn step_records(s: &[u8], h: Sheet) -> &[u8]
     ensures { result.now ≡ step_records s.now }
 {
     let layout = h.layout();
-    between(s, layout.steps, layout.text)
+    &s[layout.steps..layout.text]
 }
 
 // The text.

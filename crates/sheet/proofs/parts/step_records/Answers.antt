@@ -1,10 +1,15 @@
 -- The part lies where the layout says.
-use mathlib.Core.Path.{◌∙◌}
 use Rattle.sheet.proofs.Slices.{step_records_part}
 use Rattle.sheet.proofs.parts.step_records.Goals as goal
 
-pub between-requires : goal.between-requires
-between-requires c = (step_records_part c.requires c.layout-layout.ensures).within
+pub slice_bounds-result-count : goal.slice_bounds-result-count
+slice_bounds-result-count c = (step_records_part c.requires c.layout-layout.ensures).within.0
+
+pub slice_bounds-result-start : goal.slice_bounds-result-start
+slice_bounds-result-start c = (step_records_part c.requires c.layout-layout.ensures).within.0
+
+pub slice_bounds-result-end : goal.slice_bounds-result-end
+slice_bounds-result-end c = (step_records_part c.requires c.layout-layout.ensures).within.1
 
 pub returns : goal.returns
-returns c = c.between.ensures ∙ (step_records_part c.requires c.layout-layout.ensures).are
+returns c = (step_records_part c.requires c.layout-layout.ensures).are
