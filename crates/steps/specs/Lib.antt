@@ -3,3 +3,4 @@ pub mod Records
 pub mod Size
 pub mod Tables
 pub mod StepAt
+pub mod Rules

@@ -1,26 +1,27 @@
 // The step records of a sheet: a step as a value, refusals 9, 10 and 11, and the sizes of the steps' trees.
 #![tactic(auto)]
 
+mod record;
+mod rule;
+
 ghost use Rattle.std.specs.Prelude.{ℕ, ◌+◌, ◌≤◌, ◌<◌, ◌≡◌, List, length, get_or};
 ghost use Rattle.definitions.specs.Outcome.{lowest};
-ghost use Rattle.definitions.specs.Sheet.{step_size, step_limit, rule_byte, premiss_count, step_number, column};
+ghost use Rattle.definitions.specs.Sheet.{step_limit, rule_byte, premiss_count};
 ghost use Rattle.definitions.specs.Tree.{rules, Sorry, identifier_count, height, tree_in};
-ghost use Rattle.definitions.specs.Admission.{no_name, not_zero, bad_identifier, bad_prop_is_true, bad_type_judgement, bad_conclusion, bad_column};
 ghost use Rattle.definitions.specs.Admission.{bad_step, trees_left};
 ghost use Rattle.steps.specs.Records.{HasStep, HasSteps};
-ghost use Rattle.steps.specs.StepAt.{identifier_at, conclusion_at, step_at};
+ghost use Rattle.steps.specs.StepAt.{step_at};
 ghost use Rattle.steps.specs.Tables.{TreeStart, SizeTable, FilledSizes, HeightTable, FilledHeights};
 
-use number::number_at;
+use record::StepRecord;
+pub use rule::Rule;
+use search::lowest;
 
 // The bytes of a step.
 pub const STEP_SIZE: usize = 20;
 
 // The last column of the grid.
 pub const COLUMN_LIMIT: u16 = 4095;
-
-// How many identifiers a rule has, by its byte.
-const IDENTIFIER_COUNTS: [u8; 17] = [0, 0, 0, 0, 1, 0, 1, 0, 0, 2, 0, 1, 0, 0, 2, 0, 0];
 
 // A name, by its number, and an id.
 #[derive(Clone, Copy)]
@@ -44,7 +45,7 @@ pub enum Conclusion {
     TypeJudgement(Judgement),
 }
 
-// A step, with the numbers of its record.
+// A step, with the numbers of its record: its rule by its byte, since a record that refusal 9 has not seen may have none.
 #[derive(Drop)]
 pub struct Step {
     pub rule: u8,
@@ -55,179 +56,61 @@ pub struct Step {
     pub column: u16,
 }
 
-// The number at an offset of a step.
-#[tactic(auto, unfolding(definitions::specs::Sheet::step_size, definitions::specs::Sheet::step_number))]
-fn step_number(step_records: &[u8], k: usize, at: usize) -> usize
-    requires { (HasStep step_records.now k) × (at + 1 < step_size) }
-    ensures { (result ≡ step_number step_records.now k at) × (result < 65536) }
-{
-    number_at(step_records, STEP_SIZE * k + at)
-}
-
-#[tactic(auto, unfolding(definitions::specs::Sheet::step_size, definitions::specs::Sheet::rule_byte))]
+// The byte of the rule of step k.
 pub fn rule_byte(step_records: &[u8], k: usize) -> u8
     requires { HasStep step_records.now k }
     ensures { result ≡ rule_byte step_records.now k }
 {
-    step_records[STEP_SIZE * k]
+    StepRecord {
+        records: step_records,
+        k,
+    }
+    .rule_byte()
 }
 
-#[tactic(auto, unfolding(definitions::specs::Sheet::step_size, definitions::specs::Sheet::premiss_count))]
+// Its premiss count.
 pub fn premiss_count(step_records: &[u8], k: usize) -> u8
     requires { HasStep step_records.now k }
     ensures { result ≡ premiss_count step_records.now k }
 {
-    step_records[STEP_SIZE * k + 1]
-}
-
-// The name and the id at an offset of a step.
-#[tactic(auto, unfolding(crate::specs::StepAt::identifier_at))]
-fn identifier_at(step_records: &[u8], k: usize, at: usize) -> Identifier
-    requires { (HasStep step_records.now k) × (at + 3 < step_size) }
-    ensures { result ≡ identifier_at step_records.now k at }
-{
-    Identifier {
-        name: step_number(step_records, k, at) as u16,
-        unique_id: step_number(step_records, k, at + 2) as u16,
+    StepRecord {
+        records: step_records,
+        k,
     }
-}
-
-// The conclusion of a step: its kind says what the numbers after it are.
-#[tactic(auto, unfolding(definitions::specs::Sheet::step_size, crate::specs::StepAt::conclusion_at))]
-fn conclusion_at(step_records: &[u8], k: usize) -> Conclusion
-    requires { HasStep step_records.now k }
-    ensures { result ≡ conclusion_at step_records.now k }
-{
-    let first = step_number(step_records, k, 12) as u16;
-    if step_number(step_records, k, 10) == 0 {
-        return Conclusion::PropIsTrue(first);
-    }
-    Conclusion::TypeJudgement(Judgement {
-        name: first,
-        unique_id: step_number(step_records, k, 14) as u16,
-        datatype: step_number(step_records, k, 16) as u16,
-    })
-}
-
-// The column that a step was drawn in: its last number.
-#[tactic(auto, unfolding(definitions::specs::Sheet::step_size, definitions::specs::Sheet::column))]
-fn column(step_records: &[u8], k: usize) -> u16
-    requires { HasStep step_records.now k }
-    ensures { result ≡ column step_records.now k }
-{
-    step_number(step_records, k, 18) as u16
+    .premiss_count()
 }
 
 // Step k.
-#[tactic(auto, unfolding(definitions::specs::Sheet::step_size, crate::specs::StepAt::step_at))]
 pub fn step_at(step_records: &[u8], k: usize) -> Step
     requires { HasStep step_records.now k }
     ensures { result ≡ step_at step_records.now k }
 {
-    Step {
-        rule: rule_byte(step_records, k),
-        premiss_count: premiss_count(step_records, k),
-        first: identifier_at(step_records, k, 2),
-        second: identifier_at(step_records, k, 6),
-        conclusion: conclusion_at(step_records, k),
-        column: column(step_records, k),
+    StepRecord {
+        records: step_records,
+        k,
     }
+    .step()
 }
 
-// The number at an offset of a step is that of no name.
-#[tactic(auto, unfolding(definitions::specs::Admission::no_name))]
-fn no_name(step_records: &[u8], k: usize, at: usize, names: usize) -> bool
-    requires { (HasStep step_records.now k) × (at + 1 < step_size) }
-    ensures { (propositions : ℕ) → result ≡ no_name names propositions step_records.now k at }
-{
-    names <= step_number(step_records, k, at)
-}
-
-// The number at an offset of a step is not 0.
-#[tactic(auto, unfolding(definitions::specs::Admission::not_zero))]
-fn not_zero(step_records: &[u8], k: usize, at: usize) -> bool
-    requires { (HasStep step_records.now k) × (at + 1 < step_size) }
-    ensures { (names propositions : ℕ) → result ≡ not_zero names propositions step_records.now k at }
-{
-    step_number(step_records, k, at) != 0
-}
-
-// The identifier at an offset of a step has no name where the rule has it, or is not 0 where the rule lacks it.
-#[tactic(auto, unfolding(definitions::specs::Admission::bad_identifier))]
-fn bad_identifier(step_records: &[u8], k: usize, at: usize, has: bool, names: usize) -> bool
-    requires { (HasStep step_records.now k) × (at + 3 < step_size) }
-    ensures { (propositions : ℕ) →
-        result ≡ bad_identifier names propositions step_records.now k at has }
-{
-    if has {
-        return no_name(step_records, k, at, names);
-    }
-    not_zero(step_records, k, at) || not_zero(step_records, k, at + 2)
-}
-
-// A conclusion of kind 0: a proposition number, 0, 0.
-#[tactic(auto, unfolding(definitions::specs::Sheet::step_size, definitions::specs::Admission::bad_prop_is_true))]
-fn bad_prop_is_true(step_records: &[u8], k: usize, propositions: usize) -> bool
-    requires { HasStep step_records.now k }
-    ensures { (names : ℕ) → result ≡ bad_prop_is_true names propositions step_records.now k }
-{
-    propositions <= step_number(step_records, k, 12)
-        || (not_zero(step_records, k, 14) || not_zero(step_records, k, 16))
-}
-
-// A conclusion of kind 1: a name, an id, a datatype name.
-#[tactic(auto, unfolding(definitions::specs::Sheet::step_size, definitions::specs::Admission::bad_type_judgement))]
-fn bad_type_judgement(step_records: &[u8], k: usize, names: usize) -> bool
-    requires { HasStep step_records.now k }
-    ensures { (propositions : ℕ) → result ≡ bad_type_judgement names propositions step_records.now k }
-{
-    no_name(step_records, k, 12, names) || no_name(step_records, k, 16, names)
-}
-
-#[tactic(auto, unfolding(definitions::specs::Sheet::step_size, definitions::specs::Admission::bad_conclusion))]
-fn bad_conclusion(step_records: &[u8], k: usize, names: usize, propositions: usize) -> bool
-    requires { HasStep step_records.now k }
-    ensures { result ≡ bad_conclusion names propositions step_records.now k }
-{
-    match step_number(step_records, k, 10) {
-        0 => bad_prop_is_true(step_records, k, propositions),
-        1 => bad_type_judgement(step_records, k, names),
-        _ => true,
-    }
-}
-
-// A step's column is out of range.
-#[tactic(auto, unfolding(definitions::specs::Sheet::column_limit, definitions::specs::Admission::bad_column))]
-fn bad_column(step_records: &[u8], k: usize) -> bool
-    requires { HasStep step_records.now k }
-    ensures { (names propositions : ℕ) → result ≡ bad_column names propositions step_records.now k }
-{
-    COLUMN_LIMIT < column(step_records, k)
-}
-
-// How many identifiers the rule of a byte has.
-pub fn identifier_count(rule: usize) -> u8
-    requires { rule < length rules }
-    ensures { result ≡ identifier_count (get_or rules rule Sorry) }
-{
-    IDENTIFIER_COUNTS[rule]
-}
-
-// A step's rule, kind, name, proposition number or column is out of range, or an unused field is not 0.
-#[tactic(auto, unfolding(definitions::specs::Sheet::step_size, definitions::specs::Tree::rules, definitions::specs::Tree::rule_in, definitions::specs::Admission::identifiers, definitions::specs::Admission::bad_step))]
+// Step k has a number that refusal 9 does not let pass.
 pub fn bad_step(step_records: &[u8], k: usize, names: usize, propositions: usize) -> bool
     requires { HasStep step_records.now k }
     ensures { result ≡ bad_step names propositions step_records.now k }
 {
-    let rule = rule_byte(step_records, k) as usize;
-    if IDENTIFIER_COUNTS.len() <= rule {
-        return true;
+    StepRecord {
+        records: step_records,
+        k,
     }
-    let identifiers = identifier_count(rule);
-    bad_identifier(step_records, k, 2, 1 <= identifiers, names)
-        || (bad_identifier(step_records, k, 6, 2 <= identifiers, names)
-            || (bad_conclusion(step_records, k, names, propositions)
-                || bad_column(step_records, k)))
+    .is_bad(names, propositions)
+}
+
+// How many identifiers the rule of a byte has.
+#[tactic(auto, unfolding(definitions::specs::Tree::rules))]
+pub fn identifier_count(rule: usize) -> u8
+    requires { rule < length rules }
+    ensures { result ≡ identifier_count (get_or rules rule Sorry) }
+{
+    Rule::of_byte(rule as u8).map_or(0, Rule::identifier_count)
 }
 
 // Refusal 9: the lowest of the steps that is bad.
@@ -240,15 +123,11 @@ pub fn first_bad_step(
     requires { HasSteps step_records.now steps }
     ensures { result ≡ lowest (bad_step names propositions step_records.now) steps }
 {
-    for k in 0..steps {
-        if bad_step(step_records, k, names, propositions) {
-            return Some(k);
-        }
-    }
-    None
+    lowest(steps, |k| bad_step(step_records, k, names, propositions))
 }
 
-// Where the tree of step k starts, if the step finds its premisses: back over each of them by its size.
+// Where the tree of step k starts, if the step finds its premisses: back over each of them by its size. It may stop at each of them,
+// so the walk is a loop and no fold.
 fn tree_start(step_records: &[u8], k: usize, sizes: &[u16]) -> Option<usize>
     requires { (HasStep step_records.now k) × (k ≤ length sizes.now)
         × SizeTable step_records.now k sizes.now }
@@ -265,7 +144,8 @@ fn tree_start(step_records: &[u8], k: usize, sizes: &[u16]) -> Option<usize>
     Some(start)
 }
 
-// Refusal 10, its first part: the lowest step that finds too few trees. The sizes are those of the steps' trees.
+// Refusal 10, its first part: the lowest step that finds too few trees. The sizes are those of the steps' trees. Each turn reads the
+// sizes that the turns before it wrote, so no search over a closure that only reads serves; nor does a struct that lends them.
 #[tactic(auto, unfolding(definitions::specs::Sheet::step_size, definitions::specs::Sheet::step_limit, crate::specs::Tables::TreeStart))]
 pub fn fill_sizes(step_records: &[u8], steps: usize, sizes: &mut [u16]) -> Option<usize>
     requires { (HasSteps step_records.now steps) × (steps ≤ step_limit) × (steps ≤ length sizes.old) }
@@ -289,7 +169,8 @@ pub fn leaves_trees(step_records: &[u8], steps: usize, sizes: &[u16]) -> bool
     (sizes[steps - 1] as usize) < steps
 }
 
-// The nesting of the tree of step k: one more than that of its deepest premiss.
+// The nesting of the tree of step k: one more than that of its deepest premiss. The place where the next premiss ends goes along
+// beside the deepest, so the walk is a loop.
 fn tree_height(step_records: &[u8], k: usize, sizes: &[u16], heights: &[u16]) -> u16
     requires has_step { (HasStep step_records.now k) × (k < step_limit) × (k ≤ length sizes.now)
         × (k ≤ length heights.now) }
@@ -310,7 +191,7 @@ fn tree_height(step_records: &[u8], k: usize, sizes: &[u16], heights: &[u16]) ->
 }
 
 // The lowest step whose tree nests deeper than a limit: with that of a sheet, this is refusal 11. The heights are those of the
-// steps before it.
+// steps before it, which its turns write and read in their order.
 #[tactic(auto, unfolding(definitions::specs::Sheet::step_size))]
 pub fn first_deep_tree(
     step_records: &[u8],
