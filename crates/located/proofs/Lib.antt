@@ -1,3 +1,4 @@
 pub mod AfterHeader
 pub mod Columns
 pub mod Lines
+pub mod Back
