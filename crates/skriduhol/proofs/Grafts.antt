@@ -3,8 +3,8 @@ use Prim.Native.Nat.{ℕ}
 use mathlib.Core.Path.{◌≡◌, refl, sym, ap, ◌∙◌}
 use mathlib.Core.List.{List}
 use native.Mathlib.Omega.{arith}
-use lib.ListN.{length}
-use Rattle.std.specs.Prelude.{Result, Ok, Err}
+use Rattle.std.specs.Prelude.{Result, Ok, Err, MatchResult, IsErrAnd}
+use Rattle.std.proofs.lemmas.Result.{err_from_is_err_and}
 use Rattle.definitions.specs.declared.Refusal.{Refusal}
 use Rattle.definitions.specs.declared.Located.{Located}
 use Rattle.definitions.specs.declared.Whose.{Whose}
@@ -17,6 +17,33 @@ use Rattle.grafting.specs.Answered.{merged_of, FillsBy}
 use Rattle.located.specs.AfterHeader.{AfterHeader}
 use Rattle.located.proofs.AfterHeader.{admission_after_header}
 use Rattle.skriduhol.specs.Grafts.{grafted_of, GraftsOf}
+
+-- Of two sheets' bytes:
+module _ (h d : List ℕ) where
+  -- a graft's answer with its refusal located
+  unfoldable pub back_by : Result ℕ (Whose × Refusal) → Result ℕ (Whose × Located)
+  back_by (Ok n) = Ok n
+  back_by (Err (w, r)) = Err (w, located_by h d w r)
+
+  -- it is what `map_err` makes of the answer by a closure that locates
+  pub mapped_by : (m : Result ℕ (Whose × Refusal)) {r : Result ℕ (Whose × Located)} {P : Whose × Refusal → Whose × Located → Type 0}
+      → MatchResult m (λ x. r ≡ Ok x) (λ x. IsErrAnd r (P x))
+      → ((x : Whose × Refusal) (l : Whose × Located) → P x l → l ≡ (x.0, located_by h d x.0 x.1))
+      → r ≡ back_by m
+  unfolding back_by
+  mapped_by (Ok x) cases says = cases
+  mapped_by (Err x) {r} cases says = let (l, is, p) = err_from_is_err_and r cases in is ∙ ap (λ y. Err y) (says x l p)
+
+  -- a length that is handed back is the one that was answered
+  pub length_told : (m : Result ℕ (Whose × Refusal)) {r : Result ℕ (Whose × Located)} {n : ℕ} → r ≡ back_by m → r ≡ Ok n → m ≡ Ok n
+  unfolding back_by
+  length_told (Ok x) e is = cc
+  length_told (Err x) e is = absurd (let z : ◌≡◌ {A = ℕ} 0 1 = cc in omega arith)
+
+  pub merged_back : (o : graft.Grafted) → back_by (merged_of o) ≡ grafted_of h d o
+  unfolding back_by merged_of grafted_of
+  merged_back (refused_by w r) = refl
+  merged_back (merged a) = refl
 
 -- whose refusal it is says which sheet's admission gave it
 module _ (h d : List ℕ) (k room : ℕ) where
@@ -62,22 +89,6 @@ module _ (h d : List ℕ) (k room : ℕ) where
           (λ s. admission_after_header d (by_donor (is ∙ ap (λ (v : Whose). refused_by v x) s))),
         )
 
-    pub refusal_back : {w : Whose} {x : Refusal} {l : Located} → m ≡ Err (w, x) → l ≡ located_by h d w x
-        → GraftsOf h d (graft_answer h d k room) before after (Err (w, l))
-    unfolding grafted_of
-    refusal_back e at = record { answered = rw (refused_by_lem e, at); memory = f.memory }
-
-    pub length_back : {n : ℕ} → m ≡ Ok n → GraftsOf h d (graft_answer h d k room) before after (Ok n)
-    unfolding grafted_of merged_of
-    length_back {n} e = record { answered = go (graft_answer h d k room) f.answered; memory = f.memory }
-      where
-        go : (o : graft.Grafted) → m ≡ merged_of o → Ok n ≡ grafted_of h d o
-        go (refused_by v y) g = absurd (let z : ◌≡◌ {A = ℕ} 0 1 = cc in omega arith)
-        go (merged a) g = cc
-
--- a length is handed back where the layer below answers it, and a refusal is none
-pub length_told : {m : Result ℕ (Whose × Refusal)} {l n : ℕ} → m ≡ Ok l → ◌≡◌ {A = Result ℕ (Whose × Located)} (Ok l) (Ok n) → m ≡ Ok n
-length_told e is = cc
-
-pub no_length : {w : Whose} {l : Located} {n : ℕ} → ◌≡◌ {A = Result ℕ (Whose × Located)} (Err (w, l)) (Ok n) → ⊥
-no_length e = let z : ◌≡◌ {A = ℕ} 0 1 = cc in omega arith
+    -- the graft in lent memory, with its refusal located
+    pub grafts_back : {r : Result ℕ (Whose × Located)} → r ≡ back_by h d m → GraftsOf h d (graft_answer h d k room) before after r
+    grafts_back e = record { answered = e ∙ ap (back_by h d) f.answered ∙ merged_back h d (graft_answer h d k room); memory = f.memory }

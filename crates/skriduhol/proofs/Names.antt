@@ -1,7 +1,7 @@
 -- The index of a sheet's names in lent memory, and what a search in slots answers.
 use Prim.Native.Nat.{ℕ, ◌≤◌}
 use mathlib.Core.Path.{◌≡◌, refl, sym, ap, ap₂, ◌∙◌}
-use Rattle.std.specs.Prelude.{Option, None, Some, Result, Err, Ok}
+use Rattle.std.specs.Prelude.{Option, Result, Err, Ok}
 use mathlib.Core.List.{List, [], append-nil}
 use native.Mathlib.Omega.{arith}
 use lib.ListN.{length, drop}

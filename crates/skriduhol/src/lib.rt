@@ -1,9 +1,11 @@
 // The public operations, for every sequence of bytes and every room: each equals a definition, and a refusal leaves the lent memory
 // as it was, save that the board's output is then the refusal's line.
+//
+// All memory is the caller's, the slots of an index among it, as the C interface lends it: an answer stands at its start, and its length
+// is handed back.
 #![tactic(auto)]
 
-ghost use Rattle.std.specs.Prelude.{◌≡◌, List, [], ℕ, length, take, Ok, Err};
-ghost use Rattle.definitions.specs.Outcome.{Outcome};
+ghost use Rattle.std.specs.Prelude.{◌≡◌, List, [], ℕ, length, take, Ok};
 ghost use Rattle.definitions.specs.declared.Style.TheVariants.{Plain, Strict};
 ghost use Rattle.definitions.specs.Answers.{is_in_room, sheet_text, version_of, text_answer, atoms_answer, datatypes_answer, label_count, comparison, board_output};
 ghost use Rattle.definitions.specs.Restate.{restated, restate_answer};
@@ -11,9 +13,7 @@ ghost use Rattle.definitions.specs.declared.Whose.TheVariants.{Host, Donor};
 ghost use Rattle.definitions.specs.Graft.{graft_answer, located_by};
 ghost use Rattle.definitions.specs.Exercises.{exercise_answer};
 ghost use Rattle.definitions.specs.NameIndex.{index_of, index_answer, find_answer};
-ghost use Rattle.output.specs.Written.{written_of, Fills};
-ghost use Rattle.sheet.proofs.Admitted.{AcceptedSheet};
-ghost use Rattle.sheet_term.specs.Held.{HeldTerm};
+ghost use Rattle.output.specs.Written.{Fills};
 ghost use Rattle.writer_laws.specs.Restates.{Restates};
 ghost use Rattle.graft_laws.specs.Merges.{Merges};
 ghost use Rattle.restating.specs.Step.{given_of};
@@ -24,7 +24,7 @@ ghost use Rattle.located.specs.AfterHeader.{AfterHeader};
 ghost use Rattle.skriduhol.specs.Accurate.{AccurateText, AccurateCount};
 ghost use Rattle.skriduhol.specs.Lists.{list_answer};
 ghost use Rattle.skriduhol.specs.Asked.{asked_of};
-ghost use Rattle.skriduhol.specs.Located.{filled_of, FillsOf, count_of, verdict_of};
+ghost use Rattle.skriduhol.specs.Located.{FillsOf, count_of, verdict_of};
 ghost use Rattle.skriduhol.specs.Lengths.{whole_text, whole_atoms, whole_datatypes, Measures, MeasuresGraft};
 ghost use Rattle.skriduhol.specs.Grafts.{GraftsOf};
 ghost use Rattle.skriduhol.specs.Board.{Prints};
@@ -36,34 +36,24 @@ use located::{locate, put_refusal};
 use name_index::SLOT_COUNT;
 use proof_term_lists::put_list;
 use restating::Given;
-use sheet::{Sheet, check_header, vocabulary};
+use sheet::{check_header, vocabulary};
 use sheet_term::{TERM_NUMBERS, sheet_term};
 use text::{sheet_text_length, text};
 
-// An answer in lent memory as it is handed back.
-fn locate_written(s: &[u8], written: Result<usize, Refusal>) -> Result<usize, Located>
-    requires { (r : Refusal) → written ≡ Err r → AfterHeader s.now r }
-    ensures { (o : Outcome (List ℕ)) → written ≡ written_of o → result ≡ filled_of s.now o }
+// The version of a number, or 21, which names no step of any sheet. `Version` is of a crate below, and so a `TryFrom` would stand
+// there, without the refusal.
+fn asked_version(number: usize) -> Result<Version, Located>
+    ensures { (s : List ℕ) → result ≡ asked_of s (version_of number) }
 {
-    match written {
-        Ok(length) => Ok(length),
-        Err(refusal) => Err(locate(s, refusal)),
+    match number {
+        1 => Ok(Version::First),
+        2 => Ok(Version::Second),
+        3 => Ok(Version::Third),
+        _ => Err(Located {
+            refusal: Refusal::at(21, 0),
+            column: 0,
+        }),
     }
-}
-
-fn asked_version(number: usize) -> Result<Version, Refusal>
-    ensures { result ≡ asked_of (version_of number) }
-{
-    if number == 1 {
-        return Ok(Version::First);
-    }
-    if number == 2 {
-        return Ok(Version::Second);
-    }
-    if number == 3 {
-        return Ok(Version::Third);
-    }
-    Err(Refusal::at(21, 0))
 }
 
 // The text of a version in a style: the sheet's term, and then its declarations and the term as printed.
@@ -80,14 +70,9 @@ pub fn handout(s: &[u8], version: usize, style: Style, out: &mut [u8]) -> Result
     ensures fills_of { FillsOf s.now (text_answer s.now version style (length out.old)) out.old out.new result }
     ensures accurate_text { AccurateText version style s.now out.old out.new result }
 {
-    let asked = asked_version(version);
-    match asked {
-        Err(refusal) => Err(locate(s, refusal)),
-        Ok(v) => {
-            let written = styled_text(s, v, style, out);
-            locate_written(s, written)
-        }
-    }
+    let asked = asked_version(version)?;
+    let written = styled_text(s, asked, style, out);
+    written.map_err(|refusal| locate(s, refusal))
 }
 
 // The plain text: that of version 1.
@@ -111,44 +96,25 @@ pub fn handout_length(s: &[u8], version: usize, style: Style) -> Result<usize, L
     ensures { Measures s.now (text_answer s.now version style)
         (whole_text s.now version style) result }
 {
-    let asked = asked_version(version);
-    match asked {
-        Err(refusal) => Err(locate(s, refusal)),
-        Ok(v) => {
-            let written = sheet_text_length(s, v, style);
-            locate_written(s, written)
-        }
-    }
+    let asked = asked_version(version)?;
+    let length = sheet_text_length(s, asked, style);
+    length.map_err(|refusal| locate(s, refusal))
 }
 
-// A list of the sheet's term in lent memory: measured by a dry run, and then written where it fits.
-fn list(
-    s: &[u8],
-    h: Sheet,
-    terms: &[u16],
-    n: usize,
-    which: TermList,
-    out: &mut [u16],
-) -> Result<usize, Refusal>
-    requires { AcceptedSheet s.now h × HeldTerm s.now terms.now n }
-    ensures { Fills (list_answer which s.now (length out.old)) out.old out.new result }
-{
-    let v = vocabulary(h);
-    let end = put_list(terms, n, which, s, v, out, 0, false);
-    if out.len() < end {
-        return Err(Refusal::at(16, 0));
-    }
-    put_list(terms, n, which, s, v, out, 0, true);
-    Ok(end)
-}
-
-// A list of the sheet: the sheet's term, and then what its labels add.
+// A list of the sheet: the sheet's term, and then what its labels add. It is measured by a dry run before it is written, since a
+// refusal leaves the memory as it was.
 fn label_list(s: &[u8], which: TermList, out: &mut [u16]) -> Result<usize, Refusal>
     ensures { Fills (list_answer which s.now (length out.old)) out.old out.new result }
 {
     let mut terms = [0u16; TERM_NUMBERS];
     let (h, n) = sheet_term(s, &mut terms)?;
-    list(s, h, &terms, n, which, out)
+    let v = vocabulary(h);
+    let end = put_list(&terms, n, which, s, v, out, 0, false);
+    if out.len() < end {
+        return Err(Refusal::at(16, 0));
+    }
+    put_list(&terms, n, which, s, v, out, 0, true);
+    Ok(end)
 }
 
 // The atom list, in every version the same: the number of a name and a parameter count for each atom.
@@ -156,21 +122,16 @@ pub fn atom_list(s: &[u8], out: &mut [u16]) -> Result<usize, Located>
     ensures { FillsOf s.now (atoms_answer s.now (length out.old)) out.old out.new result }
 {
     let written = label_list(s, TermList::Atoms, out);
-    locate_written(s, written)
+    written.map_err(|refusal| locate(s, refusal))
 }
 
 // The datatype list of a version of the handout, 1 to 3: the number of a name for each datatype.
 pub fn handout_datatypes(s: &[u8], version: usize, out: &mut [u16]) -> Result<usize, Located>
     ensures { FillsOf s.now (datatypes_answer s.now version (length out.old)) out.old out.new result }
 {
-    let asked = asked_version(version);
-    match asked {
-        Err(refusal) => Err(locate(s, refusal)),
-        Ok(v) => {
-            let written = label_list(s, TermList::Datatypes(v), out);
-            locate_written(s, written)
-        }
-    }
+    let asked = asked_version(version)?;
+    let written = label_list(s, TermList::Datatypes(asked), out);
+    written.map_err(|refusal| locate(s, refusal))
 }
 
 // The datatype list: that of version 1.
@@ -184,8 +145,8 @@ pub fn datatype_list(s: &[u8], out: &mut [u16]) -> Result<usize, Located>
 pub fn atom_list_length(s: &[u8]) -> Result<usize, Located>
     ensures { Measures s.now (atoms_answer s.now) (whole_atoms s.now) result }
 {
-    let written = list_length(s, TermList::Atoms);
-    locate_written(s, written)
+    let length = list_length(s, TermList::Atoms);
+    length.map_err(|refusal| locate(s, refusal))
 }
 
 // How many numbers the datatype list of a version of the handout has.
@@ -193,14 +154,9 @@ pub fn handout_datatypes_length(s: &[u8], version: usize) -> Result<usize, Locat
     ensures { Measures s.now (datatypes_answer s.now version)
         (whole_datatypes s.now version) result }
 {
-    let asked = asked_version(version);
-    match asked {
-        Err(refusal) => Err(locate(s, refusal)),
-        Ok(v) => {
-            let written = list_length(s, TermList::Datatypes(v));
-            locate_written(s, written)
-        }
-    }
+    let asked = asked_version(version)?;
+    let length = list_length(s, TermList::Datatypes(asked));
+    length.map_err(|refusal| locate(s, refusal))
 }
 
 // The label count.
@@ -208,21 +164,16 @@ pub fn label_count(s: &[u8]) -> Result<usize, Located>
     ensures value { result ≡ count_of s.now (label_count s.now) }
     ensures accurate_count { AccurateCount s.now result }
 {
-    let counted = sheet_term::label_count(s);
-    match counted {
-        Ok(labels) => Ok(labels),
-        Err(refusal) => Err(locate(s, refusal)),
-    }
+    let labels = sheet_term::label_count(s);
+    labels.map_err(|refusal| locate(s, refusal))
 }
 
 // The comparison of two steps' conclusions.
 pub fn compare(s: &[u8], i: usize, j: usize) -> Result<bool, Located>
     ensures { result ≡ verdict_of s.now (comparison s.now i j) }
 {
-    match comparison::compare(s, i, j) {
-        Ok(same) => Ok(same),
-        Err(refusal) => Err(locate(s, refusal)),
-    }
+    let same = comparison::compare(s, i, j);
+    same.map_err(|refusal| locate(s, refusal))
 }
 
 // The old sheet with one more step, AlphaEquivalent over the old root: its conclusion and its column are given. The slots are the
@@ -241,7 +192,7 @@ pub fn restate(
         → Restates s.now (given_of given) (take n out.new) }
 {
     let written = restating::restate(s, given, slots, out);
-    locate_written(s, written)
+    written.map_err(|refusal| locate(s, refusal))
 }
 
 // How long the sheet with one more step is.
@@ -249,20 +200,23 @@ pub fn restate_length(s: &[u8], given: Given) -> Result<usize, Located>
     ensures { Measures s.now (restate_answer s.now (given_of given))
         (restated s.now (given_of given)) result }
 {
-    let written = made_length::restate_length(s, given);
-    locate_written(s, written)
+    let length = made_length::restate_length(s, given);
+    length.map_err(|refusal| locate(s, refusal))
 }
 
-// A refusal of a graft, with the column of the step that it names in the sheet whose it is.
-fn locate_by(host: &[u8], donor: &[u8], whose: Whose, refusal: Refusal) -> Located
-    requires { (whose ≡ Host → AfterHeader host.now refusal) × (whose ≡ Donor → AfterHeader donor.now refusal) }
-    ensures { result ≡ located_by host.now donor.now whose refusal }
+// A refusal of a graft, with the column of the step that it names in the sheet whose it is. The match picks the sheet: only of the
+// one whose the refusal is, if any, is the header known to be right.
+fn locate_by(host: &[u8], donor: &[u8], refused: (Whose, Refusal)) -> (Whose, Located)
+    requires { (refused.0 ≡ Host → AfterHeader host.now refused.1) × (refused.0 ≡ Donor → AfterHeader donor.now refused.1) }
+    ensures { result ≡ (refused.0, located_by host.now donor.now refused.0 refused.1) }
 {
-    match whose {
+    let (whose, refusal) = refused;
+    let located = match whose {
         Whose::Neither => Located { refusal, column: 0 },
         Whose::Host => locate(host, refusal),
         Whose::Donor => locate(donor, refusal),
-    }
+    };
+    (whose, located)
 }
 
 // The donor's steps in place of step k of the host, a Sorry without premisses. The slots are the index of the merged sheet's names.
@@ -281,10 +235,8 @@ pub fn graft<'a>(
     ensures by_index { (n : ℕ) → result ≡ Ok n
         → Merges host.now donor.now k (take n out.new) }
 {
-    match grafting::graft(host, k, donor, slots, out) {
-        Ok(merged) => Ok(merged),
-        Err((whose, refusal)) => Err((whose, locate_by(host, donor, whose, refusal))),
-    }
+    let merged = grafting::graft(host, k, donor, slots, out);
+    merged.map_err(|refused| locate_by(host, donor, refused))
 }
 
 // How long the merged sheet is.
@@ -295,10 +247,8 @@ pub fn graft_length<'a>(
 ) -> Result<usize, (Whose, Located)>
     ensures { MeasuresGraft host.now donor.now k result }
 {
-    match made_length::graft_length(host, k, donor) {
-        Ok(length) => Ok(length),
-        Err((whose, refusal)) => Err((whose, locate_by(host, donor, whose, refusal))),
-    }
+    let length = made_length::graft_length(host, k, donor);
+    length.map_err(|refused| locate_by(host, donor, refused))
 }
 
 // The bytes that the board program lends.
@@ -322,10 +272,7 @@ pub fn exercise(names: &[u8], n: usize, ordinal: usize, out: &mut [u8]) -> Resul
         out.old out.new result }
 {
     let written = exercises::exercise(names, n, ordinal, out);
-    match written {
-        Ok(length) => Ok(length),
-        Err(refusal) => Err(Located { refusal, column: 0 }),
-    }
+    written.map_err(|refusal| Located { refusal, column: 0 })
 }
 
 // How long the code of an exercise is.
@@ -333,11 +280,8 @@ pub fn exercise_length(names: &[u8], n: usize, ordinal: usize) -> Result<usize, 
     ensures { Measures [] (exercise_answer names.now n ordinal)
         (whole_exercise names.now n ordinal) result }
 {
-    let written = made_length::exercise_length(names, n, ordinal);
-    match written {
-        Ok(length) => Ok(length),
-        Err(refusal) => Err(Located { refusal, column: 0 }),
-    }
+    let length = made_length::exercise_length(names, n, ordinal);
+    length.map_err(|refusal| Located { refusal, column: 0 })
 }
 
 // The index of the sheet's names.
@@ -345,13 +289,9 @@ pub fn name_index(s: &[u8], slots: &mut [u16; SLOT_COUNT]) -> Result<usize, Loca
     ensures { FillsOf s.now (index_answer s.now) slots.old slots.new result }
 {
     let checked = sheet::answer(s);
-    match checked {
-        Err(refusal) => Err(locate(s, refusal)),
-        Ok(h) => {
-            name_index::build(slots, s, vocabulary(h));
-            Ok(SLOT_COUNT)
-        }
-    }
+    let h = checked.map_err(|refusal| locate(s, refusal))?;
+    name_index::build(slots, s, vocabulary(h));
+    Ok(SLOT_COUNT)
 }
 
 // The number of a name by slots beside the sheet, if it has one: by its own index, the lowest of equal bytes. Of the sheet no more is
@@ -362,8 +302,6 @@ pub fn find_name(s: &[u8], slots: &[u16; SLOT_COUNT], name: &[u8]) -> Result<Opt
         → result ≡ searched_of s.now (plain_answer s.now name.now) }
 {
     let checked = check_header(s);
-    match checked {
-        Err(refusal) => Err(locate(s, refusal)),
-        Ok(h) => Ok(name_index::find(slots, s, vocabulary(h), name)),
-    }
+    let h = checked.map_err(|refusal| locate(s, refusal))?;
+    Ok(name_index::find(slots, s, vocabulary(h), name))
 }

@@ -1,25 +1,23 @@
--- 1, 2 and 3 are versions, and any other number is none.
-use borrow.Author.Rules.{rules}
+-- 1, 2 and 3 are versions, and any other number is none: 21 names no step.
+use Rattle.std.proofs.Common.{rules}
 use borrow.Author.Tests.{ne_eqb}
 use Rattle.definitions.specs.Outcome.{refuse}
-use Rattle.definitions.specs.Answers.{version_of}
+use Rattle.definitions.specs.Answers.{version_of, located, column_of, names_step}
 use Rattle.skriduhol.specs.Asked.{asked_of}
 use Rattle.skriduhol.proofs.asked_version.Goals as goal
 
-pub returns-then-number-eq1 : goal.returns-then-number-eq1
-unfolding asked_of version_of refuse
-returns-then-number-eq1 c = rw c.if-number-eq1.true
+pub returns-in-1 : goal.returns-in-1
+unfolding asked_of version_of
+returns-in-1 c = λ s. rw c.in-1.is
 
-pub returns-then-number-eq2 : goal.returns-then-number-eq2
-unfolding asked_of version_of refuse
-returns-then-number-eq2 c = rw c.if-number-eq2.true
+pub returns-in-2 : goal.returns-in-2
+unfolding asked_of version_of
+returns-in-2 c = λ s. rw c.in-2.is
 
-pub returns-then-number-eq3 : goal.returns-then-number-eq3
-unfolding asked_of version_of refuse
-returns-then-number-eq3 c = rw c.if-number-eq3.true
+pub returns-in-3 : goal.returns-in-3
+unfolding asked_of version_of
+returns-in-3 c = λ s. rw c.in-3.is
 
-pub returns : goal.returns
-unfolding asked_of version_of refuse
-returns c =
-    let number = c.args.number in
-    rw (c.at.ensures, ne_eqb number 1 c.if-number-eq1.false, ne_eqb number 2 c.if-number-eq2.false, ne_eqb number 3 c.if-number-eq3.false)
+pub returns-in_default : goal.returns-in_default
+unfolding asked_of version_of refuse located column_of names_step
+returns-in_default c = λ s. rw c.at.ensures (search (rules, ne_eqb))

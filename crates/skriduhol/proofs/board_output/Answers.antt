@@ -1,6 +1,5 @@
 -- The text as it was filled in, or the refusal's line.
 use native.Mathlib.Omega.{arith}
-use borrow.Author.Rules.{rules}
 use Rattle.definitions.specs.Answers.{board_room}
 use Rattle.skriduhol.proofs.Board.{prints_text, prints_line}
 use Rattle.skriduhol.proofs.board_output.Goals as goal

@@ -1,5 +1,4 @@
 -- The datatype list of version 1.
-use borrow.Author.Rules.{rules}
 use Rattle.skriduhol.proofs.datatype_list.Goals as goal
 
 pub returns : goal.returns

@@ -1,10 +1,12 @@
 -- A length is handed back as it is, a refusal without a column.
-use borrow.Author.Rules.{rules}
-use Rattle.skriduhol.proofs.Located.{exercise_accepted, exercise_refused}
+use Rattle.std.proofs.Common.{rules}
+use Rattle.located.proofs.Back.{mapped}
+use Rattle.skriduhol.proofs.Located.{written_refused, fills_back, exercise_located}
 use Rattle.skriduhol.proofs.exercise.Goals as goal
 
-pub returns-in-Ok : goal.returns-in-Ok
-returns-in-Ok c = exercise_accepted _ _ _ _ c.exercise-written.ensures c.in-Ok.is
-
-pub returns-in-Err : goal.returns-in-Err
-returns-in-Err c = exercise_refused _ _ _ _ c.exercise-written.ensures c.in-Err.is
+pub returns : goal.returns
+returns c =
+    let fills = c.exercise-written.ensures in
+    let located = mapped _ c.exercise-written.result c.map_err.ensures.cases
+    (λ x l e p. exercise_located _ _ _ _ (written_refused fills e) (search rules)) in
+    fills_back _ fills located

@@ -1,24 +1,20 @@
 -- The length of the text of the version that is asked for, or 21.
-use borrow.Author.Rules.{rules}
+use Rattle.std.proofs.Common.{rules}
 use Rattle.definitions.specs.Answers.{text_answer}
 use Rattle.skriduhol.specs.Lengths.{whole_text}
-use Rattle.skriduhol.proofs.Handouts.{locatable}
+use Rattle.located.proofs.Back.{mapped}
 use Rattle.skriduhol.proofs.Lengths.{measured, unmeasured, text_locatable}
 use Rattle.skriduhol.proofs.handout_length.Goals as goal
 
-pub returns-in-Err : goal.returns-in-Err
+pub returns-in_err-asked : goal.returns-in_err-asked
 unfolding text_answer whole_text
-returns-in-Err c =
-    unmeasured _ c.asked_version-asked.ensures _ _ c.in-Err.is c.locate.ensures
+returns-in_err-asked c = unmeasured _ _ (c.asked_version.ensures _) _ c.in_err-asked.was (search rules)
 
-pub returns-in-Ok : goal.returns-in-Ok
+pub map_err-requires : goal.map_err-requires
+map_err-requires c = λ r e. let after = text_locatable _ _ _ c.sheet_text_length-length.ensures e in search rules
+
+pub returns : goal.returns
 unfolding text_answer whole_text
-returns-in-Ok c =
-    measured _ c.asked_version-asked.ensures _ _ c.in-Ok.is
-    c.sheet_text_length-written.ensures c.locate_written.ensures
-
-pub locate-requires : goal.locate-requires
-locate-requires c = locatable _ c.asked_version-asked.ensures _ c.in-Err.is
-
-pub locate_written-requires : goal.locate_written-requires
-locate_written-requires c = λ r e. text_locatable _ _ _ c.sheet_text_length-written.ensures e
+returns c =
+    let located = mapped _ c.sheet_text_length-length.result c.map_err.ensures.cases (λ x l e p. search rules) in
+    measured _ _ (c.asked_version.ensures _) _ c.in_ok-asked.was c.sheet_text_length-length.ensures located

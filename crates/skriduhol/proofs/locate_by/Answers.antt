@@ -1,22 +1,36 @@
 -- Whose refusal it is says which sheet has the column.
-use borrow.Author.Rules.{rules}
+use mathlib.Core.Path.{◌≡◌, ap, ◌∙◌}
+use mathlib.Core.List.{List}
+use Prim.Native.Nat.{ℕ}
+use Rattle.definitions.specs.declared.Refusal.{Refusal}
+use Rattle.definitions.specs.declared.Located.{Located}
+use Rattle.definitions.specs.declared.Whose.{Whose}
+use Rattle.definitions.specs.declared.Whose.TheVariants.{Host, Donor}
+use Rattle.definitions.specs.Answers.{located}
 use Rattle.definitions.specs.Graft.{located_by}
 use Rattle.skriduhol.proofs.locate_by.Goals as goal
 
-pub locate-requires : goal.locate-requires
-locate-requires c = c.requires.0 c.in-Host.is
+module _ (h d : List ℕ) (r : Refusal) {w : Whose} where
+  of_host : w ≡ Host → located h r ≡ located_by h d w r
+  unfolding located_by
+  of_host e = rw e
 
-pub locate-requires-in-Donor : goal.locate-requires-in-Donor
-locate-requires-in-Donor c = c.requires.1 c.in-Donor.is
+  of_donor : w ≡ Donor → located d r ≡ located_by h d w r
+  unfolding located_by
+  of_donor e = rw e
+
+pub locate-located-requires : goal.locate-located-requires
+locate-located-requires c = c.requires.0 c.in-Host.is
+
+pub locate-located-requires-in-Donor : goal.locate-located-requires-in-Donor
+locate-located-requires-in-Donor c = c.requires.1 c.in-Donor.is
 
 pub returns-in-Neither : goal.returns-in-Neither
 unfolding located_by
 returns-in-Neither c = rw c.in-Neither.is
 
 pub returns-in-Host : goal.returns-in-Host
-unfolding located_by
-returns-in-Host c = rw c.in-Host.is c.locate.ensures
+returns-in-Host c = ap (λ (l : Located). (c.args.refused.0, l)) (c.locate-located.ensures ∙ of_host _ _ _ c.in-Host.is)
 
 pub returns-in-Donor : goal.returns-in-Donor
-unfolding located_by
-returns-in-Donor c = rw c.in-Donor.is c.locate-in-Donor.ensures
+returns-in-Donor c = ap (λ (l : Located). (c.args.refused.0, l)) (c.locate-located-in-Donor.ensures ∙ of_donor _ _ _ c.in-Donor.is)

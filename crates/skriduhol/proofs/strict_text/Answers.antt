@@ -1,5 +1,4 @@
 -- The handout of version 1 in that style.
-use borrow.Author.Rules.{rules}
 use Rattle.skriduhol.proofs.strict_text.Goals as goal
 
 pub returns : goal.returns
