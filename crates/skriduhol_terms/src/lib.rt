@@ -2,12 +2,8 @@
 #![tactic(auto)]
 
 ghost use Rattle.std.specs.Prelude.{◌≡◌};
-ghost use Rattle.definitions.specs.Outcome.{Outcome};
-ghost use Rattle.definitions.specs.Name.{Name};
-ghost use Rattle.definitions.specs.Term.{ProofTerm};
 ghost use Rattle.definitions.specs.CallerNames.{names_in};
 ghost use Rattle.definitions.specs.TermReader.{read_answer};
-ghost use Rattle.term_reader.specs.Answered.{answer_of};
 ghost use Rattle.skriduhol_terms.specs.Judged.{JudgesOf};
 ghost use Rattle.skriduhol_terms.specs.Reading.{reading_of, ReadsOf, RestoresOf, MeansTerm};
 
@@ -22,31 +18,27 @@ pub fn judge(s: &[u8], hypotheses: &[u16], k: usize) -> Result<Option<usize>, Lo
     ensures { JudgesOf s.now hypotheses.now k result }
 {
     let judged = judgement::judge(s, hypotheses, k);
-    match judged {
-        Ok(node) => Ok(node),
-        Err(refusal) => Err(locate(s, refusal)),
-    }
+    judged.map_err(|refusal| locate(s, refusal))
 }
 
-// What the reader answers as it is handed back.
-fn hand_back(read: Result<TermSize, Refusal>) -> Result<TermSize, Located>
-    ensures { (o : Outcome (ProofTerm Name)) → read ≡ answer_of o → result ≡ reading_of o }
+// A refusal of a text, which names no step of a sheet.
+fn without_column(refusal: Refusal) -> Located
+    ensures { result ≡ record { refusal = refusal; column = 0 } }
 {
-    match read {
-        Ok(size) => Ok(size),
-        Err(refusal) => Err(Located { refusal, column: 0 }),
-    }
+    Located { refusal, column: 0 }
 }
 
 // How large the term is whose strict text these bytes are: what `read_term` answers given room, and never 16.
 pub fn read_term_length(text: &[u8], types: &[u8]) -> Result<TermSize, Located>
     ensures { result ≡ reading_of (read_answer (names_in types.now) text.now) }
 {
-    hand_back(term_reader::term_size(text, types))
+    let read = term_reader::term_size(text, types);
+    read.map_err(without_column)
 }
 
 // The term whose strict text these bytes are, without declarations; the datatypes are listed with newlines between their names. Its
-// records, the pairs of its names, which mark them in the text, and its labels' code stand at the start of the lent memory.
+// records, the pairs of its names, which mark them in the text, and its labels' code stand at the start of the lent memory: three
+// slices, as the caller lends them, since the lengths are asked of `read_term_length` and no memory of the library's own is handed out.
 pub fn read_term(
     text: &[u8],
     types: &[u8],
@@ -63,5 +55,6 @@ pub fn read_term(
     ensures means_term { MeansTerm types.now text.now
         records.new names.new code.new result }
 {
-    hand_back(term_reader::read_term(text, types, records, names, code))
+    let read = term_reader::read_term(text, types, records, names, code);
+    read.map_err(without_column)
 }

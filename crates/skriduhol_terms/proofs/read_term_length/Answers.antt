@@ -1,6 +1,10 @@
 -- What the reader answers given room is handed back.
-use borrow.Author.Rules.{rules}
+use mathlib.Core.Path.{ap, ◌∙◌}
+use Rattle.std.proofs.Common.{rules}
+use Rattle.skriduhol_terms.proofs.TermsRead.{nowhere, mapped, reading_back}
 use Rattle.skriduhol_terms.proofs.read_term_length.Goals as goal
 
 pub returns : goal.returns
-returns c = c.hand_back.ensures _ c.term_size.ensures
+returns c =
+    let back = mapped c.term_size-read.result c.map_err.ensures.cases (λ x l p. search rules) in
+    back ∙ ap nowhere c.term_size-read.ensures ∙ reading_back _
