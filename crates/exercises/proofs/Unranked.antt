@@ -2,7 +2,7 @@
 use Prim.Native.Nat.{ℕ, zero, suc, ◌+◌, ◌*◌, ◌-◌, ◌/◌, ◌%◌, ◌≤◌, ◌<◌}
 use mathlib.Core.Path.{◌≡◌, refl, sym, ◌∙◌, ap}
 use mathlib.Core.Logic.{by_cases}
-use mathlib.Core.List.{List, ◌∷◌, ◌++◌}
+use mathlib.Core.List.{List, [], ◌∷◌, ◌++◌}
 use native.Mathlib.Omega.{arith}
 use native.Mathlib.Decide.{dec_le}
 use native.Mathlib.Nat.{div-add-mod', div-lt_iff_lt-mul, mod-lt, mul-le-mul}
@@ -10,7 +10,6 @@ use lib.ListN.{length, get_or, length-append}
 use Rattle.definitions.specs.Prop.{Prop, True, Binary, Connective, connective_byte}
 use Rattle.definitions.specs.Code.{encode}
 use Rattle.definitions.specs.Exercises.{of_root, of_roots, sizes, of_size, exercises}
-use Rattle.definitions.proofs.Arms.{Missed}
 use Rattle.exercise_laws.specs.Counts.{before, each}
 use Rattle.exercise_laws.proofs.Counts as counts
 use Rattle.exercise_laws.proofs.Ordinals as at
@@ -79,11 +78,12 @@ module _ (names : ℕ) where
         rw d.together (rw (left-list, right-list, same_before l (omega (arith, d.few))) at here)
 
 -- any root but the first two
-pub last_root : (q : ℕ) → Missed 2 q → 4 ≡ connective_byte (root_of q)
+pub root_byte : (q : ℕ) → q < 3 → get_or (2 ∷ 3 ∷ 4 ∷ []) q 0 ≡ connective_byte (root_of q)
 unfolding connective_byte root_of
-last_root zero h = absurd (h.0.1 refl)
-last_root (suc zero) h = absurd (h.1 refl)
-last_root (suc (suc q)) h = refl
+root_byte zero h = refl
+root_byte (suc zero) h = refl
+root_byte (suc (suc zero)) h = refl
+root_byte (suc (suc (suc q))) h = absurd (omega arith)
 
 -- what stands at an index among those of k + 1 connectives, by its root
 by_root : (f : ℕ → List (Prop ℕ)) (k q j : ℕ) → q < 3 → j < each (counts.lengths f) k → get_or (of_roots f k) (q * each (counts.lengths f) k + j) True ≡ get_or (of_root (root_of q) f k k) j True

@@ -4,40 +4,37 @@
 mod names;
 
 ghost use Rattle.std.specs.Prelude.{◌≡◌, ◌<◌, length};
-ghost use Rattle.definitions.specs.Prop.{connective_byte};
 ghost use Rattle.definitions.specs.Exercises.{exercise_answer};
-ghost use Rattle.output.specs.Wrote.{Wrote};
 ghost use Rattle.output.specs.Written.{Fills};
 ghost use Rattle.exercise_laws.specs.Counts.{each};
-ghost use Rattle.exercises.specs.Sizes.{Few, size, CountOf, Located, Divided, root_of, code_at};
+ghost use Rattle.exercises.specs.Sizes.{Few, size, CountOf, Located, Divided, code_at};
 
 use definitions::Refusal;
 use names::count_names;
-use output::{put, put_all};
+use output::{Counter, Sink, Writer};
 use prefix_code::{AND, ATOM, IMPL, OR};
 
 // At most so many connectives.
 const CONNECTIVE_LIMIT: usize = 3;
 
 // How many there are of 0 to 3 connectives, over no name, one, two and three.
-const COUNTS: [usize; 16] = [
-    // no name
-    2, 12, 144, 2160,
-    // one
-    3, 27, 486, 10935,
-    // two
-    4, 48, 1152, 34560,
-    // three
-    5, 75, 2250, 84375,
+const COUNTS: [[usize; 4]; 4] = [
+    [2, 12, 144, 2160],
+    [3, 27, 486, 10935],
+    [4, 48, 1152, 34560],
+    [5, 75, 2250, 84375],
 ];
 
-// How many propositions have exactly k connectives.
+// The bytes of the roots: ∧ before ∨ before ⊃.
+const ROOTS: [u8; 3] = [AND, OR, IMPL];
+
+// How many propositions have exactly k connectives. That names and connectives are few is asked as a fact, since the connectives are
+// others at each call: a struct of both numbers would be made anew for each.
 fn count(names: usize, k: usize) -> usize
     requires { Few names k }
     ensures { CountOf names k result }
 {
-    let counts = COUNTS;
-    counts[4 * names + k]
+    COUNTS[names][k]
 }
 
 // The number of connectives of the proposition at an ordinal, and its index among those of as many.
@@ -76,63 +73,48 @@ fn divide(names: usize, k: usize, i: usize) -> Parts
     requires { Few names k × (i < each (size names) k) }
     ensures { Divided names k i result }
 {
-    let mut size = 0;
     let mut rest = i;
-    loop {
+    for size in 0..=k {
         let rights = count(names, k - size);
         let block = count(names, size) * rights;
         if rest < block {
-            let quotient = rest / rights;
-            let remainder = rest % rights;
             return Parts {
                 size,
-                left: quotient,
-                right: remainder,
+                left: rest / rights,
+                right: rest % rights,
             };
         }
         rest -= block;
-        size += 1;
     }
+    unreachable!()
 }
 
 // The code of a leaf: ⊤, ⊥, then the names.
-fn put_leaf(out: &mut [u8], to: usize, names: usize, i: usize, write: bool) -> usize
+fn put_leaf<S: Sink<u8>>(sink: &mut S, names: usize, i: usize)
     requires { Few names 0 × (i < size names 0) }
-    ensures { Wrote (code_at names 0 i) write out.old to out.new result }
+    ensures { S.puts sink.old (code_at names 0 i) sink.new }
 {
     if i < 2 {
-        return put(out, to, i as u8, write);
-    }
-    let code = [ATOM, (i - 2) as u8, 0, 0];
-    put_all(out, to, &code, write)
-}
-
-// The byte of a root: ∧ before ∨ before ⊃.
-fn root_byte(root: usize) -> u8
-    ensures { result ≡ connective_byte (root_of root) }
-{
-    match root {
-        0 => AND,
-        1 => OR,
-        _ => IMPL,
+        sink.put(i as u8);
+    } else {
+        sink.put_all(&[ATOM, (i - 2) as u8, 0, 0]);
     }
 }
 
 // The code of the proposition at an index among those of k connectives.
-fn put_sized(out: &mut [u8], to: usize, names: usize, k: usize, i: usize, write: bool) -> usize
+fn put_sized<S: Sink<u8>>(sink: &mut S, names: usize, k: usize, i: usize)
     requires { Few names k × (i < size names k) }
-    ensures { Wrote (code_at names k i) write out.old to out.new result }
+    ensures { S.puts sink.old (code_at names k i) sink.new }
 {
     if k == 0 {
-        return put_leaf(out, to, names, i, write);
+        put_leaf(sink, names, i);
+        return;
     }
     let each = count(names, k) / 3;
-    let root = i / each;
     let parts = divide(names, k - 1, i % each);
-    let size = parts.size;
-    let start = put(out, to, root_byte(root), write);
-    let middle = put_sized(out, start, names, size, parts.left, write);
-    put_sized(out, middle, names, k - 1 - size, parts.right, write)
+    sink.put(ROOTS[i / each]);
+    put_sized(sink, names, parts.size, parts.left);
+    put_sized(sink, names, k - 1 - parts.size, parts.right);
 }
 
 // The code of the proposition at an ordinal among all of at most n connectives over names that are divided by newlines:
@@ -146,10 +128,11 @@ pub fn exercise(text: &[u8], n: usize, ordinal: usize, out: &mut [u8]) -> Result
         return Err(Refusal::at(29, 0));
     }
     let place = locate(names, n, ordinal).ok_or(Refusal::at(30, 0))?;
-    let end = put_sized(out, 0, names, place.size, place.index, false);
-    if out.len() < end {
+    let mut length = Counter { count: 0 };
+    put_sized(&mut length, names, place.size, place.index);
+    if out.len() < length.count {
         return Err(Refusal::at(16, 0));
     }
-    put_sized(out, 0, names, place.size, place.index, true);
-    Ok(end)
+    put_sized(&mut Writer { out, to: 0 }, names, place.size, place.index);
+    Ok(length.count)
 }

@@ -1,68 +1,62 @@
 -- The root's byte, and then the code of each part, which has fewer connectives.
 use Prim.Native.Nat.{ℕ, ◌/◌}
 use native.Mathlib.Omega.{arith}
-use Rattle.output.proofs.Writing as writing
-use Rattle.exercises.proofs.Unranked.{fewer, Root, root_of_lem, each_some, rest_below, coded}
+use Rattle.exercises.proofs.Unranked.{fewer, Root, root_of_lem, each_some, root_below, root_byte, rest_below, coded}
 use Rattle.exercises.proofs.+put_sized.Goals as goal
 use Rattle.exercises.proofs.+put_sized.Goals.{After-count-each}
 
-root : (t : ℕ) → (c : After-count-each t) →
+root : (g : _) (t : ℕ) → (c : After-count-each g t) →
     let args = c.args in
     Root args.names args.k args.i (c.count-each.result / 3)
-root t c = root_of_lem c.if-k-eq0.false c.requires.1 c.count-each.ensures
+root g t c = root_of_lem c.if-k-eq0.false c.requires.1 c.count-each.ensures
 
 pub put_leaf-requires : goal.put_leaf-requires
-put_leaf-requires t c = rw c.if-k-eq0.true at c.requires
-
-pub shape_of-out-then-k-eq0 : goal.shape_of-out-then-k-eq0
-shape_of-out-then-k-eq0 t c = writing.same_length c.put_leaf.ensures
+put_leaf-requires g t c = rw c.if-k-eq0.true at c.requires
 
 pub returns-then-k-eq0 : goal.returns-then-k-eq0
-returns-then-k-eq0 t c = rw c.if-k-eq0.true c.put_leaf.ensures
+returns-then-k-eq0 g t c = rw c.if-k-eq0.true c.put_leaf.ensures
 
 pub count-each-requires : goal.count-each-requires
-count-each-requires t c = c.requires.0
+count-each-requires g t c = c.requires.0
 
-pub nonzero_div-root : goal.nonzero_div-root
-nonzero_div-root t c = each_some (root t c)
+pub nonzero_div-i : goal.nonzero_div-i
+nonzero_div-i g t c = each_some (root g t (goal.at.nonzero_div-i g t c).After-count-each)
 
 pub overflow_sub-k : goal.overflow_sub-k
-overflow_sub-k t c = omega (arith, (root t c).part)
+overflow_sub-k g t c = omega (arith, (root g t c).part)
 
 pub nonzero_rem-i : goal.nonzero_rem-i
-nonzero_rem-i t c = each_some (root t c)
+nonzero_rem-i g t c = each_some (root g t c)
 
 pub divide-parts-requires : goal.divide-parts-requires
-divide-parts-requires t c =
+divide-parts-requires g t c =
     let few = c.requires.0 in
-    (fewer few (omega arith), rest_below (root t c))
-
-pub root_byte-requires : goal.root_byte-requires
-root_byte-requires t c = tt
-
-pub put_sized-middle-requires : goal.put_sized-middle-requires
-put_sized-middle-requires t c =
-    let few = c.requires.0 in
-    let found = c.divide-parts.ensures in
-    (omega (arith, c.decreases, found.few, (root t (goal.at.put_sized-middle-requires t c).After-count-each).part), (fewer few (omega (arith, found.few)), found.left_below))
-
-pub overflow_sub-k-2 : goal.overflow_sub-k-2
-overflow_sub-k-2 t c = omega (arith, (root t (goal.at.overflow_sub-k-2 t c).After-count-each).part)
-
-pub overflow_sub-k-3 : goal.overflow_sub-k-3
-overflow_sub-k-3 t c = c.divide-parts.ensures.few
+    (fewer few (omega arith), rest_below (root g t c))
 
 pub put_sized-requires : goal.put_sized-requires
-put_sized-requires t c =
+put_sized-requires g t c =
     let few = c.requires.0 in
     let found = c.divide-parts.ensures in
-    (omega (arith, c.decreases, found.few, (root t (goal.at.put_sized-requires t c).After-count-each).part), (fewer few (omega arith), found.right_below))
+    λ κs lives. (omega (arith, c.decreases, found.few, (root g t (goal.at.put_sized-requires g t c).After-count-each).part), (lives, (fewer few (omega (arith, found.few)), found.left_below)))
+
+pub overflow_sub-k-2 : goal.overflow_sub-k-2
+overflow_sub-k-2 g t c = omega (arith, (root g t (goal.at.overflow_sub-k-2 g t c).After-count-each).part)
+
+pub overflow_sub-k-3 : goal.overflow_sub-k-3
+overflow_sub-k-3 g t c = c.divide-parts.ensures.few
+
+pub put_sized-requires-2 : goal.put_sized-requires-2
+put_sized-requires-2 g t c =
+    let few = c.requires.0 in
+    let found = c.divide-parts.ensures in
+    λ κs lives. (omega (arith, c.decreases, found.few, (root g t (goal.at.put_sized-requires-2 g t c).After-count-each).part), (lives, (fewer few (omega arith), found.right_below)))
+
+pub bounds-i : goal.bounds-i
+bounds-i g t c = root_below (root g t (goal.at.bounds-i g t c).After-count-each)
 
 pub returns : goal.returns
-returns t c =
-    rw (coded (root t (goal.at.returns t c).After-count-each) c.divide-parts.result c.divide-parts.ensures, ← c.root_byte.ensures)
-    (writing.then c.put-start.ensures
-    (writing.then c.put_sized-middle.ensures c.put_sized.ensures))
-
-pub shape_of-out : goal.shape_of-out
-shape_of-out t c = writing.same_length (returns t c)
+returns g t c =
+    let laws = g.met.S.Sink.laws in
+    let root = root g t (goal.at.returns g t c).After-count-each in
+    rw (coded root c.divide-parts.result c.divide-parts.ensures, ← (root_byte _ (root_below root)))
+    (laws.then c.put.ensures (laws.then c.put_sized.ensures c.put_sized-2.ensures))

@@ -2,4 +2,4 @@
 use Rattle.exercises.proofs.+put_sized.Given as goal
 
 abbrev pub decreases-put_sized : goal.decreases-put_sized
-decreases-put_sized l = l.k
+decreases-put_sized g l = l.k

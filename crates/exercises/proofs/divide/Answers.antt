@@ -3,37 +3,41 @@ use native.Mathlib.Omega.{arith}
 use native.Mathlib.Numerals.{add-one}
 use Rattle.exercises.proofs.Unranked.{fewer, first_block, product_bounded, this_block, next_block}
 use Rattle.exercises.proofs.divide.Goals as goal
+use Rattle.exercises.proofs.divide.Goals.{else-loop-size-test, then-loop-size-test+else-rest-block+else-size-k}
 
-pub loop-rest-init : goal.loop-rest-init
-loop-rest-init c = first_block _ _ _
+pub loop-size-init : goal.loop-size-init
+loop-size-init c = first_block _ _ _
 
 pub overflow_sub-k : goal.overflow_sub-k
-overflow_sub-k c = omega (arith, c.loop-rest.invariant.few)
+overflow_sub-k c = omega (arith, c.loop-size.invariant.few)
 
 pub count-rights-requires : goal.count-rights-requires
 count-rights-requires c = fewer c.requires.0 (omega arith)
 
 pub count-requires : goal.count-requires
-count-requires c = fewer c.requires.0 c.loop-rest.invariant.few
+count-requires c = fewer c.requires.0 c.loop-size.invariant.few
 
 pub overflow_mul-block : goal.overflow_mul-block
-overflow_mul-block c = let p = product_bounded c.loop-rest.invariant c.count.ensures c.count-rights.ensures in omega (arith, p)
+overflow_mul-block c = let p = product_bounded c.loop-size.invariant c.count.ensures c.count-rights.ensures in omega (arith, p)
 
-pub nonzero_div-quotient : goal.nonzero_div-quotient
-nonzero_div-quotient c = omega (arith, c.count-rights.ensures.some)
+pub nonzero_div-result : goal.nonzero_div-result
+nonzero_div-result c = omega (arith, c.count-rights.ensures.some)
 
-pub nonzero_rem-remainder : goal.nonzero_rem-remainder
-nonzero_rem-remainder c = omega (arith, c.count-rights.ensures.some)
+pub nonzero_rem-result : goal.nonzero_rem-result
+nonzero_rem-result c = omega (arith, c.count-rights.ensures.some)
 
 pub returns-then-rest-block : goal.returns-then-rest-block
-returns-then-rest-block c = this_block c.loop-rest.invariant c.count.ensures c.count-rights.ensures c.if-rest-block.true
+returns-then-rest-block c = this_block c.loop-size.invariant c.count.ensures c.count-rights.ensures c.if-rest-block.true
 
-pub overflow_add-size : goal.overflow_add-size
-overflow_add-size c = omega (arith, c.loop-rest.invariant.few, c.requires.0.connectives_few)
+pub loop-size-preserved : goal.loop-size-preserved
+loop-size-preserved c =
+    rw add-one (next_block c.loop-size.invariant c.count.ensures c.count-rights.ensures c.requires.1 c.if-rest-block.false)
 
-pub loop-rest-preserved : goal.loop-rest-preserved
-loop-rest-preserved c =
-    rw add-one (next_block c.loop-rest.invariant c.count.ensures c.count-rights.ensures c.requires.1 c.if-rest-block.false)
-
-pub loop-rest-smaller : goal.loop-rest-smaller
-loop-rest-smaller c = let again = loop-rest-preserved c in omega (arith, again.few)
+pub unreachable-requires : goal.unreachable-requires
+unreachable-requires c =
+    elim c.loop-size-test.branch [
+      | else-loop-size-test w ↦ omega (arith, c.loop-size.invariant.few)
+      | then-loop-size-test+else-rest-block+else-size-k w ↦
+          let past = next_block c.loop-size.invariant w.count.ensures w.count-rights.ensures c.requires.1 w.if-rest-block.false in
+          omega (arith, past.few)
+    ]

@@ -1,6 +1,6 @@
 -- The names are counted, the ordinal is located, the code is measured, and then it is written.
 use Prim.Native.Nat.{ℕ}
-use mathlib.Core.Path.{◌≡◌}
+use mathlib.Core.Path.{◌≡◌, refl}
 use native.Mathlib.Omega.{arith}
 use borrow.Author.Rules.{rules}
 use Rattle.std.specs.Prelude.{Some, None, Err}
@@ -8,6 +8,7 @@ use Rattle.definitions.specs.Outcome.{accepted}
 use Rattle.definitions.specs.Answers.{is_in_room}
 use Rattle.definitions.specs.Exercises.{exercise_answer}
 use Rattle.output.proofs.Filling as filling
+use Rattle.output.proofs.Writing.{counted_dry}
 use Rattle.exercises.specs.Sizes.{Few, code_at, LocatedAt}
 use Rattle.exercises.proofs.Answering.{Named, named, bad_names_lem, large, past, answered, refuses}
 use Rattle.exercises.proofs.exercise.Goals as goal
@@ -54,18 +55,18 @@ returns-in_err-place c =
     rw refusal
     (refuses (past _ _ _ _ (the_names (goal.at.returns-in_err-place c).In_ok-names) c.if-n-gt-CONNECTIVE_LIMIT.false (rw no_place at c.locate.ensures)) _)
 
-pub put_sized-end-requires : goal.put_sized-end-requires
-put_sized-end-requires c = (few (goal.at.put_sized-end-requires c).In_ok-place, (located (goal.at.put_sized-end-requires c).In_ok-place).below)
-
-pub returns-then-out-end : goal.returns-then-out-end
-returns-then-out-end c =
-    rw (the_answer (goal.at.returns-then-out-end c).In_ok-place _, c.at-then-out-end.ensures)
-    (filling.too_long c.put_sized-end.ensures (omega arith))
-
 pub put_sized-requires : goal.put_sized-requires
 put_sized-requires c = (few (goal.at.put_sized-requires c).In_ok-place, (located (goal.at.put_sized-requires c).In_ok-place).below)
+
+pub returns-then-out-length : goal.returns-then-out-length
+returns-then-out-length c =
+    rw (the_answer (goal.at.returns-then-out-length c).In_ok-place _, c.at-then-out-length.ensures)
+    (filling.too_long (counted_dry refl (search rules) c.put_sized.ensures) (omega arith))
+
+pub put_sized-requires-2 : goal.put_sized-requires-2
+put_sized-requires-2 c = (few (goal.at.put_sized-requires-2 c).In_ok-place, (located (goal.at.put_sized-requires-2 c).In_ok-place).below)
 
 pub returns : goal.returns
 returns c =
     rw (the_answer (goal.at.returns c).In_ok-place _)
-    (filling.fills c.put_sized-end.ensures (omega arith) c.put_sized.ensures)
+    (filling.fills (counted_dry refl (search rules) c.put_sized.ensures) {next = c.put_sized-2.new.sink.to} (omega arith) (search rules))

@@ -15,7 +15,7 @@ two_read : (c : Else-second-text) → Two c.args.text.now c.name_end-first.resul
 two_read c =
     second_read (one_read (goal.at.Else-second-text c).Else-first-text) c.name_end-second.ensures
     (told c.well_formed-3.ensures c.if-not-well_formed-2.false)
-    (told c.same_piece.ensures c.if-same_piece.false)
+    (told c.same_name.ensures c.if-same_name.false)
     (omega (arith, c.name_end-second.ensures.bounds.inside, c.if-second-text.false))
 
 pub returns-then-text-eq0 : goal.returns-then-text-eq0
@@ -31,15 +31,15 @@ returns-then-first-text c =
 pub returns-then-not-well_formed-2 : goal.returns-then-not-well_formed-2
 returns-then-not-well_formed-2 c = bad_second (one_read (goal.at.returns-then-not-well_formed-2 c).Else-first-text) c.name_end-second.ensures (told c.well_formed-3.ensures c.if-not-well_formed-2.true)
 
-pub returns-then-same_piece : goal.returns-then-same_piece
-returns-then-same_piece c =
-    same_two (one_read (goal.at.returns-then-same_piece c).Else-first-text) c.name_end-second.ensures (told c.same_piece.ensures c.if-same_piece.true)
+pub returns-then-same_name : goal.returns-then-same_name
+returns-then-same_name c =
+    same_two (one_read (goal.at.returns-then-same_name c).Else-first-text) c.name_end-second.ensures (told c.same_name.ensures c.if-same_name.true)
 
 pub returns-then-second-text : goal.returns-then-second-text
 returns-then-second-text c =
     two (one_read (goal.at.returns-then-second-text c).Else-first-text) c.name_end-second.ensures
     (told c.well_formed-3.ensures c.if-not-well_formed-2.false)
-    (told c.same_piece.ensures c.if-same_piece.false)
+    (told c.same_name.ensures c.if-same_name.false)
     (omega (arith, c.if-second-text.true))
 
 pub third_name-requires : goal.third_name-requires

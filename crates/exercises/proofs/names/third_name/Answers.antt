@@ -15,19 +15,19 @@ pub returns-then-not-well_formed : goal.returns-then-not-well_formed
 returns-then-not-well_formed c =
     bad_third (known (goal.at.returns-then-not-well_formed c).After-name_end-third) c.name_end-third.ensures c.if-third-text.false (told c.well_formed-2.ensures c.if-not-well_formed.true)
 
-pub returns-then-same_piece : goal.returns-then-same_piece
-returns-then-same_piece c =
-    same_outer (known (goal.at.returns-then-same_piece c).After-name_end-third) c.name_end-third.ensures c.if-third-text.false (told c.same_piece.ensures c.if-same_piece.true)
+pub returns-then-same_name : goal.returns-then-same_name
+returns-then-same_name c =
+    same_outer (known (goal.at.returns-then-same_name c).After-name_end-third) c.name_end-third.ensures c.if-third-text.false (told c.same_name.ensures c.if-same_name.true)
 
-pub returns-then-same_piece-2 : goal.returns-then-same_piece-2
-returns-then-same_piece-2 c =
-    same_last (known (goal.at.returns-then-same_piece-2 c).After-name_end-third) c.name_end-third.ensures c.if-third-text.false
-    (told c.same_piece.ensures c.if-same_piece.false)
-    (told c.same_piece-2.ensures c.if-same_piece-2.true)
+pub returns-then-same_name-2 : goal.returns-then-same_name-2
+returns-then-same_name-2 c =
+    same_last (known (goal.at.returns-then-same_name-2 c).After-name_end-third) c.name_end-third.ensures c.if-third-text.false
+    (told c.same_name.ensures c.if-same_name.false)
+    (told c.same_name-2.ensures c.if-same_name-2.true)
 
 pub returns : goal.returns
 returns c =
     three (known (goal.at.returns c).After-name_end-third) c.name_end-third.ensures c.if-third-text.false
-    (told c.same_piece.ensures c.if-same_piece.false)
+    (told c.same_name.ensures c.if-same_name.false)
     (told c.well_formed-2.ensures c.if-not-well_formed.false)
-    (told c.same_piece-2.ensures c.if-same_piece-2.false)
+    (told c.same_name-2.ensures c.if-same_name-2.false)
