@@ -48,7 +48,7 @@ fn cut(bytes: &[u8], start: usize, count: usize) -> &[u8]
 }
 
 // The name of a number, whatever its pair says: cut at the end of the text, and empty where there is no pair.
-fn any_name(bytes: &[u8], v: Vocabulary, i: usize) -> &[u8]
+pub fn any_name(bytes: &[u8], v: Vocabulary, i: usize) -> &[u8]
     requires { Within bytes.now v }
     ensures { result.now ≡ name_in bytes.now v i }
 {
