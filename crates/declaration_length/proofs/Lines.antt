@@ -7,7 +7,7 @@ use native.Mathlib.Omega.{arith}
 use native.Mathlib.Decide.{dec_lt}
 use native.Mathlib.Nat.{pow-succ', pow-le-pow_right}
 use native.Mathlib.Numerals.{add-one}
-use lib.ListN.{length, length-append}
+use lib.ListN.{length, take, length-append}
 use borrow.Author.Tests.{ne_eqb}
 use Rattle.definitions.specs.declared.Version.{Version}
 use Rattle.definitions.specs.declared.TermList.{TermList}
@@ -16,8 +16,9 @@ use Rattle.definitions.specs.Name.{Name}
 use Rattle.definitions.specs.Text.{decimal, atom_declaration, datatype_declaration}
 use Rattle.output.proofs.Digits.{least_digits}
 use Rattle.prop_length.specs.Length.{NameLength}
-use Rattle.prop_lists.specs.Entries.{use_of}
-use Rattle.declarations.specs.Memory.{use_over, entry_at, declared_uses}
+use Rattle.declarations.specs.declared.Declaration.{Declaration}
+use Rattle.declarations.specs.Memory.{use_in, declared_uses}
+use Rattle.declarations.specs.Chains.{row}
 use Rattle.declarations.specs.Lines.{count_text, break_before, declaration, declaration_lines}
 use Rattle.declarations.proofs.Lines.{lines_more}
 use Rattle.declaration_length.specs.Lengths.{LineLength}
@@ -46,25 +47,25 @@ count_length count some = rw (ne_eqb count 0 some) (omega (arith, length-append 
 -- Over the bytes of names:
 module _ (f : ℕ → Name) where
   -- the line of an atom, and that of a datatype
-  module _ (name count : ℕ) {named : ℕ} (n : NameLength (f name) named) where
-    pub atom_line : {counted : ℕ} → (counted ≡ length (count_text count)) × (counted ≤ 7)
-        → LineLength (declaration Atoms (use_over f (use_of name count))) (6 + named + counted)
+  module _ (d : Declaration) {named : ℕ} (n : NameLength (f d.name) named) where
+    pub atom_line : {counted : ℕ} → (counted ≡ length (count_text d.count)) × (counted ≤ 7)
+        → LineLength (declaration Atoms (use_in f d)) (6 + named + counted)
     unfolding declaration atom_declaration count_text
     atom_line (is, few) =
-        let counts = count_text count in
-        let whole = length-append (f name) (counts ++ (59 ∷ [])) in
+        let counts = count_text d.count in
+        let whole = length-append (f d.name) (counts ++ (59 ∷ [])) in
         record { is = omega (arith, whole, n.is, length-append counts (59 ∷ [])); small = omega (arith, n.small) }
 
-    pub datatype_line : (v : Version) → LineLength (declaration (Datatypes v) (use_over f (use_of name count))) (10 + named)
+    pub datatype_line : (v : Version) → LineLength (declaration (Datatypes v) (use_in f d)) (10 + named)
     unfolding declaration datatype_declaration
-    datatype_line v = record { is = omega (arith, n.is, length-append (f name) (59 ∷ [])); small = omega (arith, n.small) }
+    datatype_line v = record { is = omega (arith, n.is, length-append (f d.name) (59 ∷ [])); small = omega (arith, n.small) }
 
   -- one more line, after a newline unless it is the first
-  pub lines_added : (list : TermList) (declared : List ℕ) (j : ℕ) {before broken line : ℕ}
-      → before ≡ length (declaration_lines list (declared_uses f declared j)) → broken ≡ length (break_before j)
-      → LineLength (declaration list (use_over f (entry_at declared j))) line
-      → before + (broken + line) ≡ length (declaration_lines list (declared_uses f declared (j + 1)))
-  lines_added list declared j is break l =
-      let last = declaration list (use_over f (entry_at declared j)) in
-      rw (lines_more list f declared j)
-      (omega (arith, is, break, l.is, length-append (break_before j) last, length-append (declaration_lines list (declared_uses f declared j)) (break_before j ++ last)))
+  pub lines_added : (list : TermList) (declared : List Declaration) (j : ℕ) → j < length declared → {before broken line : ℕ}
+      → before ≡ length (declaration_lines list (declared_uses f (take j declared))) → broken ≡ length (break_before j)
+      → LineLength (declaration list (use_in f (row declared j))) line
+      → before + (broken + line) ≡ length (declaration_lines list (declared_uses f (take (j + 1) declared)))
+  lines_added list declared j h is break l =
+      let last = declaration list (use_in f (row declared j)) in
+      rw (lines_more list f declared j h)
+      (omega (arith, is, break, l.is, length-append (break_before j) last, length-append (declaration_lines list (declared_uses f (take j declared))) (break_before j ++ last)))

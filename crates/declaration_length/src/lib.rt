@@ -3,13 +3,12 @@
 
 ghost use Rattle.std.specs.Prelude.{◌≡◌, ◌≤◌, ◌<◌, length};
 ghost use Rattle.vocabulary.specs.Vocabulary.{name_in, Names};
-ghost use Rattle.prop_lists.specs.Entries.{use_of};
 ghost use Rattle.prop_length.specs.Length.{TextLength};
-ghost use Rattle.declarations.specs.Memory.{use_over, declared_uses, Declared};
+ghost use Rattle.declarations.specs.Memory.{use_in, declared_uses, Declared};
 ghost use Rattle.declarations.specs.Lines.{count_text, break_before, declaration, declaration_lines};
 ghost use Rattle.declaration_length.specs.Lengths.{LineLength};
 
-use declarations::{Declaration, declaration_at};
+use declarations::Declaration;
 use definitions::TermList;
 use prop_length::name_length;
 use vocabulary::Vocabulary;
@@ -23,8 +22,7 @@ const DATATYPE: usize = 10;
 const BRACKETS: usize = 2;
 
 // How many bytes the count of an atom has: none where it is 0.
-fn count_length(count: usize) -> usize
-    requires { count < 65536 }
+fn count_length(count: u16) -> usize
     ensures { (result ≡ length (count_text count)) × (result ≤ 7) }
 {
     if count == 0 {
@@ -35,11 +33,10 @@ fn count_length(count: usize) -> usize
 
 // How many bytes the line of an entry of a list has.
 fn line_length(this: Declaration, list: TermList, bytes: &[u8], v: Vocabulary) -> usize
-    requires { Names bytes.now v this.name × (this.count < 65536) }
-    ensures { LineLength
-        (declaration list (use_over (name_in bytes.now v) (use_of this.name this.count))) result }
+    requires { Names bytes.now v this.name }
+    ensures { LineLength (declaration list (use_in (name_in bytes.now v) this)) result }
 {
-    let named = name_length(bytes, v, this.name);
+    let named = name_length(bytes, v, this.name as usize);
     match list {
         TermList::Atoms => ATOM + named + count_length(this.count),
         TermList::Datatypes(_) => DATATYPE + named,
@@ -55,20 +52,14 @@ fn break_length(line: usize) -> usize
 }
 
 // How many bytes the lines of the declarations of a list have, joined by newlines.
-pub fn lines_length(
-    declared: &[u16],
-    len: usize,
-    list: TermList,
-    bytes: &[u8],
-    v: Vocabulary,
-) -> usize
-    requires { Declared bytes.now v declared.now len × (len < 32768) }
+pub fn lines_length(declared: &[Declaration], list: TermList, bytes: &[u8], v: Vocabulary) -> usize
+    requires { Declared bytes.now v declared.now × (length declared.now < 32768) }
     ensures { TextLength
-        (declaration_lines list (declared_uses (name_in bytes.now v) declared.now len)) result }
+        (declaration_lines list (declared_uses (name_in bytes.now v) declared.now)) result }
 {
     let mut total = 0;
-    for j in 0..len {
-        total += break_length(j) + line_length(declaration_at(declared, j), list, bytes, v);
+    for (j, this) in declared.iter().enumerate() {
+        total += break_length(j) + line_length(*this, list, bytes, v);
     }
     total
 }

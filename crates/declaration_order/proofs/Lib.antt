@@ -1,5 +1,3 @@
-pub mod Uses
+-- The laws of sorting declarations.
+pub mod Permuted
 pub mod Comparing
-pub mod Merged
-pub mod Halved
-pub mod Exchanged

@@ -5,7 +5,8 @@ use mathlib.Core.Bool.{Bool, true, false, cond, and-true}
 use mathlib.Core.List.{List, [], ◌∷◌, ◌++◌, map, map-append, map-map, append-nil, append_assoc}
 use native.Mathlib.Omega.{arith}
 use native.Mathlib.Numerals.{add-one}
-use lib.ListN.{length, get_or, length-append}
+use lib.ListN.{length, take}
+use Rattle.std.proofs.lemmas.List.{take_more, length-take-le}
 use borrow.Author.Tests.{ne_eqb}
 use Rattle.definitions.specs.declared.Version.{Version}
 use Rattle.definitions.specs.declared.TermList.{TermList}
@@ -16,7 +17,9 @@ use Rattle.definitions.specs.Utf8.{utf8}
 use Rattle.definitions.specs.Text.{occurs, firsts_after, firsts, eq_atom_use, compare_atom_use, arranged, following_lines, join_lines, atom_declarations, datatype_declarations}
 use Rattle.order_laws.proofs.Datatypes.{as_use, same_arranged}
 use Rattle.prop_lists.specs.Entries.{use_of, datatype_uses}
-use Rattle.declarations.specs.Memory.{use_over, uses_over, entry_at, entries_of}
+use Rattle.declarations.specs.declared.Declaration.{Declaration}
+use Rattle.declarations.specs.Memory.{use_over, uses_over, use_in, declared_uses}
+use Rattle.declarations.specs.Chains.{row}
 use Rattle.declarations.specs.Lines.{break_before, declaration, declaration_lines}
 
 following_more : (ls : List (List ℕ)) (l : List ℕ) → following_lines (ls ++ (l ∷ [])) ≡ following_lines ls ++ (utf8 "\n" ++ l)
@@ -34,37 +37,34 @@ length_mapped : {A B : Type 0} (g : A → B) (l : List A) → length (map g l) �
 length_mapped g [] = refl
 length_mapped g (a ∷ l) = ap suc (length_mapped g l)
 
-entries_length : (declared : List ℕ) (len : ℕ) → length (entries_of declared len) ≡ len
-unfolding entries_of
-entries_length declared zero = refl
-entries_length declared (suc len) = rw (length-append, entries_length declared len) (omega arith)
+break_none : break_before 0 ≡ []
+unfolding break_before
+break_none = refl
 
-module _ (list : TermList) (f : ℕ → Name) (declared : List ℕ) where
-  pub lines_none : declaration_lines list (uses_over f (entries_of declared 0)) ≡ []
-  unfolding declaration_lines join_lines entries_of
+break_more : (j : ℕ) → break_before (suc j) ≡ utf8 "\n"
+unfolding break_before
+break_more j = rw (ne_eqb (suc j) 0 (λ e. omega arith))
+
+-- Of the first j of some declarations:
+module _ (list : TermList) (f : ℕ → Name) (declared : List Declaration) where
+  pub lines_none : declaration_lines list (declared_uses f (take 0 declared)) ≡ []
+  unfolding declaration_lines join_lines
   lines_none = refl
 
-  lines_one : declaration_lines list (uses_over f (entries_of declared 1)) ≡ declaration list (use_over f (use_of (get_or declared 0 0) (get_or declared 1 0)))
-  unfolding declaration_lines join_lines following_lines entries_of
-  lines_one = append-nil _
+  lines_with : (first : List Declaration) (d : Declaration) → declaration_lines list (declared_uses f (first ++ (d ∷ [])))
+      ≡ declaration_lines list (declared_uses f first) ++ (break_before (length first) ++ declaration list (use_in f d))
+  unfolding declaration_lines join_lines following_lines
+  lines_with [] d = rw break_none (append-nil _)
+  lines_with (e ∷ first) d =
+      rw (break_more (length first), map-append (use_in f) first (d ∷ []), map-append (declaration list) (declared_uses f first) (use_in f d ∷ []))
+      (join_more (map (declaration list) (declared_uses f (e ∷ first))) (declaration list (use_in f d)) (omega arith))
 
-  lines_after : (j : ℕ) → 0 < j → declaration_lines list (uses_over f (entries_of declared (j + 1)))
-      ≡ declaration_lines list (uses_over f (entries_of declared j)) ++ (utf8 "\n" ++ declaration list (use_over f (entry_at declared j)))
-  unfolding declaration_lines entries_of
-  lines_after j h =
-      rw (
-        add-one j,
-        map-append (use_over f) (entries_of declared j) (entry_at declared j ∷ []),
-        map-append (declaration list) (uses_over f (entries_of declared j)) (use_over f (entry_at declared j) ∷ []),
-      )
-      (join_more (map (declaration list) (uses_over f (entries_of declared j))) (declaration list (use_over f (entry_at declared j)))
-      (rw (length_mapped (declaration list) (uses_over f (entries_of declared j)), length_mapped (use_over f) (entries_of declared j), entries_length declared j) h))
-
-  pub lines_more : (j : ℕ) → declaration_lines list (uses_over f (entries_of declared (j + 1)))
-      ≡ declaration_lines list (uses_over f (entries_of declared j)) ++ (break_before j ++ declaration list (use_over f (entry_at declared j)))
-  unfolding break_before
-  lines_more zero = rw lines_none lines_one
-  lines_more (suc j) = rw (ne_eqb (suc j) 0 (λ e. omega arith)) (lines_after (suc j) (omega arith))
+  pub lines_more : (j : ℕ) → j < length declared → declaration_lines list (declared_uses f (take (j + 1) declared))
+      ≡ declaration_lines list (declared_uses f (take j declared)) ++ (break_before j ++ declaration list (use_in f (row declared j)))
+  lines_more j h =
+      let long : length (take j declared) ≡ j = length-take-le j declared (omega arith) in
+      ap (λ l. declaration_lines list (declared_uses f l)) (take_more declared j (record { name = 0; count = 0 }) h)
+      ∙ (lines_with (take j declared) (row declared j) ∙ ap (λ n. declaration_lines list (declared_uses f (take j declared)) ++ (break_before n ++ declaration list (use_in f (row declared j)))) long)
 
 -- the lines of atoms that stand in a version's order are the version's
 pub atoms_declared : (v : Version) (uses : List (AtomUse Name))

@@ -1,28 +1,30 @@
 -- One more use is noted: where its flag is set or a declaration has its bytes and count it adds nothing, and else it is the last.
-use Prim.Native.Nat.{ℕ, suc, ◌+◌, ◌*◌, ◌≤◌, ◌<◌}
+use Prim.Native.Nat.{ℕ, suc, ◌+◌, ◌≤◌, ◌<◌}
 use mathlib.Core.Path.{◌≡◌, refl, sym, ap, ◌∙◌}
-use mathlib.Core.Bool.{true, false, or-true}
+use mathlib.Core.Bool.{Bool, true, false, or-true}
 use mathlib.Core.List.{List, [], ◌∷◌, ◌++◌, map-append}
 use mathlib.Core.Logic.{by_cases}
 use native.Mathlib.Omega.{arith}
 use native.Mathlib.Decide.{ℕ_discrete, dec_lt}
-use native.Mathlib.Numerals.{add-one}
-use lib.ListN.{length, get_or, set, length-set}
+use lib.ListN.{length, length-set, get_or, set, take, replicate, get_or-replicate, length-replicate, get_or-eq_default}
 use lib.Seq.{get_or-set_same, get_or-set_other}
+use Rattle.std.specs.Prelude.{Option, None, Some}
+use Rattle.std.proofs.lemmas.List.{take_more_set, get_or-take, length-take}
 use Rattle.definitions.specs.Name.{Name}
 use Rattle.definitions.specs.Prop.{AtomUse}
 use Rattle.definitions.specs.Code.{parameter_limit}
-use Rattle.definitions.specs.Text.{occurs, firsts, eq_atom_use}
+use Rattle.definitions.specs.Text.{occurs, firsts, firsts_after, eq_atom_use}
 use Rattle.definitions.specs.NameIndex.{slot_count, start_slot}
 use Rattle.vocabulary.specs.declared.Vocabulary.{Vocabulary}
 use Rattle.vocabulary.specs.Vocabulary.{name_in, Names}
 use Rattle.prop_lists.specs.Entries.{use_of}
-use Rattle.declarations.specs.Memory.{use_over, uses_over, entries_of, is_declared, flag_of, flagged, Lent, lent, Noted, Declared, Held, Notes}
-use Rattle.declarations.specs.Chains.{slot_of, Newest, Linked, Chained}
+use Rattle.declarations.specs.declared.Declaration.{Declaration}
+use Rattle.declarations.specs.declared.Declarations.{Declarations}
+use Rattle.declarations.specs.Memory.{use_over, uses_over, use_in, declarations, declared_uses, is_declared, flag_of, flagged, Fresh, Noted, Declared, Held, Notes}
+use Rattle.declarations.specs.Chains.{row, slot_of, up_to, Newest, Chained}
 use Rattle.declarations.proofs.Firsts.{occurs_append, occurs_firsts, firsts_known, firsts_new, eq_atom_use_true, eq_atom_use_refl, same_search}
-use Rattle.declarations.proofs.Declared.{flagged_few, flagged_more, entries_kept}
-use Rattle.declarations.proofs.Chains.{start_slot_below, newest_itself, linked_fewer, chained_more}
-use Rattle.declarations.proofs.Search.{none_between, other_slot}
+use Rattle.declarations.proofs.Declared.{flagged_few, flagged_more}
+use Rattle.declarations.proofs.Chains.{start_slot_below, chained_more}
 
 module _ (f : ℕ → Name) (l : List (AtomUse ℕ)) (a : AtomUse ℕ) where
   one_more : uses_over f (l ++ (a ∷ [])) ≡ uses_over f l ++ (use_over f a ∷ [])
@@ -44,15 +46,15 @@ module _ (f : ℕ → Name) (l : List (AtomUse ℕ)) (a : AtomUse ℕ) where
   new e = rw one_more (firsts_new eq_atom_use eq_atom_use_true (uses_over f l) (use_over f a) e)
 
 -- among the declarations as among the uses
-module _ {f : ℕ → Name} {l : List (AtomUse ℕ)} {m : Lent} (noted : Noted f l m) where
-  looked_up : (u : AtomUse ℕ) → is_declared f m.declared m.len u ≡ occurs eq_atom_use (use_over f u) (uses_over f l)
+module _ {N : ℕ} {f : ℕ → Name} {l : List (AtomUse ℕ)} {m : Declarations N} (noted : Noted f l m) where
+  looked_up : (u : AtomUse ℕ) → is_declared f (declarations m) u ≡ occurs eq_atom_use (use_over f u) (uses_over f l)
   looked_up u =
-      same_search (use_over f u) (uses_over f (entries_of m.declared m.len))
+      same_search (use_over f u) (declared_uses f (declarations m))
       ∙ (ap (occurs eq_atom_use (use_over f u)) noted.entries ∙ occurs_firsts eq_atom_use eq_atom_use_true (uses_over f l) (use_over f u))
 
   -- the flags after one more is set
   flags_more : (name count : ℕ) → count ≤ parameter_limit → (n c : ℕ) → c ≤ parameter_limit
-      → (get_or (set m.seen (flag_of name count) 1) (flag_of n c) 0 ≡ 0 → ⊥)
+      → get_or (set m.seen (flag_of name count) true) (flag_of n c) false ≡ true
       → occurs eq_atom_use (use_over f (use_of n c)) (uses_over f (l ++ (use_of name count ∷ []))) ≡ true
   unfolding parameter_limit
   flags_more name count few n c h is_set = by_cases (ℕ_discrete (flag_of n c) (flag_of name count))
@@ -61,162 +63,156 @@ module _ {f : ℕ → Name} {l : List (AtomUse ℕ)} {m : Lent} (noted : Noted f
       let same_count : c ≡ count = omega arith in
       rw (same_name, same_count) (arrives f l (use_of name count)))
       (λ other. stays f l (use_of name count) _
-      (noted.flags n c h (λ z. is_set (get_or-set_other m.seen (flag_of name count) (flag_of n c) 1 0 other ∙ z))))
+      (noted.flags n c h (sym (get_or-set_other m.seen (flag_of name count) (flag_of n c) true false other) ∙ is_set)))
+
+-- before anything is noted
+module _ {N : ℕ} {m : Declarations N} (fresh : Fresh m) where
+  unseen_at : (i : ℕ) → get_or m.seen i false ≡ false
+  unseen_at i = rw fresh.unseen (by_cases (dec_lt i N)
+      (λ h. get_or-replicate N i false false h)
+      (λ h. get_or-eq_default (replicate N false) false {n = i} (omega (arith, length-replicate {A = Bool} N false))))
+
+  pub fresh_noted : (f : ℕ → Name) → Noted f [] m
+  unfolding firsts firsts_after
+  fresh_noted f = record { entries = rw fresh.none refl; flags = λ name count few is_set. cc (unseen_at (flag_of name count)) }
+
+  pub fresh_held : {bytes : List ℕ} {v : Vocabulary} → ((name : ℕ) → name < v.name_count → Names bytes v name) → v.name_count ≤ 65536
+      → flag_of v.name_count 0 ≤ N → N < 65536 → Held bytes v m
+  fresh_held names small flags numbered =
+      let none = fresh.none in
+      record {
+        names = names;
+        small = small;
+        flags = flags;
+        numbered = numbered;
+        within = omega arith;
+        named = λ j below. absurd (omega arith);
+        few = omega arith;
+        chained = record {
+          begins = λ s below. rw (fresh.unchained, get_or-replicate {A = Option ℕ} slot_count s None None below)
+              record { within = omega arith; own = λ j e. absurd (omega arith); last = λ i h l. absurd (omega arith) };
+          goes_on = λ j l. absurd (omega arith);
+        };
+      }
 
 -- what is held are declarations
-pub declared_held : {bytes : List ℕ} {v : Vocabulary} {m : Lent} → Held bytes v m → Declared bytes v m.declared m.len
-declared_held {m = m} held = record { there = omega (arith, held.few, held.room, flagged_few m.seen); named = held.named }
+pub declared_held : {N : ℕ} {bytes : List ℕ} {v : Vocabulary} {m : Declarations N} → Held bytes v m → Declared bytes v (declarations m)
+declared_held {m = m} held =
+    record {
+      named = λ j h.
+          let inside : j < m.len = omega (arith, length-take m.len m.rows) in
+          rw (get_or-take m.len m.rows j (record { name = 0; count = 0 }) inside) (held.named j inside);
+    }
 
-module _ {bytes : List ℕ} {v : Vocabulary} {declared : List ℕ} {len : ℕ} {seen chains : List ℕ} {name count : ℕ}
-    (held : Held bytes v (lent declared len seen chains)) (below : name < v.name_count) (few : count ≤ parameter_limit) where
+-- a slot is below their number, and the search of a name begins at the newest of its slot
+pub slot_below : {slot : ℕ} (x : Name) → slot ≡ start_slot x → slot < slot_count
+slot_below x is-slot = rw is-slot (start_slot_below x)
+
+pub newest_of : {N : ℕ} {bytes : List ℕ} {v : Vocabulary} {m : Declarations N} {slot : ℕ} (x : Name) → Held bytes v m → slot ≡ start_slot x
+    → Newest (slot_of (name_in bytes v) m.rows) (start_slot x) m.len (get_or m.newest slot None)
+newest_of x held is-slot = rw is-slot (held.chained.begins _ (start_slot_below x))
+
+module _ {N : ℕ} {bytes : List ℕ} {v : Vocabulary} {m : Declarations N} {name count : ℕ} (held : Held bytes v m) (below : name < v.name_count)
+    (few : count ≤ parameter_limit) where
   -- the use has its flag
-  pub has_flag : flag_of name count < length seen
+  pub has_flag : flag_of name count < N
   unfolding parameter_limit
   has_flag = omega (arith, held.flags)
 
   -- the flag is set
-  pub noted_again : (get_or seen (flag_of name count) 0 ≡ 0 → ⊥)
-      → Notes bytes v (use_of name count ∷ []) (lent declared len seen chains) (lent declared len seen chains)
+  pub noted_again : get_or m.seen (flag_of name count) false ≡ true → Notes bytes v (use_of name count ∷ []) m m
   noted_again is_set = record {
     held = held;
-    sized = refl;
-    flags = refl;
-    links = refl;
     adds = λ l noted. record {
-      entries = noted.entries ∙ sym (known _ l (use_of name count) (noted.flags name count (few) is_set));
+      entries = noted.entries ∙ sym (known _ l (use_of name count) (noted.flags name count few is_set));
       flags = λ n c h k. stays _ l (use_of name count) _ (noted.flags n c h k);
     };
   }
 
-  -- By the slot of its name, whose newest declaration is the one before number `newest`:
-  module _ {slot newest : ℕ} (is-slot : slot ≡ start_slot (name_in bytes v name)) (is-newest : newest ≡ get_or chains slot 0) where
-    head : Newest (slot_of (name_in bytes v) declared) (start_slot (name_in bytes v name)) len newest
-    head = rw (is-newest, is-slot) (held.chained.head _ (start_slot_below (name_in bytes v name)))
+  -- Where the flag was not set:
+  module _ (long : length m.seen ≡ N) (unset : get_or m.seen (flag_of name count) false ≡ false) where
+    counted : flagged (set m.seen (flag_of name count) true) ≡ suc (flagged m.seen)
+    counted = flagged_more m.seen (flag_of name count) (omega (arith, has_flag)) unset
 
-    -- the slot has its head
-    pub has_head : slot < length chains
-    has_head = rw is-slot (omega (arith, held.links, start_slot_below (name_in bytes v name)))
+    -- there is room for one declaration more
+    pub room_for_one : m.len < N
+    room_for_one =
+        let most = flagged_few (set m.seen (flag_of name count) true) in
+        let sized : length (set m.seen (flag_of name count) true) ≡ N = simp length-set long in
+        omega (arith, counted, held.few, most, sized)
 
-    -- the declarations up to the newest can be searched, and they are searched as all are
-    pub chain_searchable : (Declared bytes v declared newest × Names bytes v name)
-        × (Linked (slot_of (name_in bytes v) declared) newest chains
-        × Newest (slot_of (name_in bytes v) declared) (start_slot (name_in bytes v name)) newest newest)
-    chain_searchable =
-        let all = declared_held held in
-        let upto = head.within in (
-          (record { there = omega (arith, all.there); named = λ j h. all.named j (omega arith) }, held.names name below),
-          (linked_fewer upto held.chained.linked, newest_itself head),
-        )
+    -- a declaration has the bytes and the count
+    pub noted_known : is_declared (name_in bytes v) (declarations m) (use_of name count) ≡ true
+        → Notes bytes v (use_of name count ∷ []) m (record m { seen = set m.seen (flag_of name count) true })
+    noted_known e = record {
+      held = record {
+        names = held.names;
+        small = held.small;
+        flags = held.flags;
+        numbered = held.numbered;
+        within = held.within;
+        named = held.named;
+        few = omega (arith, counted, held.few);
+        chained = held.chained;
+      };
+      adds = λ l noted. record {
+        entries = noted.entries ∙ sym (known _ l (use_of name count) (sym (looked_up noted _) ∙ e));
+        flags = flags_more noted name count few;
+      };
+    }
 
-    all_searched : is_declared (name_in bytes v) declared len (use_of name count) ≡ is_declared (name_in bytes v) declared newest (use_of name count)
-    all_searched =
-        none_between (name_in bytes v) (use_over (name_in bytes v) (use_of name count)) declared newest len head.within
-        (λ i h l. other_slot (name_in bytes v) declared (use_of name count) i (λ e. head.last i h l e))
+    -- no declaration has: this use is the last one
+    stored : List Declaration
+    stored = set m.rows m.len (record { name = name; count = count })
 
-    module _ (unset : get_or seen (flag_of name count) 0 ≡ 0) where
-      counted : flagged (set seen (flag_of name count) 1) ≡ suc (flagged seen)
-      counted = flagged_more seen (flag_of name count) has_flag unset
-
-      -- there is room for one declaration more, and for its link; its number and one more fit a u16
-      pub room_for_one : (2 * len + 2 ≤ length declared) × ((slot_count + len < length chains) × (len + 1 < 65536))
-      room_for_one =
-          let most = simp length-set at (flagged_few (set seen (flag_of name count) 1)) in (
-            omega (arith, counted, held.few, held.room, most),
-            (omega (arith, counted, held.few, held.links, most), omega (arith, counted, held.few, held.numbered, most)),
-          )
-
-      -- a declaration has the bytes and the count
-      pub noted_known : is_declared (name_in bytes v) declared newest (use_of name count) ≡ true
-          → Notes bytes v (use_of name count ∷ []) (lent declared len seen chains) (lent declared len (set seen (flag_of name count) 1) chains)
-      noted_known e = record {
-        held = record {
-          names = held.names;
-          small = held.small;
-          flags = simp length-set held.flags;
-          named = held.named;
-          room = simp length-set held.room;
-          links = simp length-set held.links;
-          numbered = simp length-set held.numbered;
-          few = omega (arith, counted, held.few);
-          chained = held.chained;
-        };
-        sized = refl;
-        flags = simp length-set;
-        links = refl;
-        adds = λ l noted. record {
-          entries = noted.entries ∙ sym (known _ l (use_of name count) (sym (looked_up noted _) ∙ (all_searched ∙ e)));
-          flags = flags_more noted name count (few);
-        };
-      }
-
-      -- no declaration has: this use is the last one
-      stored : List ℕ
-      stored = set (set declared (2 * len) name) (2 * len + 1) count
-
-      name_stored : get_or stored (2 * len) 0 ≡ name
+    module _ (rows : length m.rows ≡ N) where
+      last_stored : row stored m.len ≡ record { name = name; count = count }
       unfolding stored
-      name_stored =
-          get_or-set_other (set declared (2 * len) name) (2 * len + 1) (2 * len) count 0 (λ e. omega arith)
-          ∙ get_or-set_same declared (2 * len) name 0 (omega (arith, room_for_one.0))
+      last_stored = get_or-set_same m.rows m.len (record { name = name; count = count }) (record { name = 0; count = 0 }) (omega (arith, room_for_one))
 
-      count_stored : get_or stored (2 * len + 1) 0 ≡ count
+      kept_below : (j : ℕ) → j < m.len → row stored j ≡ row m.rows j
       unfolding stored
-      count_stored =
-          let long : length (set declared (2 * len) name) ≡ length declared = simp length-set in
-          get_or-set_same (set declared (2 * len) name) (2 * len + 1) count 0 (omega (arith, room_for_one.0))
+      kept_below j h = get_or-set_other m.rows m.len j (record { name = name; count = count }) (record { name = 0; count = 0 }) (λ e. omega arith)
 
-      entries_stored : entries_of stored (len + 1) ≡ entries_of declared len ++ (use_of name count ∷ [])
-      unfolding entries_of stored
-      entries_stored =
-          rw (add-one len, name_stored, count_stored, entries_kept (set declared (2 * len) name) (2 * len + 1) count len (omega arith), entries_kept declared (2 * len) name len (omega arith))
-
-      kept_below : (j : ℕ) → j < len → get_or stored (2 * j) 0 ≡ get_or declared (2 * j) 0
-      unfolding stored
-      kept_below j h =
-          get_or-set_other (set declared (2 * len) name) (2 * len + 1) (2 * j) count 0 (λ e. omega arith)
-          ∙ get_or-set_other declared (2 * len) (2 * j) name 0 (λ e. omega arith)
-
-      named_stored : (j : ℕ) → j < len + 1 → Names bytes v (get_or stored (2 * j) 0)
-      named_stored j h = by_cases (dec_lt j len)
+      named_stored : (j : ℕ) → j < m.len + 1 → Names bytes v (row stored j).name
+      named_stored j h = by_cases (dec_lt j m.len)
           (λ k. rw (kept_below j k) (held.named j k))
-          (λ k. let last : j ≡ len = omega arith in rw (last, name_stored) (held.names name below))
+          (λ k. let last : j ≡ m.len = omega arith in rw (last, last_stored) (held.names name below))
 
-      long_stored : length stored ≡ length declared
+      -- the declarations so far, and this one
+      stored_uses : declared_uses (name_in bytes v) (take (m.len + 1) stored)
+          ≡ declared_uses (name_in bytes v) (declarations m) ++ (use_over (name_in bytes v) (use_of name count) ∷ [])
       unfolding stored
-      long_stored = simp length-set
+      stored_uses =
+          ap (declared_uses (name_in bytes v)) (take_more_set m.rows m.len (record { name = name; count = count }) (omega (arith, room_for_one)))
+          ∙ map-append (use_in (name_in bytes v)) (declarations m) (record { name = name; count = count } ∷ [])
 
-      chained_stored : Chained (slot_of (name_in bytes v) stored) (len + 1) (set (set chains (slot_count + len) (get_or chains slot 0)) slot (len + 1))
-      chained_stored =
-          chained_more (λ j h. ap (λ n. start_slot (name_in bytes v n)) (kept_below j h)) held.chained room_for_one.1.0
-          (rw is-slot (start_slot_below (name_in bytes v name)))
-          (ap (λ n. start_slot (name_in bytes v n)) name_stored ∙ sym is-slot)
-
-      pub noted_new : is_declared (name_in bytes v) declared newest (use_of name count) ≡ false
-          → Notes bytes v (use_of name count ∷ []) (lent declared len seen chains)
-          (lent (set (set declared (2 * len) name) (2 * len + 1) count) (len + 1) (set seen (flag_of name count) 1)
-          (set (set chains (slot_count + len) newest) slot (len + 1)))
+      pub noted_new : {slot : ℕ} → slot ≡ start_slot (name_in bytes v name) → length m.newest ≡ slot_count → length m.older ≡ N → is_declared (name_in bytes v) (declarations m) (use_of name count) ≡ false
+          → Notes bytes v (use_of name count ∷ []) m (record {
+            rows = set m.rows m.len (record { name = name; count = count });
+            len = m.len + 1;
+            seen = set m.seen (flag_of name count) true;
+            newest = set m.newest slot (Some m.len);
+            older = set m.older m.len (get_or m.newest slot None);
+          })
       unfolding stored
-      noted_new e = record {
+      noted_new is-slot heads links e = record {
         held = record {
           names = held.names;
           small = held.small;
-          flags = simp length-set held.flags;
+          flags = held.flags;
+          numbered = held.numbered;
+          within = omega (arith, room_for_one);
           named = named_stored;
-          room = simp length-set held.room;
-          links = simp length-set held.links;
-          numbered = simp length-set held.numbered;
           few = omega (arith, counted, held.few);
-          chained = rw is-newest chained_stored;
+          chained = chained_more (λ j h. ap (λ d. start_slot (name_in bytes v d.name)) (kept_below j h)) held.chained (slot_below (name_in bytes v name) is-slot)
+              (ap (λ d. start_slot (name_in bytes v d.name)) last_stored ∙ sym is-slot) (omega (arith, slot_below (name_in bytes v name) is-slot)) (omega (arith, room_for_one));
         };
-        sized = long_stored;
-        flags = simp length-set;
-        links = simp length-set;
         adds = λ l noted. record {
           entries =
-              ap (uses_over (name_in bytes v)) entries_stored
-              ∙ (one_more (name_in bytes v) (entries_of declared len) (use_of name count)
+              stored_uses
               ∙ (ap (λ es. es ++ (use_over (name_in bytes v) (use_of name count) ∷ [])) noted.entries
-              ∙ sym (new _ l (use_of name count) (sym (looked_up noted _) ∙ (all_searched ∙ e)))));
-          flags = flags_more noted name count (few);
+              ∙ sym (new _ l (use_of name count) (sym (looked_up noted _) ∙ e)));
+          flags = flags_more noted name count few;
         };
       }

@@ -1,111 +1,92 @@
 -- The search among the declarations: what declaration j says of those that are left.
-use Prim.Native.Nat.{ℕ, zero, suc, ◌+◌, ◌*◌, ◌-◌, ◌≤◌, ◌<◌}
+use Prim.Native.Nat.{ℕ, zero, suc, ◌+◌, ◌-◌, ◌≤◌, ◌<◌}
 use mathlib.Core.Path.{◌≡◌, refl, sym, ap, ◌∙◌}
-use mathlib.Core.Bool.{Bool, true, false, ◌&&◌, ◌||◌, or-false, or-true}
+use mathlib.Core.Bool.{Bool, true, false, ◌&&◌, ◌||◌, or-true}
 use mathlib.Core.Logic.{by_cases}
-use mathlib.Core.List.{List, [], ◌∷◌, map-append}
+use mathlib.Core.List.{List, [], ◌∷◌}
 use native.Mathlib.Omega.{arith}
 use native.Mathlib.Decide.{dec_lt}
 use lib.Dec.{eqb}
-use lib.ListN.{get_or}
+use lib.ListN.{length, get_or, take}
+use Rattle.std.specs.Prelude.{Option, None, Some}
+use Rattle.std.proofs.lemmas.List.{get_or-take, length-take}
 use Rattle.definitions.specs.Name.{Name, eq_name}
 use Rattle.definitions.specs.Prop.{AtomUse}
 use Rattle.definitions.specs.Text.{occurs, eq_atom_use}
 use Rattle.definitions.specs.NameIndex.{start_slot}
 use Rattle.definitions.proofs.NameOrder.{equal_use}
-use Rattle.definitions.specs.Sheet.{marked}
-use Rattle.vocabulary.specs.declared.Vocabulary.{Vocabulary}
-use Rattle.vocabulary.specs.Vocabulary.{pairs_in, text_in, name_in}
-use Rattle.declarations.specs.Memory.{use_over, uses_over, entry_at, entries_of, same_use, is_declared}
-use Rattle.declarations.specs.Chains.{slot_of, link_of, Newest, Linked}
-use Rattle.declarations.proofs.Firsts.{occurs_append, eq_atom_use_true}
+use Rattle.declarations.specs.declared.Declaration.{Declaration}
+use Rattle.declarations.specs.Memory.{use_over, use_in, declared_uses, same_use, is_declared}
+use Rattle.declarations.specs.Chains.{row, slot_of, up_to, Newest, Chained}
+use Rattle.declarations.proofs.Firsts.{eq_atom_use_true}
 
--- the names of a memory, by the pairs and the text that were cut out of it
-pub names_cut : (bytes : List ℕ) (v : Vocabulary) {pairs text : List ℕ} → pairs ≡ pairs_in bytes v → text ≡ text_in bytes v
-    → name_in bytes v ≡ marked pairs text
-unfolding name_in
-names_cut bytes v cut cut-text = rw (cut, cut-text)
+-- among declarations of which none is the one that is looked for, and among those of which declaration j is
+module _ (f : ℕ → Name) (u : AtomUse Name) where
+  pub none_is : (declared : List Declaration) → ((i : ℕ) → i < length declared → same_use u (use_in f (row declared i)) ≡ false)
+      → occurs same_use u (declared_uses f declared) ≡ false
+  unfolding occurs
+  none_is [] none = refl
+  none_is (d ∷ declared) none = rw (none 0 (omega arith), none_is declared (λ i l. none (suc i) (omega arith)))
 
-module _ (f : ℕ → Name) (u : AtomUse Name) (declared : List ℕ) where
-  one_more : (j : ℕ) → occurs same_use u (uses_over f (entries_of declared (suc j)))
-      ≡ (occurs same_use u (uses_over f (entries_of declared j)) || same_use u (use_over f (entry_at declared j)))
-  unfolding entries_of occurs
-  one_more j =
-      ap (occurs same_use u) (map-append (use_over f) (entries_of declared j) (entry_at declared j ∷ []))
-      ∙ (occurs_append same_use u (uses_over f (entries_of declared j)) (use_over f (entry_at declared j) ∷ []) ∙ rw or-false)
-
-  -- where none from h on is the one that is looked for, the first h are searched as all are
-  pub none_between : (h len : ℕ) → h ≤ len → ((i : ℕ) → h ≤ i → i < len → same_use u (use_over f (entry_at declared i)) ≡ false)
-      → occurs same_use u (uses_over f (entries_of declared len)) ≡ occurs same_use u (uses_over f (entries_of declared h))
-  none_between h zero within none = let first : h ≡ 0 = omega arith in rw first
-  none_between h (suc len) within none = go (dec_lt len h) (λ k. none_between h len k (λ i l b. none i l (omega arith)))
-    where
-      go : Dec (len < h) → (h ≤ len → occurs same_use u (uses_over f (entries_of declared len)) ≡ occurs same_use u (uses_over f (entries_of declared h)))
-          → occurs same_use u (uses_over f (entries_of declared (suc len))) ≡ occurs same_use u (uses_over f (entries_of declared h))
-      go (yes k) again = let all : h ≡ suc len = omega arith in rw all
-      go (no k) again = rw (one_more len, none len (omega arith) (omega arith), again (omega arith), or-false)
-
-  found : (j len : ℕ) → j < len → same_use u (use_over f (entry_at declared j)) ≡ true → occurs same_use u (uses_over f (entries_of declared len)) ≡ true
-  found j zero h e = absurd (omega arith)
-  found j (suc len) h e = go (dec_lt j len) (λ k. found j len k e)
-    where
-      go : Dec (j < len) → (j < len → occurs same_use u (uses_over f (entries_of declared len)) ≡ true)
-          → occurs same_use u (uses_over f (entries_of declared (suc len))) ≡ true
-      go (yes k) again = rw (one_more len, again k)
-      go (no k) again = let same : len ≡ j = omega arith in rw (one_more len, same, e, or-true)
+  pub one_is : (declared : List Declaration) (j : ℕ) → j < length declared → same_use u (use_in f (row declared j)) ≡ true
+      → occurs same_use u (declared_uses f declared) ≡ true
+  unfolding occurs
+  one_is [] j h e = absurd (omega arith)
+  one_is (d ∷ declared) zero h e = rw e
+  one_is (d ∷ declared) (suc j) h e = rw (one_is declared j (omega arith) e, or-true)
 
 -- names with the same bytes have the same slot, so a declaration with another slot is another
-pub other_slot : (f : ℕ → Name) (declared : List ℕ) (u : AtomUse ℕ) (j : ℕ) → (slot_of f declared j ≡ start_slot (f u.name) → ⊥)
-    → same_use (use_over f u) (use_over f (entry_at declared j)) ≡ false
-other_slot f declared u j d = equal_use (use_over f u) (use_over f (entry_at declared j)) ∙ go _ refl
+other_slot : (f : ℕ → Name) (u : AtomUse ℕ) (d : Declaration) → (start_slot (f d.name) ≡ start_slot (f u.name) → ⊥)
+    → same_use (use_over f u) (use_in f d) ≡ false
+other_slot f u d other = equal_use (use_over f u) (use_in f d) ∙ go _ refl
   where
-    go : (b : Bool) → eq_atom_use (use_over f u) (use_over f (entry_at declared j)) ≡ b → b ≡ false
-    go true e = absurd (d (ap (λ a. start_slot a.name) (sym (eq_atom_use_true (use_over f u) (use_over f (entry_at declared j)) e))))
+    go : (b : Bool) → eq_atom_use (use_over f u) (use_in f d) ≡ b → b ≡ false
+    go true e = absurd (other (ap (λ a. start_slot a.name) (sym (eq_atom_use_true (use_over f u) (use_in f d) e))))
     go false e = refl
 
--- declaration j has the bytes and the count
-abbrev pub same : (ℕ → Name) → List ℕ → AtomUse ℕ → ℕ → Bool
-same f declared u j = same_use (use_over f u) (use_over f (entry_at declared j))
-
-pub same_is : (f : ℕ → Name) (declared : List ℕ) (u : AtomUse ℕ) (j : ℕ)
-    → same f declared u j ≡ (eq_name (f u.name) (f (get_or declared (2 * j) 0)) && eqb u.count (get_or declared (2 * j + 1) 0))
+pub same_is : (f : ℕ → Name) (u : AtomUse ℕ) (d : Declaration)
+    → same_use (use_over f u) (use_in f d) ≡ (eq_name (f u.name) (f d.name) && eqb u.count d.count)
 unfolding eq_atom_use
-same_is f declared u j = equal_use (use_over f u) (use_over f (entry_at declared j))
+same_is f u d = equal_use (use_over f u) (use_in f d)
 
--- so many declarations are left to search: the last of them has the slot of the name, and none behind them has the bytes and the count
-pub record Remain (f : ℕ → Name) (declared : List ℕ) (len : ℕ) (u : AtomUse ℕ) (left : ℕ) : Type 0 where
-  pub up_to : left ≤ len
-  pub own : (j : ℕ) → left ≡ j + 1 → slot_of f declared j ≡ start_slot (f u.name)
-  pub passed : (i : ℕ) → left ≤ i → i < len → same f declared u i ≡ false
+-- of the first len rows those up to one are left to search: it has the slot of the name, and none behind it has the bytes and the count
+pub record Remain (f : ℕ → Name) (rows : List Declaration) (len : ℕ) (u : AtomUse ℕ) (next : Option ℕ) : Type 0 where
+  pub within : up_to next ≤ len
+  pub own : (j : ℕ) → up_to next ≡ j + 1 → slot_of f rows j ≡ start_slot (f u.name)
+  pub passed : (i : ℕ) → up_to next ≤ i → i < len → same_use (use_over f u) (use_in f (row rows i)) ≡ false
 
-module _ {f : ℕ → Name} {declared : List ℕ} {len : ℕ} {u : AtomUse ℕ} where
-  -- at first all are left, and where none is left none has them
-  pub all_remain : Newest (slot_of f declared) (start_slot (f u.name)) len len → Remain f declared len u len
-  all_remain newest = record { up_to = omega arith; own = newest.own; passed = λ i h l. absurd (omega arith) }
+module _ {f : ℕ → Name} {rows : List Declaration} {len : ℕ} {u : AtomUse ℕ} where
+  -- at first those up to the newest of the slot are left
+  pub all_remain : {at : Option ℕ} → Newest (slot_of f rows) (start_slot (f u.name)) len at → Remain f rows len u at
+  all_remain newest = record { within = newest.within; own = newest.own; passed = λ i h l. other_slot f u (row rows i) (newest.last i h l) }
 
-  module _ {left : ℕ} (these : Remain f declared len u left) where
-    pub none_remain : left ≤ 0 → is_declared f declared len u ≡ false
-    unfolding occurs entries_of
-    none_remain none = none_between f (use_over f u) declared 0 len (omega arith) (λ i h. these.passed i (omega arith))
+  -- where none is left none has them
+  pub none_remain : Remain f rows len u None → is_declared f (take len rows) u ≡ false
+  none_remain these =
+      none_is f (use_over f u) (take len rows) (λ i l.
+      let inside : i < len = omega (arith, length-take len rows) in
+      ap (λ d. same_use (use_over f u) (use_in f d)) (get_or-take len rows i (record { name = 0; count = 0 }) inside) ∙ these.passed i (omega arith) inside)
 
-    module _ (some : 0 < left) where
-      -- the last of those that are left is the one that is looked for
-      pub found_last : same f declared u (left - 1) ≡ true → is_declared f declared len u ≡ true
-      found_last e = found f (use_over f u) declared (left - 1) len (omega (arith, these.up_to)) e
+  module _ {j : ℕ} (these : Remain f rows len u (Some j)) where
+    -- the last of those that are left is the one that is looked for
+    pub found : len ≤ length rows → same_use (use_over f u) (use_in f (row rows j)) ≡ true → is_declared f (take len rows) u ≡ true
+    found there e =
+        let inside : j < len = omega (arith, these.within) in
+        one_is f (use_over f u) (take len rows) j (omega (arith, length-take len rows))
+        (ap (λ d. same_use (use_over f u) (use_in f d)) (get_or-take len rows j (record { name = 0; count = 0 }) inside) ∙ e)
 
-      -- where it is another, what is left are those up to its link
-      pub passed_over : {chains : List ℕ} → Linked (slot_of f declared) len chains → same f declared u (left - 1) ≡ false
-          → Remain f declared len u (link_of chains (left - 1))
-      passed_over {chains} linked e =
-          let j : ℕ = left - 1 in
-          let own : slot_of f declared j ≡ start_slot (f u.name) = these.own j (omega arith) in
-          let link = linked.older j (omega (arith, these.up_to)) in
-          record {
-            up_to = omega (arith, link.within, these.up_to);
-            own = λ i at. link.own i at ∙ own;
-            passed = λ i h l. by_cases (dec_lt j i)
-                (λ k. these.passed i (omega arith) l)
-                (λ k. by_cases (dec_lt i j)
-                (λ m. other_slot f declared u i (λ s. link.last i h m (s ∙ sym own)))
-                (λ m. let here : i ≡ j = omega arith in rw here e));
-          }
+    -- where it is another, those up to the next older one of its slot are left
+    pub passed_over : {newest older : List (Option ℕ)} → Chained (slot_of f rows) len newest older
+        → same_use (use_over f u) (use_in f (row rows j)) ≡ false → Remain f rows len u (get_or older j None)
+    passed_over chained e =
+        let own : slot_of f rows j ≡ start_slot (f u.name) = these.own j (omega arith) in
+        let link = chained.goes_on j (omega (arith, these.within)) in
+        record {
+          within = omega (arith, link.within, these.within);
+          own = λ i at. link.own i at ∙ own;
+          passed = λ i h l. by_cases (dec_lt j i)
+              (λ k. these.passed i (omega arith) l)
+              (λ k. by_cases (dec_lt i j)
+              (λ m. other_slot f u (row rows i) (λ s. link.last i h m (s ∙ sym own)))
+              (λ m. let here : i ≡ j = omega arith in rw here e));
+        }

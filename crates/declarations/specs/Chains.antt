@@ -1,31 +1,33 @@
 -- The declarations chained by slots: each has the start slot of its name (document 02, ticket 14), and names with the same bytes have
--- the same one. The chains are numbers in lent memory: the head of each slot, where its chain begins, and behind them the link of each
--- declaration, where the chain goes on. A number is one more than that of a declaration, or 0 for none.
-use Rattle.std.specs.Prelude.{ℕ, ◌+◌, ◌*◌, ◌≤◌, ◌<◌, ◌≡◌, List, length, get_or}
+-- the same one. The chains are two tables: the newest declaration of each slot, where its chain begins, and behind each declaration the
+-- next older one, where the chain goes on.
+use Rattle.std.specs.Prelude.{ℕ, ◌+◌, ◌≤◌, ◌<◌, ◌≡◌, List, get_or, Option, None, Some}
 use Rattle.definitions.specs.Name.{Name}
 use Rattle.definitions.specs.NameIndex.{slot_count, start_slot}
+use Rattle.declarations.specs.declared.Declaration.{Declaration}
 
--- the slot and the link of declaration j
-abbrev pub slot_of : (ℕ → Name) → List ℕ → ℕ → ℕ
-slot_of f declared j = start_slot (f (get_or declared (2 * j) 0))
+-- declaration j, and its slot
+abbrev pub row : List Declaration → ℕ → Declaration
+row rows j = get_or rows j (record { name = 0; count = 0 })
 
-abbrev pub link_of : List ℕ → ℕ → ℕ
-link_of chains j = get_or chains (slot_count + j) 0
+abbrev pub slot_of : (ℕ → Name) → List Declaration → ℕ → ℕ
+slot_of f rows j = start_slot (f (row rows j).name)
+
+-- how many declarations there are up to one, and 0 where it is none
+abbrev pub up_to : Option ℕ → ℕ
+up_to None = 0
+up_to (Some j) = j + 1
 
 -- Where declaration j has the slot `slot j`:
 module _ (slot : ℕ → ℕ) where
-  -- the newest of the first len declarations that has a slot is the one before number `at`; there is none where that is 0
-  pub record Newest (s len at : ℕ) : Type 0 where
-    pub within : at ≤ len
-    pub own : (j : ℕ) → at ≡ j + 1 → slot j ≡ s
-    pub last : (i : ℕ) → at ≤ i → i < len → slot i ≡ s → ⊥
+  -- the newest of the first len declarations that has a slot, or none where none of them has it
+  pub record Newest (s len : ℕ) (at : Option ℕ) : Type 0 where
+    pub within : up_to at ≤ len
+    pub own : (j : ℕ) → up_to at ≡ j + 1 → slot j ≡ s
+    pub last : (i : ℕ) → up_to at ≤ i → i < len → slot i ≡ s → ⊥
 
-  -- each of the first len declarations has its link: the newest before it that has its slot
-  pub record Linked (len : ℕ) (chains : List ℕ) : Type 0 where
-    pub there : slot_count + len ≤ length chains
-    pub older : (j : ℕ) → j < len → Newest (slot j) j (link_of chains j)
-
-  -- and the chain of each slot begins at its newest: so every declaration is reached from the head of its slot
-  pub record Chained (len : ℕ) (chains : List ℕ) : Type 0 where
-    pub linked : Linked len chains
-    pub head : (s : ℕ) → s < slot_count → Newest s len (get_or chains s 0)
+  -- the chain of each slot begins at its newest, and goes on behind each of the first len declarations at the newest before it that has
+  -- its slot: so every declaration is reached from its slot
+  pub record Chained (len : ℕ) (newest older : List (Option ℕ)) : Type 0 where
+    pub begins : (s : ℕ) → s < slot_count → Newest s len (get_or newest s None)
+    pub goes_on : (j : ℕ) → j < len → Newest (slot j) j (get_or older j None)

@@ -1,11 +1,9 @@
 -- What is noted of the labels of a sheet's term and then of its goal are the declarations of its text.
 use Prim.Native.Nat.{ℕ, ◌*◌}
 use mathlib.Core.Path.{◌≡◌, refl, sym, ap, ◌∙◌}
-use mathlib.Core.Logic.{by_cases}
 use mathlib.Core.List.{List, [], ◌++◌, map, map-append}
 use native.Mathlib.Omega.{arith}
-use native.Mathlib.Decide.{dec_lt}
-use lib.ListN.{length, get_or, replicate, get_or-replicate, length-replicate, get_or-eq_default}
+use lib.ListN.{length}
 use Rattle.definitions.specs.declared.Version.TheVariants.{First}
 use Rattle.definitions.specs.declared.TermList.{TermList}
 use Rattle.definitions.specs.declared.TermList.TheVariants.{Atoms, Datatypes}
@@ -14,7 +12,6 @@ use Rattle.definitions.specs.Prop.{Prop, AtomUse, get_atoms, get_datatypes, rena
 use Rattle.definitions.specs.Sheet.{name_limit, goal, proposition_pairs, name_of, pair_offset}
 use Rattle.definitions.specs.Term.{ProofTerm, atom_list, datatype_list, rename_term}
 use Rattle.definitions.specs.Text.{firsts, firsts_after, eq_atom_use, compare_atom_use, arranged}
-use Rattle.definitions.specs.NameIndex.{slot_count}
 use Rattle.definitions.specs.Answers.{goal_prop}
 use Rattle.definitions.proofs.PrefixCode.{Bytes}
 use Rattle.order_laws.proofs.Datatypes.{as_use}
@@ -23,9 +20,9 @@ use Rattle.vocabulary.specs.Vocabulary.{name_in, prop_in, SomeProposition}
 use Rattle.prop_lists.specs.Entries.{use_of, entries}
 use Rattle.proof_term_lists.specs.Labels.{term_uses, Listable, term_in}
 use Rattle.proof_term_lists.proofs.Labels.{atoms_are, datatypes_are}
-use Rattle.declarations.specs.Memory.{use_over, uses_over, declared_uses, entries_of, flag_of, Lent, lent, Noted, Held, Notes}
-use Rattle.declarations.specs.Chains.{Chained}
-use Rattle.declarations.proofs.Noting.{declared_held}
+use Rattle.declarations.specs.declared.Declarations.{Declarations}
+use Rattle.declarations.specs.Memory.{use_over, uses_over, declarations, declared_uses, Fresh, Noted, Held, Notes}
+use Rattle.declarations.proofs.Noting.{fresh_noted, fresh_held, declared_held}
 use Rattle.declarations.proofs.Lines.{datatypes_over}
 use Rattle.sheet.specs.declared.header.Sheet.{Sheet}
 use Rattle.sheet.specs.Header.{header_of, vocabulary_of}
@@ -48,69 +45,24 @@ uses_are (Datatypes v) f t p =
     ∙ rw (datatypes_renamed f v t, prop_datatypes_renamed f p) (ap (map as_use) (map-append f (datatype_list v t) (get_datatypes p))))
 
 -- in the order of version 1 declarations stand as they were first met
-met : {f : ℕ → Name} {l : List (AtomUse ℕ)} {m : Lent} → Noted f l m
-    → declared_uses f m.declared m.len ≡ arranged compare_atom_use First (firsts eq_atom_use (uses_over f l))
+met : {N : ℕ} {f : ℕ → Name} {l : List (AtomUse ℕ)} {m : Declarations N} → Noted f l m
+    → declared_uses f (declarations m) ≡ arranged compare_atom_use First (firsts eq_atom_use (uses_over f l))
 unfolding arranged
 met noted = noted.entries
 
--- the flags and the chains before anything is noted
-abbrev flag_count : ℕ
-flag_count = 4608
-
-abbrev chain_count : ℕ
-chain_count = 5632
-
-abbrev zeros : ℕ → List ℕ
-zeros n = replicate n 0
-
-so_many : (n : ℕ) → length (zeros n) ≡ n
-so_many n = length-replicate {A = ℕ} n 0
-
-zero_at : (n i : ℕ) → get_or (zeros n) i 0 ≡ 0
-zero_at n i = by_cases (dec_lt i n)
-    (λ h. get_or-replicate n i 0 0 h)
-    (λ h. get_or-eq_default (zeros n) 0 {n = i} (omega (arith, so_many n)))
-
--- what is lent before anything is noted
-abbrev nothing : List ℕ → Lent
-nothing declared = lent declared 0 (zeros flag_count) (zeros chain_count)
-
-nothing_noted : (f : ℕ → Name) (declared : List ℕ) → Noted f [] (nothing declared)
-unfolding entries_of firsts firsts_after
-nothing_noted f declared = record { entries = refl; flags = λ name count few is_set. absurd (is_set (zero_at flag_count (flag_of name count))) }
-
-nothing_chained : (slot : ℕ → ℕ) → Chained slot 0 (zeros chain_count)
-unfolding slot_count
-nothing_chained slot = record {
-  linked = record { there = omega (arith, so_many chain_count); older = λ j l. absurd (omega arith) };
-  head = λ s l. rw (zero_at chain_count s) record { within = omega arith; own = λ j e. absurd (omega arith); last = λ i h b. absurd (omega arith) };
-}
-
 -- Of an accepted sheet, by its vocabulary:
 module _ {s : List ℕ} {h : Sheet} (a : AcceptedSheet s h) (bytes : Bytes s) {words : Vocabulary} (same : words ≡ vocabulary_of h) where
-  -- before anything is noted
-  nothing_held : {declared : List ℕ} → length declared ≡ 2 * flag_count → Held s words (nothing declared)
-  unfolding name_limit slot_count
-  nothing_held sized =
+  -- what it takes to note the term's labels before anything is noted
+  pub labels_notable : {terms : List ℕ} {n : ℕ} {m : Declarations 4608} → HeldTerm s terms n → Fresh m → Listable s words terms n × Held s words m
+  unfolding name_limit
+  labels_notable term fresh =
       let has = its_header a in
       let few = few_names has in
-      rw same
-      (record {
-        names = λ name below. names_of a (rw (count_is has) at below);
-        small = omega arith;
-        flags = omega (arith, so_many flag_count);
-        named = λ j below. absurd (omega arith);
-        room = omega (arith, so_many flag_count);
-        links = omega (arith, so_many flag_count, so_many chain_count);
-        numbered = omega (arith, so_many flag_count);
-        few = omega arith;
-        chained = nothing_chained _;
-      })
-
-  -- what it takes to note the term's labels, from no declarations, no flags and no chains
-  pub labels_notable : {terms : List ℕ} {n : ℕ} {declared : List ℕ} → HeldTerm s terms n → length declared ≡ 2 * flag_count
-      → Listable s words terms n × Held s words (nothing declared)
-  labels_notable term sized = (listable a.sheet bytes a same term, nothing_held sized)
+      let count = ap (λ w. w.name_count) same in (
+        listable a.sheet bytes a same term,
+        rw same
+            (fresh_held fresh (λ name below. names_of a (rw (count_is has) at below)) (omega arith) (omega arith) (omega arith)),
+      )
 
   -- Where the goal stands:
   module _ {pairs : List ℕ} (cut : pairs ≡ proposition_pairs s) {goal-offset : ℕ} (is : goal-offset ≡ pair_offset pairs h.goal) where
@@ -128,11 +80,11 @@ module _ {s : List ℕ} {h : Sheet} (a : AcceptedSheet s h) (bytes : Bytes s) {w
         ap (rename_prop (name_of s)) (proposition_is a.sheet bytes (goal s) a.sheet.in_range.goal ∙ rw (same, offset_is) (sym (prop_is (its_header a) _)))
 
     -- once the term's labels and then the goal are noted, the declarations are those of the sheet's text
-    pub declares : {terms : List ℕ} {n : ℕ} → HeldTerm s terms n → (list : TermList)
-        → {declared : List ℕ} {m₁ m₂ : Lent} → Notes s words (term_uses list (term_in s words terms n)) (nothing declared) m₁
-        → Notes s words (entries list (prop_in s words goal-offset)) m₁ m₂ → Declares s h First list m₂.declared m₂.len
-    declares {terms} {n} term list first second =
-        let noted = second.adds _ (first.adds [] (nothing_noted _ _)) in
+    pub declares : {terms : List ℕ} {n : ℕ} → HeldTerm s terms n → (list : TermList) → {N : ℕ} {m₀ m₁ m₂ : Declarations N} → Fresh m₀
+        → Notes s words (term_uses list (term_in s words terms n)) m₀ m₁
+        → Notes s words (entries list (prop_in s words goal-offset)) m₁ m₂ → Declares s h First list (declarations m₂)
+    declares {terms} {n} term list fresh first second =
+        let noted = second.adds _ (first.adds [] (fresh_noted fresh _)) in
         record {
           table = rw same at (declared_held second.held);
           entries = λ t is_term.

@@ -24,6 +24,7 @@ use Rattle.output.specs.Wrote.{Wrote}
 use Rattle.output.specs.Written.{written_of, Fills}
 use Rattle.output.proofs.Writing.{then, dry_run}
 use Rattle.output.proofs.Filling.{too_long, fills}
+use Rattle.declarations.specs.declared.Declaration.{Declaration}
 use Rattle.declarations.specs.Memory.{declared_uses, Declared}
 use Rattle.declarations.specs.Lines.{declaration_lines}
 use Rattle.declarations.proofs.Lines.{atoms_declared, datatypes_declared}
@@ -43,15 +44,15 @@ unfolding declarations
 listed_lines v Atoms t goal = atoms_declared v (atom_list t ++ get_atoms goal)
 listed_lines v (Datatypes listed) t goal = datatypes_declared v listed (datatype_list listed t ++ get_datatypes goal)
 
-lines_are : {s : List ℕ} {h : Sheet} {v : Version} {list : TermList} {declared : List ℕ} {len : ℕ} → Declares s h v list declared len
+lines_are : {s : List ℕ} {h : Sheet} {v : Version} {list : TermList} {declared : List Declaration} → Declares s h v list declared
     → (t : ProofTerm Name) → named_term s ≡ accepted t
-    → declaration_lines list (declared_uses (name_in s (vocabulary_of h)) declared len) ≡ declarations v list t (goal_prop s)
+    → declaration_lines list (declared_uses (name_in s (vocabulary_of h)) declared) ≡ declarations v list t (goal_prop s)
 lines_are {s} {v = v} {list} noted t is = ap (declaration_lines list) (noted.entries t is) ∙ listed_lines v list t (goal_prop s)
 
 -- they are as long as those that stand as they were first met
-lines_long : {s : List ℕ} {h : Sheet} (v : Version) {list : TermList} {declared : List ℕ} {len : ℕ} → Declares s h First list declared len
+lines_long : {s : List ℕ} {h : Sheet} (v : Version) {list : TermList} {declared : List Declaration} → Declares s h First list declared
     → (t : ProofTerm Name) → named_term s ≡ accepted t
-    → length (declaration_lines list (declared_uses (name_in s (vocabulary_of h)) declared len)) ≡ length (declarations v list t (goal_prop s))
+    → length (declaration_lines list (declared_uses (name_in s (vocabulary_of h)) declared)) ≡ length (declarations v list t (goal_prop s))
 unfolding arranged
 lines_long {s} v {list} noted t is =
     let uses = firsts eq_atom_use (listed_uses list t (goal_prop s)) in
@@ -59,30 +60,30 @@ lines_long {s} v {list} noted t is =
     ∙ (sym (same_lines compare_atom_use v list uses) ∙ ap length (listed_lines v list t (goal_prop s)))
 
 -- what stands as it was first met stands in the order of a version once it is arranged
-pub in_order : {s : List ℕ} {h : Sheet} {v : Version} {list : TermList} {before after : List ℕ} {len : ℕ}
-    → Declares s h First list before len → Arranges s h v len before after → Declares s h v list after len
+pub in_order : {s : List ℕ} {h : Sheet} {v : Version} {list : TermList} {before after : List Declaration}
+    → Declares s h First list before → Arranges s h v before after → Declares s h v list after
 unfolding arranged
 in_order {v = v} noted done =
     record { table = done.table; entries = λ t is. done.entries ∙ ap (arranged compare_atom_use v) (noted.entries t is) }
 
 -- what is noted of a list is noted of the same list
-pub noted_of : {s : List ℕ} {h : Sheet} {v : Version} {list other : TermList} {declared : List ℕ} {len : ℕ} → list ≡ other → Declares s h v list declared len
-    → Declares s h v other declared len
+pub noted_of : {s : List ℕ} {h : Sheet} {v : Version} {list other : TermList} {declared : List Declaration} → list ≡ other → Declares s h v list declared
+    → Declares s h v other declared
 noted_of same noted = rw same at noted
 
 -- By a sheet's vocabulary:
 module _ {s : List ℕ} {h : Sheet} {words : Vocabulary} (same : words ≡ vocabulary_of h) where
   -- what is noted can be printed
-  pub printable : {v : Version} {list : TermList} {declared : List ℕ} {len : ℕ} → Declares s h v list declared len → Declared s words declared len
+  pub printable : {v : Version} {list : TermList} {declared : List Declaration} → Declares s h v list declared → Declared s words declared
   printable noted = rw same noted.table
 
   -- the lines of the first list, a newline, those of the second, two newlines
   pub heading_written : (v : Version) {upper lower : TermList} → upper ≡ first_list v → lower ≡ second_list v
-      → {first : List ℕ} {m : ℕ} {second : List ℕ} {k : ℕ} → Declares s h v (first_list v) first m → Declares s h v (second_list v) second k
+      → {first second : List Declaration} → Declares s h v (first_list v) first → Declares s h v (second_list v) second
       → {write : Bool} {out₀ out₁ out₂ out₃ out₄ : List ℕ} {to₁ to₂ to₃ to₄ : ℕ}
-      → Wrote (declaration_lines upper (declared_uses (name_in s words) first m)) write out₀ 0 out₁ to₁
+      → Wrote (declaration_lines upper (declared_uses (name_in s words) first)) write out₀ 0 out₁ to₁
       → Wrote (10 ∷ []) write out₁ to₁ out₂ to₂
-      → Wrote (declaration_lines lower (declared_uses (name_in s words) second k)) write out₂ to₂ out₃ to₃
+      → Wrote (declaration_lines lower (declared_uses (name_in s words) second)) write out₂ to₂ out₃ to₃
       → Wrote (10 ∷ 10 ∷ []) write out₃ to₃ out₄ to₄
       → (t : ProofTerm Name) → named_term s ≡ accepted t → Wrote (heading v t (goal_prop s)) write out₀ 0 out₄ to₄
   unfolding heading
@@ -91,9 +92,9 @@ module _ {s : List ℕ} {h : Sheet} {words : Vocabulary} (same : words ≡ vocab
 
   -- as long are the lines of both lists as they were first met, and three newlines
   pub heading_measured : (v : Version) {upper lower : TermList} → upper ≡ first_list v → lower ≡ second_list v
-      → {first : List ℕ} {m : ℕ} {second : List ℕ} {k : ℕ} → Declares s h First (first_list v) first m → Declares s h First (second_list v) second k
-      → {above below : ℕ} → TextLength (declaration_lines upper (declared_uses (name_in s words) first m)) above
-      → TextLength (declaration_lines lower (declared_uses (name_in s words) second k)) below
+      → {first second : List Declaration} → Declares s h First (first_list v) first → Declares s h First (second_list v) second
+      → {above below : ℕ} → TextLength (declaration_lines upper (declared_uses (name_in s words) first)) above
+      → TextLength (declaration_lines lower (declared_uses (name_in s words) second)) below
       → HeadingLength s v (above + below + 3)
   unfolding heading
   heading_measured v up low a d lines others = record {

@@ -5,7 +5,7 @@ use mathlib.Core.Path.{◌≡◌, sym}
 use mathlib.Core.Logic.{⊎_elim}
 use mathlib.Core.List.{List}
 use native.Mathlib.Omega.{arith}
-use Rattle.definitions.specs.Sheet.{name_limit, names, propositions, proposition_pairs, code_bytes, name_of, pair_offset}
+use Rattle.definitions.specs.Sheet.{name_limit, names, propositions, proposition_pairs, code_bytes, name_of, pair_offset, marked}
 use Rattle.definitions.specs.Tree.{prop_of}
 use Rattle.definitions.specs.Admission.{bad_code}
 use Rattle.definitions.proofs.PrefixCode.{Bytes}
@@ -14,9 +14,8 @@ use Rattle.prefix_code.proofs.Reading.{present_in, prop_in_lem}
 use Rattle.prop.specs.Ends.{Known}
 use Rattle.prop.proofs.Parts.{binary_parts}
 use Rattle.vocabulary.specs.declared.Vocabulary.{Vocabulary}
-use Rattle.vocabulary.specs.Vocabulary.{code_in, name_in, prop_in}
+use Rattle.vocabulary.specs.Vocabulary.{pairs_in, text_in, code_in, name_in, prop_in}
 use Rattle.proof_term_lists.specs.Labels.{Listable}
-use Rattle.declarations.proofs.Search.{names_cut}
 use Rattle.sheet.specs.declared.header.Sheet.{Sheet}
 use Rattle.sheet.specs.Header.{vocabulary_of, HasHeader}
 use Rattle.sheet.specs.Admitted.{Admitted}
@@ -41,9 +40,13 @@ few_names has = has.in_range.names
 
 -- by the vocabulary of a sheet, its names and its propositions are the definitions' own
 module _ {s : List ℕ} {h : Sheet} (has : HasHeader s h) {words : Vocabulary} (same : words ≡ vocabulary_of h) where
+  names_cut : {pairs text : List ℕ} → pairs ≡ pairs_in s words → text ≡ text_in s words → name_in s words ≡ marked pairs text
+  unfolding name_in
+  names_cut cut cut-text = rw (cut, cut-text)
+
   pub names_are : name_in s words ≡ name_of s
   unfolding name_of
-  names_are = names_cut s words (rw same (sym (pairs_are has))) (rw same (sym (text_is has)))
+  names_are = names_cut (rw same (sym (pairs_are has))) (rw same (sym (text_is has)))
 
   props_cut : {count : ℕ} {code : List ℕ} → code ≡ code_in s words → count ≡ words.name_count → prop_in s words ≡ prop_at count code
   unfolding prop_in

@@ -15,6 +15,7 @@ use Rattle.prefix_code.specs.PropAt.{prop_at}
 use Rattle.vocabulary.specs.Vocabulary.{name_in}
 use Rattle.prop.specs.Ends.{Known}
 use Rattle.proof_term.specs.Records.{term_at}
+use Rattle.declarations.specs.declared.Declaration.{Declaration}
 use Rattle.declarations.specs.Memory.{declared_uses, Declared}
 use Rattle.sheet.specs.declared.header.Sheet.{Sheet}
 use Rattle.sheet.specs.Header.{vocabulary_of}
@@ -30,16 +31,16 @@ module _ (s : List ℕ) where
   abbrev pub term_of : List ℕ → ℕ → ProofTerm Name
   term_of terms n = rename_term (name_of s) (term_at (prop_at (names s) (code_bytes s)) terms n)
 
-  -- so many declarations stand in lent memory, each of a name of the sheet, and they are those of a list in a version's order
-  pub record Declares (h : Sheet) (v : Version) (list : TermList) (declared : List ℕ) (len : ℕ) : Type 0 where
-    pub table : Declared s (vocabulary_of h) declared len
+  -- declarations, each of a name of the sheet, are those of a list in a version's order
+  pub record Declares (h : Sheet) (v : Version) (list : TermList) (declared : List Declaration) : Type 0 where
+    pub table : Declared s (vocabulary_of h) declared
     pub entries : (t : ProofTerm Name) → named_term s ≡ accepted t
-        → declared_uses (name_in s (vocabulary_of h)) declared len ≡ arranged compare_atom_use v (firsts eq_atom_use (listed_uses list t (goal_prop s)))
+        → declared_uses (name_in s (vocabulary_of h)) declared ≡ arranged compare_atom_use v (firsts eq_atom_use (listed_uses list t (goal_prop s)))
 
   -- declarations are put into a version's order
-  pub record Arranges (h : Sheet) (v : Version) (len : ℕ) (before after : List ℕ) : Type 0 where
-    pub table : Declared s (vocabulary_of h) after len
-    pub entries : declared_uses (name_in s (vocabulary_of h)) after len ≡ arranged compare_atom_use v (declared_uses (name_in s (vocabulary_of h)) before len)
+  pub record Arranges (h : Sheet) (v : Version) (before after : List Declaration) : Type 0 where
+    pub table : Declared s (vocabulary_of h) after
+    pub entries : declared_uses (name_in s (vocabulary_of h)) after ≡ arranged compare_atom_use v (declared_uses (name_in s (vocabulary_of h)) before)
 
   -- the table has the ends of each proposition of the sheet
   pub record EndsKnown (ends : List ℕ) : Type 0 where

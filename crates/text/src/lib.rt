@@ -1,7 +1,7 @@
 // The text of a sheet's term: the declarations, and then the term (source document 005).
 #![tactic(auto)]
 
-ghost use Rattle.std.specs.Prelude.{◌≡◌, true, List, ℕ, length};
+ghost use Rattle.std.specs.Prelude.{◌≡◌, ◌≤◌, ◌<◌, true, List, ℕ, length, take};
 ghost use Rattle.definitions.specs.declared.Version.TheVariants.{First};
 ghost use Rattle.definitions.specs.Outcome.{accepted};
 ghost use Rattle.definitions.specs.Name.{Name};
@@ -19,9 +19,8 @@ ghost use Rattle.text.specs.Declaring.{term_of, Declares, Arranges, EndsKnown, H
 
 use declaration_length::lines_length;
 use declaration_order::sort_declarations;
-use declarations::{note_entries, note_term, put_declarations};
+use declarations::{Declaration, Declarations, put_declarations};
 use definitions::{Refusal, Style, TermList, Version};
-use name_index::SLOT_COUNT;
 use number::pair_offset;
 use output::{put, put_all};
 use proof_term_display::print_term;
@@ -30,79 +29,56 @@ use prop::fill_all_ends;
 use sheet::{Sheet, code_bytes, name_pairs, proposition_pairs, text_bytes, vocabulary};
 use sheet_term::{TERM_NUMBERS, sheet_term};
 
-// One flag for each name and each count of parameters.
-const FLAGS: usize = Sheet::NAME_LIMIT * (Sheet::PARAMETER_LIMIT + 1);
-
-// A name and a count for each of them.
-const DECLARED_NUMBERS: usize = 2 * FLAGS;
-
-// A head for each slot, and a link for each declaration.
-const CHAIN_NUMBERS: usize = SLOT_COUNT + FLAGS;
+// As many declarations as there are names and counts of parameters.
+const DECLARATION_LIMIT: usize = Sheet::NAME_LIMIT * (Sheet::PARAMETER_LIMIT + 1);
 
 // The text of a sheet's term has fewer bytes: 2 to the 42nd.
 const TERM_TEXT_LIMIT: usize = 4398046511104;
 
-// Whose declarations come first in a version of the heading.
-fn first_list(version: Version) -> TermList
-    ensures { result ≡ first_list version }
+// The list whose declarations come first in a version of the heading, and the list whose come second.
+#[tactic(auto, unfolding(definitions::specs::Text::first_list, definitions::specs::Text::second_list))]
+fn lists(version: Version) -> (TermList, TermList)
+    ensures { (result.0 ≡ first_list version) × (result.1 ≡ second_list version) }
 {
     match version {
-        Version::First => TermList::Atoms,
-        Version::Second => TermList::Datatypes(Version::Second),
-        Version::Third => TermList::Datatypes(Version::Third),
+        Version::First => (TermList::Atoms, TermList::Datatypes(Version::First)),
+        Version::Second | Version::Third => (TermList::Datatypes(version), TermList::Atoms),
     }
 }
 
-// Whose declarations come second.
-fn second_list(version: Version) -> TermList
-    ensures { result ≡ second_list version }
-{
-    match version {
-        Version::First => TermList::Datatypes(Version::First),
-        Version::Second => TermList::Atoms,
-        Version::Third => TermList::Atoms,
-    }
-}
-
-// Notes a list of the term and then what the goal adds to it.
+// Stores the declarations of a list of the term and then of what the goal adds to it, and says how many there are.
 fn declare(
     s: &[u8],
     h: Sheet,
     terms: &[u16],
     n: usize,
     list: TermList,
-    declared: &mut [u16; DECLARED_NUMBERS],
+    declared: &mut [Declaration; DECLARATION_LIMIT],
 ) -> usize
     requires accepted_sheet { AcceptedSheet s.now h }
     requires held_term { HeldTerm s.now terms.now n }
-    ensures { Declares s.now h First list declared.new result }
+    ensures within { result ≤ length declared.new }
+    ensures declares { Declares s.now h First list (take result declared.new) }
 {
-    let mut seen = [0u16; FLAGS];
-    let mut chains = [0u16; CHAIN_NUMBERS];
+    let mut noted = Declarations::<DECLARATION_LIMIT>::new();
     let v = vocabulary(h);
-    let len = note_term(terms, n, list, s, v, declared, 0, &mut seen, &mut chains);
+    noted.note_term(terms, n, list, s, v);
     let goal = pair_offset(proposition_pairs(s, h), h.goal);
-    note_entries(s, v, goal, list, declared, len, &mut seen, &mut chains)
+    noted.note_entries(s, v, goal, list);
+    let all = noted.declared();
+    declared[..all.len()].copy_from_slice(all);
+    all.len()
 }
 
 // Puts declarations, as they were first met, into the order of a version.
-fn arrange(s: &[u8], h: Sheet, version: Version, declared: &mut [u16; DECLARED_NUMBERS], len: usize)
+fn arrange(s: &[u8], h: Sheet, version: Version, declared: &mut [Declaration])
     requires accepted_sheet { AcceptedSheet s.now h }
-    requires declared { Declared s.now (vocabulary_of h) declared.old len }
-    ensures { Arranges s.now h version len declared.old declared.new }
+    requires declared { Declared s.now (vocabulary_of h) declared.old }
+    ensures { Arranges s.now h version declared.old declared.new }
 {
     match version {
-        Version::First => {
-            return;
-        }
-        Version::Second => {
-            return;
-        }
-        Version::Third => {
-            let mut merged = [0u16; DECLARED_NUMBERS];
-            sort_declarations(declared, &mut merged, len, s, vocabulary(h));
-            return;
-        }
+        Version::First | Version::Second => {}
+        Version::Third => sort_declarations(declared, s, vocabulary(h)),
     }
 }
 
@@ -126,23 +102,20 @@ fn put_heading(
     s: &[u8],
     h: Sheet,
     version: Version,
-    first: &[u16; DECLARED_NUMBERS],
-    first_count: usize,
-    second: &[u16; DECLARED_NUMBERS],
-    second_count: usize,
+    first: &[Declaration],
+    second: &[Declaration],
 ) -> usize
     requires accepted_sheet { AcceptedSheet s.now h }
-    requires declares { Declares s.now h version (first_list version) first.now first_count }
-    requires declares_2 { Declares s.now h version (second_list version) second.now second_count }
+    requires declares { Declares s.now h version (first_list version) first.now }
+    requires declares_2 { Declares s.now h version (second_list version) second.now }
     ensures { (t : ProofTerm Name) → named_term s.now ≡ accepted t →
         Wrote (heading version t (goal_prop s.now)) true out.old 0 out.new result }
 {
     let v = vocabulary(h);
-    let upper = first_list(version);
-    let upper_end = put_declarations(out, 0, first, first_count, upper, s, v, true);
+    let (upper, lower) = lists(version);
+    let upper_end = put_declarations(out, 0, first, upper, s, v, true);
     let line = put(out, upper_end, b'\n', true);
-    let lower = second_list(version);
-    let end = put_declarations(out, line, second, second_count, lower, s, v, true);
+    let end = put_declarations(out, line, second, lower, s, v, true);
     put_all(out, end, b"\n\n", true)
 }
 
@@ -151,20 +124,18 @@ fn heading_length(
     s: &[u8],
     h: Sheet,
     version: Version,
-    first: &[u16; DECLARED_NUMBERS],
-    first_count: usize,
-    second: &[u16; DECLARED_NUMBERS],
-    second_count: usize,
+    first: &[Declaration],
+    second: &[Declaration],
 ) -> usize
     requires accepted_sheet { AcceptedSheet s.now h }
-    requires declares { Declares s.now h First (first_list version) first.now first_count }
-    requires declares_2 { Declares s.now h First (second_list version) second.now second_count }
+    requires declares { Declares s.now h First (first_list version) first.now }
+    requires declares_2 { Declares s.now h First (second_list version) second.now }
+    requires few { (length first.now < 32768) × (length second.now < 32768) }
     ensures { HeadingLength s.now version result }
 {
     let v = vocabulary(h);
-    let upper = lines_length(first, first_count, first_list(version), s, v);
-    let lower = lines_length(second, second_count, second_list(version), s, v);
-    upper + lower + 3
+    let (upper, lower) = lists(version);
+    lines_length(first, upper, s, v) + lines_length(second, lower, s, v) + 3
 }
 
 // The term, from its records.
@@ -231,11 +202,18 @@ fn text_length(s: &[u8], h: Sheet, terms: &[u16], n: usize, version: Version, st
     let mut ends = [0u16; Sheet::CODE_LIMIT];
     fill_sheet_ends(s, h, &mut ends);
     let term = measure_term(s, h, terms, n, style, &ends);
-    let mut first = [0u16; DECLARED_NUMBERS];
-    let mut second = [0u16; DECLARED_NUMBERS];
-    let first_count = declare(s, h, terms, n, first_list(version), &mut first);
-    let second_count = declare(s, h, terms, n, second_list(version), &mut second);
-    heading_length(s, h, version, &first, first_count, &second, second_count) + term
+    let (upper, lower) = lists(version);
+    let mut first = [Declaration { name: 0, count: 0 }; DECLARATION_LIMIT];
+    let mut second = [Declaration { name: 0, count: 0 }; DECLARATION_LIMIT];
+    let first_count = declare(s, h, terms, n, upper, &mut first);
+    let second_count = declare(s, h, terms, n, lower, &mut second);
+    heading_length(
+        s,
+        h,
+        version,
+        &first[..first_count],
+        &second[..second_count],
+    ) + term
 }
 
 // How long the text of a sheet is in a version and a style, or the refusal of the sheet's term, for every sequence of bytes.
@@ -269,26 +247,20 @@ pub fn text(
     if out.len() < term {
         return Err(Refusal::at(16, 0));
     }
-    let mut first = [0u16; DECLARED_NUMBERS];
-    let mut second = [0u16; DECLARED_NUMBERS];
-    let first_count = declare(s, h, terms, n, first_list(version), &mut first);
-    let second_count = declare(s, h, terms, n, second_list(version), &mut second);
-    let end = heading_length(s, h, version, &first, first_count, &second, second_count) + term;
+    let (upper, lower) = lists(version);
+    let mut first = [Declaration { name: 0, count: 0 }; DECLARATION_LIMIT];
+    let mut second = [Declaration { name: 0, count: 0 }; DECLARATION_LIMIT];
+    let first_count = declare(s, h, terms, n, upper, &mut first);
+    let second_count = declare(s, h, terms, n, lower, &mut second);
+    let first = &mut first[..first_count];
+    let second = &mut second[..second_count];
+    let end = heading_length(s, h, version, first, second) + term;
     if out.len() < end {
         return Err(Refusal::at(16, 0));
     }
-    arrange(s, h, version, &mut first, first_count);
-    arrange(s, h, version, &mut second, second_count);
-    let start = put_heading(
-        out,
-        s,
-        h,
-        version,
-        &first,
-        first_count,
-        &second,
-        second_count,
-    );
+    arrange(s, h, version, first);
+    arrange(s, h, version, second);
+    let start = put_heading(out, s, h, version, first, second);
     put_term(out, start, s, h, terms, n, style, &ends);
     Ok(end)
 }

@@ -11,7 +11,7 @@ returns-then-count-eq0 c = (rw c.if-count-eq0.true refl, omega arith)
 
 pub returns : goal.returns
 returns c =
-    let few = lines.few_digits _ c.requires in
+    let few = lines.few_digits c.args.count (omega arith) in
     let is = lines.digits_counted _ _ c.ilog10.ensures.power_le c.ilog10.ensures.next_power_gt in
     let whole = lines.count_length _ c.if-count-eq0.false in
     (omega arith, omega arith)

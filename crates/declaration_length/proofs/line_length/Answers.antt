@@ -7,9 +7,9 @@ pub returns-in-Atoms : goal.returns-in-Atoms
 returns-in-Atoms c =
     let s = c.args in
     rw c.in-Atoms.is
-    (atom_line (name_in s.bytes.now s.v) s.this.name s.this.count c.name_length-named.ensures c.count_length.ensures)
+    (atom_line (name_in s.bytes.now s.v) s.this c.name_length-named.ensures c.count_length.ensures)
 
 pub returns-in-Datatypes : goal.returns-in-Datatypes
 returns-in-Datatypes c =
     let s = c.args in
-    rw c.in-Datatypes.is (datatype_line (name_in s.bytes.now s.v) s.this.name s.this.count c.name_length-named.ensures _)
+    rw c.in-Datatypes.is (datatype_line (name_in s.bytes.now s.v) s.this c.name_length-named.ensures _)

@@ -7,14 +7,16 @@ use Rattle.declarations.proofs.put_declaration.Goals as goal
 pub returns-in-Atoms : goal.returns-in-Atoms
 unfolding declaration atom_declaration count_text
 returns-in-Atoms c =
-    rw (c.in-Atoms.is, ← c.name-text.ensures)
+    let text = rw c.from-name.ensures at c.name-text.ensures in
+    rw (c.in-Atoms.is, ← text)
     (writing.then c.put_all-word.ensures
     (writing.then c.put_all-named.ensures
-    (writing.then c.put_count-counted.ensures c.put.ensures)))
+    (writing.then (rw c.from-count.ensures at c.put_count-counted.ensures) c.put.ensures)))
 
 pub returns-in-Datatypes : goal.returns-in-Datatypes
 unfolding declaration datatype_declaration
 returns-in-Datatypes c =
-    rw (c.in-Datatypes.is, ← c.name-text.ensures)
+    let text = rw c.from-name.ensures at c.name-text.ensures in
+    rw (c.in-Datatypes.is, ← text)
     (writing.then c.put_all-word-in-Datatypes.ensures
     (writing.then c.put_all-named-in-Datatypes.ensures c.put-in-Datatypes.ensures))

@@ -16,7 +16,7 @@ put_declarations-end-requires c =
 pub returns : goal.returns
 returns c =
     let record { accepted_sheet = _; declares = first; declares_2 = second } = c.requires in
-    heading_written c.vocabulary-v.ensures c.args.version c.first_list-upper.ensures c.second_list-lower.ensures first second
+    heading_written c.vocabulary-v.ensures c.args.version c.lists-upper.ensures.0 c.lists-upper.ensures.1 first second
     c.put_declarations-upper_end.ensures
     c.put-line.ensures
     c.put_declarations-end.ensures

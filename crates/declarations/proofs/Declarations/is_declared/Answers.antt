@@ -1,53 +1,64 @@
--- The last of the declarations that are left is the one, or the search goes on with those up to its link.
-use Prim.Native.Nat.{◌-◌, ◌<◌}
+-- The next of the declarations that are left is the one, or the search goes on with the next older one of its slot.
+use Prim.Native.Nat.{◌<◌}
 use mathlib.Core.Path.{◌≡◌, sym, ◌∙◌}
 use native.Mathlib.Omega.{arith}
-use Rattle.definitions.specs.NameIndex.{slot_count}
+use borrow.Author.Rules.{rules}
+use lib.ListN.{length}
+use Rattle.definitions.specs.NameIndex.{slot_count, start_slot}
 use Rattle.vocabulary.specs.Vocabulary.{name_in}
 use Rattle.prop_lists.specs.Entries.{use_of}
-use Rattle.declarations.proofs.Search.{same, same_is, all_remain, none_remain, found_last, passed_over}
-use Rattle.declarations.proofs.is_declared.Goals as goal
-use Rattle.declarations.proofs.is_declared.Goals.{In-loop-left, After-has}
+use Rattle.declarations.specs.Memory.{use_over, use_in, same_use}
+use Rattle.declarations.specs.Chains.{row}
+use Rattle.declarations.proofs.Chains.{start_slot_below}
+use Rattle.declarations.proofs.Noting.{newest_of}
+use Rattle.declarations.proofs.Search.{same_is, all_remain, none_remain, found, passed_over}
+use Rattle.declarations.proofs.Declarations.is_declared.Goals as goal
+
+pub offset_bounds-self-slot : goal.offset_bounds-self-slot
+unfolding slot_count
+offset_bounds-self-slot g c = omega (arith, start_slot_below (name_in c.args.bytes.now c.args.v c.args.name))
+
+pub bounds-self-slot : goal.bounds-self-slot
+unfolding slot_count
+bounds-self-slot g c = omega (arith, start_slot_below (name_in c.args.bytes.now c.args.v c.args.name))
+
+pub loop-next-init : goal.loop-next-init
+loop-next-init g c = all_remain (newest_of _ c.requires.held c.requires.named.1)
 
 -- declaration j is one of them
-before : (c : In-loop-left) → c.loop-left.left - 1 < c.args.len
-before c = omega (arith, c.loop-left.invariant.up_to, c.loop-left-test.true)
+pub bounds-self-j : goal.bounds-self-j
+bounds-self-j g c =
+    let these = rw c.in-Some.is at c.loop-next.invariant in
+    omega (arith, these.within, c.from-j.ensures, c.requires.held.within)
 
--- what is tested of it
-tested : (c : After-has) → let s = c.args in
-    c.has.result ≡ same (name_in s.bytes.now s.v) s.declared.now (use_of s.name s.count) (c.loop-left.left - 1)
-tested c =
-    rw (same_is, ← c.declaration_at.ensures.name, ← c.declaration_at.ensures.count) c.has.ensures
-
-pub loop-left-init : goal.loop-left-init
-loop-left-init c = all_remain c.requires.newest
-
-pub declaration_at-requires : goal.declaration_at-requires
-declaration_at-requires c = omega (arith, before c, c.requires.declared.0.there)
+pub bounds-self-j-in-Some : goal.bounds-self-j-in-Some
+bounds-self-j-in-Some g c =
+    let these = rw c.in-Some.is at c.loop-next.invariant in
+    omega (arith, these.within, c.from-j.ensures, c.requires.held.within)
 
 pub has-requires : goal.has-requires
-has-requires c = (
-  c.requires.declared.1,
-  rw c.declaration_at.ensures.name (c.requires.declared.0.named _ (before (goal.at.has-requires c).In-loop-left)),
-)
-
-pub bounds-chains-j : goal.bounds-chains-j
-unfolding slot_count
-bounds-chains-j c = omega (arith, c.requires.linked.there, before (goal.at.bounds-chains-j c).In-loop-left)
-
-pub loop-left-preserved : goal.loop-left-preserved
-unfolding slot_count
-loop-left-preserved c =
-    passed_over c.loop-left.invariant c.loop-left-test.true c.requires.linked
-    (sym (tested (goal.at.loop-left-preserved c).After-has) ∙ c.if-has.false)
-
-pub loop-left-smaller : goal.loop-left-smaller
-unfolding slot_count
-loop-left-smaller c = omega (arith, (c.requires.linked.older _ (before (goal.at.loop-left-smaller c).In-loop-left)).within)
+has-requires g c =
+    let these = rw c.in-Some.is at c.loop-next.invariant in
+    (c.requires.named.0, rw c.from-j.ensures (c.requires.held.named _ (omega (arith, these.within))))
 
 pub returns-then-has : goal.returns-then-has
-returns-then-has c =
-    sym (found_last c.loop-left.invariant c.loop-left-test.true (sym (tested (goal.at.returns-then-has c).After-has) ∙ c.if-has.true))
+returns-then-has g c =
+    let these = rw c.in-Some.is at c.loop-next.invariant in
+    let s = c.args in
+    let long : length s.self.now.rows ≡ g.row.N = search rules in
+    sym (found these (omega (arith, long, c.requires.held.within)) (same_is (name_in s.bytes.now s.v) (use_of s.name s.count) (row s.self.now.rows c.in-Some.j) ∙ (sym (rw c.from-j.ensures at c.has.ensures) ∙ c.if-has.true)))
+
+pub loop-next-preserved : goal.loop-next-preserved
+loop-next-preserved g c =
+    let these = rw c.in-Some.is at c.loop-next.invariant in
+    let s = c.args in
+    let other = same_is (name_in s.bytes.now s.v) (use_of s.name s.count) (row s.self.now.rows c.in-Some.j) ∙ (sym (rw c.from-j.ensures at c.has.ensures) ∙ c.if-has.false) in
+    rw c.from-j.ensures (passed_over these c.requires.held.chained other)
+
+pub loop-next-smaller : goal.loop-next-smaller
+loop-next-smaller g c =
+    let these = rw c.in-Some.is at c.loop-next.invariant in
+    rw (c.in-Some.is, c.from-j.ensures) (omega (arith, (c.requires.held.chained.goes_on c.in-Some.j (omega (arith, these.within))).within))
 
 pub returns : goal.returns
-returns c = sym (none_remain c.loop-left.invariant (omega arith))
+returns g c = sym (none_remain (rw c.in_default.is at c.loop-next.invariant))

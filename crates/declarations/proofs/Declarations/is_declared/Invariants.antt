@@ -1,11 +1,12 @@
--- So many declarations are left to search, and none behind them has the bytes and the count.
+-- The declarations up to the next one are left to search, and none behind them has the bytes and the count.
 use Rattle.vocabulary.specs.Vocabulary.{name_in}
 use Rattle.prop_lists.specs.Entries.{use_of}
+use Rattle.declarations.specs.Chains.{up_to}
 use Rattle.declarations.proofs.Search.{Remain}
-use Rattle.declarations.proofs.is_declared.Given as goal
+use Rattle.declarations.proofs.Declarations.is_declared.Given as goal
 
-abbrev pub invariant-loop-left : goal.invariant-loop-left
-invariant-loop-left l = Remain (name_in l.bytes l.v) l.declared l.len (use_of l.name l.count) l.left
+abbrev pub invariant-loop-next : goal.invariant-loop-next
+invariant-loop-next g l = Remain (name_in l.bytes l.v) l.self.rows l.self.len (use_of l.name l.count) l.next
 
-abbrev pub decreases-loop-left : goal.decreases-loop-left
-decreases-loop-left l = l.left
+abbrev pub decreases-loop-next : goal.decreases-loop-next
+decreases-loop-next g l = up_to l.next

@@ -1,8 +1,7 @@
 -- The loop's invariant: what the labels of the records below m add is noted.
 use Rattle.proof_term_lists.proofs.Labels.{uses_below}
-use Rattle.declarations.specs.Memory.{lent, Notes}
-use Rattle.declarations.proofs.note_term.Given as goal
+use Rattle.declarations.specs.Memory.{Notes}
+use Rattle.declarations.proofs.Declarations.note_term.Given as goal
 
 abbrev pub invariant-loop-m : goal.invariant-loop-m
-invariant-loop-m l =
-    Notes l.bytes l.v (uses_below l.bytes l.v l.list l.term_records l.m) (lent l.initial.declared l.len l.initial.seen l.initial.chains) (lent l.declared l.noted l.seen l.chains)
+invariant-loop-m g l = Notes l.bytes l.v (uses_below l.bytes l.v l.list l.term_records l.m) l.initial.self l.self
