@@ -2,21 +2,24 @@
 use Prim.Native.Nat.{ℕ, zero, suc, ◌+◌, ◌≤◌, ◌<◌}
 use mathlib.Core.Path.{◌≡◌, refl, sym, ap, ◌∙◌}
 use mathlib.Core.Logic.{by_cases}
-use mathlib.Core.Bool.{Bool, true, false, ◌&&◌, not, cond}
+use mathlib.Core.Bool.{Bool, true, false, ◌&&◌}
 use mathlib.Core.List.{List, map}
-use Rattle.std.specs.Prelude.{None, Some}
 use native.Mathlib.Omega.{arith}
 use native.Mathlib.Decide.{dec_lt}
 use native.Mathlib.Numerals.{add-one}
 use lib.ListN.{get_or, get_or-map}
-use lib.Dec.{eqb}
-use borrow.Author.Tests.{eq-eqb, ne_eqb}
 use Rattle.definitions.specs.Prop.{Prop}
 use Rattle.definitions.specs.Term.{ProofTerm, Unit}
-use Rattle.definitions.specs.Sound.{is_quantifier_free}
 use Rattle.definitions.specs.CheckAnswers.{is_checkable_label, is_checkable_parameter_label, is_checkable}
-use Rattle.proof_term.specs.Records.{field_at, Form, leaf, form_term, label_of, parameter_label, forms, record_term_at, part_count, term_at, part_at}
-use Rattle.proof_term.specs.Labels.{has_label}
+use Rattle.proof_term.specs.Records.{field_at, Form, leaf, form_term, forms, record_term_at, part_count, term_at, part_at}
+use Rattle.proof_term.specs.Views.{kind_of, node_kind, node_label, node_of, node_at, node_term, label_meant, parameter_meant}
+use Rattle.std.specs.Prelude.{None, Some}
+use Rattle.definitions.specs.Sound.{is_quantifier_free}
+use Rattle.proof_term.specs.declared.nodes.Kind.TheVariants.{LetIn}
+use Rattle.proof_term.specs.declared.nodes.Label.TheVariants.{Proposition, Datatype}
+use Rattle.proof_term.specs.declared.nodes.Node.{Node}
+use Rattle.proof_term.specs.declared.nodes.Node.TheVariants as variant
+use Rattle.proof_term.proofs.Views.{node_is, other_number}
 use Rattle.proof_term.proofs.Records.{arity, part_count_lem, term_at_is, part_below, part_else}
 use Rattle.checkable.specs.Terms.{own_checkable, LabelsPresent}
 
@@ -47,7 +50,25 @@ and_assoc false b c = refl
 same_at : {A : Type 0} (m w : A → Bool) (l : List A) (d : A) → m d ≡ w d → map m l ≡ map w l → (i : ℕ) → m (get_or l i d) ≡ w (get_or l i d)
 same_at m w l d p q i = cc (get_or-map m l i d, get_or-map w l i d)
 
--- A record with these numbers, kind by kind: each law is one test over the table of forms.
+-- over parts that are checkable a node is checkable by itself
+own_is : (props : ℕ → Prop ℕ) (node : Node) → is_checkable (node_term props (λ i. Unit) node) ≡ own_checkable props node
+unfolding is_checkable is_checkable_parameter_label
+own_is props (variant.Ident name) = refl
+own_is props (variant.Pair first second) = refl
+own_is props (variant.ProjectFst body) = refl
+own_is props (variant.ProjectSnd body) = refl
+own_is props (variant.Function parameter label body) = and_true (is_checkable_parameter_label (parameter_meant props label))
+own_is props (variant.Application function argument) = refl
+own_is props (variant.LetIn first second head body) = refl
+own_is props (variant.OrLeft body) = refl
+own_is props (variant.OrRight body) = refl
+own_is props (variant.Case head first left second right) = refl
+own_is props (variant.Abort body) = refl
+own_is props (variant.TypeAscription body label) = and_true (is_checkable_label (label_meant props label))
+own_is props variant.Unit = refl
+own_is props variant.Sorry = refl
+
+-- A record by itself and its parts: one test over the table of forms.
 module _ (props : ℕ → Prop ℕ) (number : ℕ → ℕ) (d e : ℕ) where
   abbrev table : List Form
   table = forms props (number 1) (number 2) (number 3) d e
@@ -55,61 +76,39 @@ module _ (props : ℕ → Prop ℕ) (number : ℕ → ℕ) (d e : ℕ) where
   abbrev over : (ℕ → ProofTerm ℕ) → Form → ProofTerm ℕ
   over part form = form_term part form (number 1) (number 2) (number 3)
 
-  -- over parts that are checkable a record is checkable by itself
-  own_is : (kind : ℕ) → is_checkable (over (λ i. Unit) (get_or table kind (leaf Unit))) ≡ own_checkable props kind (number 3) d
-  unfolding is_checkable own_checkable has_label is_checkable_parameter_label parameter_label
-  own_is zero = refl
-  own_is (suc zero) = refl
-  own_is (suc (suc zero)) = refl
-  own_is (suc (suc (suc zero))) = refl
-  own_is (suc (suc (suc (suc zero)))) = go (eqb (number 3) 0)
-    where
-      go : (b : Bool) → (is_checkable_parameter_label (cond b None (Some (label_of props (number 3) d))) && true) ≡ cond (not b) (is_checkable_label (label_of props (number 3) d)) true
-      go true = refl
-      go false = and_true (is_checkable_label (label_of props (number 3) d))
-  own_is (suc (suc (suc (suc (suc zero))))) = refl
-  own_is (suc (suc (suc (suc (suc (suc zero)))))) = refl
-  own_is (suc (suc (suc (suc (suc (suc (suc zero))))))) = refl
-  own_is (suc (suc (suc (suc (suc (suc (suc (suc zero)))))))) = refl
-  own_is (suc (suc (suc (suc (suc (suc (suc (suc (suc zero))))))))) = refl
-  own_is (suc (suc (suc (suc (suc (suc (suc (suc (suc (suc zero)))))))))) = refl
-  own_is (suc (suc (suc (suc (suc (suc (suc (suc (suc (suc (suc zero))))))))))) = and_true (is_checkable_label (label_of props (number 3) d))
-  own_is (suc (suc (suc (suc (suc (suc (suc (suc (suc (suc (suc (suc zero)))))))))))) = refl
-  own_is (suc (suc (suc (suc (suc (suc (suc (suc (suc (suc (suc (suc (suc zero))))))))))))) = refl
-  own_is (suc (suc (suc (suc (suc (suc (suc (suc (suc (suc (suc (suc (suc (suc n)))))))))))))) =
-      rw (ne_eqb (suc (suc (suc (suc (suc (suc (suc (suc (suc (suc (suc (suc (suc (suc n)))))))))))))) 6 (λ e. omega arith), ne_eqb (suc (suc (suc (suc (suc (suc (suc (suc (suc (suc (suc (suc (suc (suc n)))))))))))))) 11 (λ e. omega arith), ne_eqb (suc (suc (suc (suc (suc (suc (suc (suc (suc (suc (suc (suc (suc (suc n)))))))))))))) 4 (λ e. omega arith))
-
   checkable_is : (part : ℕ → ProofTerm ℕ) (kind : ℕ)
       → is_checkable (over part (get_or table kind (leaf Unit)))
-      ≡ own_checkable props kind (number 3) d && all_of (part_count kind) (λ i. is_checkable (part (number (1 + i))))
+      ≡ own_checkable props (node_of (kind_of kind) (number 1) (number 2) (number 3) d e) && all_of (part_count kind) (λ i. is_checkable (part (number (1 + i))))
   unfolding is_checkable all_of
   checkable_is part kind =
-      rw (← own_is kind, part_count_lem props kind (number 1) (number 2) (number 3) d e)
+      rw (
+        ← own_is props (node_of (kind_of kind) (number 1) (number 2) (number 3) d e),
+        node_is props (λ i. Unit) kind (number 1) (number 2) (number 3) d e,
+        part_count_lem props kind (number 1) (number 2) (number 3) d e,
+      )
       (same_at (λ form. is_checkable (over part form))
       (λ form. is_checkable (over (λ i. Unit) form) && all_of (arity form) (λ i. is_checkable (part (number (1 + i)))))
       table (leaf Unit) refl (simp (and_true, and_assoc)) kind)
 
--- A record by itself, its label known or not.
-module _ (props : ℕ → Prop ℕ) (kind label number : ℕ) where
-  pub own_let : kind ≡ 6 → false ≡ own_checkable props kind label number
-  unfolding own_checkable
-  own_let h = rw (eq-eqb kind 6 h)
+-- A node that is no let is as checkable as its label.
+module _ (props : ℕ → Prop ℕ) (node : Node) (other : node_kind node ≡ LetIn → ⊥) where
+  by_label : own_checkable props node ≡ is_checkable_parameter_label (parameter_meant props (node_label node))
+  by_label = rw (other_number (node_kind node) LetIn other) refl
 
-  module _ (other : kind ≡ 6 → ⊥) where
-    pub own_unlabelled : has_label kind label ≡ false → true ≡ own_checkable props kind label number
-    unfolding own_checkable
-    own_unlabelled h = rw (ne_eqb kind 6 other, h)
+  pub own_unlabelled : node_label node ≡ None → true ≡ own_checkable props node
+  unfolding is_checkable_parameter_label
+  own_unlabelled e = sym (by_label ∙ rw e refl)
 
-    pub own_datatype : has_label kind label ≡ true → label ≡ 2 → false ≡ own_checkable props kind label number
-    unfolding own_checkable is_checkable_label label_of
-    own_datatype h e = rw (ne_eqb kind 6 other, h, eq-eqb label 2 e)
+  pub own_datatype : {t : ℕ} → node_label node ≡ Some (Datatype t) → false ≡ own_checkable props node
+  unfolding is_checkable_parameter_label is_checkable_label
+  own_datatype e = sym (by_label ∙ rw e refl)
 
-    pub own_proposition : has_label kind label ≡ true → (label ≡ 2 → ⊥) → is_quantifier_free (props number) ≡ own_checkable props kind label number
-    unfolding own_checkable is_checkable_label label_of
-    own_proposition h e = rw (ne_eqb kind 6 other, h, ne_eqb label 2 e)
+  pub own_proposition : {p : ℕ} → node_label node ≡ Some (Proposition p) → is_quantifier_free (props p) ≡ own_checkable props node
+  unfolding is_checkable_parameter_label is_checkable_label
+  own_proposition e = sym (by_label ∙ rw e refl)
 
-pub label_read : {r : Bool} {kind label k l : ℕ} → r ≡ has_label kind label → kind ≡ k → label ≡ l → r ≡ has_label k l
-label_read e a b = rw (← a, ← b) e
+pub own_let : (props : ℕ → Prop ℕ) (node : Node) → node_kind node ≡ LetIn → false ≡ own_checkable props node
+own_let props node is = rw is refl
 
 pub labels_below : {names : ℕ} {code records : List ℕ} {n : ℕ} → LabelsPresent names code records n → (m : ℕ) → m ≤ n → LabelsPresent names code records m
 labels_below p m h = record { labels = λ k l. p.labels k (omega arith) }
@@ -117,13 +116,13 @@ labels_below p m h = record { labels = λ k l. p.labels k (omega arith) }
 -- Record n and its first parts.
 module _ (props : ℕ → Prop ℕ) (records : List ℕ) (n : ℕ) where
   abbrev own : Bool
-  own = own_checkable props (field_at records n 0) (field_at records n 3) (field_at records n 4)
+  own = own_checkable props (node_at records n)
 
   abbrev part : ℕ → Bool
   part j = is_checkable (part_at props records n (field_at records n (1 + j)))
 
   all_is : is_checkable (term_at props records n) ≡ own && all_of (part_count (field_at records n 0)) part
-  unfolding record_term_at
+  unfolding record_term_at node_at
   all_is = rw (term_at_is props records n) (checkable_is props (field_at records n) (field_at records n 4) (field_at records n 5) (part_at props records n) (field_at records n 0))
 
   -- these are checkable

@@ -10,13 +10,17 @@ ghost use Rattle.definitions.specs.CheckAnswers.{is_checkable};
 ghost use Rattle.prefix_code.specs.Scan.{Stands, parameters_coding};
 ghost use Rattle.prefix_code.specs.Head.{Head, head_coding};
 ghost use Rattle.prefix_code.specs.PropAt.{prop_at, Present};
-ghost use Rattle.proof_term.specs.Records.{record_size, field_at, term_at};
+ghost use Rattle.proof_term.specs.Records.{record_size, term_at};
+ghost use Rattle.proof_term.specs.Views.{node_at};
 ghost use Rattle.renumbering.specs.Renumbered.{Whole};
 ghost use Rattle.checkable.specs.Plain.{is_plain_head, SomeParameters, SomeHead};
 ghost use Rattle.checkable.specs.Terms.{own_checkable, LabelsPresent};
 
-use prefix_code::{head_end, scan};
-use proof_term::{DATATYPE, LET_IN, field, has_label, part_count};
+use prefix_code::{AND, ATOM, FALSE, IMPL, OR, TRUE, head_end, scan};
+use proof_term::{Kind, Label, node_at, parts_at};
+
+// The code and the number of its names stand beside each other, in no struct: a clause says `prop_at names code.now`, and of a struct it
+// would say `prop_at labels.names labels.code.now`.
 
 // Whether each of so many parameters from `at` on is instantiated. As long as they are, each takes five bytes.
 fn are_instantiated(code: &[u8], at: usize, count: usize) -> bool
@@ -38,14 +42,11 @@ fn is_plain_head(code: &[u8], at: usize) -> bool
     ensures { (names : ℕ) (h : Head) (rest : List ℕ)
         → Stands (head_coding names) code.now at h rest → result ≡ is_plain_head h }
 {
-    let head = code[at];
-    if head < 5 {
-        return true;
+    match code[at] {
+        TRUE | FALSE | AND | OR | IMPL => true,
+        ATOM => are_instantiated(code, at + 4, usize::from(code[at + 3])),
+        _ => false,
     }
-    if 5 < head {
-        return false;
-    }
-    are_instantiated(code, at + 4, code[at + 3] as usize)
 }
 
 // Whether the proposition that is all of the code has no quantifier and no uninstantiated parameter.
@@ -64,7 +65,7 @@ pub fn is_quantifier_free(code: &[u8], names: usize) -> bool
     true
 }
 
-// The same of the proposition at an offset.
+// The same of the proposition at an offset, whose end is not known: a sheet's pairs say where their propositions end.
 pub fn is_free_at(code: &[u8], at: usize, names: usize) -> bool
     requires { Present names code.now at }
     ensures { result ≡ is_quantifier_free (prop_at names code.now at) }
@@ -76,21 +77,17 @@ pub fn is_free_at(code: &[u8], at: usize, names: usize) -> bool
 // Whether record `n` is no let, and its label, if it has one, a quantifier-free proposition.
 fn is_plain_record(records: &[u16], n: usize, code: &[u8], names: usize) -> bool
     requires { (record_size * (n + 1) ≤ length records.now) × LabelsPresent names code.now records.now n }
-    ensures { result ≡ own_checkable (prop_at names code.now) (field_at records.now n 0)
-        (field_at records.now n 3) (field_at records.now n 4) }
+    ensures { result ≡ own_checkable (prop_at names code.now) (node_at records.now n) }
 {
-    let kind = field(records, n, 0);
-    if kind == LET_IN {
+    let node = node_at(records, n);
+    if node.kind() == Kind::LetIn {
         return false;
     }
-    let label = field(records, n, 3);
-    if !has_label(kind, label) {
-        return true;
+    match node.label() {
+        None => true,
+        Some(Label::Datatype(_)) => false,
+        Some(Label::Proposition(p)) => is_free_at(code, usize::from(p), names),
     }
-    if label == DATATYPE {
-        return false;
-    }
-    is_free_at(code, field(records, n, 4), names)
 }
 
 // Whether the term that record `n` holds has no let, no datatype label, and labels without quantifiers and uninstantiated parameters.
@@ -101,9 +98,8 @@ pub fn is_checkable(records: &[u16], n: usize, code: &[u8], names: usize) -> boo
     if !is_plain_record(records, n, code, names) {
         return false;
     }
-    let parts = part_count(field(records, n, 0));
-    for i in 0..parts {
-        let part = field(records, n, 1 + i);
+    for &part in parts_at(records, n) {
+        let part = usize::from(part);
         if part < n && !is_checkable(records, part, code, names) {
             return false;
         }

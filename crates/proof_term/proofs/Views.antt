@@ -6,25 +6,26 @@ use mathlib.Core.Bool.{Bool, true, false, cond}
 use Rattle.std.specs.Prelude.{Option, None, Some}
 use mathlib.Core.List.{List, map}
 use native.Mathlib.Omega.{arith}
-use native.Mathlib.Decide.{dec_lt}
+use native.Mathlib.Decide.{dec_lt, ℕ_discrete}
 use native.Mathlib.Nat.{zero-add, add_assoc}
 use lib.ListN.{length, get_or, take, drop, get_or-map, length-drop}
 use lib.Seq.{length-take-le}
 use lib.Dec.{eqb}
+use borrow.Author.Tests.{eq-eqb, ne_eqb}
 use Rattle.std.proofs.lemmas.List.{get_or_past, get_or-take, get_or-drop}
 use Rattle.std.proofs.lemmas.List.FromFn.{get_or-range_with_len}
 use Rattle.definitions.specs.Prop.{Prop}
 use Rattle.definitions.specs.Term as term
 use Rattle.definitions.specs.Term.{ProofTerm}
 use Rattle.proof_term.specs.Records.{record_size, field_at, Form, leaf, form_term, label_of, parameter_label, forms, record_term, record_term_at, part_counts, part_count, Each, term_at, part_at}
-use Rattle.proof_term.specs.Views.{kind_number, kinds, kind_of, label_of_numbers, parameter_of_numbers, node_of, node_at, label_meant, parameter_meant, node_term, label_numbers, parameter_numbers, node_kind, node_numbers, PartsBelow, PartsOf}
+use Rattle.proof_term.specs.Views.{kind_number, kinds, kind_of, label_of_numbers, parameter_of_numbers, node_of, node_at, label_meant, parameter_meant, node_term, label_numbers, parameter_numbers, node_kind, node_label, node_numbers, PartsBelow, PartsOf}
 use Rattle.proof_term.specs.declared.nodes.Kind.{Kind}
 use Rattle.proof_term.specs.declared.nodes.Kind.TheVariants as variant
 use Rattle.proof_term.specs.declared.nodes.Label.{Label}
 use Rattle.proof_term.specs.declared.nodes.Label.TheVariants.{Proposition, Datatype}
 use Rattle.proof_term.specs.declared.nodes.Node.{Node}
 use Rattle.proof_term.specs.declared.nodes.Node.TheVariants.{Ident, Pair, ProjectFst, ProjectSnd, Function, Application, LetIn, OrLeft, OrRight, Case, Abort, TypeAscription, Unit, Sorry}
-use Rattle.proof_term.specs.Labels.{has_label}
+use Rattle.proof_term.specs.Labels.{has_label, Labelled}
 use Rattle.proof_term.proofs.Records.{few_parts, term_at_is}
 use Rattle.proof_term.proofs.Labels.{no_label}
 
@@ -44,6 +45,28 @@ pub number_of_kind : {number : ℕ} {kind : Kind} → kind_of number ≡ kind �
 number_of_kind {number} {kind} is other = by_cases (dec_lt number 14)
     (λ l. sym (kind_known number l) ∙ ap kind_number is)
     (λ l. absurd (other (sym is ∙ kind_unknown number (omega arith))))
+
+-- and each kind is that of its number
+pub kind_of_number : (kind : Kind) → kind_of (kind_number kind) ≡ kind
+unfolding kind_of
+kind_of_number variant.Ident = refl
+kind_of_number variant.Pair = refl
+kind_of_number variant.ProjectFst = refl
+kind_of_number variant.ProjectSnd = refl
+kind_of_number variant.Function = refl
+kind_of_number variant.Application = refl
+kind_of_number variant.LetIn = refl
+kind_of_number variant.OrLeft = refl
+kind_of_number variant.OrRight = refl
+kind_of_number variant.Case = refl
+kind_of_number variant.Abort = refl
+kind_of_number variant.TypeAscription = refl
+kind_of_number variant.Unit = refl
+kind_of_number variant.Sorry = refl
+
+-- so two kinds have two numbers
+pub other_number : (k l : Kind) → (k ≡ l → ⊥) → eqb (kind_number k) (kind_number l) ≡ false
+other_number k l other = ne_eqb (kind_number k) (kind_number l) (λ e. other (sym (kind_of_number k) ∙ (ap kind_of e ∙ kind_of_number l)))
 
 -- what holds of each kind's number, and of each past these, holds of every number
 pub by_kind : (P : ℕ → Type 0) → ((kind : Kind) → P (kind_number kind)) → ((number : ℕ) → 14 ≤ number → P number) → (number : ℕ) → P number
@@ -166,3 +189,59 @@ parts_there {records} {n} {count} {kind} held counted is =
           get_or-take count (drop first records) i 0 (omega (arith, l, long))
           ∙ (get_or-drop first records i 0 ∙ ap (λ at. get_or records at 0) (add_assoc (record_size * n) 1 i));
     })
+
+-- Record n has that label, by its numbers.
+pub record LabelRead (records : List ℕ) (n : ℕ) (l : Label) : Type 0 where
+  pub labelled : Labelled records n
+  pub is : label_of_numbers (field_at records n 3) (field_at records n 4) ≡ l
+
+-- a proposition's number is the record's
+pub proposition_read : (kind number : ℕ) {p : ℕ} → label_of_numbers kind number ≡ Proposition p → (kind ≡ 2 → ⊥) × (p ≡ number)
+unfolding label_of_numbers
+proposition_read kind number {p} is = by_cases (ℕ_discrete kind 2)
+    (λ e. let other : Datatype number ≡ Proposition p = rw (eq-eqb kind 2 e) at is in cc)
+    (λ e. let same : Proposition number ≡ Proposition p = rw (ne_eqb kind 2 e) at is in (e, cc))
+
+-- and so is a datatype's name
+pub datatype_read : (kind number : ℕ) {t : ℕ} → label_of_numbers kind number ≡ Datatype t → (kind ≡ 2) × (t ≡ number)
+unfolding label_of_numbers
+datatype_read kind number {t} is = by_cases (ℕ_discrete kind 2)
+    (λ e. let same : Datatype number ≡ Datatype t = rw (eq-eqb kind 2 e) at is in (e, cc))
+    (λ e. let other : Proposition number ≡ Datatype t = rw (ne_eqb kind 2 e) at is in cc)
+
+parameter_read : (kind number : ℕ) {l : Label} → parameter_of_numbers kind number ≡ Some l → (eqb kind 0 ≡ false) × (label_of_numbers kind number ≡ l)
+unfolding parameter_of_numbers
+parameter_read kind number {l} is = go (eqb kind 0) refl is
+  where
+    go : (b : Bool) → eqb kind 0 ≡ b → cond b None (Some (label_of_numbers kind number)) ≡ Some l → (eqb kind 0 ≡ false) × (label_of_numbers kind number ≡ l)
+    go true e some = cc
+    go false e some = (e, cc)
+
+-- where a node has a label, its record has
+pub label_read : {records : List ℕ} {n : ℕ} {l : Label} → node_label (node_at records n) ≡ Some l → LabelRead records n l
+unfolding node_at has_label
+label_read {records} {n} {l} is = go (kind_of (field_at records n 0)) refl is
+  where
+    f : ℕ → ℕ
+    f i = field_at records n i
+
+    go : (k : Kind) → kind_of (f 0) ≡ k → node_label (node_of k (f 1) (f 2) (f 3) (f 4) (f 5)) ≡ Some l → LabelRead records n l
+    go variant.Function k some =
+        let here : f 0 ≡ 4 = number_of_kind k (λ e. cc) in
+        let read = parameter_read (f 3) (f 4) some in
+        record { labelled = rw (here, read.0); is = read.1 }
+    go variant.TypeAscription k some =
+        let here : f 0 ≡ 11 = number_of_kind k (λ e. cc) in
+        record { labelled = rw here; is = cc }
+    go variant.Ident k some = cc
+    go variant.Pair k some = cc
+    go variant.ProjectFst k some = cc
+    go variant.ProjectSnd k some = cc
+    go variant.Application k some = cc
+    go variant.LetIn k some = cc
+    go variant.OrLeft k some = cc
+    go variant.OrRight k some = cc
+    go variant.Case k some = cc
+    go variant.Abort k some = cc
+    go variant.Unit k some = cc
+    go variant.Sorry k some = cc

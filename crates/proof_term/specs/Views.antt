@@ -117,6 +117,23 @@ node_kind (TypeAscription body label) = kind.TypeAscription
 node_kind Unit = kind.Unit
 node_kind Sorry = kind.Sorry
 
+-- the label of a node, if it has one
+abbrev pub node_label : Node → Option Label
+node_label (Ident name) = None
+node_label (Pair first second) = None
+node_label (ProjectFst body) = None
+node_label (ProjectSnd body) = None
+node_label (Function parameter label body) = label
+node_label (Application function argument) = None
+node_label (LetIn first second head body) = None
+node_label (OrLeft body) = None
+node_label (OrRight body) = None
+node_label (Case head first left second right) = None
+node_label (Abort body) = None
+node_label (TypeAscription body label) = Some label
+node_label Unit = None
+node_label Sorry = None
+
 -- the two numbers of a label
 abbrev pub label_numbers : Label → ℕ × ℕ
 label_numbers (Proposition number) = (1, number)

@@ -2,7 +2,7 @@
 ghost use Rattle.std.specs.Prelude.{◌≡◌, ◌+◌, ◌*◌, ◌≤◌, length};
 ghost use Rattle.proof_term.specs.Records.{record_size, field_at, part_count};
 ghost use Rattle.proof_term.specs.Labels.{has_label};
-ghost use Rattle.proof_term.specs.Views.{label_numbers, node_kind, node_numbers, kind_number, kind_of, label_of_numbers, parameter_of_numbers, node_of, node_at, PartsOf};
+ghost use Rattle.proof_term.specs.Views.{label_numbers, node_kind, node_label, node_numbers, kind_number, kind_of, label_of_numbers, parameter_of_numbers, node_of, node_at, PartsOf};
 
 use crate::{DATATYPE, NO_LABEL, PROPOSITION, RECORD_SIZE, field, part_count};
 
@@ -175,6 +175,17 @@ impl Node {
             Node::TypeAscription { .. } => Kind::TypeAscription,
             Node::Unit => Kind::Unit,
             Node::Sorry => Kind::Sorry,
+        }
+    }
+
+    // The label of an ascription, and that of a function whose parameter has one.
+    pub fn label(self) -> Option<Label>
+        ensures { result ≡ node_label self }
+    {
+        match self {
+            Node::Function { label, .. } => label,
+            Node::TypeAscription { label, .. } => Some(label),
+            _ => None,
         }
     }
 

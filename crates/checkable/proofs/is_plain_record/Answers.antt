@@ -1,40 +1,38 @@
 -- A let is none; a label decides where there is one.
+use mathlib.Core.Path.{◌≡◌, sym, ap, ◌∙◌}
+use mathlib.Core.Bool.{false≢true}
 use native.Mathlib.Omega.{arith}
-use mathlib.Core.Path.{◌≡◌, sym, ◌∙◌}
+use Rattle.std.specs.Prelude.{Some}
 use Rattle.proof_term.specs.Records.{field_at}
-use Rattle.proof_term.specs.Labels.{has_label, Labelled}
-use Rattle.checkable.proofs.Terms.{label_read, own_let, own_unlabelled, own_datatype, own_proposition}
+use Rattle.proof_term.specs.Views.{node_at, node_kind}
+use Rattle.proof_term.specs.declared.nodes.Kind.TheVariants.{LetIn}
+use Rattle.proof_term.proofs.Views.{label_read, proposition_read}
+use Rattle.checkable.proofs.Terms.{own_unlabelled, own_datatype, own_proposition}
 use Rattle.checkable.proofs.is_plain_record.Goals as goal
-use Rattle.checkable.proofs.is_plain_record.Goals.{After-has_label, Else-not-has_label}
+use Rattle.checkable.proofs.is_plain_record.Goals.{Else-eq}
 
--- whether it has one is asked of the record's own numbers
-asked : (c : After-has_label) → let s = c.args in
-    c.has_label.result ≡ has_label (field_at s.records.now s.n 0) (field_at s.records.now s.n 3)
-asked c = label_read c.has_label.ensures c.field-kind.ensures.0 c.field-label.ensures.0
+-- its kind is another
+no_let : (c : Else-eq) → node_kind (node_at c.args.records.now c.args.n) ≡ LetIn → ⊥
+no_let c e = false≢true (rw (c.kind.ensures, c.node_at-node.ensures, e) at c.if-eq.ensures)
 
--- and there is one
-labelled : (c : Else-not-has_label) → Labelled c.args.records.now c.args.n
-labelled c = sym (asked (goal.at.Else-not-has_label c).After-has_label) ∙ c.if-not-has_label.false
+pub returns-in-None : goal.returns-in-None
+returns-in-None c =
+    own_unlabelled _ _ (no_let (goal.at.returns-in-None c).Else-eq) (rw c.node_at-node.ensures at (sym c.label.ensures ∙ c.in-None.is))
 
-pub returns-then-not-has_label : goal.returns-then-not-has_label
-returns-then-not-has_label c =
-    own_unlabelled _ _ _ _ (λ e. c.if-kind-eq-LET_IN.false (c.field-kind.ensures.0 ∙ e)) (sym (asked (goal.at.returns-then-not-has_label c).After-has_label) ∙ c.if-not-has_label.true)
-
-pub returns-then-label-eq-DATATYPE : goal.returns-then-label-eq-DATATYPE
-returns-then-label-eq-DATATYPE c =
-    own_datatype _ _ _ _ (λ e. c.if-kind-eq-LET_IN.false (c.field-kind.ensures.0 ∙ e)) (labelled (goal.at.returns-then-label-eq-DATATYPE c).Else-not-has_label) (sym c.field-label.ensures.0 ∙ c.if-label-eq-DATATYPE.true)
+pub returns-in-Some-Datatype : goal.returns-in-Some-Datatype
+returns-in-Some-Datatype c =
+    let arm = c.in-Some-Datatype in
+    own_datatype _ _ (no_let (goal.at.returns-in-Some-Datatype c).Else-eq) (rw c.node_at-node.ensures at (sym c.label.ensures ∙ arm.is ∙ ap Some arm.field-0-is))
 
 pub is_free_at-requires : goal.is_free_at-requires
 is_free_at-requires c =
-    rw c.field.ensures.0 (c.requires.1.labels _ (omega arith) (labelled (goal.at.is_free_at-requires c).Else-not-has_label) (λ e. c.if-label-eq-DATATYPE.false (c.field-label.ensures.0 ∙ e)))
+    let arm = c.in-Some-Proposition in
+    let read = label_read (rw c.node_at-node.ensures at (sym c.label.ensures ∙ arm.is ∙ ap Some arm.field-0-is)) in
+    let (other, is) = proposition_read (field_at c.args.records.now c.args.n 3) (field_at c.args.records.now c.args.n 4) read.is in
+    rw (c.from.ensures, is) (c.requires.1.labels _ (omega arith) read.labelled other)
 
-pub returns : goal.returns
-returns c =
-    rw c.field.ensures.0 at c.is_free_at.ensures
-    ∙ own_proposition _ _ _ _ (λ e. c.if-kind-eq-LET_IN.false (c.field-kind.ensures.0 ∙ e)) (labelled (goal.at.returns c).Else-not-has_label) (λ e. c.if-label-eq-DATATYPE.false (c.field-label.ensures.0 ∙ e))
-
-pub returns-then-kind-eq-LET_IN : goal.returns-then-kind-eq-LET_IN
-returns-then-kind-eq-LET_IN c = own_let _ _ _ _ (sym c.field-kind.ensures.0 ∙ c.if-kind-eq-LET_IN.true)
-
-pub has_label-requires : goal.has_label-requires
-has_label-requires c = tt
+pub returns-in-Some-Proposition : goal.returns-in-Some-Proposition
+returns-in-Some-Proposition c =
+    let arm = c.in-Some-Proposition in
+    rw c.from.ensures at c.is_free_at.ensures
+    ∙ own_proposition _ _ (no_let (goal.at.returns-in-Some-Proposition c).Else-eq) (rw c.node_at-node.ensures at (sym c.label.ensures ∙ arm.is ∙ ap Some arm.field-0-is))
