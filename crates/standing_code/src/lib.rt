@@ -6,14 +6,18 @@ ghost use Rattle.standing_code.specs.Over.{Codes, CodeOver, CodeStands};
 use number::{marked_bytes, pair_offset};
 use renumbering::put_renumbered;
 
-// Behind the most bytes of code that a sheet has stand ⊤ and ⊥.
+// Behind the most bytes of code that a sheet has stand ⊤ and ⊥. The limit of a sheet has its constant in `sheet`, which is no part of
+// what this crate builds on: it reads propositions by pairs alone.
 const TOP: usize = 8192;
 
 const BOTTOM: usize = TOP + 1;
 
 pub const CODE_SIZE: usize = BOTTOM + 1;
 
-// The propositions, one after another.
+// Pairs, code, counts and map come from a sheet's parts, and only here meet a memory to be written: each is one argument, and a struct
+// for the two functions would be built by their one caller out of these same six.
+
+// The propositions, one after another, by their numbers: a number is what finds a pair among the pairs.
 fn put_propositions(
     pairs: &[u8],
     code: &[u8],
