@@ -18,6 +18,7 @@ use Rattle.definitions.proofs.Views.{is_true_true, is_false_true, as_binary_some
 use Rattle.prefix_code.specs.Scan.{Stands, proposition_coding}
 use Rattle.prefix_code.proofs.Positions.{byte_at}
 use Rattle.prefix_code.proofs.Forms.{inside_at, binary_at, atom_at, quantified_at, true_at, false_at}
+use Rattle.prefix_code.proofs.Reading as reading
 use Rattle.alpha_eq.specs.Bindings.{bindings_of}
 use Rattle.alpha_eq.specs.Comparing.{Compared, compared, alpha_eq_under_in, alpha_eq_sides_in, alpha_eq_atom_in, alpha_eq_scope_in, of_sides, of_applied, of_scope, form_coding, Standing, end_of, Two, Answers, WithRoom}
 
@@ -82,6 +83,12 @@ inside {code} {i} {j} asked =
     let l = asked.forms.two.left in
     let r = asked.forms.two.right in
     ((inside_at names code i l.rest l.value l.stands).0, (inside_at names code j r.rest r.value r.stands).0)
+
+-- the byte in front is that of a head
+pub known : {pairs text memory : List ℕ} {depth : ℕ} {code : List ℕ} {i j : ℕ} → WithRoom (λ p. p) code i j pairs text memory depth → get_or code i 0 < 8
+known {code} {i} asked =
+    let l = asked.forms.two.left in
+    (reading.inside (reading.present asked.forms.names code i l.value l.rest l.stands)).known
 
 module _ (pairs text memory : List ℕ) (depth : ℕ) (code : List ℕ) (i j : ℕ) where
   pub other_front : (get_or code i 0 ≡ get_or code j 0 → ⊥) → Answers proposition_coding code i j (alpha_eq_under_in pairs text memory depth) (Ok None)

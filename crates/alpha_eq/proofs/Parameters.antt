@@ -26,12 +26,9 @@ module _ {names : ℕ} {code : List ℕ} {at : ℕ} (s : Standing parameter_codi
   pub parameter_at : ParameterBytes names code at s.value s.rest
   parameter_at = parameter_bytes names code at s.value s.rest s.stands
 
-  -- one of a kind that is not 0 has an id
-  pub id_at : (get_or code at 0 ≡ 0 → ⊥) → (get_or code at 0 ≡ 1) × (at + 5 ≤ length code)
-  id_at other =
-      let b = parameter_at in
-      let one : get_or code at 0 ≡ 1 = omega arith in
-      (one, (b.instantiated one).1)
+  -- an instantiated one has an id
+  pub id_at : get_or code at 0 ≡ 1 → at + 5 ≤ length code
+  id_at one = (parameter_at.instantiated one).1
 
 -- the names of two lie in the text
 pub names_within : {pairs text memory : List ℕ} {depth : ℕ} {code : List ℕ} {i j x y : ℕ} → Comparable parameter_coding code i j pairs text memory depth

@@ -14,6 +14,7 @@ ghost use Rattle.sheet.specs.Checks.{outcome_of};
 use definitions::Refusal;
 use identifier::same_bytes;
 use number::number_at;
+use prefix_code::{Head, ParameterKind};
 use sheet::Sheet;
 
 // What the walk over two codes answers: where both end if they are the same, nothing if they are not, or a refusal.
@@ -57,20 +58,27 @@ fn alpha_eq_parameter(
     ensures { Answers parameter_coding code.now i j
         (alpha_eq_parameter_in pairs.now text.now bindings.now depth) result }
 {
-    let kind = code[i];
-    if kind != code[j] {
+    let byte = code[i];
+    if byte != code[j] {
         return Ok(None);
     }
+    let Some(kind) = ParameterKind::of_byte(byte) else {
+        unreachable!();
+    };
     let x = number_at(code, i + 1);
     let y = number_at(code, j + 1);
-    if kind == 0 {
-        let same = bound_alike(bindings, depth, pairs, text, x, y)?;
-        return Ok(same.then_some((i + 3, j + 3)));
+    match kind {
+        ParameterKind::Uninstantiated => {
+            let same = bound_alike(bindings, depth, pairs, text, x, y)?;
+            Ok(same.then_some((i + 3, j + 3)))
+        }
+        ParameterKind::Instantiated => {
+            let same_object = same_bytes(pairs, text, x, y);
+            let id = number_at(code, i + 3);
+            let other_id = number_at(code, j + 3);
+            Ok((same_object && id == other_id).then_some((i + 5, j + 5)))
+        }
     }
-    let same_object = same_bytes(pairs, text, x, y);
-    let id = number_at(code, i + 3);
-    let other_id = number_at(code, j + 3);
-    Ok((same_object && id == other_id).then_some((i + 5, j + 5)))
 }
 
 // So many parameters from i and from j on.
@@ -189,8 +197,7 @@ fn alpha_eq_scope(
     alpha_eq_under(code, i + 5, j + 5, pairs, text, bindings, depth + 1)
 }
 
-// The propositions at i and j under so many bindings, by the byte in front: 0 ⊤, 1 ⊥, 2 to 4 a connective, 5 an atom, then a
-// quantifier.
+// The propositions at i and j under so many bindings, by the head that stands in front of both.
 #[cycle(alpha_eq_scope_alpha_eq_sides_alpha_eq_under)]
 pub fn alpha_eq_under(
     code: &[u8],
@@ -206,20 +213,19 @@ pub fn alpha_eq_under(
         (alpha_eq_under_in pairs.now text.now bindings.old depth) result }
     ensures kept { Kept depth bindings.old bindings.new }
 {
-    let head = code[i];
-    if head != code[j] {
+    let front = code[i];
+    if front != code[j] {
         return Ok(None);
     }
-    if head < 2 {
-        return Ok(Some((i + 1, j + 1)));
+    let Some(head) = Head::of_byte(front) else {
+        unreachable!();
+    };
+    match head {
+        Head::True | Head::False => Ok(Some((i + 1, j + 1))),
+        Head::Binary(_) => alpha_eq_sides(code, i, j, pairs, text, bindings, depth),
+        Head::Atom => alpha_eq_atom(code, i, j, pairs, text, bindings, depth),
+        Head::Quantified(_) => alpha_eq_scope(code, i, j, pairs, text, bindings, depth),
     }
-    if head < 5 {
-        return alpha_eq_sides(code, i, j, pairs, text, bindings, depth);
-    }
-    if head == 5 {
-        return alpha_eq_atom(code, i, j, pairs, text, bindings, depth);
-    }
-    alpha_eq_scope(code, i, j, pairs, text, bindings, depth)
 }
 
 // Two name numbers for each quantifier above a place: as many as a proposition nests deep.

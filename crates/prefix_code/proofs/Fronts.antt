@@ -35,6 +35,10 @@ module _ {b : ℕ} {h : Head} (is : b ≡ head_byte h) where
       let byte : b ≡ connective_byte (meant c) = front_byte same in
       omega (arith, byte, (connective_byte_lem (meant c)).1)
 
+  pub leaf_front : (h ≡ True) ⊎ (h ≡ False) → b < 2
+  leaf_front (inl same) = omega (arith, front_byte same)
+  leaf_front (inr same) = omega (arith, front_byte same)
+
   pub binary_front : {c : Connective} → h ≡ Binary c → (2 ≤ b) × (b < 5) × (c ≡ connective_at b)
   binary_front {c} same =
       let byte : b ≡ connective_byte (meant c) = front_byte same in

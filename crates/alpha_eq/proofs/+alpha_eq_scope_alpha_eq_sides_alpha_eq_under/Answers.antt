@@ -7,14 +7,15 @@ use lib.ListN.{length, length-set}
 use Rattle.std.proofs.Common.{rules}
 use Rattle.identifier.proofs.Within.{last_within}
 use Rattle.alpha_eq.specs.Comparing.{of_sides, of_applied, of_scope}
+use Rattle.prefix_code.proofs.Fronts.{front_byte, leaf_front, binary_front, quantified_front}
 use Rattle.alpha_eq.proofs.Outcomes.{no_stops, refusal_stops}
 use Rattle.alpha_eq.proofs.Bindings.{kept_all, kept_fewer, kept_trans, kept_pushed}
-use Rattle.alpha_eq.proofs.Forms.{inside, other_front, same_leaf, same_connective, same_atom, same_quantifier}
+use Rattle.alpha_eq.proofs.Forms.{SameForm, inside, known, other_front, same_leaf, same_connective, same_atom, same_quantifier}
 use Rattle.alpha_eq.proofs.Forms.{forms_asked, by_form, sides_under, atom_under, scope_under}
 use Rattle.alpha_eq.proofs.Sides.{sides_inside, lefts_asked, lefts_stop, rights_decide, rights_asked, rights_after}
 use Rattle.alpha_eq.proofs.Scopes.{scope_at, other_datatype, room_here, bodies_decide, bodies_asked}
 use Rattle.alpha_eq.proofs.+alpha_eq_scope_alpha_eq_sides_alpha_eq_under.Goals as goal
-use Rattle.alpha_eq.proofs.+alpha_eq_scope_alpha_eq_sides_alpha_eq_under.Goals.{alpha_eq_scope-After-same_bytes}
+use Rattle.alpha_eq.proofs.+alpha_eq_scope_alpha_eq_sides_alpha_eq_under.Goals.{alpha_eq_scope-After-same_bytes, alpha_eq_under-In-Binary, alpha_eq_under-In-Atom, alpha_eq_under-In-Quantified}
 
 -- `alpha_eq_scope` by its places: room for the binding of the two objects
 room : (t : ℕ) → (c : alpha_eq_scope-After-same_bytes t) → let s = c.args in
@@ -154,48 +155,53 @@ alpha_eq_sides-overflow_add-j t c = omega (arith, sides_inside c.requires.with_r
 pub alpha_eq_sides-alpha_eq_under-requires : goal.alpha_eq_sides-alpha_eq_under-requires
 alpha_eq_sides-alpha_eq_under-requires t c = (omega (arith, c.decreases, sides_inside c.requires.with_room), lefts_asked c.requires.with_room)
 
--- `alpha_eq_under` by its places
+-- `alpha_eq_under` by its places: what stands at both, by the byte in front
+sides : (t : ℕ) → (c : alpha_eq_under-In-Binary t) → let s = c.args in SameForm of_sides s.code.now s.i s.j
+sides t c =
+    let front = binary_front c.in-Some.ensures c.in-Binary.is in
+    same_connective _ _ _ c.if-front-code.false front.0 front.1
+
+atom : (t : ℕ) → (c : alpha_eq_under-In-Atom t) → let s = c.args in SameForm of_applied s.code.now s.i s.j
+atom t c = same_atom _ _ _ c.if-front-code.false (front_byte c.in-Some.ensures c.in-Atom.is)
+
+scope : (t : ℕ) → (c : alpha_eq_under-In-Quantified t) → let s = c.args in SameForm of_scope s.code.now s.i s.j
+scope t c = same_quantifier _ _ _ c.if-front-code.false (quantified_front c.in-Some.ensures c.in-Quantified.is).0
+
+pub alpha_eq_under-unreachable-requires : goal.alpha_eq_under-unreachable-requires
+alpha_eq_under-unreachable-requires t c = omega (arith, known c.requires, c.in_default.ensures)
+
 pub alpha_eq_under-alpha_eq_sides-requires : goal.alpha_eq_under-alpha_eq_sides-requires
 alpha_eq_under-alpha_eq_sides-requires t c = (
   omega arith,
-  (
-    forms_asked of_sides (same_connective _ _ _ c.if-head-code.false (omega arith) c.if-head-lt5.true)
-        c.requires,
-    c.if-head-code.false,
-  ),
+  (forms_asked of_sides (sides t (goal.at.alpha_eq_under-alpha_eq_sides-requires t c).In-Binary) c.requires, c.if-front-code.false),
 )
 
-pub alpha_eq_under-returns-then-head-lt5 : goal.alpha_eq_under-returns-then-head-lt5
-alpha_eq_under-returns-then-head-lt5 t c =
+pub alpha_eq_under-returns-in-Binary : goal.alpha_eq_under-returns-in-Binary
+alpha_eq_under-returns-in-Binary t c =
     let answer = c.alpha_eq_sides.ensures in record {
-      answers = by_form of_sides (same_connective _ _ _ c.if-head-code.false (omega arith) c.if-head-lt5.true) _ _
-          (sides_under _ _ _ _) answer.answers;
+      answers = by_form of_sides (sides t (goal.at.alpha_eq_under-returns-in-Binary t c).In-Binary) _ _ (sides_under _ _ _ _) answer.answers;
       kept = answer.kept;
     }
 
 pub alpha_eq_under-alpha_eq_atom-requires : goal.alpha_eq_under-alpha_eq_atom-requires
 alpha_eq_under-alpha_eq_atom-requires t c =
-    (forms_asked of_applied (same_atom _ _ _ c.if-head-code.false c.if-head-eq5.true) c.requires).forms
+    (forms_asked of_applied (atom t (goal.at.alpha_eq_under-alpha_eq_atom-requires t c).In-Atom) c.requires).forms
 
-pub alpha_eq_under-returns-then-head-eq5 : goal.alpha_eq_under-returns-then-head-eq5
-alpha_eq_under-returns-then-head-eq5 t c =
-    let atom = same_atom _ _ _ c.if-head-code.false c.if-head-eq5.true in
-    record { answers = by_form of_applied atom _ _ (atom_under _ _ _ _) c.alpha_eq_atom.ensures; kept = kept_all }
+pub alpha_eq_under-returns-in-Atom : goal.alpha_eq_under-returns-in-Atom
+alpha_eq_under-returns-in-Atom t c =
+    let here = atom t (goal.at.alpha_eq_under-returns-in-Atom t c).In-Atom in
+    record { answers = by_form of_applied here _ _ (atom_under _ _ _ _) c.alpha_eq_atom.ensures; kept = kept_all }
 
 pub alpha_eq_under-alpha_eq_scope-requires : goal.alpha_eq_under-alpha_eq_scope-requires
 alpha_eq_under-alpha_eq_scope-requires t c = (
   omega arith,
-  (
-    forms_asked of_scope (same_quantifier _ _ _ c.if-head-code.false (omega arith)) c.requires,
-    c.if-head-code.false,
-  ),
+  (forms_asked of_scope (scope t (goal.at.alpha_eq_under-alpha_eq_scope-requires t c).In-Quantified) c.requires, c.if-front-code.false),
 )
 
-pub alpha_eq_under-returns : goal.alpha_eq_under-returns
-alpha_eq_under-returns t c =
+pub alpha_eq_under-returns-in-Quantified : goal.alpha_eq_under-returns-in-Quantified
+alpha_eq_under-returns-in-Quantified t c =
     let answer = c.alpha_eq_scope.ensures in record {
-      answers = by_form of_scope (same_quantifier _ _ _ c.if-head-code.false (omega arith)) _ _
-          (scope_under _ _ _ _) answer.answers;
+      answers = by_form of_scope (scope t (goal.at.alpha_eq_under-returns-in-Quantified t c).In-Quantified) _ _ (scope_under _ _ _ _) answer.answers;
       kept = answer.kept;
     }
 
@@ -205,14 +211,15 @@ alpha_eq_under-bounds-code-i t c = omega (arith, inside c.requires)
 pub alpha_eq_under-bounds-code-j : goal.alpha_eq_under-bounds-code-j
 alpha_eq_under-bounds-code-j t c = omega (arith, inside c.requires)
 
-pub alpha_eq_under-returns-then-head-code : goal.alpha_eq_under-returns-then-head-code
-alpha_eq_under-returns-then-head-code t c = record { answers = other_front _ _ _ _ _ _ _ c.if-head-code.true; kept = kept_all }
+pub alpha_eq_under-returns-then-front-code : goal.alpha_eq_under-returns-then-front-code
+alpha_eq_under-returns-then-front-code t c = record { answers = other_front _ _ _ _ _ _ _ c.if-front-code.true; kept = kept_all }
 
 pub alpha_eq_under-overflow_add-result : goal.alpha_eq_under-overflow_add-result
 alpha_eq_under-overflow_add-result t c = omega (arith, inside c.requires)
 
-pub alpha_eq_under-overflow_add-result-then-head-lt2 : goal.alpha_eq_under-overflow_add-result-then-head-lt2
-alpha_eq_under-overflow_add-result-then-head-lt2 t c = omega (arith, inside c.requires)
+pub alpha_eq_under-overflow_add-result-in-True : goal.alpha_eq_under-overflow_add-result-in-True
+alpha_eq_under-overflow_add-result-in-True t c = omega (arith, inside c.requires)
 
-pub alpha_eq_under-returns-then-head-lt2 : goal.alpha_eq_under-returns-then-head-lt2
-alpha_eq_under-returns-then-head-lt2 t c = record { answers = same_leaf _ _ _ _ _ _ _ c.if-head-code.false c.if-head-lt2.true; kept = kept_all }
+pub alpha_eq_under-returns-in-True : goal.alpha_eq_under-returns-in-True
+alpha_eq_under-returns-in-True t c =
+    record { answers = same_leaf _ _ _ _ _ _ _ c.if-front-code.false (leaf_front c.in-Some.ensures c.in-True.is); kept = kept_all }
