@@ -206,3 +206,6 @@ without_header bytes a = record { bytes = bytes; root = a.root; sheet = a.sheet 
 
 pub with_header : {s : List ℕ} → Accepted s → AcceptedSheet s (header_of s)
 with_header a = record { header = refl; root = a.root; sheet = a.sheet }
+
+pub beside_header : {s : List ℕ} {h : Sheet} → h ≡ header_of s → Accepted s → AcceptedSheet s h
+beside_header is a = record { header = is; root = a.root; sheet = a.sheet }
