@@ -11,8 +11,7 @@ use Rattle.definitions.specs.Outcome.{Outcome, refused, refuse, ◌>>=◌, refus
 use Rattle.definitions.specs.Sheet.{steps, step_records}
 use Rattle.definitions.specs.Admission.{admitted}
 use Rattle.definitions.specs.Answers.{comparison}
-use Rattle.sheet.specs.declared.header.Sheet.{Sheet}
-use Rattle.sheet.proofs.Admitted.{AcceptedSheet}
+use Rattle.sheet.specs.Admitted.{Accepted}
 use Rattle.steps.specs.StepAt.{step_at}
 use Rattle.comparison.specs.Conclusions.{conclusion_comparison}
 use Rattle.comparison.proofs.Conclusions.{concluded_step}
@@ -26,7 +25,7 @@ either true b holds = refl
 either false b (inl e) = absurd (true≢false (sym e))
 either false b (inr e) = e
 
-module _ {s : List ℕ} {h : Sheet} (a : AcceptedSheet s h) (i j : ℕ) where
+module _ {s : List ℕ} (a : Accepted s) (i j : ℕ) where
   pub no_such_step : (steps s ≤ i) ⊎ (steps s ≤ j) → refuse 17 0 ≡ comparison s i j
   unfolding comparison ◌>>=◌ refuse_if refuse
   no_such_step past = rw (a.root, either (leb (steps s) i) (leb (steps s) j) (⊎_elim (λ h. inl (le-leb _ _ h)) (λ h. inr (le-leb _ _ h)) past), ◌>>=◌, refuse_if)

@@ -1,10 +1,11 @@
 -- The bytes that are written are those of the new record and of the new sheet.
 use Prim.Native.Nat.{ℕ, ◌+◌, ◌-◌, ◌*◌, ◌≤◌, ◌<◌}
 use mathlib.Core.Path.{◌≡◌, refl, sym, ap, ap₂, ◌∙◌}
-use mathlib.Core.Bool.{Bool, true}
+use mathlib.Core.Bool.{Bool, true, false}
 use mathlib.Core.List.{List, [], ◌∷◌, ◌++◌, append_assoc, append-nil}
 use native.Mathlib.Omega.{arith}
-use lib.ListN.{length, take, drop}
+use lib.ListN.{length, take, drop, length-take, length-drop}
+use Rattle.std.proofs.Common.{length-append}
 use lib.Seq.{sets-eq, drop-length, drop-drop, take-add}
 use Rattle.definitions.specs.Code.{u16}
 use Rattle.definitions.specs.Sheet.{header_size, pair_size, step_size, step_limit, names, propositions, steps, text_length, code_length, name_pairs_start, proposition_pairs_start, steps_start, text_start, code_start, sheet_length, name_pairs, proposition_pairs, step_records, text_bytes, code_bytes}
@@ -48,6 +49,11 @@ whole_memory {text} {before} w e =
   where
     none_left : (n : ℕ) → n ≡ length before → drop n before ≡ []
     none_left n same = rw (same, drop-length before)
+
+-- a text is as long as a dry run of it finds
+pub measured : (text before : List ℕ) → Wrote text false before 0 before (length text)
+unfolding puts
+measured text before = record { stored = refl; within = λ h. omega arith; beyond = λ h. omega arith }
 
 -- so a memory of a record's size is the record
 pub record_filled : (g : Given) {before after : List ℕ} {next : ℕ}
@@ -139,6 +145,14 @@ module _ {s : List ℕ} {h : Sheet} (a : AcceptedSheet s h) where
         ∙ ap (λ rest. name_pairs s ++ rest)
         (append_assoc (proposition_pairs s) (step_records s) (step ++ (text_bytes s ++ code_bytes s))
         ∙ ap (λ rest. proposition_pairs s ++ rest) (sym (append_assoc (step_records s) step (text_bytes s ++ code_bytes s))))))
+
+    -- the old sheet and the step are as long together
+    pub sheet_length_with : length (sheet_with s step) ≡ length s + length step
+    unfolding u16s u16 header_size header_numbers
+    sheet_length_with =
+        let header : length (u16s (header_numbers (one_more h))) ≡ 12 = refl in
+        let parts = simp (length-append, length-take, length-drop) at (ap length sheet_bytes) in
+        omega (arith, parts, after_header, within)
 
     -- so they are written
     pub sheet_wrote : {l : Layout} {write : Bool} {before after : List ℕ} {next : ℕ} → l ≡ layout_of h

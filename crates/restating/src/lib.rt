@@ -17,7 +17,7 @@ ghost use Rattle.output.specs.Written.{Fills};
 ghost use Rattle.steps.specs.Records.{HasStep};
 ghost use Rattle.steps.specs.Tables.{SizeTable};
 ghost use Rattle.sheet.specs.Header.{InRange};
-ghost use Rattle.sheet.proofs.Admitted.{AcceptedSheet};
+ghost use Rattle.sheet.specs.Admitted.{Accepted};
 ghost use Rattle.sheet.specs.Checks.{outcome_of};
 ghost use Rattle.restating.specs.Step.{given_of, header_numbers, sheet_with, root_compared, judged};
 ghost use Rattle.restating.specs.Slots.{slots_after};
@@ -26,10 +26,10 @@ use comparison::compare_conclusions;
 use definitions::Refusal;
 use name_index::{SLOT_COUNT, build};
 use output::{put_all, put_u16s};
-use sheet::{Sheet, check, step_records, vocabulary};
-use steps::{bad_step, first_deep_tree, step_at};
+use sheet::{AdmittedSheet, Sheet};
+use steps::{Rule, bad_step, first_deep_tree, step_at};
 
-// A conclusion in the form of a step record, and a column.
+// A conclusion in the form of a step record, and a column. The kind is a number, since refusal 23 is for one that is no kind.
 #[derive(Drop)]
 pub struct Given {
     pub kind: u16,
@@ -39,12 +39,13 @@ pub struct Given {
     pub column: u16,
 }
 
-// The new step's record: AlphaEquivalent, which is rule 16, over one premiss, without identifiers, and what is given.
+// The new step's record: AlphaEquivalent over one premiss, without identifiers, and what is given. What is given may be no conclusion,
+// so it is written number by number, into an array of the size of a record.
 fn put_record(out: &mut [u8], given: Given)
     requires { length out.old ≡ step_size }
     ensures { out.new ≡ new_record (given_of given) }
 {
-    let rule = [16u8, 1, 0, 0, 0, 0, 0, 0, 0, 0];
+    let rule = [Rule::AlphaEquivalent as u8, 1, 0, 0, 0, 0, 0, 0, 0, 0];
     let conclusion = [
         given.kind,
         given.first,
@@ -56,7 +57,7 @@ fn put_record(out: &mut [u8], given: Given)
     put_u16s(out, after_rule, &conclusion, true);
 }
 
-// The header of a sheet.
+// The header of a sheet, which is put here alone.
 pub fn put_header(out: &mut [u8], h: Sheet, write: bool) -> usize
     requires { InRange h }
     ensures { Wrote (u16s (header_numbers h)) write out.old 0 out.new result }
@@ -72,11 +73,13 @@ pub fn put_header(out: &mut [u8], h: Sheet, write: bool) -> usize
     put_u16s(out, 0, &numbers, write)
 }
 
-// The sheet with one more step: its header, all up to the text, the step, and the rest.
-fn put_sheet(out: &mut [u8], s: &[u8], h: Sheet, step: &[u8], write: bool) -> usize
-    requires { AcceptedSheet s.now h × (steps s.now < step_limit) }
-    ensures { Wrote (sheet_with s.now step.now) write out.old 0 out.new result }
+// Writes the sheet with one more step, each part where the last one ended: its header, all up to the text, the step, and the rest.
+fn put_sheet(out: &mut [u8], sheet: &AdmittedSheet, step: &[u8]) -> usize
+    requires { steps sheet.now < step_limit }
+    ensures { Wrote (sheet_with sheet.now step.now) true out.old 0 out.new result }
 {
+    let s = sheet.bytes();
+    let h = sheet.header();
     let new = Sheet {
         steps: h.steps + 1,
         ..h
@@ -84,24 +87,25 @@ fn put_sheet(out: &mut [u8], s: &[u8], h: Sheet, step: &[u8], write: bool) -> us
     let text = h.layout().text;
     let pairs_and_steps = &s[Sheet::HEADER_SIZE..text];
     let text_and_code = &s[text..];
-    let after_header = put_header(out, new, write);
-    let after_steps = put_all(out, after_header, pairs_and_steps, write);
-    let after_step = put_all(out, after_steps, step, write);
-    put_all(out, after_step, text_and_code, write)
+    let after_header = put_header(out, new, true);
+    let after_steps = put_all(out, after_header, pairs_and_steps, true);
+    let after_step = put_all(out, after_steps, step, true);
+    put_all(out, after_step, text_and_code, true)
 }
 
-// 24: there are already 1,024 steps or 256 levels.
-fn no_step_left(s: &[u8], h: Sheet, sizes: &[u16; Sheet::STEP_LIMIT]) -> bool
-    requires accepted_sheet { AcceptedSheet s.now h }
-    requires size_table { SizeTable (step_records s.now) (steps s.now) sizes.now }
-    ensures { result ≡ no_step_left s.now (root_of s.now) }
+// 24: there are already 1,024 steps or 256 levels. The sizes stand beside the sheet, since few functions over a sheet read a table of
+// them.
+fn no_step_left(sheet: &AdmittedSheet, sizes: &[u16; Sheet::STEP_LIMIT]) -> bool
+    requires { SizeTable (step_records sheet.now) (steps sheet.now) sizes.now }
+    ensures { result ≡ no_step_left sheet.now (root_of sheet.now) }
 {
+    let h = sheet.header();
     if Sheet::STEP_LIMIT <= h.steps {
         return true;
     }
     let mut heights = [0u16; Sheet::STEP_LIMIT];
     first_deep_tree(
-        step_records(s, h),
+        sheet.step_records(),
         h.steps,
         sizes,
         &mut heights,
@@ -111,85 +115,93 @@ fn no_step_left(s: &[u8], h: Sheet, sizes: &[u16; Sheet::STEP_LIMIT]) -> bool
 }
 
 // The root's conclusion and that of one more step.
-fn compare_root(s: &[u8], h: Sheet, step: &[u8]) -> Result<bool, Refusal>
-    requires accepted_sheet { AcceptedSheet s.now h × HasStep step.now 0 }
-    requires step_value { bad_step (names s.now) (propositions s.now) step.now 0 ≡ false }
-    ensures { outcome_of result ≡ root_compared s.now step.now }
+fn compare_root(sheet: &AdmittedSheet, step: &[u8]) -> Result<bool, Refusal>
+    requires has_step { HasStep step.now 0 }
+    requires step_value { bad_step (names sheet.now) (propositions sheet.now) step.now 0 ≡ false }
+    ensures { outcome_of result ≡ root_compared sheet.now step.now }
 {
-    let root = step_at(step_records(s, h), h.steps - 1).conclusion;
+    let h = sheet.header();
+    let root = step_at(sheet.step_records(), h.steps - 1).conclusion;
     let new = step_at(step, 0).conclusion;
-    compare_conclusions(s, h, root, new)
+    compare_conclusions(sheet, root, new)
 }
 
 // 23, 24, and then whether the root's conclusion equals that of one more step.
-fn judge(s: &[u8], h: Sheet, sizes: &[u16; Sheet::STEP_LIMIT], step: &[u8]) -> Result<bool, Refusal>
-    requires accepted_sheet { AcceptedSheet s.now h × HasStep step.now 0 }
-    requires size_table { SizeTable (step_records s.now) (steps s.now) sizes.now }
-    ensures { outcome_of result ≡ judged s.now step.now }
+fn judge(
+    sheet: &AdmittedSheet,
+    sizes: &[u16; Sheet::STEP_LIMIT],
+    step: &[u8],
+) -> Result<bool, Refusal>
+    requires has_step { HasStep step.now 0 }
+    requires size_table { SizeTable (step_records sheet.now) (steps sheet.now) sizes.now }
+    ensures value { outcome_of result ≡ judged sheet.now step.now }
+    ensures accepted { Accepted sheet.now }
 {
+    let h = sheet.header();
     if bad_step(step, 0, h.names, h.propositions) {
         return Err(Refusal::at(23, 0));
     }
-    if no_step_left(s, h, sizes) {
+    if no_step_left(sheet, sizes) {
         return Err(Refusal::at(24, 0));
     }
-    compare_root(s, h, step)
+    compare_root(sheet, step)
 }
 
-// The sheet with one more step, where it fits.
-fn write_sheet(s: &[u8], h: Sheet, step: &[u8], out: &mut [u8]) -> Result<usize, Refusal>
-    requires { AcceptedSheet s.now h × (steps s.now < step_limit) }
-    ensures { Fills (is_in_room (length out.old) (accepted (sheet_with s.now step.now)))
+// The sheet with one more step, where it fits: it is longer by the record.
+fn write_sheet(
+    sheet: &AdmittedSheet,
+    step: &[u8; Sheet::STEP_SIZE],
+    out: &mut [u8],
+) -> Result<usize, Refusal>
+    requires { steps sheet.now < step_limit }
+    ensures { Fills (is_in_room (length out.old) (accepted (sheet_with sheet.now step.now)))
         out.old out.new result }
 {
-    let end = put_sheet(out, s, h, step, false);
+    let end = sheet.bytes().len() + Sheet::STEP_SIZE;
     if out.len() < end {
         return Err(Refusal::at(16, 0));
     }
-    put_sheet(out, s, h, step, true);
+    put_sheet(out, sheet, step);
     Ok(end)
 }
 
 // The new sheet of an accepted one, after the tests.
 fn restate_accepted(
-    s: &[u8],
-    h: Sheet,
+    sheet: &AdmittedSheet,
     sizes: &[u16; Sheet::STEP_LIMIT],
     given: Given,
     out: &mut [u8],
 ) -> Result<usize, Refusal>
-    requires accepted_sheet { AcceptedSheet s.now h }
-    requires size_table { SizeTable (step_records s.now) (steps s.now) sizes.now }
-    ensures { Fills (restate_answer s.now (given_of given) (length out.old))
+    requires { SizeTable (step_records sheet.now) (steps sheet.now) sizes.now }
+    ensures { Fills (restate_answer sheet.now (given_of given) (length out.old))
         out.old out.new result }
 {
     let mut step = [0u8; Sheet::STEP_SIZE];
     put_record(&mut step, given);
-    let same = judge(s, h, sizes, &step)?;
+    let same = judge(sheet, sizes, &step)?;
     if !same {
         return Err(Refusal::at(25, 0));
     }
-    write_sheet(s, h, &step, out)
+    write_sheet(sheet, &step, out)
 }
 
 // The same, with the index of the new sheet's names, which are the old ones.
 fn restate_indexed(
-    s: &[u8],
-    h: Sheet,
+    sheet: &AdmittedSheet,
     sizes: &[u16; Sheet::STEP_LIMIT],
     given: Given,
     slots: &mut [u16],
     out: &mut [u8],
 ) -> Result<usize, Refusal>
-    requires accepted_sheet { AcceptedSheet s.now h × (length slots.old ≡ slot_count) }
-    requires size_table { SizeTable (step_records s.now) (steps s.now) sizes.now }
-    ensures fills { Fills (restate_answer s.now (given_of given) (length out.old))
+    requires slots_len { length slots.old ≡ slot_count }
+    requires size_table { SizeTable (step_records sheet.now) (steps sheet.now) sizes.now }
+    ensures fills { Fills (restate_answer sheet.now (given_of given) (length out.old))
         out.old out.new result }
     ensures slots_after { slots.new ≡ slots_after
-        (restate_answer s.now (given_of given) (length out.old)) slots.old }
+        (restate_answer sheet.now (given_of given) (length out.old)) slots.old }
 {
-    let length = restate_accepted(s, h, sizes, given, out)?;
-    build(slots, s, vocabulary(h));
+    let length = restate_accepted(sheet, sizes, given, out)?;
+    build(slots, sheet.bytes(), sheet.vocabulary());
     Ok(length)
 }
 
@@ -209,6 +221,6 @@ pub fn restate(
         → Restates s.now (given_of given) (take n out.new) }
 {
     let mut sizes = [0u16; Sheet::STEP_LIMIT];
-    let h = check(s, &mut sizes)?;
-    restate_indexed(s, h, &sizes, given, slots, out)
+    let sheet = AdmittedSheet::with_sizes(s, &mut sizes)?;
+    restate_indexed(&sheet, &sizes, given, slots, out)
 }

@@ -12,24 +12,24 @@ unfolding step_size
 put_record-requires c = refl
 
 pub judge-requires : goal.judge-requires
-judge-requires c =
-    let record { accepted_sheet = sheet; size_table = sizes } = c.requires in
-    record { accepted_sheet = (sheet, has_record _ c.put_record.ensures); size_table = sizes }
+judge-requires c = record { has_step = has_record _ c.put_record.ensures; size_table = c.requires }
 
 pub returns-in_err-same : goal.returns-in_err-same
 returns-in_err-same c =
-    told (tests_refused _ _ c.requires.accepted_sheet.root c.put_record.ensures c.in_err-same.ensures _ _) (search rules)
+    let judged = c.in_err-same.ensures in
+    told (tests_refused _ _ judged.accepted.root c.put_record.ensures judged.value _ _) (search rules)
 
 pub returns-then-not-same : goal.returns-then-not-same
 returns-then-not-same c =
-    rw c.at.ensures
-    (tests_no _ _ c.requires.accepted_sheet.root c.put_record.ensures (rw c.if-not-same.true at c.in_ok-same.ensures) _ _)
+    let judged = c.in_ok-same.ensures in
+    rw c.at.ensures (tests_no _ _ judged.accepted.root c.put_record.ensures (rw c.if-not-same.true at judged.value) _ _)
 
 pub write_sheet-requires : goal.write_sheet-requires
 write_sheet-requires c =
-    let sheet = c.requires.accepted_sheet in
-    (sheet, steps_left _ _ sheet.root c.put_record.ensures (rw c.if-not-same.false at c.in_ok-same.ensures))
+    let judged = c.in_ok-same.ensures in
+    steps_left _ _ judged.accepted.root c.put_record.ensures (rw c.if-not-same.false at judged.value)
 
 pub returns : goal.returns
 returns c =
-    tests_yes _ _ c.requires.accepted_sheet.root c.put_record.ensures (rw c.if-not-same.false at c.in_ok-same.ensures) _ c.write_sheet.ensures
+    let judged = c.in_ok-same.ensures in
+    tests_yes _ _ judged.accepted.root c.put_record.ensures (rw c.if-not-same.false at judged.value) _ c.write_sheet.ensures

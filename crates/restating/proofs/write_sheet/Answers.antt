@@ -1,15 +1,24 @@
--- Measured by a dry run, and then written.
+-- The sheet is as long as the old one and the step, and is written where it fits.
+use Prim.Native.Nat.{◌+◌}
+use mathlib.Core.Path.{◌≡◌, ap}
 use native.Mathlib.Omega.{arith}
-use Rattle.output.proofs.Writing as writing
+use lib.ListN.{length}
 use Rattle.output.proofs.Filling.{too_long, fills}
+use Rattle.sheet.proofs.Admitted.{with_header}
+use Rattle.restating.specs.Step.{sheet_with}
+use Rattle.restating.proofs.Bytes.{measured, sheet_length_with}
 use Rattle.restating.proofs.write_sheet.Goals as goal
+use Rattle.restating.proofs.write_sheet.Goals.{After-bytes}
+
+end_is : (c : After-bytes) → length (sheet_with c.args.sheet.now c.args.step.now) ≡ length c.bytes.result.now + 20
+end_is c =
+    omega (arith, sheet_length_with (with_header c.bytes.ensures.accepted) c.args.step.now, ap length c.bytes.ensures.is)
 
 pub returns-then-out-end : goal.returns-then-out-end
 returns-then-out-end c =
-    let dry = c.put_sheet-end.ensures in
-    rw c.at.ensures (too_long dry (omega (arith, writing.same_length dry)))
+    rw c.at.ensures (too_long (measured _ _) (omega (arith, end_is (goal.at.returns-then-out-end c).After-bytes)))
 
 pub returns : goal.returns
 returns c =
-    let dry = c.put_sheet-end.ensures in
-    fills dry (omega (arith, writing.same_length dry)) c.put_sheet.ensures
+    let long = end_is (goal.at.returns c).After-bytes in
+    rw long at (fills (measured _ _) (omega (arith, long)) c.put_sheet.ensures)
