@@ -1,6 +1,6 @@
 -- A graft handed over: its length, or its refusal by its parts and whose it is.
 use Prim.Native.Nat.{ℕ}
-use mathlib.Core.Path.{◌≡◌, refl, ap}
+use mathlib.Core.Path.{◌≡◌, refl, ap, ◌∙◌}
 use mathlib.Core.List.{List}
 use native.Mathlib.Omega.{arith}
 use lib.ListN.{length}
@@ -14,7 +14,7 @@ use Rattle.definitions.specs.Graft.{refused_by, merged, graft_answer, located_by
 use Rattle.skriduhol.specs.Grafts.{grafted_of, GraftsOf}
 use Rattle.std.specs.Prelude.{Result, Ok, Err}
 use Rattle.skriduhol.specs.Lengths.{MeasuresGraft}
-use Rattle.skriduhol_c.specs.Handed.{HandsRefusal}
+use Rattle.skriduhol_c.specs.Handed.{HandsNumber, HandsRefusal}
 use Rattle.skriduhol_c.specs.Grafts.{whose_number, number_by, value_by, whose_by, column_by, HandsBy, HandsGrafted, HandsGraftLength}
 
 -- a located refusal is that refusal
@@ -26,10 +26,13 @@ refusal_of h d Donor r = refl
 
 -- Of what is answered of a graft:
 module _ (h d : List ℕ) {r : Result ℕ (Whose × Located)} where
-  pub length_handed : {n : ℕ} → r ≡ Ok n → (o : graft.Grafted) → r ≡ grafted_of h d o → HandsBy h d o n 0 0 0
+  pub length_handed : {n value column result : ℕ} → r ≡ Ok n → HandsNumber n value column result → (o : graft.Grafted) → r ≡ grafted_of h d o
+      → HandsBy h d o value column 0 result
   unfolding number_by value_by whose_by column_by grafted_of
-  length_handed e (refused_by w x) g = absurd (let z : ◌≡◌ {A = ℕ} 0 1 = cc in omega arith)
-  length_handed e (merged m) g = record { number = refl; said = cc; drawn = refl; by = refl }
+  length_handed e parts (refused_by w x) g = absurd (let z : ◌≡◌ {A = ℕ} 0 1 = cc in omega arith)
+  length_handed {n} e parts (merged m) g =
+      let long : n ≡ length m = cc in
+      record { number = parts.number; said = parts.said ∙ long; drawn = parts.drawn; by = refl }
 
   pub refusal_handed : {w : Whose} {l : Located} {value column whose result : ℕ} → r ≡ Err (w, l) → HandsRefusal l value column result
       → whose ≡ whose_number w → (o : graft.Grafted) → r ≡ grafted_of h d o → HandsBy h d o value column whose result

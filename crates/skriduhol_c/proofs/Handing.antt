@@ -1,90 +1,90 @@
 -- What is handed over for each answer that the operations give.
 use Prim.Native.Nat.{ℕ}
-use mathlib.Core.Path.{◌≡◌, refl}
-use mathlib.Core.Bool.{Bool, true, false}
-use Rattle.std.specs.Prelude.{Option, None, Some, Result, Err, Ok, ℕ}
+use mathlib.Core.Path.{◌≡◌, refl, ap, ◌∙◌}
+use mathlib.Core.Bool.{Bool}
+use Rattle.std.specs.Prelude.{Option, Result, Err, Ok, MatchResult, IsOkAnd}
 use mathlib.Core.List.{List}
 use lib.ListN.{length}
-use Rattle.definitions.specs.declared.Refusal.{Refusal}
 use Rattle.definitions.specs.declared.Located.{Located}
 use Rattle.definitions.specs.Outcome.{Outcome, accepted, refused}
 use Rattle.definitions.specs.Answers.{located}
 use Rattle.skriduhol.specs.Searched.{searched_of}
 use Rattle.skriduhol.specs.Located.{filled_of, FillsOf, count_of, verdict_of}
 use Rattle.skriduhol.specs.Lengths.{Measures}
-use Rattle.skriduhol_c.specs.Handed.{number_of, value_of, column_for, Hands, HandsFilled, HandsLength, HandsRefusal}
+use Rattle.skriduhol_c.specs.Handed.{number_of, value_of, column_for, Hands, HandsAnswer, HandsFilled, HandsLength}
 
--- an outcome of a sheet that is this refusal as it is handed back
-pub record RefusedAs {A : Type 0} (s : List ℕ) (outcome : Outcome A) (l : Located) : Type 0 where
-  pub refusal : Refusal
-  pub is : outcome ≡ refused refusal
-  pub at : l ≡ located s refusal
+ok_said : {P : ℕ → Type 0} (r : Result ℕ Located) → IsOkAnd r P → (n : ℕ) × (r ≡ Ok n) × P n
+ok_said (Ok n) p = (n, refl, p)
+ok_said (Err l) p = absurd p
 
-module _ {A : Type 0} (s : List ℕ) where
-  pub accepts : (says : A → ℕ) {a : A} {outcome : Outcome A} → outcome ≡ accepted a → Hands says s outcome (says a) 0 0
-  unfolding number_of value_of column_for
-  accepts says e = rw e (record { number = refl; said = refl; drawn = refl })
+-- Of what an accepted answer says as one number:
+module _ {A : Type 0} (says : A → ℕ) where
+  -- an answer of the operations, by that number
+  unfoldable pub numbered : Result A Located → Result ℕ Located
+  numbered (Ok a) = Ok (says a)
+  numbered (Err l) = Err l
 
-  pub refuses : {says : A → ℕ} {outcome : Outcome A} {l : Located} {value column result : ℕ} → RefusedAs s outcome l
-      → HandsRefusal l value column result
-      → Hands says s outcome value column result
-  unfolding number_of value_of column_for located
-  refuses r h =
-      let parts = rw r.at at h in
-      rw r.is (record { number = parts.number; said = parts.place; drawn = parts.drawn })
+  -- it is what `map` makes of the answer by a function that says it
+  pub mapped : (a : Result A Located) {r : Result ℕ Located} {P : A → ℕ → Type 0} → MatchResult a (λ x. IsOkAnd r (P x)) (λ l. r ≡ Err l)
+      → ((x : A) (n : ℕ) → P x n → n ≡ says x) → r ≡ numbered a
+  unfolding numbered
+  mapped (Ok x) {r} cases said = let (n, is, p) = ok_said r cases in is ∙ ap (λ y. Ok y) (said x n p)
+  mapped (Err l) cases said = cases
 
--- what each answer was given for
+  -- an outcome of a sheet, by that number and with its refusal located
+  unfoldable pub told : List ℕ → Outcome A → Result ℕ Located
+  told s (accepted a) = Ok (says a)
+  told s (refused r) = Err (located s r)
+
+  -- handed over, it is the outcome's
+  pub hands : (s : List ℕ) (o : Outcome A) {r : Result ℕ Located} {value column result : ℕ} → r ≡ told s o → HandsAnswer r value column result
+      → Hands says s o value column result
+  unfolding told number_of value_of column_for located
+  hands s (accepted a) e h = let h = rw e at h in record { number = h.number; said = h.said; drawn = h.drawn }
+  hands s (refused x) e h = let h = rw e at h in record { number = h.number; said = h.place; drawn = h.drawn }
+
+-- each kind of answer is the outcome by its number
 module _ (s : List ℕ) where
-  pub filled_accepts : {n : ℕ} (o : Outcome (List ℕ)) → Ok n ≡ filled_of s o → Hands length s o n 0 0
-  unfolding number_of value_of column_for filled_of
-  filled_accepts (accepted a) e = record { number = refl; said = cc; drawn = refl }
-  filled_accepts (refused r) e = record { number = cc; said = cc; drawn = cc }
+  filled_told : (o : Outcome (List ℕ)) → filled_of s o ≡ told length s o
+  unfolding filled_of told
+  filled_told (accepted a) = refl
+  filled_told (refused x) = refl
 
-  pub filled_refused : {l : Located} (o : Outcome (List ℕ)) → Err l ≡ filled_of s o → RefusedAs s o l
-  unfolding filled_of
-  filled_refused (accepted a) e = record { refusal = record { number = 0; place = 0 }; is = cc; at = cc }
-  filled_refused (refused r) e = record { refusal = r; is = refl; at = cc }
+  count_told : (o : Outcome ℕ) → count_of s o ≡ told (λ n. n) s o
+  unfolding count_of told
+  count_told (accepted n) = refl
+  count_told (refused x) = refl
 
-  pub count_accepted : {n : ℕ} (o : Outcome ℕ) → Ok n ≡ count_of s o → o ≡ accepted n
-  unfolding count_of
-  count_accepted (accepted n) e = cc
-  count_accepted (refused r) e = cc
+  verdict_told : (says : Bool → ℕ) (o : Outcome Bool) → numbered says (verdict_of s o) ≡ told says s o
+  unfolding verdict_of numbered told
+  verdict_told says (accepted b) = refl
+  verdict_told says (refused x) = refl
 
-  pub count_refused : {l : Located} (o : Outcome ℕ) → Err l ≡ count_of s o → RefusedAs s o l
-  unfolding count_of
-  count_refused (accepted n) e = record { refusal = record { number = 0; place = 0 }; is = cc; at = cc }
-  count_refused (refused r) e = record { refusal = r; is = refl; at = cc }
+  search_told : (says : Option ℕ → ℕ) (o : Outcome (Option ℕ)) → numbered says (searched_of s o) ≡ told says s o
+  unfolding searched_of numbered told
+  search_told says (accepted x) = refl
+  search_told says (refused x) = refl
 
-  pub verdict_accepted : {same : Bool} (o : Outcome Bool) → Ok same ≡ verdict_of s o → o ≡ accepted same
-  unfolding verdict_of
-  verdict_accepted (accepted b) e = cc
-  verdict_accepted (refused r) e = cc
+-- so, of a sheet's bytes, it is handed over
+module _ (s : List ℕ) {r : Result ℕ Located} {value column result : ℕ} (h : HandsAnswer r value column result) where
+  pub filled_handed : (o : Outcome (List ℕ)) → r ≡ filled_of s o → Hands length s o value column result
+  filled_handed o e = hands length s o (e ∙ filled_told s o) h
 
-  pub verdict_refused : {l : Located} (o : Outcome Bool) → Err l ≡ verdict_of s o → RefusedAs s o l
-  unfolding verdict_of
-  verdict_refused (accepted b) e = record { refusal = record { number = 0; place = 0 }; is = cc; at = cc }
-  verdict_refused (refused r) e = record { refusal = r; is = refl; at = cc }
+  pub count_handed : (o : Outcome ℕ) → r ≡ count_of s o → Hands (λ (n : ℕ). n) s o value column result
+  count_handed o e = hands (λ (n : ℕ). n) s o (e ∙ count_told s o) h
 
-  pub number_found : {found : Option ℕ} (o : Outcome (Option ℕ)) → Ok found ≡ searched_of s o → o ≡ accepted found
-  unfolding searched_of
-  number_found (accepted x) e = cc
-  number_found (refused r) e = cc
+  pub verdict_handed : (says : Bool → ℕ) (o : Outcome Bool) → r ≡ numbered says (verdict_of s o) → Hands says s o value column result
+  verdict_handed says o e = hands says s o (e ∙ verdict_told s says o) h
 
-  pub search_refused : {l : Located} (o : Outcome (Option ℕ)) → Err l ≡ searched_of s o → RefusedAs s o l
-  unfolding searched_of
-  search_refused (accepted x) e = record { refusal = record { number = 0; place = 0 }; is = cc; at = cc }
-  search_refused (refused r) e = record { refusal = r; is = refl; at = cc }
+  pub search_handed : (says : Option ℕ → ℕ) (o : Outcome (Option ℕ)) → r ≡ numbered says (searched_of s o) → Hands says s o value column result
+  search_handed says o e = hands says s o (e ∙ search_told s says o) h
 
   -- an answer that fills lent memory, handed over
-  pub fills : {answer : List ℕ → ℕ → Outcome (List ℕ)} {before after : List ℕ} {r : Result ℕ Located} {value column result : ℕ}
-      → FillsOf s (answer s (length before)) before after r
-      → ((t : List ℕ) (o : Outcome (List ℕ)) → r ≡ filled_of t o → Hands length t o value column result)
+  pub fills : {answer : List ℕ → ℕ → Outcome (List ℕ)} {before after : List ℕ} → FillsOf s (answer s (length before)) before after r
       → HandsFilled answer s before after value column result
-  fills f hands = record { handed = hands _ _ f.answer; memory = f.memory }
+  fills f = record { handed = filled_handed _ f.answer; memory = f.memory }
 
   -- the length of an answer, handed over
-  pub lengths : {answer : List ℕ → ℕ → Outcome (List ℕ)} {whole : List ℕ → Outcome (List ℕ)} {r : Result ℕ Located} {value column result : ℕ}
-      → Measures s (answer s) (whole s) r
-      → ((t : List ℕ) (o : Outcome (List ℕ)) → r ≡ filled_of t o → Hands length t o value column result)
+  pub lengths : {answer : List ℕ → ℕ → Outcome (List ℕ)} {whole : List ℕ → Outcome (List ℕ)} → Measures s (answer s) (whole s) r
       → HandsLength answer whole s value column result
-  lengths m hands = record { handed = hands _ _ m.told; in_room = m.in_room }
+  lengths m = record { handed = filled_handed _ m.told; in_room = m.in_room }

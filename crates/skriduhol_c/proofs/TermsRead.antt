@@ -11,7 +11,7 @@ use Rattle.term_reader.specs.declared.TermSize.{TermSize}
 use Rattle.term_reader.specs.Answered.{size_of}
 use Rattle.std.specs.Prelude.{Result, Ok, Err, ℕ}
 use Rattle.skriduhol_terms.specs.Reading.{reading_of, HandsTerm}
-use Rattle.skriduhol_c.specs.Handed.{number_of, value_of, HandsRefusal}
+use Rattle.skriduhol_c.specs.Handed.{number_of, value_of, HandsNumber, HandsRefusal}
 use Rattle.skriduhol_c.specs.TermsRead.{count_by, names_of, code_of, HandsSizes, HandsOutcome}
 
 -- a term was read, of which these are the sizes
@@ -39,14 +39,15 @@ refuses (refused r) {l} e =
 
 -- the answer of the reader, handed over
 module _ (o : Outcome (ProofTerm Name)) where
-  pub sizes_handed : {size : TermSize} → Ok size ≡ reading_of o → HandsSizes o size.nodes 0 size.names size.code 0
+  pub sizes_handed : {size : TermSize} {value column result : ℕ} → Ok size ≡ reading_of o → HandsNumber size.nodes value column result
+      → HandsSizes o value column size.names size.code result
   unfolding number_of value_of count_by names_of code_of size_of
-  sizes_handed e =
+  sizes_handed e parts =
       let a = accepts o e in
       record {
-        number = rw a.is;
-        said = ap (λ (z : TermSize). z.nodes) a.sizes ∙ sym (ap (value_of nodes) a.is);
-        drawn = refl;
+        number = rw a.is parts.number;
+        said = parts.said ∙ ap (λ (z : TermSize). z.nodes) a.sizes ∙ sym (ap (value_of nodes) a.is);
+        drawn = parts.drawn;
         named = ap (λ (z : TermSize). z.names) a.sizes ∙ sym (ap (count_by names_of) a.is);
         coded = ap (λ (z : TermSize). z.code) a.sizes ∙ sym (ap (count_by code_of) a.is);
       }

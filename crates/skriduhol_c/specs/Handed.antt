@@ -1,5 +1,5 @@
 -- What a caller in C is handed of each outcome: a number as the result, a value and a column behind pointers, and the lent memory.
-use Rattle.std.specs.Prelude.{ℕ, ◌≡◌, Bool, true, false, List, length, get_or, Option, None, Some}
+use Rattle.std.specs.Prelude.{ℕ, ◌≡◌, Bool, true, false, List, length, get_or, Option, None, Some, Result, MatchResult}
 use Rattle.definitions.specs.declared.Located.{Located}
 use Rattle.definitions.specs.Outcome.{Outcome, accepted, refused}
 use Rattle.definitions.specs.Answers.{is_in_room, column_of}
@@ -73,3 +73,14 @@ pub record HandsRefusal (l : Located) (value column result : ℕ) : Type 0 where
   pub number : result ≡ l.refusal.number
   pub place : value ≡ l.refusal.place
   pub drawn : column ≡ l.column
+
+-- 0 and a number, in no column
+pub record HandsNumber (n value column result : ℕ) : Type 0 where
+  pub number : result ≡ 0
+  pub said : value ≡ n
+  pub drawn : column ≡ 0
+
+-- an answer of a number, or its refusal
+abbrev pub HandsAnswer : Result ℕ Located → ℕ → ℕ → ℕ → Type 0
+HandsAnswer answer value column result =
+    MatchResult answer (λ n. HandsNumber n value column result) (λ l. HandsRefusal l value column result)

@@ -18,14 +18,13 @@ ghost use Rattle.restating.specs.Step.{given_of};
 ghost use Rattle.restating.specs.Slots.{slots_after};
 ghost use Rattle.grafting.specs.Answered.{slots_by};
 ghost use Rattle.made_length.specs.Whole.{whole_exercise};
-ghost use Rattle.skriduhol.specs.Located.{filled_of};
 ghost use Rattle.skriduhol.specs.Grafts.{grafted_of};
 ghost use Rattle.skriduhol.specs.Lengths.{whole_text, whole_atoms, whole_datatypes};
 ghost use Rattle.skriduhol.specs.Board.{Prints};
 ghost use Rattle.skriduhol.specs.Searched.{plain_answer};
 ghost use Rattle.skriduhol_terms.specs.Reading.{reading_of};
-ghost use Rattle.skriduhol_c.specs.Handed.{Hands, HandsFilled, HandsLength, HandsRefusal, yes_or_no, number_or_free, given_in};
-ghost use Rattle.skriduhol_c.specs.Grafts.{whose_number, HandsBy, HandsGrafted, HandsGraftLength};
+ghost use Rattle.skriduhol_c.specs.Handed.{Hands, HandsAnswer, HandsFilled, HandsLength, yes_or_no, number_or_free, given_in};
+ghost use Rattle.skriduhol_c.specs.Grafts.{HandsBy, HandsGrafted, HandsGraftLength};
 ghost use Rattle.skriduhol_c.specs.Judged.{HandsJudged};
 ghost use Rattle.skriduhol_c.specs.TermsRead.{HandsSizes, HandsRead, HandsReadLength};
 
@@ -35,31 +34,27 @@ use restating::Given;
 use skriduhol::BOARD_ROOM;
 use term_reader::TermSize;
 
-// A refusal's place is the value, and its column the column.
-fn hand_refusal(located: Located, value: &mut usize, column: &mut usize) -> u8
-    ensures { HandsRefusal located value.new column.new result }
+// Hands over an answer: what is accepted, as one number, or a refusal's number, place and column. A caller in C has no Result, so
+// value and column stand behind pointers of their own.
+fn hand(answer: Result<usize, Located>, value: &mut usize, column: &mut usize) -> u8
+    ensures { HandsAnswer answer value.new column.new result }
 {
-    let refusal = located.refusal;
-    *value = refusal.place as usize;
-    *column = located.column as usize;
-    refusal.number
-}
-
-// The length of an answer in lent memory is the value.
-fn hand_filled(filled: Result<usize, Located>, value: &mut usize, column: &mut usize) -> u8
-    ensures { (s : List ℕ) (o : Outcome (List ℕ)) → filled ≡ filled_of s o → Hands length s o value.new column.new result }
-{
-    match filled {
-        Ok(length) => {
-            *value = length;
+    match answer {
+        Ok(number) => {
+            *value = number;
             *column = 0;
-            return 0;
+            0
         }
         Err(located) => {
-            return hand_refusal(located, value, column);
+            let refusal = located.refusal;
+            *value = usize::from(refusal.place);
+            *column = usize::from(located.column);
+            refusal.number
         }
     }
 }
+
+// Each export of one shape stands by itself: it has one symbol in C and a contract of its own, and its body is a call.
 
 // The plain text: that of version 1.
 #[unsafe(no_mangle)]
@@ -72,7 +67,7 @@ pub extern "C" fn skriduhol_plain_text(
     ensures { HandsFilled (λ s. text_answer s 1 Plain) sheet.now out.old out.new
         value.new column.new result }
 {
-    hand_filled(skriduhol::plain_text(sheet, out), value, column)
+    hand(skriduhol::plain_text(sheet, out), value, column)
 }
 
 // The strict text: that of version 1.
@@ -86,7 +81,7 @@ pub extern "C" fn skriduhol_strict_text(
     ensures { HandsFilled (λ s. text_answer s 1 Strict) sheet.now out.old out.new
         value.new column.new result }
 {
-    hand_filled(skriduhol::strict_text(sheet, out), value, column)
+    hand(skriduhol::strict_text(sheet, out), value, column)
 }
 
 // The atom list.
@@ -99,7 +94,7 @@ pub extern "C" fn skriduhol_atom_list(
 ) -> u8
     ensures { HandsFilled atoms_answer sheet.now out.old out.new value.new column.new result }
 {
-    hand_filled(skriduhol::atom_list(sheet, out), value, column)
+    hand(skriduhol::atom_list(sheet, out), value, column)
 }
 
 // The datatype list: that of version 1.
@@ -113,7 +108,7 @@ pub extern "C" fn skriduhol_datatype_list(
     ensures { HandsFilled (λ s. datatypes_answer s 1) sheet.now out.old out.new
         value.new column.new result }
 {
-    hand_filled(skriduhol::datatype_list(sheet, out), value, column)
+    hand(skriduhol::datatype_list(sheet, out), value, column)
 }
 
 // The plain text of a version of the handout, 1 to 3.
@@ -128,7 +123,7 @@ pub extern "C" fn skriduhol_handout_plain(
     ensures { HandsFilled (λ s. text_answer s version Plain) sheet.now out.old out.new
         value.new column.new result }
 {
-    hand_filled(
+    hand(
         skriduhol::handout(sheet, version, Style::Plain, out),
         value,
         column,
@@ -147,7 +142,7 @@ pub extern "C" fn skriduhol_handout_strict(
     ensures { HandsFilled (λ s. text_answer s version Strict) sheet.now out.old out.new
         value.new column.new result }
 {
-    hand_filled(
+    hand(
         skriduhol::handout(sheet, version, Style::Strict, out),
         value,
         column,
@@ -166,7 +161,7 @@ pub extern "C" fn skriduhol_handout_datatypes(
     ensures { HandsFilled (λ s. datatypes_answer s version) sheet.now out.old out.new
         value.new column.new result }
 {
-    hand_filled(
+    hand(
         skriduhol::handout_datatypes(sheet, version, out),
         value,
         column,
@@ -183,7 +178,7 @@ pub extern "C" fn skriduhol_plain_text_length(
     ensures { HandsLength (λ s. text_answer s 1 Plain) (λ s. whole_text s 1 Plain) sheet.now
         value.new column.new result }
 {
-    hand_filled(
+    hand(
         skriduhol::handout_length(sheet, 1, Style::Plain),
         value,
         column,
@@ -200,7 +195,7 @@ pub extern "C" fn skriduhol_strict_text_length(
     ensures { HandsLength (λ s. text_answer s 1 Strict) (λ s. whole_text s 1 Strict) sheet.now
         value.new column.new result }
 {
-    hand_filled(
+    hand(
         skriduhol::handout_length(sheet, 1, Style::Strict),
         value,
         column,
@@ -217,7 +212,7 @@ pub extern "C" fn skriduhol_atom_list_length(
     ensures { HandsLength atoms_answer whole_atoms sheet.now
         value.new column.new result }
 {
-    hand_filled(skriduhol::atom_list_length(sheet), value, column)
+    hand(skriduhol::atom_list_length(sheet), value, column)
 }
 
 // How many numbers the datatype list has.
@@ -230,7 +225,7 @@ pub extern "C" fn skriduhol_datatype_list_length(
     ensures { HandsLength (λ s. datatypes_answer s 1) (λ s. whole_datatypes s 1) sheet.now
         value.new column.new result }
 {
-    hand_filled(skriduhol::handout_datatypes_length(sheet, 1), value, column)
+    hand(skriduhol::handout_datatypes_length(sheet, 1), value, column)
 }
 
 // How long the plain text of a version of the handout is.
@@ -244,7 +239,7 @@ pub extern "C" fn skriduhol_handout_plain_length(
     ensures { HandsLength (λ s. text_answer s version Plain) (λ s. whole_text s version Plain) sheet.now
         value.new column.new result }
 {
-    hand_filled(
+    hand(
         skriduhol::handout_length(sheet, version, Style::Plain),
         value,
         column,
@@ -262,7 +257,7 @@ pub extern "C" fn skriduhol_handout_strict_length(
     ensures { HandsLength (λ s. text_answer s version Strict) (λ s. whole_text s version Strict) sheet.now
         value.new column.new result }
 {
-    hand_filled(
+    hand(
         skriduhol::handout_length(sheet, version, Style::Strict),
         value,
         column,
@@ -280,7 +275,7 @@ pub extern "C" fn skriduhol_handout_datatypes_length(
     ensures { HandsLength (λ s. datatypes_answer s version) (λ s. whole_datatypes s version) sheet.now
         value.new column.new result }
 {
-    hand_filled(
+    hand(
         skriduhol::handout_datatypes_length(sheet, version),
         value,
         column,
@@ -292,20 +287,17 @@ pub extern "C" fn skriduhol_handout_datatypes_length(
 pub extern "C" fn skriduhol_label_count(sheet: &[u8], value: &mut usize, column: &mut usize) -> u8
     ensures { Hands (λ (n : ℕ). n) sheet.now (label_count sheet.now) value.new column.new result }
 {
-    let count = skriduhol::label_count(sheet);
-    match count {
-        Ok(labels) => {
-            *value = labels;
-            *column = 0;
-            return 0;
-        }
-        Err(located) => {
-            return hand_refusal(located, value, column);
-        }
-    }
+    hand(skriduhol::label_count(sheet), value, column)
 }
 
-// The comparison of two steps' conclusions: 1 for yes and 0 for no.
+// 1 for yes and 0 for no.
+fn yes_or_no(same: bool) -> usize
+    ensures { result ≡ yes_or_no same }
+{
+    usize::from(same)
+}
+
+// The comparison of two steps' conclusions.
 #[unsafe(no_mangle)]
 pub extern "C" fn skriduhol_compare(
     sheet: &[u8],
@@ -316,26 +308,23 @@ pub extern "C" fn skriduhol_compare(
 ) -> u8
     ensures { Hands yes_or_no sheet.now (comparison sheet.now i j) value.new column.new result }
 {
-    match skriduhol::compare(sheet, i, j) {
-        Ok(same) => {
-            *value = usize::from(same);
-            *column = 0;
-            0
-        }
-        Err(located) => hand_refusal(located, value, column),
-    }
+    let compared = skriduhol::compare(sheet, i, j);
+    hand(compared.map(yes_or_no), value, column)
 }
 
-// What is given for a restatement: a kind, three numbers and a column, in the order of a step record.
+// What is given for a restatement: a kind, three numbers and a column, in the order of a step record. `Given` is of a crate below, so
+// that a `From` would stand there, where nothing else speaks of this order.
+#[tactic(auto, unfolding(restating::specs::Step::given_of, crate::specs::Handed::given_in))]
 fn given_in(given: &[u16; 5]) -> Given
     ensures { given_of result ≡ given_in given.now }
 {
+    let [kind, first, second, third, column] = *given;
     Given {
-        kind: given[0],
-        first: given[1],
-        second: given[2],
-        third: given[3],
-        column: given[4],
+        kind,
+        first,
+        second,
+        third,
+        column,
     }
 }
 
@@ -356,7 +345,7 @@ pub extern "C" fn skriduhol_restate(
         (restate_answer sheet.now (given_in given.now) (length out.old)) slots.old }
 {
     let restatement = given_in(given);
-    hand_filled(
+    hand(
         skriduhol::restate(sheet, restatement, slots, out),
         value,
         column,
@@ -375,21 +364,10 @@ pub extern "C" fn skriduhol_restate_length(
         (λ s. restated s (given_in given.now)) sheet.now value.new column.new result }
 {
     let restatement = given_in(given);
-    hand_filled(skriduhol::restate_length(sheet, restatement), value, column)
+    hand(skriduhol::restate_length(sheet, restatement), value, column)
 }
 
-// Whose a refusal is, as a number: 0 neither sheet's, 1 the host's, 2 the donor's.
-fn whose_number(whose: Whose) -> usize
-    ensures { result ≡ whose_number whose }
-{
-    match whose {
-        Whose::Neither => 0,
-        Whose::Host => 1,
-        Whose::Donor => 2,
-    }
-}
-
-// The length of a merged sheet is the value; a refusal says whose it is.
+// The length of a merged sheet is the value; a refusal says whose it is, by its number among the variants.
 fn hand_grafted(
     grafted: Result<usize, (Whose, Located)>,
     value: &mut usize,
@@ -400,15 +378,13 @@ fn hand_grafted(
         → HandsBy h d o value.new column.new whose.new result }
 {
     match grafted {
-        Ok(merged) => {
-            *value = merged;
-            *column = 0;
+        Ok(length) => {
             *whose = 0;
-            0
+            hand(Ok(length), value, column)
         }
         Err((by, located)) => {
-            *whose = whose_number(by);
-            hand_refusal(located, value, column)
+            *whose = by as usize;
+            hand(Err(located), value, column)
         }
     }
 }
@@ -480,7 +456,7 @@ pub extern "C" fn skriduhol_exercise(
     ensures { HandsFilled (λ _. exercise_answer names.now n ordinal) [] out.old
         out.new value.new column.new result }
 {
-    hand_filled(skriduhol::exercise(names, n, ordinal, out), value, column)
+    hand(skriduhol::exercise(names, n, ordinal, out), value, column)
 }
 
 // How long the code of an exercise is.
@@ -495,7 +471,7 @@ pub extern "C" fn skriduhol_exercise_length(
     ensures { HandsLength (λ _. exercise_answer names.now n ordinal)
         (λ _. whole_exercise names.now n ordinal) [] value.new column.new result }
 {
-    hand_filled(skriduhol::exercise_length(names, n, ordinal), value, column)
+    hand(skriduhol::exercise_length(names, n, ordinal), value, column)
 }
 
 // The index of the sheet's names, in 1,024 slots.
@@ -509,11 +485,17 @@ pub extern "C" fn skriduhol_name_index(
     ensures { HandsFilled (λ s _. index_answer s) sheet.now slots.old slots.new
         value.new column.new result }
 {
-    hand_filled(skriduhol::name_index(sheet, slots), value, column)
+    hand(skriduhol::name_index(sheet, slots), value, column)
 }
 
-// The number of a name by slots beside the sheet, or that of a free slot where there is none: by the sheet's own index, the lowest
-// of equal bytes.
+// The number of a name, or that of a free slot for none, since C has no Option.
+fn number_or_free(found: Option<usize>) -> usize
+    ensures { result ≡ number_or_free found }
+{
+    found.unwrap_or(usize::from(FREE))
+}
+
+// The number of a name by slots beside the sheet, if it has one: by the sheet's own index, the lowest of equal bytes.
 #[unsafe(no_mangle)]
 pub extern "C" fn skriduhol_find_name(
     sheet: &[u8],
@@ -528,23 +510,7 @@ pub extern "C" fn skriduhol_find_name(
         (plain_answer sheet.now name.now) value.new column.new result }
 {
     let searched = skriduhol::find_name(sheet, slots, name);
-    match searched {
-        Ok(found) => match found {
-            Some(i) => {
-                *value = i;
-                *column = 0;
-                return 0;
-            }
-            None => {
-                *value = FREE as usize;
-                *column = 0;
-                return 0;
-            }
-        },
-        Err(located) => {
-            return hand_refusal(located, value, column);
-        }
-    }
+    hand(searched.map(number_or_free), value, column)
 }
 
 // The judgement that the sheet's own term checks against a proposition, from hypotheses given as a name's number and a proposition's
@@ -561,25 +527,18 @@ pub extern "C" fn skriduhol_judge(
     ensures { HandsJudged sheet.now hypotheses.now proposition value.new
         column.new node.new result }
 {
-    let judged = skriduhol_terms::judge(sheet, hypotheses, proposition);
-    match judged {
-        Ok(stopped) => match stopped {
-            None => {
-                *value = 1;
-                *column = 0;
-                *node = 0;
-                return 0;
-            }
-            Some(at) => {
-                *value = 0;
-                *column = 0;
-                *node = at;
-                return 0;
-            }
-        },
+    match skriduhol_terms::judge(sheet, hypotheses, proposition) {
+        Ok(None) => {
+            *node = 0;
+            hand(Ok(1), value, column)
+        }
+        Ok(Some(at)) => {
+            *node = at;
+            hand(Ok(0), value, column)
+        }
         Err(located) => {
             *node = 0;
-            return hand_refusal(located, value, column);
+            hand(Err(located), value, column)
         }
     }
 }
@@ -598,16 +557,14 @@ fn hand_reading(
 {
     match reading {
         Ok(size) => {
-            *value = size.nodes;
-            *column = 0;
             *name_count = size.names;
             *code_length = size.code;
-            return 0;
+            hand(Ok(size.nodes), value, column)
         }
         Err(located) => {
             *name_count = 0;
             *code_length = 0;
-            return hand_refusal(located, value, column);
+            hand(Err(located), value, column)
         }
     }
 }

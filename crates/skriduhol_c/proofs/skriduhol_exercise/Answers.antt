@@ -1,7 +1,6 @@
 -- The code fills the memory, and its length is handed over.
-use borrow.Author.Rules.{rules}
 use Rattle.skriduhol_c.proofs.Handing.{fills}
 use Rattle.skriduhol_c.proofs.skriduhol_exercise.Goals as goal
 
 pub returns : goal.returns
-returns c = fills _ c.exercise.ensures c.hand_filled.ensures
+returns c = fills _ c.hand.ensures c.exercise.ensures

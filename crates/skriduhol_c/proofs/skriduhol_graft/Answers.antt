@@ -1,5 +1,4 @@
 -- The merged sheet fills the memory and its index the slots; its length is handed over, or a refusal and whose it is.
-use borrow.Author.Rules.{rules}
 use Rattle.skriduhol_c.proofs.Grafts.{grafts}
 use Rattle.skriduhol_c.proofs.skriduhol_graft.Goals as goal
 

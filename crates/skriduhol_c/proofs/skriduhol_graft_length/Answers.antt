@@ -1,5 +1,4 @@
 -- The length is handed over, or a refusal and whose it is.
-use borrow.Author.Rules.{rules}
 use Rattle.skriduhol_c.proofs.Grafts.{graft_lengths}
 use Rattle.skriduhol_c.proofs.skriduhol_graft_length.Goals as goal
 

@@ -1,7 +1,6 @@
 -- The list fills the memory, and its length is handed over.
-use borrow.Author.Rules.{rules}
 use Rattle.skriduhol_c.proofs.Handing.{fills}
 use Rattle.skriduhol_c.proofs.skriduhol_handout_datatypes.Goals as goal
 
 pub returns : goal.returns
-returns c = fills _ c.handout_datatypes.ensures c.hand_filled.ensures
+returns c = fills _ c.hand.ensures c.handout_datatypes.ensures

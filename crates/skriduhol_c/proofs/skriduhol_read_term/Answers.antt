@@ -1,5 +1,4 @@
 -- The answer of the operation is handed over, and the lent memory is what it made of it.
-use borrow.Author.Rules.{rules}
 use Rattle.skriduhol_c.proofs.TermsRead.{memory_handed}
 use Rattle.skriduhol_c.proofs.skriduhol_read_term.Goals as goal
 

@@ -1,5 +1,4 @@
 -- The answer of the operation is handed over.
-use borrow.Author.Rules.{rules}
 use Rattle.skriduhol_c.proofs.skriduhol_read_term_length.Goals as goal
 
 pub returns : goal.returns

@@ -1,7 +1,6 @@
 -- The length is handed over.
-use borrow.Author.Rules.{rules}
 use Rattle.skriduhol_c.proofs.Handing.{lengths}
 use Rattle.skriduhol_c.proofs.skriduhol_restate_length.Goals as goal
 
 pub returns : goal.returns
-returns c = lengths _ (rw c.given_in-restatement.ensures at c.restate_length.ensures) c.hand_filled.ensures
+returns c = lengths _ c.hand.ensures (rw c.given_in-restatement.ensures at c.restate_length.ensures)
