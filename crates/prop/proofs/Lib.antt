@@ -4,3 +4,4 @@ pub mod Marks
 pub mod Parts
 pub mod Shown
 pub mod Atoms
+pub mod Shapes

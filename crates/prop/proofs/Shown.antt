@@ -5,11 +5,11 @@ use mathlib.Core.Bool.{true, false, cond}
 use mathlib.Core.List.{List, [], ◌∷◌, ◌++◌, append_assoc}
 use native.Mathlib.Omega.{arith}
 use lib.ListN.{get_or}
-use lib.Dec.{eqb, ltb, leb-suc-suc}
+use lib.Dec.{eqb, ltb}
 use borrow.Author.Tests.{eq-eqb, ne_eqb}
 use Rattle.definitions.specs.Utf8.{utf8}
 use Rattle.definitions.specs.Name.{Name}
-use Rattle.definitions.specs.Prop.{Prop, True, False, Binary, Atom, Quantified, Connective, and, or, impl, connective_byte, eq_connective, Quantifier, for_all, exists, quantifier_byte, is_false, rename_prop}
+use Rattle.definitions.specs.Prop.{Prop, True, False, Binary, Atom, Quantified, Connective, and, or, impl, connective_byte, eq_connective, for_all, exists, quantifier_byte, is_false, rename_prop}
 use Rattle.definitions.specs.Code.{encode}
 use Rattle.definitions.specs.Sheet.{number_at}
 use Rattle.definitions.specs.Display.{wrap, is_negation, connective_precedence, precedence, wraps_left, wraps_right, connective_text, quantifier_text, display_prop}
@@ -17,7 +17,6 @@ use Rattle.definitions.proofs.Connectives.{eq_connective_true}
 use Rattle.prefix_code.proofs.Heads.{connective_byte_lem, quantifier_byte_lem}
 use Rattle.prefix_code.specs.PropAt.{prop_at}
 use Rattle.prop.specs.Ends.{Known}
-use Rattle.prop.specs.Printing.{sign}
 use Rattle.prop.proofs.Parts.{head_byte, head_byte_lem, BinaryParts, binary_parts, QuantifiedParts, quantified_parts}
 
 -- a number that is below, and a text that was put, by what they equal
@@ -26,35 +25,6 @@ below_as e h = omega arith
 
 pub put_as : {S : Type 0} (puts : S → List ℕ → S → Type 0) {before after : S} {s t : List ℕ} → s ≡ t → puts before s after → puts before t after
 put_as puts {before = before} {after = after} e w = let P : List ℕ → Type 0 = λ text. puts before text after in subst P e w
-
--- The signs of the connectives and quantifiers.
-pub connective_sign : (c : Connective) → utf8 " " ++ (sign (connective_byte c) ++ utf8 " ") ≡ connective_text c
-unfolding sign connective_byte connective_text
-connective_sign and = refl
-connective_sign or = refl
-connective_sign impl = refl
-
-pub quantifier_sign : (q : Quantifier) → sign (quantifier_byte q) ≡ quantifier_text q
-unfolding sign quantifier_byte quantifier_text
-quantifier_sign for_all = refl
-quantifier_sign exists = refl
-
--- A connective that is neither of the first two is the third.
-pub third_connective : (c : Connective) {head : ℕ} → head ≡ connective_byte c → (head ≡ 2 → ⊥) → (head ≡ 3 → ⊥) → connective_byte c ≡ 4
-third_connective c e not-and not-or = omega (arith, e, connective_byte_lem c, not-and, not-or)
-
--- A side is bracketed if it binds less strongly than the number of its connective's byte.
-pub left_strength : (c : Connective) (strength : ℕ) → ltb strength (get_or (0 ∷ 0 ∷ 4 ∷ 3 ∷ 3 ∷ []) (connective_byte c) 0) ≡ wraps_left c strength
-unfolding connective_byte wraps_left
-left_strength and strength = refl
-left_strength or strength = refl
-left_strength impl strength = leb-suc-suc strength 2
-
-pub right_strength : (c : Connective) (strength : ℕ) → ltb strength (get_or (0 ∷ 0 ∷ 5 ∷ 4 ∷ 2 ∷ []) (connective_byte c) 0) ≡ wraps_right c strength
-unfolding connective_byte wraps_right
-right_strength and strength = leb-suc-suc strength 4
-right_strength or strength = leb-suc-suc strength 3
-right_strength impl strength = refl
 
 -- the strength of each byte in front
 abbrev strengths : List ℕ
@@ -90,14 +60,6 @@ module _ (f : ℕ → Name) where
   strength_by_head (Quantified for_all x t p) h = refl
   strength_by_head (Quantified exists x t p) h = refl
 
-  leaf : (p : Prop ℕ) → head_byte p < 2 → sign (head_byte p) ≡ display_prop (rename_prop f p)
-  unfolding encode sign rename_prop display_prop
-  leaf True h = refl
-  leaf False h = refl
-  leaf (Binary c p q) h = absurd (omega (arith, (connective_byte_lem c).0))
-  leaf (Atom a ps) h = absurd (omega arith)
-  leaf (Quantified q x t p) h = absurd (omega (arith, (quantifier_byte_lem q).0))
-
   module _ (names : ℕ) (l ends : List ℕ) (at : ℕ) where
     -- the proposition at a position
     abbrev named : ℕ → Prop Name
@@ -125,9 +87,6 @@ module _ (f : ℕ → Name) where
           let b = binary_parts names l ends at k (omega arith) (omega arith) in
           let implication : b.connective ≡ impl = eq_connective_true (eq-eqb (connective_byte b.connective) 4 (sym b.byte ∙ h)) in
           rw (b.is, implication, head_byte_lem b.right.present) (ap (λ t. cond t 999 2) (sym (is_false_lem (prop_at names l middle))))
-
-      pub leaf_text : get_or l at 0 < 2 → sign (get_or l at 0) ≡ display_prop (named at)
-      leaf_text h = let head = head_byte_lem k.present in rw head (leaf (prop_at names l at) (rw head at h))
 
     -- a quantified proposition: what stands before its body, and the body
     pub quantified_text : (q : QuantifiedParts names l ends at)

@@ -1,23 +1,25 @@
 // Propositions, after the Rust's prop.rs: where the code of each part ends, how strongly a proposition binds, and its text.
 #![tactic(auto)]
 
-ghost use Rattle.std.specs.Prelude.{◌≡◌, ℕ, ◌<◌, ltb};
+ghost use Rattle.std.specs.Prelude.{◌≡◌, ℕ, ◌<◌};
 ghost use Rattle.definitions.specs.Name.{Name};
-ghost use Rattle.definitions.specs.Prop.{Connective, connective_byte, Quantifier, quantifier_byte, rename_prop};
+ghost use Rattle.definitions.specs.Prop.{rename_prop};
 ghost use Rattle.definitions.specs.Sheet.{pair_offset};
-ghost use Rattle.definitions.specs.Display.{wraps_left, wraps_right, connective_text};
+ghost use Rattle.definitions.specs.Display.{connective_text, quantifier_text};
 ghost use Rattle.output.specs.Wrote.{Wrote};
 ghost use Rattle.prefix_code.specs.PropAt.{prop_at};
+ghost use Rattle.prefix_code.specs.Shape.{meant};
 ghost use Rattle.vocabulary.specs.Vocabulary.{name_in, Names};
 ghost use Rattle.prop.specs.Ends.{Known, Fillable, Filled, AllFillable};
-ghost use Rattle.prop.specs.Printing.{quantifier_head, prop_text, part_text, AtomPrintable, Printable, Legible, sign};
+ghost use Rattle.prop.specs.Printing.{quantifier_meant, quantifier_head, prop_text, part_text, AtomPrintable, Printable, Legible};
 
 use number::{number_at, pair_offset};
 use output::{Counter, Sink, Writer};
 use prefix_code::{
-    AND, ATOM, FALSE, FOR_ALL, IMPL, OR, TRUE, head_end, parameter_end, parts_after,
+    AND, ATOM, Connective, FALSE, IMPL, OR, Quantifier, Shape, TRUE, head_end, parameter_end,
+    parts_after,
 };
-use vocabulary::{Vocabulary, code_of, name};
+use vocabulary::{Vocabulary, code_of, name, shape};
 
 // How strongly an atom binds, and an implication. An implication of ⊥ is printed as a negation, and binds as strongly as an atom.
 pub const ATOM_STRENGTH: usize = 999;
@@ -73,84 +75,42 @@ pub fn precedence(code: &[u8], ends: &[u16], at: usize) -> usize
     }
 }
 
-// How strongly a connective's left side must bind to stand without brackets.
-pub fn left_strength(head: u8) -> usize
-    requires { head < 5 }
-    ensures { (c : Connective) (strength : ℕ) → head ≡ connective_byte c →
-        ltb strength result ≡ wraps_left c strength }
-{
-    match head {
-        AND => 4, // ∧ and ∨ associate to the left
-        OR => 3,
-        _ => 3, // ⊃ associates to the right
-    }
-}
-
-// The same for its right side.
-pub fn right_strength(head: u8) -> usize
-    requires { head < 5 }
-    ensures { (c : Connective) (strength : ℕ) → head ≡ connective_byte c →
-        ltb strength result ≡ wraps_right c strength }
-{
-    match head {
-        AND => 5, // ∧ and ∨ associate to the left
-        OR => 4,
-        _ => 2, // ⊃ associates to the right
-    }
-}
-
-// The bytes of a head's sign; blanks stand for an atom's, which has none.
-#[tactic(auto, unfolding(crate::specs::Printing::sign))]
-fn sign_of(head: u8) -> [u8; 3]
-    requires { head < 8 }
-    ensures { result ≡ sign head }
-{
-    match head {
-        TRUE => *b"\xE2\x8A\xA4", // ⊤
-        FALSE => *b"\xE2\x8A\xA5", // ⊥
-        AND => *b"\xE2\x88\xA7", // ∧
-        OR => *b"\xE2\x88\xA8", // ∨
-        IMPL => *b"\xE2\x8A\x83", // ⊃
-        ATOM => *b"   ",
-        FOR_ALL => *b"\xE2\x88\x80", // ∀
-        _ => *b"\xE2\x88\x83", // ∃
-    }
-}
-
-// The sign of a head.
-fn put_sign<S: Sink<u8>>(sink: &mut S, head: u8)
-    requires { head < 8 }
-    ensures { S.puts sink.old (sign head) sink.new }
-{
-    sink.put_all(&sign_of(head));
-}
-
 // A connective with a blank on each side.
-fn put_connective<S: Sink<u8>>(sink: &mut S, head: u8)
-    requires { head < 8 }
-    ensures { (c : Connective) → head ≡ connective_byte c →
-        S.puts sink.old (connective_text c) sink.new }
+#[tactic(auto, unfolding(definitions::specs::Display::connective_text))]
+fn put_connective<S: Sink<u8>>(sink: &mut S, c: Connective)
+    ensures { S.puts sink.old (connective_text (meant c)) sink.new }
 {
-    sink.put(b' ');
-    put_sign(sink, head);
-    sink.put(b' ');
+    match c {
+        Connective::And => sink.put_all(b" \xE2\x88\xA7 "), // ∧
+        Connective::Or => sink.put_all(b" \xE2\x88\xA8 "), // ∨
+        Connective::Impl => sink.put_all(b" \xE2\x8A\x83 "), // ⊃
+    }
+}
+
+// The sign of a quantifier.
+#[tactic(auto, unfolding(definitions::specs::Display::quantifier_text))]
+fn put_quantifier_sign<S: Sink<u8>>(sink: &mut S, q: Quantifier)
+    ensures { S.puts sink.old (quantifier_text (quantifier_meant q)) sink.new }
+{
+    match q {
+        Quantifier::ForAll => sink.put_all(b"\xE2\x88\x80"), // ∀
+        Quantifier::Exists => sink.put_all(b"\xE2\x88\x83"), // ∃
+    }
 }
 
 // A quantifier with its object and its datatype, up to its body.
 fn put_quantifier<S: Sink<u8>>(
     sink: &mut S,
-    head: u8,
+    q: Quantifier,
     bytes: &[u8],
     v: Vocabulary,
     object: usize,
     datatype: usize,
 )
-    requires head_bound { head < 8 }
-    requires names { Names bytes.now v object × Names bytes.now v datatype }
-    ensures { (q : Quantifier) → head ≡ quantifier_byte q →
-        S.puts sink.old (quantifier_head (name_in bytes.now v) q object datatype) sink.new }
+    requires { Names bytes.now v object × Names bytes.now v datatype }
+    ensures { S.puts sink.old (quantifier_head (name_in bytes.now v) (quantifier_meant q) object datatype) sink.new }
 {
-    put_sign(sink, head);
+    put_quantifier_sign(sink, q);
     sink.put_all(name(bytes, v, object));
     sink.put(b':');
     sink.put_all(name(bytes, v, datatype));
@@ -214,39 +174,31 @@ pub fn put_proposition<S: Sink<u8>>(
     requires { Printable bytes.now v ends.now at }
     ensures { S.puts sink.old (prop_text bytes.now v at) sink.new }
 {
-    let code = code_of(bytes, v);
-    let head = code[at];
-    if head < AND {
-        put_sign(sink, head);
-        return;
+    match shape(bytes, v, at) {
+        Shape::True => sink.put_all(b"\xE2\x8A\xA4"), // ⊤
+        Shape::False => sink.put_all(b"\xE2\x8A\xA5"), // ⊥
+        Shape::Atom { .. } => put_atom(sink, bytes, v, at),
+        Shape::Quantified {
+            quantifier,
+            object,
+            datatype,
+            body,
+        } => {
+            put_quantifier(sink, quantifier, bytes, v, object, datatype);
+            put_proposition(sink, bytes, v, ends, body);
+        }
+        Shape::Binary { connective, left } => {
+            if precedence(code_of(bytes, v), ends, at) == ATOM_STRENGTH {
+                sink.put_all(b"\xC2\xAC"); // ¬
+                put_part(sink, bytes, v, ends, left, ATOM_STRENGTH);
+                return;
+            }
+            let right = ends[left] as usize;
+            put_part(sink, bytes, v, ends, left, connective.left_least());
+            put_connective(sink, connective);
+            put_part(sink, bytes, v, ends, right, connective.right_least());
+        }
     }
-    if head == ATOM {
-        put_atom(sink, bytes, v, at);
-        return;
-    }
-    if ATOM < head {
-        let object = number_at(code, at + 1);
-        let datatype = number_at(code, at + 3);
-        put_quantifier(sink, head, bytes, v, object, datatype);
-        put_proposition(sink, bytes, v, ends, at + 5);
-        return;
-    }
-    let left = at + 1;
-    if precedence(code, ends, at) == ATOM_STRENGTH {
-        sink.put_all(b"\xC2\xAC");
-        put_part(sink, bytes, v, ends, left, ATOM_STRENGTH);
-        return;
-    }
-    put_part(sink, bytes, v, ends, left, left_strength(head));
-    put_connective(sink, head);
-    put_part(
-        sink,
-        bytes,
-        v,
-        ends,
-        ends[left] as usize,
-        right_strength(head),
-    );
 }
 
 // The text of the proposition at `at`, in lent memory by a position and a flag.

@@ -1,17 +1,11 @@
 -- The sign, the object, a colon, the datatype and a full stop, one after the other.
-use Rattle.prop.proofs.Shown.{quantifier_sign}
 use Rattle.prop.proofs.put_quantifier.Goals as goal
 
 pub returns : goal.returns
-returns g c = λ quantifier e.
+returns g c =
     let laws = g.met.S.Sink.laws in
-    rw (
-      ← (quantifier_sign quantifier),
-      ← e,
-      ← c.name.ensures,
-      ← c.name-2.ensures,
-    )
-    (laws.then c.put_sign.ensures
+    rw (← c.name.ensures, ← c.name-2.ensures)
+    (laws.then c.put_quantifier_sign.ensures
     (laws.then c.put_all.ensures
     (laws.then c.put.ensures
     (laws.then c.put_all-2.ensures c.put_all-3.ensures))))
