@@ -1,5 +1,5 @@
 -- The length of a proposition's text by its parts, and a bound by the length of its code.
-use Prim.Native.Nat.{ℕ, zero, suc, ◌+◌, ◌*◌, ◌≤◌, ◌<◌}
+use Prim.Native.Nat.{ℕ, ◌+◌, ◌*◌, ◌≤◌, ◌<◌}
 use mathlib.Core.Path.{◌≡◌, refl, ap, ◌∙◌}
 use mathlib.Core.Bool.{Bool, true, false, cond}
 use mathlib.Core.List.{List, [], ◌∷◌, ◌++◌, map}
@@ -18,7 +18,7 @@ use Rattle.prefix_code.proofs.Reading.{part_bytes}
 use Rattle.vocabulary.specs.declared.Vocabulary.{Vocabulary}
 use Rattle.vocabulary.specs.Vocabulary.{pairs_in, text_in, name_in, prop_in}
 use Rattle.prop.specs.Ends.{Known}
-use Rattle.prop.specs.Printing.{prop_text, KnownIn, sign}
+use Rattle.prop.specs.Printing.{prop_text, KnownIn}
 use Rattle.prop.proofs.Parts.{own_end}
 
 -- brackets are two bytes
@@ -146,13 +146,6 @@ pub text_fits : (bytes ends : List ℕ) (v : Vocabulary) (at : ℕ) → Bytes by
     → length (prop_text bytes v at) ≤ 1718065560
 unfolding prop_in
 text_fits bytes ends v at given fits k = text_small (name_in bytes v) (short_name bytes v given) fits k
-
--- the sign of ⊤ and of ⊥
-pub sign_length : (head : ℕ) → head < 2 → length (sign head) ≡ 3
-unfolding sign
-sign_length zero h = refl
-sign_length (suc zero) h = refl
-sign_length (suc (suc head)) h = absurd (omega arith)
 
 -- A text in brackets or not, by what the length is counted by:
 pub bracketed_length : (t : List ℕ) {b : Bool} {r : ℕ} → b ≡ true → r ≡ length t → 2 + r ≡ length (wrap b t)

@@ -1,4 +1,5 @@
-// How long the text of a proposition is, without printing it.
+// How long the text of a proposition is, added up without printing it: to put the text into a counter gives the same, but takes as long
+// as to print it.
 #![tactic(auto)]
 
 ghost use Rattle.vocabulary.specs.Vocabulary.{name_in, Names};
@@ -6,9 +7,9 @@ ghost use Rattle.prop.specs.Printing.{prop_text, part_text, AtomPrintable, Print
 ghost use Rattle.prop_length.specs.Length.{NameLength, TextLength};
 
 use number::{PAIR_SIZE, number_at};
-use prefix_code::{AND, ATOM, parameter_end};
-use prop::{ATOM_STRENGTH, left_strength, precedence, right_strength};
-use vocabulary::{Vocabulary, code_of, pairs_of};
+use prefix_code::{Shape, parameter_end};
+use prop::{ATOM_STRENGTH, precedence};
+use vocabulary::{Vocabulary, code_of, pairs_of, shape};
 
 // The bytes of a sign, of a negation's sign, and of a connective with a blank on each side.
 const SIGN: usize = 3;
@@ -65,25 +66,28 @@ pub fn text_length(bytes: &[u8], v: Vocabulary, ends: &[u16], at: usize) -> usiz
     requires { Printable bytes.now v ends.now at }
     ensures { TextLength (prop_text bytes.now v at) result }
 {
-    let code = code_of(bytes, v);
-    let head = code[at];
-    if head < AND {
-        return SIGN;
+    match shape(bytes, v, at) {
+        Shape::True => SIGN,
+        Shape::False => SIGN,
+        Shape::Atom { .. } => atom_length(bytes, v, at),
+        Shape::Quantified {
+            object,
+            datatype,
+            body,
+            ..
+        } => {
+            let object = name_length(bytes, v, object);
+            let datatype = name_length(bytes, v, datatype);
+            object + datatype + QUANTIFIER + text_length(bytes, v, ends, body)
+        }
+        Shape::Binary { connective, left } => {
+            if precedence(code_of(bytes, v), ends, at) == ATOM_STRENGTH {
+                return NEGATION + part_length(bytes, v, ends, left, ATOM_STRENGTH);
+            }
+            let right = ends[left] as usize;
+            let before = part_length(bytes, v, ends, left, connective.left_least());
+            let after = part_length(bytes, v, ends, right, connective.right_least());
+            before + CONNECTIVE + after
+        }
     }
-    if head == ATOM {
-        return atom_length(bytes, v, at);
-    }
-    if ATOM < head {
-        let object = name_length(bytes, v, number_at(code, at + 1));
-        let datatype = name_length(bytes, v, number_at(code, at + 3));
-        return object + datatype + QUANTIFIER + text_length(bytes, v, ends, at + 5);
-    }
-    let left = at + 1;
-    if precedence(code, ends, at) == ATOM_STRENGTH {
-        return NEGATION + part_length(bytes, v, ends, left, ATOM_STRENGTH);
-    }
-    let right = ends[left] as usize;
-    let before = part_length(bytes, v, ends, left, left_strength(head));
-    let after = part_length(bytes, v, ends, right, right_strength(head));
-    before + CONNECTIVE + after
 }
