@@ -9,7 +9,9 @@ use lib.ListN.{length, get_or, drop, drop_of_length-le}
 use lib.Dec.{leb}
 use lib.Seq.{drop-cons}
 use borrow.Author.Tests.{ne_eqb, leb-true, le-leb}
-use Rattle.proof_term_display.specs.Format.{name, part, fixed, of_parameter, of_ascription, item_of, items}
+use Rattle.proof_term_display.specs.Format.{name, part, part_number, fixed, of_parameter, of_ascription, item_of, items}
+use Rattle.proof_term_display.specs.declared.TermPart.{TermPart}
+use Rattle.proof_term_display.specs.declared.TermPart.TheVariants.{First, Second, Third, NamedBody, AscribedBody, Function, Argument, PairFirst, PairSecond}
 
 module _ (format : List ℕ) (i : ℕ) where
   pub items_next : i < length format → (get_or format i 0 ≡ 46 → ⊥) → items (drop i format) ≡ item_of (get_or format i 0) ∷ items (drop (i + 1) format)
@@ -46,6 +48,18 @@ outside first b last e h k =
     let z : ◌≡◌ {A = Bool} true false = rw (le-leb first b h, le-leb b last k) at e in
     let n : ◌≡◌ {A = ℕ} 0 1 = cc in omega arith
 
+-- there are nine parts
+part_few : (which : TermPart) → part_number which < 9
+part_few First = omega arith
+part_few Second = omega arith
+part_few Third = omega arith
+part_few NamedBody = omega arith
+part_few AscribedBody = omega arith
+part_few Function = omega arith
+part_few Argument = omega arith
+part_few PairFirst = omega arith
+part_few PairSecond = omega arith
+
 -- The item of a byte, by the tests that tell it:
 module _ (b : ℕ) where
   pub item_name : leb 49 b && leb b 53 ≡ true → item_of b ≡ name (b - 48)
@@ -61,9 +75,12 @@ module _ (b : ℕ) where
   item_of_ascription e = rw e
 
   module _ (no_name : leb 49 b && leb b 53 ≡ false) where
-    pub item_part : leb 65 b && leb b 73 ≡ true → item_of b ≡ part (b - 65)
+    pub item_part : (which : TermPart) → b ≡ 65 + part_number which → item_of b ≡ part (part_number which)
     unfolding item_of
-    item_part e = rw (no_name, e)
+    item_part which is =
+        let few = part_few which in
+        let number : b - 65 ≡ part_number which = omega (arith, is) in
+        rw (no_name, le-leb 65 b (omega (arith, is)), le-leb b 73 (omega (arith, is, few)), number)
 
     pub item_fixed : leb 65 b && leb b 73 ≡ false → (b ≡ 76 → ⊥) → (b ≡ 77 → ⊥) → item_of b ≡ fixed b
     unfolding item_of

@@ -9,6 +9,8 @@ use Rattle.definitions.specs.Display.{wrap, form, display_label, display_paramet
 use Rattle.proof_term.specs.Records.{label_of, parameter_label}
 use Rattle.proof_term_display.specs.declared.PartPosition.{PartPosition}
 use Rattle.proof_term_display.specs.declared.PartPosition.TheVariants.{FunctionOf, ArgumentOf, BodyOf, AscribedBy, PartOf, Within}
+use Rattle.proof_term_display.specs.declared.TermPart.{TermPart}
+use Rattle.proof_term_display.specs.declared.TermPart.TheVariants.{First, Second, Third, NamedBody, AscribedBody, Function, Argument, PairFirst, PairSecond}
 use Rattle.proof_term_display.specs.Brackets.{position_of, is_bracketed}
 
 pub data Item : Type 0 where
@@ -20,6 +22,18 @@ pub data Item : Type 0 where
   part : ℕ → Item
   -- the label of a parameter, if it has one, and the label of an ascription
   of_parameter of_ascription : Item
+
+-- the parts in the order of their letters: 0 for A
+abbrev pub part_number : TermPart → ℕ
+part_number First = 0
+part_number Second = 1
+part_number Third = 2
+part_number NamedBody = 3
+part_number AscribedBody = 4
+part_number Function = 5
+part_number Argument = 6
+part_number PairFirst = 7
+part_number PairSecond = 8
 
 -- the record's number and the position of each part, A to I: the first, second and third part of a function, a case or a let, a named
 -- function's body, an ascription's body, an application's function and its argument, and the two parts of a pair

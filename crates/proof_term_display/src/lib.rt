@@ -1,34 +1,43 @@
 // The text of a term from its records (`Display` of source document 001), plain and strict.
 #![tactic(auto)]
 
-ghost use Rattle.std.specs.Prelude.{◌≡◌, ◌&&◌, ℕ, ◌+◌, ◌*◌, ◌≤◌, ◌<◌, length, leb};
+ghost use Rattle.std.specs.Prelude.{◌≡◌, ◌&&◌, false, ℕ, ◌+◌, ◌*◌, ◌≤◌, length, leb, MatchOption};
 ghost use Rattle.definitions.specs.Name.{Name};
 ghost use Rattle.definitions.specs.Prop.{Prop};
 ghost use Rattle.definitions.specs.Term.{ProofTerm, rename_term};
 ghost use Rattle.definitions.specs.Display.{form};
 ghost use Rattle.output.specs.Wrote.{Wrote};
 ghost use Rattle.proof_term.specs.Records.{record_size, field_at, record_term};
+ghost use Rattle.proof_term.specs.Views.{kind_number};
 ghost use Rattle.proof_term_display.specs.Ascriptions.{bracket, Unascribed, body_bracketed, after_body};
-ghost use Rattle.proof_term_display.specs.Brackets.{position_of, column, is_bracketed, bracket_row, form_at};
-ghost use Rattle.proof_term_display.specs.Format.{part_field, part_position, item_of, part, FormatTable};
+ghost use Rattle.proof_term_display.specs.Brackets.{position_of, column, form_column, is_bracketed, bracket_row, form_at};
+ghost use Rattle.proof_term_display.specs.Format.{part_field, part_number, part_position, item_of, part, FormatTable};
 ghost use Rattle.proof_term_display.specs.Printable.{PrintableTerm, term_text};
 ghost use Rattle.proof_term_display.specs.Item.{KindAt, LabelReady, ItemReady, record_item, label_text, parameter_label_text};
 
 use definitions::Style;
 use output::{put, put_all};
-use proof_term::{DATATYPE, KINDS, NO_LABEL, field};
+use proof_term::{DATATYPE, KINDS, Kind, NO_LABEL, field};
 use vocabulary::{Vocabulary, name};
 
-// The forms of terms, as far as brackets go.
-const CLOSED: usize = 0;
+// The forms of terms, as far as brackets go, in the order of the columns of their table.
+#[derive(Clone, Copy, PartialEq, Eq)]
+enum Form {
+    Closed,
+    Call,
+    Function,
+    Block,
+    Ascription,
+}
 
-const CALL: usize = 1;
-
-const FUNCTION: usize = 2;
-
-const BLOCK: usize = 3;
-
-const ASCRIPTION: usize = 4;
+impl Form {
+    // Its column.
+    fn column(self) -> usize
+        ensures { result ≡ form_column self }
+    {
+        self as usize
+    }
+}
 
 // The positions of parts.
 #[derive(Clone, Copy, PartialEq, Eq)]
@@ -43,75 +52,87 @@ pub enum PartPosition {
 
 const FORMAT_SIZE: usize = 32;
 
-// The record's number of each of the parts A to I.
-pub fn part_field(k: usize) -> usize
-    requires { k < 9 }
-    ensures { result ≡ part_field k }
-{
-    match k {
-        0 => 1, // A
-        1 => 2, // B
-        2 => 3, // C
-        3 => 1, // D
-        4 => 1, // E
-        5 => 1, // F
-        6 => 2, // G
-        7 => 1, // H
-        _ => 2, // I
-    }
+// The parts of terms, each with the letter that stands for it in a format: the parts of a function, a case or a let in their order, the
+// bodies of a named function and of an ascription, the function and the argument of an application, and the parts of a pair.
+#[derive(Clone, Copy, PartialEq, Eq)]
+pub enum TermPart {
+    First,
+    Second,
+    Third,
+    NamedBody,
+    AscribedBody,
+    Function,
+    Argument,
+    PairFirst,
+    PairSecond,
 }
 
-// The position of each of them.
-pub fn part_position(k: usize) -> PartPosition
-    requires { k < 9 }
-    ensures { result ≡ part_position k }
-{
-    match k {
-        0 => PartPosition::Within,
-        1 => PartPosition::Within,
-        2 => PartPosition::Within,
-        3 => PartPosition::BodyOf,
-        4 => PartPosition::AscribedBy,
-        5 => PartPosition::FunctionOf,
-        6 => PartPosition::ArgumentOf,
-        7 => PartPosition::PartOf,
-        _ => PartPosition::PartOf,
+impl TermPart {
+    // The part of a letter of a format, A to I.
+    pub fn of_letter(b: u8) -> Option<TermPart>
+        ensures { MatchOption result (leb 65 b && leb b 73 ≡ false) (λ p. b ≡ 65 + part_number p) }
+    {
+        match b {
+            b'A' => Some(TermPart::First),
+            b'B' => Some(TermPart::Second),
+            b'C' => Some(TermPart::Third),
+            b'D' => Some(TermPart::NamedBody),
+            b'E' => Some(TermPart::AscribedBody),
+            b'F' => Some(TermPart::Function),
+            b'G' => Some(TermPart::Argument),
+            b'H' => Some(TermPart::PairFirst),
+            b'I' => Some(TermPart::PairSecond),
+            _ => None,
+        }
+    }
+
+    // The record's number of it.
+    pub fn field(self) -> usize
+        ensures { result ≡ part_field (part_number self) }
+    {
+        match self {
+            TermPart::Third => 3,
+            TermPart::Second | TermPart::Argument | TermPart::PairSecond => 2,
+            _ => 1,
+        }
+    }
+
+    // Its position.
+    pub fn position(self) -> PartPosition
+        ensures { result ≡ part_position (part_number self) }
+    {
+        match self {
+            TermPart::First | TermPart::Second | TermPart::Third => PartPosition::Within,
+            TermPart::NamedBody => PartPosition::BodyOf,
+            TermPart::AscribedBody => PartPosition::AscribedBy,
+            TermPart::Function => PartPosition::FunctionOf,
+            TermPart::Argument => PartPosition::ArgumentOf,
+            TermPart::PairFirst | TermPart::PairSecond => PartPosition::PartOf,
+        }
     }
 }
 
 // The kind of record `n`; an unknown one counts as Unit.
-pub fn kind_at(records: &[u16], n: usize) -> usize
+pub fn kind_at(records: &[u16], n: usize) -> Kind
     requires { record_size * (n + 1) ≤ length records.now }
-    ensures { KindAt records.now n result }
+    ensures { KindAt records.now n (kind_number result) }
 {
-    let kind = field(records, n, 0);
-    if kind < KINDS {
-        return kind;
-    }
-    proof_term::UNIT
+    proof_term::kind_at(records, n)
 }
 
 // The form of a term by its record's kind.
-fn form_of(kind: usize) -> usize
-    requires { kind < 14 }
+#[tactic(auto, unfolding(crate::specs::Brackets::column, definitions::specs::Display::form, definitions::specs::Term::rename_term))]
+fn form_of(kind: Kind) -> Form
     ensures { (f : ℕ → Name) (props : ℕ → Prop ℕ) (term : ℕ → ProofTerm ℕ) (a b c d e : ℕ) →
-        result ≡ column (form (rename_term f (record_term props term kind a b c d e))) }
+        form_column result ≡ column (form (rename_term f (record_term props term (kind_number kind) a b c d e))) }
 {
     match kind {
-        proof_term::IDENT => CLOSED,
-        proof_term::PAIR => CLOSED,
-        proof_term::PROJECT_FST => CALL,
-        proof_term::PROJECT_SND => CALL,
-        proof_term::FUNCTION => FUNCTION,
-        proof_term::APPLICATION => CALL,
-        proof_term::LET_IN => BLOCK,
-        proof_term::OR_LEFT => CALL,
-        proof_term::OR_RIGHT => CALL,
-        proof_term::CASE => BLOCK,
-        proof_term::ABORT => CALL,
-        proof_term::TYPE_ASCRIPTION => ASCRIPTION,
-        proof_term::UNIT => CLOSED,
-        _ => CLOSED, // sorry
+        Kind::Ident | Kind::Pair | Kind::Unit | Kind::Sorry => Form::Closed,
+        Kind::ProjectFst | Kind::ProjectSnd | Kind::Application => Form::Call,
+        Kind::OrLeft | Kind::OrRight | Kind::Abort => Form::Call,
+        Kind::Function => Form::Function,
+        Kind::LetIn | Kind::Case => Form::Block,
+        Kind::TypeAscription => Form::Ascription,
     }
 }
 
@@ -147,8 +168,7 @@ pub fn is_bracketed(records: &[u16], n: usize, position: PartPosition, style: St
         result ≡ is_bracketed (position_of position) style (form_at f props records.now n) }
 {
     let brackets = brackets_of(position, style);
-    let column = form_of(kind_at(records, n));
-    brackets[column]
+    brackets[form_of(kind_at(records, n)).column()]
 }
 
 // The format of each kind, in the order of the kinds, up to the full stop. A digit stands for the name in that number of the
@@ -243,9 +263,9 @@ fn unascribed(records: &[u16], n: usize) -> usize
     requires { record_size * (n + 1) ≤ length records.now }
     ensures { Unascribed records.now n result }
 {
-    if field(records, n, 0) != proof_term::TYPE_ASCRIPTION {
+    let Kind::TypeAscription = proof_term::kind_at(records, n) else {
         return n;
-    }
+    };
     let body = field(records, n, 1);
     if n <= body {
         return n;
@@ -289,12 +309,12 @@ fn put_ascription(
     put_label(out, colon, records, n, bytes, v, ends, write)
 }
 
-// Part `k` of record `n`, one of A to I, in brackets where its position asks for them.
+// A part of record `n`, in brackets where its position asks for them.
 #[cycle(part_print_node_put_item)]
 fn part(
     out: &mut [u8],
     to: usize,
-    k: usize,
+    which: TermPart,
     formats: &Formats,
     records: &[u16],
     n: usize,
@@ -302,20 +322,19 @@ fn part(
     ends: &[u16],
     p: Printer,
 ) -> usize
-    requires k_bound { k < 9 }
     requires format_table { FormatTable formats.now }
     requires printable_term { PrintableTerm records.now n bytes.now p.vocabulary ends.now }
-    requires item_ready { ItemReady bytes.now p.vocabulary ends.now records.now n (part k) }
+    requires item_ready { ItemReady bytes.now p.vocabulary ends.now records.now n (part (part_number which)) }
     ensures { Wrote
-        (record_item bytes.now p.vocabulary records.now n p.style (part k))
+        (record_item bytes.now p.vocabulary records.now n p.style (part (part_number which)))
         p.write out.old to out.new result }
 {
-    let number = field(records, n, part_field(k));
+    let number = field(records, n, which.field());
     if n <= number {
         return put_all(out, to, b"()", p.write);
     }
     let style = p.style;
-    let bracketed = is_bracketed(records, number, part_position(k), style);
+    let bracketed = is_bracketed(records, number, which.position(), style);
     let body = unascribed(records, number);
     let inner = is_body_bracketed(records, number, body, style);
     let open = put_bracket(out, to, b'(', bracketed, p.write);
@@ -370,9 +389,8 @@ fn put_item(
         let number = field(records, n, (b - b'0') as usize);
         return put_all(out, to, name(bytes, p.vocabulary, number), p.write);
     }
-    if is_between(b, b'A', b'I') {
-        let k = (b - b'A') as usize;
-        return part(out, to, k, formats, records, n, bytes, ends, p);
+    if let Some(which) = TermPart::of_letter(b) {
+        return part(out, to, which, formats, records, n, bytes, ends, p);
     }
     if b == b'L' {
         return put_parameter_label(out, to, records, n, bytes, p.vocabulary, ends, p.write);
@@ -400,7 +418,7 @@ fn print_node(
     ensures { Wrote (term_text p.style bytes.now p.vocabulary records.now n)
         p.write out.old to out.new result }
 {
-    let kind = kind_at(records, n);
+    let kind = usize::from(kind_at(records, n).number());
     let mut at = to;
     for &b in &formats[kind] {
         if b == b'.' {

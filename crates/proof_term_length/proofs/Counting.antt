@@ -1,9 +1,9 @@
 -- The length of a record's text by its row: what its kind has of its own, its names, its parts and its label.
-use Prim.Native.Nat.{ℕ, zero, suc, ◌+◌, ◌-◌, ◌*◌, ◌≤◌, ◌<◌}
+use Prim.Native.Nat.{ℕ, ◌+◌, ◌*◌, ◌≤◌, ◌<◌}
 use mathlib.Core.Path.{◌≡◌, refl, sym, ap, ◌∙◌}
 use mathlib.Core.Bool.{Bool, true, false, not, cond}
 use Rattle.std.specs.Prelude.{None, Some}
-use mathlib.Core.List.{List, [], ◌∷◌, map}
+use mathlib.Core.List.{List, [], ◌∷◌}
 use native.Mathlib.Omega.{arith}
 use lib.ListN.{length, get_or, take, drop, length-append, length-take, get_or-eq_default}
 use lib.Dec.{eqb}
@@ -11,21 +11,23 @@ use Rattle.definitions.specs.declared.Style.{Style}
 use Rattle.definitions.specs.Sheet.{pair_size, number_at, pair_offset, pair_length, marked}
 use Rattle.definitions.specs.Term.{rename_term, rename_parameter_label}
 use Rattle.definitions.specs.Display.{wrap, display_parameter_label, display_term}
-use Rattle.prefix_code.proofs.Positions.{largest, entry_below}
 use Rattle.proof_term.specs.Records.{field_at, label_of, parameter_label, part_at}
 use Rattle.proof_term.specs.Labels.{has_label}
 use Rattle.vocabulary.specs.declared.Vocabulary.{Vocabulary}
 use Rattle.vocabulary.specs.Vocabulary.{pairs_in, text_in, name_in, prop_in}
 use Rattle.prop_length.proofs.Lengths.{wrapped_length}
 use Rattle.proof_term_display.specs.Brackets.{position_of, is_bracketed, form_at}
-use Rattle.proof_term_display.specs.Format.{Item, part, part_field, part_position, item_of, items, formats, item_text}
+use Rattle.proof_term_display.specs.Format.{Item, part_field, part_number, part_position, item_of, items, formats, item_text}
 use Rattle.proof_term_display.specs.Item.{KindAt, record_item, label_text}
 use Rattle.proof_term_display.specs.Printable.{term_text}
-use Rattle.proof_term_display.proofs.Tables.{mapped}
 use Rattle.proof_term_display.proofs.Parts.{unit_text, part_text_lem}
 use Rattle.proof_term_display.proofs.Formats.{rendered, format_text}
-use Rattle.proof_term_display.proofs.Ready.{Every, none_of, ◌also◌, every_at}
-use Rattle.proof_term_length.specs.Measure.{rows, row_of, term_length, name_size, part_size, own_label_length}
+use Rattle.proof_term.specs.declared.nodes.Kind.{Kind}
+use Rattle.proof_term.specs.declared.nodes.Kind.TheVariants as kind
+use Rattle.proof_term.specs.Views.{kind_number}
+use Rattle.proof_term_display.specs.declared.TermPart.{TermPart}
+use Rattle.proof_term_length.specs.declared.Row.{Row}
+use Rattle.proof_term_length.specs.Measure.{row_of, Numbered, term_length, name_size, part_size, own_label_length}
 
 -- a number past the names stands for no byte
 pub no_name : (bytes : List ℕ) (v : Vocabulary) (n : ℕ) → v.name_count ≤ n → length (name_in bytes v n) ≡ 0
@@ -40,64 +42,47 @@ no_name bytes v n past =
       get_or-eq_default pairs 0 {n = 4 * n + 2 + 1} (omega arith),
     )
 
--- no entry of a row is too large
-column_below : (j kind : ℕ) → kind < 14 → get_or (row_of kind) j 0 ≤ largest (map (λ row. get_or row j 0) rows)
-column_below j kind h =
-    rw (← (mapped (λ row. get_or row j 0) rows [] 0 kind h)) (entry_below (map (λ row. get_or row j 0) rows) kind)
+-- no number of a row is too large
+pub record RowFits (row : Row) : Type 0 where
+  pub own : row.own < 32
+  pub name : Numbered row.name
+  pub other_name : Numbered row.other_name
 
-pub record RowFits (row : List ℕ) : Type 0 where
-  pub own : get_or row 0 0 < 32
-  pub name : get_or row 1 0 < 7
-  pub other_name : get_or row 2 0 < 7
-  pub first : get_or row 3 0 < 10
-  pub second : get_or row 4 0 < 10
-  pub third : get_or row 5 0 < 10
-
-pub row_fits : (kind : ℕ) → kind < 14 → RowFits (row_of kind)
-row_fits kind h = record {
-  own = omega (arith, column_below 0 kind h);
-  name = omega (arith, column_below 1 kind h);
-  other_name = omega (arith, column_below 2 kind h);
-  first = omega (arith, column_below 3 kind h);
-  second = omega (arith, column_below 4 kind h);
-  third = omega (arith, column_below 5 kind h);
-}
+pub row_fits : (k : Kind) → RowFits (row_of k)
+row_fits kind.Ident = record { own = omega arith; name = omega arith; other_name = tt }
+row_fits kind.Pair = record { own = omega arith; name = tt; other_name = tt }
+row_fits kind.ProjectFst = record { own = omega arith; name = tt; other_name = tt }
+row_fits kind.ProjectSnd = record { own = omega arith; name = tt; other_name = tt }
+row_fits kind.Function = record { own = omega arith; name = omega arith; other_name = tt }
+row_fits kind.Application = record { own = omega arith; name = tt; other_name = tt }
+row_fits kind.LetIn = record { own = omega arith; name = omega arith; other_name = omega arith }
+row_fits kind.OrLeft = record { own = omega arith; name = tt; other_name = tt }
+row_fits kind.OrRight = record { own = omega arith; name = tt; other_name = tt }
+row_fits kind.Case = record { own = omega arith; name = omega arith; other_name = omega arith }
+row_fits kind.Abort = record { own = omega arith; name = tt; other_name = tt }
+row_fits kind.TypeAscription = record { own = omega arith; name = tt; other_name = tt }
+row_fits kind.Unit = record { own = omega arith; name = tt; other_name = tt }
+row_fits kind.Sorry = record { own = omega arith; name = tt; other_name = tt }
 
 module _ (bytes : List ℕ) (v : Vocabulary) (records : List ℕ) (n : ℕ) (s : Style) where
-  -- a name and a part that are there
-  pub named_size : (i : ℕ) → (i ≡ 0 → ⊥) → name_size bytes v records n i ≡ length (name_in bytes v (field_at records n i))
-  unfolding name_size
-  named_size zero h = absurd (h refl)
-  named_size (suc i) h = refl
-
-  placed_size : (k : ℕ) → (k ≡ 0 → ⊥) → part_size bytes v records n s k ≡ length (record_item bytes v records n s (part (k - 1)))
-  unfolding part_size
-  placed_size zero h = absurd (h refl)
-  placed_size (suc k) h = let e : k ≡ suc k - 1 = omega arith in ap (λ j. length (record_item bytes v records n s (part j))) e
-
-  pub no_name_size : name_size bytes v records n 0 ≡ 0
-  unfolding name_size
-  no_name_size = refl
-
-  pub no_part_size : part_size bytes v records n s 0 ≡ 0
-  unfolding part_size
-  no_part_size = refl
-
-  module _ (k number : ℕ) (Some : k ≡ 0 → ⊥) (is : number ≡ field_at records n (part_field (k - 1))) where
-    pub unit_size : n ≤ number → 2 ≡ part_size bytes v records n s k
-    unit_size h = ap length (unit_text s bytes v records n (k - 1) number is h) ∙ sym (placed_size k Some)
+  -- a part that is there
+  module _ (which : TermPart) (number : ℕ) (is : number ≡ field_at records n (part_field (part_number which))) where
+    pub unit_size : n ≤ number → 2 ≡ part_size bytes v records n s (Some which)
+    unfolding part_size
+    unit_size h = ap length (unit_text s bytes v records n (part_number which) number is h)
 
     module _ (h : number < n) where
-      text : part_size bytes v records n s k
-          ≡ length (wrap (is_bracketed (position_of (part_position (k - 1))) s (form_at (name_in bytes v) (prop_in bytes v) records number)) (term_text s bytes v records number))
-      text = placed_size k Some ∙ sym (ap length (part_text_lem s bytes v records n (k - 1) number is h))
+      text : part_size bytes v records n s (Some which)
+          ≡ length (wrap (is_bracketed (position_of (part_position (part_number which))) s (form_at (name_in bytes v) (prop_in bytes v) records number)) (term_text s bytes v records number))
+      unfolding part_size
+      text = sym (ap length (part_text_lem s bytes v records n (part_number which) number is h))
 
-      pub bracketed_size : {b : Bool} → b ≡ is_bracketed (position_of (part_position (k - 1))) s (form_at (name_in bytes v) (prop_in bytes v) records number)
-          → b ≡ true → part_size bytes v records n s k ≡ 2 + term_length bytes v records s number
+      pub bracketed_size : {b : Bool} → b ≡ is_bracketed (position_of (part_position (part_number which))) s (form_at (name_in bytes v) (prop_in bytes v) records number)
+          → b ≡ true → part_size bytes v records n s (Some which) ≡ 2 + term_length bytes v records s number
       bracketed_size e f = text ∙ (ap (λ b. length (wrap b (term_text s bytes v records number))) (sym e ∙ f) ∙ wrapped_length _)
 
-      pub bare_size : {b : Bool} → b ≡ is_bracketed (position_of (part_position (k - 1))) s (form_at (name_in bytes v) (prop_in bytes v) records number)
-          → b ≡ false → part_size bytes v records n s k ≡ term_length bytes v records s number
+      pub bare_size : {b : Bool} → b ≡ is_bracketed (position_of (part_position (part_number which))) s (form_at (name_in bytes v) (prop_in bytes v) records number)
+          → b ≡ false → part_size bytes v records n s (Some which) ≡ term_length bytes v records s number
       unfolding wrap
       bare_size e f = text ∙ ap (λ b. length (wrap b (term_text s bytes v records number))) (sym e ∙ f)
 
@@ -130,44 +115,38 @@ module _ (bytes : List ℕ) (v : Vocabulary) (records : List ℕ) (n : ℕ) (s :
       go true = refl
       go false = omega arith
 
+  -- what a row counts
+  abbrev counted : Row → ℕ
+  counted row =
+      row.own + name_size bytes v records n row.name + name_size bytes v records n row.other_name
+      + (part_size bytes v records n s row.first + part_size bytes v records n s row.second + part_size bytes v records n s row.third)
+
   -- the row of a kind counts its format
-  abbrev Counted : ℕ → Type 0
-  Counted kind =
-      sizes (get_or formats kind [])
-      ≡ get_or (row_of kind) 0 0 + name_size bytes v records n (get_or (row_of kind) 1 0) + name_size bytes v records n (get_or (row_of kind) 2 0)
-      + (part_size bytes v records n s (get_or (row_of kind) 3 0) + part_size bytes v records n s (get_or (row_of kind) 4 0) + part_size bytes v records n s (get_or (row_of kind) 5 0))
-      + label kind
-
-  rows_count : Every Counted 14
+  rows_count : (k : Kind) → sizes (get_or formats (kind_number k) []) ≡ counted (row_of k) + label (kind_number k)
   unfolding formats items item_of item_text sizes name_size part_size has_label
-  rows_count =
-      none_of
-      also omega arith
-      also omega arith
-      also omega arith
-      also omega arith
-      also omega (arith, parameter_size)
-      also omega arith
-      also omega arith
-      also omega arith
-      also omega arith
-      also omega arith
-      also omega arith
-      also omega arith
-      also omega arith
-      also omega arith
+  rows_count kind.Ident = omega arith
+  rows_count kind.Pair = omega arith
+  rows_count kind.ProjectFst = omega arith
+  rows_count kind.ProjectSnd = omega arith
+  rows_count kind.Function = omega (arith, parameter_size)
+  rows_count kind.Application = omega arith
+  rows_count kind.LetIn = omega arith
+  rows_count kind.OrLeft = omega arith
+  rows_count kind.OrRight = omega arith
+  rows_count kind.Case = omega arith
+  rows_count kind.Abort = omega arith
+  rows_count kind.TypeAscription = omega arith
+  rows_count kind.Unit = omega arith
+  rows_count kind.Sorry = omega arith
 
-  pub term_counted : {kind : ℕ} → KindAt records n kind →
-      term_length bytes v records s n
-      ≡ get_or (row_of kind) 0 0 + name_size bytes v records n (get_or (row_of kind) 1 0) + name_size bytes v records n (get_or (row_of kind) 2 0)
-      + (part_size bytes v records n s (get_or (row_of kind) 3 0) + part_size bytes v records n s (get_or (row_of kind) 4 0) + part_size bytes v records n s (get_or (row_of kind) 5 0))
-      + own_label_length bytes v records n
+  pub term_counted : (k : Kind) → KindAt records n (kind_number k) →
+      term_length bytes v records s n ≡ counted (row_of k) + own_label_length bytes v records n
   unfolding own_label_length
-  term_counted {kind} k =
-      let shown = format_text s (name_in bytes v) (prop_in bytes v) (part_at (prop_in bytes v) records n) (field_at records n) kind k.known in
-      let is = ap (λ t. display_term s (rename_term (name_in bytes v) t)) (k.holds (prop_in bytes v)) in
-      let same = ap (λ b. cond b (2 + length (label_text bytes v records n)) 0) (k.labels (field_at records n 3)) in
-      omega (arith, ap length (is ∙ sym shown), texts_length (get_or formats kind []), every_at rows_count kind k.known, same)
+  term_counted k at =
+      let shown = format_text s (name_in bytes v) (prop_in bytes v) (part_at (prop_in bytes v) records n) (field_at records n) (kind_number k) at.known in
+      let is = ap (λ t. display_term s (rename_term (name_in bytes v) t)) (at.holds (prop_in bytes v)) in
+      let same = ap (λ b. cond b (2 + length (label_text bytes v records n)) 0) (at.labels (field_at records n 3)) in
+      omega (arith, ap length (is ∙ sym shown), texts_length (get_or formats (kind_number k) []), rows_count k, same)
 
 -- by whether the record has a label
 pub label_there : (bytes : List ℕ) (v : Vocabulary) (records : List ℕ) (n : ℕ) → has_label (field_at records n 0) (field_at records n 3) ≡ true

@@ -5,11 +5,14 @@ ghost use Rattle.std.specs.Prelude.{◌≡◌, List, ℕ, ◌+◌, ◌*◌, ◌�
 ghost use Rattle.proof_term.specs.Records.{record_size};
 ghost use Rattle.prop.specs.Printing.{prop_text, Printable};
 ghost use Rattle.prop_length.specs.Length.{TextLength};
-ghost use Rattle.proof_term_length.specs.Measure.{row_of, name_size, part_size, term_length, own_label_length, Agrees, Measurable, AllNamed, MeasuredBelow, Known};
+ghost use Rattle.proof_term_length.specs.Measure.{make_row, row_of, Numbered, name_size, part_size, term_length, own_label_length, Agrees, Measurable, AllNamed, MeasuredBelow, Known};
 
+use TermPart::{
+    Argument, AscribedBody, First, Function, NamedBody, PairFirst, PairSecond, Second, Third,
+};
 use definitions::Style;
-use proof_term::{DATATYPE, field, has_label};
-use proof_term_display::{is_bracketed, kind_at, part_field, part_position};
+use proof_term::{DATATYPE, Kind, field, has_label};
+use proof_term_display::{TermPart, is_bracketed, kind_at};
 use prop_length::{name_length, text_length};
 use vocabulary::Vocabulary;
 
@@ -25,27 +28,56 @@ const BRACKETS: usize = 2;
 
 const COLON: usize = 2;
 
-// Of each kind of record: how many bytes its text has beside its names, its parts and its label; the numbers of the record that are
-// its names; and its parts, each by one more than its place among A to I. Where it has none, 0 stands.
-fn row_of(kind: usize) -> [u8; 6]
-    requires { kind < 14 }
+// What the text of a record has: so many bytes beside its names, its parts and its label, the numbers of the record that are its names,
+// and its parts.
+#[derive(Clone, Copy)]
+struct Row {
+    own: usize,
+    name: Option<usize>,
+    other_name: Option<usize>,
+    first: Option<TermPart>,
+    second: Option<TermPart>,
+    third: Option<TermPart>,
+}
+
+// A row by what it has, in this order.
+fn make_row(
+    own: usize,
+    name: Option<usize>,
+    other_name: Option<usize>,
+    first: Option<TermPart>,
+    second: Option<TermPart>,
+    third: Option<TermPart>,
+) -> Row
+    ensures { result ≡ make_row own name other_name first second third }
+{
+    Row {
+        own,
+        name,
+        other_name,
+        first,
+        second,
+        third,
+    }
+}
+
+// The row of each kind of record.
+fn row_of(kind: Kind) -> Row
     ensures { result ≡ row_of kind }
 {
     match kind {
-        proof_term::IDENT => [0, 1, 0, 0, 0, 0],
-        proof_term::PAIR => [4, 0, 0, 8, 9, 0],
-        proof_term::PROJECT_FST => [4, 0, 0, 4, 0, 0],
-        proof_term::PROJECT_SND => [4, 0, 0, 4, 0, 0],
-        proof_term::FUNCTION => [7, 2, 0, 1, 0, 0],
-        proof_term::APPLICATION => [1, 0, 0, 6, 7, 0],
-        proof_term::LET_IN => [15, 3, 4, 1, 2, 0],
-        proof_term::OR_LEFT => [4, 0, 0, 4, 0, 0],
-        proof_term::OR_RIGHT => [4, 0, 0, 4, 0, 0],
-        proof_term::CASE => [27, 4, 5, 1, 2, 3],
-        proof_term::ABORT => [6, 0, 0, 4, 0, 0],
-        proof_term::TYPE_ASCRIPTION => [0, 0, 0, 5, 0, 0],
-        proof_term::UNIT => [2, 0, 0, 0, 0, 0],
-        _ => [5, 0, 0, 0, 0, 0], // sorry
+        Kind::Ident => make_row(0, Some(1), None, None, None, None),
+        Kind::Pair => make_row(4, None, None, Some(PairFirst), Some(PairSecond), None),
+        Kind::ProjectFst | Kind::ProjectSnd => make_row(4, None, None, Some(NamedBody), None, None),
+        Kind::Function => make_row(7, Some(2), None, Some(First), None, None),
+        Kind::Application => make_row(1, None, None, Some(Function), Some(Argument), None),
+        Kind::LetIn => make_row(15, Some(3), Some(4), Some(First), Some(Second), None),
+        Kind::OrLeft | Kind::OrRight => make_row(4, None, None, Some(NamedBody), None, None),
+        Kind::Case => make_row(27, Some(4), Some(5), Some(First), Some(Second), Some(Third)),
+        Kind::Abort => make_row(6, None, None, Some(NamedBody), None, None),
+        Kind::TypeAscription => make_row(0, None, None, Some(AscribedBody), None, None),
+        Kind::Unit => make_row(2, None, None, None, None, None),
+        Kind::Sorry => make_row(5, None, None, None, None, None),
     }
 }
 
@@ -56,44 +88,44 @@ fn sum(a: usize, b: usize, cap: usize) -> usize
     a.saturating_add(b).min(cap)
 }
 
-// The length of the name in number `i` of record `n`, and 0 if `i` is. A number of no name stands for no byte.
-fn name_in(records: &[u16], n: usize, i: usize, bytes: &[u8], v: Vocabulary) -> usize
-    requires n_in_bounds { (record_size * (n + 1) ≤ length records.now) × (i < record_size) }
+// The length of the name in a number of record `n`, if there is one. A number of no name stands for no byte.
+fn name_in(records: &[u16], n: usize, number: Option<usize>, bytes: &[u8], v: Vocabulary) -> usize
+    requires n_in_bounds { (record_size * (n + 1) ≤ length records.now) × Numbered number }
     requires all_named { AllNamed bytes.now v }
-    ensures { (result ≡ name_size bytes.now v records.now n i) × (result < 65536) }
+    ensures { (result ≡ name_size bytes.now v records.now n number) × (result < 65536) }
 {
-    if i == 0 {
+    let Some(i) = number else {
+        return 0;
+    };
+    let name = field(records, n, i);
+    if v.name_count <= name {
         return 0;
     }
-    let number = field(records, n, i);
-    if v.name_count <= number {
-        return 0;
-    }
-    name_length(bytes, v, number)
+    name_length(bytes, v, name)
 }
 
-// The length of a part of record `n`, in brackets where its position asks for them, by the lengths of the records before; 0 if `k` is.
+// The length of a part of record `n`, if there is one, in brackets where its position asks for them, by the lengths of the records before.
 fn part_in(
     records: &[u16],
     n: usize,
-    k: usize,
+    part: Option<TermPart>,
     lengths: &[usize; RECORD_LIMIT],
     style: Style,
     cap: usize,
 ) -> usize
-    requires { (record_size * (n + 1) ≤ length records.now) × (k < 10) × (n < 2048) }
+    requires { (record_size * (n + 1) ≤ length records.now) × (n < 2048) }
     ensures { (bytes : List ℕ) (v : Vocabulary) →
         MeasuredBelow bytes v records.now style cap lengths.now n →
-        Agrees cap result (part_size bytes v records.now n style k) }
+        Agrees cap result (part_size bytes v records.now n style part) }
 {
-    if k == 0 {
+    let Some(which) = part else {
         return 0;
-    }
-    let number = field(records, n, part_field(k - 1));
+    };
+    let number = field(records, n, which.field());
     if n <= number {
         return UNIT_LENGTH;
     }
-    if is_bracketed(records, number, part_position(k - 1), style) {
+    if is_bracketed(records, number, which.position(), style) {
         return sum(BRACKETS, lengths[number], cap);
     }
     lengths[number]
@@ -116,14 +148,13 @@ fn bare_length(
         (term_length bytes.now v records.now style n) }
 {
     let row = row_of(kind_at(records, n));
-    let own = row[0] as usize;
-    let name = name_in(records, n, row[1] as usize, bytes, v);
-    let other_name = name_in(records, n, row[2] as usize, bytes, v);
-    let first = part_in(records, n, row[3] as usize, lengths, style, cap);
-    let second = part_in(records, n, row[4] as usize, lengths, style, cap);
-    let third = part_in(records, n, row[5] as usize, lengths, style, cap);
+    let name = name_in(records, n, row.name, bytes, v);
+    let other_name = name_in(records, n, row.other_name, bytes, v);
+    let first = part_in(records, n, row.first, lengths, style, cap);
+    let second = part_in(records, n, row.second, lengths, style, cap);
+    let third = part_in(records, n, row.third, lengths, style, cap);
     let both = sum(first, second, cap);
-    sum(own + name + other_name, sum(both, third, cap), cap)
+    sum(row.own + name + other_name, sum(both, third, cap), cap)
 }
 
 // The length of the text of the proposition at `at`, which is found out once, unless a label 4,096 bytes away takes turns with it.

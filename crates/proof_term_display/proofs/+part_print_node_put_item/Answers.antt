@@ -8,9 +8,9 @@ use lib.Dec.{leb}
 use Rattle.output.proofs.Writing.{same_length}
 use Rattle.proof_term.specs.Records.{field_at}
 use Rattle.prop.proofs.Shown.{below_as, written_as}
-use Rattle.proof_term_display.specs.Format.{part_field, item_text}
+use Rattle.proof_term_display.specs.Format.{part_field, part_number, item_text}
 use Rattle.proof_term_display.specs.Printable.{PrintableTerm}
-use Rattle.proof_term_display.specs.Item.{ItemReady}
+use Rattle.proof_term_display.specs.Item.{KindAt, ItemReady}
 use Rattle.proof_term_display.proofs.Tables.{part_field_below, at_position}
 use Rattle.proof_term_display.proofs.Items.{between, item_outside, item_name, item_part, item_fixed}
 use Rattle.proof_term_display.proofs.Items.{item_of_parameter, item_of_ascription}
@@ -18,21 +18,21 @@ use Rattle.proof_term_display.proofs.Progress.{start, ends_here, ends_past, item
 use Rattle.proof_term_display.proofs.Parts.{unit_text, printable_part}
 use Rattle.proof_term_display.proofs.Ascriptions.{not_after, body_printable, label_printable, part_written}
 use Rattle.proof_term_display.proofs.+part_print_node_put_item.Goals as goal
-use Rattle.proof_term_display.proofs.+part_print_node_put_item.Goals.{part-After-field-number, part-Else-n-number, part-Then-n-number, print_node-Else-b-eq46, put_item-After-field-number, put_item-After-is_between-3, put_item-Then-is_between, put_item-Then-is_between-2}
+use Rattle.proof_term_display.proofs.+part_print_node_put_item.Goals.{part-After-field-number, part-Else-n-number, part-Then-n-number, print_node-Else-b-eq46, print_node-After-from-kind, put_item-After-field-number, put_item-After-of_letter, put_item-Then-is_between}
 
 -- the part's number, and what it takes to print it
 number_is : (t : ℕ) → (c : part-After-field-number t) → let s = c.args in
-    c.field-number.result ≡ field_at s.records.now s.n (part_field s.k)
-number_is t c = c.field-number.ensures.0 ∙ ap (field_at _ _) c.part_field.ensures
+    c.field-number.result ≡ field_at s.records.now s.n (part_field (part_number s.which))
+number_is t c = c.field-number.ensures.0 ∙ ap (field_at _ _) c.field.ensures
 
 number_printable : (t : ℕ) → (c : part-Else-n-number t) → let s = c.args in
     PrintableTerm s.records.now c.field-number.result s.bytes.now s.p.vocabulary s.ends.now
 number_printable t c =
-    printable_part c.args.k _ (number_is t (goal.at.part-Else-n-number t c).After-field-number) c.if-n-number.false c.requires.printable_term c.requires.item_ready
+    printable_part (part_number c.args.which) _ (number_is t (goal.at.part-Else-n-number t c).After-field-number) c.if-n-number.false c.requires.printable_term c.requires.item_ready
 
 pub part-field-number-requires : goal.part-field-number-requires
 part-field-number-requires t c =
-    (c.requires.printable_term.held, omega (arith, c.part_field.ensures, part_field_below c.args.k))
+    (c.requires.printable_term.held, omega (arith, c.field.ensures, part_field_below (part_number c.args.which)))
 
 pub part-returns-then-n-number : goal.part-returns-then-n-number
 part-returns-then-n-number t c =
@@ -56,7 +56,7 @@ part-put_ascription-labelled-requires t c =
 pub part-returns : goal.part-returns
 part-returns t c =
     part_written _ _ _ _ _ _ _ (number_is t (goal.at.part-returns t c).After-field-number) c.if-n-number.false c.unascribed-body.ensures
-    (at_position _ _ _ _ c.part_position.ensures (c.is_bracketed-bracketed.ensures _ _))
+    (at_position _ _ _ _ c.position.ensures (c.is_bracketed-bracketed.ensures _ _))
     (c.is_body_bracketed-inner.ensures _ _)
     c.put_bracket-open.ensures
     c.put_bracket-start.ensures
@@ -65,14 +65,8 @@ part-returns t c =
     c.put_ascription-labelled.ensures
     c.put_bracket.ensures
 
-pub part-part_field-requires : goal.part-part_field-requires
-part-part_field-requires t c = c.requires.k_bound
-
 pub part-shape_of-out-then-n-number : goal.part-shape_of-out-then-n-number
 part-shape_of-out-then-n-number t c = same_length (part-returns-then-n-number t c)
-
-pub part-part_position-requires : goal.part-part_position-requires
-part-part_position-requires t c = c.requires.k_bound
 
 pub part-unascribed-body-requires : goal.part-unascribed-body-requires
 part-unascribed-body-requires t c = omega (arith, c.requires.printable_term.held)
@@ -100,17 +94,23 @@ print_node-loop-b-preserved t c =
 pub print_node-returns : goal.print_node-returns
 print_node-returns t c = ends_past _ _ _ _ _ _ c.loop-b.invariant (omega (arith, c.loop-b.invariant.size))
 
-pub print_node-kind_at-kind-requires : goal.print_node-kind_at-kind-requires
-print_node-kind_at-kind-requires t c = c.requires.printable_term.held
+pub print_node-kind_at-requires : goal.print_node-kind_at-requires
+print_node-kind_at-requires t c = c.requires.printable_term.held
+
+-- the kind is one that is known
+kind_is : (t : ℕ) → (c : print_node-After-from-kind t) → let s = c.args in KindAt s.records.now s.n c.from-kind.result
+kind_is t c = rw (c.from-kind.ensures, c.number.ensures) c.kind_at.ensures
 
 pub print_node-loop-b-init : goal.print_node-loop-b-init
-print_node-loop-b-init t c = let entry = c.requires in start _ _ _ _ _ _ entry.printable_term c.kind_at-kind.ensures entry.format_table
+print_node-loop-b-init t c =
+    let entry = c.requires in
+    start _ _ _ _ _ _ entry.printable_term (kind_is t (goal.at.print_node-loop-b-init t c).After-from-kind) entry.format_table
 
 pub print_node-offset_bounds-formats-kind : goal.print_node-offset_bounds-formats-kind
-print_node-offset_bounds-formats-kind t c = let known = c.kind_at-kind.ensures.known in omega arith
+print_node-offset_bounds-formats-kind t c = omega (arith, (kind_is t c).known)
 
 pub print_node-bounds-formats-kind : goal.print_node-bounds-formats-kind
-print_node-bounds-formats-kind t c = c.kind_at-kind.ensures.known
+print_node-bounds-formats-kind t c = (kind_is t c).known
 
 pub print_node-shape_of-out-then-b-eq46 : goal.print_node-shape_of-out-then-b-eq46
 print_node-shape_of-out-then-b-eq46 t c = same_length (print_node-returns-then-b-eq46 t c)
@@ -122,19 +122,12 @@ print_node-shape_of-out t c = same_length (print_node-returns t c)
 is_name : (t : ℕ) → (c : put_item-Then-is_between t) → let b = c.args.b in leb 49 b && leb b 53 ≡ true
 is_name t c = sym c.is_between-2.ensures ∙ c.if-is_between.true
 
-no_name : (t : ℕ) → (c : put_item-After-is_between-3 t) → let b = c.args.b in
+no_name : (t : ℕ) → (c : put_item-After-of_letter t) → let b = c.args.b in
     leb 49 b && leb b 53 ≡ false
 no_name t c = sym c.is_between-2.ensures ∙ c.if-is_between.false
 
-is_part : (t : ℕ) → (c : put_item-Then-is_between-2 t) → let b = c.args.b in
-    leb 65 b && leb b 73 ≡ true
-is_part t c = sym c.is_between-3.ensures ∙ c.if-is_between-2.true
-
 name_range : (t : ℕ) → (c : put_item-Then-is_between t) → let b = c.args.b in (49 ≤ b) × (b ≤ 53)
 name_range t c = between 49 c.args.b 53 (is_name t c)
-
-part_range : (t : ℕ) → (c : put_item-Then-is_between-2 t) → let b = c.args.b in (65 ≤ b) × (b ≤ 73)
-part_range t c = between 65 c.args.b 73 (is_part t c)
 
 pub put_item-returns-then-not-is_between : goal.put_item-returns-then-not-is_between
 unfolding item_text
@@ -156,12 +149,12 @@ put_item-returns-then-is_between t c =
 
 pub put_item-part-requires : goal.put_item-part-requires
 put_item-part-requires t c =
-    let ready = rw (item_part c.args.b (no_name t (goal.at.put_item-part-requires t c).After-is_between-3) (is_part t (goal.at.put_item-part-requires t c).Then-is_between-2)) at c.requires.item_ready in
-    (omega (arith, c.decreases), (omega (arith, part_range t (goal.at.put_item-part-requires t c).Then-is_between-2), (c.requires.format_table, (c.requires.printable_term, ready))))
+    let ready = rw (item_part c.args.b (no_name t (goal.at.put_item-part-requires t c).After-of_letter) _ c.in-Some.ensures) at c.requires.item_ready in
+    (omega (arith, c.decreases), (c.requires.format_table, (c.requires.printable_term, ready)))
 
-pub put_item-returns-then-is_between-2 : goal.put_item-returns-then-is_between-2
-put_item-returns-then-is_between-2 t c =
-    rw (item_part _ (no_name t (goal.at.put_item-returns-then-is_between-2 t c).After-is_between-3) (is_part t (goal.at.put_item-returns-then-is_between-2 t c).Then-is_between-2)) c.part.ensures
+pub put_item-returns-in-Some : goal.put_item-returns-in-Some
+put_item-returns-in-Some t c =
+    rw (item_part _ (no_name t (goal.at.put_item-returns-in-Some t c).After-of_letter) _ c.in-Some.ensures) c.part.ensures
 
 pub put_item-put_parameter_label-requires : goal.put_item-put_parameter_label-requires
 unfolding ItemReady
@@ -186,8 +179,8 @@ put_item-returns-then-b-eq77 t c =
 pub put_item-returns : goal.put_item-returns
 unfolding item_text
 put_item-returns t c =
-    let no_part = sym c.is_between-3.ensures ∙ c.if-is_between-2.false in
-    rw (item_fixed _ (no_name t (goal.at.put_item-returns t c).After-is_between-3) no_part c.if-b-eq76.false c.if-b-eq77.false)
+    let no_part = c.in_default.ensures in
+    rw (item_fixed _ (no_name t (goal.at.put_item-returns t c).After-of_letter) no_part c.if-b-eq76.false c.if-b-eq77.false)
     c.put-2.ensures
 
 pub put_item-shape_of-out-then-not-is_between : goal.put_item-shape_of-out-then-not-is_between
@@ -205,14 +198,8 @@ put_item-field-number-requires t c = (c.requires.printable_term.held, omega (ari
 pub put_item-shape_of-out-then-is_between : goal.put_item-shape_of-out-then-is_between
 put_item-shape_of-out-then-is_between t c = same_length (put_item-returns-then-is_between t c)
 
-pub put_item-overflow_sub-k : goal.put_item-overflow_sub-k
-put_item-overflow_sub-k t c = omega (arith, part_range t c)
-
-pub put_item-overflow_cast-k : goal.put_item-overflow_cast-k
-put_item-overflow_cast-k t c = omega (arith, part_range t c)
-
-pub put_item-shape_of-out-then-is_between-2 : goal.put_item-shape_of-out-then-is_between-2
-put_item-shape_of-out-then-is_between-2 t c = same_length (put_item-returns-then-is_between-2 t c)
+pub put_item-shape_of-out-in-Some : goal.put_item-shape_of-out-in-Some
+put_item-shape_of-out-in-Some t c = same_length (put_item-returns-in-Some t c)
 
 pub put_item-shape_of-out-then-b-eq76 : goal.put_item-shape_of-out-then-b-eq76
 put_item-shape_of-out-then-b-eq76 t c = same_length (put_item-returns-then-b-eq76 t c)

@@ -1,8 +1,6 @@
 -- A part is an earlier record, and a record's items come before its term: so the number falls, and of one number first the
 -- term, then its items, then its parts. The term's text is written by the items of its format, one after the other.
 use Prim.Native.Nat.{◌+◌, ◌*◌}
-use mathlib.Core.List.{[]}
-use lib.ListN.{get_or}
 use Rattle.proof_term_display.proofs.Progress.{Underway}
 use Rattle.proof_term_display.proofs.+part_print_node_put_item.Given as goal
 
@@ -17,4 +15,4 @@ decreases-put_item l = 3 * l.n + 1
 
 abbrev pub invariant-print_node-loop-b : goal.invariant-print_node-loop-b
 invariant-print_node-loop-b l =
-    Underway l.p.style l.bytes l.p.vocabulary l.ends l.records l.n l.p.write l.initial.out l.to (get_or l.formats l.kind []) l.out l.at l.b-index
+    Underway l.p.style l.bytes l.p.vocabulary l.ends l.records l.n l.p.write l.initial.out l.to l.b-items l.out l.at l.b-index

@@ -1,16 +1,17 @@
 -- The tests say which record it is.
 use mathlib.Core.Path.{sym, ◌∙◌}
+use Rattle.proof_term.proofs.Views.{number_of_kind}
 use Rattle.proof_term_display.specs.Ascriptions.{itself, body_of}
 use Rattle.proof_term_display.proofs.unascribed.Goals as goal
 
 pub returns : goal.returns
 returns c =
     let is = c.field-body.ensures.0 in
-    let kind = sym c.field.ensures.0 ∙ c.if-field-ne-TYPE_ASCRIPTION.false in
+    let kind = number_of_kind (sym c.kind_at.ensures ∙ c.in-TypeAscription.is) (λ unit. cc) in
     rw is (body_of kind (rw is at c.if-n-body.false))
 
-pub returns-then-field-ne-TYPE_ASCRIPTION : goal.returns-then-field-ne-TYPE_ASCRIPTION
-returns-then-field-ne-TYPE_ASCRIPTION c = itself
+pub returns-in_default : goal.returns-in_default
+returns-in_default c = itself
 
 pub returns-then-n-body : goal.returns-then-n-body
 returns-then-n-body c = itself

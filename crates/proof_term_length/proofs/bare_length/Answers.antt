@@ -1,20 +1,20 @@
 -- The row of the record's kind says what its text has.
-use Prim.Native.Nat.{ℕ}
 use mathlib.Core.Path.{◌≡◌, refl}
-use mathlib.Core.List.{List}
 use native.Mathlib.Omega.{arith}
 use Rattle.proof_term_length.specs.Measure.{row_of}
+use Rattle.proof_term_length.specs.declared.Row.{Row}
+use Rattle.proof_term.specs.declared.nodes.Kind.{Kind}
 use Rattle.proof_term_length.proofs.Sums.{agree_exactly, agree_sum, agree_more}
 use Rattle.proof_term_length.proofs.Counting.{RowFits, row_fits, term_counted}
 use Rattle.proof_term_length.proofs.bare_length.Goals as goal
 use Rattle.proof_term_length.proofs.bare_length.Goals.{After-row_of-row}
 
--- no entry of the row is too large
-fits_of : (kind : ℕ) {row : List ℕ} → row ≡ row_of kind → RowFits (row_of kind) → RowFits row
+-- no number of the row is too large
+fits_of : (kind : Kind) {row : Row} → row ≡ row_of kind → RowFits (row_of kind) → RowFits row
 fits_of kind e f = rw e f
 
 row_right : (c : After-row_of-row) → RowFits c.row_of-row.result
-row_right c = fits_of c.kind_at.result c.row_of-row.ensures (row_fits c.kind_at.result c.kind_at.ensures.known)
+row_right c = fits_of c.kind_at.result c.row_of-row.ensures (row_fits c.kind_at.result)
 
 pub returns : goal.returns
 returns c =
@@ -24,7 +24,7 @@ returns c =
     let third = c.part_in-third.ensures _ _ measured in
     let both = agree_sum first second c.sum-both.ensures in
     let all = agree_sum both third c.sum.ensures in
-    let whole = rw (← c.row_of-row.ensures) at (term_counted c.args.bytes.now c.args.v c.args.records.now c.args.n c.args.style c.kind_at.ensures) in
+    let whole = rw (← c.row_of-row.ensures) at (term_counted c.args.bytes.now c.args.v c.args.records.now c.args.n c.args.style _ c.kind_at.ensures) in
     rw (whole, ← c.name_in-name.ensures.0, ← c.name_in-other_name.ensures.0)
     (agree_more _ (agree_sum (agree_exactly refl) all c.sum-2.ensures))
 
@@ -37,20 +37,8 @@ name_in-other_name-requires c = let s = c.requires in record {
   all_named = s.all_named;
 }
 
-pub part_in-first-requires : goal.part_in-first-requires
-part_in-first-requires c = let s = c.requires in (s.n_in_bounds.0, (row_right (goal.at.part_in-first-requires c).After-row_of-row).first, s.n_in_bounds.1)
+pub overflow_add-row : goal.overflow_add-row
+overflow_add-row c = omega (arith, (row_right (goal.at.overflow_add-row c).After-row_of-row).own, c.name_in-name.ensures.1)
 
-pub part_in-second-requires : goal.part_in-second-requires
-part_in-second-requires c = let s = c.requires in (s.n_in_bounds.0, (row_right (goal.at.part_in-second-requires c).After-row_of-row).second, s.n_in_bounds.1)
-
-pub overflow_cast-row-5 : goal.overflow_cast-row-5
-overflow_cast-row-5 c = omega (arith, (row_right (goal.at.overflow_cast-row-5 c).After-row_of-row).third)
-
-pub part_in-third-requires : goal.part_in-third-requires
-part_in-third-requires c = let s = c.requires in (s.n_in_bounds.0, (row_right (goal.at.part_in-third-requires c).After-row_of-row).third, s.n_in_bounds.1)
-
-pub overflow_add-own : goal.overflow_add-own
-overflow_add-own c = omega (arith, (row_right (goal.at.overflow_add-own c).After-row_of-row).own, c.name_in-name.ensures.1)
-
-pub overflow_add-own-2 : goal.overflow_add-own-2
-overflow_add-own-2 c = omega (arith, (row_right (goal.at.overflow_add-own-2 c).After-row_of-row).own, c.name_in-name.ensures.1, c.name_in-other_name.ensures.1)
+pub overflow_add-row-2 : goal.overflow_add-row-2
+overflow_add-row-2 c = omega (arith, (row_right (goal.at.overflow_add-row-2 c).After-row_of-row).own, c.name_in-name.ensures.1, c.name_in-other_name.ensures.1)

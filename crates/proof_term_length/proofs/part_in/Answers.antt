@@ -1,46 +1,45 @@
 -- A part is an earlier record, whose length the table has, or Unit.
-use Prim.Native.Nat.{◌-◌}
-use mathlib.Core.Path.{◌≡◌, refl, sym, ap, ◌∙◌}
+use mathlib.Core.Path.{◌≡◌, refl, ap, ◌∙◌}
 use native.Mathlib.Omega.{arith}
 use Rattle.proof_term.specs.Records.{field_at}
-use Rattle.proof_term_display.specs.Format.{part_field}
+use Rattle.proof_term_display.specs.Format.{part_field, part_number}
 use Rattle.proof_term_display.proofs.Tables.{part_field_below, at_position}
+use Rattle.proof_term_length.specs.Measure.{part_size}
 use Rattle.proof_term_length.proofs.Sums.{agree_exactly, agree_as_far, agree_sum}
-use Rattle.proof_term_length.proofs.Counting.{no_part_size, unit_size, bracketed_size, bare_size}
+use Rattle.proof_term_length.proofs.Counting.{unit_size, bracketed_size, bare_size}
 use Rattle.proof_term_length.proofs.part_in.Goals as goal
 use Rattle.proof_term_length.proofs.part_in.Goals.{After-field-number}
 
 number_is : (c : After-field-number) → let s = c.args in
-    c.field-number.result ≡ field_at s.records.now s.n (part_field (s.k - 1))
-number_is c = c.field-number.ensures.0 ∙ ap (field_at _ _) c.part_field.ensures
+    c.field-number.result ≡ field_at s.records.now s.n (part_field (part_number c.in-Some.which))
+number_is c = c.field-number.ensures.0 ∙ ap (field_at _ _) c.field.ensures
 
-pub returns-then-k-eq0 : goal.returns-then-k-eq0
-returns-then-k-eq0 c = λ bytes v measured.
-    let s = c.args in
-    agree_exactly (sym (rw c.if-k-eq0.true (no_part_size bytes v s.records.now s.n s.style)))
+pub returns-in_default : goal.returns-in_default
+unfolding part_size
+returns-in_default c = λ bytes v measured. agree_exactly (rw c.in_default.is)
 
 pub returns-then-n-number : goal.returns-then-n-number
 returns-then-n-number c = λ bytes v measured.
-    agree_exactly (unit_size bytes v _ _ c.args.style _ _ c.if-k-eq0.false (number_is (goal.at.returns-then-n-number c).After-field-number) c.if-n-number.true)
+    rw c.in-Some.is
+    (agree_exactly (unit_size bytes v _ _ c.args.style _ _ (number_is (goal.at.returns-then-n-number c).After-field-number) c.if-n-number.true))
 
 pub is_bracketed-requires : goal.is_bracketed-requires
-is_bracketed-requires c =
-    omega (arith, c.requires.0, c.if-n-number.false)
+is_bracketed-requires c = omega (arith, c.requires.0, c.if-n-number.false)
 
 pub returns-then-is_bracketed : goal.returns-then-is_bracketed
 returns-then-is_bracketed c = λ bytes v measured.
     let s = c.args in
-    let bracketed = at_position _ _ _ _ c.part_position.ensures (c.is_bracketed.ensures _ _) in
-    let size = bracketed_size bytes v _ _ s.style _ _ c.if-k-eq0.false (number_is (goal.at.returns-then-is_bracketed c).After-field-number) c.if-n-number.false bracketed c.if-is_bracketed.true in
+    let bracketed = at_position _ _ _ _ c.position.ensures (c.is_bracketed.ensures _ _) in
+    let size = bracketed_size bytes v _ _ s.style _ _ (number_is (goal.at.returns-then-is_bracketed c).After-field-number) c.if-n-number.false bracketed c.if-is_bracketed.true in
     let part = measured _ c.if-n-number.false in
-    rw size (agree_sum (agree_exactly refl) (agree_as_far part) c.sum.ensures)
+    rw (c.in-Some.is, size) (agree_sum (agree_exactly refl) (agree_as_far part) c.sum.ensures)
 
 pub returns : goal.returns
 returns c = λ bytes v measured.
     let s = c.args in
-    let bracketed = at_position _ _ _ _ c.part_position.ensures (c.is_bracketed.ensures _ _) in
-    let size = bare_size bytes v _ _ s.style _ _ c.if-k-eq0.false (number_is (goal.at.returns c).After-field-number) c.if-n-number.false bracketed c.if-is_bracketed.false in
-    rw size (agree_as_far (measured _ c.if-n-number.false))
+    let bracketed = at_position _ _ _ _ c.position.ensures (c.is_bracketed.ensures _ _) in
+    let size = bare_size bytes v _ _ s.style _ _ (number_is (goal.at.returns c).After-field-number) c.if-n-number.false bracketed c.if-is_bracketed.false in
+    rw (c.in-Some.is, size) (agree_as_far (measured _ c.if-n-number.false))
 
 pub field-number-requires : goal.field-number-requires
-field-number-requires c = (c.requires.0, omega (arith, c.part_field.ensures, part_field_below (c.args.k - 1)))
+field-number-requires c = (c.requires.0, omega (arith, c.field.ensures, part_field_below (part_number c.in-Some.which)))
