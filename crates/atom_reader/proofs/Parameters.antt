@@ -5,7 +5,7 @@ use mathlib.Core.Bool.{Bool, true, false, cond}
 use Rattle.std.specs.Prelude.{Option, None, Some}
 use mathlib.Core.List.{List, [], ◌∷◌, ◌++◌, map, append-nil}
 use native.Mathlib.Omega.{arith}
-use lib.ListN.{length, drop, length-append}
+use lib.ListN.{length, take, drop, length-append}
 use lib.Dec.{eqb}
 use Rattle.definitions.specs.Utf8.{utf8}
 use Rattle.definitions.specs.Name.{Name, eq_name}
@@ -21,7 +21,8 @@ use Rattle.words.specs.Places.{between, Expected}
 use Rattle.words.specs.Table.{added, number_in, table_names}
 use Rattle.words.proofs.Added.{noted_then}
 use Rattle.prop_parts.specs.declared.NameRead.{NameRead}
-use Rattle.prop_parts.specs.Found.{NameLacks, NameGiven, bound_numbers, BoundNumber, parameter_of, ParameterPut}
+use Rattle.prop_parts.specs.Found.{NameLacks, NameGiven, bound_numbers, kind_of, parameter_of, ParameterPut}
+use Rattle.prop_parts.specs.declared.ParameterKind.{ParameterKind}
 use Rattle.atom_reader.specs.declared.Place.{Place}
 use Rattle.atom_reader.specs.declared.ParametersRead.{ParametersRead}
 use Rattle.atom_reader.specs.Scope.{Met, Binds}
@@ -29,7 +30,7 @@ use Rattle.atom_reader.specs.Reading.{Begins, parameters_from, parameter_code, p
 use Rattle.atom_reader.proofs.Storing.{puts_dry, stored_then}
 use Rattle.atom_reader.proofs.Readings.{gives_from, gives_any, follows_none}
 use Rattle.atom_reader.proofs.Sizes.{parameter_code_length}
-use Rattle.atom_reader.proofs.Scopes.{added_meets, added_one_meets, parameter_code_kept, binds_more, binds_noted, bound_number, crowded_first, crowded_second}
+use Rattle.atom_reader.proofs.Scopes.{added_meets, added_one_meets, parameter_code_kept, binds_more, binds_noted, bound_number, bound_taken, crowded_first, crowded_second}
 
 pub parameter_name_lem : (names : List Name) (x : Name) → parameter_name (parameter_named names x) ≡ x
 unfolding parameter_named parameter_name
@@ -39,11 +40,11 @@ parameter_name_lem names x = go (occurs eq_name x names)
     go true = refl
     go false = refl
 
-parameter_renamed : (f : Name → ℕ) (names : List Name) (x : Name) → rename_parameter f (parameter_named names x) ≡ parameter_of (occurs eq_name x names) (f x)
+parameter_renamed : (f : Name → ℕ) (names : List Name) (x : Name) → rename_parameter f (parameter_named names x) ≡ parameter_of (kind_of (occurs eq_name x names)) (f x)
 unfolding parameter_named rename_parameter parameter_of
 parameter_renamed f names x = go (occurs eq_name x names)
   where
-    go : (t : Bool) → rename_parameter f (cond t (Uninstantiated x) (Instantiated x 0)) ≡ parameter_of t (f x)
+    go : (t : Bool) → rename_parameter f (cond t (Uninstantiated x) (Instantiated x 0)) ≡ parameter_of (kind_of t) (f x)
     go true = refl
     go false = refl
 
@@ -60,8 +61,9 @@ parameter_not names {text} {p = p} after lacks = record { answer = gives_from (n
 
 module _ {names : List Name} {text pairs bound code after : List ℕ} {p : Place} {write : Bool} {n : NameRead}
     (b : Binds names (table_names pairs text p.count) bound p.depth) (read : NameGiven text p.at pairs p.count after n) where
-  module _ {code' : List ℕ} {is : Bool} {size : ℕ} (tested : BoundNumber bound p.depth n.number is)
-      (put : ParameterPut is n.number write code p.to code' size) where
+  module _ {code' : List ℕ} {kind : ParameterKind} {size : ℕ} (inside : p.depth ≤ length bound)
+      (kind_is : kind ≡ kind_of (occurs eqb n.number (bound_numbers (take p.depth bound) (length (take p.depth bound)))))
+      (put : ParameterPut kind n.number write code p.to code' size) where
     abbrev x : Name
     x = between p.at n.end text
 
@@ -72,17 +74,19 @@ module _ {names : List Name} {text pairs bound code after : List ℕ} {p : Place
     unfolding added
     number_there = read.number_is ∙ ap (λ s. number_in s x) (sym read.noted.names)
 
-    bound_there : is ≡ occurs eq_name x names
+    bound_there : kind ≡ kind_of (occurs eq_name x names)
     bound_there =
         let later : Binds names seen bound p.depth = rw read.noted.names (binds_more b (x ∷ []) refl) in
         let there : occurs eq_name x seen ≡ true = rw read.noted.names (added_one_meets (table_names pairs text p.count) x) in
-        tested.is ∙ (ap (λ k. occurs eqb k (bound_numbers bound p.depth)) number_there ∙ bound_number later x there)
+        kind_is
+        ∙ ap kind_of (ap (occurs eqb n.number) (bound_taken bound p.depth inside)
+        ∙ (ap (λ k. occurs eqb k (bound_numbers bound p.depth)) number_there ∙ bound_number later x there))
 
-    code_is : encode_parameter (parameter_of is n.number) ≡ parameter_code seen (parameter_named names x ∷ [])
+    code_is : encode_parameter (parameter_of kind n.number) ≡ parameter_code seen (parameter_named names x ∷ [])
     unfolding parameter_code encode_parameters
     code_is =
         ap (λ k. encode_parameter (parameter_of k n.number)) bound_there
-        ∙ (ap (λ k. encode_parameter (parameter_of (occurs eq_name x names) k)) number_there
+        ∙ (ap (λ k. encode_parameter (parameter_of (kind_of (occurs eq_name x names)) k)) number_there
         ∙ (sym (ap encode_parameter (parameter_renamed (number_in seen) names x)) ∙ sym (append-nil _)))
 
     pub parameter_given : ParameterAnswer names text pairs code p write after code'
@@ -99,7 +103,7 @@ module _ {names : List Name} {text pairs bound code after : List ℕ} {p : Place
           size_is = put.size_is ∙ (ap length code_is ∙ parameter_code_length seen (parameter_named names x ∷ []));
           few = omega arith;
           from = omega (arith, read.from);
-          small = omega (arith, read.from, put.size_is, parameter_short (parameter_of is n.number));
+          small = omega (arith, read.from, put.size_is, parameter_short (parameter_of kind n.number));
         },
       );
       dry = λ l. put.stored ∙ puts_dry write code p.to _ l;

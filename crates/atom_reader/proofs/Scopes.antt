@@ -5,8 +5,8 @@ use mathlib.Core.Bool.{Bool, true, false, cond, ◌||◌, true≢false}
 use mathlib.Core.List.{List, [], ◌∷◌, ◌++◌, map}
 use native.Mathlib.Omega.{arith}
 use native.Mathlib.Numerals.{add-one}
-use lib.ListN.{length, set}
-use lib.Seq.{get_or-set_same, get_or-set_other}
+use lib.ListN.{length, get_or, set, take, length-take}
+use lib.Seq.{get_or-take, get_or-set_same, get_or-set_other}
 use lib.Dec.{eqb}
 use borrow.Author.Tests.{eq-eqb, ne_eqb}
 use Rattle.definitions.specs.Name.{Name, eq_name}
@@ -158,6 +158,18 @@ pub bound_set : (bound : List ℕ) (at v depth : ℕ) → depth ≤ at → bound
 unfolding bound_numbers
 bound_set bound at v zero h = refl
 bound_set bound at v (suc depth) h = rw (get_or-set_other bound at depth v 0 (λ e. absurd (omega arith)), bound_set bound at v depth (omega arith))
+
+-- the numbers in memory that is cut off behind them
+bound_same_numbers : (l m : List ℕ) (n : ℕ) → ((k : ℕ) → k < n → get_or l k 0 ≡ get_or m k 0) → bound_numbers l n ≡ bound_numbers m n
+unfolding bound_numbers
+bound_same_numbers l m zero h = refl
+bound_same_numbers l m (suc n) h = rw (h n (omega arith), bound_same_numbers l m n (λ k b. h k (omega arith)))
+
+pub bound_taken : (bound : List ℕ) (depth : ℕ) → depth ≤ length bound
+    → bound_numbers (take depth bound) (length (take depth bound)) ≡ bound_numbers bound depth
+bound_taken bound depth h =
+    let all : length (take depth bound) ≡ depth = omega (arith, length-take depth bound) in
+    rw all (bound_same_numbers (take depth bound) bound depth (λ k b. get_or-take _ bound k 0 b))
 
 -- one more name is bound
 pub binds_one : {names seen : List Name} {bound : List ℕ} {depth n : ℕ} (x : Name) → Binds names seen bound depth → occurs eq_name x seen ≡ true

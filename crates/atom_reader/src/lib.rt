@@ -13,14 +13,12 @@ ghost use Rattle.atom_reader.specs.Scope.{Binds};
 ghost use Rattle.atom_reader.specs.Reading.{Begins, parameters_from, ParameterAnswer, ParametersAnswer, atom_head, atom_from, PropAnswer};
 
 use output::put;
-use prefix_code::{ATOM, PARAMETER_LIMIT};
-use prop_parts::{is_bound, put_parameter, put_u16, read_name};
+use prefix_code::{ATOM, PARAMETER_LIMIT, STRONGEST};
+use prop_parts::{parameter_kind, put_parameter, put_u16, read_name};
 use words::{expect, number_of_name};
 
-// How strongly ⊤, ⊥, atoms and negations bind.
-pub const STRONGEST: usize = 999;
-
-// Where the reading stands: in the text, in the names, under how many quantifiers, and in the code.
+// Where the reading stands: in the text, in the names, under how many quantifiers, and in the code. The reader of terms has three of
+// these numbers among its own; it hands them over one by one, and no quantifier is open then.
 #[derive(Clone, Copy)]
 pub struct Place {
     pub at: usize,
@@ -51,6 +49,9 @@ pub struct PropRead {
     pub own: bool,
 }
 
+// The readers are given `text`, `names`, `bound`, `code` and the place apart: a struct of them would hold three `&mut`, and each reader
+// would also have to promise that these stay the same references. `Begins` says of all of them at once what is required.
+
 // One parameter of an atom: a name, bound by a quantifier or not.
 fn read_parameter(
     text: &[u8],
@@ -67,8 +68,8 @@ fn read_parameter(
         names.new code.new result }
 {
     let name = read_name(text, p.at, names, p.count)?;
-    let is = is_bound(bound, p.depth, name.number);
-    let size = put_parameter(code, p.to, name.number, is, write);
+    let kind = parameter_kind(&bound[..p.depth], name.number);
+    let size = put_parameter(code, p.to, name.number, kind, write);
     Some(ParametersRead {
         end: name.end,
         parameters: 1,

@@ -226,6 +226,9 @@ pub fn is_deep(code: &[u8], names: usize, limit: usize) -> bool
     code.len() < shallow_end(code, 0, names, limit)
 }
 
+// How strongly ⊤, ⊥, atoms and negations bind.
+pub const STRONGEST: usize = 999;
+
 // ∧, ∨ and ⊃, each with its byte in front.
 #[derive(Debug, Clone, Copy, PartialEq, Eq)]
 pub enum Connective {

@@ -22,7 +22,7 @@ use prefix_code::{
 use vocabulary::{Vocabulary, code_of, name, shape};
 
 // How strongly an atom binds, and an implication. An implication of ⊥ is printed as a negation, and binds as strongly as an atom.
-pub const ATOM_STRENGTH: usize = 999;
+pub const ATOM_STRENGTH: usize = prefix_code::STRONGEST;
 
 const IMPL_STRENGTH: usize = 2;
 

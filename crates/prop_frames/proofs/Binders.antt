@@ -1,5 +1,5 @@
 -- What stands in front of a part is read: a bracket, a negation's sign, or a quantifier with its names.
-use Prim.Native.Nat.{ℕ, ◌+◌, ◌≤◌, ◌<◌}
+use Prim.Native.Nat.{ℕ, ◌+◌, ◌≤◌}
 use mathlib.Core.Path.{◌≡◌, refl, sym, ap, ◌∙◌}
 use mathlib.Core.Bool.{Bool, false}
 use Rattle.std.specs.Prelude.{Option, None, Some}
@@ -8,10 +8,10 @@ use native.Mathlib.Omega.{arith}
 use lib.ListN.{length, drop, set}
 use Rattle.definitions.specs.Utf8.{utf8}
 use Rattle.definitions.specs.Name.{Name}
-use Rattle.definitions.specs.Prop.{Prop, Quantified, Quantifier, for_all, exists, quantifier_byte}
+use Rattle.definitions.specs.Prop.{Prop, Quantified, Quantifier, quantifier_byte}
 use Rattle.definitions.specs.Code.{Read, Reading, yield, followed_by, ◌>>=◌, u16}
 use Rattle.definitions.specs.TermText.{prop_names}
-use Rattle.definitions.specs.TermReader.{Shown, standing, name, expect, Sign, top, bottom, negation, bracket, binder, signed}
+use Rattle.definitions.specs.TermReader.{Shown, standing, name, expect, negation, bracket, binder, signed}
 use Rattle.definitions.proofs.Readings.{given}
 use Rattle.reading_laws.proofs.TermConventions.{gives_yield, gives_none, gives_then, gives_due}
 use Rattle.output.specs.Wrote.{puts}
@@ -19,12 +19,12 @@ use Rattle.words.specs.Places.{between, Expected}
 use Rattle.words.specs.Table.{added, number_in, table_names}
 use Rattle.words.proofs.Added.{noted_then}
 use Rattle.prop_parts.specs.declared.NameRead.{NameRead}
-use Rattle.prop_parts.specs.Found.{NameLacks, NameGiven, sign_number, sign_size}
+use Rattle.prop_parts.specs.Found.{NameLacks, NameGiven, sign_size}
 use Rattle.atom_reader.specs.declared.Place.{Place}
 use Rattle.prop_frames.specs.declared.BinderRead.{BinderRead}
 use Rattle.atom_reader.specs.Scope.{Met, Crowded, Binds}
 use Rattle.atom_reader.specs.Reading.{Begins}
-use Rattle.prop_frames.specs.Fronts.{negated, bracketed, quantified, front_number, front_names, front_code, front_bytes, part_least, part_bound, closing, binder_names, Binder, BinderLacks, BinderGiven, binder_code, FrontAnswer}
+use Rattle.prop_frames.specs.Fronts.{negated, bracketed, quantified, front_names, front_code, front_bytes, part_least, part_bound, closing, binder_names, Binder, BinderLacks, BinderGiven, binder_code, FrontAnswer}
 use Rattle.atom_reader.proofs.Storing.{puts_nothing, puts_dry, stored_then}
 use Rattle.atom_reader.proofs.Scopes.{added_meets, binds_noted, bound_set, binds_one, crowded_first, crowded_second}
 use Rattle.atom_reader.proofs.Readings.{gives_from, gives_any}
@@ -88,33 +88,6 @@ unfolding binder_code u16
 binder_stored write l to head object datatype first second third =
     stored_then write l to (head ∷ u16 object) (u16 datatype) (stored_then write l to (head ∷ []) (u16 object) first refl second) refl third
 
--- A sign by its number.
-pub is_bracket : {n : ℕ} → n ≡ 8 → (g : Sign) → n ≡ sign_number g → g ≡ bracket
-unfolding sign_number quantifier_byte
-is_bracket h top e = absurd (omega arith)
-is_bracket h bottom e = absurd (omega arith)
-is_bracket h negation e = absurd (omega arith)
-is_bracket h bracket e = refl
-is_bracket h (binder for_all) e = absurd (omega arith)
-is_bracket h (binder exists) e = absurd (omega arith)
-
-pub is_negation : {n : ℕ} → n ≡ 4 → (g : Sign) → n ≡ sign_number g → g ≡ negation
-unfolding sign_number quantifier_byte
-is_negation h top e = absurd (omega arith)
-is_negation h bottom e = absurd (omega arith)
-is_negation h negation e = refl
-is_negation h bracket e = absurd (omega arith)
-is_negation h (binder for_all) e = absurd (omega arith)
-is_negation h (binder exists) e = absurd (omega arith)
-
-pub is_binder : {n : ℕ} → (n ≡ 8 → ⊥) → (n ≡ 4 → ⊥) → 1 < n → (g : Sign) → n ≡ sign_number g → (q : Quantifier) × (g ≡ binder q)
-unfolding sign_number
-is_binder h k l top e = absurd (omega arith)
-is_binder h k l bottom e = absurd (omega arith)
-is_binder h k l negation e = absurd (k e)
-is_binder h k l bracket e = absurd (h e)
-is_binder h k l (binder q) e = (q, refl)
-
 -- a reading in two steps
 splits_on : {A B C : Type 0} (m : Option (Read A)) (f : A → Reading C) (f' : A → Reading B) (next : B → Reading C)
     → ((a : A) (s : List ℕ) → f a s ≡ followed_by (f' a s) next) → followed_by m f ≡ followed_by (followed_by m f') next
@@ -136,14 +109,14 @@ module _ {names : List Name} {text pairs bound code : List ℕ} {p : Place} {wri
     (b : Binds names (table_names pairs text p.count) bound p.depth) (pre : Begins text pairs bound p 1 0) where
   pub opens_bracket : {at : ℕ} → at ≡ p.at + sign_size bracket → at ≤ length text
       → FrontAnswer bracket names text pairs bound code p write pairs bound code (Some (record { at = at; count = p.count; depth = p.depth; to = p.to }))
-  unfolding signed ◌>>=◌ sign_size part_least part_bound front_names front_code front_bytes closing sign_number front_number
+  unfolding signed ◌>>=◌ sign_size part_least part_bound front_names front_code front_bytes closing
   opens_bracket {at} e h = record {
     answer = (
       bracketed,
       record {
         within = h;
         reads = λ part. rw e refl;
-        number_is = refl;
+        sign_is = refl;
         noted = noted_none pre.table;
         stored = sym (puts_nothing write code p.to);
         to_is = omega arith;
@@ -160,14 +133,14 @@ module _ {names : List Name} {text pairs bound code : List ℕ} {p : Place} {wri
 
   pub opens_negation : {at : ℕ} {after : List ℕ} → at ≡ p.at + sign_size negation → at ≤ length text → after ≡ puts write code p.to (4 ∷ [])
       → FrontAnswer negation names text pairs bound code p write pairs bound after (Some (record { at = at; count = p.count; depth = p.depth; to = p.to + 1 }))
-  unfolding signed ◌>>=◌ sign_size part_least part_bound front_names front_code front_bytes closing sign_number front_number
+  unfolding signed ◌>>=◌ sign_size part_least part_bound front_names front_code front_bytes closing
   opens_negation {at} e h stored = record {
     answer = (
       negated,
       record {
         within = h;
         reads = λ part. rw e refl;
-        number_is = refl;
+        sign_is = refl;
         noted = noted_none pre.table;
         stored = stored;
         to_is = omega arith;
@@ -197,20 +170,20 @@ module _ {names : List Name} {text pairs bound code : List ℕ} {p : Place} {wri
       dry = λ l. refl;
     }
 
-    pub opens_quantifier : {read : BinderRead} {sign : ℕ} {code' : List ℕ} (d : Binder) → BinderGiven text at pairs p.count after read d
-        → sign ≡ quantifier_byte q → code' ≡ puts write code p.to (binder_code sign read.object read.datatype)
+    pub opens_quantifier : {read : BinderRead} {code' : List ℕ} (d : Binder) → BinderGiven text at pairs p.count after read d
+        → code' ≡ puts write code p.to (binder_code (quantifier_byte q) read.object read.datatype)
         → FrontAnswer (binder q) names text pairs bound code p write after (set bound p.depth read.object) code'
         (Some (record { at = read.end; count = read.count; depth = p.depth + 1; to = p.to + 5 }))
-    unfolding sign_size part_least part_bound front_names front_code front_bytes followed_by binder_code Met sign_number front_number
-    opens_quantifier {read} {sign} d given s stored = record {
+    unfolding sign_size part_least part_bound front_names front_code front_bytes followed_by binder_code Met
+    opens_quantifier {read} d given stored = record {
       answer = (
         quantified q d.object d.datatype,
         record {
           within = given.within;
           reads = λ part. rw (← e, binder_splits part names q (drop at text), given.reads) refl;
-          number_is = refl;
+          sign_is = refl;
           noted = given.noted;
-          stored = rw (← given.object_is, ← given.datatype_is, ← s) stored;
+          stored = rw (← given.object_is, ← given.datatype_is) stored;
           to_is = omega arith;
           binds = binds_one d.object (binds_noted b given.noted refl)
               (rw given.noted.names (added_meets (table_names pairs text p.count) (d.object ∷ d.datatype ∷ [])).0)

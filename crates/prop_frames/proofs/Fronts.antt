@@ -9,40 +9,43 @@ use lib.ListN.{length, drop}
 use lib.Dec.{ltb}
 use Rattle.definitions.specs.Utf8.{utf8}
 use Rattle.definitions.specs.Name.{Name}
-use Rattle.definitions.specs.Prop.{Prop, False, Binary, Quantified, impl, is_false, Quantifier, for_all, exists, quantifier_byte, nesting}
+use Rattle.definitions.specs.Prop.{Prop, False, Binary, Quantified, impl, is_false, Quantifier, nesting}
 use Rattle.definitions.specs.Code.{Reading, yield, followed_by, ◌>>=◌}
 use Rattle.definitions.specs.Display.{is_negation, precedence}
-use Rattle.definitions.specs.TermReader.{standing, same, due, expect}
+use Rattle.definitions.specs.TermReader.{standing, same, due, expect, negation, bracket, binder}
 use Rattle.output.specs.Wrote.{puts}
 use Rattle.words.specs.Places.{Expected}
 use Rattle.atom_reader.specs.declared.PropRead.{PropRead}
 use Rattle.atom_reader.specs.Reading.{Measured}
-use Rattle.prop_frames.specs.Fronts.{Front, negated, bracketed, quantified, front_number, part_least, back_code, around, closing, enclosed, Closes}
+use Rattle.prop_parts.specs.declared.Opening.{Opening}
+use Rattle.prop_parts.specs.declared.Opening.TheVariants.{Negation, Bracket, Binder}
+use Rattle.prop_parts.specs.Found.{opening_sign}
+use Rattle.prop_frames.specs.Fronts.{Front, negated, bracketed, quantified, front_sign, part_least, back_code, around, closing, enclosed, Closes}
 use Rattle.atom_reader.proofs.Readings.{follows_none}
 use Rattle.atom_reader.proofs.Storing.{puts_dry, puts_nothing}
 use Rattle.atom_reader.proofs.Sizes.{nests, negation_bytes, quantified_bytes}
 
--- a front by the number of its sign
-pub is_bracketed : {n : ℕ} → n ≡ 8 → (f : Front) → n ≡ front_number f → f ≡ bracketed
-unfolding front_number quantifier_byte
-is_bracketed h negated e = absurd (omega arith)
-is_bracketed h bracketed e = refl
-is_bracketed h (quantified for_all x t) e = absurd (omega arith)
-is_bracketed h (quantified exists x t) e = absurd (omega arith)
+-- a front by its sign
+pub is_bracketed : (f : Front) → bracket ≡ front_sign f → f ≡ bracketed
+is_bracketed negated e = cc
+is_bracketed bracketed e = refl
+is_bracketed (quantified q x t) e = cc
 
-pub is_negated : {n : ℕ} → n ≡ 4 → (f : Front) → n ≡ front_number f → f ≡ negated
-unfolding front_number quantifier_byte
-is_negated h negated e = refl
-is_negated h bracketed e = absurd (omega arith)
-is_negated h (quantified for_all x t) e = absurd (omega arith)
-is_negated h (quantified exists x t) e = absurd (omega arith)
+pub is_negated : (f : Front) → negation ≡ front_sign f → f ≡ negated
+is_negated negated e = refl
+is_negated bracketed e = cc
+is_negated (quantified q x t) e = cc
 
 -- only a negation asks for much of its part
-pub least_other : {n : ℕ} → (n ≡ 4 → ⊥) → (f : Front) → n ≡ front_number f → 0 ≡ part_least f
-unfolding front_number part_least
-least_other h negated e = absurd (h e)
-least_other h bracketed e = refl
-least_other h (quantified q x t) e = refl
+pub least_other : (o : Opening) (f : Front) → (o ≡ Negation → ⊥) → opening_sign o ≡ front_sign f → 0 ≡ part_least f
+unfolding part_least
+least_other Negation f other e = absurd (other refl)
+least_other Bracket negated other e = cc
+least_other Bracket bracketed other e = refl
+least_other Bracket (quantified q x t) other e = refl
+least_other (Binder g) negated other e = cc
+least_other (Binder g) bracketed other e = refl
+least_other (Binder g) (quantified q x t) other e = refl
 
 -- brackets that are not due, and those that are
 pub due_not : {A : Type 0} (own asked : Bool) (next : Reading A) (s : List ℕ) → same own asked ≡ false → due own asked next s ≡ None
@@ -124,30 +127,28 @@ module _ {q : Prop Name} {text code : List ℕ} {to : ℕ} {write : Bool} {part 
     dry = λ k. stored ∙ puts_dry write code (to + part.size) (1 ∷ []) k;
   }
 
-  -- neither a bracket nor a negation
-  module _ {n : ℕ} (no_bracket : n ≡ 8 → ⊥) (no_negation : n ≡ 4 → ⊥) where
-    pub closes_quantifier_not : (f : Front) → n ≡ front_number f → part.own ≡ true → Closes f q text code to write part code None
-    unfolding front_number closing standing same
-    closes_quantifier_not negated e o = absurd (no_negation e)
-    closes_quantifier_not bracketed e o = absurd (no_bracket e)
-    closes_quantifier_not (quantified g x t) e o = closes_not (due_not _ _ _ _ (rw o refl))
+  pub closes_quantifier_not : (g : Quantifier) (f : Front) → binder g ≡ front_sign f → part.own ≡ true → Closes f q text code to write part code None
+  unfolding closing standing same
+  closes_quantifier_not g negated e o = cc
+  closes_quantifier_not g bracketed e o = cc
+  closes_quantifier_not g (quantified h x t) e o = closes_not (due_not _ _ _ _ (rw o refl))
 
-    pub closes_quantifier : (f : Front) → n ≡ front_number f → part.own ≡ false → part.end ≤ length text
-        → Closes f q text code to write part code (Some (enclosed part 5 1))
-    unfolding front_number closing standing same around back_code yield enclosed
-    closes_quantifier negated e o h = absurd (no_negation e)
-    closes_quantifier bracketed e o h = absurd (no_bracket e)
-    closes_quantifier (quantified g x t) e o h = record {
-      answer = record {
-        within = h;
-        reads = due_is _ _ _ _ (rw o refl);
-        measured = quantifier_measured m g x t;
-        stored = sym (puts_nothing write code _);
-        count_is = refl;
-        from = omega arith;
-      };
-      dry = λ k. refl;
-    }
+  pub closes_quantifier : (g : Quantifier) (f : Front) → binder g ≡ front_sign f → part.own ≡ false → part.end ≤ length text
+      → Closes f q text code to write part code (Some (enclosed part 5 1))
+  unfolding closing standing same around back_code yield enclosed
+  closes_quantifier g negated e o h = cc
+  closes_quantifier g bracketed e o h = cc
+  closes_quantifier g (quantified k x t) e o h = record {
+    answer = record {
+      within = h;
+      reads = due_is _ _ _ _ (rw o refl);
+      measured = quantifier_measured m k x t;
+      stored = sym (puts_nothing write code _);
+      count_is = refl;
+      from = omega arith;
+    };
+    dry = λ k. refl;
+  }
 
 -- brackets stand exactly where they are due
 pub equal_same : (own due : Bool) → beq own due ≡ same own due

@@ -1,15 +1,16 @@
 -- One byte is put in front of code that is stored.
-use Prim.Native.Nat.{ℕ, zero, suc, ◌+◌, ◌-◌, ◌≤◌, ◌<◌}
+use Prim.Native.Nat.{ℕ, zero, suc, ◌+◌, ◌-◌, ◌≤◌, ◌<◌, min}
 use mathlib.Core.Path.{◌≡◌, refl, sym, ap, ◌∙◌}
 use mathlib.Core.Bool.{Bool, true, false}
 use mathlib.Core.Logic.{by_cases}
-use mathlib.Core.List.{List, [], ◌∷◌}
+use mathlib.Core.List.{List, [], ◌∷◌, ◌++◌}
 use native.Mathlib.Omega.{arith}
 use native.Mathlib.Decide.{dec_le}
-use lib.ListN.{length, get_or, set, take, drop, length-set}
-use lib.Seq.{sets, length-sets, drop-cons, drop-set-lt, set-set, get_or-set_same, get_or-set_other}
+use lib.ListN.{length, get_or, set, take, drop, length-set, length-take, length-drop, drop_of_length-le}
+use borrow.Rule.Slice.PartMut.{put_mid}
+use lib.Seq.{sets, take-take, length-sets, drop-cons, drop-set-lt, set-set, get_or-set_same, get_or-set_other}
 use Rattle.output.specs.Wrote.{puts}
-use Rattle.output.proofs.Writing.{sets_past}
+use Rattle.output.proofs.Writing.{sets_past, fitting_part, stored_part}
 use Rattle.atom_reader.proofs.Storing.{set_sets}
 use Rattle.prop_frames.specs.Sides.{inserted}
 
@@ -40,38 +41,45 @@ insert_dry l at n carry = refl
 pub inserted_dry : (write : Bool) (l : List ℕ) (at n carry : ℕ) → write ≡ false → inserted write l at n carry ≡ l
 inserted_dry write l at n carry e = rw e (insert_dry l at n carry)
 
--- what is left to insert gives what was to be inserted at the start
-pub record Inserting (before : List ℕ) (to size b : ℕ) (now : List ℕ) (carry at : ℕ) : Type 0 where
-  pub within : at ≤ to + size
-  pub long : length now ≡ length before
-  pub leaves : inserted true now at (to + size - at) carry ≡ inserted true before to size b
+-- The part that has room is turned by one, and the byte is stored in its first place.
+set_behind : (front rest : List ℕ) (z b : ℕ) → set (front ++ (z ∷ rest)) (length front) b ≡ front ++ (b ∷ rest)
+set_behind [] rest z b = refl
+set_behind (a ∷ front) rest z b = ap (λ l. a ∷ l) (set_behind front rest z b)
 
-pub inserting : (l : List ℕ) (to size b : ℕ) → Inserting l to size b l b to
-inserting l to size b =
-    let all : to + size - to ≡ size = omega arith in
-    record { within = omega arith; long = refl; leaves = ap (λ n. inserted true l to n b) all }
+module _ (l : List ℕ) (to b : ℕ) (inside : to < length l) where
+  first_stored : (k z : ℕ) (t : List ℕ) → set (put_mid to (suc k) l (z ∷ t)) to b ≡ put_mid to (suc k) l (b ∷ t)
+  first_stored k z t =
+      let here : length (take to l) ≡ to = omega (arith, length-take to l) in
+      rw here at (set_behind (take to l) (t ++ drop (suc k) (drop to l)) z b)
 
-module _ {before now : List ℕ} {to size b carry at : ℕ} (i : Inserting before to size b now carry at) where
-  pub inserting_on : at < to + size → at < length now → Inserting before to size b (set now at carry) (get_or now at 0) (at + 1)
-  inserting_on h k =
-      let less : to + size - at - 1 ≡ to + size - (at + 1) = omega arith in
-      record {
-        within = omega arith;
-        long = length-set now at carry ∙ i.long;
-        leaves = rw (← less) (sym (insert_step now at carry (to + size - at) k (omega arith)) ∙ i.leaves);
-      }
+  last_first : (k : ℕ) → to + suc k ≤ length l → let mid = take (suc k) (drop to l) in
+      drop (length mid - 1) mid ++ take (length mid - 1) mid ≡ get_or mid k 0 ∷ take k (drop to l)
+  last_first k fits =
+      let mid = take (suc k) (drop to l) in
+      let long : length mid ≡ suc k = omega (arith, length-take (suc k) (drop to l), length-drop to l) in
+      let less : length mid - 1 ≡ k = omega arith in
+      let short : length mid ≤ suc k = omega arith in
+      let none : drop (suc k) mid ≡ [] = drop_of_length-le mid short in
+      rw (less, drop-cons mid k 0 (omega arith), none, take-take k (suc k) (drop to l) (omega arith)) refl
 
-  pub inserting_past : {write : Bool} → write ≡ true → length now ≤ at → now ≡ inserted write before to size b
-  inserting_past e h = rw e (sym (insert_past now at carry (to + size - at) h) ∙ i.leaves)
+  turned_by : {write : Bool} {n : ℕ} {part : List ℕ} (size k : ℕ) → write ≡ true → n ≡ suc k → suc k ≡ min (length l - to) (suc size)
+      → part ≡ drop (length (take n (drop to l)) - 1) (take n (drop to l)) ++ take (length (take n (drop to l)) - 1) (take n (drop to l))
+      → set (put_mid to n l part) to b ≡ inserted write l to size b
+  unfolding inserted puts
+  turned_by size k w e room turns =
+      let text = b ∷ take size (drop to l) in
+      let cut : b ∷ take k (drop to l) ≡ take (suc k) text = ap (λ t. b ∷ t) (sym (take-take k size (drop to l) (omega arith))) in
+      let sized : length (b ∷ take k (drop to l)) ≡ suc k = omega (arith, length-take k (drop to l), length-drop to l) in
+      rw w
+      (fitting_part true l to text {fit = suc k} (omega (arith, length-take size (drop to l), length-drop to l))
+      (rw (turns, e, last_first k (omega arith))
+      (first_stored k (get_or (take (suc k) (drop to l)) k 0) (take k (drop to l))
+      ∙ (stored_part to (suc k) l (b ∷ take k (drop to l)) (sym sized) (omega arith) ∙ ap (puts true l to) cut))))
 
-  pub inserting_last : {write : Bool} {after : List ℕ} → write ≡ true → (at < to + size → ⊥) → after ≡ puts write now (to + size) (carry ∷ [])
-      → after ≡ inserted write before to size b
-  unfolding puts
-  inserting_last {write} {after} e h k =
-      let none : to + size - at ≡ 0 = omega (arith, i.within) in
-      let last : to + size ≡ at = omega (arith, i.within) in
-      let put : after ≡ set now at carry = rw (e, last) at k in
-      rw e (put ∙ (sym (insert_last now at carry) ∙ (ap (λ n. inserted true now at n carry) (sym none) ∙ i.leaves)))
+  pub turned : {write : Bool} {end : ℕ} {part : List ℕ} (size : ℕ) → write ≡ true → end ≡ min (length l) (to + size + 1)
+      → part ≡ drop (length (take (end - to) (drop to l)) - 1) (take (end - to) (drop to l)) ++ take (length (take (end - to) (drop to l)) - 1) (take (end - to) (drop to l))
+      → set (put_mid to (end - to) l part) to b ≡ inserted write l to size b
+  turned {write} {end} {part} size w e turns = turned_by size (end - to - 1) w (omega arith) (omega arith) turns
 
 -- what stands before a run of stores
 get_d_sets : (l : List ℕ) (i j : ℕ) (s : List ℕ) → i < j → get_or (sets l j s) i 0 ≡ get_or l i 0

@@ -11,9 +11,10 @@ use Rattle.definitions.specs.Name.{Name}
 use Rattle.definitions.specs.Prop.{Prop, Connective, connective_byte, is_false, nesting}
 use Rattle.definitions.specs.Display.{connective_precedence, is_negation, precedence, wraps_left, wraps_right}
 use Rattle.definitions.specs.TermReader.{Shown, standing, same, connective, strong_enough, goes_on}
-use Rattle.prop_parts.specs.declared.Connective as read
-use Rattle.prop_parts.specs.declared.Connective.TheVariants.{And, Or, Impl}
-use Rattle.prop_parts.specs.Found.{meant, ConnectiveAt}
+use Rattle.prefix_code.specs.declared.Connective as read
+use Rattle.prefix_code.specs.declared.Connective.TheVariants.{And, Or, Impl}
+use Rattle.prefix_code.specs.Shape.{meant}
+use Rattle.prop_parts.specs.Found.{ConnectiveAt}
 use Rattle.atom_reader.specs.declared.PropRead.{PropRead}
 use Rattle.atom_reader.specs.Reading.{Measured}
 use Rattle.prop_frames.specs.Sides.{GoesOnAt, sides_agree, inserted, Joins}

@@ -6,12 +6,13 @@ use Rattle.definitions.specs.Prop.{Prop, False, Binary, Quantified, impl, Quanti
 use Rattle.definitions.specs.Code.{Reading, yield, followed_by, ◌>>=◌, u16}
 use Rattle.definitions.specs.Display.{precedence}
 use Rattle.definitions.specs.TermText.{prop_names}
-use Rattle.definitions.specs.TermReader.{Shown, standing, due, expect, Sign, name, signed}
+use Rattle.definitions.specs.TermReader.{Shown, standing, due, expect, Sign, negation, bracket, binder, name, signed}
 use Rattle.definitions.proofs.Readings.{given}
 use Rattle.reading_laws.proofs.TermConventions.{Gives}
 use Rattle.output.specs.Wrote.{puts}
 use Rattle.words.specs.Table.{number_in, table_names, Noted}
-use Rattle.prop_parts.specs.Found.{bound_numbers, sign_number, sign_size}
+use Rattle.prop_parts.specs.declared.Opening.{Opening}
+use Rattle.prop_parts.specs.Found.{bound_numbers, opening_sign, sign_size}
 use Rattle.atom_reader.specs.declared.Place.{Place}
 use Rattle.prop_frames.specs.declared.BinderRead.{BinderRead}
 use Rattle.atom_reader.specs.declared.PropRead.{PropRead}
@@ -26,11 +27,11 @@ pub data Front : Type 0 where
   negated bracketed : Front
   quantified : Quantifier → Name → Name → Front
 
--- the number of its sign
-unfoldable pub front_number : Front → ℕ
-front_number negated = 4
-front_number bracketed = 8
-front_number (quantified q x t) = quantifier_byte q
+-- its sign
+abbrev pub front_sign : Front → Sign
+front_sign negated = negation
+front_sign bracketed = bracket
+front_sign (quantified q x t) = binder q
 
 -- how strongly the part binds at least, and the names that are bound in it
 unfoldable pub part_least : Front → ℕ
@@ -110,10 +111,9 @@ unfoldable pub binder_code : ℕ → ℕ → ℕ → List ℕ
 binder_code head object datatype = head ∷ (u16 object ++ u16 datatype)
 
 -- a front begins here with this sign
-pub record FrontBegins (text pairs bound : List ℕ) (p : Place) (sign : ℕ) : Type 0 where
+pub record FrontBegins (text pairs bound : List ℕ) (p : Place) (sign : Opening) : Type 0 where
   pub begins : Begins text pairs bound p 1 0
-  pub sign_is : (g : Sign) × (sign ≡ sign_number g) × (p.at + sign_size g ≤ length text)
-  pub opens : 1 < sign
+  pub sign_within : p.at + sign_size (opening_sign sign) ≤ length text
 
 -- the front that was read from its sign on, and what became of the memory
 pub record FrontGiven
@@ -123,7 +123,7 @@ pub record FrontGiven
   pub reads : (part : Part)
       → signed part names g (drop (p.at + sign_size g) text)
       ≡ followed_by (part (part_least f) (part_bound f names) (drop r.at text)) (closing f)
-  pub number_is : sign_number g ≡ front_number f
+  pub sign_is : g ≡ front_sign f
   pub noted : Noted (front_names f) text pairs p.count after r.count
   pub stored : code' ≡ puts write code p.to (front_code (table_names after text r.count) f)
   pub to_is : r.to ≡ p.to + front_bytes f

@@ -6,8 +6,8 @@ use Rattle.definitions.specs.Display.{precedence, is_negation, wraps_left, wraps
 use Rattle.definitions.specs.TermReader.{Shown, standing, same, goes_on}
 use Rattle.definitions.proofs.Readings.{given}
 use Rattle.output.specs.Wrote.{puts}
-use Rattle.prop_parts.specs.declared.Connective as read
-use Rattle.prop_parts.specs.Found.{meant}
+use Rattle.prefix_code.specs.declared.Connective as read
+use Rattle.prefix_code.specs.Shape.{meant}
 use Rattle.atom_reader.specs.declared.PropRead.{PropRead}
 use Rattle.atom_reader.specs.Reading.{Measured}
 

@@ -5,21 +5,22 @@
 
 ghost use Rattle.std.specs.Prelude.{◌≡◌, List, ℕ, ◌+◌, ◌≤◌, ◌<◌, length, drop, None, Some, MatchOption};
 ghost use Rattle.definitions.specs.Name.{Name};
-ghost use Rattle.definitions.specs.Prop.{Prop};
-ghost use Rattle.definitions.specs.TermReader.{standing, same, Sign, signed, goes_on};
+ghost use Rattle.definitions.specs.Prop.{Prop, quantifier_byte};
+ghost use Rattle.definitions.specs.TermReader.{standing, same, signed, goes_on};
 ghost use Rattle.definitions.specs.TermText.{term_text_limit};
 ghost use Rattle.output.specs.Wrote.{puts};
 ghost use Rattle.words.specs.Table.{table_names, Table};
-ghost use Rattle.prop_parts.specs.Found.{meant, sign_number, sign_size};
+ghost use Rattle.prefix_code.specs.Shape.{meant};
+ghost use Rattle.prop_parts.specs.Found.{quantifier_sign, constant_sign, opening_sign};
 ghost use Rattle.atom_reader.specs.Scope.{Binds};
 ghost use Rattle.atom_reader.specs.Reading.{Measured, PropAnswer};
-ghost use Rattle.prop_frames.specs.Fronts.{Part, Front, front_number, part_least, BinderLacks, Binder, BinderGiven, binder_code, FrontBegins, FrontAnswer, Closable, enclosed, Closes};
+ghost use Rattle.prop_frames.specs.Fronts.{Part, Front, front_sign, part_least, BinderLacks, Binder, BinderGiven, binder_code, FrontBegins, FrontAnswer, Closable, enclosed, Closes};
 ghost use Rattle.prop_frames.specs.Sides.{GoesOnAt, sides_agree, inserted, Joinable, Joins};
 
-use atom_reader::{Place, PropRead, STRONGEST};
+use atom_reader::{Place, PropRead};
 use output::put;
-use prefix_code::{FALSE, IMPL};
-use prop_parts::{BRACKET, Connective, connective_at, put_u16, read_name, sign_size};
+use prefix_code::{Connective, EXISTS, FALSE, FOR_ALL, IMPL, Quantifier, STRONGEST};
+use prop_parts::{CONSTANT_SIZE, Constant, Opening, connective_at, put_u16, read_name};
 use words::expect;
 
 // The names of a quantifier: where they end, their numbers, and how many names there are now.
@@ -38,6 +39,9 @@ fn agree(own: bool, due: bool) -> bool
 {
     own == due
 }
+
+// The readers are given `text`, `names`, `bound`, `code` and the place apart, as in atom_reader, and so is `write`. The names that
+// quantifiers bind fill the memory `bound` up to the place's depth: memory of fixed size has no push.
 
 // The names of a quantifier, after its sign.
 fn binder_names(text: &[u8], at: usize, names: &mut [u8], count: usize) -> Option<BinderRead>
@@ -58,66 +62,86 @@ fn binder_names(text: &[u8], at: usize, names: &mut [u8], count: usize) -> Optio
     })
 }
 
-// What stands in the code of a quantifier before its part.
-fn put_binder(code: &mut [u8], to: usize, head: u8, object: usize, datatype: usize, write: bool)
-    requires { (to < 200000) × (object < 65536) × (datatype < 65536) }
-    ensures { code.new ≡ puts write code.old to (binder_code head object datatype) }
+// The head byte of a quantifier's code.
+#[tactic(auto, unfolding(definitions::specs::Prop::quantifier_byte))]
+fn quantifier_byte(quantifier: Quantifier) -> u8
+    ensures { result ≡ quantifier_byte (quantifier_sign quantifier) }
 {
-    put(code, to, head, write);
+    match quantifier {
+        Quantifier::ForAll => FOR_ALL,
+        Quantifier::Exists => EXISTS,
+    }
+}
+
+// What stands in the code of a quantifier before its part.
+fn put_binder(
+    code: &mut [u8],
+    to: usize,
+    quantifier: Quantifier,
+    object: usize,
+    datatype: usize,
+    write: bool,
+)
+    requires { (to < 200000) × (object < 65536) × (datatype < 65536) }
+    ensures { code.new ≡ puts write code.old to
+        (binder_code (quantifier_byte (quantifier_sign quantifier)) object datatype) }
+{
+    put(code, to, quantifier_byte(quantifier), write);
     put_u16(code, to + 1, object, write);
     put_u16(code, to + 3, datatype, write);
 }
 
-// What stands before a part: the sign at `p`, which is that of a negation, a bracket or a quantifier, and what belongs to it. Gives
-// the place of the part.
+// What stands before a part: the sign at `p` and what belongs to it. Gives the place of the part.
 pub fn open_front(
     text: &[u8],
     names: &mut [u8],
     bound: &mut [u16],
     code: &mut [u8],
     p: Place,
-    sign: u8,
+    sign: Opening,
     write: bool,
 ) -> Option<Place>
     requires { FrontBegins text.now names.old bound.old p sign }
-    ensures { (g : Sign) (ns : List Name) → sign ≡ sign_number g →
+    ensures { (ns : List Name) →
         Binds ns (table_names names.old text.now p.count) bound.old p.depth →
-        FrontAnswer g ns text.now names.old bound.old code.old p write
+        FrontAnswer (opening_sign sign) ns text.now names.old bound.old code.old p write
         names.new bound.new code.new result }
 {
     let to = p.to;
     let depth = p.depth;
-    let at = p.at + sign_size(sign);
-    if sign == BRACKET {
-        return Some(Place { at, ..p });
+    let at = p.at + sign.size();
+    match sign {
+        Opening::Bracket => Some(Place { at, ..p }),
+        Opening::Negation => {
+            put(code, to, IMPL, write);
+            Some(Place {
+                at,
+                to: to + 1,
+                ..p
+            })
+        }
+        Opening::Binder(quantifier) => {
+            let read = binder_names(text, at, names, p.count)?;
+            put_binder(code, to, quantifier, read.object, read.datatype, write);
+            bound[depth] = read.object as u16;
+            Some(Place {
+                at: read.end,
+                count: read.count,
+                depth: depth + 1,
+                to: to + 5,
+            })
+        }
     }
-    if sign == IMPL {
-        put(code, to, IMPL, write);
-        return Some(Place {
-            at,
-            to: to + 1,
-            ..p
-        });
-    }
-    let read = binder_names(text, at, names, p.count)?;
-    put_binder(code, to, sign, read.object, read.datatype, write);
-    bound[depth] = read.object as u16;
-    Some(Place {
-        at: read.end,
-        count: read.count,
-        depth: depth + 1,
-        to: to + 5,
-    })
 }
 
 // How strongly the part after a sign binds at least.
-pub fn part_least(sign: u8) -> usize
-    ensures { (f : Front) → sign ≡ front_number f → result ≡ part_least f }
+pub fn part_least(sign: Opening) -> usize
+    ensures { (f : Front) → opening_sign sign ≡ front_sign f → result ≡ part_least f }
 {
-    if sign == IMPL {
-        return STRONGEST;
+    match sign {
+        Opening::Negation => STRONGEST,
+        _ => 0,
     }
-    0
 }
 
 // A proposition around its part, with so many bytes more in code.
@@ -141,54 +165,63 @@ pub fn close_prop(
     text: &[u8],
     code: &mut [u8],
     to: usize,
-    sign: u8,
+    sign: Opening,
     part: PropRead,
     write: bool,
 ) -> Option<PropRead>
     requires { Closable text.now to part }
-    ensures { (f : Front) (q : Prop Name) → sign ≡ front_number f → Measured part q →
+    ensures { (f : Front) (q : Prop Name) → opening_sign sign ≡ front_sign f → Measured part q →
         Closes f q text.now code.old to write part code.new result }
 {
-    if sign == BRACKET {
-        if part.own {
-            return None;
+    match sign {
+        Opening::Bracket => {
+            if part.own {
+                return None;
+            }
+            let end = expect(text, part.end, b")")?;
+            Some(PropRead {
+                end,
+                own: true,
+                ..part
+            })
         }
-        let end = expect(text, part.end, b")")?;
-        return Some(PropRead {
-            end,
-            own: true,
-            ..part
-        });
-    }
-    if sign == IMPL {
-        if !agree(part.own, part.strength < STRONGEST) {
-            return None;
+        Opening::Negation => {
+            if !agree(part.own, part.strength < STRONGEST) {
+                return None;
+            }
+            put(code, to + part.size, FALSE, write);
+            Some(enclosing(part, 2, STRONGEST))
         }
-        put(code, to + part.size, FALSE, write);
-        return Some(enclosing(part, 2, STRONGEST));
+        Opening::Binder(_) => {
+            if part.own {
+                return None;
+            }
+            Some(enclosing(part, 5, 1))
+        }
     }
-    if part.own {
-        return None;
-    }
-    Some(enclosing(part, 5, 1))
 }
 
 // ⊤ or ⊥, whose sign stands at `p`.
-pub fn read_constant(text: &[u8], code: &mut [u8], p: Place, sign: u8, write: bool) -> PropRead
+pub fn read_constant(
+    text: &[u8],
+    code: &mut [u8],
+    p: Place,
+    sign: Constant,
+    write: bool,
+) -> PropRead
     requires { (p.at + 3 ≤ length text.now) × (p.to < 200000) × (length text.now ≤ term_text_limit) }
-    ensures { (g : Sign) (part : Part) (ns : List Name) (pairs bound : List ℕ) →
-        sign ≡ sign_number g → sign ≤ 1 → Table pairs text.now p.count →
-        PropAnswer (signed part ns g (drop (p.at + sign_size g) text.now))
+    ensures { (part : Part) (ns : List Name) (pairs bound : List ℕ) → Table pairs text.now p.count →
+        PropAnswer (signed part ns (constant_sign sign) (drop (p.at + 3) text.now))
         text.now pairs bound code.old p write pairs bound code.new (Some result) }
 {
-    put(code, p.to, sign, write);
+    put(code, p.to, sign.byte(), write);
     PropRead {
-        end: p.at + 3,
+        end: p.at + CONSTANT_SIZE,
         count: p.count,
         size: 1,
         nesting: 1,
         strength: STRONGEST,
-        bottom: sign == FALSE,
+        bottom: sign == Constant::Bottom,
         own: false,
     }
 }
@@ -222,27 +255,17 @@ fn may_join(connective: Connective, left: PropRead, right: PropRead) -> bool
     }
 }
 
-// Puts one byte in front of so many from `to` on.
+// Puts one byte in front of so many from `to` on, as far as there is room.
+#[tactic(auto, unfolding(crate::specs::Sides::inserted, output::specs::Wrote::puts))]
 fn insert(code: &mut [u8], to: usize, size: usize, b: u8, write: bool)
     requires { to + size < 200000 }
     ensures { code.new ≡ inserted write code.old to size b }
 {
-    if !write {
-        return;
+    if write && to < code.len() {
+        let end = code.len().min(to + size + 1);
+        code[to..end].rotate_right(1);
+        code[to] = b;
     }
-    let end = to + size;
-    let mut carry = b;
-    let mut at = to;
-    while at < end {
-        if code.len() <= at {
-            return;
-        }
-        let next = code[at];
-        code[at] = carry;
-        carry = next;
-        at += 1;
-    }
-    put(code, end, carry, write);
 }
 
 // A left side, whose code stands from `to` on, a connective, and a right side, whose code stands after it.

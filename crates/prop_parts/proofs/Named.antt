@@ -1,12 +1,7 @@
 -- The name at a place and its number.
-use Prim.Native.Nat.{ℕ, zero, suc, ◌-◌, ◌≤◌, ◌<◌}
-use mathlib.Core.Path.{◌≡◌, sym}
-use mathlib.Core.Bool.{true}
-use mathlib.Core.List.{List, ◌∷◌}
-use native.Mathlib.Omega.{arith}
-use lib.ListN.{length, get_or}
-use lib.Dec.{eqb}
-use borrow.Author.Tests.{eq-eqb, ne_eqb}
+use Rattle.std.proofs.Common.{◌≡◌, ℕ, zero, suc, ◌≤◌, Bool, true, false, ◌||◌, eqb, List, [], ◌∷◌, ◌++◌, length, get_or, take, refl, arith, take_all}
+use Rattle.std.specs.List.{list_any}
+use lib.Seq.{take-suc}
 use Rattle.definitions.specs.Text.{occurs}
 use Rattle.definitions.specs.TermText.{term_text_limit}
 use Rattle.words.specs.Places.{NameEnds}
@@ -16,19 +11,25 @@ use Rattle.prop_parts.specs.Found.{bound_numbers}
 pub name_place : {text : List ℕ} {at end : ℕ} → NameEnds text at end → length text ≤ term_text_limit → NamePlace text at end
 name_place ends l = record { short = l; some = ends.from; few = ends.short; within = ends.within }
 
--- a number among those that are bound
-pub bound_first : (bound : List ℕ) (n : ℕ) → 0 < n → bound_numbers bound n ≡ get_or bound (n - 1) 0 ∷ bound_numbers bound (n - 1)
-unfolding bound_numbers
-bound_first bound zero h = absurd (omega arith)
-bound_first bound (suc n) h =
-    let before : suc n - 1 ≡ n = omega arith in
-    rw before
+-- a number is bound where it is any of those in memory
+any_append : (test : ℕ → Bool) (l : List ℕ) (b : ℕ) → list_any test (l ++ (b ∷ [])) ≡ (test b || list_any test l)
+any_append test [] b = refl
+any_append test (a ∷ l) b = rw (any_append test l b) (go (test a) (test b) (list_any test l))
+  where
+    go : (x y z : Bool) → x || (y || z) ≡ y || (x || z)
+    go true true z = refl
+    go true false z = refl
+    go false y z = refl
 
-pub bound_here : (bound : List ℕ) (number n : ℕ) → 0 < n → get_or bound (n - 1) 0 ≡ number → occurs eqb number (bound_numbers bound n) ≡ true
-unfolding occurs
-bound_here bound number n h e = rw (bound_first bound n h, eq-eqb number (get_or bound (n - 1) 0) (sym e))
+same_turned : (a b : ℕ) → eqb a b ≡ eqb b a
+same_turned a b = grind arith
 
-pub bound_later : (bound : List ℕ) (number n : ℕ) → 0 < n → (get_or bound (n - 1) 0 ≡ number → ⊥)
-    → occurs eqb number (bound_numbers bound n) ≡ occurs eqb number (bound_numbers bound (n - 1))
-unfolding occurs
-bound_later bound number n h d = rw (bound_first bound n h, ne_eqb number (get_or bound (n - 1) 0) (λ k. d (sym k)))
+any_of_first : (bound : List ℕ) (number n : ℕ) → n ≤ length bound
+    → list_any (λ b. eqb b number) (take n bound) ≡ occurs eqb number (bound_numbers bound n)
+unfolding bound_numbers occurs
+any_of_first bound number zero h = refl
+any_of_first bound number (suc n) h =
+    rw (take-suc bound n 0 (omega arith), any_append (λ b. eqb b number) (take n bound) (get_or bound n 0), any_of_first bound number n (omega arith), same_turned (get_or bound n 0) number)
+
+pub any_bound : (bound : List ℕ) (number : ℕ) → list_any (λ b. eqb b number) bound ≡ occurs eqb number (bound_numbers bound (length bound))
+any_bound bound number = rw (take_all (length bound) bound (omega arith)) at (any_of_first bound number (length bound) (omega arith))

@@ -1,44 +1,19 @@
--- Connectives and signs by their bytes and their numbers.
+-- Connectives and signs by their bytes.
 use Prim.Native.Nat.{ℕ, ◌+◌}
-use mathlib.Core.Path.{◌≡◌, refl}
+use mathlib.Core.Path.{◌≡◌}
 use Rattle.std.specs.Prelude.{None}
 use mathlib.Core.List.{List}
-use native.Mathlib.Omega.{arith}
 use lib.ListN.{drop}
 use Rattle.definitions.specs.Utf8.{utf8}
 use Rattle.definitions.specs.Code.{yield}
-use Rattle.definitions.specs.Prop.{for_all, exists, quantifier_byte}
-use Rattle.definitions.specs.TermReader.{expect, connective, Sign, top, bottom, negation, bracket, binder, sign, if_read, or_read, means}
+use Rattle.definitions.specs.TermReader.{expect, connective, sign, if_read, or_read, means}
 use Rattle.words.specs.Places.{Expected}
-use Rattle.prop_parts.specs.declared.Connective.TheVariants.{And, Or, Impl}
-use Rattle.prop_parts.specs.Found.{ConnectiveAt, sign_number, sign_size, SignAt, signs, signs_not}
-
--- a sign by its number
-pub size_bracket : (b : ℕ) → b ≡ 8 → (g : Sign) → b ≡ sign_number g → 1 ≡ sign_size g
-unfolding sign_number sign_size quantifier_byte
-size_bracket b h top e = absurd (omega arith)
-size_bracket b h bottom e = absurd (omega arith)
-size_bracket b h negation e = absurd (omega arith)
-size_bracket b h bracket e = refl
-size_bracket b h (binder for_all) e = absurd (omega arith)
-size_bracket b h (binder exists) e = absurd (omega arith)
-
-pub size_negation : (b : ℕ) → b ≡ 4 → (g : Sign) → b ≡ sign_number g → 2 ≡ sign_size g
-unfolding sign_number sign_size quantifier_byte
-size_negation b h top e = absurd (omega arith)
-size_negation b h bottom e = absurd (omega arith)
-size_negation b h negation e = refl
-size_negation b h bracket e = absurd (omega arith)
-size_negation b h (binder for_all) e = absurd (omega arith)
-size_negation b h (binder exists) e = absurd (omega arith)
-
-pub size_other : (b : ℕ) → (b ≡ 8 → ⊥) → (b ≡ 4 → ⊥) → (g : Sign) → b ≡ sign_number g → 3 ≡ sign_size g
-unfolding sign_number sign_size quantifier_byte
-size_other b h k top e = refl
-size_other b h k bottom e = refl
-size_other b h k negation e = absurd (omega arith)
-size_other b h k bracket e = absurd (omega arith)
-size_other b h k (binder q) e = refl
+use Rattle.prefix_code.specs.declared.Connective.TheVariants.{And, Or, Impl}
+use Rattle.prefix_code.specs.declared.Quantifier.TheVariants.{ForAll, Exists}
+use Rattle.prop_parts.specs.declared.Constant.TheVariants.{Top, Bottom}
+use Rattle.prop_parts.specs.declared.Opening.TheVariants.{Negation, Bracket, Binder}
+use Rattle.prop_parts.specs.declared.Sign.TheVariants as read
+use Rattle.prop_parts.specs.Found.{ConnectiveAt, sign_size, SignAt}
 
 -- Each connective in turn: none of those before it stands there.
 module _ {text : List ℕ} {at : ℕ} where
@@ -62,30 +37,30 @@ none_found text at e₀ e₁ e₂ = rw (e₀, e₁, e₂)
 
 -- Each sign in turn.
 module _ {text : List ℕ} {at : ℕ} where
-  pub top_found : Expected (utf8 "⊤") text at (at + 3) → SignAt text at 0
-  unfolding sign or_read means if_read yield sign_number sign_size quantifier_byte
-  top_found there = signs top there.within (rw (there.reads))
+  pub top_found : Expected (utf8 "⊤") text at (at + 3) → SignAt text at (read.Constant Top)
+  unfolding sign or_read means if_read yield sign_size
+  top_found there = record { within = there.within; reads = rw (there.reads) }
 
-  pub bottom_found : expect (utf8 "⊤") (drop at text) ≡ None → Expected (utf8 "⊥") text at (at + 3) → SignAt text at 1
-  unfolding sign or_read means if_read yield sign_number sign_size quantifier_byte
-  bottom_found e0 there = signs bottom there.within (rw (e0, there.reads))
+  pub bottom_found : expect (utf8 "⊤") (drop at text) ≡ None → Expected (utf8 "⊥") text at (at + 3) → SignAt text at (read.Constant Bottom)
+  unfolding sign or_read means if_read yield sign_size
+  bottom_found e0 there = record { within = there.within; reads = rw (e0, there.reads) }
 
-  pub negation_found : expect (utf8 "⊤") (drop at text) ≡ None → expect (utf8 "⊥") (drop at text) ≡ None → Expected (utf8 "¬") text at (at + 2) → SignAt text at 4
-  unfolding sign or_read means if_read yield sign_number sign_size quantifier_byte
-  negation_found e0 e1 there = signs negation there.within (rw (e0, e1, there.reads))
+  pub negation_found : expect (utf8 "⊤") (drop at text) ≡ None → expect (utf8 "⊥") (drop at text) ≡ None → Expected (utf8 "¬") text at (at + 2) → SignAt text at (read.Opening Negation)
+  unfolding sign or_read means if_read yield sign_size
+  negation_found e0 e1 there = record { within = there.within; reads = rw (e0, e1, there.reads) }
 
-  pub bracket_found : expect (utf8 "⊤") (drop at text) ≡ None → expect (utf8 "⊥") (drop at text) ≡ None → expect (utf8 "¬") (drop at text) ≡ None → Expected (utf8 "(") text at (at + 1) → SignAt text at 8
-  unfolding sign or_read means if_read yield sign_number sign_size quantifier_byte
-  bracket_found e0 e1 e2 there = signs bracket there.within (rw (e0, e1, e2, there.reads))
+  pub bracket_found : expect (utf8 "⊤") (drop at text) ≡ None → expect (utf8 "⊥") (drop at text) ≡ None → expect (utf8 "¬") (drop at text) ≡ None → Expected (utf8 "(") text at (at + 1) → SignAt text at (read.Opening Bracket)
+  unfolding sign or_read means if_read yield sign_size
+  bracket_found e0 e1 e2 there = record { within = there.within; reads = rw (e0, e1, e2, there.reads) }
 
-  pub all_found : expect (utf8 "⊤") (drop at text) ≡ None → expect (utf8 "⊥") (drop at text) ≡ None → expect (utf8 "¬") (drop at text) ≡ None → expect (utf8 "(") (drop at text) ≡ None → Expected (utf8 "∀") text at (at + 3) → SignAt text at 6
-  unfolding sign or_read means if_read yield sign_number sign_size quantifier_byte
-  all_found e0 e1 e2 e3 there = signs (binder for_all) there.within (rw (e0, e1, e2, e3, there.reads))
+  pub all_found : expect (utf8 "⊤") (drop at text) ≡ None → expect (utf8 "⊥") (drop at text) ≡ None → expect (utf8 "¬") (drop at text) ≡ None → expect (utf8 "(") (drop at text) ≡ None → Expected (utf8 "∀") text at (at + 3) → SignAt text at (read.Opening (Binder ForAll))
+  unfolding sign or_read means if_read yield sign_size
+  all_found e0 e1 e2 e3 there = record { within = there.within; reads = rw (e0, e1, e2, e3, there.reads) }
 
-  pub some_found : expect (utf8 "⊤") (drop at text) ≡ None → expect (utf8 "⊥") (drop at text) ≡ None → expect (utf8 "¬") (drop at text) ≡ None → expect (utf8 "(") (drop at text) ≡ None → expect (utf8 "∀") (drop at text) ≡ None → Expected (utf8 "∃") text at (at + 3) → SignAt text at 7
-  unfolding sign or_read means if_read yield sign_number sign_size quantifier_byte
-  some_found e0 e1 e2 e3 e4 there = signs (binder exists) there.within (rw (e0, e1, e2, e3, e4, there.reads))
+  pub some_found : expect (utf8 "⊤") (drop at text) ≡ None → expect (utf8 "⊥") (drop at text) ≡ None → expect (utf8 "¬") (drop at text) ≡ None → expect (utf8 "(") (drop at text) ≡ None → expect (utf8 "∀") (drop at text) ≡ None → Expected (utf8 "∃") text at (at + 3) → SignAt text at (read.Opening (Binder Exists))
+  unfolding sign or_read means if_read yield sign_size
+  some_found e0 e1 e2 e3 e4 there = record { within = there.within; reads = rw (e0, e1, e2, e3, e4, there.reads) }
 
-  pub no_sign : expect (utf8 "⊤") (drop at text) ≡ None → expect (utf8 "⊥") (drop at text) ≡ None → expect (utf8 "¬") (drop at text) ≡ None → expect (utf8 "(") (drop at text) ≡ None → expect (utf8 "∀") (drop at text) ≡ None → expect (utf8 "∃") (drop at text) ≡ None → SignAt text at 9
-  unfolding sign or_read means if_read
-  no_sign e0 e1 e2 e3 e4 e5 = signs_not (rw (e0, e1, e2, e3, e4, e5))
+pub no_sign : (text : List ℕ) (at : ℕ) → expect (utf8 "⊤") (drop at text) ≡ None → expect (utf8 "⊥") (drop at text) ≡ None → expect (utf8 "¬") (drop at text) ≡ None → expect (utf8 "(") (drop at text) ≡ None → expect (utf8 "∀") (drop at text) ≡ None → expect (utf8 "∃") (drop at text) ≡ None → sign (drop at text) ≡ None
+unfolding sign or_read means if_read
+no_sign text at e0 e1 e2 e3 e4 e5 = rw (e0, e1, e2, e3, e4, e5)

@@ -1,50 +1,70 @@
 -- What stands at a place of the text, as the reader of propositions finds it.
-use Rattle.std.specs.Prelude.{ℕ, zero, suc, ◌+◌, ◌<◌, ◌≤◌, ◌≡◌, Bool, true, false, List, [], ◌∷◌, length, get_or, drop, eqb, None, Some}
+use Rattle.std.specs.Prelude.{ℕ, zero, suc, ◌+◌, ◌<◌, ◌≤◌, ◌≡◌, Bool, true, false, List, [], ◌∷◌, length, get_or, drop, Some}
 use Rattle.definitions.specs.Name.{Name}
 use Rattle.definitions.specs.Prop as prop
-use Rattle.definitions.specs.Prop.{and, or, impl, PropParameter, Uninstantiated, Instantiated, quantifier_byte}
+use Rattle.definitions.specs.Prop.{PropParameter, Uninstantiated, Instantiated}
 use Rattle.definitions.specs.Sheet.{marked}
 use Rattle.definitions.specs.Code.{Read, encode_parameter}
-use Rattle.definitions.specs.TermReader.{connective, Sign, top, bottom, negation, bracket, binder, sign, name}
-use Rattle.definitions.specs.Text.{occurs}
+use Rattle.definitions.specs.TermReader as reader
+use Rattle.definitions.specs.TermReader.{connective, top, bottom, negation, bracket, binder, sign, name}
 use Rattle.definitions.proofs.Readings.{given}
 use Rattle.output.specs.Wrote.{puts}
 use Rattle.words.specs.Places.{between}
 use Rattle.words.specs.Table.{add_name, number_in, table_names, TooMany, Noted}
 use Rattle.prop_parts.specs.declared.NameRead.{NameRead}
-use Rattle.prop_parts.specs.declared.Connective.{Connective}
-use Rattle.prop_parts.specs.declared.Connective.TheVariants.{And, Or, Impl}
-
--- the connective as the program names it
-abbrev pub meant : Connective → prop.Connective
-meant And = and
-meant Or = or
-meant Impl = impl
+use Rattle.prefix_code.specs.declared.Connective.{Connective}
+use Rattle.prefix_code.specs.Shape.{meant}
+use Rattle.prefix_code.specs.declared.Quantifier.{Quantifier}
+use Rattle.prefix_code.specs.declared.Quantifier.TheVariants.{ForAll, Exists}
+use Rattle.prop_parts.specs.declared.Constant.{Constant}
+use Rattle.prop_parts.specs.declared.Constant.TheVariants.{Top, Bottom}
+use Rattle.prop_parts.specs.declared.Opening.{Opening}
+use Rattle.prop_parts.specs.declared.Opening.TheVariants.{Negation, Bracket, Binder}
+use Rattle.prop_parts.specs.declared.Sign.{Sign}
+use Rattle.prop_parts.specs.declared.Sign.TheVariants as read
+use Rattle.prop_parts.specs.declared.ParameterKind.{ParameterKind}
+use Rattle.prop_parts.specs.declared.ParameterKind.TheVariants as kinds
 
 -- the connective at a place
 pub record ConnectiveAt (text : List ℕ) (at : ℕ) (c : Connective) : Type 0 where
   pub within : at + 5 ≤ length text
   pub reads : connective (drop at text) ≡ given (meant c) (drop (at + 5) text)
 
--- the number of a sign: a head byte, 4 for a negation and 8 for a bracket; and how many bytes it has
-unfoldable pub sign_number : Sign → ℕ
-sign_number top = 0
-sign_number bottom = 1
-sign_number negation = 4
-sign_number bracket = 8
-sign_number (binder q) = quantifier_byte q
+-- a quantifier and a sign as the program names them
+abbrev pub quantifier_sign : Quantifier → prop.Quantifier
+quantifier_sign ForAll = prop.for_all
+quantifier_sign Exists = prop.exists
 
-unfoldable pub sign_size : Sign → ℕ
+abbrev pub constant_sign : Constant → reader.Sign
+constant_sign Top = top
+constant_sign Bottom = bottom
+
+-- the byte that is its code
+unfoldable pub constant_byte : Constant → ℕ
+constant_byte Top = 0
+constant_byte Bottom = 1
+
+abbrev pub opening_sign : Opening → reader.Sign
+opening_sign Negation = negation
+opening_sign Bracket = bracket
+opening_sign (Binder q) = binder (quantifier_sign q)
+
+abbrev pub found_sign : Sign → reader.Sign
+found_sign (read.Constant c) = constant_sign c
+found_sign (read.Opening o) = opening_sign o
+
+-- how many bytes a sign has
+unfoldable pub sign_size : reader.Sign → ℕ
 sign_size top = 3
 sign_size bottom = 3
 sign_size negation = 2
 sign_size bracket = 1
 sign_size (binder q) = 3
 
--- the sign at a place: its number, and 9 for none
-pub data SignAt (text : List ℕ) (at : ℕ) : ℕ → Type 0 where
-  signs : (g : Sign) → at + sign_size g ≤ length text → sign (drop at text) ≡ given g (drop (at + sign_size g) text) → SignAt text at (sign_number g)
-  signs_not : sign (drop at text) ≡ None → SignAt text at 9
+-- the sign at a place
+pub record SignAt (text : List ℕ) (at : ℕ) (g : Sign) : Type 0 where
+  pub within : at + sign_size (found_sign g) ≤ length text
+  pub reads : sign (drop at text) ≡ given (found_sign g) (drop (at + sign_size (found_sign g)) text)
 
 -- there is no name, or one too many
 abbrev pub NameLacks : List ℕ → ℕ → List ℕ → ℕ → Type 0
@@ -65,15 +85,17 @@ unfoldable pub bound_numbers : List ℕ → ℕ → List ℕ
 bound_numbers bound zero = []
 bound_numbers bound (suc n) = get_or bound n 0 ∷ bound_numbers bound n
 
-pub record BoundNumber (bound : List ℕ) (depth number : ℕ) (r : Bool) : Type 0 where
-  pub is : r ≡ occurs eqb number (bound_numbers bound depth)
+-- the kind of a parameter, by whether its name is bound
+abbrev pub kind_of : Bool → ParameterKind
+kind_of true = kinds.Uninstantiated
+kind_of false = kinds.Instantiated
 
 -- a parameter by its name's number: bound, or instantiated with id 0
-unfoldable pub parameter_of : Bool → ℕ → PropParameter ℕ
-parameter_of true x = Uninstantiated x
-parameter_of false x = Instantiated x 0
+unfoldable pub parameter_of : ParameterKind → ℕ → PropParameter ℕ
+parameter_of kinds.Uninstantiated x = Uninstantiated x
+parameter_of kinds.Instantiated x = Instantiated x 0
 
 -- the code of a parameter is stored from `to` on, and has so many bytes
-pub record ParameterPut (bound : Bool) (number : ℕ) (write : Bool) (before : List ℕ) (to : ℕ) (after : List ℕ) (size : ℕ) : Type 0 where
-  pub stored : after ≡ puts write before to (encode_parameter (parameter_of bound number))
-  pub size_is : size ≡ length (encode_parameter (parameter_of bound number))
+pub record ParameterPut (kind : ParameterKind) (number : ℕ) (write : Bool) (before : List ℕ) (to : ℕ) (after : List ℕ) (size : ℕ) : Type 0 where
+  pub stored : after ≡ puts write before to (encode_parameter (parameter_of kind number))
+  pub size_is : size ≡ length (encode_parameter (parameter_of kind number))

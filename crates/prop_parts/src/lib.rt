@@ -1,32 +1,41 @@
 // The parts of a label's text and of its code: signs, connectives and names, and the bytes that stand for them.
+// Where `write` is false nothing is stored, and the answer is the same, as each contract promises. Code may be put in front of code that
+// is stored (prop_frames), so an output's sink, which only goes on, would not serve.
 #![tactic(auto)]
 
-ghost use Rattle.std.specs.Prelude.{◌≡◌, ◌≤◌, ◌<◌, length, drop, None, MatchOption};
-ghost use Rattle.definitions.specs.Prop.{connective_byte};
+ghost use Rattle.std.specs.Prelude.{◌≡◌, ◌≤◌, ◌<◌, length, drop, eqb, None, MatchOption};
 ghost use Rattle.definitions.specs.Code.{u16};
-ghost use Rattle.definitions.specs.Display.{connective_precedence, wraps_left, wraps_right};
-ghost use Rattle.definitions.specs.TermReader.{Sign, connective, right_least};
+ghost use Rattle.definitions.specs.Text.{occurs};
+ghost use Rattle.definitions.specs.TermReader.{sign, connective};
 ghost use Rattle.definitions.specs.TermText.{term_text_limit};
 ghost use Rattle.output.specs.Wrote.{puts};
 ghost use Rattle.words.specs.Table.{Table};
-ghost use Rattle.prop_parts.specs.Found.{meant, ConnectiveAt, sign_number, sign_size, SignAt, NameLacks, NameGiven, BoundNumber, ParameterPut};
+ghost use Rattle.prop_parts.specs.Found.{ConnectiveAt, constant_byte, opening_sign, sign_size, SignAt, NameLacks, NameGiven, bound_numbers, kind_of, ParameterPut};
 
 use output::put;
-use prefix_code::{EXISTS, FALSE, FOR_ALL, IMPL, TRUE};
+use prefix_code::{Connective, Quantifier};
 use words::{expect, name_end, number_of_name};
 
-// What follows is in brackets: no head byte.
-pub const BRACKET: u8 = 8;
-
-// No sign stands here.
-pub const NO_HEAD: u8 = 9;
-
-// A connective, by the head byte of its code.
+// ⊤ or ⊥, by the head byte of its code.
 #[derive(Clone, Copy, PartialEq, Eq)]
-pub enum Connective {
-    And = 2,
-    Or = 3,
-    Impl = 4,
+pub enum Constant {
+    Top = 0,
+    Bottom = 1,
+}
+
+// What a part follows: the sign of a negation, of brackets or of a quantifier.
+#[derive(Clone, Copy)]
+pub enum Opening {
+    Negation,
+    Bracket,
+    Binder(Quantifier),
+}
+
+// How a proposition begins that begins with no name.
+#[derive(Clone, Copy)]
+pub enum Sign {
+    Constant(Constant),
+    Opening(Opening),
 }
 
 // The bytes of a connective with its blanks.
@@ -39,6 +48,8 @@ pub struct NameRead {
     pub number: usize,
     pub count: usize,
 }
+
+// The signs here stand with the blanks and the bracket that are expected with them; prop prints its signs without.
 
 // The connective at `at`.
 pub fn connective_at(text: &[u8], at: usize) -> Option<Connective>
@@ -57,104 +68,60 @@ pub fn connective_at(text: &[u8], at: usize) -> Option<Connective>
     None
 }
 
-// The sign at `at`: a head byte, IMPL for a negation, BRACKET, or NO_HEAD.
-pub fn sign_at(text: &[u8], at: usize) -> u8
+// The sign at `at`.
+pub fn sign_at(text: &[u8], at: usize) -> Option<Sign>
     requires { at ≤ length text.now }
-    ensures { SignAt text.now at result }
+    ensures { MatchOption result (sign (drop at text.now) ≡ None) (SignAt text.now at) }
 {
     if expect(text, at, b"\xE2\x8A\xA4").is_some() {
-        return TRUE;
+        return Some(Sign::Constant(Constant::Top));
     }
     if expect(text, at, b"\xE2\x8A\xA5").is_some() {
-        return FALSE;
+        return Some(Sign::Constant(Constant::Bottom));
     }
     if expect(text, at, b"\xC2\xAC").is_some() {
-        return IMPL;
+        return Some(Sign::Opening(Opening::Negation));
     }
     if expect(text, at, b"(").is_some() {
-        return BRACKET;
+        return Some(Sign::Opening(Opening::Bracket));
     }
     if expect(text, at, b"\xE2\x88\x80").is_some() {
-        return FOR_ALL;
+        return Some(Sign::Opening(Opening::Binder(Quantifier::ForAll)));
     }
     if expect(text, at, b"\xE2\x88\x83").is_some() {
-        return EXISTS;
+        return Some(Sign::Opening(Opening::Binder(Quantifier::Exists)));
     }
-    NO_HEAD
+    None
 }
 
-// How many bytes a sign has.
-pub fn sign_size(sign: u8) -> usize
-    ensures { (g : Sign) → sign ≡ sign_number g → result ≡ sign_size g }
-{
-    if sign == BRACKET {
-        return 1;
-    }
-    if sign == IMPL {
-        return 2;
-    }
-    3
-}
+// The bytes of ⊤ and of ⊥.
+pub const CONSTANT_SIZE: usize = 3;
 
-impl Connective {
+impl Constant {
     // The head byte of its code.
-    #[tactic(auto, unfolding(definitions::specs::Prop::connective_byte))]
+    #[tactic(auto, unfolding(crate::specs::Found::constant_byte))]
     pub fn byte(self) -> u8
-        ensures { result ≡ connective_byte (meant self) }
+        ensures { result ≡ constant_byte self }
     {
         self as u8
     }
+}
 
-    // How strongly it binds.
-    #[tactic(auto, unfolding(definitions::specs::Display::connective_precedence))]
-    pub fn strength(self) -> usize
-        ensures { result ≡ connective_precedence (meant self) }
+impl Opening {
+    // How many bytes it has.
+    #[tactic(auto, unfolding(crate::specs::Found::sign_size))]
+    pub fn size(self) -> usize
+        ensures { result ≡ sign_size (opening_sign self) }
     {
         match self {
-            Connective::And => 4,
-            Connective::Or => 3,
-            Connective::Impl => 2,
-        }
-    }
-
-    // How strongly its right side binds at least.
-    #[tactic(auto, unfolding(definitions::specs::TermReader::right_least))]
-    pub fn right_least(self) -> usize
-        ensures { result ≡ right_least (meant self) }
-    {
-        match self {
-            Connective::And => 5,
-            Connective::Or => 4,
-            Connective::Impl => 2,
-        }
-    }
-
-    // Whether a left side that binds so strongly is bracketed.
-    #[tactic(auto, unfolding(definitions::specs::Display::wraps_left))]
-    pub fn wraps_left(self, strength: usize) -> bool
-        ensures { result ≡ wraps_left (meant self) strength }
-    {
-        match self {
-            Connective::And => strength < 4,
-            Connective::Or => strength < 3,
-            Connective::Impl => strength <= 2,
-        }
-    }
-
-    // Whether a right side that binds so strongly is bracketed.
-    #[tactic(auto, unfolding(definitions::specs::Display::wraps_right))]
-    pub fn wraps_right(self, strength: usize) -> bool
-        ensures { result ≡ wraps_right (meant self) strength }
-    {
-        match self {
-            Connective::And => strength <= 4,
-            Connective::Or => strength <= 3,
-            Connective::Impl => strength < 2,
+            Opening::Negation => 2,
+            Opening::Bracket => 1,
+            Opening::Binder(_) => 3,
         }
     }
 }
 
-// The name at `at`, with its number; none where no name stands there or there are too many.
+// The name at `at`, with its number, the table given in parts as in `words`; none where no name stands there or there are too many.
 pub fn read_name(text: &[u8], at: usize, names: &mut [u8], count: usize) -> Option<NameRead>
     requires { Table names.old text.now count
         × (at ≤ length text.now) × (length text.now ≤ term_text_limit) }
@@ -178,32 +145,41 @@ pub fn put_u16(code: &mut [u8], to: usize, n: usize, write: bool)
     output::put_u16(code, to, n as u16, write);
 }
 
-// Whether a name is bound by one of so many quantifiers.
-#[tactic(auto, using(crate::proofs::Named::bound_here, crate::proofs::Named::bound_later), unfolding(crate::specs::Found::bound_numbers, definitions::specs::Text::occurs))]
-pub fn is_bound(bound: &[u16], depth: usize, number: usize) -> bool
-    requires { depth ≤ length bound.now }
-    ensures { BoundNumber bound.now depth number result }
-{
-    for i in (0..depth).rev() {
-        if usize::from(bound[i]) == number {
-            return true;
-        }
-    }
-    false
+// A parameter by its kind's byte: a name that a quantifier binds, or one with an id.
+#[derive(Clone, Copy, PartialEq, Eq)]
+pub enum ParameterKind {
+    Uninstantiated = 0,
+    Instantiated = 1,
 }
 
-// The code of a parameter: bound by a quantifier, or instantiated with id 0. Gives its size.
-pub fn put_parameter(code: &mut [u8], to: usize, number: usize, bound: bool, write: bool) -> usize
-    requires { (to < 200000) × (number < 65536) }
-    ensures { ParameterPut bound number write code.old to code.new result }
+// The kind of a parameter whose name has this number, where quantifiers bind names of these numbers.
+pub fn parameter_kind(bound: &[u16], number: usize) -> ParameterKind
+    ensures { result ≡ kind_of (occurs eqb number (bound_numbers bound.now (length bound.now))) }
 {
-    if bound {
-        put(code, to, 0, write);
-        put_u16(code, to + 1, number, write);
-        return 3;
+    if bound.iter().any(|b| usize::from(*b) == number) {
+        return ParameterKind::Uninstantiated;
     }
-    put(code, to, 1, write);
+    ParameterKind::Instantiated
+}
+
+// The code of a parameter, instantiated with id 0 where it is not bound. Gives its size.
+pub fn put_parameter(
+    code: &mut [u8],
+    to: usize,
+    number: usize,
+    kind: ParameterKind,
+    write: bool,
+) -> usize
+    requires { (to < 200000) × (number < 65536) }
+    ensures { ParameterPut kind number write code.old to code.new result }
+{
+    put(code, to, kind as u8, write);
     put_u16(code, to + 1, number, write);
-    put_u16(code, to + 3, 0, write);
-    5
+    match kind {
+        ParameterKind::Uninstantiated => 3,
+        ParameterKind::Instantiated => {
+            put_u16(code, to + 3, 0, write);
+            5
+        }
+    }
 }

@@ -24,7 +24,7 @@ use Rattle.words.specs.Places.{between, Expected, NameEnds}
 use Rattle.words.specs.Table.{add_name, added, TooMany, number_in, table_names, NamePlace, Noted, NumberOf}
 use Rattle.words.specs.declared.Numbered.{Numbered}
 use Rattle.words.proofs.Numbers.{names_length}
-use Rattle.prop_parts.specs.declared.Connective as read
+use Rattle.prefix_code.specs.declared.Connective as read
 use Rattle.prop_parts.specs.Found.{ConnectiveAt, bound_numbers}
 use Rattle.atom_reader.specs.declared.PropRead.{PropRead}
 use Rattle.prop_reader.specs.declared.LabelRead.{LabelRead}

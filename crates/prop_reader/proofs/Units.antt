@@ -1,5 +1,5 @@
 -- What a proposition begins with: an atom, or a sign with what belongs to it.
-use Prim.Native.Nat.{ℕ, zero, suc, ◌+◌, ◌*◌, ◌≤◌, ◌<◌}
+use Prim.Native.Nat.{ℕ, zero, suc, ◌+◌, ◌*◌, ◌≤◌}
 use mathlib.Core.Path.{◌≡◌, refl, sym, ap, ◌∙◌}
 use mathlib.Core.Bool.{Bool, true, false}
 use Rattle.std.specs.Prelude.{Option, None, Some}
@@ -10,16 +10,18 @@ use native.Mathlib.Decide.{dec_le}
 use lib.ListN.{length, drop, length-append}
 use Rattle.definitions.specs.Utf8.{utf8}
 use Rattle.definitions.specs.Name.{Name}
-use Rattle.definitions.specs.Prop.{Prop, connective_byte, for_all, exists, quantifier_byte, rename_prop}
+use Rattle.definitions.specs.Prop.{Prop, connective_byte, rename_prop}
 use Rattle.definitions.specs.Code.{Read, followed_by, ◌>>=◌, u16, encode}
 use Rattle.definitions.specs.TermText.{term_text_limit, prop_names, code_bytes}
-use Rattle.definitions.specs.TermReader.{Shown, standing, name, expect, if_read, Sign, top, bottom, negation, bracket, binder, sign, signed, atom_named, unit}
+use Rattle.definitions.specs.TermReader.{Shown, standing, name, expect, if_read, Sign, sign, signed, atom_named, unit}
 use Rattle.definitions.proofs.Readings.{given}
 use Rattle.reading_laws.proofs.TermConventions.{Gives, gives_yield, gives_none, gives_then, gives_due}
 use Rattle.output.specs.Wrote.{puts}
 use Rattle.words.specs.Table.{added, table_names}
 use Rattle.words.proofs.Added.{noted_then, met_added}
-use Rattle.prop_parts.specs.Found.{SignAt, signs, signs_not, sign_number, sign_size, bound_numbers}
+use Rattle.prop_parts.specs.declared.Constant.{Constant}
+use Rattle.prop_parts.specs.declared.Constant.TheVariants.{Top, Bottom}
+use Rattle.prop_parts.specs.Found.{constant_sign, sign_size, bound_numbers}
 use Rattle.atom_reader.specs.declared.Place.{Place}
 use Rattle.atom_reader.specs.declared.PropRead.{PropRead}
 use Rattle.atom_reader.specs.Scope.{Met}
@@ -29,25 +31,6 @@ use Rattle.atom_reader.proofs.Storing.{stored_then}
 use Rattle.atom_reader.proofs.Sizes.{code_length_lem, nesting_code, negation_bytes, quantified_bytes}
 use Rattle.atom_reader.proofs.Scopes.{added_meets, crowded_second}
 use Rattle.atom_reader.proofs.Readings.{gives_any}
-
--- the sign at a place, by its number
-pub sign_found : {text : List ℕ} {at n : ℕ} → SignAt text at n → (n ≡ 9 → ⊥)
-    → (g : Sign) × (n ≡ sign_number g) × (at + sign_size g ≤ length text) × (sign (drop at text) ≡ given g (drop (at + sign_size g) text))
-sign_found (signs g h e) k = (g, refl, h, e)
-sign_found (signs_not e) k = absurd (k refl)
-
-sign_below : (g : Sign) → sign_number g < 9
-unfolding sign_number quantifier_byte
-sign_below top = omega arith
-sign_below bottom = omega arith
-sign_below negation = omega arith
-sign_below bracket = omega arith
-sign_below (binder for_all) = omega arith
-sign_below (binder exists) = omega arith
-
-sign_lacks : {text : List ℕ} {at n : ℕ} → SignAt text at n → n ≡ 9 → sign (drop at text) ≡ None
-sign_lacks (signs g h e) k = absurd (omega (arith, sign_below g))
-sign_lacks (signs_not e) k = e
 
 -- what is read first decides
 module _ (part : Part) (names : List Name) (s : List ℕ) where
@@ -59,7 +42,7 @@ module _ (part : Part) (names : List Name) (s : List ℕ) where
   unfolding unit if_read followed_by
   unit_signed e f = rw (e, f) refl
 
-  unit_lacks : name s ≡ None → sign s ≡ None → unit part names s ≡ None
+  pub unit_lacks : name s ≡ None → sign s ≡ None → unit part names s ≡ None
   unfolding unit if_read followed_by
   unit_lacks e f = rw (e, f) refl
 
@@ -67,9 +50,6 @@ module _ (part : Part) (names : List Name) (s : List ℕ) where
 pub answers_none : {reading : Option (Read (Shown (Prop Name)))} {text pairs bound code after : List ℕ} {p : Place} {write : Bool}
     → reading ≡ None → PropAnswer reading text pairs bound code p write after bound code None
 answers_none e = record { answer = rw e (gives_none _); bound_kept = refl; dry = λ l. refl }
-
-pub no_unit : (part : Part) (names : List Name) {text : List ℕ} {at n : ℕ} → name (drop at text) ≡ None → SignAt text at n → n ≡ 9 → unit part names (drop at text) ≡ None
-no_unit part names e found k = unit_lacks part names _ e (sign_lacks found k)
 
 -- What belongs to a front.
 
@@ -238,14 +218,10 @@ begins_less fewer h pre = record {
 }
 
 -- ⊤ and ⊥ have three bytes
-pub constant_size : (g : Sign) {n : ℕ} → n ≡ sign_number g → n ≤ 1 → sign_size g ≡ 3
-unfolding sign_number sign_size quantifier_byte
-constant_size top e h = refl
-constant_size bottom e h = refl
-constant_size negation e h = absurd (omega arith)
-constant_size bracket e h = absurd (omega arith)
-constant_size (binder for_all) e h = absurd (omega arith)
-constant_size (binder exists) e h = absurd (omega arith)
+pub constant_size : (c : Constant) → sign_size (constant_sign c) ≡ 3
+unfolding sign_size
+constant_size Top = refl
+constant_size Bottom = refl
 
 -- the front is not read
 pub front_not : (part : Part) {g : Sign} {names : List Name} {text pairs bound code mid bound' code' : List ℕ} {p : Place} {write : Bool}

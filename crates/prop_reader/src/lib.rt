@@ -14,18 +14,20 @@ ghost use Rattle.prop_reader.specs.Answer.{LoneLacks, LoneEnds, DatatypeGiven, P
 
 use atom_reader::{Place, PropRead, read_atom};
 use caller_names::is_listed;
-use prefix_code::FALSE;
 use prop_frames::{close_prop, goes_on, join, open_front, part_least, read_constant};
-use prop_parts::{CONNECTIVE_SIZE, NO_HEAD, connective_at, sign_at};
+use prop_parts::{CONNECTIVE_SIZE, Sign, connective_at, sign_at};
 use words::{expect, name_end, number_of_name};
 
-// The limits of a label's proposition.
+// The limits of a label's proposition: those of a sheet's, which stand in a crate that is not below this one. Both are proved to be the
+// definitions' code_limit and proposition_nesting_limit.
 const CODE_LIMIT: usize = 8192;
 
 const NESTING_LIMIT: usize = 64;
 
 // Twice as many levels as a proposition may nest: brackets take one.
-const LEVELS: usize = 128;
+const LEVELS: usize = 2 * NESTING_LIMIT;
+
+// The readers are given `text`, `names`, `bound`, `code` and the place apart, and `write`, as in atom_reader and prop_frames.
 
 // An atom, a sign with what belongs to it, or a proposition in brackets, whose parts are read so many levels deep.
 #[cycle(read_prop_read_unit)]
@@ -48,17 +50,15 @@ fn read_unit(
     if let Some(end) = name_end(text, p.at) {
         return read_atom(text, names, bound, code, p, end, write);
     }
-    let sign = sign_at(text, p.at);
-    if sign == NO_HEAD {
-        return None;
+    match sign_at(text, p.at)? {
+        Sign::Constant(sign) => Some(read_constant(text, code, p, sign, write)),
+        Sign::Opening(sign) => {
+            let place = open_front(text, names, bound, code, p, sign, write)?;
+            let least = part_least(sign);
+            let part = read_prop(text, names, bound, code, place, levels, least, write)?;
+            close_prop(text, code, place.to, sign, part, write)
+        }
     }
-    if sign <= FALSE {
-        return Some(read_constant(text, code, p, sign, write));
-    }
-    let place = open_front(text, names, bound, code, p, sign, write)?;
-    let least = part_least(sign);
-    let part = read_prop(text, names, bound, code, place, levels, least, write)?;
-    close_prop(text, code, place.to, sign, part, write)
 }
 
 // A proposition that binds at least so strongly, read so many levels deep.
@@ -85,9 +85,8 @@ fn read_prop(
     }
     let to = p.to;
     let depth = p.depth;
-    let mut most = levels - 1;
-    let mut left = read_unit(text, names, bound, code, p, most, write)?;
-    while 0 < most {
+    let mut left = read_unit(text, names, bound, code, p, levels - 1, write)?;
+    for _ in 1..levels {
         let Some(connective) = goes_on(text, left.end, least) else {
             return Some(left);
         };
@@ -100,12 +99,12 @@ fn read_prop(
         let asked = connective.right_least();
         let right = read_prop(text, names, bound, code, place, levels - 1, asked, write)?;
         left = join(text, code, to, connective, left, right, write)?;
-        most -= 1;
     }
     Some(left)
 }
 
-// A label that was read: where it ends, its kind and number, how many names there are now, and where the next code begins.
+// A label that was read: where it ends, its kind and number, how many names there are now, and where the next code begins. The reader of
+// terms stores kind and number as they are, among the numbers of an entry, where kind 0 stands for no label.
 #[derive(Clone, Copy)]
 pub struct LabelRead {
     pub end: usize,

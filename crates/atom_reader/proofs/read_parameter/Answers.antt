@@ -21,4 +21,4 @@ put_parameter-size-requires c =
     (omega (arith, pre.near, pre.within, pre.short), omega (arith, read.below, read.noted.table.few))
 
 pub returns : goal.returns
-returns c ns b = parameter_given b c.in_ok-name.ensures c.is_bound-is.ensures c.put_parameter-size.ensures
+returns c ns b = parameter_given b c.in_ok-name.ensures (omega (arith, c.requires.deep)) c.parameter_kind-kind.ensures c.put_parameter-size.ensures

@@ -1,4 +1,4 @@
--- By the sign: a bracket, a negation, or else a quantifier.
+-- A bracket, a negation, or a quantifier.
 use mathlib.Core.Path.{◌≡◌}
 use Rattle.std.specs.Prelude.{None}
 use borrow.Author.Rules.{rules}
@@ -6,29 +6,29 @@ use Rattle.prop_frames.proofs.Fronts.{is_bracketed, is_negated, closes_bracket_n
 use Rattle.prop_frames.proofs.close_prop.Goals as goal
 
 pub returns-then-part : goal.returns-then-part
-returns-then-part c f q e m = rw (is_bracketed c.if-sign-eq-BRACKET.true f e) (closes_bracket_not m c.if-part.true)
+returns-then-part c f q e m = rw (is_bracketed f (rw c.in-Bracket.is at e)) (closes_bracket_not m c.if-part.true)
 
-pub returns-in_err-end : goal.returns-in_err-end
-returns-in_err-end c f q e m =
+pub returns-in_err-end-in-Bracket : goal.returns-in_err-end-in-Bracket
+returns-in_err-end-in-Bracket c f q e m =
     let none : c.from_residual.result ≡ None = search rules in
-    rw (is_bracketed c.if-sign-eq-BRACKET.true f e, none) (closes_bracket_open m c.in_err-end.ensures)
+    rw (is_bracketed f (rw c.in-Bracket.is at e), none) (closes_bracket_open m c.in_err-end-in-Bracket.ensures)
 
-pub returns-then-sign-eq-BRACKET : goal.returns-then-sign-eq-BRACKET
-returns-then-sign-eq-BRACKET c f q e m =
-    rw (is_bracketed c.if-sign-eq-BRACKET.true f e) (closes_bracket m c.if-part.false c.in_ok-end.ensures)
+pub returns-in_ok-end-in-Bracket : goal.returns-in_ok-end-in-Bracket
+returns-in_ok-end-in-Bracket c f q e m =
+    rw (is_bracketed f (rw c.in-Bracket.is at e)) (closes_bracket m c.if-part.false c.in_ok-end-in-Bracket.ensures)
 
 pub returns-then-not-agree : goal.returns-then-not-agree
 returns-then-not-agree c f q e m =
-    rw (is_negated c.if-sign-eq-IMPL.true f e) (closes_negation_not m c.agree.ensures c.if-not-agree.true)
+    rw (is_negated f (rw c.in-Negation.is at e)) (closes_negation_not m c.agree.ensures c.if-not-agree.true)
 
-pub returns-then-sign-eq-IMPL : goal.returns-then-sign-eq-IMPL
-returns-then-sign-eq-IMPL c f q e m =
-    rw (is_negated c.if-sign-eq-IMPL.true f e, c.enclosing.ensures)
+pub returns-else-not-agree : goal.returns-else-not-agree
+returns-else-not-agree c f q e m =
+    rw (is_negated f (rw c.in-Negation.is at e), c.enclosing.ensures)
     (closes_negation m c.agree.ensures c.if-not-agree.false (search rules) c.put.ensures.stored)
 
 pub returns-then-part-2 : goal.returns-then-part-2
-returns-then-part-2 c f q e m = closes_quantifier_not m c.if-sign-eq-BRACKET.false c.if-sign-eq-IMPL.false f e c.if-part-2.true
+returns-then-part-2 c f q e m = closes_quantifier_not m _ f (rw c.in-Binder.is at e) c.if-part-2.true
 
-pub returns : goal.returns
-returns c f q e m =
-    rw c.enclosing-2.ensures (closes_quantifier m c.if-sign-eq-BRACKET.false c.if-sign-eq-IMPL.false f e c.if-part-2.false (search rules))
+pub returns-else-part-2 : goal.returns-else-part-2
+returns-else-part-2 c f q e m =
+    rw c.enclosing-in-Binder.ensures (closes_quantifier m _ f (rw c.in-Binder.is at e) c.if-part-2.false (search rules))

@@ -1,7 +1,8 @@
 -- One byte.
-use Rattle.prop_frames.proofs.Constants.{constant}
+use mathlib.Core.Path.{◌∙◌}
+use Rattle.prop_frames.proofs.Constants.{constant, same_bottom}
 use Rattle.prop_frames.proofs.read_constant.Goals as goal
 
 pub returns : goal.returns
-returns c g part ns pairs bound e l table =
-    constant part ns g e l table c.requires.0 c.put.ensures.stored
+returns c = λ part ns pairs bound table.
+    constant part ns c.args.sign c.byte.ensures (c.eq.ensures ∙ same_bottom c.args.sign) table c.requires.0 c.put.ensures.stored

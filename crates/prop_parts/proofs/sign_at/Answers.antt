@@ -52,7 +52,7 @@ returns-then-is_some-6 c =
 
 pub returns : goal.returns
 returns c =
-    no_sign
+    no_sign c.args.text.now c.args.at
     (stands_not (utf8 "⊤") c.args.text.now c.args.at c.expect.result c.expect.ensures (sym c.is_some.ensures ∙ c.if-is_some.false))
     (stands_not (utf8 "⊥") c.args.text.now c.args.at c.expect-2.result c.expect-2.ensures (sym c.is_some-2.ensures ∙ c.if-is_some-2.false))
     (stands_not (utf8 "¬") c.args.text.now c.args.at c.expect-3.result c.expect-3.ensures (sym c.is_some-3.ensures ∙ c.if-is_some-3.false))

@@ -1,5 +1,5 @@
 -- The calls end by the levels: a unit's parts are a level deeper than it, and so are the sides after it.
-use Prim.Native.Nat.{◌+◌, ◌*◌}
+use Prim.Native.Nat.{◌+◌, ◌-◌, ◌*◌}
 use Rattle.prop_reader.proofs.Chains.{Turned}
 use Rattle.prop_reader.proofs.+read_prop_read_unit.Given as goal
 
@@ -9,9 +9,6 @@ decreases-read_prop l = 2 * l.levels
 abbrev pub decreases-read_unit : goal.decreases-read_unit
 decreases-read_unit l = 2 * l.levels + 1
 
-abbrev pub invariant-read_prop-loop-most : goal.invariant-read_prop-loop-most
-invariant-read_prop-loop-most l =
-    Turned l.text l.levels l.least l.write l.to l.depth l.initial.names l.initial.bound l.initial.code l.initial.left l.initial.most l.names l.bound l.code l.left l.most
-
-abbrev pub decreases-read_prop-loop-most : goal.decreases-read_prop-loop-most
-decreases-read_prop-loop-most l = l.most
+abbrev pub invariant-read_prop-loop : goal.invariant-read_prop-loop
+invariant-read_prop-loop l =
+    Turned l.text l.levels l.least l.write l.to l.depth l.initial.names l.initial.bound l.initial.code l.initial.left (l.levels - l.initial.counter) l.names l.bound l.code l.left (l.levels - l.counter)
