@@ -2,7 +2,8 @@
 use Prim.Native.Nat.{ℕ, ◌<◌}
 use mathlib.Core.Path.{◌≡◌, refl}
 use mathlib.Core.Logic.{◌⊎◌, inl, inr}
-use Rattle.std.specs.Prelude.{None, Some, Ok, Err}
+use Rattle.std.specs.Prelude.{Option, None, Some, Ok, Err}
+use Rattle.std.specs.Option.{ok_or}
 use mathlib.Core.List.{List}
 use native.Mathlib.Omega.{arith}
 use Rattle.definitions.specs.Outcome.{Outcome, accepted, map_outcome, refuse}
@@ -26,10 +27,11 @@ use Rattle.steps.specs.declared.Judgement.{Judgement}
 use Rattle.steps.specs.declared.Conclusion.{Conclusion}
 use Rattle.steps.specs.declared.Conclusion.TheVariants.{PropIsTrue, TypeJudgement}
 use Rattle.proof_term.specs.Records.{label_of, parameter_label}
+use Rattle.proof_tree.specs.declared.conclusion.Label as program
 use Rattle.proof_tree.specs.declared.table.Ending.{Ending}
 use Rattle.proof_tree.specs.declared.table.Ending.TheVariants.{Bare, Ascribed, LeftLabelled, DatatypeLabelled, PremissOwn}
 use Rattle.proof_tree.specs.Table.{ending_of}
-use Rattle.proof_tree.specs.Labelling.{left_label_of, datatype_label_of, parameter_label_of, Means, stands, judges, Annotated, labelled, refuses}
+use Rattle.proof_tree.specs.Labelling.{left_label_of, datatype_label_of, parameter_label_of, Means, stands, judges, Annotated, labelled, refuses, label_or}
 use Rattle.proof_tree.specs.Opening.{Readable}
 use Rattle.proof_tree.proofs.Conclusions.{shaped, left_fits, datatype_fits, implication_label_lem, other_connective, no_binary, universal_label_lem, other_quantifier, no_quantified}
 
@@ -48,6 +50,12 @@ pub unlabelled : (names : ℕ) (pairs code : List ℕ) (e : Ending) (c : Conclus
 unfolding parameter_label
 unlabelled names pairs code e c k m h =
     labelled {l = record { kind = 0; number = 0 }} (record { is = no_parameter e k m h; known = omega arith; left = λ z. absurd (omega arith) })
+
+-- a label that was found, or the refusal in its place
+pub or_refused : {names : ℕ} {pairs code : List ℕ} {c : Conclusion} {outcome : Outcome (Option (term.Label ℕ))} {number k : ℕ} {x : Refusal} (o : Option program.Label)
+    → x ≡ record { number = number; place = k } → Annotated names pairs code c outcome (label_or number k o) → Annotated names pairs code c outcome (ok_or o x)
+or_refused None is a = rw is a
+or_refused (Some l) is a = a
 
 -- a proposition that stands at its pair's offset
 pub record Stated (names : ℕ) (pairs code : List ℕ) (p : ℕ) (m : ProofTreeConclusion ℕ) : Type 0 where

@@ -114,7 +114,7 @@ refusal_of (labelling.refuses e) = e
 pub record Visited (names : ℕ) (pairs code records : List ℕ) (k : ℕ) (mode : own.ReasoningMode) (row : Row) (e : own-ending.Ending) (z : view.Step) : Type 0 where
   pub good : GoodStep names pairs code records k
   pub is_row : TableRow (rule_in records k) row
-  pub ends : ending_of e ≡ ending_at (mode_of mode) (ending_of row.3)
+  pub ends : ending_of e ≡ ending_at (mode_of mode) (ending_of row.ending)
   pub bytes : Bytes code
   pub is_step : z ≡ step_at records k
 
@@ -142,14 +142,14 @@ module _ {names : ℕ} {pairs code records : List ℕ} {k : ℕ} {mode : own.Rea
   unfolding ◌>>=◌
   label_refused {r} ts a is = rw is (refuses {r = r} (placed_is ts ∙ rw (refusal_of a)))
 
-  step_term_is : (l : Option (Label ℕ)) (ts : List (ProofTerm ℕ)) → term_over row.4 z.first.name z.second.name l ts ≡ step_term (step_in names pairs code records k) l ts
+  step_term_is : (l : Option (Label ℕ)) (ts : List (ProofTerm ℕ)) → term_over row.term z.first.name z.second.name l ts ≡ step_term (step_in names pairs code records k) l ts
   unfolding step_in identifier_in step_term term_over step_at identifier_at
   step_term_is l ts = rw (v.is_step, v.is_row.term_is)
 
   -- The rule's term, with its label.
-  module _ {kind number first second third used next : ℕ} {before after : List ℕ} (l : LabelOf names pairs code c label kind number) (made : MadeTerm row.4 z.first.name z.second.name kind number first second third before used after next) where
+  module _ {kind number first second third used next : ℕ} {before after : List ℕ} (l : LabelOf names pairs code c label kind number) (made : MadeTerm row.term z.first.name z.second.name kind number first second third before used after next) where
     abbrev pub parts : (ℕ → Prop ℕ) → List (ProofTerm ℕ)
-    parts props = part_terms (term_at props before) row.0 (first ∷ second ∷ third ∷ [])
+    parts props = part_terms (term_at props before) row.fewest (first ∷ second ∷ third ∷ [])
 
     abbrev pub ts : List (ProofTerm ℕ)
     ts = parts (prop_at names code)
@@ -168,7 +168,7 @@ module _ {names : ℕ} {pairs code records : List ℕ} {k : ℕ} {mode : own.Rea
     labels m offset h i has = let (one, same) = made.labels m offset h i has in rw same (left_offset v.good v.bytes concluded number (l.left one))
 
     pub term_answer : (e ≡ Ascribed → ⊥)
-        → Answered names pairs code records k (placed ts) before used parts (used + 1 - row.0) (used + 2) after (Ok next)
+        → Answered names pairs code records k (placed ts) before used parts (used + 1 - row.fewest) (used + 2) after (Ok next)
     term_answer other =
         gives {next = next} (record {
           holds = placed_term_lem ∙ unascribed e (step_in names pairs code records k) (term_at (prop_at names code) after (next - 1)) other;
@@ -191,7 +191,7 @@ module _ {names : ℕ} {pairs code records : List ℕ} {k : ℕ} {mode : own.Rea
         rw (same_number offset (pair_offset pairs p) number) (whole_offset v.good v.bytes concluded p hc))
 
     pub ascribed_answer : {final : List ℕ} {r : Result ℕ Refusal} → e ≡ Ascribed → Ascription names pairs code k c (conclusion_in names pairs code records k) after next final r
-        → Answered names pairs code records k (placed ts) before used parts (used + 1 - row.0) (used + 2) final r
+        → Answered names pairs code records k (placed ts) before used parts (used + 1 - row.fewest) (used + 2) final r
     unfolding finishing ending_of step_in ascription_label ◌>>=◌ refuse
     ascribed_answer {final} he (is_refused {r = r} none13 is) = refuses {r = r} (placed_term_lem ∙ rw (he, none13, is))
     ascribed_answer {final} he (is_ascribed {next = last} hc is more) =

@@ -7,7 +7,7 @@ use native.Mathlib.Omega.{arith}
 use native.Mathlib.Decide.{dec_lt}
 use native.Mathlib.Numerals.{add-one}
 use lib.ListN.{length, get_or, take, drop, set, length-set, length-map, length-take, drop_of_length-le, get_or-map}
-use lib.Seq.{take-suc-set, drop-cons, get_or-take, get_or-set_same, get_or-set_other}
+use lib.Seq.{take-suc-set, drop-cons, get_or-set_same, get_or-set_other}
 use borrow.Author.Count.{below_more}
 use Rattle.definitions.specs.Outcome.{Outcome, accepted, refused, ◌>>=◌}
 use Rattle.definitions.specs.declared.Refusal.{Refusal}
@@ -25,6 +25,7 @@ use Rattle.proof_tree.specs.declared.table.RuleTerm.{RuleTerm}
 use Rattle.proof_tree.specs.declared.table.RuleTerm.TheVariants.{Premiss}
 use Rattle.proof_tree.specs.declared.table.Row.{Row}
 use Rattle.prefix_code.specs.PropAt.{prop_at}
+use Rattle.proof_tree.specs.declared.table.PremissMode.TheVariants.{Own}
 use Rattle.proof_tree.specs.Table.{part_count, premiss_mode, TableRow}
 use Rattle.proof_tree.specs.Premisses.{premisses_from, PremissStep}
 use Rattle.proof_tree.specs.Terms.{first_three, part_terms, terms_labels, Parts}
@@ -98,7 +99,7 @@ module _ {pairs code records : List ℕ} {k : ℕ} where
 
 -- the premisses from position i on are still to be read: what those before them gave is held by the parts
 pub record PremissesRead (names : ℕ) (pairs code records : List ℕ) (k : ℕ) (mode : Place) (row : Row) (before : List ℕ) (used i : ℕ) (parts terms : List ℕ) (next : ℕ) : Type 0 where
-  pub position : i ≤ row.0
+  pub position : i ≤ row.fewest
   pub three : length parts ≡ 3
   pub left : export_all (premisses_from names pairs code records k 0) (places (rule_in records k) mode)
       ≡ (export_all (premisses_from names pairs code records k i) (drop i (places (rule_in records k) mode)) >>= λ ts. accepted (part_terms (term_at (prop_at names code) terms) i parts ++ ts))
@@ -130,14 +131,14 @@ read_none names pairs code records k mode row terms used =
 
 module _ {names : ℕ} {pairs code records : List ℕ} {k : ℕ} {mode : Place} {row : Row} {before : List ℕ} {used i : ℕ} {parts terms : List ℕ} {next : ℕ} (is_row : TableRow (rule_in records k) row) (read : PremissesRead names pairs code records k mode row before used i parts terms next) where
   -- The premiss of position i, which step q finishes, in its mode m.
-  module _ {q : ℕ} {m : Place} (h : i < row.0) (p : PremissStep records k i q) (in-mode : m ≡ premiss_mode mode (get_or row.2 i 0)) where
+  module _ {q : ℕ} {m : Place} (h : i < row.fewest) (p : PremissStep records k i q) (in-mode : m ≡ premiss_mode mode (get_or (take row.fewest row.modes) i Own)) where
     next_mode : drop i (places (rule_in records k) mode) ≡ m ∷ drop (i + 1) (places (rule_in records k) mode)
     next_mode =
-        let l = map (premiss_mode mode) (take row.0 row.2) in
-        let long : i < length l = rw (length-map (take row.0 row.2) (premiss_mode mode), length-take) (omega (arith, is_row.few, is_row.three)) in
-        let here : get_or l i (premiss_mode mode 0) ≡ m =
-        get_or-map (premiss_mode mode) (take row.0 row.2) i 0 ∙ (ap (premiss_mode mode) (get_or-take row.0 row.2 i 0 h) ∙ sym in-mode) in
-        rw (← (is_row.modes_are mode), add-one) (drop-cons l i (premiss_mode mode 0) long ∙ ap (λ n. n ∷ drop (suc i) l) here)
+        let l = map (premiss_mode mode) (take row.fewest row.modes) in
+        let long : i < length l = rw (length-map (take row.fewest row.modes) (premiss_mode mode), length-take) (omega (arith, is_row.few, is_row.three)) in
+        let here : get_or l i (premiss_mode mode Own) ≡ m =
+        get_or-map (premiss_mode mode) (take row.fewest row.modes) i Own ∙ sym in-mode in
+        rw (← (is_row.modes_are mode), add-one) (drop-cons l i (premiss_mode mode Own) long ∙ ap (λ n. n ∷ drop (suc i) l) here)
 
     tree : ProofTree ℕ
     tree = tree_in names pairs code records q
@@ -198,21 +199,21 @@ module _ {names : ℕ} {pairs code records : List ℕ} {k : ℕ} {mode : Place} 
           }
 
   -- all that are read have been
-  pub read_all : i ≡ row.0 → export_all (premisses_from names pairs code records k 0) (places (rule_in records k) mode) ≡ accepted (part_terms (term_at (prop_at names code) terms) row.0 (first_three parts))
+  pub read_all : i ≡ row.fewest → export_all (premisses_from names pairs code records k 0) (places (rule_in records k) mode) ≡ accepted (part_terms (term_at (prop_at names code) terms) row.fewest (first_three parts))
   unfolding ◌>>=◌
   read_all e =
-      let l = map (premiss_mode mode) (take row.0 row.2) in
-      let long : length l ≤ i = rw (length-map (take row.0 row.2) (premiss_mode mode), length-take) (omega arith) in
+      let l = map (premiss_mode mode) (take row.fewest row.modes) in
+      let long : length l ≤ i = rw (length-map (take row.fewest row.modes) (premiss_mode mode), length-take) (omega arith) in
       let over : drop i (places (rule_in records k) mode) ≡ [] = rw (← (is_row.modes_are mode)) (drop_of_length-le l long) in
       read.left ∙ rw (over, no_modes, append-nil, e, ← (three_parts parts read.three))
 
   -- the parts of the step's term are earlier records, and there is room for two more
-  pub read_parts : i ≡ row.0 → record_size * (next + 2) ≤ length terms → next + 1 ≤ 65536
-      → Parts row.4 (get_or parts 0 0) (get_or parts 1 0) (get_or parts 2 0) terms next × Room terms (next + 1)
+  pub read_parts : i ≡ row.fewest → record_size * (next + 2) ≤ length terms → next + 1 ≤ 65536
+      → Parts row.term (get_or parts 0 0) (get_or parts 1 0) (get_or parts 2 0) terms next × Room terms (next + 1)
   read_parts e room few = (
     record {
       room = record { room = omega arith; few = omega arith };
-      earlier = rw is_row.parts_are (each_part (λ part. part < next) parts row.0 is_row.few (λ j l. read.earlier j (omega arith)));
+      earlier = rw is_row.parts_are (each_part (λ part. part < next) parts row.fewest is_row.few (λ j l. read.earlier j (omega arith)));
       newest = λ own. read.newest 0 (omega (arith, own_parts own, is_row.parts_are));
     },
     record { room = omega arith; few = few },

@@ -4,7 +4,7 @@ use mathlib.Core.Path.{◌≡◌, refl, ap, sym, ◌∙◌}
 use Rattle.std.specs.Prelude.{Option}
 use mathlib.Core.List.{List, [], ◌∷◌, map}
 use native.Mathlib.Omega.{arith}
-use lib.ListN.{length, get_or, take}
+use lib.ListN.{length, get_or, take, length-take}
 use Rattle.definitions.specs.Term.{Label, ProofTerm}
 use Rattle.definitions.specs.Tree as tree
 use Rattle.definitions.specs.Tree.{ProofTreeRule, rules}
@@ -34,14 +34,14 @@ pub record Columns : Type 0 where
 abbrev pub of_row : Row → Columns
 of_row w =
     record {
-      fewest = w.0;
-      three = min 3 w.0;
-      width = length w.2;
-      parts = part_count w.4;
-      most = w.1;
-      modes = λ own. map (premiss_mode own) (take w.0 w.2);
-      ending = ending_of w.3;
-      term = term_of w.4;
+      fewest = w.fewest;
+      three = min 3 w.fewest;
+      width = length w.modes;
+      parts = part_count w.term;
+      most = w.most;
+      modes = λ own. map (premiss_mode own) (take w.fewest w.modes);
+      ending = ending_of w.ending;
+      term = term_of w.term;
     }
 
 abbrev pub of_rule : ProofTreeRule → Columns
@@ -82,3 +82,7 @@ table_row table w e i h =
       term_is = ap (λ (c : Columns). c.term) same;
       parts_are = ap (λ (c : Columns). c.parts) same ∙ sym fewest_is;
     }
+
+-- there is a mode for each premiss that is read
+pub reads_all : {r : ProofTreeRule} {w : Row} → TableRow r w → length (take w.fewest w.modes) ≡ w.fewest
+reads_all is = rw length-take (omega (arith, is.few, is.three))

@@ -58,6 +58,11 @@ pub data Annotated (names : ℕ) (pairs code : List ℕ) (conclusion : Conclusio
       → Annotated names pairs code conclusion outcome (Ok l)
   refuses : {r : Refusal} → outcome ≡ refused r → Annotated names pairs code conclusion outcome (Err r)
 
+-- a label that was found, or a refusal of a number at a step
+abbrev pub label_or : ℕ → ℕ → Option program.Label → Result program.Label Refusal
+label_or number k None = Err (record { number = number; place = k })
+label_or number k (Some l) = Ok l
+
 -- the answer to a question about a conclusion, with whatever count of names its code is read
 abbrev pub AnnotationOf : (ProofTreeConclusion ℕ → Outcome (Option (Label ℕ))) → List ℕ → List ℕ → Conclusion → Result program.Label Refusal → Type 0
 AnnotationOf label pairs code conclusion r =

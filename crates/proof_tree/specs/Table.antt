@@ -1,5 +1,5 @@
 -- Document 01's table of places and labels, as the program's rows have it.
-use Rattle.std.specs.Prelude.{ℕ, ◌≤◌, ◌≡◌, [], ◌∷◌, map, length, get_or, take, Option}
+use Rattle.std.specs.Prelude.{ℕ, ◌≤◌, ◌≡◌, map, length, take, Option}
 use Rattle.definitions.specs.Tree.{ProofTreeRule}
 use Rattle.definitions.specs.Term as term
 use Rattle.definitions.specs.Term.{Label, ProofTerm}
@@ -11,6 +11,8 @@ use Rattle.proof_tree.specs.declared.table.Ending.{Ending}
 use Rattle.proof_tree.specs.declared.table.Ending.TheVariants.{Bare, Ascribed, LeftLabelled, DatatypeLabelled, PremissOwn}
 use Rattle.proof_tree.specs.declared.table.RuleTerm.{RuleTerm}
 use Rattle.proof_tree.specs.declared.table.RuleTerm.TheVariants.{Pair, ProjectFst, ProjectSnd, Unit, Function, Application, Ident, OrLeft, OrRight, Case, Abort, LetIn, Sorry, Premiss}
+use Rattle.proof_tree.specs.declared.table.PremissMode.{PremissMode}
+use Rattle.proof_tree.specs.declared.table.PremissMode.TheVariants as mode
 use Rattle.proof_tree.specs.declared.table.Row.{Row}
 
 unfoldable pub mode_of : ReasoningMode → export.Place
@@ -69,17 +71,20 @@ most any = 255
 most (exactly n) = n
 most one_or_more = 255
 
--- the mode of a premiss, by its number in the row and its step's own mode
-unfoldable pub premiss_mode : export.Place → ℕ → export.Place
-premiss_mode own n = get_or (own ∷ checking ∷ inferring ∷ []) n own
+-- the mode of a premiss, by its step's own mode
+unfoldable pub premiss_mode : export.Place → PremissMode → export.Place
+premiss_mode own mode.Own = own
+premiss_mode own mode.Checking = checking
+premiss_mode own mode.Inferring = inferring
+premiss_mode own mode.Unread = own
 
 -- the row of a rule
 pub record TableRow (r : ProofTreeRule) (w : Row) : Type 0 where
-  pub fewest_is : w.0 ≡ fewest (row r).premisses
-  pub most_is : w.1 ≡ most (row r).premisses
-  pub few : w.0 ≤ 3
-  pub three : length w.2 ≡ 3
-  pub modes_are : (own : export.Place) → map (premiss_mode own) (take w.0 w.2) ≡ places r own
-  pub ending_is : ending_of w.3 ≡ ending r
-  pub term_is : term_of w.4 ≡ rule_term r
-  pub parts_are : part_count w.4 ≡ w.0
+  pub fewest_is : w.fewest ≡ fewest (row r).premisses
+  pub most_is : w.most ≡ most (row r).premisses
+  pub few : w.fewest ≤ 3
+  pub three : length w.modes ≡ 3
+  pub modes_are : (own : export.Place) → map (premiss_mode own) (take w.fewest w.modes) ≡ places r own
+  pub ending_is : ending_of w.ending ≡ ending r
+  pub term_is : term_of w.term ≡ rule_term r
+  pub parts_are : part_count w.term ≡ w.fewest

@@ -1,8 +1,8 @@
 // A step's conclusion, as it is taken apart for a label.
-ghost use Rattle.std.specs.Prelude.{◌<◌};
+ghost use Rattle.std.specs.Prelude.{ℕ, ◌<◌};
 ghost use Rattle.proof_tree.specs.Table.{ending_of};
 ghost use Rattle.proof_tree.specs.Opening.{Readable};
-ghost use Rattle.proof_tree.specs.Labelling.{left_label_of, datatype_label_of, parameter_label_of, AnnotationOf};
+ghost use Rattle.proof_tree.specs.Labelling.{left_label_of, datatype_label_of, parameter_label_of, label_or, AnnotationOf};
 
 use crate::table::Ending;
 use definitions::Refusal;
@@ -18,54 +18,48 @@ pub struct Label {
     pub number: u16,
 }
 
-// The left side of the implication that step k concludes.
-fn left_label(pairs: &[u8], code: &[u8], conclusion: Conclusion, k: usize) -> Result<Label, Refusal>
-    requires { (k < 65536) × Readable pairs.now code.now conclusion }
-    ensures { AnnotationOf (left_label_of k) pairs.now code.now conclusion result }
+// The left side of an implication, if the conclusion is one.
+fn left_label(pairs: &[u8], code: &[u8], conclusion: Conclusion) -> Option<Label>
+    requires { Readable pairs.now code.now conclusion }
+    ensures { (k : ℕ) → AnnotationOf (left_label_of k) pairs.now code.now conclusion (label_or 14 k result) }
 {
     let Conclusion::PropIsTrue(p) = conclusion else {
-        return Err(Refusal::at(14, k));
+        return None;
     };
     let at = pair_offset(pairs, p as usize);
     let Shape::Binary { connective, left } = shape_at(code, at) else {
-        return Err(Refusal::at(14, k));
+        return None;
     };
     if connective != Connective::Impl {
-        return Err(Refusal::at(14, k));
+        return None;
     }
-    Ok(Label {
+    Some(Label {
         kind: PROPOSITION as u16,
         number: left as u16,
     })
 }
 
-// The datatype of the ∀ that step k concludes.
-fn datatype_label(
-    pairs: &[u8],
-    code: &[u8],
-    conclusion: Conclusion,
-    k: usize,
-) -> Result<Label, Refusal>
-    requires { (k < 65536) × Readable pairs.now code.now conclusion }
-    ensures { AnnotationOf (datatype_label_of k) pairs.now code.now conclusion result }
+// The datatype of a ∀, if the conclusion is one.
+fn datatype_label(pairs: &[u8], code: &[u8], conclusion: Conclusion) -> Option<Label>
+    requires { Readable pairs.now code.now conclusion }
+    ensures { (k : ℕ) → AnnotationOf (datatype_label_of k) pairs.now code.now conclusion (label_or 15 k result) }
 {
     let Conclusion::PropIsTrue(p) = conclusion else {
-        return Err(Refusal::at(15, k));
+        return None;
     };
     let at = pair_offset(pairs, p as usize);
     let Shape::Quantified {
         quantifier,
-        object: _,
         datatype,
-        body: _,
+        ..
     } = shape_at(code, at)
     else {
-        return Err(Refusal::at(15, k));
+        return None;
     };
     if quantifier != Quantifier::ForAll {
-        return Err(Refusal::at(15, k));
+        return None;
     }
-    Ok(Label {
+    Some(Label {
         kind: DATATYPE as u16,
         number: datatype as u16,
     })
@@ -84,8 +78,10 @@ pub fn annotation_of(
         pairs.now code.now conclusion result }
 {
     match ending {
-        Ending::LeftLabelled => left_label(pairs, code, conclusion, k),
-        Ending::DatatypeLabelled => datatype_label(pairs, code, conclusion, k),
+        Ending::LeftLabelled => left_label(pairs, code, conclusion).ok_or(Refusal::at(14, k)),
+        Ending::DatatypeLabelled => datatype_label(pairs, code, conclusion).ok_or(Refusal::at(
+            15, k,
+        )),
         Ending::Bare | Ending::Ascribed | Ending::PremissOwn => Ok(Label {
             kind: NO_LABEL as u16,
             number: 0,

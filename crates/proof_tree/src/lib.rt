@@ -1,5 +1,6 @@
 // From the steps of a sheet to the records of its term (source document 000).
-// The count of names, by which propositions are read from their code, is passed on for the contracts alone.
+// The count of names, by which propositions are read from their code, is passed on for the contracts alone. The slices that the walk
+// reads travel one by one: in a struct each clause below would name them field by field, as `steps.now.records.now`.
 #![tactic(auto)]
 
 mod conclusion;
@@ -27,7 +28,7 @@ use proof_term::{PROPOSITION, type_ascription};
 use step::premiss;
 use steps::{Conclusion, premiss_count, rule_byte, step_at};
 pub use table::ReasoningMode;
-use table::{Ending, Row, admits_count, expected_premisse_mode, row_of};
+use table::{Ending, Row, row_of};
 use term::rule_term;
 
 // Ascribes the newest term with the conclusion of its step k.
@@ -49,7 +50,7 @@ fn wrap_into_type_ascription(
     Ok(type_ascription(term_records, used, used - 1, PROPOSITION as u16, at as u16))
 }
 
-// The ending of a step's term in its mode: in checking mode no term is labelled.
+// The ending of a step's term in its mode, as the enum of the table has it: in checking mode no term is labelled.
 fn ending_in(mode: ReasoningMode, ending: Ending) -> Ending
     ensures { ending_of result ≡ ending_at (mode_of mode) (ending_of ending) }
 {
@@ -59,7 +60,8 @@ fn ending_in(mode: ReasoningMode, ending: Ending) -> Ending
     }
 }
 
-// The term of step k in its mode, over the records of its premisses' terms.
+// The term of step k in its mode, over the records of its premisses' terms: its ending says which label it has, and whether an
+// ascription follows.
 fn placed_term(
     pairs: &[u8],
     code: &[u8],
@@ -73,21 +75,19 @@ fn placed_term(
 ) -> Result<usize, Refusal>
     requires some_good_step { SomeGoodStep pairs.now code.now step_records.now k
         × TableRow (rule_in step_records.now k) row }
-    requires parts { Parts row.4 (get_or parts 0 0) (get_or parts 1 0) (get_or parts 2 0) term_records.old used
+    requires parts { Parts row.term (get_or parts 0 0) (get_or parts 1 0) (get_or parts 2 0) term_records.old used
         × Room term_records.old (used + 1) }
     ensures { GoodStepPlaced pairs.now code.now step_records.now k
-        (mode_of mode) row.0 (first_three parts) term_records.old used term_records.new result }
+        (mode_of mode) row.fewest (first_three parts) term_records.old used term_records.new result }
 {
-    let term = row.4;
-    let last_column = row.3;
-    let ending = ending_in(mode, last_column);
+    let ending = ending_in(mode, row.ending);
     let step = step_at(step_records, k);
     let conclusion = step.conclusion;
     let label = annotation_of(pairs, code, ending, conclusion, k)?;
     let first = step.first.name;
     let second = step.second.name;
     let next = rule_term(
-        term,
+        row.term,
         first,
         second,
         label.kind,
@@ -121,14 +121,14 @@ fn do_export_as_proof_term(
         (mode_of mode) term_records.old used term_records.new result }
 {
     let row = row_of(rule_byte(step_records, k));
-    if !admits_count(row, premiss_count(step_records, k)) {
+    if !row.admits_count(premiss_count(step_records, k)) {
         return Err(Refusal::at(12, k));
     }
-    let reads = row.0 as usize;
-    let modes = row.2;
+    let reads = row.fewest as usize;
+    let modes = row.modes;
     let mut parts = [0usize; 3];
     let mut next = used;
-    for i in 0..reads {
+    for (i, &premiss_mode) in modes[..reads].iter().enumerate() {
         let after = do_export_as_proof_term(
             names,
             pairs,
@@ -136,7 +136,7 @@ fn do_export_as_proof_term(
             step_records,
             sizes,
             premiss(step_records, k, i, sizes),
-            expected_premisse_mode(modes[i], mode),
+            premiss_mode.below(mode),
             term_records,
             next,
         )?;

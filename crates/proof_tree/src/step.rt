@@ -15,7 +15,8 @@ fn later_premisses(count: usize, position: usize) -> usize
     count - position - 1
 }
 
-// The step that finishes the premiss of a position, earliest first: back from step k over the premisses after it.
+// The step that finishes the premiss of a position, earliest first: back from step k over the premisses after it. Each step back is
+// as long as the size says where the last one ended, so the walk is a loop.
 pub fn premiss(step_records: &[u8], k: usize, position: usize, sizes: &[u16]) -> usize
     requires has_step { (HasStep step_records.now k) × (position < premiss_count step_records.now k) }
     requires k_in_bounds { (k ≤ length sizes.now) × SizeTable step_records.now (k + 1) sizes.now }

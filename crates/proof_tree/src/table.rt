@@ -5,6 +5,7 @@ ghost use Rattle.definitions.specs.Export.{admits_count};
 ghost use Rattle.proof_tree.specs.Table.{mode_of, premiss_mode, TableRow};
 
 use Ending::{Ascribed, Bare, DatatypeLabelled, LeftLabelled, PremissOwn};
+use PremissMode::{Checking, Inferring, Own, Unread};
 use RuleTerm::{
     Abort, Application, Case, Function, Ident, LetIn, OrLeft, OrRight, Pair, Premiss, ProjectFst,
     ProjectSnd, Sorry, Unit,
@@ -46,44 +47,62 @@ pub enum RuleTerm {
     Premiss,
 }
 
-// A row of the table: the fewest premisses, all of which are read, and the most; the modes of those that are read; the
-// ending; the term.
-#[derive(Clone, Copy)]
-pub struct Row(pub u8, pub u8, pub [u8; 3], pub Ending, pub RuleTerm);
-
 // The mode of a premiss: its step's own, or one of the two. Past those that are read there is none.
-const OWN: u8 = 0;
+#[derive(Clone, Copy)]
+pub enum PremissMode {
+    Own,
+    Checking,
+    Inferring,
+    Unread,
+}
 
-const CHECKING: u8 = 1;
+// A row of the table: the fewest premisses, all of which are read, and the most; the modes of those that are read; what becomes of
+// the step's term; the term.
+#[derive(Clone, Copy)]
+pub struct Row {
+    pub fewest: u8,
+    pub most: u8,
+    pub modes: [PremissMode; 3],
+    pub ending: Ending,
+    pub term: RuleTerm,
+}
 
-const INFERRING: u8 = 2;
+// A row on one line of the table: a constant calls no function.
+macro_rules! row {
+    ($fewest:expr, $most:expr, $modes:expr, $ending:expr, $term:expr) => {
+        Row {
+            fewest: $fewest,
+            most: $most,
+            modes: $modes,
+            ending: $ending,
+            term: $term,
+        }
+    };
+}
 
-const NONE: u8 = 3;
-
-// The most premisses that a step can have.
-const MANY: u8 = 255;
-
+// A row for each rule, in the order of their bytes.
 const ROWS: [Row; 17] = [
-    Row(2, 2, [OWN, OWN, NONE], Bare, Pair), // AndIntro
-    Row(1, 1, [INFERRING, NONE, NONE], Bare, ProjectFst), // AndElimFst
-    Row(1, 1, [INFERRING, NONE, NONE], Bare, ProjectSnd), // AndElimSnd
-    Row(0, MANY, [NONE, NONE, NONE], Bare, Unit), // TrueIntro
-    Row(1, 1, [OWN, NONE, NONE], LeftLabelled, Function), // ImplIntro
-    Row(2, 2, [INFERRING, CHECKING, NONE], Bare, Application), // ImplElim
-    Row(0, MANY, [NONE, NONE, NONE], Bare, Ident), // Ident
-    Row(1, 1, [CHECKING, NONE, NONE], Ascribed, OrLeft), // OrIntroFst
-    Row(1, 1, [CHECKING, NONE, NONE], Ascribed, OrRight), // OrIntroSnd
-    Row(3, 3, [INFERRING, OWN, OWN], Bare, Case), // OrElim
-    Row(1, 1, [CHECKING, NONE, NONE], Ascribed, Abort), // FalsumElim
-    Row(1, 1, [OWN, NONE, NONE], DatatypeLabelled, Function), // ForAllIntro
-    Row(2, 2, [INFERRING, CHECKING, NONE], Bare, Application), // ForAllElim
-    Row(2, 2, [CHECKING, CHECKING, NONE], Ascribed, Pair), // ExistsIntro
-    Row(2, 2, [INFERRING, OWN, NONE], Bare, LetIn), // ExistsElim
-    Row(0, MANY, [NONE, NONE, NONE], Ascribed, Sorry), // Sorry
-    Row(1, MANY, [OWN, NONE, NONE], PremissOwn, Premiss), // AlphaEquivalent
+    row!(2, 2, [Own, Own, Unread], Bare, Pair), // AndIntro
+    row!(1, 1, [Inferring, Unread, Unread], Bare, ProjectFst), // AndElimFst
+    row!(1, 1, [Inferring, Unread, Unread], Bare, ProjectSnd), // AndElimSnd
+    row!(0, u8::MAX, [Unread, Unread, Unread], Bare, Unit), // TrueIntro
+    row!(1, 1, [Own, Unread, Unread], LeftLabelled, Function), // ImplIntro
+    row!(2, 2, [Inferring, Checking, Unread], Bare, Application), // ImplElim
+    row!(0, u8::MAX, [Unread, Unread, Unread], Bare, Ident), // Ident
+    row!(1, 1, [Checking, Unread, Unread], Ascribed, OrLeft), // OrIntroFst
+    row!(1, 1, [Checking, Unread, Unread], Ascribed, OrRight), // OrIntroSnd
+    row!(3, 3, [Inferring, Own, Own], Bare, Case), // OrElim
+    row!(1, 1, [Checking, Unread, Unread], Ascribed, Abort), // FalsumElim
+    row!(1, 1, [Own, Unread, Unread], DatatypeLabelled, Function), // ForAllIntro
+    row!(2, 2, [Inferring, Checking, Unread], Bare, Application), // ForAllElim
+    row!(2, 2, [Checking, Checking, Unread], Ascribed, Pair), // ExistsIntro
+    row!(2, 2, [Inferring, Own, Unread], Bare, LetIn), // ExistsElim
+    row!(0, u8::MAX, [Unread, Unread, Unread], Ascribed, Sorry), // Sorry
+    row!(1, u8::MAX, [Own, Unread, Unread], PremissOwn, Premiss), // AlphaEquivalent
 ];
 
 // The row of the rule of a byte.
+#[tactic(auto, unfolding(definitions::specs::Tree::rules))]
 pub fn row_of(rule: u8) -> Row
     requires { rule < length rules }
     ensures { TableRow (get_or rules rule Sorry) result }
@@ -91,23 +110,25 @@ pub fn row_of(rule: u8) -> Row
     ROWS[rule as usize]
 }
 
-// The mode of a premiss, by its number in the row and its step's own mode.
-pub fn expected_premisse_mode(number: u8, own: ReasoningMode) -> ReasoningMode
-    ensures { mode_of result ≡ premiss_mode (mode_of own) number }
-{
-    match number {
-        CHECKING => ReasoningMode::Checking,
-        INFERRING => ReasoningMode::Inferring,
-        _ => own,
+impl PremissMode {
+    // The mode of the premiss of a step that is placed in its own.
+    #[tactic(auto, unfolding(crate::specs::Table::mode_of, crate::specs::Table::premiss_mode))]
+    pub fn below(self, own: ReasoningMode) -> ReasoningMode
+        ensures { mode_of result ≡ premiss_mode (mode_of own) self }
+    {
+        match self {
+            PremissMode::Checking => ReasoningMode::Checking,
+            PremissMode::Inferring => ReasoningMode::Inferring,
+            PremissMode::Own | PremissMode::Unread => own,
+        }
     }
 }
 
-// Does a step of the row's rule have so many premisses?
-pub fn admits_count(row: Row, count: u8) -> bool
-    ensures { (rule : ProofTreeRule) → TableRow rule row → result ≡ admits_count rule count }
-{
-    if count < row.0 {
-        return false;
+impl Row {
+    // Does a step of the row's rule have so many premisses?
+    pub fn admits_count(self, count: u8) -> bool
+        ensures { (rule : ProofTreeRule) → TableRow rule self → result ≡ admits_count rule count }
+    {
+        self.fewest <= count && count <= self.most
     }
-    count <= row.1
 }

@@ -11,6 +11,7 @@ use Rattle.definitions.specs.Export.{row, admits_count}
 use Rattle.proof_tree.specs.Table.{mode_of, TableRow}
 use Rattle.proof_tree.specs.Exportable.{GoodStep}
 use Rattle.proof_tree.proofs.Counts.{enough}
+use Rattle.proof_tree.proofs.Rows.{reads_all}
 use Rattle.proof_tree.proofs.ReadPremisses.{read_none, read_more, read_refused, room_next, read_parts}
 use Rattle.proof_tree.proofs.Walking.{exportable_shorter, term_of, refusal_of, refused_as, size_tree, count_refused, Entered, premiss_refused, step_placed}
 use Rattle.proof_tree.proofs.+do_export_as_proof_term.Goals as goal
@@ -42,7 +43,7 @@ module _ (t : ℕ) where
 
   -- the step has the premisses that are read
   has_premisses : (c : Else-not-admits_count t) → let s = c.args in
-      c.row_of-row.result.0 ≤ premiss_count s.step_records.now s.k
+      c.row_of-row.result.fewest ≤ premiss_count s.step_records.now s.k
   unfolding admits_count
   has_premisses c = omega (arith, (entered c).is_row.fewest_is, enough (row _).premisses _ (entered c).right)
 
@@ -59,14 +60,14 @@ loop-i-init t c = read_none _ _ _ _ _ _ _ _ _
 pub premiss-requires-clause-has_step : goal.premiss-requires-clause-has_step
 premiss-requires-clause-has_step t c =
     let there = (goal.at.premiss-requires-clause-has_step t c).Else-not-admits_count in
-    ((good t (goal.at.premiss-requires-clause-has_step t c).Start).whole, omega (arith, has_premisses t there))
+    ((good t (goal.at.premiss-requires-clause-has_step t c).Start).whole, omega (arith, has_premisses t there, reads_all (entered t there).is_row))
 
 pub do_export_as_proof_term-requires : goal.do_export_as_proof_term-requires
 do_export_as_proof_term-requires t c =
     let there = (goal.at.do_export_as_proof_term-requires t c).Else-not-admits_count in
     let read = c.loop-i.invariant in
     let step = c.premiss.ensures in
-    let room = room_next (entered t there).is_row read c.loop-i-test.true step c.expected_premisse_mode.ensures in
+    let room = room_next (entered t there).is_row read (rw (reads_all (entered t there).is_row) at c.loop-i-test.true) step c.below.ensures in
     let size = size_tree c.args.names c.args.pairs.now c.args.code.now c.args.step_records.now c.args.k in (
       omega (arith, step.earlier, c.decreases),
       (
@@ -83,7 +84,7 @@ returns-in_err-after t c =
     let there = entered t (goal.at.returns-in_err-after t c).Else-not-admits_count in
     refused_as (search rules)
     (premiss_refused (mode_of _) there
-    (read_refused there.is_row c.loop-i.invariant c.loop-i-test.true c.premiss.ensures c.expected_premisse_mode.ensures
+    (read_refused there.is_row c.loop-i.invariant (rw (reads_all there.is_row) at c.loop-i-test.true) c.premiss.ensures c.below.ensures
     (refusal_of c.in_err-after.ensures refl)))
 
 pub overflow_sub-parts : goal.overflow_sub-parts
@@ -93,8 +94,8 @@ pub loop-i-preserved : goal.loop-i-preserved
 loop-i-preserved t c =
     let there = entered t (goal.at.loop-i-preserved t c).Else-not-admits_count in
     let step = c.premiss.ensures in
-    read_more there.is_row c.loop-i.invariant c.loop-i-test.true step
-    c.expected_premisse_mode.ensures
+    read_more there.is_row c.loop-i.invariant (rw (reads_all there.is_row) at c.loop-i-test.true) step
+    c.below.ensures
     (term_of c.in_ok-after.ensures refl)
     (omega (arith, step.earlier)) c.do_export_as_proof_term.auto.term_records
 
@@ -110,7 +111,7 @@ placed_term-requires-clause-parts t c =
     let row = (entered t there).is_row in
     let read = c.loop-i.invariant in
     let size = size_tree c.args.names c.args.pairs.now c.args.code.now c.args.step_records.now c.args.k in
-    read_parts row read (omega (arith, c.loop-i-test.false, read.position))
+    read_parts row read (omega (arith, c.loop-i-test.false, read.position, reads_all row))
     (omega (arith, read.high, size, read.same, c.requires.room_for.room))
     (omega (arith, read.high, size, c.requires.room_for.few))
 
@@ -118,5 +119,5 @@ pub returns : goal.returns
 returns t c =
     let read = c.loop-i.invariant in
     let there = (goal.at.returns t c).Else-not-admits_count in
-    step_placed (mode_of _) (entered t there) (omega (arith, c.loop-i-test.false, read.position)) read
+    step_placed (mode_of _) (entered t there) (omega (arith, c.loop-i-test.false, read.position, reads_all (entered t there).is_row)) read
     (c.placed_term.ensures _ (good t (goal.at.returns t c).Start))

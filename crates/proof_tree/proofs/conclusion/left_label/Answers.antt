@@ -1,4 +1,5 @@
 -- The conclusion is opened, then its proposition, then its connective is tested.
+use mathlib.Core.Path.{refl}
 use borrow.Author.Rules.{rules}
 use borrow.Author.Tests.{tests}
 use Rattle.proof_tree.proofs.Annotations.{Opened, no_left_judged, no_left, other_left, left_side, left_small}
@@ -15,28 +16,28 @@ opened c =
       shape = c.shape_at.ensures;
     }
 
+pub pair_offset-at-requires : goal.pair_offset-at-requires
+pair_offset-at-requires c = c.requires.paired.there _ c.in-PropIsTrue.is
+
 pub shape_at-requires : goal.shape_at-requires
 shape_at-requires c =
-    rw c.pair_offset-at.ensures (c.requires.1.stands _ c.in-PropIsTrue.is)
+    rw c.pair_offset-at.ensures (c.requires.stands _ c.in-PropIsTrue.is)
+
+pub returns-in_default : goal.returns-in_default
+returns-in_default c k names m means = no_left_judged means c.in_default.is refl
+
+pub returns-in_default-shape_at : goal.returns-in_default-shape_at
+returns-in_default-shape_at c k names m means =
+    no_left means (opened (goal.at.returns-in_default-shape_at c).After-shape_at) c.in_default-shape_at.not-Binary refl
 
 pub returns-then-ne : goal.returns-then-ne
-returns-then-ne c names m means =
-    other_left means (opened (goal.at.returns-then-ne c).After-shape_at) c.in-Binary.is (search (rules, tests)) c.at-then-ne.ensures
+returns-then-ne c k names m means =
+    other_left means (opened (goal.at.returns-then-ne c).After-shape_at) c.in-Binary.is (search (rules, tests)) refl
 
 pub overflow_cast-result-2 : goal.overflow_cast-result-2
 overflow_cast-result-2 c =
-    let readable = c.requires.1 in
-    record { fits = left_small readable (opened (goal.at.overflow_cast-result-2 c).After-shape_at) c.in-Binary.is }
+    record { fits = left_small c.requires (opened (goal.at.overflow_cast-result-2 c).After-shape_at) c.in-Binary.is }
 
 pub returns : goal.returns
-returns c names m means =
+returns c k names m means =
     left_side means (opened (goal.at.returns c).After-shape_at) _ c.in-Binary.is (search (rules, tests))
-
-pub returns-in_default : goal.returns-in_default
-returns-in_default c names m means = no_left_judged means c.in_default.is c.at.ensures
-
-pub pair_offset-at-requires : goal.pair_offset-at-requires
-pair_offset-at-requires c = c.requires.1.paired.there _ c.in-PropIsTrue.is
-
-pub returns-in_default-shape_at : goal.returns-in_default-shape_at
-returns-in_default-shape_at c names m means = no_left means (opened (goal.at.returns-in_default-shape_at c).After-shape_at) c.in_default-shape_at.not-Binary c.at-in_default-shape_at.ensures

@@ -1,6 +1,5 @@
 -- The table is document 01's, by a test that antt computes.
 use mathlib.Core.Path.{refl}
-use native.Mathlib.Omega.{arith}
 use Rattle.definitions.specs.Tree.{rules}
 use Rattle.definitions.specs.Export.{row, row_of, places, ending, rule_term}
 use Rattle.proof_tree.specs.Table.{ending_of, term_of, part_count, fewest, most, premiss_mode}
@@ -10,11 +9,3 @@ use Rattle.proof_tree.proofs.table.row_of.Goals as goal
 pub returns : goal.returns
 unfolding rules row row_of places ending ending_of fewest most premiss_mode part_count term_of rule_term
 returns c = rw entry (table_row _ _ refl _ c.requires)
-
-pub offset_bounds-rule : goal.offset_bounds-rule
-unfolding rules
-offset_bounds-rule c = omega arith
-
-pub bounds-rule-rule : goal.bounds-rule-rule
-unfolding rules
-bounds-rule-rule c = omega arith
