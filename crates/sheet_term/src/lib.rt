@@ -5,44 +5,42 @@ ghost use Rattle.std.specs.Prelude.{◌≡◌};
 ghost use Rattle.definitions.specs.Sheet.{steps, step_records};
 ghost use Rattle.definitions.specs.Answers.{label_count};
 ghost use Rattle.steps.specs.Tables.{SizeTable};
-ghost use Rattle.sheet.proofs.Admitted.{AcceptedSheet};
 ghost use Rattle.sheet_term.specs.Held.{Gives};
 ghost use Rattle.sheet_term.specs.Counted.{counted_of};
 
 use definitions::Refusal;
 use proof_term::{RECORD_SIZE, annotation_count};
 use proof_tree::export_as_proof_term;
-use sheet::{Sheet, code_bytes, proposition_pairs, step_records};
+use sheet::{AdmittedSheet, Sheet};
 
 // Room for two term records for each step.
 pub const TERM_NUMBERS: usize = 2 * RECORD_SIZE * Sheet::STEP_LIMIT;
 
-// The term of an accepted sheet: its header, and the record that holds the term.
+// The term of an admitted sheet: its header, and the record that holds the term.
 fn export(
-    s: &[u8],
-    h: Sheet,
+    sheet: &AdmittedSheet,
     sizes: &[u16; Sheet::STEP_LIMIT],
     terms: &mut [u16; TERM_NUMBERS],
 ) -> Result<(Sheet, usize), Refusal>
-    requires accepted_sheet { AcceptedSheet s.now h }
-    requires size_table { SizeTable (step_records s.now) (steps s.now) sizes.now }
-    ensures { Gives s.now terms.new result }
+    requires { SizeTable (step_records sheet.now) (steps sheet.now) sizes.now }
+    ensures { Gives sheet.now terms.new result }
 {
-    let pairs = proposition_pairs(s, h);
-    let code = code_bytes(s, h);
-    let records = step_records(s, h);
+    let h = sheet.header();
+    let pairs = sheet.proposition_pairs();
+    let code = sheet.code_bytes();
+    let records = sheet.step_records();
     let next = export_as_proof_term(h.names, pairs, code, records, sizes, h.steps, terms)?;
     Ok((h, next - 1))
 }
 
 // The header of a sheet and the record that holds its term, or the first of refusals 1 to 15, of any bytes. Where they are refused,
-// what the records hold is left open.
+// what the records hold is left open. The records are the caller's, who writes them again, so no value holds them with their term.
 pub fn sheet_term(s: &[u8], terms: &mut [u16; TERM_NUMBERS]) -> Result<(Sheet, usize), Refusal>
     ensures { Gives s.now terms.new result }
 {
     let mut sizes = [0u16; Sheet::STEP_LIMIT];
-    let h = sheet::check(s, &mut sizes)?;
-    export(s, h, &sizes, terms)
+    let sheet = AdmittedSheet::with_sizes(s, &mut sizes)?;
+    export(&sheet, &sizes, terms)
 }
 
 // The label count of any bytes.
