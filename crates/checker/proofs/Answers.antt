@@ -5,10 +5,9 @@ use mathlib.Core.List.{List}
 use native.Mathlib.Omega.{arith}
 use Rattle.definitions.specs.Name.{Name}
 use Rattle.definitions.specs.Prop.{Prop}
-use Rattle.definitions.specs.Prop as prop
 use Rattle.definitions.specs.Term.{ProofTerm, Ident, Pair, Named, Function, Application, LetIn, Case, TypeAscription, Unit, Sorry, rename_term}
 use Rattle.definitions.specs.TermText.{nodes}
-use Rattle.definitions.specs.Checker.{Judged, derived, stopped, infer, check}
+use Rattle.definitions.specs.Checker.{Judged, derived, stopped}
 use Rattle.checker.specs.Judging as judging
 use Rattle.prop_numbers.specs.Standing.{Rep, stops}
 use Rattle.checker.specs.Judging.{Checks, ChecksAs, Decides, InfersAs, Means, Shows, node, proposition, yes}

@@ -1,7 +1,7 @@
 -- A case whose head is inferred: the disjunction that stands, and the two branches under their binders.
 use Prim.Native.Nat.{ℕ, ◌+◌, ◌≤◌, ◌<◌}
 use mathlib.Core.Path.{◌≡◌, refl, sym, ap, ◌∙◌}
-use mathlib.Core.List.{List, []}
+use mathlib.Core.List.{List}
 use native.Mathlib.Omega.{arith}
 use lib.ListN.{length, set}
 use Rattle.definitions.specs.Prop.{or}
@@ -9,8 +9,12 @@ use Rattle.definitions.specs.Term.{ProofTerm, Case}
 use Rattle.definitions.specs.TermText.{nodes}
 use Rattle.prefix_code.specs.Scan.{Scanned}
 use Rattle.prefix_code.proofs.Reading.{inside}
+use Rattle.proof_term.specs.Views.{kind_of}
+use Rattle.proof_term.specs.declared.nodes.Kind.{Kind}
+use Rattle.proof_term.specs.declared.nodes.Kind.TheVariants as variant
+use Rattle.proof_term.proofs.Views.{number_of_kind}
 use Rattle.proof_term.specs.Records.{field_at}
-use Rattle.prop_numbers.specs.Standing.{standing, stops, name_space, Stood, Space, Kept}
+use Rattle.prop_numbers.specs.Standing.{stops, name_space, Stood, Space, Kept}
 use Rattle.prop_numbers.specs.Answering.{Expected}
 use Rattle.prop_numbers.proofs.Reps.{kept_wider, kept_then}
 use Rattle.prop_numbers.proofs.Halves.{Halves, half}
@@ -24,7 +28,7 @@ use Rattle.checker.proofs.Inferring.{head_stands_there, head_halves}
 use Rattle.checker.proofs.Steps.{Call, call, few, bound_in, bound_long, restored, or_is, answer_space}
 
 module _ {records code : List ℕ} {stride : ℕ} {scope mades : List ℕ} {m n : ℕ} (j : Judgeable records code stride scope mades m n)
-    {kind a : ℕ} (k : kind ≡ field_at records m 0) (ea : a ≡ field_at records m 1) (e : kind ≡ 9) where
+    {kind : Kind} {a : ℕ} (k : kind ≡ kind_of (field_at records m 0)) (ea : a ≡ field_at records m 1) (e : kind ≡ variant.Case) where
   abbrev own : Well records code stride m
   own = j.well m (omega arith)
 
@@ -36,10 +40,10 @@ module _ {records code : List ℕ} {stride : ℕ} {scope mades : List ℕ} {m n 
   view = case_view own k ea refl refl e
 
   pub left_name : NameHeld records m 4
-  left_name = record { held = j.held; number = omega arith; below = own.left (sym k ∙ e) }
+  left_name = record { held = j.held; number = omega arith; below = own.left (number_of_kind (sym k ∙ e) (λ u. cc)) }
 
   pub right_name : NameHeld records m 5
-  right_name = record { held = j.held; number = omega arith; below = own.right (sym k ∙ e) }
+  right_name = record { held = j.held; number = omega arith; below = own.right (number_of_kind (sym k ∙ e) (λ u. cc)) }
 
   pub head_call : Call records code stride scope mades m a (n + 1)
   head_call = call j view.first j.entries j.slots (omega (arith, j.room, view.size))

@@ -7,12 +7,16 @@ use mathlib.Core.List.{List, []}
 use native.Mathlib.Omega.{arith}
 use native.Mathlib.Decide.{ℕ_discrete, dec_le}
 use lib.ListN.{length, get_or, set}
-use Rattle.definitions.specs.Prop.{and, or, impl, connective_byte}
-use Rattle.definitions.specs.Term.{ProofTerm, Pair, Function, OrLeft, OrRight, Abort}
+use Rattle.definitions.specs.Prop.{and, or, impl}
+use Rattle.definitions.specs.Term.{ProofTerm, Pair, Function}
 use Rattle.definitions.specs.TermText.{nodes}
 use Rattle.prefix_code.specs.Scan.{Scanned}
+use Rattle.proof_term.specs.Views.{kind_of}
+use Rattle.proof_term.specs.declared.nodes.Kind.{Kind}
+use Rattle.proof_term.specs.declared.nodes.Kind.TheVariants as variant
+use Rattle.proof_term.proofs.Views.{number_of_kind}
 use Rattle.proof_term.specs.Records.{field_at, parameter_label}
-use Rattle.prop_numbers.specs.Standing.{standing, stops, made_numbers, name_space, Stood, Known, Kept, head_of}
+use Rattle.prop_numbers.specs.Standing.{stops, name_space, Stood, Known, Kept, head_of}
 use Rattle.prop_numbers.specs.Answering.{SideOf, Expected, Tested, Agreed}
 use Rattle.prop_numbers.proofs.Reps.{kept_all, kept_wider, kept_then}
 use Rattle.prop_numbers.proofs.Halves.{Halves, half, head_stands}
@@ -21,11 +25,11 @@ use Rattle.checker.specs.Judging.{ChecksAs, Inferred, Checked}
 use Rattle.checker.specs.Helping.{LabelTested, Bound, BodySide, BodyTested}
 use Rattle.checker.proofs.Forms.{One, Two, function_view, pair_view, inl_view, inr_view, abort_view, sorry_is, let_is}
 use Rattle.checker.proofs.Checking.{pair_other, function_other, inl_other, inr_other, pair_fails, pair_then, inl_part, inr_part, function_label, function_body, abort_part, sorry_passes, let_fails, case_unopened, case_fails, case_then, Falls, fall_stops, fall_same, fall_differ}
-use Rattle.checker.proofs.Steps.{Call, call, few, bound_in, bound_long, restored, halves_at, side_halves, side_other, and_is, or_is, impl_is, known_answer, known_stood, checked_at, checks_under}
-use Rattle.checker.proofs.Cases.{head_unopened, head_opening, head_stood, sides, left_name, right_name, entries, left_under, left_back, left_kept, right_under, right_back, right_kept, right_node, term_is, view}
+use Rattle.checker.proofs.Steps.{Call, call, few, bound_in, bound_long, restored, halves_at, side_halves, side_other, and_is, or_is, impl_is, known_answer, checked_at, checks_under}
+use Rattle.checker.proofs.Cases.{head_unopened, head_opening, head_stood, sides, left_name, right_name, left_under, left_back, left_kept, right_under, right_back, right_kept, right_node, term_is, view}
 
 module _ {records code : List ℕ} {stride : ℕ} {scope mades : List ℕ} {m n p : ℕ} (j : Judgeable records code stride scope mades m n) (stood : Stood code p)
-    {kind a : ℕ} (k : kind ≡ field_at records m 0) (ea : a ≡ field_at records m 1) where
+    {kind : Kind} {a : ℕ} (k : kind ≡ kind_of (field_at records m 0)) (ea : a ≡ field_at records m 1) where
   abbrev At : List ℕ → List ℕ → ℕ → Type 0
   At scope' mades' r = Checked records code stride scope mades m n p scope' mades' r
 
@@ -40,12 +44,12 @@ module _ {records code : List ℕ} {stride : ℕ} {scope mades : List ℕ} {m n 
   byte_other is other e = other (sym (head_stands code [] p stood.low) ∙ e ∙ is)
 
   -- A function.
-  module _ (e : kind ≡ 4) where
+  module _ (e : kind ≡ variant.Function) where
     function_is : One records code stride m a (Function (field_at records m 2) (parameter_label (label_prop code stride) (field_at records m 3) (field_at records m 4)))
     function_is = function_view own k ea e
 
     pub function_name : NameHeld records m 2
-    function_name = record { held = j.held; number = omega arith; below = own.parameter (sym k ∙ e) }
+    function_name = record { held = j.held; number = omega arith; below = own.parameter (number_of_kind (sym k ∙ e) (λ u. cc)) }
 
     module _ {side : ℕ} (b : BodySide records code stride m p n side) where
       pub function_stop : stops ≤ side → At scope mades side
@@ -96,7 +100,7 @@ module _ {records code : List ℕ} {stride : ℕ} {scope mades : List ℕ} {m n 
               (kept_wider n (n + nodes (term m)) (omega arith) (omega (arith, function_is.size)) c.kept)
 
   -- A pair.
-  module _ (e : kind ≡ 1) where
+  module _ (e : kind ≡ variant.Pair) where
     pair_is : Two records code stride m a (field_at records m 2) Pair
     pair_is = pair_view own k ea refl e
 
@@ -137,12 +141,12 @@ module _ {records code : List ℕ} {stride : ℕ} {scope mades : List ℕ} {m n 
 
   -- Injections.
   module _ {side : ℕ} (s : SideOf code p 3 n side) where
-    pub inl_stop : kind ≡ 7 → stops ≤ side → At scope mades side
+    pub inl_stop : kind ≡ variant.OrLeft → stops ≤ side → At scope mades side
     inl_stop e h =
         let other = side_other or or_is j.ends.space stood s h in
         rw (s.other other) (checked_at (inl_view own k ea e).is (inl_other [] stood _ (byte_other or_is other)) refl kept_all)
 
-    pub inr_stop : kind ≡ 8 → stops ≤ side → At scope mades side
+    pub inr_stop : kind ≡ variant.OrRight → stops ≤ side → At scope mades side
     inr_stop e h =
         let other = side_other or or_is j.ends.space stood s h in
         rw (s.other other) (checked_at (inr_view own k ea e).is (inr_other [] stood _ (byte_other or_is other)) refl kept_all)
@@ -150,12 +154,12 @@ module _ {records code : List ℕ} {stride : ℕ} {scope mades : List ℕ} {m n 
     pub or_halves : side < stops → Halves code p side or
     or_halves l = side_halves or or_is j.ends.space stood s l
 
-    pub inl_done : {scope' mades' : List ℕ} {r : ℕ} → kind ≡ 7 → side < stops → Checked records code stride scope mades a (n + 1) (p + 1) scope' mades' r → At scope' mades' r
+    pub inl_done : {scope' mades' : List ℕ} {r : ℕ} → kind ≡ variant.OrLeft → side < stops → Checked records code stride scope mades a (n + 1) (p + 1) scope' mades' r → At scope' mades' r
     inl_done e l c =
         let v = inl_view own k ea e in
         checked_at v.is (inl_part (or_halves l) c.answer) c.same (kept_wider n (n + nodes (term m)) (omega arith) (omega (arith, v.size)) c.kept)
 
-    pub inr_done : {scope' mades' : List ℕ} {r : ℕ} → kind ≡ 8 → side < stops → Checked records code stride scope mades a (n + 1) side scope' mades' r → At scope' mades' r
+    pub inr_done : {scope' mades' : List ℕ} {r : ℕ} → kind ≡ variant.OrRight → side < stops → Checked records code stride scope mades a (n + 1) side scope' mades' r → At scope' mades' r
     inr_done e l c =
         let v = inr_view own k ea e in
         checked_at v.is (inr_part (or_halves l) c.answer) c.same (kept_wider n (n + nodes (term m)) (omega arith) (omega (arith, v.size)) c.kept)
@@ -164,24 +168,24 @@ module _ {records code : List ℕ} {stride : ℕ} {scope mades : List ℕ} {m n 
   pub only_call : {F : ProofTerm ℕ → ProofTerm ℕ} → One records code stride m a F → Call records code stride scope mades m a (n + 1)
   only_call v = call j v.less j.entries j.slots (omega (arith, j.room, v.size))
 
-  pub inl_call : kind ≡ 7 → Call records code stride scope mades m a (n + 1)
+  pub inl_call : kind ≡ variant.OrLeft → Call records code stride scope mades m a (n + 1)
   inl_call e = only_call (inl_view own k ea e)
 
-  pub inr_call : kind ≡ 8 → Call records code stride scope mades m a (n + 1)
+  pub inr_call : kind ≡ variant.OrRight → Call records code stride scope mades m a (n + 1)
   inr_call e = only_call (inr_view own k ea e)
 
-  pub abort_call : kind ≡ 10 → Call records code stride scope mades m a (n + 1)
+  pub abort_call : kind ≡ variant.Abort → Call records code stride scope mades m a (n + 1)
   abort_call e = only_call (abort_view own k ea e)
 
-  pub abort_done : {scope' mades' : List ℕ} {r : ℕ} → kind ≡ 10 → Checked records code stride scope mades a (n + 1) (length code - 1) scope' mades' r → At scope' mades' r
+  pub abort_done : {scope' mades' : List ℕ} {r : ℕ} → kind ≡ variant.Abort → Checked records code stride scope mades a (n + 1) (length code - 1) scope' mades' r → At scope' mades' r
   abort_done e c =
       let v = abort_view own k ea e in
       checked_at v.is (abort_part j.ends.bottom_is c.answer) c.same (kept_wider n (n + nodes (term m)) (omega arith) (omega (arith, v.size)) c.kept)
 
-  pub sorry_done : kind ≡ 13 → At scope mades 0
+  pub sorry_done : kind ≡ variant.Sorry → At scope mades 0
   sorry_done e = checked_at (sorry_is own k e) (sorry_passes n p) refl kept_all
 
-  pub let_done : kind ≡ 6 → At scope mades (stops + n)
+  pub let_done : kind ≡ variant.LetIn → At scope mades (stops + n)
   let_done e = checked_at (let_is own k e) (let_fails n p _ _ _ _) refl kept_all
 
   -- What is inferred and compared.
@@ -199,7 +203,7 @@ module _ {records code : List ℕ} {stride : ℕ} {scope mades : List ℕ} {m n 
         go l t false is = rw (t.is ∙ ap (λ (b : Bool). cond b 0 (stops + n)) is) (checked_at refl (fall_differ falls i.answer l stood t.alike is) i.same i.kept)
 
   -- A case, by what its head infers.
-  module _ (e : kind ≡ 9) {scope₁ mades₁ : List ℕ} {r h : ℕ} (i : Inferred records code stride scope mades a (n + 1) scope₁ mades₁ r)
+  module _ (e : kind ≡ variant.Case) {scope₁ mades₁ : List ℕ} {r h : ℕ} (i : Inferred records code stride scope mades a (n + 1) scope₁ mades₁ r)
       (x : Expected code mades₁ r 3 n h) where
     pub case_stop : stops ≤ h → At scope₁ mades₁ h
     case_stop l =

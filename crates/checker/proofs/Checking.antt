@@ -7,7 +7,7 @@ use mathlib.Core.List.{List}
 use lib.ListN.{set}
 use Rattle.definitions.specs.Name.{Name}
 use Rattle.definitions.specs.Prop.{Prop, False, Binary, Connective, and, or, impl, connective_byte, rename_prop}
-use Rattle.definitions.specs.Term.{Label, proposition, ProofTerm, Ident, Pair, ProjectFst, ProjectSnd, Function, Application, LetIn, OrLeft, OrRight, Case, Abort, TypeAscription, Unit, Sorry, rename_parameter_label, rename_term}
+use Rattle.definitions.specs.Term.{Label, ProofTerm, Ident, Pair, ProjectFst, ProjectSnd, Function, Application, LetIn, OrLeft, OrRight, Case, Abort, TypeAscription, Unit, Sorry, rename_parameter_label, rename_term}
 use Rattle.definitions.specs.CheckingRules.{Context, bind}
 use Rattle.definitions.specs.TermText.{nodes}
 use Rattle.definitions.specs.Checker.{◌>>=◌, ensure, sides, label_is, compared, check_named, infer, check}

@@ -1,5 +1,5 @@
 -- The arms of `infer`, call by call: what each call may ask, and what its answer comes to.
-use Prim.Native.Nat.{ℕ, ◌+◌, ◌-◌, ◌*◌, ◌≤◌, ◌<◌}
+use Prim.Native.Nat.{ℕ, ◌+◌, ◌≤◌, ◌<◌}
 use mathlib.Core.Path.{◌≡◌, refl, sym, ap, ◌∙◌}
 use mathlib.Core.Logic.{by_cases}
 use mathlib.Core.Bool.{Bool, true, false, cond}
@@ -9,30 +9,33 @@ use native.Mathlib.Omega.{arith}
 use native.Mathlib.Decide.{ℕ_discrete, dec_le}
 use lib.ListN.{length, get_or, set}
 use Rattle.definitions.specs.Prop.{and, or, impl}
-use Rattle.definitions.specs.Term.{proposition, ProofTerm, Pair, ProjectFst, ProjectSnd, Function, Application, Case, TypeAscription}
+use Rattle.definitions.specs.Term.{proposition, ProofTerm, Pair, Function, Application, Case, TypeAscription}
 use Rattle.definitions.specs.TermText.{nodes}
 use Rattle.prefix_code.specs.PropAt.{prop_at}
 use Rattle.prefix_code.specs.Scan.{Scanned}
+use Rattle.proof_term.specs.Views.{kind_of}
+use Rattle.proof_term.specs.declared.nodes.Kind.{Kind}
+use Rattle.proof_term.specs.declared.nodes.Kind.TheVariants as variant
+use Rattle.proof_term.proofs.Views.{number_of_kind}
 use Rattle.proof_term.specs.Records.{field_at, label_of, parameter_label}
-use Rattle.prop_numbers.specs.Standing.{standing, node_limit, stops, made_numbers, name_space, Stood, Known, Space, Kept, left_of, RightOf}
-use Rattle.prop_numbers.specs.Answering.{Expected, Projected, Made, Tested, Agreed}
+use Rattle.prop_numbers.specs.Standing.{node_limit, stops, made_numbers, name_space, Stood, Known, Space, Kept, left_of, RightOf}
+use Rattle.prop_numbers.specs.Answering.{Expected, FirstSide, Projected, Made, Tested, Agreed}
 use Rattle.prop_numbers.proofs.Reps.{rep_kept, kept_all, kept_wider, kept_then, slot_kept}
 use Rattle.prop_numbers.proofs.Halves.{half}
 use Rattle.prop_numbers.proofs.Comparing.{alike_sym}
 use Rattle.checker.specs.Asking.{label_prop, term_of, Few, NameHeld, Well, Judgeable}
 use Rattle.checker.specs.Judging.{InfersAs, ChecksAs, Inferred, Checked}
-use Rattle.checker.specs.Helping.{Bound, Found, Ascribed, Annotated, Then, Leaf}
-use Rattle.checker.proofs.Forms.{One, Two, fst_view, snd_view, function_view, application_view, ascription_view, pair_view, ident_is, inl_view, inr_view, abort_view, let_is, sorry_is}
+use Rattle.checker.specs.Helping.{Bound, Found, Ascribed, Annotated, Leaf}
+use Rattle.checker.proofs.Forms.{One, Two, fst_view, snd_view, function_view, application_view, ascription_view, pair_view, ident_is, unit_is, inl_view, inr_view, abort_view, let_is, sorry_is}
 use Rattle.checker.proofs.Answers.{derives}
 use Rattle.checker.proofs.Sides.{Opening, unopened, opening}
 use Rattle.checker.proofs.Labels.{no_label, a_datatype, a_proposition, some_label}
 use Rattle.checker.proofs.Inferring.{ident_answer, unit_answer, let_stops, sorry_stops, inl_stops, inr_stops, abort_stops, fst_stops, snd_stops, fst_gives, snd_gives, argument_stands, application_stops, application_fails, application_gives, ascription_datatype, ascription_fails, ascription_gives, function_none, function_datatype, function_stops, function_gives, pair_first, pair_second, pair_gives, case_stops, case_left, case_right, case_gives, case_differ}
-use Rattle.checker.proofs.Fallback.{else_unit}
-use Rattle.checker.proofs.Steps.{Call, call, few, node_low, bound_in, bound_long, restored, and_is, or_is, impl_is, known_answer, answer_space, inferred_at, infers_under, checks_under}
+use Rattle.checker.proofs.Steps.{Call, call, few, node_low, bound_in, bound_long, restored, and_is, impl_is, known_answer, answer_space, inferred_at, infers_under, checks_under}
 use Rattle.checker.proofs.Cases.{head_unopened, head_opening, head_stood, sides, left_name, right_name, left_under, left_back, left_kept, left_room, right_room, right_under, right_back, right_kept, right_node, term_is, view}
 
 module _ {records code : List ℕ} {stride : ℕ} {scope mades : List ℕ} {m n : ℕ} (j : Judgeable records code stride scope mades m n)
-    {kind a : ℕ} (k : kind ≡ field_at records m 0) (ea : a ≡ field_at records m 1) where
+    {kind : Kind} {a : ℕ} (k : kind ≡ kind_of (field_at records m 0)) (ea : a ≡ field_at records m 1) where
   abbrev At : List ℕ → List ℕ → ℕ → Type 0
   At scope' mades' r = Inferred records code stride scope mades m n scope' mades' r
 
@@ -43,10 +46,10 @@ module _ {records code : List ℕ} {stride : ℕ} {scope mades : List ℕ} {m n 
   term i = term_of code stride records i
 
   -- A name.
-  pub ident_name : kind ≡ 0 → a < name_space
-  ident_name e = rw ea (own.ident (sym k ∙ e))
+  pub ident_name : kind ≡ variant.Ident → a < name_space
+  ident_name e = rw ea (own.ident (number_of_kind (sym k ∙ e) (λ u. cc)))
 
-  pub ident_done : {r : ℕ} → kind ≡ 0 → Found (get_or scope a 0) n r → At scope mades r
+  pub ident_done : {r : ℕ} → kind ≡ variant.Ident → Found (get_or scope a 0) n r → At scope mades r
   ident_done e f = inferred_at (rw ea (ident_is own k e)) (ident_answer (ident_name e) j.entries f) refl kept_all
 
   -- the one part of several forms
@@ -54,45 +57,45 @@ module _ {records code : List ℕ} {stride : ℕ} {scope mades : List ℕ} {m n 
   only_call v = call j v.less j.entries j.slots (omega (arith, j.room, v.size))
 
   -- Projections.
-  pub fst_call : kind ≡ 2 → Call records code stride scope mades m a (n + 1)
+  pub fst_call : kind ≡ variant.ProjectFst → Call records code stride scope mades m a (n + 1)
   fst_call e = only_call (fst_view own k ea e)
 
-  pub snd_call : kind ≡ 3 → Call records code stride scope mades m a (n + 1)
+  pub snd_call : kind ≡ variant.ProjectSnd → Call records code stride scope mades m a (n + 1)
   snd_call e = only_call (snd_view own k ea e)
 
   module _ {scope' mades' : List ℕ} {r : ℕ} (i : Inferred records code stride scope mades a (n + 1) scope' mades' r) where
     pub part_space : {F : ProofTerm ℕ → ProofTerm ℕ} → One records code stride m a F → r < stops → Space code mades' r
     part_space v h = answer_space i.answer j.ends.space (i.kept.long ∙ j.slots) (omega (arith, j.room, v.size)) h
 
-    pub fst_space : kind ≡ 2 → r < stops → Space code mades' r
+    pub fst_space : kind ≡ variant.ProjectFst → r < stops → Space code mades' r
     fst_space e = part_space (fst_view own k ea e)
 
-    pub snd_space : kind ≡ 3 → r < stops → Space code mades' r
+    pub snd_space : kind ≡ variant.ProjectSnd → r < stops → Space code mades' r
     snd_space e = part_space (snd_view own k ea e)
 
     part_kept : {F : ProofTerm ℕ → ProofTerm ℕ} → One records code stride m a F → Kept n (n + nodes (term m)) mades mades'
     part_kept v = kept_wider n (n + nodes (term m)) (omega arith) (omega (arith, v.size)) i.kept
 
-    pub fst_done : {x : ℕ} → kind ≡ 2 → Projected code mades' r false n x → At scope' mades' x
+    pub fst_done : {x : ℕ} → kind ≡ variant.ProjectFst → Projected code mades' r (FirstSide mades') n x → At scope' mades' x
     fst_done {x} e p =
         let v = fst_view own k ea e in
         by_cases (dec_le stops p.p)
         (λ l. rw (p.stop l) (inferred_at v.is (fst_stops (unopened and and_is i.answer p.expected l)) i.same (part_kept v)))
         (λ l.
         inferred_at v.is
-        (fst_gives j.ends.space (omega (arith, j.room, v.size)) (opening and and_is i.answer p.expected (omega arith)) (p.first_side (omega arith) refl)) i.same (part_kept v))
+        (fst_gives j.ends.space (omega (arith, j.room, v.size)) (opening and and_is i.answer p.expected (omega arith)) (p.side (omega arith))) i.same (part_kept v))
 
-    pub snd_done : {x : ℕ} → kind ≡ 3 → Projected code mades' r true n x → At scope' mades' x
+    pub snd_done : {x : ℕ} → kind ≡ variant.ProjectSnd → Projected code mades' r (RightOf code mades') n x → At scope' mades' x
     snd_done {x} e p =
         let v = snd_view own k ea e in
         by_cases (dec_le stops p.p)
         (λ l. rw (p.stop l) (inferred_at v.is (snd_stops (unopened and and_is i.answer p.expected l)) i.same (part_kept v)))
         (λ l.
         inferred_at v.is
-        (snd_gives j.ends.space (omega (arith, j.room, v.size)) (opening and and_is i.answer p.expected (omega arith)) (p.second_side (omega arith) refl)) i.same (part_kept v))
+        (snd_gives j.ends.space (omega (arith, j.room, v.size)) (opening and and_is i.answer p.expected (omega arith)) (p.side (omega arith))) i.same (part_kept v))
 
   -- An application.
-  module _ (e : kind ≡ 5) where
+  module _ (e : kind ≡ variant.Application) where
     application_is : Two records code stride m a (field_at records m 2) Application
     application_is = application_view own k ea refl e
 
@@ -128,11 +131,11 @@ module _ {records code : List ℕ} {stride : ℕ} {scope mades : List ℕ} {m n 
               pub application_next : Call records code stride scope' mades' m b next
               application_next = call j (rw eb application_is.second) (rw i.same j.entries) (i.kept.long ∙ j.slots) (omega (arith, argument_room, j.room))
 
-              pub application_done : {scope'' mades'' : List ℕ} {q y : ℕ} → Checked records code stride scope' mades' b next argument scope'' mades'' q → Then q side y → At scope'' mades'' y
-              application_done {scope''} {mades''} {q} {y} c t =
+              pub application_done : {scope'' mades'' : List ℕ} {q y : ℕ} → Checked records code stride scope' mades' b next argument scope'' mades'' q → ((q ≡ 0 → ⊥) → y ≡ q) → (q ≡ 0 → y ≡ side) → At scope'' mades'' y
+              application_done {scope''} {mades''} {q} {y} c stop go =
                   by_cases (ℕ_discrete q 0)
-                  (λ ok. rw (t.go ok) (inferred_at is (application_gives j.ends.space (omega (arith, j.room, application_is.size)) opened al sl answer ok (rw en at c.kept)) same kept))
-                  (λ other. rw (t.stop other) (inferred_at is (application_fails j.ends.space opened al answer other) same kept))
+                  (λ ok. rw (go ok) (inferred_at is (application_gives j.ends.space (omega (arith, j.room, application_is.size)) opened al sl answer ok (rw en at c.kept)) same kept))
+                  (λ other. rw (stop other) (inferred_at is (application_fails j.ends.space opened al answer other) same kept))
                 where
                   is : term m ≡ Application (term a) (term b)
                   is = rw eb application_is.is
@@ -147,7 +150,7 @@ module _ {records code : List ℕ} {stride : ℕ} {scope mades : List ℕ} {m n 
                   kept = kept_then function_kept (kept_wider n (n + nodes (term m)) (rw en (omega arith)) argument_room c.kept)
 
   -- An ascription.
-  module _ (e : kind ≡ 11) where
+  module _ (e : kind ≡ variant.TypeAscription) where
     ascription_is : One records code stride m a (λ t. TypeAscription t (label_of (label_prop code stride) (field_at records m 3) (field_at records m 4)))
     ascription_is = ascription_view own k ea e
 
@@ -167,26 +170,26 @@ module _ {records code : List ℕ} {stride : ℕ} {scope mades : List ℕ} {m n 
         no_datatype same = omega (arith, x.datatype same)
 
         pub ascription_stood : Stood code label
-        ascription_stood = rw (x.offset no_datatype).0 (own.label.ascribed (sym k ∙ e) no_datatype)
+        ascription_stood = rw (x.offset no_datatype).0 (own.label.ascribed (number_of_kind (sym k ∙ e) (λ u. cc)) no_datatype)
 
         labelled : term m ≡ TypeAscription (term a) (proposition (prop_at name_space code label))
         labelled = rw (x.offset no_datatype).0
             (ascription_is.is ∙ ap (λ l. TypeAscription (term a) l) (a_proposition (label_prop code stride) (field_at records m 3) (field_at records m 4) no_datatype))
 
-        pub ascription_done : {scope' mades' : List ℕ} {r y : ℕ} → Checked records code stride scope mades a (n + 1) label scope' mades' r → Then r label y → At scope' mades' y
-        ascription_done {mades' = mades'} {r} c t =
+        pub ascription_done : {scope' mades' : List ℕ} {r y : ℕ} → Checked records code stride scope mades a (n + 1) label scope' mades' r → ((r ≡ 0 → ⊥) → y ≡ r) → (r ≡ 0 → y ≡ label) → At scope' mades' y
+        ascription_done {mades' = mades'} {r} c stop go =
             let kept : Kept n (n + nodes (term m)) mades mades' = kept_wider n (n + nodes (term m)) (omega arith) (omega (arith, ascription_is.size)) c.kept in
             by_cases (ℕ_discrete r 0)
-            (λ ok. rw (t.go ok) (inferred_at labelled (ascription_gives ascription_stood c.answer ok) c.same kept))
-            (λ other. rw (t.stop other) (inferred_at labelled (ascription_fails c.answer other) c.same kept))
+            (λ ok. rw (go ok) (inferred_at labelled (ascription_gives ascription_stood c.answer ok) c.same kept))
+            (λ other. rw (stop other) (inferred_at labelled (ascription_fails c.answer other) c.same kept))
 
   -- A function.
-  module _ (e : kind ≡ 4) where
+  module _ (e : kind ≡ variant.Function) where
     function_is : One records code stride m a (Function (field_at records m 2) (parameter_label (label_prop code stride) (field_at records m 3) (field_at records m 4)))
     function_is = function_view own k ea e
 
     pub function_name : NameHeld records m 2
-    function_name = record { held = j.held; number = omega arith; below = own.parameter (sym k ∙ e) }
+    function_name = record { held = j.held; number = omega arith; below = own.parameter (number_of_kind (sym k ∙ e) (λ u. cc)) }
 
     module _ {label : ℕ} (x : Annotated records stride m n label) where
       pub function_stop : stops ≤ label → At scope mades label
@@ -210,7 +213,7 @@ module _ {records code : List ℕ} {stride : ℕ} {scope mades : List ℕ} {m n 
         no_function_datatype same = omega (arith, (x.some there).datatype same)
 
         pub function_stood : Stood code label
-        function_stood = rw ((x.some there).offset no_function_datatype).0 (own.label.parameter (sym k ∙ e) there no_function_datatype)
+        function_stood = rw ((x.some there).offset no_function_datatype).0 (own.label.parameter (number_of_kind (sym k ∙ e) (λ u. cc)) there no_function_datatype)
 
         function_labelled : term m ≡ Function (field_at records m 2) (Some (proposition (prop_at name_space code label))) (term a)
         function_labelled = rw ((x.some there).offset no_function_datatype).0
@@ -248,7 +251,7 @@ module _ {records code : List ℕ} {stride : ℕ} {scope mades : List ℕ} {m n 
               kept = kept_wider n (n + nodes (term m)) (omega arith) (omega (arith, function_is.size)) i.kept
 
   -- A pair.
-  module _ (e : kind ≡ 1) where
+  module _ (e : kind ≡ variant.Pair) where
     pair_is : Two records code stride m a (field_at records m 2) Pair
     pair_is = pair_view own k ea refl e
 
@@ -297,7 +300,7 @@ module _ {records code : List ℕ} {stride : ℕ} {scope mades : List ℕ} {m n 
             kept = kept_then first_kept (kept_wider n (n + nodes (term m)) (rw en (omega arith)) second_room d.kept)
 
   -- A case, by what its head infers.
-  module _ (e : kind ≡ 9) {scope₁ mades₁ : List ℕ} {r h : ℕ} (i : Inferred records code stride scope mades a (n + 1) scope₁ mades₁ r)
+  module _ (e : kind ≡ variant.Case) {scope₁ mades₁ : List ℕ} {r h : ℕ} (i : Inferred records code stride scope mades a (n + 1) scope₁ mades₁ r)
       (x : Expected code mades₁ r 3 n h) where
     pub case_stop : stops ≤ h → At scope₁ mades₁ h
     case_stop l =
@@ -367,13 +370,23 @@ module _ {records code : List ℕ} {stride : ℕ} {scope mades : List ℕ} {m n 
                 (alike_sym t.alike) s right_slots whole_room is) same kept)
 
   -- What no arm names.
-  pub leaf_done : {r : ℕ} → (kind ≡ 0 → ⊥) → (kind ≡ 2 → ⊥) → (kind ≡ 3 → ⊥) → (kind ≡ 5 → ⊥) → (kind ≡ 11 → ⊥) → (kind ≡ 4 → ⊥) → (kind ≡ 1 → ⊥) → (kind ≡ 9 → ⊥)
+  pub leaf_done : {r : ℕ} → (kind ≡ variant.Ident → ⊥) → (kind ≡ variant.ProjectFst → ⊥) → (kind ≡ variant.ProjectSnd → ⊥) → (kind ≡ variant.Application → ⊥)
+      → (kind ≡ variant.TypeAscription → ⊥) → (kind ≡ variant.Function → ⊥) → (kind ≡ variant.Pair → ⊥) → (kind ≡ variant.Case → ⊥)
       → Leaf code kind n r → At scope mades r
-  leaf_done n0 n2 n3 n5 n11 n4 n1 n9 f =
-      by_cases (ℕ_discrete kind 6) (λ e. rw (f.let_stops e) (inferred_at (let_is own k e) (let_stops n _ _ _ _) refl kept_all))
-      (λ n6. by_cases (ℕ_discrete kind 7) (λ e. rw (f.inl_stops e) (inferred_at (inl_view own k ea e).is (inl_stops n _) refl kept_all))
-      (λ n7. by_cases (ℕ_discrete kind 8) (λ e. rw (f.inr_stops e) (inferred_at (inr_view own k ea e).is (inr_stops n _) refl kept_all))
-      (λ n8. by_cases (ℕ_discrete kind 10) (λ e. rw (f.abort_stops e) (inferred_at (abort_view own k ea e).is (abort_stops n _) refl kept_all))
-      (λ n10. by_cases (ℕ_discrete kind 13) (λ e. rw (f.sorry_stops e) (inferred_at (sorry_is own k e) (sorry_stops n) refl kept_all))
-      (λ n13. rw (f.top n6 n7 n8 n10 n13)
-      (inferred_at (else_unit own k ea n0 n2 n3 n5 n11 n4 n1 n9 n6 n7 n8 n10 n13) (unit_answer j.ends.top j.ends.top_is) refl kept_all))))))
+  leaf_done {r} no_ident no_fst no_snd no_application no_ascription no_function no_pair no_case f = go kind refl
+    where
+      go : (which : Kind) → kind ≡ which → At scope mades r
+      go variant.LetIn e = rw (f.let_stops e) (inferred_at (let_is own k e) (let_stops n _ _ _ _) refl kept_all)
+      go variant.OrLeft e = rw (f.inl_stops e) (inferred_at (inl_view own k ea e).is (inl_stops n _) refl kept_all)
+      go variant.OrRight e = rw (f.inr_stops e) (inferred_at (inr_view own k ea e).is (inr_stops n _) refl kept_all)
+      go variant.Abort e = rw (f.abort_stops e) (inferred_at (abort_view own k ea e).is (abort_stops n _) refl kept_all)
+      go variant.Sorry e = rw (f.sorry_stops e) (inferred_at (sorry_is own k e) (sorry_stops n) refl kept_all)
+      go variant.Unit e = rw (f.top e) (inferred_at (unit_is own k e) (unit_answer j.ends.top j.ends.top_is) refl kept_all)
+      go variant.Ident e = absurd (no_ident e)
+      go variant.ProjectFst e = absurd (no_fst e)
+      go variant.ProjectSnd e = absurd (no_snd e)
+      go variant.Application e = absurd (no_application e)
+      go variant.TypeAscription e = absurd (no_ascription e)
+      go variant.Function e = absurd (no_function e)
+      go variant.Pair e = absurd (no_pair e)
+      go variant.Case e = absurd (no_case e)

@@ -16,7 +16,7 @@ use Rattle.definitions.specs.TermText.{nodes}
 use Rattle.definitions.specs.Checker.{derived, ◌>>=◌, ensure, in_scope, sides, labelled, infer_named, infer_application, infer_ascribed, infer, check}
 use Rattle.prefix_code.specs.PropAt.{prop_at}
 use Rattle.prefix_code.specs.Scan.{Scanned}
-use Rattle.prop_numbers.specs.Standing.{Kept, RightOf, Shaped, Stood, left_of, made, made_numbers, name_space, node_limit, slotted, standing, stands, stops}
+use Rattle.prop_numbers.specs.Standing.{Kept, RightOf, Shaped, Stood, left_of, made, made_numbers, name_space, node_limit, slotted, standing, stops}
 use Rattle.prop_numbers.specs.Answering.{Alike}
 use Rattle.checker.specs.Scope.{Entries, Scoped, entry_prop}
 use Rattle.checker.specs.Judging.{ChecksAs, Decides, InfersAs, Means, named}

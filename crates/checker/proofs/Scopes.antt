@@ -13,7 +13,7 @@ use Rattle.definitions.specs.Prop.{rename_prop}
 use Rattle.definitions.specs.CheckingRules.{Context, bind, lookup}
 use Rattle.definitions.proofs.Names.{eq_name_refl, eq_name_of_ne}
 use Rattle.prefix_code.specs.PropAt.{prop_at}
-use Rattle.prop_numbers.specs.Standing.{Distinct, Stood, name_space, stands}
+use Rattle.prop_numbers.specs.Standing.{Distinct, Stood, name_space}
 use Rattle.checker.specs.Scope.{Entries, Scoped, entry_prop}
 
 -- Of a name, and a proposition that stands:

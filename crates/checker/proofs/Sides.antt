@@ -1,5 +1,5 @@
 -- What has a connective has sides: of an answer that must have one, and of a proposition that stands.
-use Prim.Native.Nat.{ℕ, ◌+◌, ◌-◌, ◌≤◌, ◌<◌}
+use Prim.Native.Nat.{ℕ, ◌+◌, ◌≤◌, ◌<◌}
 use mathlib.Core.Path.{◌≡◌, sym, ap, ◌∙◌}
 use mathlib.Core.Logic.{by_cases}
 use mathlib.Core.List.{List}
@@ -7,8 +7,7 @@ use native.Mathlib.Omega.{arith}
 use native.Mathlib.Decide.{ℕ_discrete, dec_le}
 use lib.ListN.{length}
 use Rattle.definitions.specs.Name.{Name}
-use Rattle.definitions.specs.Prop.{Connective, and, connective_byte}
-use Rattle.definitions.specs.Prop as prop
+use Rattle.definitions.specs.Prop.{Connective, connective_byte}
 use Rattle.definitions.specs.Code.{encode}
 use Rattle.definitions.specs.Term.{ProofTerm, rename_term}
 use Rattle.definitions.specs.CheckingRules.{Context}
@@ -19,7 +18,7 @@ use Rattle.prefix_code.specs.Scan.{Scanned}
 use Rattle.prop_numbers.specs.Standing.{Distinct, head_of, name_space, standing, stops}
 use Rattle.prop_numbers.specs.Answering.{Expected}
 use Rattle.checker.specs.Scope.{Scoped}
-use Rattle.checker.specs.Judging.{InfersAs, Means, named, node}
+use Rattle.checker.specs.Judging.{InfersAs, Means, named}
 use Rattle.prop_numbers.proofs.Opening.{Sides, binary_head, opened, sides_else}
 use Rattle.prop_numbers.proofs.Halves.{head_stands, left_present, rep_stands, scanned_of}
 use Rattle.checker.proofs.Answers.{Deriving, stopping, derives}

@@ -1,29 +1,25 @@
 -- The small steps between the calls of the two functions: what is asked of a part, and what stays.
-use Prim.Native.Nat.{ℕ, suc, ◌+◌, ◌*◌, ◌≤◌, ◌<◌}
+use Prim.Native.Nat.{ℕ, ◌+◌, ◌≤◌, ◌<◌}
 use mathlib.Core.Path.{◌≡◌, refl, sym, ap, ◌∙◌}
 use mathlib.Core.Logic.{by_cases}
-use mathlib.Core.Bool.{Bool, true, false, true≢false}
 use mathlib.Core.List.{List, []}
 use native.Mathlib.Omega.{arith}
 use native.Mathlib.Decide.{ℕ_discrete}
 use lib.ListN.{length, get_or, set, length-set}
-use Rattle.definitions.specs.Prop.{Prop, Connective, and, or, impl, connective_byte}
+use Rattle.definitions.specs.Prop.{Connective, and, or, impl, connective_byte}
 use Rattle.definitions.specs.Term.{ProofTerm}
 use Rattle.definitions.specs.TermText.{nodes}
 use Rattle.prefix_code.specs.PropAt.{prop_at}
 use Rattle.prefix_code.specs.Scan.{Scanned}
-use Rattle.prefix_code.proofs.Reading.{inside}
-use Rattle.proof_term.specs.Records.{record_size, field_at, term_at}
-use Rattle.prop_numbers.specs.Standing.{standing, node_limit, stops, made_numbers, name_space, Stood, Rep, Known, Space, Kept, head_of}
-use Rattle.prop_numbers.specs.Answering.{SideOf, Expected}
-use Rattle.prop_numbers.proofs.Reps.{kept_all, kept_wider, kept_then}
+use Rattle.prop_numbers.specs.Standing.{standing, node_limit, stops, made_numbers, name_space, Stood, Known, Space, Kept}
+use Rattle.prop_numbers.specs.Answering.{SideOf}
 use Rattle.prop_numbers.proofs.Halves.{Halves, halves, head_stands, stood_rep, space_of}
 use Rattle.checker.specs.Scope.{Entries}
-use Rattle.checker.specs.Asking.{label_prop, term_of, Few, NameHeld, Judgeable}
+use Rattle.checker.specs.Asking.{label_prop, term_of, Few, Judgeable}
 use Rattle.checker.specs.Judging.{InfersAs, ChecksAs, Inferred, Checked}
 use Rattle.checker.specs.Helping.{Bound}
 use Rattle.checker.proofs.Scopes.{bound_entries, put_back}
-use Rattle.checker.proofs.Answers.{Deriving, derives}
+use Rattle.checker.proofs.Answers.{derives}
 
 -- a part is an earlier record, and can be judged
 pub record Call (records code : List ℕ) (stride : ℕ) (scope mades : List ℕ) (m a n : ℕ) : Type 0 where

@@ -1,5 +1,5 @@
 -- What the helpers of the two functions say.
-use Rattle.std.specs.Prelude.{ℕ, ◌+◌, ◌-◌, ◌*◌, ◌≤◌, ◌<◌, ◌≡◌, Bool, true, false, List, length, get_or, set}
+use Rattle.std.specs.Prelude.{ℕ, ◌+◌, ◌-◌, ◌*◌, ◌<◌, ◌≡◌, Bool, true, false, List, length, get_or, set}
 use Rattle.definitions.specs.Name.{Name}
 use Rattle.definitions.specs.Prop.{rename_prop}
 use Rattle.definitions.specs.Term.{rename_parameter_label}
@@ -7,6 +7,8 @@ use Rattle.definitions.specs.Checker.{ensure, label_is}
 use Rattle.prefix_code.specs.PropAt.{prop_at}
 use Rattle.prefix_code.specs.Scan.{Scanned}
 use Rattle.proof_term.specs.Records.{field_at, parameter_label}
+use Rattle.proof_term.specs.declared.nodes.Kind.{Kind}
+use Rattle.proof_term.specs.declared.nodes.Kind.TheVariants.{LetIn, OrLeft, OrRight, Abort, Unit, Sorry}
 use Rattle.prop_numbers.specs.Standing.{stops, name_space, Distinct}
 use Rattle.checker.specs.Asking.{label_prop}
 
@@ -47,16 +49,11 @@ pub record Annotated (records : List ℕ) (stride m node r : ℕ) : Type 0 where
   pub none : field_at records m 3 ≡ 0 → r ≡ stops + node
   pub some : (field_at records m 3 ≡ 0 → ⊥) → Ascribed records stride m node r
 
--- what stops, stops the whole
-pub record Then (r p x : ℕ) : Type 0 where
-  pub stop : (r ≡ 0 → ⊥) → x ≡ r
-  pub go : r ≡ 0 → x ≡ p
-
 -- the kinds that have no inferring rule stop at the node; unit, and a kind that is unknown, has ⊤
-pub record Leaf (code : List ℕ) (kind node r : ℕ) : Type 0 where
-  pub let_stops : kind ≡ 6 → r ≡ stops + node
-  pub inl_stops : kind ≡ 7 → r ≡ stops + node
-  pub inr_stops : kind ≡ 8 → r ≡ stops + node
-  pub abort_stops : kind ≡ 10 → r ≡ stops + node
-  pub sorry_stops : kind ≡ 13 → r ≡ stops + node
-  pub top : (kind ≡ 6 → ⊥) → (kind ≡ 7 → ⊥) → (kind ≡ 8 → ⊥) → (kind ≡ 10 → ⊥) → (kind ≡ 13 → ⊥) → r ≡ length code - 2
+pub record Leaf (code : List ℕ) (kind : Kind) (node r : ℕ) : Type 0 where
+  pub let_stops : kind ≡ LetIn → r ≡ stops + node
+  pub inl_stops : kind ≡ OrLeft → r ≡ stops + node
+  pub inr_stops : kind ≡ OrRight → r ≡ stops + node
+  pub abort_stops : kind ≡ Abort → r ≡ stops + node
+  pub sorry_stops : kind ≡ Sorry → r ≡ stops + node
+  pub top : kind ≡ Unit → r ≡ length code - 2

@@ -10,16 +10,13 @@ ghost use Rattle.proof_term.specs.Records.{record_size, field_at, term_at};
 ghost use Rattle.prop_numbers.specs.Standing.{standing, node_limit, name_space, Stood};
 ghost use Rattle.checker.specs.Asking.{Few, NameHeld, LabelHeld, Judgeable};
 ghost use Rattle.checker.specs.Judging.{Inferred, Checked};
-ghost use Rattle.checker.specs.Helping.{Found, Bound, Ascribed, Annotated, BodySide, Then, Leaf};
+ghost use Rattle.checker.specs.Helping.{Found, Bound, Ascribed, Annotated, BodySide, Leaf};
 
-use prefix_code::scan;
-use proof_term::{
-    ABORT, APPLICATION, CASE, DATATYPE, FUNCTION, IDENT, LET_IN, NO_LABEL, OR_LEFT, OR_RIGHT, PAIR,
-    PROJECT_FST, PROJECT_SND, SORRY, TYPE_ASCRIPTION, field,
-};
+use prefix_code::{Connective, scan};
+use proof_term::{Kind, Label, field, kind_at, label_at, parameter_at};
 use prop_numbers::{
-    AND, IMPL, MADE_NUMBERS, NAMES, OR, STOPS, agree, expect, left, make, project, right,
-    same_code, side_of,
+    MADE_NUMBERS, NAMES, STOPS, agree, expect, first_side, left, make, right, same_code,
+    second_side, side_of,
 };
 use term_sizes::SIZE;
 
@@ -38,21 +35,20 @@ fn body_side(records: &[u16], m: usize, code: &[u8], stride: usize, p: usize, no
     requires m_value { (field_at records.now m 0 ≡ 4) × Stood code.now p × (length code.now ≤ standing) × (node < node_limit) }
     ensures { BodySide records.now code.now stride m p node result }
 {
-    let side = side_of(code, p, IMPL, node);
+    let side = side_of(code, p, Connective::Impl, node);
     if STOPS <= side {
         return side;
     }
-    let form = field(records, m, 3);
-    if form == NO_LABEL {
-        return side;
+    match parameter_at(records, m) {
+        None => side,
+        Some(Label::Datatype(_)) => STOPS + node,
+        Some(Label::Proposition(number)) => {
+            if same_code(code, stride * usize::from(number), p + 1) {
+                return side;
+            }
+            STOPS + node
+        }
     }
-    if form == DATATYPE {
-        return STOPS + node;
-    }
-    if same_code(code, stride * field(records, m, 4), p + 1) {
-        return side;
-    }
-    STOPS + node
 }
 
 // Binds name i of record m to the proposition at p, and gives the entry that this hides.
@@ -92,10 +88,10 @@ fn ascribed(records: &[u16], m: usize, stride: usize, node: usize) -> usize
     requires { (record_size * (m + 1) ≤ length records.now) × (stride ≤ 2) × (node < node_limit) }
     ensures { Ascribed records.now stride m node result }
 {
-    if field(records, m, 3) == DATATYPE {
-        return STOPS + node;
+    match label_at(records, m) {
+        Label::Datatype(_) => STOPS + node,
+        Label::Proposition(number) => stride * usize::from(number),
     }
-    stride * field(records, m, 4)
 }
 
 // The same for a function's label, which may be absent.
@@ -103,32 +99,26 @@ fn annotated(records: &[u16], m: usize, stride: usize, node: usize) -> usize
     requires { (record_size * (m + 1) ≤ length records.now) × (stride ≤ 2) × (node < node_limit) }
     ensures { Annotated records.now stride m node result }
 {
-    if field(records, m, 3) == NO_LABEL {
-        return STOPS + node;
+    match parameter_at(records, m) {
+        None => STOPS + node,
+        Some(_) => ascribed(records, m, stride, node),
     }
-    ascribed(records, m, stride, node)
-}
-
-// What a judgement that goes on after a check infers: that, unless the check stops.
-fn then(r: usize, p: usize) -> usize
-    ensures { Then r p result }
-{
-    if r != 0 {
-        return r;
-    }
-    p
 }
 
 // What a term without parts that matter infers: ⊤ where it is unit, and else there is no rule.
-fn leaf(code: &[u8], kind: usize, node: usize) -> usize
+fn leaf(code: &[u8], kind: Kind, node: usize) -> usize
     requires { (2 ≤ length code.now) × (node < node_limit) }
     ensures { Leaf code.now kind node result }
 {
     match kind {
-        LET_IN | OR_LEFT | OR_RIGHT | ABORT | SORRY => STOPS + node,
+        Kind::LetIn | Kind::OrLeft | Kind::OrRight | Kind::Abort | Kind::Sorry => STOPS + node,
         _ => code.len() - 2,
     }
 }
+
+// Both functions have an arm for each rule and stand whole, since a function for an arm would add its frame to each of the 512 levels.
+// What they work on stands in loose parameters: of a struct that lends the scope and the slots, each clause would say `now`, `old` and
+// `new` of every field. A kind is a value, but the numbers of a record are read one by one where an arm needs them.
 
 // Does the term of record m, a node of that number, check against the proposition at p?
 #[cycle(check_infer)]
@@ -146,10 +136,10 @@ pub fn check(
     ensures { Checked records.now code.now stride scope.old made.old m node p
         scope.new made.new result }
 {
-    let kind = field(records, m, 0);
+    let kind = kind_at(records, m);
     let first = field(records, m, 1);
     match kind {
-        FUNCTION => {
+        Kind::Function => {
             let side = body_side(records, m, code, stride, p, node);
             if STOPS <= side {
                 return side;
@@ -159,8 +149,8 @@ pub fn check(
             unbind(scope, records, m, 2, hidden);
             r
         }
-        PAIR => {
-            let side = side_of(code, p, AND, node);
+        Kind::Pair => {
+            let side = side_of(code, p, Connective::And, node);
             if STOPS <= side {
                 return side;
             }
@@ -172,23 +162,23 @@ pub fn check(
             let next = after(records, first, node + 1);
             check(records, second, next, code, stride, scope, made, side)
         }
-        OR_LEFT => {
-            let side = side_of(code, p, OR, node);
+        Kind::OrLeft => {
+            let side = side_of(code, p, Connective::Or, node);
             if STOPS <= side {
                 return side;
             }
             check(records, first, node + 1, code, stride, scope, made, p + 1)
         }
-        OR_RIGHT => {
-            let side = side_of(code, p, OR, node);
+        Kind::OrRight => {
+            let side = side_of(code, p, Connective::Or, node);
             if STOPS <= side {
                 return side;
             }
             check(records, first, node + 1, code, stride, scope, made, side)
         }
-        CASE => {
+        Kind::Case => {
             let inferred = infer(records, first, node + 1, code, stride, scope, made);
-            let h = expect(code, made, inferred, OR, node);
+            let h = expect(code, made, inferred, Connective::Or, node);
             if STOPS <= h {
                 return h;
             }
@@ -208,12 +198,12 @@ pub fn check(
             unbind(scope, records, m, 5, hidden);
             r
         }
-        ABORT => {
+        Kind::Abort => {
             let bottom = code.len() - 1;
             check(records, first, node + 1, code, stride, scope, made, bottom)
         }
-        SORRY => 0,
-        LET_IN => STOPS + node,
+        Kind::Sorry => 0,
+        Kind::LetIn => STOPS + node,
         _ => {
             let r = infer(records, m, node, code, stride, scope, made);
             agree(code, made, r, p, node, 0)
@@ -236,21 +226,21 @@ pub fn infer(
     ensures { Inferred records.now code.now stride scope.old made.old m node
         scope.new made.new result }
 {
-    let kind = field(records, m, 0);
+    let kind = kind_at(records, m);
     let first = field(records, m, 1);
     match kind {
-        IDENT => entry(scope, first, node),
-        PROJECT_FST => {
+        Kind::Ident => entry(scope, first, node),
+        Kind::ProjectFst => {
             let r = infer(records, first, node + 1, code, stride, scope, made);
-            project(code, made, r, false, node)
+            first_side(code, made, r, node)
         }
-        PROJECT_SND => {
+        Kind::ProjectSnd => {
             let r = infer(records, first, node + 1, code, stride, scope, made);
-            project(code, made, r, true, node)
+            second_side(code, made, r, node)
         }
-        APPLICATION => {
+        Kind::Application => {
             let inferred = infer(records, first, node + 1, code, stride, scope, made);
-            let p = expect(code, made, inferred, IMPL, node);
+            let p = expect(code, made, inferred, Connective::Impl, node);
             if STOPS <= p {
                 return p;
             }
@@ -259,17 +249,23 @@ pub fn infer(
             let argument = left(made, p);
             let side = right(code, made, p);
             let r = check(records, second, next, code, stride, scope, made, argument);
-            then(r, side)
+            if r != 0 {
+                return r;
+            }
+            side
         }
-        TYPE_ASCRIPTION => {
+        Kind::TypeAscription => {
             let label = ascribed(records, m, stride, node);
             if STOPS <= label {
                 return label;
             }
             let r = check(records, first, node + 1, code, stride, scope, made, label);
-            then(r, label)
+            if r != 0 {
+                return r;
+            }
+            label
         }
-        FUNCTION => {
+        Kind::Function => {
             let label = annotated(records, m, stride, node);
             if STOPS <= label {
                 return label;
@@ -277,9 +273,9 @@ pub fn infer(
             let hidden = bind(scope, records, m, 2, label);
             let r = infer(records, first, node + 1, code, stride, scope, made);
             unbind(scope, records, m, 2, hidden);
-            make(made, node, IMPL, label, r)
+            make(made, node, Connective::Impl, label, r)
         }
-        PAIR => {
+        Kind::Pair => {
             let p = infer(records, first, node + 1, code, stride, scope, made);
             if STOPS <= p {
                 return p;
@@ -287,11 +283,11 @@ pub fn infer(
             let second = field(records, m, 2);
             let next = after(records, first, node + 1);
             let q = infer(records, second, next, code, stride, scope, made);
-            make(made, node, AND, p, q)
+            make(made, node, Connective::And, p, q)
         }
-        CASE => {
+        Kind::Case => {
             let inferred = infer(records, first, node + 1, code, stride, scope, made);
-            let h = expect(code, made, inferred, OR, node);
+            let h = expect(code, made, inferred, Connective::Or, node);
             if STOPS <= h {
                 return h;
             }

@@ -209,7 +209,14 @@ datatype_read kind number {t} is = by_cases (ℕ_discrete kind 2)
     (λ e. let same : Datatype number ≡ Datatype t = rw (eq-eqb kind 2 e) at is in (e, cc))
     (λ e. let other : Proposition number ≡ Datatype t = rw (ne_eqb kind 2 e) at is in cc)
 
-parameter_read : (kind number : ℕ) {l : Label} → parameter_of_numbers kind number ≡ Some l → (eqb kind 0 ≡ false) × (label_of_numbers kind number ≡ l)
+-- a parameter without a label, and one with
+pub no_parameter : (kind number : ℕ) → parameter_of_numbers kind number ≡ None → kind ≡ 0
+unfolding parameter_of_numbers
+no_parameter kind number is = by_cases (ℕ_discrete kind 0)
+    (λ e. e)
+    (λ e. let some : Some (label_of_numbers kind number) ≡ None = rw (ne_eqb kind 0 e) at is in cc)
+
+pub parameter_read : (kind number : ℕ) {l : Label} → parameter_of_numbers kind number ≡ Some l → (eqb kind 0 ≡ false) × (label_of_numbers kind number ≡ l)
 unfolding parameter_of_numbers
 parameter_read kind number {l} is = go (eqb kind 0) refl is
   where

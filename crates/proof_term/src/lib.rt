@@ -14,10 +14,13 @@ ghost use Rattle.proof_term.specs.Tally.{tally_limit, sum_over, tally_over, Node
 ghost use Rattle.proof_term.specs.Making.{Room, Pushed, Made};
 
 use nodes::{label_of_numbers, parameter_of_numbers};
-pub use nodes::{Kind, Label, Node, kind_at, node_at, parts_at};
+pub use nodes::{Kind, Label, Node, kind_at, label_at, node_at, parameter_at, parts_at};
 
 // The numbers of a record.
 pub const RECORD_SIZE: usize = 7;
+
+// A term has at most so many nodes, and so many records.
+pub const NODE_LIMIT: usize = 2048;
 
 // The number of a record that is its tally, and the most that it says.
 const TALLY: usize = 6;

@@ -311,6 +311,22 @@ pub fn kind_at(records: &[u16], n: usize) -> Kind
     Kind::of(field(records, n, 0))
 }
 
+// The label of record `n`, an ascription.
+pub fn label_at(records: &[u16], n: usize) -> Label
+    requires { record_size * (n + 1) ≤ length records.now }
+    ensures { result ≡ label_of_numbers (field_at records.now n 3) (field_at records.now n 4) }
+{
+    label_of_numbers(field(records, n, 3) as u16, field(records, n, 4) as u16)
+}
+
+// The label of record `n`, a function, if its parameter has one.
+pub fn parameter_at(records: &[u16], n: usize) -> Option<Label>
+    requires { record_size * (n + 1) ≤ length records.now }
+    ensures { result ≡ parameter_of_numbers (field_at records.now n 3) (field_at records.now n 4) }
+{
+    parameter_of_numbers(field(records, n, 3) as u16, field(records, n, 4) as u16)
+}
+
 // The node that record `n` is.
 #[tactic(auto, unfolding(crate::specs::Records::field_at, crate::specs::Views::node_at))]
 pub fn node_at(records: &[u16], n: usize) -> Node

@@ -1,10 +1,12 @@
 -- What the functions over propositions as numbers say.
-use Rattle.std.specs.Prelude.{ℕ, ◌+◌, ◌≤◌, ◌<◌, ◌≡◌, Bool, true, false, cond, List, get_or}
+use Rattle.std.specs.Prelude.{ℕ, ◌+◌, ◌≤◌, ◌<◌, ◌≡◌, Bool, cond, List, get_or}
 use Rattle.definitions.specs.Name.{Name}
 use Rattle.definitions.specs.Prop.{Prop, rename_prop}
 use Rattle.definitions.specs.Equal.{eq_prop}
 use Rattle.prefix_code.specs.Scan.{Scanned}
-use Rattle.prop_numbers.specs.Standing.{standing, stops, name_space, Rep, Distinct, head_of, left_of, RightOf, slotted}
+use Rattle.prefix_code.specs.declared.Connective.{Connective}
+use Rattle.prefix_code.specs.declared.Connective.TheVariants.{And, Or, Impl}
+use Rattle.prop_numbers.specs.Standing.{standing, stops, name_space, Rep, Distinct, head_of, left_of, slotted}
 
 -- the test whether two numbers have equal propositions, by every naming by different names
 pub record Alike (code made : List ℕ) (p q : ℕ) (r : Bool) : Type 0 where
@@ -21,6 +23,12 @@ pub record Agreed (code made : List ℕ) (r p node answer x : ℕ) : Type 0 wher
   pub stop : stops ≤ r → x ≡ r
   pub tested : r < stops → Tested code made r p node answer x
 
+-- the byte in front of a connective, as `connective_byte` has it
+abbrev pub head_byte : Connective → ℕ
+head_byte And = 2
+head_byte Or = 3
+head_byte Impl = 4
+
 -- where the left side of what stands at p ends, if it has that connective; else a stop at the node
 pub record SideOf (code : List ℕ) (p c node r : ℕ) : Type 0 where
   pub found : get_or code p 0 ≡ c → Scanned name_space code (p + 1) r
@@ -32,13 +40,16 @@ pub record Expected (code made : List ℕ) (r c node res : ℕ) : Type 0 where
   pub found : r < stops → head_of code made r ≡ c → res ≡ r
   pub other : r < stops → (head_of code made r ≡ c → ⊥) → res ≡ stops + node
 
+-- the left side of a number
+abbrev pub FirstSide : List ℕ → ℕ → ℕ → Type 0
+FirstSide made p x = x ≡ left_of made p
+
 -- a side of what is inferred, which must be ∧
-pub record Projected (code made : List ℕ) (r : ℕ) (second : Bool) (node x : ℕ) : Type 0 where
+pub record Projected (code made : List ℕ) (r : ℕ) (Side : ℕ → ℕ → Type 0) (node x : ℕ) : Type 0 where
   pub p : ℕ
   pub expected : Expected code made r 2 node p
   pub stop : stops ≤ p → x ≡ p
-  pub first_side : p < stops → second ≡ false → x ≡ left_of made p
-  pub second_side : p < stops → second ≡ true → RightOf code made p x
+  pub side : p < stops → Side p x
 
 -- a proposition made of two, unless the second is a stop
 pub record Made (before : List ℕ) (node c left right : ℕ) (after : List ℕ) (r : ℕ) : Type 0 where

@@ -9,32 +9,25 @@ ghost use Rattle.definitions.specs.Equal.{eq_prop};
 ghost use Rattle.prefix_code.specs.PropAt.{prop_at, Present};
 ghost use Rattle.prop_numbers.specs.Standing.{standing, node_limit, stops, name_space, made_numbers, Space, head_of, left_of, RightOf};
 ghost use Rattle.prop_numbers.specs.Standing.{Known, Stood, Distinct};
-ghost use Rattle.prop_numbers.specs.Answering.{Alike, Agreed, SideOf, Expected, Projected, Made};
+ghost use Rattle.prop_numbers.specs.Answering.{Alike, Agreed, head_byte, SideOf, Expected, FirstSide, Projected, Made};
 
-use prefix_code::scan;
+use prefix_code::{Connective, scan};
+use proof_term::NODE_LIMIT;
 
 // A proposition is the offset of its code, or past all code the number of a made one, a connective and two propositions. A sheet has
 // 8,192 bytes of code at most, the labels of a term read beside it 131,072; ⊤ and ⊥ are the last two.
 pub const STANDING: usize = 139266;
 
-// A term has at most so many nodes, each of which may make one proposition.
-pub const NODES: usize = 2048;
-
-pub const MADE_NUMBERS: usize = 3 * NODES;
+// Each node of a term may make one proposition, in three numbers.
+pub const MADE_NUMBERS: usize = 3 * NODE_LIMIT;
 
 // All name numbers are below this: the sheet's, and then those of a term read beside it. In scope stands for each the offset of its
 // proposition plus one, or 0.
 pub const NAMES: usize = 1024;
 
-// What stops, stops at this plus the node.
-pub const STOPS: usize = STANDING + NODES;
-
-// The connectives, as `head` gives them.
-pub const AND: usize = prefix_code::AND as usize;
-
-pub const OR: usize = prefix_code::OR as usize;
-
-pub const IMPL: usize = prefix_code::IMPL as usize;
+// What stops, stops at this plus the node. That and what a proposition is are one number and no Result or enum: the walk over a term is
+// 512 levels deep, and an enum takes twice the frame of a number (docs/DECISIONS.md, 135).
+pub const STOPS: usize = STANDING + NODE_LIMIT;
 
 // The head byte of a proposition.
 fn head(code: &[u8], made: &[u32], p: usize) -> usize
@@ -77,7 +70,7 @@ pub fn same_code(code: &[u8], i: usize, j: usize) -> bool
 {
     let i_end = scan(code, i, NAMES);
     let j_end = scan(code, j, NAMES);
-    identifier::same_name(&code[i..i_end], &code[j..j_end])
+    code[i..i_end] == code[j..j_end]
 }
 
 // Whether two propositions are equal. Where one of them is made, both are binary or they differ.
@@ -117,60 +110,69 @@ pub fn agree(code: &[u8], made: &[u32], r: usize, p: usize, node: usize, answer:
 }
 
 // The right side of the proposition that stands at p, if it has that connective; else a stop at the node.
-pub fn side_of(code: &[u8], p: usize, connective: usize, node: usize) -> usize
+pub fn side_of(code: &[u8], p: usize, connective: Connective, node: usize) -> usize
     requires { Stood code.now p × (length code.now ≤ standing) × (node < node_limit) }
-    ensures { SideOf code.now p connective node result }
+    ensures { SideOf code.now p (head_byte connective) node result }
 {
-    if code[p] as usize == connective {
+    if code[p] == connective.byte() {
         return scan(code, p + 1, NAMES);
     }
     STOPS + node
 }
 
 // What an answer of `infer` is, which must have a connective: the answer itself, or a stop at the node.
-pub fn expect(code: &[u8], made: &[u32], r: usize, connective: usize, node: usize) -> usize
+pub fn expect(code: &[u8], made: &[u32], r: usize, connective: Connective, node: usize) -> usize
     requires { (r < stops → Space code.now made.now r) × (node < node_limit) }
-    ensures { Expected code.now made.now r connective node result }
+    ensures { Expected code.now made.now r (head_byte connective) node result }
 {
     if STOPS <= r {
         return r;
     }
-    if head(code, made, r) == connective {
+    if head(code, made, r) == usize::from(connective.byte()) {
         return r;
     }
     STOPS + node
 }
 
-// The first or the second side of a conjunction that is inferred, or a stop.
-pub fn project(code: &[u8], made: &[u32], r: usize, second: bool, node: usize) -> usize
+// The first side of a conjunction that is inferred, or a stop.
+pub fn first_side(code: &[u8], made: &[u32], r: usize, node: usize) -> usize
     requires { (r < stops → Space code.now made.now r) × (node < node_limit) }
-    ensures { Projected code.now made.now r second node result }
+    ensures { Projected code.now made.now r (FirstSide made.now) node result }
 {
-    let p = expect(code, made, r, AND, node);
+    let whole = expect(code, made, r, Connective::And, node);
+    if STOPS <= whole {
+        return whole;
+    }
+    left(made, whole)
+}
+
+// The second side.
+pub fn second_side(code: &[u8], made: &[u32], r: usize, node: usize) -> usize
+    requires { (r < stops → Space code.now made.now r) × (node < node_limit) }
+    ensures { Projected code.now made.now r (RightOf code.now made.now) node result }
+{
+    let p = expect(code, made, r, Connective::And, node);
     if STOPS <= p {
         return p;
     }
-    if second {
-        return right(code, made, p);
-    }
-    left(made, p)
+    right(code, made, p)
 }
 
 // Makes a proposition of two, unless the second is a stop.
 pub fn make(
     made: &mut [u32; MADE_NUMBERS],
     node: usize,
-    connective: usize,
+    connective: Connective,
     left: usize,
     right: usize,
 ) -> usize
-    requires { (node < node_limit) × (connective < 8) × (left < stops) × (length made.old ≡ made_numbers) }
-    ensures { Made made.old node connective left right made.new result }
+    requires { (node < node_limit) × (left < stops) × (length made.old ≡ made_numbers) }
+    ensures { Made made.old node (head_byte connective) left right made.new result }
 {
     if STOPS <= right {
         return right;
     }
-    made[3 * node] = connective as u32;
+    made[3 * node] = u32::from(connective.byte());
     made[3 * node + 1] = left as u32;
     made[3 * node + 2] = right as u32;
     STANDING + node

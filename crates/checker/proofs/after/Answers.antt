@@ -1,11 +1,10 @@
 -- The nodes of the term come first, and their count is kept in its record.
-use Prim.Native.Nat.{ℕ, ◌+◌, ◌≤◌, ◌<◌}
+use Prim.Native.Nat.{ℕ, ◌+◌}
 use mathlib.Core.Path.{◌≡◌, ap, ◌∙◌}
 use mathlib.Core.Logic.{by_cases}
 use mathlib.Core.List.{List}
 use native.Mathlib.Omega.{arith}
 use native.Mathlib.Decide.{dec_lt}
-use borrow.Author.Rules.{rules}
 use Rattle.definitions.specs.Prop.{Prop}
 use Rattle.definitions.specs.TermText.{nodes}
 use Rattle.proof_term.specs.Records.{field_at, term_at}

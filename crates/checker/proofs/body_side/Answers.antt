@@ -1,52 +1,76 @@
 -- An implication by its byte, and then the label against its left side.
-use Prim.Native.Nat.{◌+◌, ◌*◌, ◌<◌}
+use Prim.Native.Nat.{ℕ, ◌*◌}
 use mathlib.Core.Path.{◌≡◌, refl, sym, ap, ◌∙◌}
-use mathlib.Core.Bool.{true, false, true≢false}
+use mathlib.Core.List.{List}
 use native.Mathlib.Omega.{arith}
 use lib.ListN.{get_or}
-use borrow.Author.Rules.{rules}
+use borrow.Author.Tests.{eqb-false}
+use Rattle.std.specs.Prelude.{Some}
 use Rattle.definitions.specs.Prop.{impl}
-use Rattle.prefix_code.specs.Scan.{Scanned}
-use Rattle.prop_numbers.specs.Standing.{name_space, Stood}
+use Rattle.proof_term.specs.Records.{field_at}
+use Rattle.proof_term.proofs.Views.{no_parameter, parameter_read, datatype_read, proposition_read}
+use Rattle.prop_numbers.specs.Standing.{Stood}
 use Rattle.checker.proofs.Labels.{tested_none, tested_datatype, tested_prop, body_stop, body_side, not_side, has_connective}
 use Rattle.checker.proofs.Steps.{halves_at, impl_is}
 use Rattle.checker.proofs.body_side.Goals as goal
-use Rattle.checker.proofs.body_side.Goals.{After-field, Else-side-ge-STOPS}
+use Rattle.checker.proofs.body_side.Goals.{Else-side-ge-STOPS, After-from}
 
 -- it is an implication
 implication : (c : Else-side-ge-STOPS) → get_or c.args.code.now c.args.p 0 ≡ 4
 implication c = has_connective c.side_of-side.ensures c.if-side-ge-STOPS.false
 
--- the label stands
-label_stood : (c : After-field) → let args = c.args in Stood args.code.now (args.stride * c.field.result)
-label_stood c =
-    let kind = c.field-form.ensures.0 in
-    rw c.field.ensures.0 (c.requires.m_in_bounds.1.parameter c.requires.m_value.0 (λ e. c.if-form-eq-NO_LABEL.false (kind ∙ e)) (λ e. c.if-form-eq-DATATYPE.false (kind ∙ e)))
+-- the label is a proposition, and stands
+record LabelStands (records code : List ℕ) (stride m number : ℕ) : Type 0 where
+  pub some : field_at records m 3 ≡ 0 → ⊥
+  pub other : field_at records m 3 ≡ 2 → ⊥
+  pub is : number ≡ field_at records m 4
+  pub stood : Stood code (stride * number)
+
+label_stands : (c : After-from) → let args = c.args in LabelStands args.records.now args.code.now args.stride args.m c.from.result
+label_stands c =
+    let args = c.args in
+    let kind = field_at args.records.now args.m 3 in
+    let arm = c.in-Some-Proposition in
+    let label = parameter_read kind (field_at args.records.now args.m 4) (sym c.parameter_at.ensures ∙ arm.is ∙ ap Some arm.field-0-is) in
+    let read = proposition_read kind (field_at args.records.now args.m 4) label.1 in
+    record {
+      some = eqb-false kind 0 label.0;
+      other = read.0;
+      is = c.from.ensures ∙ read.1;
+      stood = rw (c.from.ensures, read.1) (c.requires.m_in_bounds.1.parameter c.requires.m_value.0 (eqb-false kind 0 label.0) read.0);
+    }
 
 pub returns-then-side-ge-STOPS : goal.returns-then-side-ge-STOPS
 returns-then-side-ge-STOPS c = body_stop c.requires.m_value.2 c.requires.m_value.1 c.side_of-side.ensures c.if-side-ge-STOPS.true
 
-pub returns-then-form-eq-NO_LABEL : goal.returns-then-form-eq-NO_LABEL
-returns-then-form-eq-NO_LABEL c =
-    body_side (tested_none c.field-form.ensures.0 c.if-form-eq-NO_LABEL.true) c.side_of-side.ensures (implication (goal.at.returns-then-form-eq-NO_LABEL c).Else-side-ge-STOPS)
+pub returns-in-None : goal.returns-in-None
+returns-in-None c =
+    let none = no_parameter (field_at c.args.records.now c.args.m 3) (field_at c.args.records.now c.args.m 4) (sym c.parameter_at.ensures ∙ c.in-None.is) in
+    body_side (tested_none refl none) c.side_of-side.ensures (implication (goal.at.returns-in-None c).Else-side-ge-STOPS)
 
-pub returns-then-form-eq-DATATYPE : goal.returns-then-form-eq-DATATYPE
-returns-then-form-eq-DATATYPE c =
-    not_side (tested_datatype c.field-form.ensures.0 c.if-form-eq-DATATYPE.true) (implication (goal.at.returns-then-form-eq-DATATYPE c).Else-side-ge-STOPS)
+pub returns-in-Some-Datatype : goal.returns-in-Some-Datatype
+returns-in-Some-Datatype c =
+    let arm = c.in-Some-Datatype in
+    let kind = field_at c.args.records.now c.args.m 3 in
+    let number = field_at c.args.records.now c.args.m 4 in
+    let label = parameter_read kind number (sym c.parameter_at.ensures ∙ arm.is ∙ ap Some arm.field-0-is) in
+    not_side (tested_datatype refl (datatype_read kind number label.1).0) (implication (goal.at.returns-in-Some-Datatype c).Else-side-ge-STOPS)
+
+pub overflow_mul-stride : goal.overflow_mul-stride
+overflow_mul-stride c = omega (arith, (label_stands c).stood.low)
+
+pub same_code-requires : goal.same_code-requires
+same_code-requires c =
+    let here = implication (goal.at.same_code-requires c).Else-side-ge-STOPS in
+    ((label_stands (goal.at.same_code-requires c).After-from).stood.there, (halves_at impl c.requires.m_value.2 c.requires.m_value.1 (here ∙ sym impl_is) (c.side_of-side.ensures.found here)).left.there)
 
 pub returns-then-same_code : goal.returns-then-same_code
 returns-then-same_code c =
-    let kind = c.field-form.ensures.0 in
-    body_side (tested_prop kind c.if-form-eq-NO_LABEL.false c.if-form-eq-DATATYPE.false c.field.ensures.0 (λ f one. sym c.if-same_code.true ∙ c.same_code.ensures f one))
+    let label = label_stands (goal.at.returns-then-same_code c).After-from in
+    body_side (tested_prop refl label.some label.other label.is (λ f one. sym c.if-same_code.true ∙ c.same_code.ensures f one))
     c.side_of-side.ensures (implication (goal.at.returns-then-same_code c).Else-side-ge-STOPS)
 
-pub returns : goal.returns
-returns c =
-    let kind = c.field-form.ensures.0 in
-    not_side (tested_prop kind c.if-form-eq-NO_LABEL.false c.if-form-eq-DATATYPE.false c.field.ensures.0 (λ f one. sym c.if-same_code.false ∙ c.same_code.ensures f one)) (implication (goal.at.returns c).Else-side-ge-STOPS)
-
-pub overflow_mul-stride : goal.overflow_mul-stride
-overflow_mul-stride c = omega (arith, (label_stood c).low)
-
-pub same_code-requires : goal.same_code-requires
-same_code-requires c = ((label_stood c).there, (halves_at impl c.requires.m_value.2 c.requires.m_value.1 (implication (goal.at.same_code-requires c).Else-side-ge-STOPS ∙ sym impl_is) (c.side_of-side.ensures.found (implication (goal.at.same_code-requires c).Else-side-ge-STOPS))).left.there)
+pub returns-else-same_code : goal.returns-else-same_code
+returns-else-same_code c =
+    let label = label_stands (goal.at.returns-else-same_code c).After-from in
+    not_side (tested_prop refl label.some label.other label.is (λ f one. sym c.if-same_code.false ∙ c.same_code.ensures f one)) (implication (goal.at.returns-else-same_code c).Else-side-ge-STOPS)

@@ -1,6 +1,5 @@
 -- The entry is one more than the offset, and 0 for none.
 use native.Mathlib.Omega.{arith}
-use borrow.Author.Rules.{rules}
 use Rattle.checker.proofs.entry.Goals as goal
 
 pub overflow_cast-bound : goal.overflow_cast-bound

@@ -1,18 +1,19 @@
 -- A stop stays; any other answer by its head.
 use mathlib.Core.Path.{refl, sym, ◌∙◌}
 use native.Mathlib.Omega.{arith}
+use Rattle.prop_numbers.proofs.Bytes.{byte}
 use Rattle.prop_numbers.proofs.expect.Goals as goal
 
 pub returns-then-r-ge-STOPS : goal.returns-then-r-ge-STOPS
 returns-then-r-ge-STOPS c = record { stop = λ h. refl; found = λ h e. refl; other = λ h e. absurd (omega (arith, c.if-r-ge-STOPS.true)) }
 
-pub returns-then-head-connective : goal.returns-then-head-connective
-returns-then-head-connective c = record { stop = λ h. refl; found = λ h e. refl; other = λ h e. absurd (e (sym c.head.ensures ∙ c.if-head-connective.true)) }
+pub returns-then-head-from : goal.returns-then-head-from
+returns-then-head-from c = record { stop = λ h. refl; found = λ h e. refl; other = λ h e. absurd (e (sym c.head.ensures ∙ (c.if-head-from.true ∙ byte _ c.from.ensures c.byte.ensures))) }
 
 pub returns : goal.returns
 returns c = record {
   stop = λ h. absurd (omega (arith, c.if-r-ge-STOPS.false));
-  found = λ h e. absurd (c.if-head-connective.false (c.head.ensures ∙ e));
+  found = λ h e. absurd (c.if-head-from.false (c.head.ensures ∙ (e ∙ sym (byte _ c.from.ensures c.byte.ensures))));
   other = λ h e. refl;
 }
 

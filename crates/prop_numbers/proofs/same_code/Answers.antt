@@ -1,6 +1,7 @@
 -- The codes are cut out and compared byte by byte.
 use Prim.Native.Nat.{◌+◌}
-use mathlib.Core.Path.{◌≡◌}
+use mathlib.Core.Path.{◌≡◌, sym, ◌∙◌}
+use Rattle.identifier.proofs.Comparing.{eq_name_is}
 use native.Mathlib.Omega.{arith}
 use lib.ListN.{length}
 use Rattle.definitions.specs.Code.{encode}
@@ -23,25 +24,25 @@ scan-i_end-requires c = omega (arith, (inside c.requires.0).start)
 pub scan-j_end-requires : goal.scan-j_end-requires
 scan-j_end-requires c = omega (arith, (inside c.requires.1).start)
 
-pub slice_bounds-same_name-count : goal.slice_bounds-same_name-count
-slice_bounds-same_name-count c = omega (arith, first c)
+pub slice_bounds-eq-count : goal.slice_bounds-eq-count
+slice_bounds-eq-count c = omega (arith, first c)
 
-pub slice_bounds-same_name-start : goal.slice_bounds-same_name-start
-slice_bounds-same_name-start c = omega (arith, first c)
+pub slice_bounds-eq-start : goal.slice_bounds-eq-start
+slice_bounds-eq-start c = omega (arith, first c)
 
-pub slice_bounds-same_name-end : goal.slice_bounds-same_name-end
-slice_bounds-same_name-end c = omega (arith, first c, (inside c.requires.0).end)
+pub slice_bounds-eq-end : goal.slice_bounds-eq-end
+slice_bounds-eq-end c = omega (arith, first c, (inside c.requires.0).end)
 
-pub slice_bounds-same_name-count-2 : goal.slice_bounds-same_name-count-2
-slice_bounds-same_name-count-2 c = omega (arith, second (goal.at.slice_bounds-same_name-count-2 c).After-scan-j_end)
+pub slice_bounds-eq-count-2 : goal.slice_bounds-eq-count-2
+slice_bounds-eq-count-2 c = omega (arith, second (goal.at.slice_bounds-eq-count-2 c).After-scan-j_end)
 
-pub slice_bounds-same_name-start-2 : goal.slice_bounds-same_name-start-2
-slice_bounds-same_name-start-2 c = omega (arith, second (goal.at.slice_bounds-same_name-start-2 c).After-scan-j_end)
+pub slice_bounds-eq-start-2 : goal.slice_bounds-eq-start-2
+slice_bounds-eq-start-2 c = omega (arith, second (goal.at.slice_bounds-eq-start-2 c).After-scan-j_end)
 
-pub slice_bounds-same_name-end-2 : goal.slice_bounds-same_name-end-2
-slice_bounds-same_name-end-2 c = omega (arith, second (goal.at.slice_bounds-same_name-end-2 c).After-scan-j_end, (inside c.requires.1).end)
+pub slice_bounds-eq-end-2 : goal.slice_bounds-eq-end-2
+slice_bounds-eq-end-2 c = omega (arith, second (goal.at.slice_bounds-eq-end-2 c).After-scan-j_end, (inside c.requires.1).end)
 
 pub returns : goal.returns
 returns c =
     λ f one.
-    same_standing c.requires.0 c.requires.1 c.scan-i_end.ensures c.scan-j_end.ensures f one c.same_name.ensures
+    same_standing c.requires.0 c.requires.1 c.scan-i_end.ensures c.scan-j_end.ensures f one (c.eq.ensures ∙ sym (eq_name_is _ _))
