@@ -2,8 +2,7 @@
 use Prim.Native.Nat.{ℕ, ◌<◌}
 use mathlib.Core.Path.{◌≡◌, refl}
 use mathlib.Core.Logic.{◌⊎◌, inl, inr}
-use Rattle.std.specs.Prelude.{Option, None, Some, Ok, Err}
-use Rattle.std.specs.Option.{ok_or}
+use Rattle.std.specs.Prelude.{None, Some, Ok, Err}
 use mathlib.Core.List.{List}
 use native.Mathlib.Omega.{arith}
 use Rattle.definitions.specs.Outcome.{Outcome, accepted, map_outcome, refuse}
@@ -26,12 +25,11 @@ use Rattle.prefix_code.proofs.Shapes.{implication_at}
 use Rattle.steps.specs.declared.Judgement.{Judgement}
 use Rattle.steps.specs.declared.Conclusion.{Conclusion}
 use Rattle.steps.specs.declared.Conclusion.TheVariants.{PropIsTrue, TypeJudgement}
-use Rattle.proof_term.specs.Records.{label_of, parameter_label}
-use Rattle.proof_tree.specs.declared.conclusion.Label as program
+use Rattle.proof_term.specs.declared.nodes.Label.TheVariants.{Proposition, Datatype}
 use Rattle.proof_tree.specs.declared.table.Ending.{Ending}
 use Rattle.proof_tree.specs.declared.table.Ending.TheVariants.{Bare, Ascribed, LeftLabelled, DatatypeLabelled, PremissOwn}
 use Rattle.proof_tree.specs.Table.{ending_of}
-use Rattle.proof_tree.specs.Labelling.{left_label_of, datatype_label_of, parameter_label_of, Means, stands, judges, Annotated, labelled, refuses, label_or}
+use Rattle.proof_tree.specs.Labelling.{left_label_of, datatype_label_of, parameter_label_of, Means, stands, judges, Annotated, labelled, refuses, LeftSide}
 use Rattle.proof_tree.specs.Opening.{Readable}
 use Rattle.proof_tree.proofs.Conclusions.{shaped, left_fits, datatype_fits, implication_label_lem, other_connective, no_binary, universal_label_lem, other_quantifier, no_quantified}
 
@@ -46,16 +44,9 @@ no_parameter PremissOwn k c h = refl
 
 -- no function with a label is made
 pub unlabelled : (names : ℕ) (pairs code : List ℕ) (e : Ending) (c : Conclusion) (k : ℕ) (m : ProofTreeConclusion ℕ) → (e ≡ Bare) ⊎ ((e ≡ Ascribed) ⊎ (e ≡ PremissOwn))
-    → Annotated names pairs code c (parameter_label_of (ending_of e) k m) (Ok (record { kind = 0; number = 0 }))
-unfolding parameter_label
+    → Annotated names pairs code c (parameter_label_of (ending_of e) k m) (Ok None)
 unlabelled names pairs code e c k m h =
-    labelled {l = record { kind = 0; number = 0 }} (record { is = no_parameter e k m h; known = omega arith; left = λ z. absurd (omega arith) })
-
--- a label that was found, or the refusal in its place
-pub or_refused : {names : ℕ} {pairs code : List ℕ} {c : Conclusion} {outcome : Outcome (Option (term.Label ℕ))} {number k : ℕ} {x : Refusal} (o : Option program.Label)
-    → x ≡ record { number = number; place = k } → Annotated names pairs code c outcome (label_or number k o) → Annotated names pairs code c outcome (ok_or o x)
-or_refused None is a = rw is a
-or_refused (Some l) is a = a
+    labelled {l = None} (record { is = no_parameter e k m h; left = λ number z. let y : ◌≡◌ {A = ℕ} 0 1 = cc in absurd (omega arith) })
 
 -- a proposition that stands at its pair's offset
 pub record Stated (names : ℕ) (pairs code : List ℕ) (p : ℕ) (m : ProofTreeConclusion ℕ) : Type 0 where
@@ -121,15 +112,15 @@ module _ {names : ℕ} {pairs code : List ℕ} {c : Conclusion} {m : ProofTreeCo
     other_left {k} same other = no_label (left_label k) (other_connective k (is_shape same) other)
 
     pub left_side : (k : ℕ) {connective : Connective} {left : ℕ} → s ≡ Binary connective left → connective ≡ Impl
-        → Annotated names pairs code c (left_label_of k m) (Ok (record { kind = 1; number = left }))
-    unfolding left_label_of map_outcome parameter_label label_of
+        → Annotated names pairs code c (left_label_of k m) (Ok (Some (Proposition left)))
+    unfolding left_label_of map_outcome
     left_side k {left = left} same impl =
         let its = stated o.concludes in
-        let implies = implication_at its.here (is_shape (rw impl at same)) in
-        labelled {l = record { kind = 1; number = left }} (record {
+        let implies : LeftSide pairs code c left =
+        record { proposition = p; concludes = o.concludes; implies = implication_at its.here (is_shape (rw impl at same)) } in
+        labelled {l = Some (Proposition left)} (record {
           is = rw (its.is, implication_label_lem k (is_shape same) impl);
-          known = omega arith;
-          left = λ z. record { proposition = p; concludes = o.concludes; implies = implies };
+          left = λ number z. let here : left ≡ number = cc in rw here at implies;
         })
 
     pub no_datatype : {k : ℕ} {r : Refusal} → ((quantifier : Quantifier) (object d body : ℕ) → s ≡ Quantified quantifier object d body → ⊥)
@@ -144,13 +135,12 @@ module _ {names : ℕ} {pairs code : List ℕ} {c : Conclusion} {m : ProofTreeCo
     other_datatype {k} same other = no_label (datatype_label k) (other_quantifier k (is_shape same) other)
 
     pub datatype : (k : ℕ) {quantifier : Quantifier} {object d body : ℕ} → s ≡ Quantified quantifier object d body → quantifier ≡ ForAll
-        → Annotated names pairs code c (datatype_label_of k m) (Ok (record { kind = 2; number = d }))
-    unfolding datatype_label_of map_outcome parameter_label label_of
+        → Annotated names pairs code c (datatype_label_of k m) (Ok (Some (Datatype d)))
+    unfolding datatype_label_of map_outcome
     datatype k {d = d} same universal =
-        labelled {l = record { kind = 2; number = d }} (record {
+        labelled {l = Some (Datatype d)} (record {
           is = rw ((stated o.concludes).is, universal_label_lem k (is_shape same) universal);
-          known = omega arith;
-          left = λ z. absurd (omega arith);
+          left = λ number z. let y : ◌≡◌ {A = ℕ} 0 1 = cc in absurd (omega arith);
         })
 
 -- the left side and the datatype fit a u16

@@ -15,7 +15,9 @@ use Rattle.definitions.specs.Tree.{ProofTreeConclusion, Step, rule_in, identifie
 use Rattle.definitions.specs.Term.{Label, proposition, ProofTerm, TypeAscription, of_labels}
 use Rattle.definitions.specs.Export.{Place, checking, inferring, Ending, bare, ascribed, left_labelled, datatype_labelled, premiss_own, ending, ascription_label, left_label, datatype_label, step_term, inferring_term, placed_term}
 use Rattle.definitions.proofs.PrefixCode.{Bytes}
-use Rattle.proof_term.specs.Records.{parameter_label, term_at}
+use Rattle.proof_term.specs.declared.nodes.Label as own-label
+use Rattle.proof_term.specs.Records.{term_at}
+use Rattle.proof_term.specs.Views.{parameter_meant}
 use Rattle.proof_term.specs.Making.{Made}
 use Rattle.proof_term.specs.Labels.{single}
 use Rattle.proof_term.proofs.Labels.{record_kept}
@@ -28,7 +30,6 @@ use Rattle.steps.specs.declared.Conclusion.{Conclusion}
 use Rattle.steps.specs.declared.Conclusion.TheVariants.{PropIsTrue}
 use Rattle.steps.specs.declared.Step as view
 use Rattle.steps.specs.StepAt.{identifier_at, step_at}
-use Rattle.proof_tree.specs.declared.conclusion.Label as program
 use Rattle.proof_tree.specs.Table.{mode_of, ending_of, TableRow}
 use Rattle.prefix_code.specs.PropAt.{prop_at}
 use Rattle.proof_tree.specs.Terms.{HasProposition, term_over, part_terms, Ordered, MadeTerm}
@@ -102,8 +103,8 @@ unfolding ascription_label
 ascription (stands s) (ascribes made) = is_ascribed refl refl made
 ascription judges (wrapping.refuses e) = is_refused refl e
 
-pub label_of : {names : ℕ} {pairs code : List ℕ} {c : Conclusion} {o : Outcome (Option (Label ℕ))} {l : program.Label}
-    → Annotated names pairs code c o (Ok l) → LabelOf names pairs code c o l.kind l.number
+pub label_of : {names : ℕ} {pairs code : List ℕ} {c : Conclusion} {o : Outcome (Option (Label ℕ))} {l : Option own-label.Label}
+    → Annotated names pairs code c o (Ok l) → LabelOf names pairs code c o l
 label_of (labelled l) = l
 
 refusal_of : {names : ℕ} {pairs code : List ℕ} {c : Conclusion} {o : Outcome (Option (Label ℕ))} {r : Refusal}
@@ -147,7 +148,7 @@ module _ {names : ℕ} {pairs code records : List ℕ} {k : ℕ} {mode : own.Rea
   step_term_is l ts = rw (v.is_step, v.is_row.term_is)
 
   -- The rule's term, with its label.
-  module _ {kind number first second third used next : ℕ} {before after : List ℕ} (l : LabelOf names pairs code c label kind number) (made : MadeTerm row.term z.first.name z.second.name kind number first second third before used after next) where
+  module _ {own-l : Option own-label.Label} {first second third used next : ℕ} {before after : List ℕ} (l : LabelOf names pairs code c label own-l) (made : MadeTerm row.term z.first.name z.second.name own-l first second third before used after next) where
     abbrev pub parts : (ℕ → Prop ℕ) → List (ProofTerm ℕ)
     parts props = part_terms (term_at props before) row.fewest (first ∷ second ∷ third ∷ [])
 
@@ -157,15 +158,15 @@ module _ {names : ℕ} {pairs code records : List ℕ} {k : ℕ} {mode : own.Rea
     placed_term_lem : placed ts ≡ finishing (ending_of e) (step_in names pairs code records k) (term_at (prop_at names code) after (next - 1))
     unfolding ◌>>=◌
     placed_term_lem =
-        let is : term_at (prop_at names code) after (next - 1) ≡ step_term (step_in names pairs code records k) (parameter_label (prop_at names code) kind number) ts =
-        made.holds (prop_at names code) ∙ rw v.is_row.parts_are (step_term_is (parameter_label (prop_at names code) kind number) ts) in
+        let is : term_at (prop_at names code) after (next - 1) ≡ step_term (step_in names pairs code records k) (parameter_meant (prop_at names code) own-l) ts =
+        made.holds (prop_at names code) ∙ rw v.is_row.parts_are (step_term_is (parameter_meant (prop_at names code) own-l) ts) in
         placed_is ts ∙ rw (l.is, is)
 
     ordered : (props : ℕ → Prop ℕ) → Ordered props before used (parts props) after next
     ordered props = rw (← v.is_row.parts_are) (made.ordered props)
 
     labels : (m offset : ℕ) → used ≤ m → m < next → HasProposition after m offset → LabelOffset pairs code records k offset
-    labels m offset h i has = let (one, same) = made.labels m offset h i has in rw same (left_offset v.good v.bytes concluded number (l.left one))
+    labels m offset h i has = left_offset v.good v.bytes concluded offset (l.left offset (made.labels m offset h i has))
 
     pub term_answer : (e ≡ Ascribed → ⊥)
         → Answered names pairs code records k (placed ts) before used parts (used + 1 - row.fewest) (used + 2) after (Ok next)

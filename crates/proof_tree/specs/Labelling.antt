@@ -1,5 +1,5 @@
 -- Which label a step's term has: document 01's last column in two parts, a function's parameter's and an ascription.
-use Rattle.std.specs.Prelude.{ℕ, ◌≤◌, ◌≡◌, List, Option, None, Some, Result, Ok, Err}
+use Rattle.std.specs.Prelude.{ℕ, ◌≡◌, List, Option, None, Some, Result, Ok, Err}
 use Rattle.definitions.specs.Outcome.{Outcome, accepted, refused, map_outcome}
 use Rattle.definitions.specs.declared.Refusal.{Refusal}
 use Rattle.definitions.specs.Sheet.{pair_offset}
@@ -7,11 +7,12 @@ use Rattle.definitions.specs.Tree as tree
 use Rattle.definitions.specs.Tree.{Identifier, ProofTreeConclusion}
 use Rattle.definitions.specs.Term.{Label}
 use Rattle.definitions.specs.Export.{Place, checking, inferring, Ending, bare, ascribed, left_labelled, datatype_labelled, premiss_own, left_label, datatype_label}
-use Rattle.proof_term.specs.Records.{parameter_label}
+use Rattle.proof_term.specs.Views.{parameter_meant}
 use Rattle.steps.specs.declared.Judgement.{Judgement}
 use Rattle.steps.specs.declared.Conclusion.{Conclusion}
 use Rattle.steps.specs.declared.Conclusion.TheVariants.{PropIsTrue, TypeJudgement}
-use Rattle.proof_tree.specs.declared.conclusion.Label as program
+use Rattle.proof_term.specs.declared.nodes.Label as own
+use Rattle.proof_term.specs.declared.nodes.Label.TheVariants.{Proposition}
 use Rattle.prefix_code.specs.PropAt.{prop_at, Present}
 use Rattle.prefix_code.specs.Shape.{ImplicationAt}
 
@@ -46,24 +47,23 @@ pub record LeftSide (pairs code : List ℕ) (conclusion : Conclusion) (number : 
   pub concludes : conclusion ≡ PropIsTrue proposition
   pub implies : ImplicationAt code (pair_offset pairs proposition) number
 
--- the outcome is the label of that kind and number; a proposition is the left side
-pub record LabelOf (names : ℕ) (pairs code : List ℕ) (conclusion : Conclusion) (outcome : Outcome (Option (Label ℕ))) (kind number : ℕ) : Type 0 where
-  pub is : outcome ≡ accepted (parameter_label (prop_at names code) kind number)
-  pub known : kind ≤ 2
-  pub left : kind ≡ 1 → LeftSide pairs code conclusion number
+-- the outcome is that label; a proposition is the left side
+pub record LabelOf (names : ℕ) (pairs code : List ℕ) (conclusion : Conclusion) (outcome : Outcome (Option (Label ℕ))) (label : Option own.Label) : Type 0 where
+  pub is : outcome ≡ accepted (parameter_meant (prop_at names code) label)
+  pub left : (number : ℕ) → label ≡ Some (Proposition number) → LeftSide pairs code conclusion number
 
 -- what each answer says of the outcome
-pub data Annotated (names : ℕ) (pairs code : List ℕ) (conclusion : Conclusion) (outcome : Outcome (Option (Label ℕ))) : Result program.Label Refusal → Type 0 where
-  labelled : {l : program.Label} → LabelOf names pairs code conclusion outcome l.kind l.number
+pub data Annotated (names : ℕ) (pairs code : List ℕ) (conclusion : Conclusion) (outcome : Outcome (Option (Label ℕ))) : Result (Option own.Label) Refusal → Type 0 where
+  labelled : {l : Option own.Label} → LabelOf names pairs code conclusion outcome l
       → Annotated names pairs code conclusion outcome (Ok l)
   refuses : {r : Refusal} → outcome ≡ refused r → Annotated names pairs code conclusion outcome (Err r)
 
 -- a label that was found, or a refusal of a number at a step
-abbrev pub label_or : ℕ → ℕ → Option program.Label → Result program.Label Refusal
+abbrev pub label_or : ℕ → ℕ → Option own.Label → Result (Option own.Label) Refusal
 label_or number k None = Err (record { number = number; place = k })
-label_or number k (Some l) = Ok l
+label_or number k (Some l) = Ok (Some l)
 
 -- the answer to a question about a conclusion, with whatever count of names its code is read
-abbrev pub AnnotationOf : (ProofTreeConclusion ℕ → Outcome (Option (Label ℕ))) → List ℕ → List ℕ → Conclusion → Result program.Label Refusal → Type 0
+abbrev pub AnnotationOf : (ProofTreeConclusion ℕ → Outcome (Option (Label ℕ))) → List ℕ → List ℕ → Conclusion → Result (Option own.Label) Refusal → Type 0
 AnnotationOf label pairs code conclusion r =
     (names : ℕ) (m : ProofTreeConclusion ℕ) → Means names pairs code conclusion m → Annotated names pairs code conclusion (label m) r

@@ -1,5 +1,5 @@
 // A step's conclusion, as it is taken apart for a label.
-ghost use Rattle.std.specs.Prelude.{ℕ, ◌<◌};
+ghost use Rattle.std.specs.Prelude.{ℕ, ◌<◌, ◌≡◌};
 ghost use Rattle.proof_tree.specs.Table.{ending_of};
 ghost use Rattle.proof_tree.specs.Opening.{Readable};
 ghost use Rattle.proof_tree.specs.Labelling.{left_label_of, datatype_label_of, parameter_label_of, label_or, AnnotationOf};
@@ -8,15 +8,8 @@ use crate::table::Ending;
 use definitions::Refusal;
 use number::pair_offset;
 use prefix_code::{Connective, Quantifier, Shape, shape_at};
-use proof_term::{DATATYPE, NO_LABEL, PROPOSITION};
+use proof_term::Label;
 use steps::Conclusion;
-
-// The label of a function's parameter: its kind, and its number.
-#[derive(Clone, Copy)]
-pub struct Label {
-    pub kind: u16,
-    pub number: u16,
-}
 
 // The left side of an implication, if the conclusion is one.
 fn left_label(pairs: &[u8], code: &[u8], conclusion: Conclusion) -> Option<Label>
@@ -33,10 +26,7 @@ fn left_label(pairs: &[u8], code: &[u8], conclusion: Conclusion) -> Option<Label
     if connective != Connective::Impl {
         return None;
     }
-    Some(Label {
-        kind: PROPOSITION as u16,
-        number: left as u16,
-    })
+    Some(Label::Proposition(left as u16))
 }
 
 // The datatype of a ∀, if the conclusion is one.
@@ -59,10 +49,18 @@ fn datatype_label(pairs: &[u8], code: &[u8], conclusion: Conclusion) -> Option<L
     if quantifier != Quantifier::ForAll {
         return None;
     }
-    Some(Label {
-        kind: DATATYPE as u16,
-        number: datatype as u16,
-    })
+    Some(Label::Datatype(datatype as u16))
+}
+
+// A label that step k must have, or its refusal.
+fn or_refusal(label: Option<Label>, number: u8, k: usize) -> Result<Option<Label>, Refusal>
+    requires { k < 65536 }
+    ensures { result ≡ label_or number k label }
+{
+    match label {
+        Some(label) => Ok(Some(label)),
+        None => Err(Refusal::at(number, k)),
+    }
 }
 
 // The label of the parameter of a function that step k makes, with that ending and conclusion.
@@ -72,19 +70,14 @@ pub fn annotation_of(
     ending: Ending,
     conclusion: Conclusion,
     k: usize,
-) -> Result<Label, Refusal>
+) -> Result<Option<Label>, Refusal>
     requires { (k < 65536) × Readable pairs.now code.now conclusion }
     ensures { AnnotationOf (parameter_label_of (ending_of ending) k)
         pairs.now code.now conclusion result }
 {
     match ending {
-        Ending::LeftLabelled => left_label(pairs, code, conclusion).ok_or(Refusal::at(14, k)),
-        Ending::DatatypeLabelled => datatype_label(pairs, code, conclusion).ok_or(Refusal::at(
-            15, k,
-        )),
-        Ending::Bare | Ending::Ascribed | Ending::PremissOwn => Ok(Label {
-            kind: NO_LABEL as u16,
-            number: 0,
-        }),
+        Ending::LeftLabelled => or_refusal(left_label(pairs, code, conclusion), 14, k),
+        Ending::DatatypeLabelled => or_refusal(datatype_label(pairs, code, conclusion), 15, k),
+        Ending::Bare | Ending::Ascribed | Ending::PremissOwn => Ok(None),
     }
 }

@@ -24,7 +24,7 @@ ghost use Rattle.proof_tree.specs.Wrapping.{Wrapped};
 use conclusion::annotation_of;
 use definitions::Refusal;
 use number::pair_offset;
-use proof_term::{PROPOSITION, type_ascription};
+use proof_term::{Label, Node, make};
 use step::premiss;
 use steps::{Conclusion, premiss_count, rule_byte, step_at};
 pub use table::ReasoningMode;
@@ -47,7 +47,11 @@ fn wrap_into_type_ascription(
         return Err(Refusal::at(13, k));
     };
     let at = pair_offset(pairs, p as usize);
-    Ok(type_ascription(term_records, used, used - 1, PROPOSITION as u16, at as u16))
+    let ascription = Node::TypeAscription {
+        body: (used - 1) as u16,
+        label: Label::Proposition(at as u16),
+    };
+    Ok(make(term_records, used, ascription))
 }
 
 // The ending of a step's term in its mode, as the enum of the table has it: in checking mode no term is labelled.
@@ -69,7 +73,7 @@ fn placed_term(
     k: usize,
     mode: ReasoningMode,
     row: Row,
-    parts: [usize; 3],
+    parts: [u16; 3],
     term_records: &mut [u16],
     used: usize,
 ) -> Result<usize, Refusal>
@@ -86,16 +90,7 @@ fn placed_term(
     let label = annotation_of(pairs, code, ending, conclusion, k)?;
     let first = step.first.name;
     let second = step.second.name;
-    let next = rule_term(
-        row.term,
-        first,
-        second,
-        label.kind,
-        label.number,
-        parts,
-        term_records,
-        used,
-    );
+    let next = rule_term(row.term, first, second, label, parts, term_records, used);
     let Ending::Ascribed = ending else {
         return Ok(next);
     };
@@ -126,7 +121,7 @@ fn do_export_as_proof_term(
     }
     let reads = row.fewest as usize;
     let modes = row.modes;
-    let mut parts = [0usize; 3];
+    let mut parts = [0u16; 3];
     let mut next = used;
     for (i, &premiss_mode) in modes[..reads].iter().enumerate() {
         let after = do_export_as_proof_term(
@@ -140,7 +135,7 @@ fn do_export_as_proof_term(
             term_records,
             next,
         )?;
-        parts[i] = after - 1;
+        parts[i] = (after - 1) as u16;
         next = after;
     }
     placed_term(

@@ -1,47 +1,77 @@
 // The term that a rule has in source document 000, as a record over those of its premisses.
-ghost use Rattle.std.specs.Prelude.{◌≤◌, get_or};
-ghost use Rattle.proof_tree.specs.Terms.{Parts, MadeOver};
+ghost use Rattle.std.specs.Prelude.{◌≡◌, get_or};
+ghost use Rattle.proof_tree.specs.Terms.{node_over, Parts, MadeOver};
 
 use crate::table::RuleTerm;
-use proof_term::{
-    abort, application, case, function, ident, let_in, or_left, or_right, pair, project_fst,
-    project_snd, sorry, unit,
-};
+use proof_term::{Label, Node, make};
 
-// Makes the term over the records of its parts, as many as it is over, with a step's names and the label of a parameter, and
-// gives the number of the next record.
+// The node of a rule's term over the records of its parts, with a step's names and the label of a parameter: none where the term is
+// the premiss's own.
+fn node_over(
+    term: RuleTerm,
+    first: u16,
+    second: u16,
+    label: Option<Label>,
+    parts: [u16; 3],
+) -> Option<Node>
+    ensures { result ≡ node_over term first second label (get_or parts 0 0) (get_or parts 1 0) (get_or parts 2 0) }
+{
+    let [a, b, c] = parts;
+    match term {
+        RuleTerm::Pair => Some(Node::Pair {
+            first: a,
+            second: b,
+        }),
+        RuleTerm::ProjectFst => Some(Node::ProjectFst { body: a }),
+        RuleTerm::ProjectSnd => Some(Node::ProjectSnd { body: a }),
+        RuleTerm::Unit => Some(Node::Unit),
+        RuleTerm::Function => Some(Node::Function {
+            parameter: first,
+            label,
+            body: a,
+        }),
+        RuleTerm::Application => Some(Node::Application {
+            function: a,
+            argument: b,
+        }),
+        RuleTerm::Ident => Some(Node::Ident { name: first }),
+        RuleTerm::OrLeft => Some(Node::OrLeft { body: a }),
+        RuleTerm::OrRight => Some(Node::OrRight { body: a }),
+        RuleTerm::Case => Some(Node::Case {
+            head: a,
+            first,
+            left: b,
+            second,
+            right: c,
+        }),
+        RuleTerm::Abort => Some(Node::Abort { body: a }),
+        RuleTerm::LetIn => Some(Node::LetIn {
+            first,
+            second,
+            head: a,
+            body: b,
+        }),
+        RuleTerm::Sorry => Some(Node::Sorry),
+        RuleTerm::Premiss => None,
+    }
+}
+
+// Makes the term over the records of its parts, as many as it is over, and gives the number of the next record.
 pub fn rule_term(
     term: RuleTerm,
     first: u16,
     second: u16,
-    kind: u16,
-    label: u16,
-    parts: [usize; 3],
+    label: Option<Label>,
+    parts: [u16; 3],
     term_records: &mut [u16],
     used: usize,
 ) -> usize
-    requires { Parts term (get_or parts 0 0) (get_or parts 1 0) (get_or parts 2 0) term_records.old used
-        × (kind ≤ 2) }
-    ensures { MadeOver term first second kind label parts
+    requires { Parts term (get_or parts 0 0) (get_or parts 1 0) (get_or parts 2 0) term_records.old used }
+    ensures { MadeOver term first second label parts
         term_records.old used term_records.new result }
 {
-    let a = parts[0];
-    let b = parts[1];
-    let c = parts[2];
-    match term {
-        RuleTerm::Pair => pair(term_records, used, a, b),
-        RuleTerm::ProjectFst => project_fst(term_records, used, a),
-        RuleTerm::ProjectSnd => project_snd(term_records, used, a),
-        RuleTerm::Unit => unit(term_records, used),
-        RuleTerm::Function => function(term_records, used, first, kind, label, a),
-        RuleTerm::Application => application(term_records, used, a, b),
-        RuleTerm::Ident => ident(term_records, used, first),
-        RuleTerm::OrLeft => or_left(term_records, used, a),
-        RuleTerm::OrRight => or_right(term_records, used, a),
-        RuleTerm::Case => case(term_records, used, a, first, b, second, c),
-        RuleTerm::Abort => abort(term_records, used, a),
-        RuleTerm::LetIn => let_in(term_records, used, first, second, a, b),
-        RuleTerm::Sorry => sorry(term_records, used),
-        RuleTerm::Premiss => used,
-    }
+    let Some(node) = node_over(term, first, second, label, parts) else {
+        return used;
+    };
+    make(term_records, used, node)
 }

@@ -90,6 +90,15 @@ returns-in_err-after t c =
 pub overflow_sub-parts : goal.overflow_sub-parts
 overflow_sub-parts t c = omega (arith, (term_of c.in_ok-after.ensures refl).low)
 
+pub overflow_cast-parts : goal.overflow_cast-parts
+overflow_cast-parts t c =
+    let there = (goal.at.overflow_cast-parts t c).Else-not-admits_count in
+    let row = (entered t there).is_row in
+    let room = room_next row c.loop-i.invariant (rw (reads_all row) at c.loop-i-test.true) c.premiss.ensures c.below.ensures in
+    let size = size_tree c.args.names c.args.pairs.now c.args.code.now c.args.step_records.now c.args.k in
+    let read = term_of c.in_ok-after.ensures refl in
+    record { fits = omega (arith, room, size, read.high, read.low, c.requires.room_for.few) }
+
 pub loop-i-preserved : goal.loop-i-preserved
 loop-i-preserved t c =
     let there = entered t (goal.at.loop-i-preserved t c).Else-not-admits_count in

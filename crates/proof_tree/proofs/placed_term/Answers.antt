@@ -24,7 +24,7 @@ visited c good =
 -- the label of a parameter
 its_label : (c : In_ok-label) {names : ℕ} → let s = c.args in
     (good : GoodStep names s.pairs.now s.code.now s.step_records.now s.k)
-    → LabelOf names s.pairs.now s.code.now c.step_at-step.result.conclusion (label (visited (goal.at.In_ok-label c).After-step_at-step good)) c.in_ok-label.label.kind c.in_ok-label.label.number
+    → LabelOf names s.pairs.now s.code.now c.step_at-step.result.conclusion (label (visited (goal.at.In_ok-label c).After-step_at-step good)) c.in_ok-label.label
 its_label c good =
     let v = visited (goal.at.In_ok-label c).After-step_at-step good in
     label_of (c.in_ok-label.ensures _ _ (means v.good v.bytes (concluded v)))
@@ -38,8 +38,7 @@ annotation_of-requires c =
 
 pub rule_term-next-requires : goal.rule_term-next-requires
 rule_term-next-requires c =
-    let pre = c.requires in
-    (pre.parts.0, (its_label (goal.at.rule_term-next-requires c).In_ok-label pre.some_good_step.0.good).known)
+    c.requires.parts.0
 
 pub returns-in_default : goal.returns-in_default
 returns-in_default c names good =

@@ -35,9 +35,9 @@ pub returns-then-ne : goal.returns-then-ne
 returns-then-ne c k names m means =
     other_datatype means (opened (goal.at.returns-then-ne c).After-shape_at) c.in-Quantified.is (search (rules, tests)) refl
 
-pub overflow_cast-result-2 : goal.overflow_cast-result-2
-overflow_cast-result-2 c =
-    record { fits = datatype_small c.requires (opened (goal.at.overflow_cast-result-2 c).After-shape_at) (λ i. omega (arith, c.type_inv.code i)) c.in-Quantified.is }
+pub overflow_cast-result : goal.overflow_cast-result
+overflow_cast-result c =
+    record { fits = datatype_small c.requires (opened (goal.at.overflow_cast-result c).After-shape_at) (λ i. omega (arith, c.type_inv.code i)) c.in-Quantified.is }
 
 pub returns : goal.returns
 returns c k names m means =

@@ -34,9 +34,9 @@ pub returns-then-ne : goal.returns-then-ne
 returns-then-ne c k names m means =
     other_left means (opened (goal.at.returns-then-ne c).After-shape_at) c.in-Binary.is (search (rules, tests)) refl
 
-pub overflow_cast-result-2 : goal.overflow_cast-result-2
-overflow_cast-result-2 c =
-    record { fits = left_small c.requires (opened (goal.at.overflow_cast-result-2 c).After-shape_at) c.in-Binary.is }
+pub overflow_cast-result : goal.overflow_cast-result
+overflow_cast-result c =
+    record { fits = left_small c.requires (opened (goal.at.overflow_cast-result c).After-shape_at) c.in-Binary.is }
 
 pub returns : goal.returns
 returns c k names m means =
