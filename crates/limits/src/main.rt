@@ -5,8 +5,7 @@
 ghost use Rattle.std.specs.Prelude.{◌≤◌};
 
 use skriduhol::BOARD_ROOM;
-use std::rt::Files;
-use std::{env, io};
+use std::{env, fs, io};
 
 // The number of a decimal digit; another byte counts as 0.
 fn digit(b: u8) -> usize
@@ -46,14 +45,13 @@ fn write_answer(rt: &impl Print, s: &[u8], room: usize) -> io::Result<()>
     println!(rt)
 }
 
-// The same of the drawing in a file. The buffer is longer than the longest sheet.
-fn answer_file(rt: &(impl Files + Print), path: &str, room: usize) -> io::Result<()>
+// The same of the drawing in a file, which has no bytes where it cannot be read.
+fn answer_file(rt: &HostRuntime, path: &str, room: usize) -> io::Result<()>
     requires { room ≤ 65536 }
 {
-    let mut bytes = [0u8; BOARD_ROOM];
-    let count = input::read_file(rt, path, &mut bytes);
+    let bytes = fs::read(rt, path).unwrap_or(Vec::new(rt.alloc()));
     print!(rt; "{path} in {room}: ")?;
-    write_answer(rt, &bytes[..count], room)
+    write_answer(rt, &bytes, room)
 }
 
 fn main(rt: HostRuntime) -> io::Result<()> {

@@ -3,9 +3,10 @@
 // form of the list, and README.md says how it is made.
 #![tactic(auto)]
 
-ghost use Rattle.std.specs.Prelude.{◌≡◌, ◌<◌, ◌≤◌, length};
+ghost use Rattle.std.specs.Prelude.{◌<◌, ◌≤◌};
 
 use definitions::{Located, Style, Whose};
+use input::{read_array, read_u16};
 use name_index::{FREE, SLOT_COUNT};
 use restating::Given;
 use std::{fs, io};
@@ -64,8 +65,8 @@ const ROOM: usize = 65536;
 // The most numbers of the hypotheses of a judgement.
 const HYPOTHESES: usize = 256;
 
-// What stands for a yes where a no has the node of a term.
-const YES: usize = 65535;
+// The list's number for a judgement that is derived, where one that is not has the node of a term.
+const DERIVED: usize = 65535;
 
 // A refusal's number, its place and its column.
 #[derive(Debug, Clone, Copy, PartialEq, Eq)]
@@ -85,29 +86,13 @@ impl From<Located> for Refused {
     }
 }
 
-// A length, a count, a name's number, 1 for yes and 0 for no, or of a judgement the node of a no; or a refusal.
+// A length, a count, or 1 for yes and 0 for no; or a refusal.
 type Answer = Result<usize, Refused>;
 
-// Memory of zeros.
-fn zeros() -> [u8; ROOM]
-    ensures { 65536 ≡ length result }
-{
-    [0; ROOM]
-}
-
-// So many bytes of the list. `rest` is what is left of the list; past its end there are zeros.
-fn read_array<const N: usize>(rest: &mut &[u8]) -> [u8; N] {
-    let mut bytes = [0; N];
-    input::read_full(rest, &mut bytes);
-    bytes
-}
-
+// The list's next number. `rest` is what is left of the list; past its end there are zeros.
 fn read_byte(rest: &mut &[u8]) -> u8 {
-    read_array::<1>(rest)[0]
-}
-
-fn read_u16(rest: &mut &[u8]) -> u16 {
-    u16::from_le_bytes(read_array(rest))
+    let [byte] = read_array::<1>(rest);
+    byte
 }
 
 fn read_u32(rest: &mut &[u8]) -> usize
@@ -118,6 +103,13 @@ fn read_u32(rest: &mut &[u8]) -> usize
 
 fn read_u64(rest: &mut &[u8]) -> usize {
     u64::from_le_bytes(read_array(rest)) as usize
+}
+
+// The next bytes of the list, so many or all that are left.
+fn read_bytes<'a>(rest: &mut &'a [u8], count: usize) -> &'a [u8] {
+    let (bytes, behind) = rest.split_at(count.min(rest.len()));
+    *rest = behind;
+    bytes
 }
 
 // 0 and what is accepted, or a refusal's number, its place and its column.
@@ -134,19 +126,26 @@ fn read_answer(rest: &mut &[u8]) -> Answer {
     })
 }
 
-// An answer as the list has it.
-fn listed(answer: Result<usize, Located>) -> Answer {
+// The number that is accepted, if it is not the one that stands for none.
+fn read_option(rest: &mut &[u8], none: usize) -> Result<Option<usize>, Refused> {
+    let number = read_answer(rest)?;
+    Ok(Some(number).filter(|accepted| *accepted != none))
+}
+
+// An answer with its refusal as the list has it.
+fn listed<T>(answer: Result<T, Located>) -> Result<T, Refused> {
     Ok(answer?)
 }
 
-// So many bytes of the list, at most the room, and zeros past them.
-fn read_bytes(rest: &mut &[u8], count: usize) -> [u8; ROOM] {
-    let mut bytes = zeros();
+// Memory as it is to be left: so many bytes of the list, at most the room, and zeros past them. All of it is compared with memory that
+// was lent, which holds zeros past an answer too, so that a slice of the list would say less.
+fn read_memory(rest: &mut &[u8], count: usize) -> [u8; ROOM] {
+    let mut bytes = [0; ROOM];
     input::read_full(rest, &mut bytes[..count.min(ROOM)]);
     bytes
 }
 
-// So many numbers of the list, at most those of the memory, and zeros past them.
+// The same of so many numbers.
 fn read_numbers<const N: usize>(rest: &mut &[u8], count: usize) -> [u16; N] {
     let mut numbers = [0; N];
     for number in &mut numbers[..count.min(N)] {
@@ -161,8 +160,8 @@ fn text_agrees<F: FnOnce(&mut [u8]) -> Result<usize, Located>>(rest: &mut &[u8],
 {
     let room = read_u32(rest).min(ROOM);
     let expected = read_answer(rest);
-    let bytes = read_bytes(rest, expected.unwrap_or(0));
-    let mut out = zeros();
+    let bytes = read_memory(rest, expected.unwrap_or(0));
+    let mut out = [0; ROOM];
     let answer = listed(ask(&mut out[..room]));
     answer == expected && out == bytes
 }
@@ -198,8 +197,8 @@ fn handout_datatypes_agree(rest: &mut &[u8], s: &[u8]) -> bool {
 // The board's memory has one size, so no room stands in the list.
 fn board_agrees(rest: &mut &[u8], s: &[u8]) -> bool {
     let expected = read_answer(rest);
-    let bytes = read_bytes(rest, expected.unwrap_or(0));
-    let mut out = zeros();
+    let bytes = read_memory(rest, expected.unwrap_or(0));
+    let mut out = [0; ROOM];
     let answer = Ok(skriduhol::board_output(s, &mut out));
     answer == expected && out == bytes
 }
@@ -224,11 +223,10 @@ fn index_agrees(rest: &mut &[u8], s: &[u8]) -> bool {
 fn search_agrees(rest: &mut &[u8], s: &[u8]) -> bool {
     let length = usize::from(read_byte(rest));
     let name = read_bytes(rest, length);
-    let expected = read_answer(rest);
+    let expected = read_option(rest, usize::from(FREE));
     let mut slots = [0; SLOT_COUNT];
     let _ = skriduhol::name_index(s, &mut slots);
-    let found = skriduhol::find_name(s, &slots, &name[..length]);
-    listed(found.map(|number| number.unwrap_or(usize::from(FREE)))) == expected
+    listed(skriduhol::find_name(s, &slots, name)) == expected
 }
 
 // What is given for a restatement stands in the order of a step record.
@@ -248,9 +246,8 @@ fn judge_agrees(rest: &mut &[u8], s: &[u8]) -> bool {
     let count = usize::from(read_byte(rest));
     let hypotheses = read_numbers::<HYPOTHESES>(rest, count);
     let proposition = read_u64(rest);
-    let expected = read_answer(rest);
-    let judged = skriduhol_terms::judge(s, &hypotheses[..count], proposition);
-    listed(judged.map(|node| node.unwrap_or(YES))) == expected
+    let expected = read_option(rest, DERIVED);
+    listed(skriduhol_terms::judge(s, &hypotheses[..count], proposition)) == expected
 }
 
 // The nodes of a term, its names and its bytes of code; or how many numbers of records and bytes of names and of code are lent for it.
@@ -301,11 +298,11 @@ fn term_agrees(rest: &mut &[u8], text: &[u8], datatypes: &[u8]) -> bool {
     let expected = read_term_answer(rest);
     let held = expected.unwrap_or(NO_TERM);
     let numbers = read_numbers::<ROOM>(rest, 7 * held.records.min(ROOM));
-    let pairs = read_bytes(rest, 4 * held.names.min(ROOM));
-    let labels = read_bytes(rest, held.code);
+    let pairs = read_memory(rest, 4 * held.names.min(ROOM));
+    let labels = read_memory(rest, held.code);
     let mut records = [0; ROOM];
-    let mut names = zeros();
-    let mut code = zeros();
+    let mut names = [0; ROOM];
+    let mut code = [0; ROOM];
     let answer = term_answer(skriduhol_terms::read_term(
         text,
         datatypes,
@@ -320,23 +317,15 @@ fn term_agrees(rest: &mut &[u8], text: &[u8], datatypes: &[u8]) -> bool {
 fn reading_agrees(rest: &mut &[u8], text: &[u8]) -> bool {
     let length = usize::from(read_u16(rest));
     let datatypes = read_bytes(rest, length);
-    term_agrees(rest, text, &datatypes[..length])
+    term_agrees(rest, text, datatypes)
 }
 
 // What a graft answers: a length, or a refusal and whose it is, 0 for neither's, 1 for the host's and 2 for the donor's.
 type GraftAnswer = Result<usize, (u8, Refused)>;
 
-// The list's number of a `Whose`, which has no equality.
-fn whose_number(whose: Whose) -> u8 {
-    match whose {
-        Whose::Neither => 0,
-        Whose::Host => 1,
-        Whose::Donor => 2,
-    }
-}
-
+// The list has the number of a `Whose` among its variants.
 fn grafted_answer(grafted: Result<usize, (Whose, Located)>) -> GraftAnswer {
-    grafted.map_err(|(whose, located)| (whose_number(whose), Refused::from(located)))
+    grafted.map_err(|(whose, located)| (whose as u8, Refused::from(located)))
 }
 
 // Only a refusal is somebody's.
@@ -354,9 +343,9 @@ fn graft_agrees(rest: &mut &[u8], both: &[u8]) -> bool {
     let step = read_u64(rest);
     let room = read_u32(rest).min(ROOM);
     let expected = read_graft_answer(rest);
-    let bytes = read_bytes(rest, expected.unwrap_or(0));
+    let bytes = read_memory(rest, expected.unwrap_or(0));
     let mut slots = [0; SLOT_COUNT];
-    let mut out = zeros();
+    let mut out = [0; ROOM];
     let answer = grafted_answer(skriduhol::graft(host, step, donor, &mut slots, &mut out[..room]));
     answer == expected && out == bytes
 }
@@ -409,11 +398,12 @@ fn ask_next(rest: &mut &[u8]) -> Tally
     let length = read_u32(rest).min(ROOM);
     let sheet = read_bytes(rest, length);
     let questions = usize::from(read_byte(rest));
-    let agreed = agreeing(rest, &sheet[..length], questions);
+    let agreed = agreeing(rest, sheet, questions);
     Tally { questions, agreed }
 }
 
 // The list is read at once, into memory of std's: it is longer than a stack should hold, and most reads from it are of a few bytes.
+// Each entry is read from what the one before it left, so that the loop counts entries and has no place of its own.
 fn main(rt: HostRuntime) -> io::Result<()> {
     let answers = fs::read(&rt, "answers")?;
     let mut rest = answers.as_slice();

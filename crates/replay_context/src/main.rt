@@ -10,6 +10,7 @@ ghost use Rattle.replay_context.specs.Lengths.{length_inserted};
 
 use definitions::Refusal;
 use identifier_context::{ENTRY_SIZE, Entry, Names};
+use input::{read_array, read_u16};
 use number::{PAIR_SIZE, pair_length, pair_offset};
 use std::{fs, io};
 
@@ -54,7 +55,8 @@ const QUESTIONS: usize = 40;
 // The entry that a question finds or takes out, if any, or a refusal's number.
 type Answer = Result<Option<Entry>, u16>;
 
-// A context's length after a question, the index before which the next visible entry is sought, and the answer.
+// A context's length after a question, the index before which the next visible entry is sought, and the answer. The length stands
+// beside the lent numbers, which are more than the entries, since the operations take it and hand it back so.
 #[derive(Drop)]
 struct Turn {
     len: usize,
@@ -75,19 +77,13 @@ impl Turn {
     }
 }
 
-// The list's next number. `rest` is what is left of the list; past its end there are zeros.
-fn read_number(rest: &mut &[u8]) -> u16 {
-    let mut bytes = [0u8; 2];
-    input::read_full(rest, &mut bytes);
-    u16::from_le_bytes(bytes)
-}
-
+// The list's next entry. `rest` is what is left of the list; past its end there are zeros.
 fn read_entry(rest: &mut &[u8]) -> Entry {
     Entry {
-        name: read_number(rest),
-        id: read_number(rest),
-        kind: read_number(rest),
-        number: read_number(rest),
+        name: read_u16(rest),
+        id: read_u16(rest),
+        kind: read_u16(rest),
+        number: read_u16(rest),
     }
 }
 
@@ -228,7 +224,7 @@ fn ask_next(rest: &mut &[u8], entries: &mut [u16], len: usize, before: usize, na
     requires { Holds names.pairs.now names.text.now entries.old len }
     ensures { Holds names.entry.pairs.now names.entry.text.now entries.new result.«len» }
 {
-    let question = Question::from(read_number(rest));
+    let question = Question::from(read_u16(rest));
     let entry = read_entry(rest);
     if is_name(names.pairs, names.text, usize::from(entry.name)) {
         return ask(entries, len, before, names, question, entry);
@@ -238,8 +234,8 @@ fn ask_next(rest: &mut &[u8], entries: &mut [u16], len: usize, before: usize, na
 
 // Whether the list's next answer is that of a turn.
 fn agrees(rest: &mut &[u8], turn: Turn) -> bool {
-    let len = usize::from(read_number(rest));
-    let outcome = read_number(rest);
+    let len = usize::from(read_u16(rest));
+    let outcome = read_u16(rest);
     let entry = read_entry(rest);
     len == turn.len && (outcome, entry) == listed(turn.answer)
 }
@@ -264,12 +260,10 @@ fn agreeing(rest: &mut &[u8], entries: &mut [u16], names: Names) -> usize
 fn ask_all(rest: &mut &[u8]) -> usize
     ensures { result ≤ 40 }
 {
-    let mut pairs = [0u8; PAIR_BYTES];
-    input::read_full(rest, &mut pairs);
-    let mut text = [0u8; TEXT_BYTES];
-    input::read_full(rest, &mut text);
+    let pairs = read_array::<PAIR_BYTES>(rest);
+    let text = read_array::<TEXT_BYTES>(rest);
     let mut memory = [0u16; ROOM];
-    let lent = usize::from(read_number(rest)).min(ROOM);
+    let lent = usize::from(read_u16(rest)).min(ROOM);
     let names = Names {
         pairs: &pairs,
         text: &text,
@@ -277,11 +271,12 @@ fn ask_all(rest: &mut &[u8]) -> usize
     agreeing(rest, &mut memory[..lent], names)
 }
 
-// The list is read at once, into memory of std's: a read for each number would ask the system 117,000 times.
+// The list is read at once, into memory of std's: a read for each number would ask the system 117,000 times. Each context is read from
+// what the one before it left, so that the loop counts contexts and has no place of its own.
 fn main(rt: HostRuntime) -> io::Result<()> {
     let bytes = fs::read(&rt, "contexts")?;
     let mut rest = bytes.as_slice();
-    let contexts = usize::from(read_number(&mut rest));
+    let contexts = usize::from(read_u16(&mut rest));
     let mut agreed = 0;
     for _ in 0..contexts {
         agreed += ask_all(&mut rest);
