@@ -1,4 +1,4 @@
--- Document 02, ticket 8: the comparison of names says equal exactly where their bytes are equal, so a promise by `eqName` is kept by it.
+-- Document 02, ticket 8: the comparison of names says equal exactly where their bytes are equal, so a promise by `eq_name` is kept by it.
 use Prim.Native.Nat.{ℕ}
 use mathlib.Core.Path.{◌≡◌, refl, ◌∙◌}
 use mathlib.Core.Logic.{by_cases}

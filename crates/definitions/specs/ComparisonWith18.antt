@@ -1,5 +1,5 @@
 -- Comparison by document 01 alone, with refusal 18 where two atoms of one name have different parameter counts. It stands here
--- for one law, `comparison-kept`: ticket 7 changes no other answer and no other refusal. No promise uses it.
+-- for one law, `comparison_kept`: ticket 7 changes no other answer and no other refusal. No promise uses it.
 use Rattle.std.specs.Prelude.{ℕ, Bool, ◌&&◌, ◌||◌, not, List, [], length, eqb, leb, Option, None, Some}
 use Rattle.definitions.specs.Outcome.{Outcome, accepted, refuse, ◌>>=◌, refuse_if}
 use Rattle.definitions.specs.Name.{Name, eq_name}

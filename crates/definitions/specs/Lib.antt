@@ -1,5 +1,6 @@
 -- Document 01 as definitions: what a reader has to believe, in document 01's order.
 pub mod Utf8
+pub mod Reason
 pub mod Outcome
 pub mod Collection
 pub mod Name

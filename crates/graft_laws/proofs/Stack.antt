@@ -28,7 +28,7 @@ pub record Change (N : Type 0) : Type 0 where
   pub at_and : (t : ProofTree ℕ) (ps : Premisses ℕ) → premisses (t and ps) ≡ tree t and premisses ps
 
 module _ {N : Type 0} where
-  -- the last n trees, as `lastTrees` takes them
+  -- the last n trees, as `last_trees` takes them
   unfoldable last_of : ℕ → List (ProofTree N) → Premisses N → Premisses N
   last_of zero ts ps = ps
   last_of (suc n) [] ps = ps

@@ -1,5 +1,5 @@
 -- The vocabulary of a sheet names the definitions' own parts. The laws ask for the header and the length that it gives, so that they
--- serve the checks as well: an accepted sheet has both (`its-header`).
+-- serve the checks as well: an accepted sheet has both (`its_header`).
 use Prim.Native.Nat.{ℕ, ◌<◌}
 use mathlib.Core.Path.{◌≡◌, ap₂}
 use mathlib.Core.List.{List}

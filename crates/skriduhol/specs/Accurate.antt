@@ -1,5 +1,5 @@
 -- Demand 3 of the very bytes and the very count that are handed over, for every sound sheet and every room.
--- Its premise asks less than document 01's soundness, whose sheets meet it (`deduced-shadowing` of `definitions`).
+-- Its premise asks less than document 01's soundness, whose sheets meet it (`deduced_shadowing` of `definitions`).
 use Rattle.std.specs.Prelude.{ℕ, ◌≤◌, ◌≡◌, List, ◌++◌, length, Result, Ok}
 use Rattle.definitions.specs.declared.Style.{Style}
 use Rattle.definitions.specs.declared.Style.TheVariants.{Plain, Strict}
