@@ -1,2 +1,0 @@
--- What the functions that count the entries of a list say.
-pub mod Counts
