@@ -1,4 +1,5 @@
-// A number in decimal.
+// A number in decimal. `write!` would ask that each sink is a `fmt::Write` as well, which stops with an error where a text does not fit;
+// a sink drops what does not fit and goes on.
 #![tactic(auto)]
 
 ghost use Rattle.std.specs.Prelude.{◌≡◌, length};

@@ -7,6 +7,7 @@ ghost use Rattle.output.specs.Wrote.{puts, Wrote};
 use crate::sink::Sink;
 
 // Lent memory, and the position of what is put next, which is past the end once something did not fit. What does not fit is dropped.
+// The position is a number and no Option: a caller may begin past the end, and to put nothing there changes nothing.
 #[derive(Drop)]
 pub struct Writer<'a, T> {
     pub out: &'a mut [T],

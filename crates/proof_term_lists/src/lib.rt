@@ -79,7 +79,8 @@ fn put_added<S: Sink<u16>>(
     }
 }
 
-// A list of the term that record `n` holds: what the label of each record up to it adds.
+// A list of the term that record `n` holds: what the label of each record up to it adds. The declarations go over the same records and
+// keep what they add, each name once.
 pub fn put_term_list<S: Sink<u16>>(
     sink: &mut S,
     list: TermList,

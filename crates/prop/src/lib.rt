@@ -26,7 +26,8 @@ pub const ATOM_STRENGTH: usize = prefix_code::STRONGEST;
 
 const IMPL_STRENGTH: usize = 2;
 
-// Fills in where the proposition at `at` ends, and where each of its parts does, each at its start.
+// Fills in where the proposition at `at` ends, and where each of its parts does, each at its start. The table lies beside the code, an
+// entry for each byte: it is filled in once and read in one look, where a scan of the left part at each level would take the square.
 pub fn fill_ends(code: &[u8], at: usize, names: usize, ends: &mut [u16]) -> usize
     requires { Fillable names code.now at ends.old }
     ensures { Filled (prop_at names code.now at) ends.old at ends.new result }
@@ -75,7 +76,10 @@ pub fn precedence(code: &[u8], ends: &[u16], at: usize) -> usize
     }
 }
 
-// A connective with a blank on each side.
+// The functions that follow take a memory, its vocabulary and its table of ends as they are: of a struct that holds them, each clause
+// would name `p.now.bytes.now`, `p.now.v` and `p.now.ends.now`.
+
+// A connective with a blank on each side. The reader of labels goes the other way, from the bytes of a sign to its connective.
 #[tactic(auto, unfolding(definitions::specs::Display::connective_text))]
 fn put_connective<S: Sink<u8>>(sink: &mut S, c: Connective)
     ensures { S.puts sink.old (connective_text (meant c)) sink.new }

@@ -21,7 +21,8 @@ pub struct Entry {
     pub next: usize,
 }
 
-// Has a head with this byte an entry in the list?
+// Has a head with this byte an entry in the list? The byte is all that the walk asks for at most heads; a Shape would also read the
+// numbers behind it. Which list is asked for is the caller's value, so the lists differ here, in an entry and in its numbers.
 #[tactic(auto, unfolding(crate::specs::Entries::has_entry))]
 fn has_entry(list: TermList, head: u8) -> bool
     ensures { result ≡ has_entry list head }
