@@ -15,6 +15,8 @@ use number::{marked_bytes, pair_offset};
 use prop_numbers::NAMES;
 use sheet::{Sheet, code_bytes, proposition_pairs};
 
+// The hypotheses are a slice of numbers and no slice of pairs, since so they come in from C.
+
 // Whether a hypothesis has a number that is not the sheet's, or the last name no proposition: refusal 31.
 pub fn is_out(hypotheses: &[u16], names: usize, propositions: usize) -> bool
     ensures { result ≡ out_of names propositions hypotheses.now }
@@ -27,7 +29,8 @@ pub fn is_out(hypotheses: &[u16], names: usize, propositions: usize) -> bool
     false
 }
 
-// Whether a proposition of the sheet has no quantifier and no uninstantiated parameter.
+// Whether a proposition of the sheet has no quantifier and no uninstantiated parameter. Its pair says where its code ends; `is_free_at` of
+// checkable has to find the end.
 pub fn is_free(s: &[u8], h: Sheet, k: usize) -> bool
     requires { AcceptedSheet s.now h × (k < propositions s.now) }
     ensures { result ≡ is_quantifier_free (named_prop s.now k) }

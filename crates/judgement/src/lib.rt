@@ -2,7 +2,7 @@
 // are asked, every name gets the lowest number of its bytes, in the term and in the code.
 #![tactic(auto)]
 
-ghost use Rattle.std.specs.Prelude.{◌≡◌, ◌||◌, ◌+◌, ◌≤◌, length, take, leb, Ok};
+ghost use Rattle.std.specs.Prelude.{◌≡◌, ◌||◌, ◌+◌, ◌≤◌, length, leb, Ok};
 ghost use Rattle.definitions.specs.Outcome.{accepted};
 ghost use Rattle.definitions.specs.Sheet.{name_limit, names, propositions, proposition_pairs, code_bytes};
 ghost use Rattle.definitions.specs.Checker.{Judged};
@@ -30,7 +30,8 @@ use standing_code::{CODE_SIZE, put_code};
 use term_renumbering::renumber_records;
 use term_sizes::fill_sizes;
 
-// Stores for each name the lowest number with its bytes.
+// Stores for each name the lowest number with its bytes. A graft numbers the names of two sheets over two indexes; here one index is
+// both.
 fn number_names(s: &[u8], h: Sheet, numbers: &mut [u16])
     requires { AcceptedSheet s.now h × (name_limit ≤ length numbers.old) }
     ensures { Numbered s.now s.now (names s.now) numbers.new }
@@ -39,14 +40,6 @@ fn number_names(s: &[u8], h: Sheet, numbers: &mut [u16])
     let mut slots = [0u16; SLOT_COUNT];
     build(&mut slots, s, v);
     fill_numbers(s, v, &slots, s, v, &slots, numbers);
-}
-
-// The first of some numbers.
-fn first(numbers: &[u16], count: usize) -> &[u16]
-    requires { count ≤ length numbers.now }
-    ensures { result.now ≡ take count numbers.now }
-{
-    &numbers[..count]
 }
 
 // 31: the proposition or a hypothesis is not the sheet's.
@@ -58,6 +51,8 @@ fn is_outside(h: Sheet, hypotheses: &[u16], k: usize) -> bool
     }
     is_out(hypotheses, h.names, h.propositions)
 }
+
+// The question is two parameters, the hypotheses and k, and no struct: a clause says `hypotheses.now k` of either form.
 
 // 22 of the term, the proposition and the hypotheses: whether the rules speak of them.
 fn may_check(s: &[u8], h: Sheet, terms: &[u16], n: usize, hypotheses: &[u16], k: usize) -> bool
@@ -91,7 +86,18 @@ fn stand(s: &[u8], h: Sheet, numbers: &[u16], code: &mut [u8])
     );
 }
 
-// What the rules say: 0 where they derive the judgement, else past all propositions the node at which they stop.
+// The node at which the rules stop, if they do, by the number that the checker gives.
+fn stopping_node(r: usize) -> Option<usize>
+    requires { Decided r }
+    ensures { (j : Judged (Unit {0})) → Checks j r → Ok result ≡ judgement_of (accepted j) }
+{
+    if r == 0 {
+        return None;
+    }
+    Some(r - STOPS)
+}
+
+// What the rules say: the node at which they stop, or none where they derive the judgement.
 fn decide(
     s: &[u8],
     h: Sheet,
@@ -100,10 +106,10 @@ fn decide(
     hypotheses: &[u16],
     k: usize,
     numbers: &[u16],
-) -> usize
+) -> Option<usize>
     requires accepted_sheet { AcceptedSheet s.now h × HeldTerm s.now terms.old n × LowestNumbers s.now numbers.now }
     requires known { Known s.now hypotheses.now k }
-    ensures { Checks (ruled s.now terms.old n hypotheses.now k) result }
+    ensures { Ok result ≡ judgement_of (accepted (ruled s.now terms.old n hypotheses.now k)) }
 {
     let pairs = proposition_pairs(s, h);
     let mut code = [0u8; CODE_SIZE];
@@ -114,18 +120,8 @@ fn decide(
     assume(hypotheses, numbers, pairs, &mut scope);
     let mut made = [0u32; MADE_NUMBERS];
     let at = pair_offset(pairs, k);
-    check(terms, n, 0, &code, 1, &mut scope, &mut made, at)
-}
-
-// The node at which the rules stop, if they do, by that number.
-fn stopping_node(r: usize) -> Option<usize>
-    requires { Decided r }
-    ensures { (j : Judged (Unit {0})) → Checks j r → Ok result ≡ judgement_of (accepted j) }
-{
-    if r == 0 {
-        return None;
-    }
-    Some(r - STOPS)
+    let r = check(terms, n, 0, &code, 1, &mut scope, &mut made, at);
+    stopping_node(r)
 }
 
 // 31, 22 and the answer, of the term that is held.
@@ -149,8 +145,7 @@ fn judge_held(
     }
     let mut numbers = [0u16; Sheet::NAME_LIMIT];
     number_names(s, h, &mut numbers);
-    let r = decide(s, h, terms, n, hypotheses, k, first(&numbers, h.names));
-    Ok(stopping_node(r))
+    Ok(decide(s, h, terms, n, hypotheses, k, &numbers[..h.names]))
 }
 
 // The judgement that the sheet's own term checks against its proposition k, from hypotheses given as a name's number and a

@@ -1,5 +1,6 @@
 -- 31, then 22; then the names are numbered and the rules are asked.
-use mathlib.Core.Path.{ap, ◌∙◌}
+use mathlib.Core.Path.{refl, sym, ap, ◌∙◌}
+use lib.Seq.{length-take-le}
 use native.Mathlib.Omega.{arith}
 use borrow.Author.Rules.{rules}
 use borrow.Author.Tests.{not-true, not-false}
@@ -36,21 +37,21 @@ pub number_names-requires : goal.number_names-requires
 unfolding name_limit
 number_names-requires c = (c.requires.0, search rules)
 
-pub first-requires : goal.first-requires
+pub slice_bounds-decide-end : goal.slice_bounds-decide-end
 unfolding name_limit
-first-requires c =
+slice_bounds-decide-end c =
     let sheet = c.requires.0 in
-    omega (arith, (its_header sheet).in_range.names, c.number_names.ensures.room)
+    sym (length-take-le c.args.h.names c.number_names.new.numbers (omega (arith, (its_header sheet).in_range.names, c.number_names.ensures.room)))
 
-pub decide-r-requires : goal.decide-r-requires
-decide-r-requires c =
+pub decide-requires : goal.decide-requires
+decide-requires c =
     let (sheet, term) = c.requires in
     record {
-      accepted_sheet = (sheet, term, lowest_numbers sheet (bytes (goal.at.decide-r-requires c).After-is_outside) c.number_names.ensures c.first.ensures);
-      known = are_known (goal.at.decide-r-requires c).Else-is_outside;
+      accepted_sheet = (sheet, term, lowest_numbers sheet (bytes (goal.at.decide-requires c).After-is_outside) c.number_names.ensures refl);
+      known = are_known (goal.at.decide-requires c).Else-is_outside;
     }
 
 pub returns : goal.returns
 returns c =
     answered (are_known (goal.at.returns c).Else-is_outside) c.requires.1 c.may_check.ensures c.if-not-may_check.false
-    (c.stopping_node.ensures _ c.decide-r.ensures)
+    c.decide.ensures
