@@ -8,8 +8,7 @@ use borrow.Author.Tests.{eq-eqb, ne_eqb}
 use Rattle.definitions.specs.declared.Style.{Style}
 use Rattle.definitions.specs.Term.{rename_term}
 use Rattle.definitions.specs.Display.{wrap, wraps, display_term}
-use Rattle.output.specs.Wrote.{Wrote}
-use Rattle.output.proofs.Writing.{then}
+use Rattle.output.specs.SinkLaws.{SinkLaws}
 use Rattle.proof_term.specs.Records.{field_at}
 use Rattle.proof_term.proofs.Records.{term_at_kind, part_below}
 use Rattle.vocabulary.specs.declared.Vocabulary.{Vocabulary}
@@ -83,13 +82,10 @@ module _ (s : Style) (bytes : List ℕ) (v : Vocabulary) (records : List ℕ) (n
         ∙ simp append_assoc)
 
     -- its text, piece by piece
-    pub part_written :
-        {o i : Bool} → o ≡ outer → i ≡ within →
-        {write : Bool} {out₀ out₁ out₂ out₃ out₄ out₅ out₆ : List ℕ} {to₀ to₁ to₂ to₃ to₄ to₅ to₆ : ℕ} →
-        Wrote (bracket o 40) write out₀ to₀ out₁ to₁ → Wrote (bracket i 40) write out₁ to₁ out₂ to₂ →
-        Wrote (text_of body) write out₂ to₂ out₃ to₃ → Wrote (bracket i 41) write out₃ to₃ out₄ to₄ →
-        Wrote after write out₄ to₄ out₅ to₅ → Wrote (bracket o 41) write out₅ to₅ out₆ to₆ →
-        Wrote (record_item bytes v records n s (part k)) write out₀ to₀ out₆ to₆
-    part_written is-outer is-inner a b c d e f =
+    pub part_written : {S : Type 0} {puts : S → List ℕ → S → Type 0} (laws : SinkLaws puts) {o i : Bool} → o ≡ outer → i ≡ within →
+        {out₀ out₁ out₂ out₃ out₄ out₅ out₆ : S} →
+        puts out₀ (bracket o 40) out₁ → puts out₁ (bracket i 40) out₂ → puts out₂ (text_of body) out₃ → puts out₃ (bracket i 41) out₄ →
+        puts out₄ after out₅ → puts out₅ (bracket o 41) out₆ → puts out₀ (record_item bytes v records n s (part k)) out₆
+    part_written laws is-outer is-inner a b c d e f =
         rw (← pieces ∙ part_text_lem s bytes v records n k number is h)
-        (then (rw is-outer at a) (then (rw is-inner at b) (then c (then (rw is-inner at d) (then e (rw is-outer at f))))))
+        (laws.then (rw is-outer at a) (laws.then (rw is-inner at b) (laws.then c (laws.then (rw is-inner at d) (laws.then e (rw is-outer at f))))))

@@ -1,15 +1,13 @@
 -- A text that is written piece by piece: what is done, and what is left. So a term's text is written by the items of its format.
 use Prim.Native.Nat.{ℕ, ◌+◌, ◌≤◌, ◌<◌}
 use mathlib.Core.Path.{◌≡◌, refl, sym, ap, ◌∙◌}
-use mathlib.Core.Bool.{Bool}
 use mathlib.Core.List.{List, [], ◌∷◌, ◌++◌, append_assoc, append-nil}
 use native.Mathlib.Omega.{arith}
 use lib.ListN.{length, get_or, drop}
 use Rattle.definitions.specs.declared.Style.{Style}
 use Rattle.definitions.specs.Term.{rename_term}
 use Rattle.definitions.specs.Display.{display_term}
-use Rattle.output.specs.Wrote.{Wrote}
-use Rattle.output.proofs.Writing as writing
+use Rattle.output.specs.SinkLaws.{SinkLaws}
 use Rattle.proof_term.specs.Records.{field_at, part_at}
 use Rattle.vocabulary.specs.declared.Vocabulary.{Vocabulary}
 use Rattle.vocabulary.specs.Vocabulary.{name_in, prop_in}
@@ -20,26 +18,24 @@ use Rattle.proof_term_display.proofs.Items.{items_next, items_end, items_past}
 use Rattle.proof_term_display.proofs.Formats.{rendered, format_text, row_size, row_items}
 use Rattle.proof_term_display.proofs.Ready.{Ready, ready_next, ready}
 
--- of `whole`, which is written from `to` on, all is done but what is left
-pub record Begun (whole : List ℕ) (write : Bool) (before : List ℕ) (to : ℕ) (after : List ℕ) (at : ℕ) (left : List ℕ) : Type 0 where
+-- of `whole`, which is put into a sink, all is done but what is left
+pub record Begun {S : Type 0} (whole : List ℕ) (puts : S → List ℕ → S → Type 0) (before after : S) (left : List ℕ) : Type 0 where
   pub done : List ℕ
-  pub wrote : Wrote done write before to after at
+  pub put : puts before done after
   pub both : done ++ left ≡ whole
 
-module _ {whole before : List ℕ} {write : Bool} {to : ℕ} where
+module _ {S : Type 0} {puts : S → List ℕ → S → Type 0} {whole : List ℕ} {before : S} where
   -- nothing is done yet
-  begin : Begun whole write before to before to whole
-  begin = record { done = []; wrote = writing.none write before to; both = refl }
+  begin : SinkLaws puts → Begun whole puts before before whole
+  begin laws = record { done = []; put = laws.none before; both = refl }
 
   -- one piece more
-  more :
-      {mid after s left : List ℕ} {at next : ℕ} →
-      Begun whole write before to mid at (s ++ left) → Wrote s write mid at after next → Begun whole write before to after next left
-  more {s = s} {left = left} b w = record { done = b.done ++ s; wrote = writing.then b.wrote w; both = append_assoc b.done s left ∙ b.both }
+  more : {mid after : S} {s left : List ℕ} → SinkLaws puts → Begun whole puts before mid (s ++ left) → puts mid s after → Begun whole puts before after left
+  more {s = s} {left = left} laws b w = record { done = b.done ++ s; put = laws.then b.put w; both = append_assoc b.done s left ∙ b.both }
 
   -- nothing is left
-  finish : {after : List ℕ} {at : ℕ} → Begun whole write before to after at [] → Wrote whole write before to after at
-  finish b = rw (sym (append-nil b.done) ∙ b.both) at b.wrote
+  finish : {after : S} → Begun whole puts before after [] → puts before whole after
+  finish b = rw (sym (append-nil b.done) ∙ b.both) at b.put
 
 module _ (s : Style) (bytes : List ℕ) (v : Vocabulary) (ends records : List ℕ) (n : ℕ) where
   abbrev whole : List ℕ
@@ -48,28 +44,28 @@ module _ (s : Style) (bytes : List ℕ) (v : Vocabulary) (ends records : List �
   abbrev texts : List Item → List ℕ
   texts = rendered s (name_in bytes v) (prop_in bytes v) (part_at (prop_in bytes v) records n) (field_at records n)
 
-  -- the text of record n's term is written as far as the items before place i of its format go, and those from there on can be printed
-  pub record Underway (write : Bool) (before : List ℕ) (to : ℕ) (format after : List ℕ) (at i : ℕ) : Type 0 where
+  -- the text of record n's term is put as far as the items before place i of its format go, and those from there on can be printed
+  pub record Underway {S : Type 0} (puts : S → List ℕ → S → Type 0) (before : S) (format : List ℕ) (after : S) (i : ℕ) : Type 0 where
     pub size : length format ≡ 32
-    pub begun : Begun whole write before to after at (texts (items (drop i format)))
+    pub begun : Begun whole puts before after (texts (items (drop i format)))
     pub rest : Ready bytes v ends records n (items (drop i format))
 
-  module _ {write : Bool} {before : List ℕ} {to : ℕ} where
+  module _ {S : Type 0} {puts : S → List ℕ → S → Type 0} (laws : SinkLaws puts) {before : S} where
     pub start :
         {kind : ℕ} {table : List (List ℕ)} → PrintableTerm records n bytes v ends → KindAt records n kind → FormatTable table →
-        Underway write before to (get_or table kind []) before to 0
+        Underway puts before (get_or table kind []) before 0
     start {kind} {table} p k t =
         let shown : texts (items (get_or table kind [])) ≡ whole =
         ap texts (row_items t kind) ∙ format_text s (name_in bytes v) (prop_in bytes v) (part_at (prop_in bytes v) records n) (field_at records n) kind k.known
         ∙ ap (λ t. display_term s (rename_term (name_in bytes v) t)) (sym (k.holds (prop_in bytes v))) in
-        record { size = row_size t kind k.known; begun = rw shown begin; rest = rw (row_items t kind) (ready bytes v ends records n p k) }
+        record { size = row_size t kind k.known; begun = rw shown (begin laws); rest = rw (row_items t kind) (ready bytes v ends records n p k) }
 
-    module _ {format after : List ℕ} {at i : ℕ} (u : Underway write before to format after at i) where
-      pub ends_here : get_or format i 0 ≡ 46 → i < 32 → Wrote whole write before to after at
+    module _ {format : List ℕ} {after : S} {i : ℕ} (u : Underway puts before format after i) where
+      pub ends_here : get_or format i 0 ≡ 46 → i < 32 → puts before whole after
       unfolding rendered
       ends_here e h = finish (rw (items_end format i (omega (arith, u.size)) e) at u.begun)
 
-      pub ends_past : 32 ≤ i → Wrote whole write before to after at
+      pub ends_past : 32 ≤ i → puts before whole after
       unfolding rendered
       ends_past h = finish (rw (items_past format i (omega (arith, u.size))) at u.begun)
 
@@ -83,8 +79,6 @@ module _ (s : Style) (bytes : List ℕ) (v : Vocabulary) (ends records : List �
         pub item_ready : ItemReady bytes v ends records n (item_of (get_or format i 0))
         item_ready = both_ready.0
 
-        pub goes_on :
-            {later : List ℕ} {next : ℕ} → Wrote (record_item bytes v records n s (item_of (get_or format i 0))) write after at later next →
-            Underway write before to format later next (i + 1)
+        pub goes_on : {later : S} → puts after (record_item bytes v records n s (item_of (get_or format i 0))) later → Underway puts before format later (i + 1)
         unfolding rendered
-        goes_on w = record { size = u.size; begun = more (rw next_items at u.begun) w; rest = both_ready.1 }
+        goes_on w = record { size = u.size; begun = more laws (rw next_items at u.begun) w; rest = both_ready.1 }

@@ -16,8 +16,9 @@ ghost use Rattle.proof_term_display.specs.Printable.{PrintableTerm, term_text};
 ghost use Rattle.proof_term_display.specs.Item.{KindAt, LabelReady, ItemReady, record_item, label_text, parameter_label_text};
 
 use definitions::Style;
-use output::{put, put_all};
+use output::{Counter, Sink, Writer};
 use proof_term::{DATATYPE, KINDS, Kind, NO_LABEL, field};
+use prop::put_proposition;
 use vocabulary::{Vocabulary, name};
 
 // The forms of terms, as far as brackets go, in the order of the columns of their table.
@@ -194,68 +195,62 @@ const FORMATS: Formats = [
     *b"sorry...........................",
 ];
 
-// What the printing of a term goes by: where the names and the propositions lie, the style, and whether bytes are written.
+// What the printing of a term goes by: where the names and the propositions lie, and the style. The records, the memory, the ends and the
+// formats stand beside it: they are lent, and of what is lent a clause on a struct would say `p.now.records.now` for `records.now`.
 #[derive(Clone, Copy)]
 pub struct Printer {
     pub vocabulary: Vocabulary,
     pub style: Style,
-    pub write: bool,
 }
 
 // The label of record `n`: a proposition or a datatype.
-fn put_label(
-    out: &mut [u8],
-    to: usize,
+fn put_label<S: Sink<u8>>(
+    sink: &mut S,
     records: &[u16],
     n: usize,
     bytes: &[u8],
     v: Vocabulary,
     ends: &[u16],
-    write: bool,
-) -> usize
+)
     requires printable_term { PrintableTerm records.now n bytes.now v ends.now }
     requires label_ready { LabelReady bytes.now v ends.now records.now n }
-    ensures { Wrote (label_text bytes.now v records.now n)
-        write out.old to out.new result }
+    ensures { S.puts sink.old (label_text bytes.now v records.now n) sink.new }
 {
     let label = field(records, n, 4);
     if field(records, n, 3) == DATATYPE {
-        return put_all(out, to, name(bytes, v, label), write);
+        sink.put_all(name(bytes, v, label));
+        return;
     }
-    prop::print(out, to, bytes, v, ends, label, write)
+    put_proposition(sink, bytes, v, ends, label);
 }
 
 // The label of the parameter of record `n`, if it has one, after a colon.
-fn put_parameter_label(
-    out: &mut [u8],
-    to: usize,
+fn put_parameter_label<S: Sink<u8>>(
+    sink: &mut S,
     records: &[u16],
     n: usize,
     bytes: &[u8],
     v: Vocabulary,
     ends: &[u16],
-    write: bool,
-) -> usize
+)
     requires printable_term { PrintableTerm records.now n bytes.now v ends.now }
     requires label_ready { (field_at records.now n 3 ≡ 0 → ⊥) → LabelReady bytes.now v ends.now records.now n }
-    ensures { Wrote (parameter_label_text bytes.now v records.now n)
-        write out.old to out.new result }
+    ensures { S.puts sink.old (parameter_label_text bytes.now v records.now n) sink.new }
 {
     if field(records, n, 3) == NO_LABEL {
-        return to;
+        return;
     }
-    let colon = put_all(out, to, b": ", write);
-    put_label(out, colon, records, n, bytes, v, ends, write)
+    sink.put_all(b": ");
+    put_label(sink, records, n, bytes, v, ends);
 }
 
-// A bracket, if there is one.
-fn put_bracket(out: &mut [u8], to: usize, b: u8, bracketed: bool, write: bool) -> usize
-    ensures { Wrote (bracket bracketed b) write out.old to out.new result }
+// A bracket, if there is one. A closure that puts what stands between two of them would have to state the whole walk in its contract.
+fn put_bracket<S: Sink<u8>>(sink: &mut S, b: u8, bracketed: bool)
+    ensures { S.puts sink.old (bracket bracketed b) sink.new }
 {
     if bracketed {
-        return put(out, to, b, write);
+        sink.put(b);
     }
-    to
 }
 
 // The record that is printed for record `n`: the body of an ascription, which so takes no frame of its own, or `n` itself.
@@ -286,34 +281,30 @@ fn is_body_bracketed(records: &[u16], n: usize, body: usize, style: Style) -> bo
 }
 
 // What stands after the body of an ascription: a colon and its label.
-fn put_ascription(
-    out: &mut [u8],
-    to: usize,
+fn put_ascription<S: Sink<u8>>(
+    sink: &mut S,
     records: &[u16],
     n: usize,
     body: usize,
     bytes: &[u8],
     v: Vocabulary,
     ends: &[u16],
-    write: bool,
-) -> usize
+)
     requires printable_term { PrintableTerm records.now n bytes.now v ends.now }
     requires label_ready { (body ≡ n → ⊥) → LabelReady bytes.now v ends.now records.now n }
-    ensures { Wrote (after_body bytes.now v records.now n body)
-        write out.old to out.new result }
+    ensures { S.puts sink.old (after_body bytes.now v records.now n body) sink.new }
 {
     if body == n {
-        return to;
+        return;
     }
-    let colon = put_all(out, to, b": ", write);
-    put_label(out, colon, records, n, bytes, v, ends, write)
+    sink.put_all(b": ");
+    put_label(sink, records, n, bytes, v, ends);
 }
 
 // A part of record `n`, in brackets where its position asks for them.
-#[cycle(part_print_node_put_item)]
-fn part(
-    out: &mut [u8],
-    to: usize,
+#[cycle(put_node)]
+fn put_part<S: Sink<u8>>(
+    sink: &mut S,
     which: TermPart,
     formats: &Formats,
     records: &[u16],
@@ -321,38 +312,28 @@ fn part(
     bytes: &[u8],
     ends: &[u16],
     p: Printer,
-) -> usize
+)
     requires format_table { FormatTable formats.now }
     requires printable_term { PrintableTerm records.now n bytes.now p.vocabulary ends.now }
     requires item_ready { ItemReady bytes.now p.vocabulary ends.now records.now n (part (part_number which)) }
-    ensures { Wrote
-        (record_item bytes.now p.vocabulary records.now n p.style (part (part_number which)))
-        p.write out.old to out.new result }
+    ensures { S.puts sink.old
+        (record_item bytes.now p.vocabulary records.now n p.style (part (part_number which))) sink.new }
 {
     let number = field(records, n, which.field());
     if n <= number {
-        return put_all(out, to, b"()", p.write);
+        sink.put_all(b"()");
+        return;
     }
     let style = p.style;
     let bracketed = is_bracketed(records, number, which.position(), style);
     let body = unascribed(records, number);
     let inner = is_body_bracketed(records, number, body, style);
-    let open = put_bracket(out, to, b'(', bracketed, p.write);
-    let start = put_bracket(out, open, b'(', inner, p.write);
-    let end = print_node(out, start, formats, records, body, bytes, ends, p);
-    let close = put_bracket(out, end, b')', inner, p.write);
-    let labelled = put_ascription(
-        out,
-        close,
-        records,
-        number,
-        body,
-        bytes,
-        p.vocabulary,
-        ends,
-        p.write,
-    );
-    put_bracket(out, labelled, b')', bracketed, p.write)
+    put_bracket(sink, b'(', bracketed);
+    put_bracket(sink, b'(', inner);
+    put_node(sink, formats, records, body, bytes, ends, p);
+    put_bracket(sink, b')', inner);
+    put_ascription(sink, records, number, body, bytes, p.vocabulary, ends);
+    put_bracket(sink, b')', bracketed);
 }
 
 // Whether a byte lies from the first to the last of a run.
@@ -363,10 +344,9 @@ fn is_between(b: u8, first: u8, last: u8) -> bool
 }
 
 // What a byte of a format stands for in record `n`. One test tells most of the bytes that stand for themselves: those outside 1 to M.
-#[cycle(part_print_node_put_item)]
-fn put_item(
-    out: &mut [u8],
-    to: usize,
+#[cycle(put_node)]
+fn put_item<S: Sink<u8>>(
+    sink: &mut S,
     b: u8,
     formats: &Formats,
     records: &[u16],
@@ -374,62 +354,83 @@ fn put_item(
     bytes: &[u8],
     ends: &[u16],
     p: Printer,
-) -> usize
+)
     requires format_table { FormatTable formats.now }
     requires printable_term { PrintableTerm records.now n bytes.now p.vocabulary ends.now }
     requires item_ready { ItemReady bytes.now p.vocabulary ends.now records.now n (item_of b) }
-    ensures { Wrote
-        (record_item bytes.now p.vocabulary records.now n p.style (item_of b))
-        p.write out.old to out.new result }
+    ensures { S.puts sink.old
+        (record_item bytes.now p.vocabulary records.now n p.style (item_of b)) sink.new }
 {
     if !is_between(b, b'1', b'M') {
-        return put(out, to, b, p.write);
+        sink.put(b);
+        return;
     }
     if is_between(b, b'1', b'5') {
         let number = field(records, n, (b - b'0') as usize);
-        return put_all(out, to, name(bytes, p.vocabulary, number), p.write);
+        sink.put_all(name(bytes, p.vocabulary, number));
+        return;
     }
     if let Some(which) = TermPart::of_letter(b) {
-        return part(out, to, which, formats, records, n, bytes, ends, p);
+        put_part(sink, which, formats, records, n, bytes, ends, p);
+        return;
     }
     if b == b'L' {
-        return put_parameter_label(out, to, records, n, bytes, p.vocabulary, ends, p.write);
+        put_parameter_label(sink, records, n, bytes, p.vocabulary, ends);
+        return;
     }
     if b == b'M' {
-        return put_label(out, to, records, n, bytes, p.vocabulary, ends, p.write);
+        put_label(sink, records, n, bytes, p.vocabulary, ends);
+        return;
     }
-    put(out, to, b, p.write)
+    sink.put(b);
 }
 
 // The term of record `n`, by a table of formats that is lent, since a constant is laid down anew wherever it is named.
-#[cycle(part_print_node_put_item)]
-fn print_node(
-    out: &mut [u8],
-    to: usize,
+#[cycle(put_node)]
+fn put_node<S: Sink<u8>>(
+    sink: &mut S,
     formats: &Formats,
     records: &[u16],
     n: usize,
     bytes: &[u8],
     ends: &[u16],
     p: Printer,
-) -> usize
+)
     requires format_table { FormatTable formats.now }
     requires printable_term { PrintableTerm records.now n bytes.now p.vocabulary ends.now }
-    ensures { Wrote (term_text p.style bytes.now p.vocabulary records.now n)
-        p.write out.old to out.new result }
+    ensures { S.puts sink.old (term_text p.style bytes.now p.vocabulary records.now n) sink.new }
 {
     let kind = usize::from(kind_at(records, n).number());
-    let mut at = to;
     for &b in &formats[kind] {
         if b == b'.' {
-            return at;
+            return;
         }
-        at = put_item(out, at, b, formats, records, n, bytes, ends, p);
+        put_item(sink, b, formats, records, n, bytes, ends, p);
     }
-    at
 }
 
 // The term of record `n`.
+pub fn put_term<S: Sink<u8>>(
+    sink: &mut S,
+    records: &[u16],
+    n: usize,
+    bytes: &[u8],
+    v: Vocabulary,
+    ends: &[u16],
+    style: Style,
+)
+    requires { PrintableTerm records.now n bytes.now v ends.now }
+    ensures { S.puts sink.old (term_text style bytes.now v records.now n) sink.new }
+{
+    let formats = FORMATS;
+    let p = Printer {
+        vocabulary: v,
+        style,
+    };
+    put_node(sink, &formats, records, n, bytes, ends, p);
+}
+
+// The term of record `n`, in lent memory by a position and a flag.
 pub fn print_term(
     out: &mut [u8],
     to: usize,
@@ -445,11 +446,12 @@ pub fn print_term(
     ensures { Wrote (term_text style bytes.now v records.now n)
         write out.old to out.new result }
 {
-    let formats = FORMATS;
-    let p = Printer {
-        vocabulary: v,
-        style,
-        write,
-    };
-    print_node(out, to, &formats, records, n, bytes, ends, p)
+    if write {
+        let mut writer = Writer { out, to };
+        put_term(&mut writer, records, n, bytes, v, ends, style);
+        return writer.to;
+    }
+    let mut counter = Counter { count: to };
+    put_term(&mut counter, records, n, bytes, v, ends, style);
+    counter.count
 }

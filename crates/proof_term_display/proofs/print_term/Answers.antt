@@ -1,8 +1,7 @@
--- The constant that is lent has the formats, which antt computes over the whole table.
-use mathlib.Core.Path.{refl}
-use Rattle.proof_term_display.specs.Format.{item_of, items, formats}
+-- A counter finds where the text would end.
+use Rattle.std.proofs.Common.{rules}
+use Rattle.output.proofs.Writing.{counted_dry}
 use Rattle.proof_term_display.proofs.print_term.Goals as goal
 
-pub print_node-requires : goal.print_node-requires
-unfolding item_of items formats
-print_node-requires c = record { format_table = record { sizes = refl; shows = refl }; printable_term = c.requires }
+pub returns : goal.returns
+returns c = counted_dry c.if-write.false (search rules) c.put_term-2.ensures

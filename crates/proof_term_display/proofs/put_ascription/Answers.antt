@@ -1,21 +1,17 @@
 -- Nothing is written after a record itself, and a colon and the label after the body of an ascription.
 use borrow.Author.Tests.{eq-eqb, ne_eqb}
-use Rattle.output.proofs.Writing.{same_length, none, then}
 use Rattle.proof_term_display.specs.Ascriptions.{after_body}
 use Rattle.proof_term_display.proofs.put_ascription.Goals as goal
 
 pub returns-then-body-n : goal.returns-then-body-n
 unfolding after_body
-returns-then-body-n c = rw (eq-eqb _ _ c.if-body-n.true) (none _ _ _)
+returns-then-body-n g c = rw (eq-eqb _ _ c.if-body-n.true) (g.met.S.Sink.laws.none _)
 
 pub returns : goal.returns
 unfolding after_body
-returns c =
+returns g c =
     rw (ne_eqb _ _ c.if-body-n.false)
-    (then c.put_all-colon.ensures c.put_label.ensures)
+    (g.met.S.Sink.laws.then c.put_all.ensures c.put_label.ensures)
 
 pub put_label-requires : goal.put_label-requires
-put_label-requires c = record { printable_term = c.requires.printable_term; label_ready = c.requires.label_ready c.if-body-n.false }
-
-pub shape_of-out : goal.shape_of-out
-shape_of-out c = same_length (returns c)
+put_label-requires g c = record { printable_term = c.requires.printable_term; label_ready = c.requires.label_ready c.if-body-n.false }

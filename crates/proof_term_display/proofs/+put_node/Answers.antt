@@ -1,0 +1,174 @@
+-- A part is an earlier record, and a record's items come before its term: so the number falls, and of one number first the
+-- term, then its items, then its parts. The term's text is written by the items of its format, one after the other.
+use Prim.Native.Nat.{ℕ, ◌≤◌}
+use mathlib.Core.Path.{◌≡◌, sym, ap, ◌∙◌}
+use mathlib.Core.Bool.{true, false, ◌&&◌}
+use native.Mathlib.Omega.{arith}
+use lib.Dec.{leb}
+use Rattle.proof_term.specs.Records.{field_at}
+use Rattle.prop.proofs.Shown.{below_as, put_as}
+use Rattle.proof_term_display.specs.Format.{part_field, part_number, item_text}
+use Rattle.proof_term_display.specs.Printable.{PrintableTerm}
+use Rattle.proof_term_display.specs.Item.{KindAt, ItemReady}
+use Rattle.proof_term_display.proofs.Tables.{part_field_below, at_position}
+use Rattle.proof_term_display.proofs.Items.{between, item_outside, item_name, item_part, item_fixed}
+use Rattle.proof_term_display.proofs.Items.{item_of_parameter, item_of_ascription}
+use Rattle.proof_term_display.proofs.Progress.{start, ends_here, ends_past, item_ready, goes_on}
+use Rattle.proof_term_display.proofs.Parts.{unit_text, printable_part}
+use Rattle.proof_term_display.proofs.Ascriptions.{not_after, body_printable, label_printable, part_written}
+use Rattle.proof_term_display.proofs.+put_node.Goals as goal
+use Rattle.proof_term_display.proofs.+put_node.Goals.{put_part-After-field-number, put_part-Else-n-number, put_part-Then-n-number, put_node-Else-b-eq46, put_node-After-from-kind, put_item-After-field-number, put_item-After-of_letter, put_item-Then-is_between}
+
+-- the part's number, and what it takes to print it
+number_is : (g : _) (t : ℕ) → (c : put_part-After-field-number g t) → let s = c.args in
+    c.field-number.result ≡ field_at s.records.now s.n (part_field (part_number s.which))
+number_is g t c = c.field-number.ensures.0 ∙ ap (field_at _ _) c.field.ensures
+
+number_printable : (g : _) (t : ℕ) → (c : put_part-Else-n-number g t) → let s = c.args in
+    PrintableTerm s.records.now c.field-number.result s.bytes.now s.p.vocabulary s.ends.now
+number_printable g t c =
+    printable_part (part_number c.args.which) _ (number_is g t (goal.at.put_part-Else-n-number g t c).After-field-number) c.if-n-number.false c.requires.printable_term c.requires.item_ready
+
+pub put_part-field-number-requires : goal.put_part-field-number-requires
+put_part-field-number-requires g t c =
+    (c.requires.printable_term.held, omega (arith, c.field.ensures, part_field_below (part_number c.args.which)))
+
+pub put_part-returns-then-n-number : goal.put_part-returns-then-n-number
+put_part-returns-then-n-number g t c =
+    let text = unit_text _ _ _ _ _ _ _ (number_is g t (goal.at.put_part-returns-then-n-number g t c).After-field-number) c.if-n-number.true in
+    put_as g.S.Sink.puts text c.put_all.ensures
+
+pub put_part-is_bracketed-bracketed-requires : goal.put_part-is_bracketed-bracketed-requires
+put_part-is_bracketed-bracketed-requires g t c =
+    omega (arith, c.requires.printable_term.held)
+
+pub put_part-put_node-requires : goal.put_part-put_node-requires
+put_part-put_node-requires g t c =
+    let which = c.unascribed-body.ensures in
+    λ κs lives. (omega (arith, not_after which, c.if-n-number.false, c.decreases), (lives, (c.requires.format_table, body_printable which (number_printable g t (goal.at.put_part-put_node-requires g t c).Else-n-number))))
+
+pub put_part-put_ascription-requires : goal.put_part-put_ascription-requires
+put_part-put_ascription-requires g t c =
+    let printable = number_printable g t (goal.at.put_part-put_ascription-requires g t c).Else-n-number in
+    record { printable_term = printable; label_ready = label_printable c.unascribed-body.ensures printable }
+
+pub put_part-returns : goal.put_part-returns
+put_part-returns g t c =
+    part_written _ _ _ _ _ _ _ (number_is g t (goal.at.put_part-returns g t c).After-field-number) c.if-n-number.false c.unascribed-body.ensures
+    g.met.S.Sink.laws (at_position _ _ _ _ c.position.ensures (c.is_bracketed-bracketed.ensures _ _)) (c.is_body_bracketed-inner.ensures _ _)
+    c.put_bracket.ensures c.put_bracket-2.ensures c.put_node.ensures c.put_bracket-3.ensures c.put_ascription.ensures c.put_bracket-4.ensures
+
+pub put_part-unascribed-body-requires : goal.put_part-unascribed-body-requires
+put_part-unascribed-body-requires g t c = omega (arith, c.requires.printable_term.held)
+
+pub put_part-is_body_bracketed-inner-requires : goal.put_part-is_body_bracketed-inner-requires
+put_part-is_body_bracketed-inner-requires g t c = omega (arith, c.requires.printable_term.held, not_after c.unascribed-body.ensures)
+
+pub put_node-returns-then-b-eq46 : goal.put_node-returns-then-b-eq46
+put_node-returns-then-b-eq46 g t c =
+    ends_here _ _ _ _ _ _ g.met.S.Sink.laws c.loop-b.invariant c.if-b-eq46.true (omega (arith, c.loop-b.invariant.size))
+
+pub put_node-put_item-requires : goal.put_node-put_item-requires
+put_node-put_item-requires g t c =
+    let ready = item_ready _ _ _ _ _ _ g.met.S.Sink.laws c.loop-b.invariant (omega (arith, c.loop-b.invariant.size)) c.if-b-eq46.false in
+    λ κs lives. (omega (arith, c.decreases), (lives, (c.requires.format_table, (c.requires.printable_term, ready))))
+
+pub put_node-loop-b-preserved : goal.put_node-loop-b-preserved
+put_node-loop-b-preserved g t c =
+    goes_on _ _ _ _ _ _ g.met.S.Sink.laws c.loop-b.invariant (omega (arith, c.loop-b.invariant.size)) c.if-b-eq46.false
+    c.put_item.ensures
+
+pub put_node-returns : goal.put_node-returns
+put_node-returns g t c = ends_past _ _ _ _ _ _ g.met.S.Sink.laws c.loop-b.invariant (omega (arith, c.loop-b.invariant.size))
+
+pub put_node-kind_at-requires : goal.put_node-kind_at-requires
+put_node-kind_at-requires g t c = c.requires.printable_term.held
+
+-- the kind is one that is known
+kind_is : (g : _) (t : ℕ) → (c : put_node-After-from-kind g t) → let s = c.args in KindAt s.records.now s.n c.from-kind.result
+kind_is g t c = rw (c.from-kind.ensures, c.number.ensures) c.kind_at.ensures
+
+pub put_node-loop-b-init : goal.put_node-loop-b-init
+put_node-loop-b-init g t c =
+    let entry = c.requires in
+    start _ _ _ _ _ _ g.met.S.Sink.laws entry.printable_term (kind_is g t (goal.at.put_node-loop-b-init g t c).After-from-kind) entry.format_table
+
+pub put_node-offset_bounds-formats-kind : goal.put_node-offset_bounds-formats-kind
+put_node-offset_bounds-formats-kind g t c = omega (arith, (kind_is g t c).known)
+
+pub put_node-bounds-formats-kind : goal.put_node-bounds-formats-kind
+put_node-bounds-formats-kind g t c = (kind_is g t c).known
+
+-- what the tests tell
+is_name : (g : _) (t : ℕ) → (c : put_item-Then-is_between g t) → let b = c.args.b in leb 49 b && leb b 53 ≡ true
+is_name g t c = sym c.is_between-2.ensures ∙ c.if-is_between.true
+
+no_name : (g : _) (t : ℕ) → (c : put_item-After-of_letter g t) → let b = c.args.b in
+    leb 49 b && leb b 53 ≡ false
+no_name g t c = sym c.is_between-2.ensures ∙ c.if-is_between.false
+
+name_range : (g : _) (t : ℕ) → (c : put_item-Then-is_between g t) → let b = c.args.b in (49 ≤ b) × (b ≤ 53)
+name_range g t c = between 49 c.args.b 53 (is_name g t c)
+
+pub put_item-returns-then-not-is_between : goal.put_item-returns-then-not-is_between
+unfolding item_text
+put_item-returns-then-not-is_between g t c =
+    let outside = sym c.is_between.ensures ∙ c.if-not-is_between.true in
+    rw (item_outside _ outside) c.put.ensures
+
+pub put_item-name-requires : goal.put_item-name-requires
+unfolding ItemReady
+put_item-name-requires g t c =
+    let below = rw (item_name c.args.b (is_name g t (goal.at.put_item-name-requires g t c).Then-is_between)) at c.requires.item_ready in
+    c.requires.printable_term.named _ (below_as c.field-number.ensures.0 below)
+
+pub put_item-returns-then-is_between : goal.put_item-returns-then-is_between
+unfolding item_text
+put_item-returns-then-is_between g t c =
+    rw (item_name _ (is_name g t (goal.at.put_item-returns-then-is_between g t c).Then-is_between), ← c.field-number.ensures.0, ← c.name.ensures)
+    c.put_all.ensures
+
+pub put_item-put_part-requires : goal.put_item-put_part-requires
+put_item-put_part-requires g t c =
+    let ready = rw (item_part c.args.b (no_name g t (goal.at.put_item-put_part-requires g t c).After-of_letter) _ c.in-Some.ensures) at c.requires.item_ready in
+    λ κs lives. (omega (arith, c.decreases), (lives, (c.requires.format_table, (c.requires.printable_term, ready))))
+
+pub put_item-returns-in-Some : goal.put_item-returns-in-Some
+put_item-returns-in-Some g t c =
+    rw (item_part _ (no_name g t (goal.at.put_item-returns-in-Some g t c).After-of_letter) _ c.in-Some.ensures) c.put_part.ensures
+
+pub put_item-put_parameter_label-requires : goal.put_item-put_parameter_label-requires
+unfolding ItemReady
+put_item-put_parameter_label-requires g t c =
+    record { printable_term = c.requires.printable_term; label_ready = rw (item_of_parameter c.args.b c.if-b-eq76.true) at c.requires.item_ready }
+
+pub put_item-returns-then-b-eq76 : goal.put_item-returns-then-b-eq76
+unfolding item_text
+put_item-returns-then-b-eq76 g t c =
+    rw (item_of_parameter _ c.if-b-eq76.true) c.put_parameter_label.ensures
+
+pub put_item-put_label-requires : goal.put_item-put_label-requires
+unfolding ItemReady
+put_item-put_label-requires g t c =
+    record { printable_term = c.requires.printable_term; label_ready = rw (item_of_ascription c.args.b c.if-b-eq77.true) at c.requires.item_ready }
+
+pub put_item-returns-then-b-eq77 : goal.put_item-returns-then-b-eq77
+unfolding item_text
+put_item-returns-then-b-eq77 g t c =
+    rw (item_of_ascription _ c.if-b-eq77.true) c.put_label.ensures
+
+pub put_item-returns : goal.put_item-returns
+unfolding item_text
+put_item-returns g t c =
+    let no_part = c.in_default.ensures in
+    rw (item_fixed _ (no_name g t (goal.at.put_item-returns g t c).After-of_letter) no_part c.if-b-eq76.false c.if-b-eq77.false)
+    c.put-2.ensures
+
+pub put_item-overflow_sub-b : goal.put_item-overflow_sub-b
+put_item-overflow_sub-b g t c = omega (arith, name_range g t c)
+
+pub put_item-overflow_cast-b : goal.put_item-overflow_cast-b
+put_item-overflow_cast-b g t c = omega (arith, name_range g t c)
+
+pub put_item-field-number-requires : goal.put_item-field-number-requires
+put_item-field-number-requires g t c = (c.requires.printable_term.held, omega (arith, name_range g t c))

@@ -1,0 +1,18 @@
+-- A part is an earlier record, and a record's items come before its term: so the number falls, and of one number first the
+-- term, then its items, then its parts. The term's text is written by the items of its format, one after the other.
+use Prim.Native.Nat.{◌+◌, ◌*◌}
+use Rattle.proof_term_display.proofs.Progress.{Underway}
+use Rattle.proof_term_display.proofs.+put_node.Given as goal
+
+abbrev pub decreases-put_part : goal.decreases-put_part
+decreases-put_part g l = 3 * l.n
+
+abbrev pub decreases-put_node : goal.decreases-put_node
+decreases-put_node g l = 3 * l.n + 2
+
+abbrev pub decreases-put_item : goal.decreases-put_item
+decreases-put_item g l = 3 * l.n + 1
+
+abbrev pub invariant-put_node-loop-b : goal.invariant-put_node-loop-b
+invariant-put_node-loop-b g l =
+    Underway l.p.style l.bytes l.p.vocabulary l.ends l.records l.n g.S.Sink.puts l.initial.sink l.b-items l.sink l.b-index
