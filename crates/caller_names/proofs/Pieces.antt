@@ -104,7 +104,7 @@ some_piece (b ∷ s) = by_byte (eqb b newline) (pieces s)
     by_byte false (a ∷ ps) = omega arith
 
 -- the pieces are what std cuts off at newlines
-pieces_split : (s : List ℕ) → pieces s ≡ slice_split (λ b. eqb b 10) s
+pub pieces_split : (s : List ℕ) → pieces s ≡ slice_split (λ b. eqb b 10) s
 unfolding pieces newline in_front
 pieces_split [] = refl
 pieces_split (b ∷ s) = ap (λ ps. cond (eqb b 10) ([] ∷ ps) (in_front b ps)) (pieces_split s) ∙ by_byte (eqb b 10) (slice_split (λ c. eqb c 10) s)

@@ -15,7 +15,7 @@ use Rattle.graft_laws.proofs.MergedNumbers.{held_number, held_missing, earlier_n
 use Rattle.name_index_laws.specs.Answered.{LowestNumber, is_lowest, there_is_none}
 use Rattle.name_index_laws.proofs.PlainSearch.{plain_search_lowest}
 use Rattle.name_index_laws.proofs.Agreement.{sheet_agrees}
-use Rattle.vocabulary.specs.declared.Vocabulary.{Vocabulary}
+use Rattle.name_index.specs.declared.Index.{Index}
 use Rattle.vocabulary.specs.Vocabulary.{name_in}
 use Rattle.merged_names.specs.Numbered.{Indexed, Numbered, Known, known, new}
 
@@ -28,13 +28,13 @@ found_none None e = refl
 found_none (Some j) e = absurd (let z : ◌≡◌ {A = ℕ} 0 1 = cc in omega arith)
 
 -- a name by the vocabulary is the sheet's
-pub its_name : {s : List ℕ} {v : Vocabulary} {slots : List ℕ} → Indexed s v slots → {x : Name} (n : ℕ) → x ≡ name_in s v n → x ≡ name_of s n
+pub its_name : {i : Index} → Indexed i → {x : Name} (n : ℕ) → x ≡ name_in i.bytes.now i.v n → x ≡ name_of i.bytes.now n
 its_name a n e = e ∙ ap (λ (f : ℕ → Name). f n) a.are_names
 
 -- the index of a sheet answers as the plain search
-pub searched : {s : List ℕ} {v : Vocabulary} {slots : List ℕ} → Indexed s v slots → {r : Option ℕ} {x y : Name} → x ≡ y
-    → r ≡ (index.find (name_in s v) slots x) → r ≡ (plain_search (name_of s) (names s) y)
-searched {s} {v} {slots} a {r} {x} {y} same e = e ∙ (rw (a.are_names, a.index, same) (sheet_agrees s y a.few))
+pub searched : {i : Index} → Indexed i → {r : Option ℕ} {x y : Name} → x ≡ y
+    → r ≡ (index.find (name_in i.bytes.now i.v) i.slots.now x) → r ≡ (plain_search (name_of i.bytes.now) (names i.bytes.now) y)
+searched {i} a {r} {x} {y} same e = e ∙ (rw (a.are_names, a.index, same) (sheet_agrees i.bytes.now y a.few))
 
 -- what the donor's own index says of its name n
 module _ (d : List ℕ) (n : ℕ) {q : Option ℕ} (searched-there : q ≡ (plain_search (name_of d) (names d) (name_of d n))) where

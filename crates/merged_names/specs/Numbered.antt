@@ -1,21 +1,19 @@
 -- What is known of the donor's names below a number, and of the next one.
 use Rattle.std.specs.Prelude.{ℕ, ◌+◌, ◌<◌, ◌≤◌, ◌≡◌, List, length, get_or, Option, None, Some}
 use Rattle.definitions.specs.Sheet.{names, name_of, name_limit}
-use Rattle.definitions.specs.NameIndex.{slot_count, index_of}
+use Rattle.definitions.specs.NameIndex.{index_of}
 use Rattle.definitions.specs.Graft.{renumbered}
 use Rattle.graft_laws.specs.Missing.{missing_below}
-use Rattle.vocabulary.specs.declared.Vocabulary.{Vocabulary}
-use Rattle.vocabulary.specs.Vocabulary.{name_in, Within, Names}
+use Rattle.vocabulary.specs.Vocabulary.{name_in, Names}
+use Rattle.name_index.specs.declared.Index.{Index}
 
 -- the names of a sheet where its vocabulary says, with their index
-pub record Indexed (s : List ℕ) (v : Vocabulary) (slots : List ℕ) : Type 0 where
-  pub within : Within s v
-  pub named : (i : ℕ) → i < names s → Names s v i
-  pub are_names : name_in s v ≡ name_of s
-  pub count : v.name_count ≡ names s
-  pub few : names s ≤ name_limit
-  pub size : length slots ≡ slot_count
-  pub index : slots ≡ index_of s
+pub record Indexed (x : Index) : Type 0 where
+  pub named : (i : ℕ) → i < names x.bytes.now → Names x.bytes.now x.v i
+  pub are_names : name_in x.bytes.now x.v ≡ name_of x.bytes.now
+  pub count : x.v.name_count ≡ names x.bytes.now
+  pub few : names x.bytes.now ≤ name_limit
+  pub index : x.slots.now ≡ index_of x.bytes.now
 
 -- there is room for a number of each name, and those of the names below n are stored
 pub record Numbered (h d : List ℕ) (n : ℕ) (numbers : List ℕ) : Type 0 where

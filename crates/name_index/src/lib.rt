@@ -1,21 +1,25 @@
 // The index of names: 1,024 slots, a name's number behind the taken slots from its start slot on, round the end.
 #![tactic(auto)]
 
-ghost use Rattle.std.specs.Prelude.{◌≡◌, ◌+◌, ◌*◌, ◌%◌, ◌<◌, ◌≤◌, length, take, drop, replicate};
+ghost use Rattle.std.specs.Prelude.{◌≡◌, ℕ, List, ◌+◌, ◌*◌, ◌%◌, ◌<◌, ◌≤◌, length, take, drop};
+ghost use Rattle.definitions.specs.Name.{Name};
 ghost use Rattle.definitions.specs.Sheet.{name_limit};
 ghost use Rattle.definitions.specs.NameIndex as names;
 ghost use Rattle.definitions.specs.NameIndex.{wrap, start_slot, slot_count, free, index};
 ghost use Rattle.vocabulary.specs.Vocabulary.{name_in, Within};
-ghost use Rattle.name_index.specs.Probed.{probed};
+ghost use Rattle.name_index.specs.Probed.{seen, probed};
 
 use identifier::same_name;
 use number::{pair_length, pair_offset};
 use vocabulary::{Vocabulary, pairs_of, text_of};
 
+// At most so many names enter an index.
+pub const NAME_LIMIT: usize = 512;
+
 // How many slots there are.
 pub const SLOT_COUNT: usize = 1024;
 
-// What a free slot holds.
+// What a free slot holds, which is no name's number. Slots are numbers that C callers lend and read, and so no Options.
 pub const FREE: u16 = 65535;
 
 // The running number after one more byte: 31 times itself plus the byte, wrapping at 2 to the 32nd.
@@ -63,33 +67,75 @@ pub fn any_name(bytes: &[u8], v: Vocabulary, i: usize) -> &[u8]
     )
 }
 
-// Steps over taken slots from a name's start slot on, round the end, up to its equal or a free slot.
-pub fn probe(slots: &[u16], bytes: &[u8], v: Vocabulary, name: &[u8]) -> Result<usize, usize>
-    requires { (length slots.now ≡ slot_count) × Within bytes.now v }
-    ensures { result ≡ probed (name_in bytes.now v) slots.now name.now }
-{
-    let mut at = start_slot(name);
-    for _ in 0..SLOT_COUNT {
-        let number = slots[at];
-        if number == FREE {
-            return Err(at);
-        }
-        let i = number as usize;
-        if same_name(any_name(bytes, v, i), name) {
-            return Ok(i);
-        }
-        at = (at + 1) % SLOT_COUNT;
-    }
-    Err(at)
+// The names of a memory, with slots beside them.
+#[derive(Clone, Copy)]
+pub struct Index<'a> {
+    pub bytes: &'a [u8],
+    pub v: Vocabulary,
+    pub slots: &'a [u16],
+    pub ghost within: { Within bytes.now v },
+    pub ghost whole: { length slots.now ≡ slot_count },
 }
 
-// What an index answers: the number of a name with equal bytes, or that there is none.
-#[tactic(auto, using(crate::proofs::Entering::found_held, crate::proofs::Entering::found_absent))]
-pub fn find(slots: &[u16], bytes: &[u8], v: Vocabulary, name: &[u8]) -> Option<usize>
-    requires { (length slots.now ≡ slot_count) × Within bytes.now v }
-    ensures { result ≡ (names.find (name_in bytes.now v) slots.now name.now) }
+// What a slot holds for a name that is looked for: no number, that of its equal, or another's.
+#[derive(Clone, Copy)]
+pub enum Slot {
+    Free,
+    Equal(usize),
+    Other,
+}
+
+// The number of a name's equal, or the slot that the name would enter. Slots that hold others' numbers are stepped over from its start
+// slot on, round the end. A closure says what a slot holds for the name.
+pub fn probe_by<F: Fn(usize) -> Slot>(name: &[u8], look: F) -> Result<usize, usize>
+    requires { (at : ℕ) → at < slot_count → F.pre look at }
+    ensures { (named : ℕ → Name) (slots : List ℕ) →
+        ((at : ℕ) (r : Slot) → at < slot_count → F.post look at r → r ≡ seen named slots name.now at) →
+        result ≡ probed named slots name.now }
 {
-    probe(slots, bytes, v, name).ok()
+    let start = start_slot(name);
+    for step in 0..SLOT_COUNT {
+        let at = (start + step) % SLOT_COUNT;
+        match look(at) {
+            Slot::Free => return Err(at),
+            Slot::Equal(number) => return Ok(number),
+            Slot::Other => {}
+        }
+    }
+    Err(start)
+}
+
+impl Index<'_> {
+    // What a slot holds for a name.
+    fn look(&self, name: &[u8], at: usize) -> Slot
+        requires { at < slot_count }
+        ensures { result ≡ seen (name_in self.now.bytes.now self.now.v) self.now.slots.now name.now at }
+    {
+        let number = self.slots[at];
+        if number == FREE {
+            return Slot::Free;
+        }
+        let i = usize::from(number);
+        if same_name(any_name(self.bytes, self.v, i), name) {
+            return Slot::Equal(i);
+        }
+        Slot::Other
+    }
+
+    // The number of a name with equal bytes, or the slot that the name would enter.
+    pub fn probe(&self, name: &[u8]) -> Result<usize, usize>
+        ensures { result ≡ probed (name_in self.now.bytes.now self.now.v) self.now.slots.now name.now }
+    {
+        probe_by(name, |at| self.look(name, at))
+    }
+
+    // What the slots answer: the number of a name with equal bytes, or that there is none.
+    #[tactic(auto, using(crate::proofs::Entering::found_held, crate::proofs::Entering::found_absent))]
+    pub fn find(&self, name: &[u8]) -> Option<usize>
+        ensures { result ≡ (names.find (name_in self.now.bytes.now self.now.v) self.now.slots.now name.now) }
+    {
+        self.probe(name).ok()
+    }
 }
 
 // Name i enters the index of the names before it, if it does not repeat one of them.
@@ -98,13 +144,14 @@ pub fn enter(slots: &mut [u16], bytes: &[u8], v: Vocabulary, i: usize)
     requires slots_value { slots.old ≡ index (name_in bytes.now v) i }
     ensures { slots.new ≡ index (name_in bytes.now v) (i + 1) }
 {
-    let Err(at) = probe(slots, bytes, v, any_name(bytes, v, i)) else {
+    let index = Index { bytes, v, slots };
+    let Err(at) = index.probe(any_name(bytes, v, i)) else {
         return;
     };
     slots[at] = i as u16;
 }
 
-// The index of a memory's names.
+// The index of a memory's names, in slots that the caller lends, as C callers do. A name's number is the loop's own count.
 pub fn build(slots: &mut [u16], bytes: &[u8], v: Vocabulary)
     requires slots_len { (length slots.old ≡ slot_count) × Within bytes.now v }
     requires name_count_bound { v.name_count ≤ name_limit }

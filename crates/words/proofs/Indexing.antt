@@ -1,12 +1,15 @@
 -- The slots of the table are the index of its names: what they hold, what probing finds by them, and the table without names.
 use Prim.Native.Nat.{ℕ, ◌+◌, ◌%◌, ◌≤◌, ◌<◌}
 use mathlib.Core.Path.{◌≡◌, sym, ap, ◌∙◌}
+use mathlib.Core.Bool.{true, false}
 use Rattle.std.specs.Prelude.{Option, Ok, Err}
 use mathlib.Core.List.{List}
 use native.Mathlib.Omega.{arith}
 use native.Mathlib.Decide.{ℕ_discrete}
 use lib.ListN.{length, get_or, replicate, length-replicate, get_or-replicate}
 use lib.Seq.{drop-cons}
+use lib.Dec.{eqb}
+use borrow.Author.Tests.{eq-eqb, ne_eqb}
 use Rattle.definitions.specs.Name.{Name, eq_name}
 use Rattle.definitions.specs.Sheet.{name_limit, pair_size, number_at, marked}
 use Rattle.definitions.specs.NameIndex.{slot_count, free, slot_at, plain_search, find, index}
@@ -15,7 +18,8 @@ use Rattle.name_index_laws.specs.Answered.{LowestNumber, is_lowest, there_is_non
 use Rattle.name_index_laws.proofs.Agreement.{index_agrees, index_answers}
 use Rattle.name_index_laws.proofs.Entering.{indexed}
 use Rattle.name_index_laws.proofs.Onward.{same_index}
-use Rattle.name_index.specs.Probed.{held_or, probed}
+use Rattle.name_index.specs.declared.Slot.TheVariants.{Free, Equal, Other}
+use Rattle.name_index.specs.Probed.{seen, held_or, probed}
 use Rattle.name_index.proofs.Entering.{absent_below}
 use Rattle.words.specs.Table.{Table, searched, slot_size, slot_offset, table_size}
 
@@ -74,16 +78,31 @@ module _ {pairs text : List ℕ} {count : ℕ} (table : Table pairs text count) 
     unfolding slot_at slot_count
     slot_holds = let own : slot % 1024 ≡ slot = omega arith in rw own (any_default slots slot free 0 (omega (arith, slots_size)))
 
-    pub free_here : count ≤ get_or slots slot 0 → get_or slots slot 0 ≡ free
-    free_here h = go (ℕ_discrete (get_or slots slot 0) free)
-      where
-        go : Dec (get_or slots slot 0 ≡ free) → get_or slots slot 0 ≡ free
-        go (yes e) = e
-        go (no d) = absurd (omega (arith, slot_holds, ((indexed name count few_names).entered slot (λ e. d (sym slot_holds ∙ e))).0))
+    -- what stands in the table there, as probing sees it
+    module _ {n : ℕ} (stands : n ≡ number_at pairs (slot_offset slot)) (x : Name) where
+      holds : slot_at slots slot ≡ n
+      holds = slot_holds ∙ (sym (table.indexed slot inside) ∙ sym stands)
 
-    pub taken_here : get_or slots slot 0 < count → get_or slots slot 0 ≡ free → ⊥
-    unfolding free slot_count
-    taken_here h e = omega (arith, few_names)
+      pub free_seen : count ≤ n → Free ≡ seen name slots x slot
+      unfolding seen
+      free_seen h = rw (eq-eqb _ _ (go (ℕ_discrete (slot_at slots slot) free)))
+        where
+          go : Dec (slot_at slots slot ≡ free) → slot_at slots slot ≡ free
+          go (yes e) = e
+          go (no d) = absurd (omega (arith, holds, ((indexed name count few_names).entered slot d).0))
+
+      module _ (taken : n < count) where
+        not_free : eqb (slot_at slots slot) free ≡ false
+        unfolding free slot_count
+        not_free = ne_eqb _ _ (λ e. omega (arith, holds, few_names))
+
+        pub equal_seen : eq_name (name n) x ≡ true → Equal n ≡ seen name slots x slot
+        unfolding seen
+        equal_seen same = rw (not_free, holds, same)
+
+        pub other_seen : eq_name (name n) x ≡ false → Other ≡ seen name slots x slot
+        unfolding seen
+        other_seen other = rw (not_free, holds, other)
 
   -- what probing says of the names
   module _ (x : Name) where

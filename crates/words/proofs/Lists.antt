@@ -1,28 +1,20 @@
--- A list of names is judged piece by piece.
-use Prim.Native.Nat.{ℕ, ◌+◌}
-use mathlib.Core.Path.{◌≡◌}
-use mathlib.Core.Bool.{true, false}
-use mathlib.Core.List.{List}
-use native.Mathlib.Omega.{arith}
-use lib.ListN.{length, drop}
+-- A list of names is admitted where all its pieces are.
+use Prim.Native.Nat.{ℕ}
+use mathlib.Core.Path.{◌≡◌, refl, ap}
+use mathlib.Core.Bool.{◌&&◌}
+use mathlib.Core.List.{List, [], ◌∷◌}
+use lib.ListN.{length}
+use lib.Dec.{eqb}
+use Rattle.std.specs.List.{list_all, slice_split}
+use Rattle.definitions.specs.Name.{Name}
 use Rattle.definitions.specs.TermText.{is_admitted, all_admitted}
-use Rattle.definitions.specs.CallerNames.{pieces}
-use Rattle.caller_names.specs.Pieces.{piece, NameEnd}
-use Rattle.caller_names.proofs.Pieces.{after_last, after_more}
+use Rattle.definitions.specs.CallerNames.{names_in}
+use Rattle.caller_names.proofs.Pieces.{names_pieces, pieces_split}
 
-module _ {list : List ℕ} {at r : ℕ} (end : NameEnd list at r) where
-  -- the first piece is no admitted name
-  pub admitted_not : is_admitted (piece list at r) ≡ false → all_admitted (pieces (drop at list)) ≡ false
-  unfolding all_admitted
-  admitted_not e = rw (end.is, e)
+all_of : (names : List Name) → all_admitted names ≡ list_all is_admitted names
+unfolding all_admitted
+all_of [] = refl
+all_of (a ∷ rest) = ap (λ t. is_admitted a && t) (all_of rest)
 
-  -- it is, and there is no other
-  pub admitted_last : is_admitted (piece list at r) ≡ true → r ≡ length list → all_admitted (pieces (drop at list)) ≡ true
-  unfolding all_admitted
-  admitted_last e h = rw (end.is, e, after_last list r (omega arith))
-
-  -- it is, and there are others
-  pub admitted_later : is_admitted (piece list at r) ≡ true → (r ≡ length list → ⊥)
-      → all_admitted (pieces (drop at list)) ≡ all_admitted (pieces (drop (r + 1) list))
-  unfolding all_admitted
-  admitted_later e h = rw (end.is, e, after_more list r (omega (arith, end.bounds.inside)))
+pub admitted_split : (list : List ℕ) → (length list ≡ 0 → ⊥) → all_admitted (names_in list) ≡ list_all is_admitted (slice_split (λ b. eqb b 10) list)
+admitted_split list h = rw (names_pieces list h, pieces_split list) (all_of (slice_split (λ b. eqb b 10) list))

@@ -5,7 +5,10 @@
 ghost use Rattle.std.specs.Prelude.{◌≡◌, List, ℕ, ◌+◌, ◌≤◌, ◌<◌, length, drop, None, MatchOption};
 ghost use Rattle.definitions.specs.TermText.{is_admitted, all_admitted};
 ghost use Rattle.definitions.specs.CallerNames.{names_in};
+ghost use Rattle.definitions.specs.Sheet.{marked};
+ghost use Rattle.definitions.specs.NameIndex.{slot_count, index};
 ghost use Rattle.definitions.specs.TermReader.{name, expect, start_of, argument_follows};
+ghost use Rattle.name_index.specs.Probed.{seen};
 ghost use Rattle.words.specs.Places.{between, WordEnds, NameEnds, Expected};
 ghost use Rattle.words.specs.Starts.{as_start};
 ghost use Rattle.words.specs.Table.{Table, NamePlace, TooMany, NumberOf, PairFits, SlotFits};
@@ -13,7 +16,7 @@ ghost use Rattle.words.specs.Table.{table_size, searched, with_number, with_pair
 
 use caller_names::{is_listed, well_formed};
 use identifier::{CLASSES, Class, same_name};
-use name_index::{SLOT_COUNT, start_slot};
+use name_index::{NAME_LIMIT, SLOT_COUNT, Slot, probe_by};
 use number::{PAIR_SIZE, marked_bytes, number_at};
 
 // Where the name bytes from `at` on end.
@@ -43,20 +46,10 @@ pub fn is_admitted(name: &[u8]) -> bool
 pub fn all_admitted(list: &[u8]) -> bool
     ensures { result ≡ all_admitted (names_in list.now) }
 {
-    if list.len() == 0 {
+    if list.is_empty() {
         return true;
     }
-    let mut at = 0;
-    loop {
-        let end = caller_names::name_end(list, at);
-        if !is_admitted(&list[at..end]) {
-            return false;
-        }
-        if end == list.len() {
-            return true;
-        }
-        at = end + 1;
-    }
+    list.split(|b| *b == b'\n').all(|name| is_admitted(name))
 }
 
 // Where the name at `at` ends.
@@ -152,9 +145,6 @@ pub fn argument_follows(text: &[u8], at: usize) -> bool
     expect(text, start, b"(").is_some()
 }
 
-// At most so many different names.
-pub const NAME_LIMIT: usize = 512;
-
 // Where the slots of the index begin: behind the pairs of all names.
 const SLOTS: usize = PAIR_SIZE * NAME_LIMIT;
 
@@ -163,6 +153,9 @@ const SLOT_SIZE: usize = 2;
 
 // The bytes of a table: the pairs of all names, and behind them the slots of their index.
 pub const TABLE_SIZE: usize = SLOTS + SLOT_SIZE * SLOT_COUNT;
+
+// The memory of a table is lent, and its count stands in the place that its readers hand on. A struct of both would hold a `&mut`,
+// and each reader above would also have to promise that it stays the same reference: so `text`, `names` and `count` are given apart.
 
 // The table without names: every slot is free, and no pair is looked at.
 pub fn clear(names: &mut [u8])
@@ -179,8 +172,24 @@ pub struct Numbered {
     pub count: usize,
 }
 
-// The number of the name with these bytes, or the slot that it would enter. Taken slots are stepped over from its start slot on,
-// round the end, up to its equal or a free slot, which holds more than the number of any name.
+// What a slot of the table holds for a name: a free one holds more than the number of any name.
+fn look(text: &[u8], names: &[u8], count: usize, name: &[u8], slot: usize) -> Slot
+    requires { Table names.now text.now count × (slot < slot_count) }
+    ensures { result ≡ seen (marked names.now text.now)
+        (index (marked names.now text.now) count) name.now slot }
+{
+    let number = number_at(names, SLOTS + SLOT_SIZE * slot);
+    if count <= number {
+        return Slot::Free;
+    }
+    if same_name(marked_bytes(names, text, number), name) {
+        return Slot::Equal(number);
+    }
+    Slot::Other
+}
+
+// The number of the name with these bytes, or the slot that it would enter.
+#[tactic(auto, unfolding(crate::specs::Table::searched, crate::specs::Places::between))]
 pub fn find_name(
     text: &[u8],
     at: usize,
@@ -193,18 +202,7 @@ pub fn find_name(
         (between at end text.now) }
 {
     let name = &text[at..end];
-    let mut slot = start_slot(name);
-    for _ in 0..SLOT_COUNT {
-        let number = number_at(names, SLOTS + SLOT_SIZE * slot);
-        if count <= number {
-            return Err(slot);
-        }
-        if same_name(marked_bytes(names, text, number), name) {
-            return Ok(number);
-        }
-        slot = (slot + 1) % SLOT_COUNT;
-    }
-    Err(slot)
+    probe_by(name, |slot| look(text, names, count, name, slot))
 }
 
 // Stores a number at an offset, low byte first.
@@ -212,8 +210,9 @@ fn put_number(names: &mut [u8], at: usize, number: usize)
     requires { (at + 1 < length names.old) × (number < 65536) }
     ensures { names.new ≡ with_number names.old at number }
 {
-    names[at] = (number % 256) as u8;
-    names[at + 1] = (number / 256) as u8;
+    let [low, high] = (number as u16).to_le_bytes();
+    names[at] = low;
+    names[at + 1] = high;
 }
 
 // Stores the pair of a name that stands from `at` to `end` as number `count`.

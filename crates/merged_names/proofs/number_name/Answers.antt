@@ -7,17 +7,17 @@ use Rattle.merged_names.proofs.number_name.Goals as goal
 pub overflow_add-numbers : goal.overflow_add-numbers
 unfolding name_limit
 overflow_add-numbers c =
-    omega (arith, c.requires.indexed.0.count, c.requires.indexed.0.few, c.requires.indexed.1.few, c.requires.n_bound.0, c.requires.missing_value, few_below c.args.host.now c.args.donor.now c.args.n)
+    omega (arith, c.requires.indexed.0.count, c.requires.indexed.0.few, c.requires.indexed.1.few, c.requires.n_bound.0, c.requires.missing_value, few_below c.args.host.bytes.now c.args.donor.bytes.now c.args.n)
 
 pub overflow_cast-numbers : goal.overflow_cast-numbers
 unfolding name_limit
 overflow_cast-numbers c =
-    omega (arith, c.requires.indexed.0.count, c.requires.indexed.0.few, c.requires.indexed.1.few, c.requires.n_bound.0, c.requires.missing_value, few_below c.args.host.now c.args.donor.now c.args.n)
+    omega (arith, c.requires.indexed.0.count, c.requires.indexed.0.few, c.requires.indexed.1.few, c.requires.n_bound.0, c.requires.missing_value, few_below c.args.host.bytes.now c.args.donor.bytes.now c.args.n)
 
 pub overflow_add-result : goal.overflow_add-result
 unfolding name_limit
 overflow_add-result c =
-    omega (arith, c.requires.indexed.1.few, c.requires.n_bound.0, c.requires.missing_value, few_below c.args.host.now c.args.donor.now c.args.n)
+    omega (arith, c.requires.indexed.1.few, c.requires.n_bound.0, c.requires.missing_value, few_below c.args.host.bytes.now c.args.donor.bytes.now c.args.n)
 
 pub returns-in_default : goal.returns-in_default
 returns-in_default c =

@@ -1,5 +1,5 @@
 -- A repeat is held by the index so far; a first name takes the slot at which probing ended.
-use Rattle.std.proofs.Common.{◌≡◌, length, sym, ◌∙◌, arith}
+use Rattle.std.proofs.Common.{◌≡◌, sym, ◌∙◌, arith}
 use Rattle.definitions.specs.Sheet.{name_limit}
 use Rattle.definitions.specs.NameIndex.{slot_count}
 use Rattle.vocabulary.specs.Vocabulary.{name_in}
@@ -7,12 +7,7 @@ use Rattle.name_index.specs.Probed.{probed}
 use Rattle.std.specs.Prelude.{Err}
 use Rattle.name_index.proofs.Entering.{index_size, repeated, entered, absent_below}
 use Rattle.name_index.proofs.enter.Goals as goal
-use Rattle.name_index.proofs.enter.Goals.{After-any_name, In-Err}
-
--- there are 1,024 slots
-size : (c : After-any_name) → length c.args.slots.now ≡ slot_count
-unfolding name_limit
-size c = index_size _ _ c.requires.slots_value (omega (arith, c.requires.i_lt_name_limit.0))
+use Rattle.name_index.proofs.enter.Goals.{In-Err}
 
 -- the name is absent: the slot that it would enter
 would_enter : (c : In-Err) →
@@ -20,8 +15,11 @@ would_enter : (c : In-Err) →
     probed (name_in a.bytes.now a.v) a.slots.now c.any_name.result.now ≡ Err c.in-Err.at
 would_enter c = sym c.probe.ensures ∙ c.in-Err.is
 
-pub probe-requires : goal.probe-requires
-probe-requires c = (size c, c.requires.i_lt_name_limit.1)
+pub invariant_of-index : goal.invariant_of-index
+unfolding name_limit
+invariant_of-index c =
+    let (few, within) = c.requires.i_lt_name_limit in
+    record { within = within; whole = index_size _ _ c.requires.slots_value (omega (arith, few)) }
 
 pub returns-in_default : goal.returns-in_default
 returns-in_default c =
@@ -36,7 +34,10 @@ unfolding slot_count
 offset_bounds-slots-at c = omega (arith, absent_below _ _ _ (would_enter c))
 
 pub bounds-slots-at : goal.bounds-slots-at
-bounds-slots-at c = omega (arith, absent_below _ _ _ (would_enter c), size (goal.at.bounds-slots-at c).After-any_name)
+unfolding name_limit
+bounds-slots-at c =
+    let long = index_size _ _ c.requires.slots_value (omega (arith, c.requires.i_lt_name_limit.0)) in
+    omega (arith, absent_below _ _ _ (would_enter c), long)
 
 pub returns : goal.returns
 returns c =

@@ -1,51 +1,22 @@
--- The invariant: the names before `at` are admitted.
+-- The list is cut at its newlines, and each piece is admitted.
 use mathlib.Core.Path.{sym, ◌∙◌}
-use native.Mathlib.Omega.{arith}
-use borrow.Author.Tests.{not-true, not-false}
-use Rattle.definitions.specs.TermText.{all_admitted}
-use Rattle.caller_names.proofs.Pieces.{no_names, names_pieces}
-use Rattle.words.proofs.Lists.{admitted_not, admitted_last, admitted_later}
+use lib.Dec.{eqb}
+use borrow.Author.Rules.{rules}
+use borrow.Author.Tests.{tests}
+use Rattle.std.proofs.lemmas.Iterator.Search.{all_from_yields_List}
+use Rattle.std.proofs.lemmas.Iterator.Splits.{YieldsList-from_slice_split}
+use Rattle.definitions.specs.TermText.{is_admitted, all_admitted}
+use Rattle.caller_names.proofs.Pieces.{no_names}
+use Rattle.words.proofs.Lists.{admitted_split}
 use Rattle.words.proofs.all_admitted.Goals as goal
 
-pub returns-then-list-eq0 : goal.returns-then-list-eq0
+pub returns-then-is_empty : goal.returns-then-is_empty
 unfolding all_admitted
-returns-then-list-eq0 c = rw (no_names _ c.if-list-eq0.true)
+returns-then-is_empty c = rw (no_names c.args.list.now (search rules))
 
-pub loop-at-init : goal.loop-at-init
-loop-at-init c = (omega arith, rw (names_pieces _ c.if-list-eq0.false))
-
-pub slice_bounds-is_admitted-count : goal.slice_bounds-is_admitted-count
-slice_bounds-is_admitted-count c = omega (arith, c.name_end-end.ensures.bounds.forward)
-
-pub slice_bounds-is_admitted-start : goal.slice_bounds-is_admitted-start
-slice_bounds-is_admitted-start c = omega (arith, c.name_end-end.ensures.bounds.forward)
-
-pub slice_bounds-is_admitted-end : goal.slice_bounds-is_admitted-end
-slice_bounds-is_admitted-end c = omega (arith, c.name_end-end.ensures.bounds.inside)
-
-pub returns-then-not-is_admitted : goal.returns-then-not-is_admitted
-returns-then-not-is_admitted c =
-    sym (c.loop-at.invariant.1
-    ∙ admitted_not c.name_end-end.ensures
-    (sym c.is_admitted.ensures ∙ not-true _ c.if-not-is_admitted.true-raw))
-
-pub returns-then-end-list : goal.returns-then-end-list
-returns-then-end-list c =
-    sym (c.loop-at.invariant.1
-    ∙ admitted_last c.name_end-end.ensures
-    (sym c.is_admitted.ensures ∙ not-false _ c.if-not-is_admitted.false-raw) c.if-end-list.true)
-
-pub overflow_add-at : goal.overflow_add-at
-overflow_add-at c = omega (arith, c.name_end-end.ensures.bounds.inside)
-
-pub loop-at-smaller : goal.loop-at-smaller
-loop-at-smaller c =
-    omega (arith, c.name_end-end.ensures.bounds.inside, c.name_end-end.ensures.bounds.forward)
-
-pub loop-at-preserved : goal.loop-at-preserved
-loop-at-preserved c = (
-  omega (arith, c.name_end-end.ensures.bounds.inside, c.if-end-list.false),
-  c.loop-at.invariant.1
-      ∙ admitted_later c.name_end-end.ensures
-      (sym c.is_admitted.ensures ∙ not-false _ c.if-not-is_admitted.false-raw) c.if-end-list.false,
-)
+pub returns : goal.returns
+returns c =
+    all_from_yields_List is_admitted _ _ _ c.all.ensures.ran
+    (YieldsList-from_slice_split _ (λ b. eqb b 10) c.args.list.now c.split.ensures.rest c.split.ensures.done c.split.ensures.closure (λ x b q k. search (rules, tests)))
+    (λ x b q k. search (rules, tests))
+    ∙ sym (admitted_split c.args.list.now (search rules))

@@ -1,8 +1,8 @@
 -- Each byte in its place.
-use mathlib.Core.Path.{refl}
+use borrow.Author.Rules.{rules}
 use Rattle.words.specs.Table.{with_number}
 use Rattle.words.proofs.put_number.Goals as goal
 
 pub returns : goal.returns
 unfolding with_number
-returns c = refl
+returns c = search rules
