@@ -12,7 +12,6 @@ ghost use Rattle.equal_conclusions.specs.Equality.{Numbers};
 ghost use Rattle.appended_parts.specs.Appended.{codes_below, Room, WrotePair, Addable, Appends};
 
 use equal_conclusions::proposition_code;
-use merged_names::name_bytes;
 use number::PAIR_SIZE;
 use output::{put_all, put_u16s};
 use renumbering::put_renumbered;
@@ -80,7 +79,7 @@ fn append_name<'a>(
     if numbers[n] as usize != h.names + before.count {
         return before;
     }
-    let name = name_bytes(host, vocabulary(h), donor, vocabulary(g), false, n);
+    let name = vocabulary::name(donor, vocabulary(g), n);
     append_piece(name, h.text_length, before, pairs, text)
 }
 

@@ -20,6 +20,7 @@ use Rattle.graft_laws.proofs.MergedSheet.{Grafts}
 use Rattle.graft_laws.proofs.MergedLevels.{merged_levels}
 use Rattle.output.specs.Written.{filled}
 use Rattle.vocabulary.specs.declared.Vocabulary.{Vocabulary}
+use Rattle.name_index.specs.declared.Index.{Index}
 use Rattle.merged_names.specs.Numbered.{Indexed, Numbered}
 use Rattle.steps.specs.Records.{HasStep}
 use Rattle.sheet.specs.declared.header.Sheet.{Sheet}
@@ -80,21 +81,17 @@ module _ (s t : List ℕ) (k room : ℕ) where
   open_grafted g is m = rw (g.is_open, merged_levels g, ← is) m
 
 -- the names of an accepted sheet with their index, and a map in which no number is stored yet
-pub indexed : {s : List ℕ} {h : Sheet} → AcceptedSheet s h → {v : Vocabulary} → v ≡ vocabulary_of h → {slots : List ℕ} → length slots ≡ slot_count
-    → slots ≡ index_of s → Indexed s v slots
+pub indexed : {x : Index} {h : Sheet} → AcceptedSheet x.bytes.now h → x.v ≡ vocabulary_of h → x.slots.now ≡ index_of x.bytes.now → Indexed x
 unfolding header_of
-indexed a is size index =
+indexed {x} {h} a is index =
     let has = its_header a in
-    rw is
-    (record {
-      within = within has;
-      named = λ i l. names_of a l;
-      are_names = names_are has;
-      count = count_is has;
+    record {
+      named = λ i l. rw is (names_of a l);
+      are_names = rw is (names_are has);
+      count = rw is (count_is has);
       few = a.sheet.in_range.names;
-      size = size;
       index = index;
-    })
+    }
 
 pub none_numbered : (s t : List ℕ) {numbers : List ℕ} → name_limit ≤ length numbers → Numbered s t 0 numbers
 none_numbered s t room = record { room = room; stored = λ m l. absurd (omega arith) }

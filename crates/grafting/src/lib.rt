@@ -21,7 +21,7 @@ use definitions::{Refusal, Whose};
 use equal_conclusions::same_conclusion;
 use merged_names::fill_numbers;
 use merged_sheet::merge;
-use name_index::{SLOT_COUNT, build};
+use name_index::{Index, SLOT_COUNT, build};
 use sheet::{Sheet, check, step_records, vocabulary};
 use steps::{first_deep_tree, premiss_count, rule_byte};
 
@@ -114,8 +114,18 @@ fn number_names(
     let mut donor_slots = [0u16; SLOT_COUNT];
     build(&mut host_slots, host, v);
     build(&mut donor_slots, donor, w);
-    fill_numbers(host, v, &host_slots, host, v, &host_slots, host_numbers);
-    fill_numbers(host, v, &host_slots, donor, w, &donor_slots, donor_numbers);
+    let host_index = Index {
+        bytes: host,
+        v,
+        slots: &host_slots,
+    };
+    let donor_index = Index {
+        bytes: donor,
+        v: w,
+        slots: &donor_slots,
+    };
+    fill_numbers(host_index, host_index, host_numbers);
+    fill_numbers(host_index, donor_index, donor_numbers);
 }
 
 // 27, 28 and 16 of an open step; or the merged sheet, of which the answer is the header.

@@ -21,7 +21,7 @@ use checker::check;
 use definitions::Refusal;
 use hypotheses::{are_free, assume, is_free, is_out};
 use merged_names::fill_numbers;
-use name_index::{SLOT_COUNT, build};
+use name_index::{Index, SLOT_COUNT, build};
 use number::pair_offset;
 use prop_numbers::{MADE_NUMBERS, NAMES, STOPS};
 use sheet::{Sheet, code_bytes, proposition_pairs, vocabulary};
@@ -39,7 +39,12 @@ fn number_names(s: &[u8], h: Sheet, numbers: &mut [u16])
     let v = vocabulary(h);
     let mut slots = [0u16; SLOT_COUNT];
     build(&mut slots, s, v);
-    fill_numbers(s, v, &slots, s, v, &slots, numbers);
+    let index = Index {
+        bytes: s,
+        v,
+        slots: &slots,
+    };
+    fill_numbers(index, index, numbers);
 }
 
 // 31: the proposition or a hypothesis is not the sheet's.

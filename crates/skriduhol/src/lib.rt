@@ -33,7 +33,7 @@ ghost use Rattle.skriduhol.specs.Searched.{searched_of, plain_answer};
 use definitions::{Located, Refusal, Style, TermList, Version, Whose};
 use list_length::list_length;
 use located::{locate, put_refusal};
-use name_index::SLOT_COUNT;
+use name_index::{Index, SLOT_COUNT};
 use proof_term_lists::put_list;
 use restating::Given;
 use sheet::{check_header, vocabulary};
@@ -303,5 +303,10 @@ pub fn find_name(s: &[u8], slots: &[u16; SLOT_COUNT], name: &[u8]) -> Result<Opt
 {
     let checked = check_header(s);
     let h = checked.map_err(|refusal| locate(s, refusal))?;
-    Ok(name_index::find(slots, s, vocabulary(h), name))
+    let index = Index {
+        bytes: s,
+        v: vocabulary(h),
+        slots,
+    };
+    Ok(index.find(name))
 }

@@ -1,6 +1,5 @@
 -- A name whose number was given before is passed over, and a new one is appended.
 use mathlib.Core.Path.{sym, ◌∙◌}
-use mathlib.Core.Bool.{true≢false}
 use native.Mathlib.Omega.{arith}
 use Rattle.definitions.specs.Sheet.{name_limit}
 use Rattle.sheet.proofs.Admitted.{its_header}
@@ -35,24 +34,21 @@ returns-then-numbers-n c =
     not_new _ _ below so (name_count host) (λ e. c.if-numbers-n.true (numbered.stored _ below ∙ e))
 
 pub vocabulary-requires : goal.vocabulary-requires
-vocabulary-requires c = (its_header c.requires.accepted_sheet.0).in_range
+vocabulary-requires c = (its_header c.requires.accepted_sheet.1).in_range
 
-pub vocabulary-requires-2 : goal.vocabulary-requires-2
-vocabulary-requires-2 c = (its_header c.requires.accepted_sheet.1).in_range
-
-pub name_bytes-name-requires : goal.name_bytes-name-requires
-name_bytes-name-requires c =
+pub name-name-requires : goal.name-name-requires
+name-name-requires c =
     let record { accepted_sheet = (_, donor); n_bound = (below, _); appends = _ } = c.requires in
-    ((λ e. absurd (true≢false (sym e))), (λ e. name_here donor c.vocabulary-2.ensures below))
+    name_here donor c.vocabulary.ensures below
 
 pub append_piece-requires : goal.append_piece-requires
 append_piece-requires c =
     let record { accepted_sheet = (host, donor); n_bound = (below, _); appends = so } = c.requires in
     name_addable donor _ _ below (text_within host) so
-    (c.name_bytes-name.ensures ∙ name_is donor c.vocabulary-2.ensures _)
+    (c.name-name.ensures ∙ name_is donor c.vocabulary.ensures _)
 
 pub returns : goal.returns
 returns c =
     let record { accepted_sheet = (host, donor); n_bound = (below, numbered); appends = so } = c.requires in
     name_appended _ _ below so (name_count host) (sym (numbered.stored _ below) ∙ c.if-numbers-n.false)
-    (c.name_bytes-name.ensures ∙ name_is donor c.vocabulary-2.ensures _) (text_size host) c.append_piece.ensures
+    (c.name-name.ensures ∙ name_is donor c.vocabulary.ensures _) (text_size host) c.append_piece.ensures

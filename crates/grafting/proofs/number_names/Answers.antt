@@ -30,20 +30,28 @@ build-requires-2 c =
       name_count_bound = few_names donor c.vocabulary-w.ensures;
     }
 
-pub fill_numbers-requires : goal.fill_numbers-requires
+pub invariant_of-host_index : goal.invariant_of-host_index
 unfolding slot_count
+invariant_of-host_index c =
+    record { within = vocabulary-within c.requires.accepted_sheet.0 c.vocabulary-v.ensures; whole = search rules }
+
+pub invariant_of-donor_index : goal.invariant_of-donor_index
+unfolding slot_count
+invariant_of-donor_index c =
+    record { within = vocabulary-within c.requires.accepted_sheet.1 c.vocabulary-w.ensures; whole = search rules }
+
+pub fill_numbers-requires : goal.fill_numbers-requires
 fill_numbers-requires c =
     let record { accepted_sheet = (host, _); name_limit_in_bounds = (room, _) } = c.requires in
-    let index = indexed host c.vocabulary-v.ensures (search rules) (built host c.vocabulary-v.ensures c.build.ensures) in
-    record { indexed = (index, index); numbered = none_numbered _ _ room }
+    let here = built host c.vocabulary-v.ensures c.build.ensures in
+    record { indexed = (indexed host c.vocabulary-v.ensures here, indexed host c.vocabulary-v.ensures here); numbered = none_numbered _ _ room }
 
 pub fill_numbers-requires-2 : goal.fill_numbers-requires-2
-unfolding slot_count
 fill_numbers-requires-2 c =
     let record { accepted_sheet = (host, donor); name_limit_in_bounds = (_, room) } = c.requires in record {
       indexed = (
-        indexed host c.vocabulary-v.ensures (search rules) (built host c.vocabulary-v.ensures c.build.ensures),
-        indexed donor c.vocabulary-w.ensures (search rules) (built donor c.vocabulary-w.ensures c.build-2.ensures),
+        indexed host c.vocabulary-v.ensures (built host c.vocabulary-v.ensures c.build.ensures),
+        indexed donor c.vocabulary-w.ensures (built donor c.vocabulary-w.ensures c.build-2.ensures),
       );
       numbered = none_numbered _ _ room;
     }

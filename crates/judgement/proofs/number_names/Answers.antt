@@ -15,12 +15,15 @@ build-requires c =
       name_count_bound = few_names sheet c.vocabulary-v.ensures;
     }
 
-pub fill_numbers-requires : goal.fill_numbers-requires
+pub invariant_of-index : goal.invariant_of-index
 unfolding slot_count
+invariant_of-index c = record { within = vocabulary-within c.requires.0 c.vocabulary-v.ensures; whole = search rules }
+
+pub fill_numbers-requires : goal.fill_numbers-requires
 fill_numbers-requires c =
     let (sheet, room) = c.requires in
-    let one = indexed sheet c.vocabulary-v.ensures (search rules) (built sheet c.vocabulary-v.ensures c.build.ensures) in
-    record { indexed = (one, one); numbered = none_numbered _ _ room }
+    let here = built sheet c.vocabulary-v.ensures c.build.ensures in
+    record { indexed = (indexed sheet c.vocabulary-v.ensures here, indexed sheet c.vocabulary-v.ensures here); numbered = none_numbered _ _ room }
 
 pub vocabulary-v-requires : goal.vocabulary-v-requires
 vocabulary-v-requires c = (its_header c.requires.0).in_range

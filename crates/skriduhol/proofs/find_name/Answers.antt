@@ -41,9 +41,10 @@ returns-in_err-h c =
 pub vocabulary-requires : goal.vocabulary-requires
 vocabulary-requires c = (has_header (goal.at.vocabulary-requires c).In_ok-h).in_range
 
-pub find-requires : goal.find-requires
+pub invariant_of-index : goal.invariant_of-index
 unfolding slot_count
-find-requires c = rw c.vocabulary.ensures (omega arith, within (has_header (goal.at.find-requires c).In_ok-h))
+invariant_of-index c =
+    record { within = rw c.vocabulary.ensures (within (has_header (goal.at.invariant_of-index c).In_ok-h)); whole = omega arith }
 
 pub returns : goal.returns
 returns c =
