@@ -3,12 +3,13 @@ use Prim.Native.Nat.{ℕ, zero, suc, ◌+◌, ◌-◌, ◌≤◌, ◌<◌, min}
 use mathlib.Core.Path.{◌≡◌, refl, sym, ap, ◌∙◌}
 use mathlib.Core.Bool.{Bool, true, false}
 use mathlib.Core.Logic.{by_cases}
-use mathlib.Core.List.{List, [], ◌∷◌, ◌++◌}
+use mathlib.Core.List.{List, [], ◌∷◌, ◌++◌, append_assoc}
 use native.Mathlib.Omega.{arith}
 use native.Mathlib.Decide.{dec_le}
-use lib.ListN.{length, get_or, set, take, drop, length-set, length-take, length-drop, drop_of_length-le}
-use borrow.Rule.Slice.PartMut.{put_mid}
-use lib.Seq.{sets, take-take, length-sets, drop-cons, drop-set-lt, set-set, get_or-set_same, get_or-set_other}
+use lib.ListN.{length, get_or, set, take, drop, length-set, length-take, length-drop}
+use Rattle.std.proofs.lemmas.List.{drop-drop}
+use Rattle.std.specs.List.{copy_within}
+use lib.Seq.{sets, take-suc, take-take, length-sets, drop-cons, drop-set-lt, set-set, get_or-set_same, get_or-set_other}
 use Rattle.output.specs.Wrote.{puts}
 use Rattle.output.proofs.Writing.{sets_past, fitting_part, stored_part}
 use Rattle.atom_reader.proofs.Storing.{set_sets}
@@ -41,45 +42,37 @@ insert_dry l at n carry = refl
 pub inserted_dry : (write : Bool) (l : List ℕ) (at n carry : ℕ) → write ≡ false → inserted write l at n carry ≡ l
 inserted_dry write l at n carry e = rw e (insert_dry l at n carry)
 
--- The part that has room is turned by one, and the byte is stored in its first place.
+-- What has room moves up by one, and the byte is stored in the place that is left.
 set_behind : (front rest : List ℕ) (z b : ℕ) → set (front ++ (z ∷ rest)) (length front) b ≡ front ++ (b ∷ rest)
 set_behind [] rest z b = refl
 set_behind (a ∷ front) rest z b = ap (λ l. a ∷ l) (set_behind front rest z b)
 
 module _ (l : List ℕ) (to b : ℕ) (inside : to < length l) where
-  first_stored : (k z : ℕ) (t : List ℕ) → set (put_mid to (suc k) l (z ∷ t)) to b ≡ put_mid to (suc k) l (b ∷ t)
-  first_stored k z t =
+  first_stored : (t rest : List ℕ) → set ((take (to + 1) l ++ t) ++ rest) to b ≡ take to l ++ (b ∷ (t ++ rest))
+  first_stored t rest =
       let here : length (take to l) ≡ to = omega (arith, length-take to l) in
-      rw here at (set_behind (take to l) (t ++ drop (suc k) (drop to l)) z b)
+      let next : to + 1 ≡ suc to = omega arith in
+      rw (next, take-suc l to 0 inside, append_assoc (take to l ++ (get_or l to 0 ∷ [])) t rest, append_assoc (take to l) (get_or l to 0 ∷ []) (t ++ rest))
+      (rw here at (set_behind (take to l) (t ++ rest) (get_or l to 0) b))
 
-  last_first : (k : ℕ) → to + suc k ≤ length l → let mid = take (suc k) (drop to l) in
-      drop (length mid - 1) mid ++ take (length mid - 1) mid ≡ get_or mid k 0 ∷ take k (drop to l)
-  last_first k fits =
-      let mid = take (suc k) (drop to l) in
-      let long : length mid ≡ suc k = omega (arith, length-take (suc k) (drop to l), length-drop to l) in
-      let less : length mid - 1 ≡ k = omega arith in
-      let short : length mid ≤ suc k = omega arith in
-      let none : drop (suc k) mid ≡ [] = drop_of_length-le mid short in
-      rw (less, drop-cons mid k 0 (omega arith), none, take-take k (suc k) (drop to l) (omega arith)) refl
-
-  turned_by : {write : Bool} {n : ℕ} {part : List ℕ} (size k : ℕ) → write ≡ true → n ≡ suc k → suc k ≡ min (length l - to) (suc size)
-      → part ≡ drop (length (take n (drop to l)) - 1) (take n (drop to l)) ++ take (length (take n (drop to l)) - 1) (take n (drop to l))
-      → set (put_mid to n l part) to b ≡ inserted write l to size b
+  moved_by : {write : Bool} {n : ℕ} {moved : List ℕ} (size k : ℕ) → write ≡ true → n ≡ k → suc k ≡ min (length l - to) (suc size)
+      → moved ≡ (take (to + 1) l ++ take n (drop to l)) ++ drop (to + 1 + n) l → set moved to b ≡ inserted write l to size b
   unfolding inserted puts
-  turned_by size k w e room turns =
+  moved_by size k w e room moves =
       let text = b ∷ take size (drop to l) in
       let cut : b ∷ take k (drop to l) ≡ take (suc k) text = ap (λ t. b ∷ t) (sym (take-take k size (drop to l) (omega arith))) in
       let sized : length (b ∷ take k (drop to l)) ≡ suc k = omega (arith, length-take k (drop to l), length-drop to l) in
+      let behind : drop (to + 1 + k) l ≡ drop (suc k) (drop to l) =
+      let sum : to + 1 + k ≡ to + suc k = omega arith in
+      rw sum (sym (drop-drop (suc k) to l)) in
       rw w
       (fitting_part true l to text {fit = suc k} (omega (arith, length-take size (drop to l), length-drop to l))
-      (rw (turns, e, last_first k (omega arith))
-      (first_stored k (get_or (take (suc k) (drop to l)) k 0) (take k (drop to l))
-      ∙ (stored_part to (suc k) l (b ∷ take k (drop to l)) (sym sized) (omega arith) ∙ ap (puts true l to) cut))))
+      (rw (moves, e, first_stored (take k (drop to l)) (drop (to + 1 + k) l), behind)
+      (stored_part to (suc k) l (b ∷ take k (drop to l)) (sym sized) (omega arith) ∙ ap (puts true l to) cut)))
 
-  pub turned : {write : Bool} {end : ℕ} {part : List ℕ} (size : ℕ) → write ≡ true → end ≡ min (length l) (to + size + 1)
-      → part ≡ drop (length (take (end - to) (drop to l)) - 1) (take (end - to) (drop to l)) ++ take (length (take (end - to) (drop to l)) - 1) (take (end - to) (drop to l))
-      → set (put_mid to (end - to) l part) to b ≡ inserted write l to size b
-  turned {write} {end} {part} size w e turns = turned_by size (end - to - 1) w (omega arith) (omega arith) turns
+  pub moved_up : {write : Bool} {last : ℕ} {moved : List ℕ} (size : ℕ) → write ≡ true → last ≡ min (length l - 1) (to + size)
+      → moved ≡ copy_within l to last (to + 1) → set moved to b ≡ inserted write l to size b
+  moved_up {write} {last} size w e moves = moved_by size (last - to) w refl (omega arith) moves
 
 -- what stands before a run of stores
 get_d_sets : (l : List ℕ) (i j : ℕ) (s : List ℕ) → i < j → get_or (sets l j s) i 0 ≡ get_or l i 0

@@ -262,8 +262,8 @@ fn insert(code: &mut [u8], to: usize, size: usize, b: u8, write: bool)
     ensures { code.new ≡ inserted write code.old to size b }
 {
     if write && to < code.len() {
-        let end = code.len().min(to + size + 1);
-        code[to..end].rotate_right(1);
+        let last = (code.len() - 1).min(to + size);
+        code.copy_within(to..last, to + 1);
         code[to] = b;
     }
 }
