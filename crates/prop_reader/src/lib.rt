@@ -14,6 +14,7 @@ ghost use Rattle.prop_reader.specs.Answer.{LoneLacks, LoneEnds, DatatypeGiven, P
 
 use atom_reader::{Place, PropRead, read_atom};
 use caller_names::is_listed;
+use proof_term::{DATATYPE, PROPOSITION};
 use prop_frames::{close_prop, goes_on, join, open_front, part_least, read_constant};
 use prop_parts::{CONNECTIVE_SIZE, Sign, connective_at, sign_at};
 use words::{expect, name_end, number_of_name};
@@ -128,11 +129,6 @@ fn lone_end(text: &[u8], at: usize) -> Option<usize>
     }
     Some(end)
 }
-
-// The kinds of labels, as in records.
-const PROPOSITION: usize = 1;
-
-const DATATYPE: usize = 2;
 
 // The datatype whose name stands from `at` to `end`.
 fn read_datatype(
