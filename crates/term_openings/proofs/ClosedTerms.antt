@@ -2,13 +2,14 @@
 use Prim.Native.Nat.{ℕ, ◌<◌, ◌≤◌}
 use mathlib.Core.Path.{◌≡◌, refl, sym, ap, ◌∙◌}
 use mathlib.Core.Bool.{true, false}
-use Rattle.std.specs.Prelude.{Option, None, Some}
+use Rattle.std.specs.Prelude.{Option, None, Some, MatchOption}
 use mathlib.Core.List.{List, [], ◌∷◌, ◌++◌, append_assoc, append-nil}
 use native.Mathlib.Omega.{arith}
 use lib.ListN.{length, drop}
 use Rattle.definitions.specs.Utf8.{utf8}
 use Rattle.definitions.specs.Name.{Name, eq_name}
 use Rattle.definitions.specs.Text.{occurs}
+use Rattle.definitions.specs.Display.{closed, form}
 use Rattle.definitions.specs.Term.{ProofTerm, Ident, Unit, Sorry, annotation_count}
 use Rattle.definitions.specs.TermText.{term_nesting}
 use Rattle.definitions.specs.TermReader.{standing, word, name, expect, if_read, start_of, is_sorry}
@@ -25,13 +26,13 @@ use Rattle.words.proofs.Added.{met_added}
 use Rattle.words.proofs.Words.{between_length, sorry_word_lem, other_word}
 use Rattle.atom_reader.proofs.Scopes.{added_one_meets}
 use Rattle.atom_reader.proofs.Atoms.{number_later}
+use Rattle.term_stack.specs.declared.Work.{Work}
 use Rattle.term_stack.specs.declared.Progress.{Progress}
 use Rattle.term_stack.specs.declared.Purpose.{Purpose}
-use Rattle.term_stack.specs.Forms.{kind_of}
-use Rattle.term_stack.specs.Growing.{row_numbers}
-use Rattle.term_stack.specs.Numbers.{records_after, entry_numbers, entry_records, purpose_records, stack_records}
-use Rattle.term_stack.specs.Standing.{Scene, Extends, Placed}
-use Rattle.term_stack.specs.Turning.{left_at}
+use Rattle.term_stack.specs.declared.Entry.TheVariants.{Bracket}
+use Rattle.term_stack.specs.declared.State as reader_state
+use Rattle.term_stack.specs.Numbers.{records_after, entry_after, entry_records, purpose_records, stack_records}
+use Rattle.term_stack.specs.Standing.{Scene, Extends, Placed, left_at}
 use Rattle.term_stack.specs.Using.{Comes, Refuses, Turned, left_after, Leaf}
 use Rattle.term_stack.proofs.Coming.{comes_as, unfit, goes_on, ends_here, reads_on, reads_else}
 use Rattle.term_stack.proofs.Opened.{Opens}
@@ -41,34 +42,22 @@ use Rattle.term_openings.proofs.Noting.{noting, stored_name, crowded_met, many_n
 
 -- the same, further on in the text, the names and the labels' code
 abbrev pub further : Progress → ℕ → ℕ → ℕ → Progress
-further s at count to = record {
-  mode = s.mode;
-  at = at;
-  depth = s.depth;
-  used = s.used;
-  count = count;
-  to = to;
-  kind = s.kind;
-  own = s.own;
-  nest = s.nest;
-  tally = s.tally;
-}
+further s at count to = record s { at = at; count = count; to = to }
 
 -- what is nearer to the end than this is nearer than what lies before it
-pub turned_within : {z : Scene} {work : List ℕ} {left more : ℕ} {r : Progress} → Turned z work left r → left ≤ more → Turned z work more r
-turned_within t h = record {
-  known = t.known;
-  refused = t.refused;
-  reading = λ e. let (there, less) = t.reading e in (there, omega (arith, less, h));
-  holding = λ e. let (there, less) = t.holding e in (there, omega (arith, less, h));
-  giving = λ e. let (there, less) = t.giving e in (there, omega (arith, less, h));
-}
+pub turned_within : {z : Scene} {work : Work} {left more : ℕ} {r : reader_state.State} → Turned z work left r → left ≤ more → Turned z work more r
+turned_within t h = record { there = t.there; less = let less = t.less in omega (arith, less, h) }
+
+pub ends_within : (z : Scene) (work : Work) (left more : ℕ) (r : Option reader_state.State) → MatchOption r (Refuses z) (Turned z work left) → left ≤ more
+    → MatchOption r (Refuses z) (Turned z work more)
+ends_within z work left more None there h = there
+ends_within z work left more (Some r) t h = turned_within t h
 
 -- and what is read behind this place is nearer than this place
-pub turned_behind : {z : Scene} {work : List ℕ} {r : Progress} (s behind : Progress) → Turned z work (left_after z behind) r
-    → s.at < behind.at → behind.at ≤ length z.text → behind.depth ≡ s.depth → Turned z work (left_at z.text s 0) r
+pub ends_behind : (z : Scene) (work : Work) (s behind : Progress) (r : Option reader_state.State) → MatchOption r (Refuses z) (Turned z work (left_after z behind))
+    → s.at < behind.at → behind.at ≤ length z.text → behind.depth ≡ s.depth → MatchOption r (Refuses z) (Turned z work (left_at z.text s 0))
 unfolding left_after left_at
-turned_behind s behind t less within deep = turned_within t (omega arith)
+ends_behind z work s behind r t less within deep = ends_within z work _ _ r t (omega arith)
 
 -- whether the word is sorry
 module _ {text : List ℕ} {at end : ℕ} (ends : WordEnds text at end) where
@@ -95,7 +84,7 @@ number_noted x seen others now number names is e =
     let there : occurs eq_name x now ≡ true = rw names (met_added x (added seen (x ∷ [])) others (added_one_meets seen x)).0 in
     number_later x seen others is ∙ sym (e x there ∙ ap (λ l. number_in l x) names)
 
-module _ {z : Scene} {work : List ℕ} {s : Progress} {q : Purpose} (c : Closed z work s q) where
+module _ {z : Scene} {work : Work} {s : Progress} {q : Purpose} (c : Closed z work s q) where
   abbrev before : List Mark
   before = entries_marks c.entries ++ purpose_marks c.purpose
 
@@ -124,7 +113,7 @@ module _ {z : Scene} {work : List ℕ} {s : Progress} {q : Purpose} (c : Closed 
 
     pub name_leaf : {after : List ℕ} {n : Numbered} → NumberOf (between s.at end z.text) z.text z.names s.count after n
         → Leaf (noting z after z.code) work (further s end n.count s.to) 0 n.number q
-    unfolding noting standing marks records_after added kind_of term_nesting annotation_count seven
+    unfolding noting standing marks records_after added form term_nesting annotation_count seven
     name_leaf {n = n} number =
         let x = between s.at end z.text in
         record {
@@ -139,7 +128,7 @@ module _ {z : Scene} {work : List ℕ} {s : Progress} {q : Purpose} (c : Closed 
           stored = stored_as (stored_name x c.for.stored number.noted) (append_assoc (entries_marks c.entries) (purpose_marks c.purpose) (called x ∷ [])) (λ numbers. refl);
           marks_are = refl;
           row_is = λ numbers e. let is = number_noted x (table_names z.names z.text s.count) [] _ numbers number.noted.names number.number_is e in rw is refl;
-          kind_is = refl;
+          form_is = refl;
           nest_is = refl;
           tally_is = refl;
         }
@@ -147,8 +136,8 @@ module _ {z : Scene} {work : List ℕ} {s : Progress} {q : Purpose} (c : Closed 
   -- a leaf without a name
   bare_leaf : (t : ProofTerm Name) (kind end : ℕ) → Comes z.types z.text (used c.entries c.purpose (standing false t) (drop end z.text))
       → s.at ≤ end → end ≤ length z.text → marks t ≡ node ∷ [] → ((number : Name → ℕ) → seven kind 0 0 0 0 0 0 ≡ records_after number before t)
-      → kind ≡ kind_of t → term_nesting t ≡ 1 → annotation_count t ≡ 0 → Leaf z work (further s end s.count s.to) kind 0 q
-  bare_leaf t kind end comes from within marks_are row_is kind_is nest_is tally_is = record {
+      → form t ≡ closed → term_nesting t ≡ 1 → annotation_count t ≡ 0 → Leaf z work (further s end s.count s.to) kind 0 q
+  bare_leaf t kind end comes from within marks_are row_is form_is nest_is tally_is = record {
     entries = c.entries;
     purpose = c.purpose;
     term = t;
@@ -160,14 +149,14 @@ module _ {z : Scene} {work : List ℕ} {s : Progress} {q : Purpose} (c : Closed 
     stored = stored_as c.for.stored (rw (append-nil (purpose_marks c.purpose)) refl) (λ number. refl);
     marks_are = marks_are;
     row_is = λ number e. row_is number;
-    kind_is = kind_is;
+    form_is = form_is;
     nest_is = nest_is;
     tally_is = tally_is;
   }
 
   pub sorry_leaf : {end : ℕ} → name (drop s.at z.text) ≡ None → is_sorry (start_of (word (drop s.at z.text)).value) ≡ true
       → WordEnds z.text s.at end → Leaf z work (further s end s.count s.to) 13 0 q
-  unfolding closed_for marks records_after kind_of term_nesting annotation_count
+  unfolding closed_for marks records_after form term_nesting annotation_count
   sorry_leaf {end} no_name is ends =
       let rest : (word (drop s.at z.text)).rest ≡ drop end z.text = ap (λ w. w.rest) ends.is in
       bare_leaf Sorry 13 end (comes_as (reads_else (name (drop s.at z.text)) _ _ c.for.comes no_name) (rw (is, rest))) ends.from ends.within
@@ -187,14 +176,14 @@ module _ {z : Scene} {work : List ℕ} {s : Progress} {q : Purpose} (c : Closed 
       opened_comes = goes_on (expect (utf8 "(") (drop s.at z.text)) (opening c.entries c.purpose) tt (drop inside z.text) bracket_comes bracket.reads
 
       pub unit_leaf : {end : ℕ} → Expected (utf8 ")") z.text inside end → Leaf z work (further s end s.count s.to) 12 0 q
-      unfolding opening marks records_after kind_of term_nesting annotation_count
+      unfolding opening marks records_after form term_nesting annotation_count
       unit_leaf {end} close =
           bare_leaf Unit 12 end (reads_on (expect (utf8 ")") (drop inside z.text)) _ _ tt (drop end z.text) opened_comes close.reads)
           (let a = bracket.after in let b = close.after in omega (arith, a, b)) close.within refl (λ number. refl) refl refl refl
 
       pub bracket_opens : Opens c.entries (in_bracket c.purpose) z work (further s inside s.count s.to)
-          (record { kind = q.kind; a = q.value; b = 0; c = 0; d = 0; e = q.nest }) q.tally
-      unfolding entry_marks entry_records entry_numbers row_numbers seven
+          (Bracket q)
+      unfolding entry_marks entry_records entry_after
       bracket_opens = record {
         placed = placed_at inside s.count (let a = bracket.after in omega (arith, a)) bracket.within;
         deep = c.for.deep;
@@ -203,7 +192,7 @@ module _ {z : Scene} {work : List ℕ} {s : Progress} {q : Purpose} (c : Closed 
         stored = c.for.stored;
         marks_are = refl;
         records_are = λ number. refl;
-        row_is = λ number e. let p = c.for.purpose_is in rw (p.kind, p.value, p.nest, p.tally) refl;
+        entry_is = λ number e. ap Bracket c.for.purpose_is;
       }
 
       pub bracket_enters : expect (utf8 ")") (drop inside z.text) ≡ None → Comes z.types z.text (Some (reading (in_bracket c.purpose ∷ c.entries) (drop inside z.text)))

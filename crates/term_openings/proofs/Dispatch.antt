@@ -2,6 +2,7 @@
 use Prim.Native.Nat.{ℕ, ◌≤◌}
 use mathlib.Core.Path.{◌≡◌, refl, sym, ap, ◌∙◌}
 use mathlib.Core.List.{List, append-nil}
+use Rattle.std.specs.Prelude.{Option, MatchOption}
 use mathlib.Core.Logic.{◌⊎◌, ⊎_elim}
 use native.Mathlib.Omega.{arith}
 use lib.ListN.{drop}
@@ -15,14 +16,16 @@ use Rattle.words.specs.declared.Start.{Start}
 use Rattle.words.specs.declared.Start.TheVariants.{Function, Case, Let, Fst, Snd, Inl, Inr, Abort, Sorry, Other}
 use Rattle.words.specs.Places.{between, WordEnds}
 use Rattle.words.specs.Starts.{as_call, as_start}
+use Rattle.term_stack.specs.declared.Work.{Work}
 use Rattle.term_stack.specs.declared.Progress.{Progress}
-use Rattle.term_stack.specs.Numbers.{purpose_kind, purpose_number, purpose_nesting, purpose_tally, purpose_records, stack_records}
-use Rattle.term_stack.specs.Standing.{Scene, ThereIs, AtReading}
-use Rattle.term_stack.specs.Turning.{left_at}
-use Rattle.term_stack.specs.Using.{Turned}
+use Rattle.term_stack.specs.declared.Purpose.TheVariants.{Head}
+use Rattle.term_stack.specs.declared.State as reader_state
+use Rattle.term_stack.specs.Numbers.{purpose_after, purpose_records, stack_records}
+use Rattle.term_stack.specs.Standing.{Scene, ThereIs, AtReading, left_at}
+use Rattle.term_stack.specs.Using.{Refuses, Turned}
 use Rattle.term_stack.proofs.Stores.{stored_as}
 use Rattle.term_openings.specs.Beginning.{Closed, Started}
-use Rattle.term_openings.proofs.ClosedTerms.{further, turned_within}
+use Rattle.term_openings.proofs.ClosedTerms.{further, ends_within}
 
 -- what the program's name for a start means
 unfoldable pub meant : Start → reader.Start
@@ -78,7 +81,7 @@ call_word_lem Let _ _ h _ _ = absurd (h refl)
 call_word_lem Sorry _ _ _ h _ = absurd (h refl)
 call_word_lem Other _ _ _ _ h = absurd (h refl)
 
-module _ {z : Scene} {work : List ℕ} {s : Progress} {end : ℕ} {r : Start} (at : AtReading z work s) (ends : WordEnds z.text s.at end)
+module _ {z : Scene} {work : Work} {s : Progress} {end : ℕ} {r : Start} (at : AtReading z work s) (ends : WordEnds z.text s.at end)
     (is : r ≡ as_start (start_of (between s.at end z.text))) where
   turns_by : turn z.types (reading at.entries (drop s.at z.text))
       ≡ onward (start z.types at.entries (meant r) (drop s.at z.text) (drop end z.text))
@@ -95,8 +98,8 @@ module _ {z : Scene} {work : List ℕ} {s : Progress} {end : ℕ} {r : Start} (a
     stored = at.before.stored;
   }
 
-  pub closed_head : (r ≡ Sorry) ⊎ (r ≡ Other) → Closed z work s (record { kind = 0; value = 0; nest = 0; tally = 0 })
-  unfolding purpose_marks purpose_records purpose_kind purpose_number purpose_nesting purpose_tally
+  pub closed_head : (r ≡ Sorry) ⊎ (r ≡ Other) → Closed z work s Head
+  unfolding purpose_marks purpose_records purpose_after
   closed_head h =
       let whole = drop s.at z.text in
       record {
@@ -110,13 +113,14 @@ module _ {z : Scene} {work : List ℕ} {s : Progress} {end : ℕ} {r : Start} (a
           };
           placed = at.before.placed;
           deep = at.before.deep;
-          purpose_is = record { kind = refl; value = refl; nest = refl; tally = refl };
+          purpose_is = refl;
           stored = stored_as at.before.stored (sym (append-nil (entries_marks at.entries))) (λ number. sym (append-nil (stack_records number at.entries)));
         };
       }
 
 -- what lies behind the word is nearer to the end
-pub turned_from : {z : Scene} {work : List ℕ} {r : Progress} (s : Progress) {end : ℕ} → Turned z work (left_at z.text (further s end s.count s.to) 0) r
-    → s.at ≤ end → Turned z work (left_at z.text s 0) r
+pub ends_from : (z : Scene) (work : Work) (s : Progress) (end : ℕ) (r : Option reader_state.State)
+    → MatchOption r (Refuses z) (Turned z work (left_at z.text (further s end s.count s.to) 0)) → s.at ≤ end
+    → MatchOption r (Refuses z) (Turned z work (left_at z.text s 0))
 unfolding left_at
-turned_from s t from = turned_within t (omega arith)
+ends_from z work s end r t from = ends_within z work _ _ r t (omega arith)

@@ -11,7 +11,6 @@ use Rattle.definitions.specs.Name.{Name}
 use Rattle.definitions.specs.Code.{Read}
 use Rattle.definitions.specs.TermReader.{case_word, let_word, name, expect, read_answer}
 use Rattle.definitions.proofs.Readings.{given}
-use Rattle.definitions.specs.TermMemory.{seven}
 use Rattle.reading_laws.specs.TermMachine.{as_body, Entry, case_head, let_head, State, reading, and_then, start}
 use Rattle.reading_laws.specs.Marks.{Mark, called, purpose_marks, entry_marks, entries_marks, met, names_met}
 use Rattle.reading_laws.proofs.OnTheWay.{Fits}
@@ -22,9 +21,12 @@ use Rattle.prop_parts.specs.declared.NameRead as reader
 use Rattle.prop_parts.specs.Found.{NameLacks, NameGiven}
 use Rattle.atom_reader.specs.Scope.{Crowded}
 use Rattle.atom_reader.proofs.Readings.{gives_any, gives_from}
+use Rattle.term_stack.specs.declared.Entry as stacked
+use Rattle.term_stack.specs.declared.Work.{Work}
 use Rattle.term_stack.specs.declared.Progress.{Progress}
-use Rattle.term_stack.specs.Growing.{row_numbers}
-use Rattle.term_stack.specs.Numbers.{purpose_kind, purpose_number, purpose_nesting, purpose_tally, purpose_records, entry_numbers, entry_records, stack_numbers, stack_records}
+use Rattle.term_stack.specs.declared.Purpose.TheVariants.{Body}
+use Rattle.term_stack.specs.declared.Entry.TheVariants.{CaseHead, LetHead}
+use Rattle.term_stack.specs.Numbers.{purpose_after, purpose_records, entry_after, entry_records, stack_of, stack_records}
 use Rattle.term_stack.specs.Standing.{Scene, ThereIs, Stored}
 use Rattle.term_stack.specs.Using.{Comes, Refuses}
 use Rattle.term_stack.proofs.Coming.{unfit, goes_on, ends_here}
@@ -37,7 +39,7 @@ use Rattle.std.proofs.lemmas.Option.{same_Some}
 use Rattle.std.proofs.lemmas.Option.{none-some}
 
 -- A case.
-module _ {z : Scene} {work : List ℕ} {s : Progress} (c : Started case_word z work s) where
+module _ {z : Scene} {work : Work} {s : Progress} (c : Started case_word z work s) where
   pub case_not : expect (utf8 " ") (drop s.at z.text) ≡ None → Refuses z
   unfolding start
   case_not e = ends_here (expect (utf8 " ") (drop s.at z.text)) _ c.comes e
@@ -47,8 +49,8 @@ module _ {z : Scene} {work : List ℕ} {s : Progress} (c : Started case_word z w
     unfolding start
     case_comes = goes_on (expect (utf8 " ") (drop s.at z.text)) _ tt (drop head z.text) c.comes blank.reads
 
-    pub case_opens : Opens c.entries case_head z work (further s head s.count s.to) (record { kind = 7; a = 0; b = 0; c = 0; d = 0; e = 0 }) 0
-    unfolding entry_marks entry_records entry_numbers row_numbers
+    pub case_opens : Opens c.entries case_head z work (further s head s.count s.to) CaseHead
+    unfolding entry_marks entry_records entry_after
     case_opens = record {
       placed = record { within = blank.within; near = let n = c.placed.near in let a = blank.after in omega (arith, n, a) };
       deep = c.deep;
@@ -57,18 +59,18 @@ module _ {z : Scene} {work : List ℕ} {s : Progress} (c : Started case_word z w
       stored = c.stored;
       marks_are = sym (append-nil (entries_marks c.entries));
       records_are = λ number. sym (append-nil (stack_records number c.entries));
-      row_is = λ number e. refl;
+      entry_is = λ number e. refl;
     }
 
 -- The body of a named function.
-module _ {z : Scene} {work : List ℕ} {s : Progress} {kind : ℕ} (c : AtCall kind z work s) where
+module _ {z : Scene} {work : Work} {s : Progress} {kind : ℕ} (c : AtCall kind z work s) where
   pub body_not : expect (utf8 " ") (drop s.at z.text) ≡ None → Refuses z
   unfolding start
   body_not e = ends_here (expect (utf8 " ") (drop s.at z.text)) _ c.started.comes e
 
   pub body_closed : {body : ℕ} → Expected (utf8 " ") z.text s.at body
-      → Closed z work (further s body s.count s.to) (record { kind = 2; value = kind; nest = 0; tally = 0 })
-  unfolding start purpose_marks purpose_records purpose_kind purpose_number purpose_nesting purpose_tally
+      → Closed z work (further s body s.count s.to) (Body kind)
+  unfolding start purpose_marks purpose_records purpose_after
   body_closed {body} blank = let t = c.started in record {
     entries = t.entries;
     purpose = as_body c.function;
@@ -76,7 +78,7 @@ module _ {z : Scene} {work : List ℕ} {s : Progress} {kind : ℕ} (c : AtCall k
       comes = goes_on (expect (utf8 " ") (drop s.at z.text)) _ tt (drop body z.text) t.comes blank.reads;
       placed = record { within = blank.within; near = let n = t.placed.near in let a = blank.after in omega (arith, n, a) };
       deep = t.deep;
-      purpose_is = record { kind = refl; value = c.kind_is; nest = refl; tally = refl };
+      purpose_is = ap Body c.kind_is;
       stored = stored_as t.stored (sym (append-nil (entries_marks t.entries))) (λ number. sym (append-nil (stack_records number t.entries)));
     };
   }
@@ -132,7 +134,7 @@ module _ (what : List ℕ) {text : List ℕ} (pairs : List ℕ) (at count : ℕ)
       too_many x rest (lacks t x rest front there))
 
 -- an entry with too many names
-pub entry_crowded : {ms : List Mark} {records stack : (Name → ℕ) → List ℕ} {z : Scene} {work : List ℕ} {used depth count to : ℕ}
+pub entry_crowded : {ms : List Mark} {records : (Name → ℕ) → List ℕ} {stack : (Name → ℕ) → List stacked.Entry} {z : Scene} {work : Work} {used depth count to : ℕ}
     → Stored ms records stack z work used depth count to → (more others : List Mark) → Crowded (table_names z.names z.text count) (names_met more)
     → (k : List Entry) (entry : Entry) (rest : List ℕ) → entries_marks (entry ∷ k) ≡ (ms ++ more) ++ others → Fits (reading (entry ∷ k) rest) → ⊥
 unfolding met
@@ -143,7 +145,7 @@ entry_crowded {ms} st more others h k entry rest e =
 unfoldable let_rest : List Entry → Name → Name → List ℕ → Option State
 let_rest k x y t = and_then (expect (utf8 ") = ") t) (λ u rest. Some (reading (let_head x y ∷ k) rest))
 
-module _ {z : Scene} {work : List ℕ} {s : Progress} (c : Started let_word z work s) where
+module _ {z : Scene} {work : Work} {s : Progress} (c : Started let_word z work s) where
   pub first_not : NameLacksAfter (utf8 " (") z.text s.at z.names s.count → Refuses z
   unfolding start Next entries_marks entry_marks names_met added
   first_not lacks =
@@ -162,7 +164,7 @@ module _ {z : Scene} {work : List ℕ} {s : Progress} (c : Started let_word z wo
     unfolding start let_rest
     first_comes = name_on (utf8 " (") z.names s.at s.count _ c.comes one.holds
 
-    abbrev named_once : Stored (entries_marks c.entries ++ (called x ∷ [])) (λ number. stack_records number c.entries) (λ number. stack_numbers number c.entries)
+    abbrev named_once : Stored (entries_marks c.entries ++ (called x ∷ [])) (λ number. stack_records number c.entries) (λ number. stack_of number c.entries)
         (noting z after z.code) work s.used s.depth first.count s.to
     named_once = stored_name x c.stored one.holds.noted
 
@@ -194,8 +196,8 @@ module _ {z : Scene} {work : List ℕ} {s : Progress} (c : Started let_word z wo
         let_long = let f = one.holds.from in let g = two.holds.from in let a = bracket.after in omega (arith, f, g, a)
 
         pub let_opens : Opens c.entries (let_head x y) (noting z after' z.code) work (further s head second.count s.to)
-            (record { kind = 10; a = first.number; b = second.number; c = 0; d = 0; e = 0 }) 0
-        unfolding noting entry_marks entry_records entry_numbers row_numbers seven added
+            (LetHead first.number second.number)
+        unfolding noting entry_marks entry_records entry_after added
         let_opens =
             let k = entries_marks c.entries in
             let seen = table_names z.names z.text s.count in
@@ -209,7 +211,7 @@ module _ {z : Scene} {work : List ℕ} {s : Progress} (c : Started let_word z wo
               stored = stored_name y named_once twice.noted;
               marks_are = append_assoc k (called x ∷ []) (called y ∷ []);
               records_are = λ number. sym (append-nil (stack_records number c.entries));
-              row_is = λ number e.
+              entry_is = λ number e.
                   let a = number_noted x seen (y ∷ []) _ number (twice.noted.names ∙ ap (λ l. added l (y ∷ [])) once.noted.names) once.number_is e in
                   let b = number_noted y (table_names after z.text first.count) [] _ number twice.noted.names twice.number_is e in
                   cc (a, b);

@@ -8,10 +8,10 @@ use native.Mathlib.Omega.{arith}
 use lib.ListN.{drop}
 use Rattle.definitions.specs.Utf8.{utf8}
 use Rattle.definitions.specs.Name.{Name}
-use Rattle.definitions.specs.Term.{Label, proposition, datatype, is_labelled}
+use Rattle.definitions.specs.Term.{Label, proposition, datatype}
 use Rattle.definitions.specs.TermText.{label_names, parameter_label_names}
 use Rattle.definitions.specs.TermReader.{fn_word, name, expect, parameter_label, prop_levels, is_limited_parameter_label}
-use Rattle.definitions.specs.TermMemory.{parameter_labels, label_kind, parameter_label_kind, parameter_label_number, seven}
+use Rattle.definitions.specs.TermMemory.{parameter_labels, label_kind, parameter_label_kind, parameter_label_number}
 use Rattle.definitions.proofs.Readings.{given}
 use Rattle.reading_laws.specs.TermMachine.{Entry, function_body, State, reading, and_then, start}
 use Rattle.reading_laws.specs.Marks.{Mark, called, labelled, label_marks, entry_marks, entries_marks, met, nodes_met, names_met, limited_met}
@@ -24,9 +24,11 @@ use Rattle.prop_parts.specs.declared.NameRead.{NameRead}
 use Rattle.atom_reader.proofs.Readings.{gives_any, gives_from}
 use Rattle.prop_reader.specs.declared.LabelRead.{LabelRead}
 use Rattle.prop_reader.specs.Answer.{LabelBegins}
+use Rattle.term_stack.specs.declared.Entry as stacked
+use Rattle.term_stack.specs.declared.Work.{Work}
 use Rattle.term_stack.specs.declared.Progress.{Progress}
-use Rattle.term_stack.specs.Growing.{row_numbers}
-use Rattle.term_stack.specs.Numbers.{labels_met, code_met, entry_numbers, entry_records, stack_numbers, stack_records}
+use Rattle.term_stack.specs.declared.Entry.TheVariants.{FunctionBody}
+use Rattle.term_stack.specs.Numbers.{labels_met, code_met, entry_after, entry_records, stack_of, stack_records}
 use Rattle.term_stack.specs.Standing.{Scene, ThereIs, Stored}
 use Rattle.term_stack.specs.Using.{Comes, Refuses}
 use Rattle.term_stack.proofs.Coming.{unfit, goes_on, ends_here}
@@ -68,7 +70,7 @@ label_kinds (Some (proposition p)) = omega arith
 label_kinds (Some (datatype t)) = omega arith
 
 -- what is stored with it
-stored_label : {ms : List Mark} {records stack : (Name → ℕ) → List ℕ} {z : Scene} {work : List ℕ} {used depth count to at : ℕ} {types : List Name}
+stored_label : {ms : List Mark} {records : (Name → ℕ) → List ℕ} {stack : (Name → ℕ) → List stacked.Entry} {z : Scene} {work : Work} {used depth count to at : ℕ} {types : List Name}
     {after code : List ℕ} {r : LabelRead} {l : Option (Label Name)} → Stored ms records stack z work used depth count to
     → ParameterGiven z.text at types z.names count z.code to after code r l
     → Stored (ms ++ label_marks l) records stack (noting z after code) work used depth r.count r.to
@@ -78,7 +80,7 @@ stored_label {l = l} st g =
     (λ number e. rw (label_marks_lem l) (g.stored number e))
 
 -- a parameter whose label passes the limits
-unfit_parameter : {ms : List Mark} {records stack : (Name → ℕ) → List ℕ} {z : Scene} {work : List ℕ} {used depth count to : ℕ}
+unfit_parameter : {ms : List Mark} {records : (Name → ℕ) → List ℕ} {stack : (Name → ℕ) → List stacked.Entry} {z : Scene} {work : Work} {used depth count to : ℕ}
     → Stored ms records stack z work used depth count to → (l : Option (Label Name)) → fits_parameter (table_names z.names z.text count) l ≡ false
     → (k : List Entry) (entry : Entry) (rest : List ℕ) → entries_marks (entry ∷ k) ≡ ms ++ label_marks l → Fits (reading (entry ∷ k) rest) → ⊥
 unfolding fits_parameter label_marks met
@@ -93,7 +95,7 @@ body_rest k x l t = and_then (expect (utf8 " => ") t) (λ u rest. Some (reading 
 unfoldable label_rest : List Name → List Entry → Name → List ℕ → Option State
 label_rest types k x t = and_then (parameter_label types prop_levels t) (body_rest k x)
 
-module _ {z : Scene} {work : List ℕ} {s : Progress} (c : Started fn_word z work s) where
+module _ {z : Scene} {work : Work} {s : Progress} (c : Started fn_word z work s) where
   parameter_comes : Comes z.types z.text (and_then (expect (utf8 " ") (drop s.at z.text)) (λ u t. and_then (name t) (label_rest z.types c.entries)))
   unfolding start label_rest body_rest
   parameter_comes = c.comes
@@ -111,7 +113,7 @@ module _ {z : Scene} {work : List ℕ} {s : Progress} (c : Started fn_word z wor
     abbrev x : Name
     x = one.value
 
-    abbrev with_name : Stored (entries_marks c.entries ++ (called x ∷ [])) (λ number. stack_records number c.entries) (λ number. stack_numbers number c.entries)
+    abbrev with_name : Stored (entries_marks c.entries ++ (called x ∷ [])) (λ number. stack_records number c.entries) (λ number. stack_of number c.entries)
         (noting z after z.code) work s.used s.depth named.count s.to
     with_name = stored_name x c.stored one.holds.noted
 
@@ -163,8 +165,8 @@ module _ {z : Scene} {work : List ℕ} {s : Progress} (c : Started fn_word z wor
             let f = one.holds.from in let g = two.holds.from in let a = arrow.after in omega (arith, f, g, a)
 
         pub function_opens : Opens c.entries (function_body x l) (noting z after' code') work (further s body label.count label.to)
-            (record { kind = 6; a = named.number; b = label.kind; c = label.number; d = 0; e = 0 }) (is_labelled l)
-        unfolding noting entry_marks entry_records entry_numbers row_numbers seven
+            (FunctionBody named.number label.kind label.number)
+        unfolding noting entry_marks entry_records entry_after
         function_opens =
             let k = entries_marks c.entries in
             let once = one.holds in
@@ -180,7 +182,7 @@ module _ {z : Scene} {work : List ℕ} {s : Progress} (c : Started fn_word z wor
               stored = stored_label with_name twice;
               marks_are = append_assoc k (called x ∷ []) (label_marks l);
               records_are = λ number. sym (append-nil (stack_records number c.entries));
-              row_is = λ number e.
+              entry_is = λ number e.
                   let a = number_noted x (table_names z.names z.text s.count) (parameter_label_names l) _ number
                   (twice.noted.names ∙ ap (λ seen. added seen (parameter_label_names l)) once.noted.names) once.number_is e in
                   let to_is : s.to ≡ code_met (k ++ (called x ∷ [])) = c.stored.to_is ∙ sym (code_called k x) in

@@ -18,6 +18,8 @@ use Rattle.words.specs.Table.{added, table_names, Noted}
 use Rattle.words.proofs.Added.{added_append, added_firsts}
 use Rattle.atom_reader.specs.Scope.{Crowded}
 use Rattle.atom_reader.proofs.Scopes.{crowded_first, crowded_second}
+use Rattle.term_stack.specs.declared.Entry as stacked
+use Rattle.term_stack.specs.declared.Work.{Work}
 use Rattle.term_stack.specs.Numbers.{labels_met, code_met}
 use Rattle.term_stack.specs.Standing.{Scene, Extends, Stored}
 use Rattle.term_stack.proofs.Marked.{labels_both, code_both, stored_both, extends_fewer}
@@ -26,7 +28,7 @@ use Rattle.term_stack.proofs.Marked.{labels_both, code_both, stored_both, extend
 unfoldable pub noting : Scene → List ℕ → List ℕ → Scene
 noting z names code = record { types = z.types; text = z.text; names = names; before = z.before; code = code }
 
-module _ {ms : List Mark} {records stack : (Name → ℕ) → List ℕ} {z : Scene} {work : List ℕ} {used depth count to : ℕ} where
+module _ {ms : List Mark} {records : (Name → ℕ) → List ℕ} {stack : (Name → ℕ) → List stacked.Entry} {z : Scene} {work : Work} {used depth count to : ℕ} where
   -- names and labels are met
   pub stored_met : (more : List Mark) {after code : List ℕ} {next to' : ℕ} → Stored ms records stack z work used depth count to
       → Noted (names_met more) z.text z.names count after next → nodes_met more ≡ 0 → limited_met more ≡ true → to' ≡ to + code_met more
@@ -39,6 +41,7 @@ module _ {ms : List Mark} {records stack : (Name → ℕ) → List ℕ} {z : Sce
       let start : to ≡ 0 + labels_size (labels_met ms) = let t = st.to_is in omega (arith, t) in
       record {
         room = st.room;
+        places = st.places;
         few = st.few;
         few_entries = st.few_entries;
         used_is = let n = nodes_both ms more in let u = st.used_is in omega (arith, n, u, none_made);

@@ -30,6 +30,8 @@ use Rattle.atom_reader.proofs.Scopes.{met_append, added_meets}
 use Rattle.prop_reader.specs.declared.LabelRead.{LabelRead}
 use Rattle.prop_reader.specs.Limits.{fits_label}
 use Rattle.prop_reader.specs.Answer.{LabelBegins, LabelKept, of_proposition, of_datatype, LabelGiven}
+use Rattle.term_stack.specs.declared.Entry as stacked
+use Rattle.term_stack.specs.declared.Work.{Work}
 use Rattle.term_stack.specs.Standing.{Scene, Extends, Stored}
 use Rattle.term_openings.proofs.Noting.{crowded_met, too_many_names}
 
@@ -136,7 +138,7 @@ either_false : {C : Type 0} (a b : Bool) → a && b ≡ false → (a ≡ false �
 either_false true b e f g = g e
 either_false false b e f g = f refl
 
-pub label_unfit : {ms : List Mark} {records stack : (Name → ℕ) → List ℕ} {z : Scene} {work : List ℕ} {used depth count to : ℕ}
+pub label_unfit : {ms : List Mark} {records : (Name → ℕ) → List ℕ} {stack : (Name → ℕ) → List stacked.Entry} {z : Scene} {work : Work} {used depth count to : ℕ}
     → Stored ms records stack z work used depth count to → (l : Label Name) → fits_label (table_names z.names z.text count) l ≡ false
     → (τ : State) → After (ms ++ (labelled l ∷ [])) τ → Fits τ → ⊥
 unfolding fits_label names_met

@@ -1,5 +1,5 @@
 -- What is known where a term begins: a closed term that is read for a purpose, and what follows the first word.
-use Rattle.std.specs.Prelude.{ℕ, ◌+◌, ◌<◌, ◌≤◌, ◌≡◌, false, List, [], ◌∷◌, ◌++◌, length, drop, None}
+use Rattle.std.specs.Prelude.{ℕ, ◌+◌, ◌<◌, ◌≤◌, ◌≡◌, false, List, [], ◌∷◌, ◌++◌, length, drop, Option, None, MatchOption}
 use Rattle.definitions.specs.Name.{Name}
 use Rattle.definitions.specs.Term.{NamedFunction}
 use Rattle.definitions.specs.TermReader.{Start, call_word, word, name, expect, start_of, is_sorry}
@@ -12,22 +12,24 @@ use Rattle.words.specs.Table.{add_name, number_in, table_names, TooMany, Noted}
 use Rattle.prop_parts.specs.declared.NameRead as reader
 use Rattle.term_stack.specs.declared.Progress.{Progress}
 use Rattle.term_stack.specs.declared.Purpose.{Purpose}
-use Rattle.term_stack.specs.Numbers.{purpose_records, stack_numbers, stack_records}
-use Rattle.term_stack.specs.Standing.{Scene, ThereIs, Stored, Placed}
-use Rattle.term_stack.specs.Turning.{Standpoint, left_at}
-use Rattle.term_stack.specs.Using.{Comes, PurposeOf, Turned}
+use Rattle.term_stack.specs.declared.State.{State}
+use Rattle.term_stack.specs.declared.Work.{Work}
+use Rattle.term_stack.specs.Numbers.{purpose_after, purpose_records, stack_of, stack_records}
+use Rattle.term_stack.specs.Standing.{Scene, ThereIs, Stored, Placed, left_at}
+use Rattle.term_stack.specs.Turning.{Standpoint}
+use Rattle.term_stack.specs.Using.{Comes, Refuses, Turned}
 
 -- a closed term is to be read for a purpose
-pub record ClosedFor (entries : List Entry) (purpose : machine.Purpose) (z : Scene) (work : List ℕ) (s : Progress) (q : Purpose) : Type 0 where
+pub record ClosedFor (entries : List Entry) (purpose : machine.Purpose) (z : Scene) (work : Work) (s : Progress) (q : Purpose) : Type 0 where
   pub comes : Comes z.types z.text (closed_for entries purpose (drop s.at z.text))
   pub placed : Placed z s
   pub deep : s.depth ≡ length entries
-  pub purpose_is : PurposeOf (entries_marks entries) purpose q
+  pub purpose_is : q ≡ purpose_after (entries_marks entries) purpose
   pub stored :
       Stored (entries_marks entries ++ purpose_marks purpose) (λ number. stack_records number entries ++ purpose_records number (entries_marks entries) purpose)
-      (λ number. stack_numbers number entries) z work s.used s.depth s.count s.to
+      (λ number. stack_of number entries) z work s.used s.depth s.count s.to
 
-pub record Closed (z : Scene) (work : List ℕ) (s : Progress) (q : Purpose) : Type 0 where
+pub record Closed (z : Scene) (work : Work) (s : Progress) (q : Purpose) : Type 0 where
   pub entries : List Entry
   pub purpose : machine.Purpose
   pub for : ClosedFor entries purpose z work s q
@@ -41,17 +43,17 @@ pub record Wordless (text : List ℕ) (at : ℕ) : Type 0 where
   pub no_sorry : is_sorry (start_of (word (drop at text)).value) ≡ false
 
 -- the first word of a term is read, and the machine goes on behind it
-pub record Started (first : Start) (z : Scene) (work : List ℕ) (s : Progress) : Type 0 where
+pub record Started (first : Start) (z : Scene) (work : Work) (s : Progress) : Type 0 where
   pub entries : List Entry
   pub whole : List ℕ
   pub comes : Comes z.types z.text (start z.types entries first whole (drop s.at z.text))
   pub placed : Placed z s
   pub deep : s.depth ≡ length entries
   pub stored :
-      Stored (entries_marks entries) (λ number. stack_records number entries) (λ number. stack_numbers number entries) z work s.used s.depth s.count s.to
+      Stored (entries_marks entries) (λ number. stack_records number entries) (λ number. stack_of number entries) z work s.used s.depth s.count s.to
 
 -- the first word is that of a named function, whose records are of this kind
-pub record AtCall (kind : ℕ) (z : Scene) (work : List ℕ) (s : Progress) : Type 0 where
+pub record AtCall (kind : ℕ) (z : Scene) (work : Work) (s : Progress) : Type 0 where
   pub function : NamedFunction
   pub kind_is : kind ≡ function_kind function
   pub started : Started (call_word function) z work s
@@ -80,16 +82,18 @@ unfoldable pub with_names : Scene → List ℕ → List ℕ → Scene
 with_names z text names = record { types = z.types; text = text; names = names; before = z.before; code = z.code }
 
 -- a turn that reads text
-unfoldable pub TextBegins : Standpoint → List ℕ → List ℕ → Progress → Type 0
+unfoldable pub TextBegins : Standpoint → List ℕ → Work → Progress → Type 0
 TextBegins At text work s = ThereIs (λ (z : Scene). At (with_text z text) work s)
 
-unfoldable pub TextEnds : Standpoint → List ℕ → List ℕ → Progress → List ℕ → Progress → Type 0
-TextEnds At text work s work' r = (z : Scene) → At (with_text z text) work s → Turned (with_text z text) work' (left_at text s 0) r
+unfoldable pub TextEnds : Standpoint → ℕ → List ℕ → Work → Progress → Work → Option State → Type 0
+TextEnds At more text work s work' r =
+    (z : Scene) → At (with_text z text) work s → MatchOption r (Refuses (with_text z text)) (Turned (with_text z text) work' (left_at text s more))
 
 -- a turn that reads text and names
-unfoldable pub NamesBegin : Standpoint → List ℕ → List ℕ → List ℕ → Progress → Type 0
+unfoldable pub NamesBegin : Standpoint → List ℕ → List ℕ → Work → Progress → Type 0
 NamesBegin At text names work s = ThereIs (λ (z : Scene). At (with_names z text names) work s)
 
-unfoldable pub NamesEnd : Standpoint → List ℕ → List ℕ → List ℕ → Progress → List ℕ → List ℕ → Progress → Type 0
-NamesEnd At text names work s names' work' r =
-    (z : Scene) → At (with_names z text names) work s → Turned (with_names z text names') work' (left_at text s 0) r
+unfoldable pub NamesEnd : Standpoint → ℕ → List ℕ → List ℕ → Work → Progress → List ℕ → Work → Option State → Type 0
+NamesEnd At more text names work s names' work' r =
+    (z : Scene) → At (with_names z text names) work s
+    → MatchOption r (Refuses (with_names z text names')) (Turned (with_names z text names') work' (left_at text s more))

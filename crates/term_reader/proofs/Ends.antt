@@ -1,11 +1,13 @@
 -- Where the turns have ended: text that is left and brackets around the whole are no term's, and else the term in hand stands in memory.
 use Prim.Native.Nat.{ℕ, ◌*◌, ◌≤◌}
-use mathlib.Core.Path.{◌≡◌, sym, ap, ◌∙◌}
-use mathlib.Core.Logic.{◌⊎◌, ⊎_elim}
-use mathlib.Core.Bool.{false}
+use mathlib.Core.Path.{◌≡◌, refl, sym, ap, ◌∙◌}
+use mathlib.Core.Bool.{false, true≢false}
 use mathlib.Core.List.{List, [], ◌∷◌, reverse}
 use native.Mathlib.Omega.{arith}
+use lib.Dec.{ltb}
+use borrow.Author.Tests.{ltb-false}
 use lib.ListN.{length, get_or, take, drop, length-drop, drop_of_length-le}
+use Rattle.std.specs.Prelude.{Option, None, Some, MatchOption}
 use Rattle.definitions.specs.Outcome.{accepted}
 use Rattle.definitions.specs.Name.{Name}
 use Rattle.definitions.specs.Sheet.{name_limit}
@@ -22,17 +24,21 @@ use Rattle.words.specs.Table.{added, table_names}
 use Rattle.words.proofs.Added.{added_firsts}
 use Rattle.words.proofs.Numbers.{names_length}
 use Rattle.term_stack.specs.declared.Progress.{Progress}
+use Rattle.term_stack.specs.declared.Hand.{Hand}
+use Rattle.term_stack.specs.declared.State.{State}
+use Rattle.term_stack.specs.declared.State.TheVariants.{Reading, Holding, Giving}
+use Rattle.term_stack.specs.declared.Work.{Work}
 use Rattle.term_stack.specs.Numbers.{stack_records, term_records}
-use Rattle.term_stack.specs.Standing.{Scene, ThereIs, Extends, Behind, AtTerm}
+use Rattle.term_stack.specs.Standing.{Scene, Extends, Behind, AtState}
 use Rattle.term_stack.specs.Using.{Refuses}
-use Rattle.term_reader.specs.Between.{AtTurn, goes_on}
-use Rattle.term_reader.specs.Whole.{Unsettled, none, more, bracketed, Settles, WholeTerm, CountsOf, Read, ReadEnds}
+use Rattle.term_reader.specs.declared.TermSize.{TermSize}
+use Rattle.term_reader.specs.Between.{goes_on}
+use Rattle.term_reader.specs.Whole.{Unsettled, unread, unfinished, more, bracketed, Settled, settled, size_of, WholeTerm, Read, ReadEnds}
 use Rattle.term_reader.proofs.TermRecords.{labels_met_lem, code_met_lem, all_records}
 use Rattle.term_reader.proofs.NameNumbers.{different_in_order, places_extend, marked_in_order}
-use Rattle.term_reader.proofs.Turns.{no_turn}
 
 -- What was met of a whole term is in memory.
-module _ {term : Shown (ProofTerm Name)} {z : Scene} {work : List ℕ} {s : Progress} (b : Behind giving [] term z work s) where
+module _ {term : Shown (ProofTerm Name)} {z : Scene} {work : Work} {s : Progress} {h : Hand} (b : Behind giving [] term h z work s) where
   abbrev t : ProofTerm Name
   t = term.shown
 
@@ -56,9 +62,9 @@ module _ {term : Shown (ProofTerm Name)} {z : Scene} {work : List ℕ} {s : Prog
   unfolding different_names
   in_order = ap reverse names_are ∙ different_in_order (term_names t)
 
-  counts : CountsOf t s
-  unfolding entries_marks
-  counts = record { used = used_is; count = count_is; to = b.stored.to_is ∙ code_met_lem t; tally = b.hand.tally }
+  sizes : record { nodes = s.used; names = s.count; code = s.to; labels = h.tally } ≡ size_of t
+  unfolding entries_marks size_of
+  sizes = rw (used_is, count_is, b.stored.to_is, code_met_lem t, b.hand.tally) refl
 
   fits : Fits (giving [] term [])
   unfolding entries hand_nesting met entries_marks way.different_names different_names node_limit term_nesting_limit name_limit
@@ -70,7 +76,7 @@ module _ {term : Shown (ProofTerm Name)} {z : Scene} {work : List ℕ} {s : Prog
     small_labels = b.stored.limited;
   }
 
-  module _ (ends : length z.text ≤ s.at) (bare : s.own ≡ false) where
+  module _ (ends : length z.text ≤ s.at) (bare : h.own ≡ false) where
     answer : read_answer z.types z.text ≡ accepted t
     answer =
         let reached = b.reached in
@@ -82,10 +88,10 @@ module _ {term : Shown (ProofTerm Name)} {z : Scene} {work : List ℕ} {s : Prog
         let lies = b.stored.lies (place (different_names t)) extends in
         record {
           answer = answer;
-          room = b.stored.room;
+          roomy = (b.stored.room, b.stored.places);
           few = let h = b.stored.few in omega (arith, used_is, h);
           table = rw (← count_is) b.stored.table;
-          records_are = ap (λ n. take (7 * n) work) (sym used_is) ∙ (lies.records_are ∙ all_records (place (different_names t)) t);
+          records_are = ap (λ n. take (7 * n) work.records) (sym used_is) ∙ (lies.records_are ∙ all_records (place (different_names t)) t);
           marks = λ i h.
               sym (marked_in_order z.names z.text s.count i (omega (arith, count_is, h)))
               ∙ ap (λ l. get_or l i []) in_order;
@@ -93,40 +99,40 @@ module _ {term : Shown (ProofTerm Name)} {z : Scene} {work : List ℕ} {s : Prog
         }
 
 -- nothing waits for the term
-unwaited : {entries : List Entry} {term : Shown (ProofTerm Name)} {z : Scene} {work : List ℕ} {s : Progress}
-    → Behind giving entries term z work s → s.depth ≡ 0 → Behind giving [] term z work s
+unwaited : {entries : List Entry} {term : Shown (ProofTerm Name)} {z : Scene} {work : Work} {s : Progress} {h : Hand}
+    → Behind giving entries term h z work s → ltb 0 s.depth ≡ false → Behind giving [] term h z work s
 unwaited {entries = []} b e = b
-unwaited {entries = e' ∷ k} b e = absurd (let d = b.deep in omega (arith, d, e))
+unwaited {entries = e' ∷ k} {s = s} b e = absurd (let d = b.deep in let none = ltb-false 0 s.depth e in omega (arith, d, none))
 
-module _ {z : Scene} {work : List ℕ} {s r : Progress} (there : AtTurn z work s) (over : goes_on s ≡ false)
-    (settles : Settles (length z.text) s r) where
+-- a state that gives no term is not settled
+pub no_giving : (length : ℕ) (state : State) → ((s : Progress) (h : Hand) → state ≡ Giving s h → ⊥) → Unsettled length state
+no_giving length (Reading s) other = unread
+no_giving length (Holding s h) other = unfinished
+no_giving length (Giving s h) other = absurd (other s h refl)
+
+module _ (z : Scene) (work : Work) where
   -- the term in hand is no term of the text
-  unsettled : {term : Shown (ProofTerm Name)} → Behind giving [] term z work s → Unsettled (length z.text) s → Refuses z
-  unsettled b (none e) = there.refused e
-  unsettled {term} b (more h) =
+  no_term : (state : State) → AtState z work state → goes_on state ≡ false → Unsettled (length z.text) state → Refuses z
+  unfolding AtState goes_on
+  no_term (Reading s) there over why = absurd (true≢false over)
+  no_term (Holding s h) there over why = absurd (true≢false over)
+  no_term (Giving s h) there over (more less) =
+      let b = unwaited there.behind over in
       let d = length-drop s.at z.text in
-      rest_refused z.types z.text term (drop s.at z.text) b.reached (omega (arith, d, h))
-  unsettled {term} b (bracketed e) = own_refused z.types z.text term (drop s.at z.text) b.reached (sym b.hand.own ∙ e)
+      rest_refused z.types z.text there.term (drop s.at z.text) b.reached (omega (arith, d, less))
+  no_term (Giving s h) there over (bracketed own) =
+      let b = unwaited there.behind over in
+      own_refused z.types z.text there.term (drop s.at z.text) b.reached (sym b.hand.own ∙ own)
 
-  at_end : (s.mode ≡ 3) ⊎ ((s.mode ≡ 2) × (s.depth ≡ 0))
-  at_end = no_turn s there.known over
+  given_term : (state : State) (size : TermSize) → AtState z work state → goes_on state ≡ false → Settled (length z.text) state size → Read z work size
+  unfolding AtState goes_on
+  given_term (Reading s) size there over is = elim is [ ]
+  given_term (Holding s h) size there over is = elim is [ ]
+  given_term (Giving s h) size there over (settled ends bare) =
+      let b = unwaited there.behind over in
+      record { term = there.term.shown; whole = whole b ends bare; size_is = sizes b }
 
-  refused_end : Unsettled (length z.text) s → Refuses z
-  refused_end why =
-      ⊎_elim (λ gone. there.refused gone) (λ last. unsettled (unwaited (there.giving last.0).behind last.1) why) at_end
-
-  given_end : (s.mode ≡ 3 → ⊥) → length z.text ≤ s.at → s.own ≡ false → ThereIs (λ (t : ProofTerm Name). Read t z work s)
-  given_end some ends bare = ⊎_elim (λ gone. absurd (some gone)) (λ last. read (there.giving last.0) last.1) at_end
-    where
-      read : AtTerm giving z work s → s.depth ≡ 0 → ThereIs (λ (t : ProofTerm Name). Read t z work s)
-      read a e =
-          let b = unwaited a.behind e in
-          record { value = a.term.shown; holds = record { whole = whole b ends bare; counts = counts b } }
-
-  pub ended : ReadEnds z work r
-  ended = record {
-    refused = λ e. refused_end (settles.lost e);
-    given = λ some.
-        let (same, ends, bare) = settles.kept some in
-        rw same (given_end (rw same at some) ends bare);
-  }
+  pub ended : (state : State) → AtState z work state → goes_on state ≡ false → (r : Option TermSize)
+      → MatchOption r (Unsettled (length z.text) state) (Settled (length z.text) state) → ReadEnds z work r
+  ended state there over None why = no_term state there over why
+  ended state there over (Some size) is = given_term state size there over is

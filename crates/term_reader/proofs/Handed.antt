@@ -1,11 +1,11 @@
 -- What is answered: 20, and after it 16, with all memory as it was; or the term, whose numbers and bytes stand in the lent memory.
-use Prim.Native.Nat.{ℕ, ◌+◌, ◌*◌, ◌≤◌, ◌<◌}
+use Prim.Native.Nat.{ℕ, ◌*◌, ◌≤◌, ◌<◌}
 use mathlib.Core.Path.{◌≡◌, refl, ap, ◌∙◌}
 use mathlib.Core.Bool.{Bool, true, false, ◌||◌, true≢false, and-false}
 use mathlib.Core.List.{List, [], ◌++◌}
 use native.Mathlib.Omega.{arith}
-use lib.ListN.{length, take, drop}
-use lib.Seq.{sets, paste, sets-eq, length-sets, length-take-le, take_at, drop_at}
+use lib.ListN.{length, take, drop, length-append, length-drop}
+use lib.Seq.{length-take-le, take_at, drop_at}
 use lib.Dec.{ltb, leb}
 use borrow.Author.Tests.{ltb-false, lt-leb}
 use Rattle.definitions.specs.declared.Style.TheVariants.{Strict}
@@ -23,11 +23,13 @@ use Rattle.reading_laws.specs.Restoring.{Restores}
 use Rattle.reading_laws.proofs.Restored.{restored}
 use Rattle.words.proofs.Numbers.{end_kept, marked_kept}
 use Rattle.words.specs.Table.{slot_size, slot_offset, table_size}
-use Rattle.term_stack.specs.declared.Progress.{Progress}
+use Rattle.term_stack.specs.declared.Work.{Work}
 use Rattle.term_stack.specs.Standing.{Scene}
 use Rattle.term_stack.specs.Turning.{scene_of}
-use Rattle.std.specs.Prelude.{Result, Ok, Err, ℕ}
-use Rattle.term_reader.specs.Whole.{WholeTerm, CountsOf, Read}
+use Rattle.std.specs.Option.{ok_or}
+use Rattle.std.specs.Prelude.{Option, None, Some, Result, Ok, Err}
+use Rattle.term_reader.specs.Between.{ReadBegins}
+use Rattle.term_reader.specs.Whole.{WholeTerm, Read, ReadEnds, Measures}
 use Rattle.term_reader.specs.Answered.{size_of, answer_of, records_by, code_by, PairsOf, NamesBy, Answers, Copyable, short_for, Fitting, room_of, ReadsTerm, RestoresTerm}
 use Rattle.term_reader.specs.declared.TermSize.{TermSize}
 use Rattle.definitions.specs.declared.Refusal.{Refusal}
@@ -53,120 +55,104 @@ pub refused_all : {o : Outcome (ProofTerm Name)} {number : ℕ} (text records na
 unfolding refuse answer_of records_by code_by NamesBy
 refused_all text records names code e = rw e (record { answer = refl; records_are = refl; names_are = refl; code_is = refl })
 
--- The rooms by the numbers that were counted.
-module _ {t : ProofTerm Name} {s : Progress} (counts : CountsOf t s) where
-  pub short_for_lem : (records names code : List ℕ)
-      → short_for (length records) (length names) (length code) s ≡ too_short (room_of records names code) t
-  unfolding short_for too_short room_of record_numbers
-  short_for_lem records names code = rw (counts.used, counts.count, counts.to)
+-- The rooms by the sizes that were counted.
+pub short_for_lem : (t : ProofTerm Name) {size : TermSize} (records names code : List ℕ) → size ≡ size_of t
+    → short_for (length records) (length names) (length code) size ≡ too_short (room_of records names code) t
+unfolding short_for too_short room_of record_numbers size_of
+short_for_lem t records names code e = rw e refl
 
 neither : (a b : Bool) → (a || b) ≡ false → (a ≡ false) × (b ≡ false)
 neither true b e = absurd (true≢false e)
 neither false b e = (refl, e)
 
 -- a room that is not too short holds the records and the pairs
-pub holds : (records names code : ℕ) (s : Progress) → short_for records names code s ≡ false → Copyable records names s
+pub holds : (records names code : ℕ) (size : TermSize) → short_for records names code size ≡ false → Copyable records names size
 unfolding short_for pair_size
-holds records names code s e =
-    let (first, rest) = neither (ltb records (7 * s.used)) _ e in
-    let (second, _) = neither (ltb names (4 * s.count)) _ rest in
+holds records names code size e =
+    let (first, rest) = neither (ltb records (7 * size.nodes)) _ e in
+    let (second, _) = neither (ltb names (4 * size.names)) _ rest in
     record { records_fit = ltb-false _ _ first; names_fit = ltb-false _ _ second }
 
--- bytes that are stored at the start
-sets_first : (l vs : List ℕ) → length vs ≤ length l → sets l 0 vs ≡ vs ++ drop (length vs) l
-sets_first l vs h = let z : 0 + length vs ≡ length vs = omega arith in sets-eq vs l 0 (omega arith) ∙ ap (λ n. vs ++ drop n l) z
-
-module _ {t : ProofTerm Name} {z : Scene} {work : List ℕ} (w : WholeTerm t z work) where
-  records_handed : (records : List ℕ) → paste records 0 work (7 * nodes t) ≡ records_by (accepted t) records
+module _ {t : ProofTerm Name} {z : Scene} {work : Work} (w : WholeTerm t z work) where
+  records_handed : (records : List ℕ) → take (7 * nodes t) work.records ++ drop (7 * nodes t) records ≡ records_by (accepted t) records
   unfolding records_by record_numbers
-  records_handed records =
-      let n : 0 + 7 * nodes t ≡ 7 * nodes t = omega arith in
-      rw (w.records_are, n)
+  records_handed records = rw w.records_are refl
 
   -- the pairs of so many names
-  module _ (names : List ℕ) (fits : 4 * length (different_names t) ≤ length names) where
-    abbrev count : ℕ
-    count = length (different_names t)
+  abbrev count : ℕ
+  count = length (different_names t)
 
-    abbrev pairs : List ℕ
-    pairs = take (4 * count) z.names
+  abbrev pairs : List ℕ
+  pairs = take (4 * count) z.names
 
-    pairs_long : length pairs ≡ 4 * count
-    unfolding table_size slot_offset slot_size slot_count pair_size name_limit
-    pairs_long = let room = w.table.room in let few = w.table.few in length-take-le (4 * count) z.names (omega (arith, room, few))
-
-    stored : sets names 0 pairs ≡ pairs ++ drop (4 * count) names
-    stored = sets_first names pairs (omega (arith, pairs_long)) ∙ ap (λ n. pairs ++ drop n names) pairs_long
-
-    kept : take (pair_size * count) (sets names 0 pairs) ≡ take (pair_size * count) z.names
-    unfolding pair_size
-    kept = rw stored (take_at pairs (drop (4 * count) names) (4 * count) pairs_long)
-
-    names_handed : PairsOf (different_names t) z.text names (sets names 0 pairs)
-    unfolding pair_size
-    names_handed = record {
-      same = length-sets names 0 pairs;
-      marks = λ i h. marked_kept z.names (sets names 0 pairs) z.text count kept i h ∙ w.marks i h;
-      within = λ i h. rw (end_kept z.names (sets names 0 pairs) z.text count kept i h) (w.table.ends i h);
-      rest = rw stored (drop_at pairs (drop (4 * count) names) (4 * count) pairs_long);
-    }
+  names_handed : (names : List ℕ) → 4 * count ≤ length names → PairsOf (different_names t) z.text names (pairs ++ drop (4 * count) names)
+  unfolding pair_size table_size slot_offset slot_size slot_count name_limit
+  names_handed names fits =
+      let room = w.table.room in
+      let few = w.table.few in
+      let long : length pairs ≡ 4 * count = length-take-le (4 * count) z.names (omega (arith, room, few)) in
+      let kept : take (pair_size * count) (pairs ++ drop (4 * count) names) ≡ take (pair_size * count) z.names = take_at pairs (drop (4 * count) names) (4 * count) long in
+      record {
+        same =
+            let l = length-append pairs (drop (4 * count) names) in
+            let d = length-drop (4 * count) names in
+            omega (arith, l, d, long, fits);
+        marks = λ i h. marked_kept z.names (pairs ++ drop (4 * count) names) z.text count kept i h ∙ w.marks i h;
+        within = λ i h. rw (end_kept z.names (pairs ++ drop (4 * count) names) z.text count kept i h) (w.table.ends i h);
+        rest = drop_at pairs (drop (4 * count) names) (4 * count) long;
+      }
 
 -- the memory of the reading holds its records and pairs
-pub held : {t : ProofTerm Name} {s : Progress} (names : List ℕ) {work : List ℕ} {z : Scene} → WholeTerm t z work → CountsOf t s
-    → z.names ≡ names → Copyable (length work) (length names) s
-unfolding table_size slot_offset slot_size slot_count pair_size name_limit
-held names w counts e =
-    let room = w.room in
+pub held : {t : ProofTerm Name} {size : TermSize} (names : List ℕ) {work : Work} {z : Scene} → WholeTerm t z work → size ≡ size_of t
+    → z.names ≡ names → Copyable (length work.records) (length names) size
+unfolding table_size slot_offset slot_size slot_count pair_size name_limit size_of
+held names w e same =
+    let room = w.roomy.0 in
     let few = w.few in
     let table = w.table.room in
     let names_few = w.table.few in
-    let used = counts.used in
-    let count = counts.count in
-    let same = ap length e in
-    record { records_fit = omega (arith, room, few, used); names_fit = omega (arith, table, names_few, count, same) }
+    let used = ap (λ (s : TermSize). s.nodes) e in
+    let count = ap (λ (s : TermSize). s.names) e in
+    let long = ap length same in
+    record { records_fit = omega (arith, room, few, used); names_fit = omega (arith, table, names_few, count, long) }
 
 -- what is copied of the term that was read is what the definitions ask for
-pub handed : {t : ProofTerm Name} {list text pairs work records names code : List ℕ} {s : Progress}
-    (fitting : Fitting t list text pairs work records names code s) (pairs' code' : List ℕ) {work' records' names' : List ℕ}
+pub handed : {t : ProofTerm Name} {list text pairs : List ℕ} {work : Work} {records names code : List ℕ} {size : TermSize}
+    (fitting : Fitting t list text pairs work records names code size) (pairs' code' : List ℕ) {work' : Work} {records' names' : List ℕ}
     → WholeTerm t (scene_of list text pairs' code code') work'
-    → records' ≡ paste records 0 work' (7 * s.used) → names' ≡ sets names 0 (take (4 * s.count) pairs')
-    → Answers (accepted t) text records names code records' names' code'
-    (Ok (record { nodes = s.used; names = s.count; code = s.to; labels = s.tally }))
+    → records' ≡ take (7 * size.nodes) work'.records ++ drop (7 * size.nodes) records → names' ≡ take (4 * size.names) pairs' ++ drop (4 * size.names) names
+    → Answers (accepted t) text records names code records' names' code' (Ok size)
 unfolding answer_of size_of code_by NamesBy scene_of
-handed {t} {records = records} {names = names} {code = code} {s = s} fitting pairs' code' {work'} whole copied stored =
-    let counts = fitting.counts in
-    let room = holds (length records) (length names) (length code) s fitting.fits in
+handed {t} {records = records} {names = names} {code = code} {size = size} fitting pairs' code' {work'} whole copied stored =
+    let e = fitting.size_is in
+    let used = ap (λ (s : TermSize). s.nodes) e in
+    let count = ap (λ (s : TermSize). s.names) e in
+    let room = holds (length records) (length names) (length code) size fitting.fits in
     record {
-      answer = rw (counts.used, counts.count, counts.to, counts.tally);
-      records_are = copied ∙ ap (λ n. paste records 0 work' (7 * n)) counts.used ∙ records_handed whole records;
-      names_are =
-          let count = counts.count in
-          rw (stored, count) (names_handed whole names (let fit = room.names_fit in omega (arith, fit, count)));
+      answer = ap Ok e;
+      records_are = copied ∙ ap (λ n. take (7 * n) work'.records ++ drop (7 * n) records) used ∙ records_handed whole records;
+      names_are = rw (stored, count) (names_handed whole names (let fit = room.names_fit in omega (arith, fit, count)));
       code_is = whole.code_is;
     }
 
 -- The term that the first pass gives.
-module _ {t : ProofTerm Name} {z : Scene} {work : List ℕ} {s : Progress} (read : Read t z work s) where
-  pub counted : (s.used ≤ 2048) × (s.count ≤ 512)
-  unfolding name_limit
+module _ {z : Scene} {work : Work} {size : TermSize} (read : Read z work size) where
+  pub counted : (size.nodes ≤ 2048) × (size.names ≤ 512)
+  unfolding name_limit size_of
   counted =
       let few = read.whole.few in
       let names_few = read.whole.table.few in
-      let used = read.counts.used in
-      let count = read.counts.count in
+      let used = ap (λ (s : TermSize). s.nodes) read.size_is in
+      let count = ap (λ (s : TermSize). s.names) read.size_is in
       (omega (arith, few, used), omega (arith, names_few, count))
 
-pub fitting : {t : ProofTerm Name} (list text pairs records names code : List ℕ) {work : List ℕ} {s : Progress} → length text ≤ term_text_limit
-    → all_admitted (names_in list) ≡ true → Read t (scene_of list text pairs [] []) work s
-    → short_for (length records) (length names) (length code) s ≡ false → Fitting t list text pairs work records names code s
-unfolding scene_of
-fitting list text _ records names code short listed read enough = record {
-  measured = record {
-    begins = record { short = short; listed = listed; pairs = read.whole.table.room; room = read.whole.room };
-    whole = read.whole;
-    size_is = read.counts.to;
-  };
-  counts = read.counts;
+pub fitting : (list text pairs records names code : List ℕ) {work : Work} {size : TermSize} → ReadBegins list text pairs work
+    → (read : Read (scene_of list text pairs [] []) work size)
+    → short_for (length records) (length names) (length code) size ≡ false → Fitting read.term list text pairs work records names code size
+unfolding scene_of size_of
+fitting list text _ records names code begins read enough = record {
+  measured = record { begins = begins; whole = read.whole; size_is = ap (λ (s : TermSize). s.code) read.size_is };
+  size_is = read.size_is;
   fits = enough;
 }
 
@@ -189,12 +175,17 @@ restores list text records names code answers s t bytes exports shown short list
     let read : read_answer types text ≡ accepted (without_ids t) = rw shown at (restored s types bytes t exports restorable long listed) in
     rw (answers_term (room_of records names code) types text read enough) at answers
 
--- and where there is no term
-pub no_term : (list text records names code : List ℕ) {r : Result TermSize Refusal} → read_answer (names_in list) text ≡ refuse 20 0
-    → r ≡ Err (record { number = 20; place = 0 })
-    → ReadsTerm list text records names code records names code r × RestoresTerm list text records names code records names code r
-no_term list text records names code none e =
-    let lent = room_of records names code in
-    let answers : ReadsTerm list text records names code records names code (Err (record { number = 20; place = 0 })) =
-    refused_all text records names code (answers_20 lent (names_in list) text none) in
-    rw e (answers, restores list text records names code answers)
+-- what the first pass has read, or that there is none
+pub measures : (list text names : List ℕ) (work : Work) (r : Option TermSize) {e : Refusal} {x : Result TermSize Refusal} → length text ≤ term_text_limit
+    → all_admitted (names_in list) ≡ true → ReadEnds (scene_of list text names [] []) work r → e ≡ record { number = 20; place = 0 } → x ≡ ok_or r e
+    → Measures list text names work x
+unfolding scene_of
+measures list text names work None short listed none e is = rw (is, e) (none, refl)
+measures list text names work (Some size) short listed read e is =
+    rw is (read, record { short = short; listed = listed; pairs = read.whole.table.room; roomy = read.whole.roomy })
+
+-- how large it is
+pub measured_size : (list text names : List ℕ) (work : Work) (r : Result TermSize Refusal) → Measures list text names work r → r ≡ answer_of (read_answer (names_in list) text)
+unfolding answer_of refuse scene_of
+measured_size list text names work (Ok size) (read, begins) = rw (read.whole.answer, read.size_is) refl
+measured_size list text names work (Err e) (none, is) = rw (none, is) refl

@@ -4,4 +4,3 @@ pub mod Turns
 pub mod Ends
 pub mod Passes
 pub mod Handed
-pub mod Sized

@@ -12,8 +12,10 @@ use Rattle.definitions.specs.TermText.{code_bytes}
 use Rattle.definitions.specs.TermMemory.{different_names, place, text_labels, label_size, labels_size, store_label, store_labels}
 use Rattle.definitions.proofs.PrefixCode.{code_nonempty}
 use Rattle.output.proofs.Writing.{sets_past}
-use Rattle.term_stack.specs.declared.Progress.{Progress}
+use Rattle.term_stack.specs.declared.Work.{Work}
 use Rattle.term_stack.specs.Turning.{scene_of}
+use Rattle.std.specs.Prelude.{Option, None, Some}
+use Rattle.term_reader.specs.declared.TermSize.{TermSize}
 use Rattle.term_reader.specs.Whole.{WholeTerm, ReadEnds, Measured}
 
 -- nothing is stored where no label has code
@@ -37,45 +39,41 @@ no_room number to (proposition p ∷ ls) =
     rw (sets_past [] to (encode (rename_prop number p)) (omega arith)) (no_room number (to + label_size (proposition p)) ls)
 no_room number to (datatype t ∷ ls) = no_room number (to + label_size (datatype t)) ls
 
-pub measured : (list text names code : List ℕ) {work : List ℕ} {r : Progress}
+-- what was read without room for code is read as if there were none
+pub measured : (list text names code : List ℕ) (work : Work) (r : Option TermSize)
     → ReadEnds (scene_of list text names [] code) work r → ReadEnds (scene_of list text names [] []) work r
 unfolding scene_of
-measured list text names code ends = record {
-  refused = ends.refused;
-  given = λ some.
-      let read = ends.given some in
-      let t = read.value in
-      let w = read.holds.whole in
-      record {
-        value = t;
-        holds = record {
-          whole = record {
-            answer = w.answer;
-            room = w.room;
-            few = w.few;
-            table = w.table;
-            records_are = w.records_are;
-            marks = w.marks;
-            code_is = sym (no_room (place (different_names t)) 0 (text_labels t));
-          };
-          counts = read.holds.counts;
-        };
+measured list text names code work None none = none
+measured list text names code work (Some size) read =
+    let t = read.term in
+    let w = read.whole in
+    record {
+      term = t;
+      whole = record {
+        answer = w.answer;
+        roomy = w.roomy;
+        few = w.few;
+        table = w.table;
+        records_are = w.records_are;
+        marks = w.marks;
+        code_is = sym (no_room (place (different_names t)) 0 (text_labels t));
       };
-}
+      size_is = read.size_is;
+    }
 
 -- there is a term, or there is none
 not_both : {t : ProofTerm Name} {o : Outcome (ProofTerm Name)} → o ≡ accepted t → o ≡ refuse 20 0 → ⊥
 unfolding refuse
 not_both e f = let z : ◌≡◌ {A = ℕ} 0 1 = cc in omega (arith, z)
 
-module _ {t : ProofTerm Name} {list text names work : List ℕ} {size : ℕ} (first : Measured t list text names work size) where
+module _ {t : ProofTerm Name} {list text names : List ℕ} {work : Work} {size : ℕ} (first : Measured t list text names work size) where
   pub no_labels : size ≡ 0 → (code : List ℕ) → WholeTerm t (scene_of list text names code code) work
   unfolding scene_of
   no_labels e code =
       let w = first.whole in
       record {
         answer = w.answer;
-        room = w.room;
+        roomy = w.roomy;
         few = w.few;
         table = w.table;
         records_are = w.records_are;
@@ -83,12 +81,12 @@ module _ {t : ProofTerm Name} {list text names work : List ℕ} {size : ℕ} (fi
         code_is = sym (none_stored (place (different_names t)) 0 (text_labels t) code (sym first.size_is ∙ e));
       }
 
-  pub read_again : (names' code code' : List ℕ) {work' : List ℕ} {r : Progress}
+  pub read_again : (names' code code' : List ℕ) (work' : Work) (r : Option TermSize)
       → ReadEnds (scene_of list text names' code code') work' r
       → WholeTerm t (scene_of list text names' code code') work'
   unfolding scene_of
-  read_again names' code code' ends =
+  read_again names' code code' work' None none = absurd (not_both first.whole.answer none)
+  read_again names' code code' work' (Some size) again =
       let answer = first.whole.answer in
-      let again = ends.given (λ e. not_both answer (ends.refused e)) in
-      let same : again.value ≡ t = let other = again.holds.whole.answer in cc in
-      rw same at again.holds.whole
+      let same : again.term ≡ t = let other = again.whole.answer in cc in
+      rw same at again.whole

@@ -5,20 +5,18 @@ use Rattle.definitions.specs.Outcome.{Outcome, accepted, refused}
 use Rattle.definitions.specs.Name.{Name}
 use Rattle.definitions.specs.CallerNames.{names_in}
 use Rattle.definitions.specs.Sheet.{pair_size, pair_end, marked}
-use Rattle.definitions.specs.Term.{ProofTerm, annotation_count}
+use Rattle.definitions.specs.Term.{ProofTerm}
 use Rattle.definitions.specs.Display.{display_term}
 use Rattle.definitions.specs.Answers.{named_term}
 use Rattle.definitions.specs.TermText.{nodes, term_text_limit, all_admitted, without_ids, Restorable}
-use Rattle.definitions.specs.TermMemory.{different_names, place, text_labels, labels_size, records_of, store_labels, record_numbers, TermRoom, too_short, term_answer}
+use Rattle.definitions.specs.TermMemory.{different_names, place, text_labels, records_of, store_labels, record_numbers, TermRoom, too_short, term_answer}
 use Rattle.definitions.proofs.PrefixCode.{Bytes}
-use Rattle.term_stack.specs.declared.Progress.{Progress}
+use Rattle.term_stack.specs.declared.Work.{Work}
 use Rattle.term_stack.specs.Standing.{ThereIs}
-use Rattle.term_reader.specs.Whole.{CountsOf, Measured}
+unfoldable pub use Rattle.term_reader.specs.Whole.{size_of}
+use Rattle.term_reader.specs.Whole.{Measured}
 use Rattle.term_reader.specs.declared.TermSize.{TermSize}
 use Rattle.definitions.specs.declared.Refusal.{Refusal}
-
-unfoldable pub size_of : ProofTerm Name → TermSize
-size_of t = record { nodes = nodes t; names = length (different_names t); code = labels_size (text_labels t); labels = annotation_count t }
 
 unfoldable pub answer_of : Outcome (ProofTerm Name) → Result TermSize Refusal
 answer_of (accepted t) = Ok (size_of t)
@@ -51,30 +49,30 @@ pub record Answers (outcome : Outcome (ProofTerm Name)) (text records names code
   pub code_is : code' ≡ code_by outcome code
 
 -- a room is too short for so many records, names and bytes of code
-unfoldable pub short_for : ℕ → ℕ → ℕ → Progress → Bool
-short_for records names code s = ltb records (7 * s.used) || (ltb names (pair_size * s.count) || ltb code s.to)
+unfoldable pub short_for : ℕ → ℕ → ℕ → TermSize → Bool
+short_for records names code size = ltb records (7 * size.nodes) || (ltb names (pair_size * size.names) || ltb code size.code)
 
 -- so many records and names stand, or have room, in so many numbers and bytes
-pub record Copyable (records names : ℕ) (s : Progress) : Type 0 where
-  pub records_fit : 7 * s.used ≤ records
-  pub names_fit : 4 * s.count ≤ names
+pub record Copyable (records names : ℕ) (size : TermSize) : Type 0 where
+  pub records_fit : 7 * size.nodes ≤ records
+  pub names_fit : 4 * size.names ≤ names
 
 -- the term was measured, and no room is too short
-pub record Fitting (t : ProofTerm Name) (list text pairs work records names code : List ℕ) (s : Progress) : Type 0 where
-  pub measured : Measured t list text pairs work s.to
-  pub counts : CountsOf t s
-  pub fits : short_for (length records) (length names) (length code) s ≡ false
+pub record Fitting (t : ProofTerm Name) (list text pairs : List ℕ) (work : Work) (records names code : List ℕ) (size : TermSize) : Type 0 where
+  pub measured : Measured t list text pairs work size.code
+  pub size_is : size ≡ size_of t
+  pub fits : short_for (length records) (length names) (length code) size ≡ false
 
-unfoldable pub HasRoom : List ℕ → List ℕ → List ℕ → List ℕ → List ℕ → List ℕ → List ℕ → Progress → Type 0
-HasRoom list text pairs work records names code s =
-    ThereIs (λ (t : ProofTerm Name). Fitting t list text pairs work records names code s)
+unfoldable pub HasRoom : List ℕ → List ℕ → List ℕ → Work → List ℕ → List ℕ → List ℕ → TermSize → Type 0
+HasRoom list text pairs work records names code size =
+    ThereIs (λ (t : ProofTerm Name). Fitting t list text pairs work records names code size)
 
 -- and then it is handed over
 unfoldable pub HandsOver
-    : List ℕ → List ℕ → List ℕ → List ℕ → List ℕ → List ℕ → List ℕ → Progress → List ℕ → List ℕ → List ℕ → Result TermSize Refusal → Type 0
-HandsOver list text pairs work records names code s records' names' code' r =
-    (t : ProofTerm Name) → Fitting t list text pairs work records names code s
-    → Answers (accepted t) text records names code records' names' code' r
+    : List ℕ → List ℕ → List ℕ → Work → List ℕ → List ℕ → List ℕ → TermSize → List ℕ → List ℕ → List ℕ → Type 0
+HandsOver list text pairs work records names code size records' names' code' =
+    (t : ProofTerm Name) → Fitting t list text pairs work records names code size
+    → Answers (accepted t) text records names code records' names' code' (Ok size)
 
 unfoldable pub room_of : List ℕ → List ℕ → List ℕ → TermRoom
 room_of records names code = record { records = length records; names = length names; code = length code }

@@ -1,295 +1,322 @@
--- The last part of a function, a case or a let is in hand: the entry on top tells which record is made over it.
-use Prim.Native.Nat.{ℕ, ◌+◌, ◌-◌, ◌*◌, max, ◌<◌, ◌≤◌}
-use mathlib.Core.Path.{◌≡◌, refl, sym, ap, ◌∙◌}
-use mathlib.Core.Bool.{Bool, true, false, true≢false}
+-- The last part of a function, a case or a let is in hand: the entry that waits for it tells which record is made over it.
+use Prim.Native.Nat.{ℕ, ◌+◌, ◌-◌, max, ◌<◌, ◌≤◌}
+use mathlib.Core.Path.{◌≡◌, refl, ap}
+use mathlib.Core.Bool.{true, false, not}
 use Rattle.std.specs.Prelude.{Option, None, Some}
 use mathlib.Core.List.{List, [], ◌∷◌, ◌++◌, append_assoc}
 use native.Mathlib.Omega.{arith}
-use lib.ListN.{length, get_or, drop}
-use lib.Dec.{leb}
-use Rattle.definitions.specs.declared.Style.TheVariants.{Strict}
+use lib.ListN.{drop}
+use lib.Dec.{leb, eqb}
+use mir.Val.{bool_byte}
 use Rattle.definitions.specs.Name.{Name}
-use Rattle.definitions.specs.Term.{Label, ProofTerm, Function, LetIn, Case, annotation_count, is_labelled}
-use Rattle.definitions.specs.Display.{within, wraps}
+use Rattle.definitions.specs.Term.{Label, proposition, datatype, ProofTerm, Function, LetIn, Case, annotation_count, is_labelled}
+use Rattle.definitions.specs.Display.{form, within}
 use Rattle.definitions.specs.TermText.{term_nesting}
 use Rattle.definitions.specs.TermReader.{Shown, standing, same}
-use Rattle.definitions.specs.TermMemory.{parameter_label_kind, parameter_label_number, seven}
-use Rattle.reading_laws.specs.TermMachine.{Purpose, as_head, as_argument, as_body, Entry, in_bracket, second, function_body, case_head, case_first, case_second, let_head, let_body, State, holding, giving, if_due, give, turn}
-use Rattle.reading_laws.specs.Marks.{Mark, called, node, label_marks, marks, purpose_marks, entry_marks, entries_marks, nodes_met}
+use Rattle.definitions.specs.TermMemory.{label_kind, parameter_label_kind, parameter_label_number, seven}
+use Rattle.reading_laws.specs.TermMachine.{Entry, function_body, case_second, let_body, holding, give}
+use Rattle.reading_laws.specs.Marks.{called, label_marks, marks, entry_marks, entries_marks, nodes_met}
 use Rattle.reading_laws.proofs.OnTheWay.{nodes_both, nodes_met_lem}
 use Rattle.words.specs.Table.{number_in, table_names}
 use Rattle.term_stack.specs.declared.Progress.{Progress}
-use Rattle.term_stack.specs.declared.Entry as reader
-use Rattle.term_stack.specs.declared.Row.{Row}
-use Rattle.term_stack.specs.Forms.{form_table, least_form, kind_of}
-use Rattle.term_stack.specs.Growing.{row_numbers, Makes}
-use Rattle.term_stack.specs.Numbers.{code_met, purpose_kind, purpose_tally, root_after, records_after, entry_numbers, entry_records, stack_numbers, stack_records, term_records}
-use Rattle.term_stack.specs.Standing.{Scene, Extends, Stored, HandOf, Placed, Behind}
-use Rattle.term_stack.specs.Using.{Comes, Refuses, Turned, GivesTo, Gives, last_part, left_giving}
-use Rattle.term_stack.proofs.Marked.{extends_itself, few_labels}
-use Rattle.term_stack.proofs.Stores.{stored_below}
+use Rattle.term_stack.specs.declared.Form.{Form}
+use Rattle.term_stack.specs.declared.Form.TheVariants.{Block, Ascription}
+use Rattle.term_stack.specs.declared.Form.TheVariants as forms
+use Rattle.term_stack.specs.declared.Hand.{Hand}
+use Rattle.term_stack.specs.declared.Part.{Part}
+use Rattle.term_stack.specs.declared.Entry as stacked
+use Rattle.term_stack.specs.declared.Entry.TheVariants.{FunctionBody, CaseSecond, LetBody}
+use Rattle.term_stack.specs.declared.State.TheVariants.{Holding}
+use Rattle.term_stack.specs.declared.Work.{Work}
+use Rattle.term_stack.specs.Forms.{as_form, rank, least_form}
+use Rattle.term_stack.specs.Growing.{row_numbers, Unmade, MadeOf}
+use Rattle.term_stack.specs.Numbers.{code_met, part_after, root_after, records_after, entry_after, entry_records, stack_records, term_records}
+use Rattle.term_stack.specs.Standing.{Scene, Extends, left_at}
+use Rattle.term_stack.specs.Using.{Comes, Refuses, Turned, GivesTo, Gives, left_after}
+use Rattle.term_stack.proofs.Alike.{StandsFor, for_function, for_branches, for_let_body, entry_for}
+use Rattle.term_stack.proofs.Marked.{extends_itself, few_labels, label_once}
 use Rattle.term_stack.proofs.Coming.{as_due, not_due}
-use Rattle.term_stack.proofs.Grown.{due_at, Grows, grown}
-use Rattle.term_stack.proofs.Used.{hand_small, purpose_few}
+use Rattle.term_stack.proofs.Grown.{due_at, Grows, not_held, held}
+use Rattle.term_stack.proofs.Used.{hand_small}
 
--- an entry has seven numbers, of which the first is its kind
-unfoldable pub entry_kind : Entry → ℕ
-entry_kind (in_bracket p) = purpose_kind p
-entry_kind (second p a) = 3 + purpose_kind p
-entry_kind (function_body x l) = 6
-entry_kind case_head = 7
-entry_kind (case_first a x) = 8
-entry_kind (case_second a x b y) = 9
-entry_kind (let_head x y) = 10
-entry_kind (let_body x y a) = 11
+-- the kind of a label tells whether there is one
+pub labels_by_kind : (l : Option (Label Name)) → bool_byte (not (eqb (parameter_label_kind l) 0)) ≡ is_labelled l
+unfolding parameter_label_kind label_kind is_labelled
+labels_by_kind None = refl
+labels_by_kind (Some (proposition p)) = refl
+labels_by_kind (Some (datatype t)) = refl
 
-pub entry_numbers_lem : (number : Name → ℕ) (ms : List Mark) (e : Entry) → (length (entry_numbers number ms e) ≡ 7) × (get_or (entry_numbers number ms e) 0 0 ≡ entry_kind e)
-unfolding entry_numbers entry_kind seven
-entry_numbers_lem number ms (in_bracket p) = (refl, refl)
-entry_numbers_lem number ms (second p a) = (refl, refl)
-entry_numbers_lem number ms (function_body x l) = (refl, refl)
-entry_numbers_lem number ms case_head = (refl, refl)
-entry_numbers_lem number ms (case_first a x) = (refl, refl)
-entry_numbers_lem number ms (case_second a x b y) = (refl, refl)
-entry_numbers_lem number ms (let_head x y) = (refl, refl)
-entry_numbers_lem number ms (let_body x y a) = (refl, refl)
+module _ {z : Scene} {work : Work} {s : Progress} {h : Hand} {e : stacked.Entry} where
+  pub given_small : Gives z work s h e → (0 < s.used) × (s.used ≤ 2048) × (h.nest ≤ 512) × (h.tally ≤ 4098)
+  given_small g = let to = g.to in hand_small (entries_marks g.below ++ entry_marks g.entry) g.term s h to.hand to.stored.few to.stored.used_is
 
--- the entries that wait for the last part of a function, a case or a let
-data Last : Entry → Type 0 where
-  of_function : (x : Name) (l : Option (Label Name)) → Last (function_body x l)
-  of_case : (b : ProofTerm Name) (x : Name) (c : ProofTerm Name) (y : Name) → Last (case_second b x c y)
-  of_let : (x y : Name) (b : ProofTerm Name) → Last (let_body x y b)
+-- a term of this form over the term in hand
+abbrev pub over : Form → ℕ → ℕ → Hand → Hand
+over form nest tally h = record { form = form; own = false; nest = max nest h.nest + 1; tally = tally + h.tally }
 
-last_of : (entry : Entry) → last_part (entry_kind entry) ≡ true → Last entry
-unfolding last_part entry_kind purpose_kind
-last_of (in_bracket as_head) h = absurd (true≢false (sym h))
-last_of (in_bracket (as_argument f)) h = absurd (true≢false (sym h))
-last_of (in_bracket (as_body f)) h = absurd (true≢false (sym h))
-last_of (second as_head b) h = absurd (true≢false (sym h))
-last_of (second (as_argument f) b) h = absurd (true≢false (sym h))
-last_of (second (as_body f) b) h = absurd (true≢false (sym h))
-last_of (function_body x l) h = of_function x l
-last_of case_head h = absurd (true≢false (sym h))
-last_of (case_first b x) h = absurd (true≢false (sym h))
-last_of (case_second b x c y) h = of_case b x c y
-last_of (let_head x y) h = absurd (true≢false (sym h))
-last_of (let_body x y b) h = of_let x y b
+-- A function.
+module _ {z : Scene} {work : Work} {s : Progress} {h : Hand} {name kind label : ℕ} where
+  module _ {k : List Entry} {x : Name} {l : Option (Label Name)} {a : Shown (ProofTerm Name)} (g : GivesTo k (function_body x l) a z work s h (FunctionBody name kind label)) where
+    kind_is : kind ≡ parameter_label_kind l
+    unfolding entry_after
+    kind_is = let seen = table_names z.names z.text s.count in let top = g.top (number_in seen) (extends_itself seen) in cc
 
--- what an entry holds has few labels
-entry_few : (number : Name → ℕ) (ms : List Mark) (e : Entry) → get_or (entry_numbers number ms e) 6 0 ≤ 2 * nodes_met (entry_marks e) + 1
-unfolding entry_numbers entry_marks nodes_met seven is_labelled
-entry_few number ms (in_bracket p) = let l = purpose_few p in omega (arith, l)
-entry_few number ms (second p a) = let l = few_labels a in let n = nodes_met_lem a in let m = nodes_both (purpose_marks p) (marks a) in omega (arith, l, n, m)
-entry_few number ms (function_body x None) = omega arith
-entry_few number ms (function_body x (Some l)) = omega arith
-entry_few number ms case_head = omega arith
-entry_few number ms (case_first a x) = let l = few_labels a in let n = nodes_met_lem a in let m = nodes_both (marks a) (called x ∷ []) in omega (arith, l, n, m)
-entry_few number ms (case_second a x b y) =
-    let l = few_labels a in
-    let n = nodes_met_lem a in
-    let h = few_labels b in
-    let i = nodes_met_lem b in
-    let m = nodes_both (marks a) (called x ∷ (marks b ++ (called y ∷ []))) in
-    let j = nodes_both (marks b) (called y ∷ []) in
-    omega (arith, l, n, m, h, i, j)
-entry_few number ms (let_head x y) = omega arith
-entry_few number ms (let_body x y a) = let l = few_labels a in let n = nodes_met_lem a in omega (arith, l, n)
-
--- an entry taken off
-abbrev pub below : Progress → Progress
-below s = record {
-  mode = s.mode;
-  at = s.at;
-  depth = s.depth - 1;
-  used = s.used;
-  count = s.count;
-  to = s.to;
-  kind = s.kind;
-  own = s.own;
-  nest = s.nest;
-  tally = s.tally;
-}
-
-module _ {z : Scene} {work : List ℕ} {s : Progress} {e : reader.Entry} where
-  -- the kind of the entry on top
-  pub kind_of_lem : {k : List Entry} {entry : Entry} {a : Shown (ProofTerm Name)} → GivesTo k entry a z work s e → e.kind ≡ entry_kind entry
-  unfolding seven
-  kind_of_lem {k} {entry} g =
-      let seen = table_names z.names z.text s.count in
-      ap (λ l. get_or l 0 0) (g.top (number_in seen) (extends_itself seen)) ∙ (entry_numbers_lem (number_in seen) (entries_marks k) entry).1
-
-  -- what stands in memory without it
-  pub stored_under : {k : List Entry} {entry : Entry} {a : Shown (ProofTerm Name)} → GivesTo k entry a z work s e
-      → Stored ((entries_marks k ++ entry_marks entry) ++ marks a.shown) (λ number. (stack_records number k ++ entry_records number (entries_marks k) entry) ++ records_after number (entries_marks k ++ entry_marks entry) a.shown)
-      (λ number. stack_numbers number k) z work s.used (s.depth - 1) s.count s.to
-  unfolding entries_marks term_records stack_records stack_numbers
-  stored_under {k} {entry} g =
-      let d = g.behind.deep in
-      stored_below (λ number. stack_numbers number k) (λ number. entry_numbers number (entries_marks k) entry) g.behind.stored (λ number. (entry_numbers_lem number (entries_marks k) entry).0) (omega (arith, d))
-
-  pub depth_under : {k : List Entry} {entry : Entry} {a : Shown (ProofTerm Name)} → GivesTo k entry a z work s e → s.depth - 1 ≡ length k
-  depth_under g = let d = g.behind.deep in omega (arith, d)
-
-  tally_small : {k : List Entry} {entry : Entry} {a : Shown (ProofTerm Name)} → GivesTo k entry a z work s e → e.tally + s.tally ≤ 4098
-  unfolding seven
-  tally_small {k} {entry} {a} g =
-      let seen = table_names z.names z.text s.count in
-      let ms = entries_marks k in
-      let t : e.tally ≡ get_or (entry_numbers (number_in seen) ms entry) 6 0 = ap (λ l. get_or l 6 0) (g.top (number_in seen) (extends_itself seen)) in
-      let f = entry_few (number_in seen) ms entry in
-      let u = (stored_under g).used_is in
-      let few = (stored_under g).few in
-      let n = nodes_both (ms ++ entry_marks entry) (marks a.shown) in
-      let m = nodes_both ms (entry_marks entry) in
-      let i = nodes_met_lem a.shown in
-      let l = few_labels a.shown in
-      let h = g.behind.hand.tally in
-      omega (arith, t, f, u, few, n, m, i, l, h)
-
-  pub given_small : Gives z work s e → (length work ≡ 19705) × (s.used ≤ 2048) × (e.tally + s.tally ≤ 4098) × (0 < s.used) × (s.kind < 14) × (s.nest ≤ 512) × (0 < s.depth)
-  given_small g =
-      let b = g.to.behind in
-      let h = hand_small (entries_marks (g.entry ∷ g.entries)) g.term s b.hand b.stored.few b.stored.used_is in
-      let d = b.deep in
-      (b.stored.room, b.stored.few, tally_small g.to, h.1, h.2, b.hand.shallow, omega (arith, d))
-
-  -- where the machine turns to
-  pub comes_given : {k : List Entry} {entry : Entry} {a : Shown (ProofTerm Name)} → GivesTo k entry a z work s e
-      → Comes z.types z.text (give z.types k entry a (drop s.at z.text))
-  unfolding turn
-  comes_given g = record { from = _; reached = g.behind.reached; turns = refl }
-
-  module _ (k : List Entry) (a : Shown (ProofTerm Name)) (last : ℕ) (is : last ≡ s.used - 1) where
-    function_grows : (x : Name) (l : Option (Label Name)) → GivesTo k (function_body x l) a z work s e
-        → Grows k (Function x l a.shown) z work (below s) (record { kind = 4; a = last; b = e.a; c = e.b; d = e.c; e = 0 }) (max e.nest s.nest + 1) (e.tally + s.tally)
-    unfolding entry_marks entry_records entry_numbers term_records records_after marks kind_of term_nesting annotation_count row_numbers root_after seven
-    function_grows x l g =
+    function_grows : (last labels : ℕ) → last ≡ s.used - 1 → labels ≡ is_labelled l
+        → Grows k (Function x l a.shown) z work s (row_numbers 4 (last ∷ name ∷ kind ∷ label ∷ 0 ∷ []) (labels + h.tally)) (over forms.Function 0 labels h)
+    unfolding entry_marks entry_records entry_after term_records records_after marks form as_form term_nesting annotation_count row_numbers root_after seven
+    function_grows last labels is labelled =
         let ms = entries_marks k in
         let v = ms ++ (called x ∷ label_marks l) in
-        let seen = table_names z.names z.text s.count in
-        let top = g.top (number_in seen) (extends_itself seen) in
-        let n : e.nest ≡ 0 = cc in
-        let t : e.tally ≡ is_labelled l = cc in
-        let m = g.behind.hand.nest in
+        let m = g.hand.nest in
+        let tally : labels + h.tally ≡ is_labelled l + annotation_count a.shown = cc (g.hand.tally) in
         record {
-          placed = record { within = g.behind.placed.within; near = g.behind.placed.near };
-          deep = depth_under g;
+          placed = g.placed;
+          deep = g.deep;
           met = v ++ marks a.shown;
           records = λ number. (stack_records number k ++ []) ++ records_after number v a.shown;
-          stored = stored_under g;
+          stored = g.stored;
           marks_are = simp append_assoc;
           last = λ number. seven 4 (root_after v a.shown) (number x) (parameter_label_kind l) (parameter_label_number number (code_met (ms ++ (called x ∷ []))) l) 0 (is_labelled l + annotation_count a.shown);
-          row_is = λ number i. let h = g.top number i in let u = (stored_under g).used_is in cc (is, g.behind.hand.tally);
+          row_is = λ number i. let top = g.top number i in let u = g.stored.used_is in cc (is, tally);
+          long = refl;
           records_are = λ number. simp append_assoc;
-          kind_is = refl;
-          nest_is = omega (arith, n, m);
-          tally_is = cc g.behind.hand.tally;
+          form_is = refl;
+          bare = refl;
+          nest_is = omega (arith, m);
+          tally_is = tally;
         }
 
-    let_grows : (x y : Name) (b : ProofTerm Name) → GivesTo k (let_body x y b) a z work s e
-        → Grows k (LetIn x y b a.shown) z work (below s) (record { kind = 6; a = e.c; b = last; c = e.a; d = e.b; e = 0 }) (max e.nest s.nest + 1) (e.tally + s.tally)
-    unfolding entry_marks entry_records entry_numbers term_records records_after marks kind_of term_nesting annotation_count row_numbers root_after seven
-    let_grows x y b g =
+    function_comes : same h.own (leb (rank Ascription) (rank h.form)) ≡ true
+        → Comes z.types z.text (Some (holding k (standing false (Function x l a.shown)) (drop s.at z.text)))
+    unfolding give least_form rank
+    function_comes due = as_due _ _ _ g.comes (due_at within g.hand due)
+
+  pub function_not_due : Gives z work s h (FunctionBody name kind label) → same h.own (leb (rank Ascription) (rank h.form)) ≡ false → Refuses z
+  unfolding give least_form rank
+  function_not_due g d = undue (entry_for g) g.to
+    where
+      undue : {k : List Entry} {entry : Entry} {a : Shown (ProofTerm Name)} → StandsFor (FunctionBody name kind label) entry
+          → GivesTo k entry a z work s h (FunctionBody name kind label) → Refuses z
+      undue for_function g = not_due _ _ _ g.comes (due_at within g.hand d)
+
+  pub function_few : (labels : ℕ) → ((l : Option (Label Name)) → kind ≡ parameter_label_kind l → labels ≡ is_labelled l)
+      → Gives z work s h (FunctionBody name kind label) → labels ≤ 1
+  function_few labels labelled g = few (entry_for g) g.to
+    where
+      few : {k : List Entry} {entry : Entry} {a : Shown (ProofTerm Name)} → StandsFor (FunctionBody name kind label) entry
+          → GivesTo k entry a z work s h (FunctionBody name kind label) → labels ≤ 1
+      few (for_function {l = l}) g = let i = labelled l (kind_is g) in let o = label_once l in omega (arith, i, o)
+
+  module _ (last labels : ℕ) (is : last ≡ s.used - 1) (labelled : (l : Option (Label Name)) → kind ≡ parameter_label_kind l → labels ≡ is_labelled l)
+      (due : same h.own (leb (rank Ascription) (rank h.form)) ≡ true) where
+    pub function_not : Gives z work s h (FunctionBody name kind label) → Unmade s.used (max 0 h.nest + 1) → Refuses z
+    function_not g why = unmade (entry_for g) g.to
+      where
+        unmade : {k : List Entry} {entry : Entry} {a : Shown (ProofTerm Name)} → StandsFor (FunctionBody name kind label) entry
+            → GivesTo k entry a z work s h (FunctionBody name kind label) → Refuses z
+        unmade (for_function {l = l}) g = not_held (function_grows g last labels is (labelled l (kind_is g))) (function_comes g due) why
+
+    pub function_held : {after : Work} {r : Progress} → Gives z work s h (FunctionBody name kind label)
+        → MadeOf s (row_numbers 4 (last ∷ name ∷ kind ∷ label ∷ 0 ∷ []) (labels + h.tally)) (over forms.Function 0 labels h) work after r
+        → Turned z after (left_after z s) (Holding r (over forms.Function 0 labels h))
+    unfolding left_after left_at
+    function_held {after} {r} g m = made (entry_for g) g.to
+      where
+        made : {k : List Entry} {entry : Entry} {a : Shown (ProofTerm Name)} → StandsFor (FunctionBody name kind label) entry
+            → GivesTo k entry a z work s h (FunctionBody name kind label) → Turned z after (left_after z s) (Holding r (over forms.Function 0 labels h))
+        made (for_function {l = l}) g = held (function_grows g last labels is (labelled l (kind_is g))) (function_comes g due) m _ (omega arith)
+
+-- A let.
+module _ {z : Scene} {work : Work} {s : Progress} {h : Hand} {m n : ℕ} {f : Part} where
+  module _ {k : List Entry} {x y : Name} {b : ProofTerm Name} {a : Shown (ProofTerm Name)} (g : GivesTo k (let_body x y b) a z work s h (LetBody m n f)) where
+    let_part : f ≡ part_after (entries_marks k ++ (called x ∷ called y ∷ [])) b
+    unfolding entry_after
+    let_part = let seen = table_names z.names z.text s.count in let top = g.top (number_in seen) (extends_itself seen) in cc
+
+    let_grows : (last : ℕ) → last ≡ s.used - 1
+        → Grows k (LetIn x y b a.shown) z work s (row_numbers 6 (f.root ∷ last ∷ m ∷ n ∷ 0 ∷ []) (f.tally + h.tally)) (over Block f.nest f.tally h)
+    unfolding entry_marks entry_records entry_after part_after term_records records_after marks form as_form term_nesting annotation_count row_numbers root_after seven
+    let_grows last is =
         let ms = entries_marks k in
         let u = ms ++ (called x ∷ called y ∷ []) in
         let v = ms ++ (called x ∷ called y ∷ marks b) in
-        let seen = table_names z.names z.text s.count in
-        let top = g.top (number_in seen) (extends_itself seen) in
-        let n : e.nest ≡ term_nesting b = cc in
-        let t : e.tally ≡ annotation_count b = cc in
-        let m = g.behind.hand.nest in
+        let nest : f.nest ≡ term_nesting b = ap (λ (p : Part). p.nest) let_part in
+        let labels : f.tally ≡ annotation_count b = ap (λ (p : Part). p.tally) let_part in
+        let deep = g.hand.nest in
+        let tally : f.tally + h.tally ≡ annotation_count b + annotation_count a.shown = cc (g.hand.tally) in
         record {
-          placed = record { within = g.behind.placed.within; near = g.behind.placed.near };
-          deep = depth_under g;
+          placed = g.placed;
+          deep = g.deep;
           met = v ++ marks a.shown;
           records = λ number. (stack_records number k ++ records_after number u b) ++ records_after number v a.shown;
-          stored = stored_under g;
+          stored = g.stored;
           marks_are = simp append_assoc;
           last = λ number. seven 6 (root_after u b) (root_after v a.shown) (number x) (number y) 0 (annotation_count b + annotation_count a.shown);
-          row_is = λ number i. let h = g.top number i in let u = (stored_under g).used_is in cc (is, g.behind.hand.tally);
+          row_is = λ number i. let top = g.top number i in let w = g.stored.used_is in cc (is, tally);
+          long = refl;
           records_are = λ number. simp append_assoc;
-          kind_is = refl;
-          nest_is = omega (arith, n, m);
-          tally_is = cc g.behind.hand.tally;
+          form_is = refl;
+          bare = refl;
+          nest_is = omega (arith, nest, deep);
+          tally_is = tally;
         }
 
-    case_grows : (b : ProofTerm Name) (x : Name) (c : ProofTerm Name) (y : Name) → GivesTo k (case_second b x c y) a z work s e
-        → Grows k (Case b x c y a.shown) z work (below s) (record { kind = 9; a = e.a; b = e.c; c = last; d = e.b; e = e.d }) (max e.nest s.nest + 1) (e.tally + s.tally)
-    unfolding entry_marks entry_records entry_numbers term_records records_after marks kind_of term_nesting annotation_count row_numbers root_after seven
-    case_grows b x c y g =
+    let_comes : same h.own (leb (rank Ascription) (rank h.form)) ≡ true
+        → Comes z.types z.text (Some (holding k (standing false (LetIn x y b a.shown)) (drop s.at z.text)))
+    unfolding give least_form rank
+    let_comes due = as_due _ _ _ g.comes (due_at within g.hand due)
+
+    let_few : f.tally + h.tally ≤ 4096
+    unfolding entry_marks part_after nodes_met
+    let_few =
+        let v = called x ∷ called y ∷ marks b in
+        let labels : f.tally ≡ annotation_count b = ap (λ (p : Part). p.tally) let_part in
+        let n₁ = nodes_both (entries_marks k ++ v) (marks a.shown) in
+        let n₂ = nodes_both (entries_marks k) v in
+        let m₁ = nodes_met_lem a.shown in
+        let m₂ = nodes_met_lem b in
+        let l₁ = few_labels a.shown in
+        let l₂ = few_labels b in
+        let t = g.hand.tally in
+        let u = g.stored.used_is in
+        let few = g.stored.few in
+        omega (arith, labels, n₁, n₂, m₁, m₂, l₁, l₂, t, u, few)
+
+  pub let_labels : Gives z work s h (LetBody m n f) → f.tally + h.tally < 65536
+  let_labels g = few (entry_for g) g.to
+    where
+      few : {k : List Entry} {entry : Entry} {a : Shown (ProofTerm Name)} → StandsFor (LetBody m n f) entry → GivesTo k entry a z work s h (LetBody m n f)
+          → f.tally + h.tally < 65536
+      few for_let_body g = omega (arith, let_few g)
+
+  pub let_not_due : Gives z work s h (LetBody m n f) → same h.own (leb (rank Ascription) (rank h.form)) ≡ false → Refuses z
+  unfolding give least_form rank
+  let_not_due g d = undue (entry_for g) g.to
+    where
+      undue : {k : List Entry} {entry : Entry} {a : Shown (ProofTerm Name)} → StandsFor (LetBody m n f) entry → GivesTo k entry a z work s h (LetBody m n f) → Refuses z
+      undue for_let_body g = not_due _ _ _ g.comes (due_at within g.hand d)
+
+  module _ (last : ℕ) (is : last ≡ s.used - 1) (due : same h.own (leb (rank Ascription) (rank h.form)) ≡ true) where
+    pub let_not : Gives z work s h (LetBody m n f) → Unmade s.used (max f.nest h.nest + 1) → Refuses z
+    let_not g why = unmade (entry_for g) g.to
+      where
+        unmade : {k : List Entry} {entry : Entry} {a : Shown (ProofTerm Name)} → StandsFor (LetBody m n f) entry → GivesTo k entry a z work s h (LetBody m n f) → Refuses z
+        unmade for_let_body g = not_held (let_grows g last is) (let_comes g due) why
+
+    pub let_held : {after : Work} {r : Progress} → Gives z work s h (LetBody m n f)
+        → MadeOf s (row_numbers 6 (f.root ∷ last ∷ m ∷ n ∷ 0 ∷ []) (f.tally + h.tally)) (over Block f.nest f.tally h) work after r
+        → Turned z after (left_after z s) (Holding r (over Block f.nest f.tally h))
+    unfolding left_after left_at
+    let_held {after} {r} g made = turned (entry_for g) g.to
+      where
+        turned : {k : List Entry} {entry : Entry} {a : Shown (ProofTerm Name)} → StandsFor (LetBody m n f) entry → GivesTo k entry a z work s h (LetBody m n f)
+            → Turned z after (left_after z s) (Holding r (over Block f.nest f.tally h))
+        turned for_let_body g = held (let_grows g last is) (let_comes g due) made _ (omega arith)
+
+-- A case.
+module _ {z : Scene} {work : Work} {s : Progress} {h : Hand} {m n : ℕ} {f o : Part} where
+  module _ {k : List Entry} {b c : ProofTerm Name} {x y : Name} {a : Shown (ProofTerm Name)} (g : GivesTo k (case_second b x c y) a z work s h (CaseSecond f m o n)) where
+    head_part : f ≡ part_after (entries_marks k) b
+    unfolding entry_after
+    head_part = let seen = table_names z.names z.text s.count in let top = g.top (number_in seen) (extends_itself seen) in cc
+
+    left_part : o ≡ part_after (entries_marks k ++ (marks b ++ (called x ∷ []))) c
+    unfolding entry_after
+    left_part = let seen = table_names z.names z.text s.count in let top = g.top (number_in seen) (extends_itself seen) in cc
+
+    case_names : (number : Name → ℕ) → Extends number (table_names z.names z.text s.count) → (m ≡ number x) × (n ≡ number y)
+    unfolding entry_after
+    case_names number i = let top = g.top number i in (cc, cc)
+
+    case_grows : (last : ℕ) → last ≡ s.used - 1
+        → Grows k (Case b x c y a.shown) z work s (row_numbers 9 (f.root ∷ o.root ∷ last ∷ m ∷ n ∷ []) (f.tally + o.tally + h.tally))
+        (over Block (max f.nest o.nest) (f.tally + o.tally) h)
+    unfolding entry_marks entry_records entry_after part_after term_records records_after marks form as_form term_nesting annotation_count row_numbers root_after seven
+    case_grows last is =
         let ms = entries_marks k in
         let u = ms ++ (marks b ++ (called x ∷ [])) in
         let v = ms ++ (marks b ++ (called x ∷ (marks c ++ (called y ∷ [])))) in
-        let seen = table_names z.names z.text s.count in
-        let top = g.top (number_in seen) (extends_itself seen) in
-        let n : e.nest ≡ max (term_nesting b) (term_nesting c) = cc in
-        let t : e.tally ≡ annotation_count b + annotation_count c = cc in
-        let m = g.behind.hand.nest in
+        let nest : f.nest ≡ term_nesting b = ap (λ (p : Part). p.nest) head_part in
+        let nest' : o.nest ≡ term_nesting c = ap (λ (p : Part). p.nest) left_part in
+        let labels : f.tally ≡ annotation_count b = ap (λ (p : Part). p.tally) head_part in
+        let labels' : o.tally ≡ annotation_count c = ap (λ (p : Part). p.tally) left_part in
+        let deep = g.hand.nest in
+        let tally : f.tally + o.tally + h.tally ≡ annotation_count b + annotation_count c + annotation_count a.shown = cc (g.hand.tally) in
         record {
-          placed = record { within = g.behind.placed.within; near = g.behind.placed.near };
-          deep = depth_under g;
+          placed = g.placed;
+          deep = g.deep;
           met = v ++ marks a.shown;
           records = λ number. (stack_records number k ++ (records_after number ms b ++ records_after number u c)) ++ records_after number v a.shown;
-          stored = stored_under g;
+          stored = g.stored;
           marks_are = simp append_assoc;
           last = λ number. seven 9 (root_after ms b) (root_after u c) (root_after v a.shown) (number x) (number y) (annotation_count b + annotation_count c + annotation_count a.shown);
-          row_is = λ number i. let h = g.top number i in let u = (stored_under g).used_is in cc (is, g.behind.hand.tally);
+          row_is = λ number i.
+              let (first, second) = case_names number i in
+              let roots : f.root ≡ root_after ms b = ap (λ (p : Part). p.root) head_part in
+              let roots' : o.root ≡ root_after u c = ap (λ (p : Part). p.root) left_part in
+              let w = g.stored.used_is in
+              cc (is, tally);
+          long = refl;
           records_are = λ number. simp append_assoc;
-          kind_is = refl;
-          nest_is = omega (arith, n, m);
-          tally_is = cc g.behind.hand.tally;
+          form_is = refl;
+          bare = refl;
+          nest_is = omega (arith, nest, nest', deep);
+          tally_is = tally;
         }
 
-  -- brackets that are not due
-  closes_not : {k : List Entry} {entry : Entry} {a : Shown (ProofTerm Name)} → Last entry → GivesTo k entry a z work s e
-      → same s.own (leb 4 (get_or form_table s.kind 0)) ≡ false → Refuses z
-  unfolding give least_form
-  closes_not (of_function x l) g d = not_due _ _ _ (comes_given g) (due_at within g.behind.hand d)
-  closes_not (of_case b x c y) g d = not_due _ _ _ (comes_given g) (due_at within g.behind.hand d)
-  closes_not (of_let x y b) g d = not_due _ _ _ (comes_given g) (due_at within g.behind.hand d)
+    case_comes : same h.own (leb (rank Ascription) (rank h.form)) ≡ true
+        → Comes z.types z.text (Some (holding k (standing false (Case b x c y a.shown)) (drop s.at z.text)))
+    unfolding give least_form rank
+    case_comes due = as_due _ _ _ g.comes (due_at within g.hand due)
 
-  last_in : (g : Gives z work s e) → last_part e.kind ≡ true → Last g.entry
-  last_in g h = last_of g.entry (rw (← kind_of_lem g.to) h)
+    case_few : f.tally + o.tally + h.tally ≤ 4096
+    unfolding entry_marks part_after nodes_met
+    case_few =
+        let v = marks c ++ (called y ∷ []) in
+        let labels : f.tally ≡ annotation_count b = ap (λ (p : Part). p.tally) head_part in
+        let labels' : o.tally ≡ annotation_count c = ap (λ (p : Part). p.tally) left_part in
+        let n₁ = nodes_both (entries_marks k ++ (marks b ++ (called x ∷ v))) (marks a.shown) in
+        let n₂ = nodes_both (entries_marks k) (marks b ++ (called x ∷ v)) in
+        let n₃ = nodes_both (marks b) (called x ∷ v) in
+        let n₄ = nodes_both (marks c) (called y ∷ []) in
+        let m₁ = nodes_met_lem a.shown in
+        let m₂ = nodes_met_lem b in
+        let m₃ = nodes_met_lem c in
+        let l₁ = few_labels a.shown in
+        let l₂ = few_labels b in
+        let l₃ = few_labels c in
+        let t = g.hand.tally in
+        let u = g.stored.used_is in
+        let few = g.stored.few in
+        omega (arith, labels, labels', n₁, n₂, n₃, n₄, m₁, m₂, m₃, l₁, l₂, l₃, t, u, few)
 
-  pub given_not : Gives z work s e → last_part e.kind ≡ true → same s.own (leb 4 (get_or form_table s.kind 0)) ≡ false → Refuses z
-  given_not g h d = closes_not (last_in g h) g.to d
+  pub case_labels : Gives z work s h (CaseSecond f m o n) → f.tally + o.tally + h.tally < 65536
+  case_labels g = few (entry_for g) g.to
+    where
+      few : {k : List Entry} {entry : Entry} {a : Shown (ProofTerm Name)} → StandsFor (CaseSecond f m o n) entry → GivesTo k entry a z work s h (CaseSecond f m o n)
+          → f.tally + o.tally + h.tally < 65536
+      few for_branches g = omega (arith, case_few g)
 
-  module _ {after : List ℕ} {r : Progress} (last : ℕ) (is : last ≡ s.used - 1) (due : same s.own (leb 4 (get_or form_table s.kind 0)) ≡ true) where
-    function_closes : {k : List Entry} {entry : Entry} {a : Shown (ProofTerm Name)} → Last entry → GivesTo k entry a z work s e → e.kind ≡ 6
-        → Makes (below s) (record { kind = 4; a = last; b = e.a; c = e.b; d = e.c; e = 0 }) (max e.nest s.nest + 1) (e.tally + s.tally) work after r → Turned z after (left_giving z s) r
-    unfolding entry_kind give least_form left_giving
-    function_closes {k} {a = a} (of_function x l) g h made =
-        let d = g.behind.deep in
-        grown (function_grows k a last is x l g) made (as_due _ _ _ (comes_given g) (due_at within g.behind.hand due)) _ (omega (arith, d))
-    function_closes {k} {a = a} (of_case b x c y) g h made = let i = kind_of_lem g in absurd (omega (arith, h, i))
-    function_closes {k} {a = a} (of_let x y b) g h made = let i = kind_of_lem g in absurd (omega (arith, h, i))
+  pub case_not_due : Gives z work s h (CaseSecond f m o n) → same h.own (leb (rank Ascription) (rank h.form)) ≡ false → Refuses z
+  unfolding give least_form rank
+  case_not_due g d = undue (entry_for g) g.to
+    where
+      undue : {k : List Entry} {entry : Entry} {a : Shown (ProofTerm Name)} → StandsFor (CaseSecond f m o n) entry → GivesTo k entry a z work s h (CaseSecond f m o n) → Refuses z
+      undue for_branches g = not_due _ _ _ g.comes (due_at within g.hand d)
 
-    case_closes : {k : List Entry} {entry : Entry} {a : Shown (ProofTerm Name)} → Last entry → GivesTo k entry a z work s e → e.kind ≡ 9
-        → Makes (below s) (record { kind = 9; a = e.a; b = e.c; c = last; d = e.b; e = e.d }) (max e.nest s.nest + 1) (e.tally + s.tally) work after r → Turned z after (left_giving z s) r
-    unfolding entry_kind give least_form left_giving
-    case_closes {k} {a = a} (of_function x l) g h made = let i = kind_of_lem g in absurd (omega (arith, h, i))
-    case_closes {k} {a = a} (of_case b x c y) g h made =
-        let d = g.behind.deep in
-        grown (case_grows k a last is b x c y g) made (as_due _ _ _ (comes_given g) (due_at within g.behind.hand due)) _ (omega (arith, d))
-    case_closes {k} {a = a} (of_let x y b) g h made = let i = kind_of_lem g in absurd (omega (arith, h, i))
+  module _ (last : ℕ) (is : last ≡ s.used - 1) (due : same h.own (leb (rank Ascription) (rank h.form)) ≡ true) where
+    pub case_not : Gives z work s h (CaseSecond f m o n) → Unmade s.used (max (max f.nest o.nest) h.nest + 1) → Refuses z
+    case_not g why = unmade (entry_for g) g.to
+      where
+        unmade : {k : List Entry} {entry : Entry} {a : Shown (ProofTerm Name)} → StandsFor (CaseSecond f m o n) entry → GivesTo k entry a z work s h (CaseSecond f m o n) → Refuses z
+        unmade for_branches g = not_held (case_grows g last is) (case_comes g due) why
 
-    let_closes : {k : List Entry} {entry : Entry} {a : Shown (ProofTerm Name)} → Last entry → GivesTo k entry a z work s e → (e.kind ≡ 6 → ⊥) × (e.kind ≡ 9 → ⊥)
-        → Makes (below s) (record { kind = 6; a = e.c; b = last; c = e.a; d = e.b; e = 0 }) (max e.nest s.nest + 1) (e.tally + s.tally) work after r → Turned z after (left_giving z s) r
-    unfolding entry_kind give least_form left_giving
-    let_closes {k} {a = a} (of_function x l) g h made = absurd (h.0 (kind_of_lem g))
-    let_closes {k} {a = a} (of_case b x c y) g h made = absurd (h.1 (kind_of_lem g))
-    let_closes {k} {a = a} (of_let x y b) g h made =
-        let d = g.behind.deep in
-        grown (let_grows k a last is x y b g) made (as_due _ _ _ (comes_given g) (due_at within g.behind.hand due)) _ (omega (arith, d))
-
-    pub given_function : (g : Gives z work s e) → last_part e.kind ≡ true → e.kind ≡ 6
-        → Makes (below s) (record { kind = 4; a = last; b = e.a; c = e.b; d = e.c; e = 0 }) (max e.nest s.nest + 1) (e.tally + s.tally) work after r → Turned z after (left_giving z s) r
-    given_function g l h made = function_closes (last_in g l) g.to h made
-
-    pub given_case : (g : Gives z work s e) → last_part e.kind ≡ true → e.kind ≡ 9
-        → Makes (below s) (record { kind = 9; a = e.a; b = e.c; c = last; d = e.b; e = e.d }) (max e.nest s.nest + 1) (e.tally + s.tally) work after r → Turned z after (left_giving z s) r
-    given_case g l h made = case_closes (last_in g l) g.to h made
-
-    pub given_let : (g : Gives z work s e) → last_part e.kind ≡ true → (e.kind ≡ 6 → ⊥) × (e.kind ≡ 9 → ⊥)
-        → Makes (below s) (record { kind = 6; a = e.c; b = last; c = e.a; d = e.b; e = 0 }) (max e.nest s.nest + 1) (e.tally + s.tally) work after r → Turned z after (left_giving z s) r
-    given_let g l h made = let_closes (last_in g l) g.to h made
+    pub case_held : {after : Work} {r : Progress} → Gives z work s h (CaseSecond f m o n)
+        → MadeOf s (row_numbers 9 (f.root ∷ o.root ∷ last ∷ m ∷ n ∷ []) (f.tally + o.tally + h.tally)) (over Block (max f.nest o.nest) (f.tally + o.tally) h) work after r
+        → Turned z after (left_after z s) (Holding r (over Block (max f.nest o.nest) (f.tally + o.tally) h))
+    unfolding left_after left_at
+    case_held {after} {r} g made = turned (entry_for g) g.to
+      where
+        turned : {k : List Entry} {entry : Entry} {a : Shown (ProofTerm Name)} → StandsFor (CaseSecond f m o n) entry → GivesTo k entry a z work s h (CaseSecond f m o n)
+            → Turned z after (left_after z s) (Holding r (over Block (max f.nest o.nest) (f.tally + o.tally) h))
+        turned for_branches g = held (case_grows g last is) (case_comes g due) made _ (omega arith)

@@ -1,16 +1,15 @@
 -- What the machine turns to is followed reading by reading; and where it cannot go on within the limits there is no term.
-use Prim.Native.Nat.{ℕ, ◌+◌, ◌*◌, ◌<◌, ◌≤◌}
-use mathlib.Core.Path.{◌≡◌, refl, sym, ap, ◌∙◌}
+use Prim.Native.Nat.{ℕ}
+use mathlib.Core.Path.{◌≡◌, sym, ap, ◌∙◌}
 use mathlib.Core.Bool.{Bool, true, false}
 use Rattle.std.specs.Prelude.{Option, None, Some}
-use mathlib.Core.List.{List, [], ◌∷◌, ◌++◌}
-use native.Mathlib.Omega.{arith}
+use mathlib.Core.List.{List}
 use Rattle.definitions.specs.Outcome.{refuse}
 use Rattle.definitions.specs.Name.{Name}
 use Rattle.definitions.specs.Code.{Read}
 use Rattle.definitions.specs.TermReader.{same, if_read, read_answer}
 use Rattle.definitions.proofs.Readings.{given}
-use Rattle.reading_laws.specs.TermMachine.{State, and_then, if_due, onward, turn}
+use Rattle.reading_laws.specs.TermMachine.{State, and_then, if_due, onward}
 use Rattle.reading_laws.proofs.OnTheWay.{Reached, reached_next, Fits, stuck_refused, unturned_refused}
 use Rattle.reading_laws.proofs.Turns.{Next, next_some}
 use Rattle.term_stack.specs.Using.{Comes}

@@ -1,89 +1,98 @@
 -- A record is made over what stands in memory: the machine is behind its term then, or there is no term within the limits.
-use Prim.Native.Nat.{ℕ, ◌+◌, ◌-◌, ◌*◌, ◌<◌, ◌≤◌}
-use mathlib.Core.Path.{◌≡◌, refl, sym, ap, ◌∙◌}
-use mathlib.Core.Bool.{Bool, true, false}
+use Prim.Native.Nat.{ℕ, ◌<◌}
+use mathlib.Core.Path.{◌≡◌, refl, ap}
+use mathlib.Core.Bool.{Bool, false}
 use Rattle.std.specs.Prelude.{Some}
 use mathlib.Core.List.{List, [], ◌∷◌, ◌++◌}
 use native.Mathlib.Omega.{arith}
-use lib.ListN.{length, get_or, drop}
+use lib.ListN.{length, drop}
 use lib.Dec.{leb}
 use Rattle.definitions.specs.declared.Style.TheVariants.{Strict}
 use Rattle.definitions.specs.Name.{Name}
 use Rattle.definitions.specs.Term.{ProofTerm, annotation_count}
-use Rattle.definitions.specs.Display.{Position, wraps}
+use Rattle.definitions.specs.Display.{form, Position, wraps}
 use Rattle.definitions.specs.TermText.{node_limit, term_nesting, term_nesting_limit}
 use Rattle.definitions.specs.TermReader.{Shown, standing, same}
-use Rattle.definitions.specs.TermMemory.{seven}
-use Rattle.reading_laws.specs.TermMachine.{Entry, State, holding}
+use Rattle.reading_laws.specs.TermMachine.{Entry, holding}
 use Rattle.reading_laws.specs.Marks.{Mark, node, marks, entries_marks, met, nodes_met}
 use Rattle.reading_laws.proofs.Entries.{hand_nesting}
 use Rattle.reading_laws.proofs.OnTheWay.{Fits, nodes_both}
 use Rattle.reading_laws.proofs.Turns.{Next}
 use Rattle.words.specs.Table.{table_names}
 use Rattle.term_stack.specs.declared.Progress.{Progress}
-use Rattle.term_stack.specs.declared.Row.{Row}
-use Rattle.term_stack.specs.Forms.{form_table, least_form, kind_of}
-use Rattle.term_stack.specs.Growing.{row_numbers, Unmade, nodes, nesting, MadeOf, Makes}
-use Rattle.term_stack.specs.Numbers.{stack_numbers, term_records}
-use Rattle.term_stack.specs.Standing.{Scene, Extends, Stored, HandOf, Placed, Behind}
-use Rattle.term_stack.specs.Using.{Comes, Turned}
+use Rattle.term_stack.specs.declared.Hand.{Hand}
+use Rattle.term_stack.specs.declared.State.TheVariants.{Holding}
+use Rattle.term_stack.specs.declared.Work.{Work}
+use Rattle.term_stack.specs.Forms.{as_form, rank, least_form}
+use Rattle.term_stack.specs.Growing.{Unmade, nodes, nesting, MadeOf}
+use Rattle.term_stack.specs.Numbers.{stack_of, term_records}
+use Rattle.term_stack.specs.Standing.{Scene, Extends, Stored, HandOf, Placed, StateOf, AtTerm, AtState, left_of, left_at}
+use Rattle.term_stack.specs.Using.{Comes, Refuses, Turned}
 use Rattle.term_stack.proofs.FormNumbers.{due_is}
 use Rattle.term_stack.proofs.Stores.{stored_record, stored_as}
 use Rattle.term_stack.proofs.Coming.{arrives, unfit}
 
--- what is due by numbers is due by the term
-pub due_at : (p : Position) {a : Shown (ProofTerm Name)} {s : Progress} → HandOf a s → {b : Bool} → same s.own (leb (least_form p) (get_or form_table s.kind 0)) ≡ b
+-- what is due by the order of forms is due by the term
+pub due_at : (p : Position) {a : Shown (ProofTerm Name)} {h : Hand} → HandOf a h → {b : Bool} → same h.own (leb (least_form p) (rank h.form)) ≡ b
     → same a.own (wraps Strict p a.shown) ≡ b
-due_at p {a} of e = rw (due_is p a.shown) (rw (of.kind, of.own) at e)
+due_at p {a} of e = rw (due_is p a.shown) (rw (of.form_is, of.own) at e)
 
--- the record of t is to be made after entries k
-pub record Grows (k : List Entry) (t : ProofTerm Name) (z : Scene) (work : List ℕ) (s : Progress) (row : Row) (nest tally : ℕ) : Type 0 where
+-- the record of t, of these numbers, is to be made after entries k
+pub record Grows (k : List Entry) (t : ProofTerm Name) (z : Scene) (work : Work) (s : Progress) (row : List ℕ) (h : Hand) : Type 0 where
   pub placed : Placed z s
   pub deep : s.depth ≡ length k
   pub met : List Mark
   pub records : (Name → ℕ) → List ℕ
-  pub stored : Stored met records (λ number. stack_numbers number k) z work s.used s.depth s.count s.to
+  pub stored : Stored met records (λ number. stack_of number k) z work s.used s.depth s.count s.to
   pub marks_are : met ++ (node ∷ []) ≡ entries_marks k ++ marks t
   pub last : (Name → ℕ) → List ℕ
-  pub row_is : (number : Name → ℕ) → Extends number (table_names z.names z.text s.count) → row_numbers row tally ≡ last number
+  pub row_is : (number : Name → ℕ) → Extends number (table_names z.names z.text s.count) → row ≡ last number
+  pub long : length row ≡ 7
   pub records_are : (number : Name → ℕ) → records number ++ last number ≡ term_records number k t
-  pub kind_is : row.kind ≡ kind_of t
-  pub nest_is : nest ≡ term_nesting t
-  pub tally_is : tally ≡ annotation_count t
+  pub form_is : h.form ≡ as_form (form t)
+  pub bare : h.own ≡ false
+  pub nest_is : h.nest ≡ term_nesting t
+  pub tally_is : h.tally ≡ annotation_count t
 
-module _ {k : List Entry} {t : ProofTerm Name} {z : Scene} {work after : List ℕ} {s r : Progress} {row : Row} {nest tally : ℕ}
-    (g : Grows k t z work s row nest tally) (makes : Makes s row nest tally work after r) where
-  too_large : {rest : List ℕ} → Unmade s.used nest → Fits (holding k (standing false t) rest) → ⊥
-  unfolding met nodes_met hand_nesting standing node_limit term_nesting_limit
-  too_large (nodes h) f =
-      let n = nodes_both g.met (node ∷ []) in
-      let m = ap nodes_met g.marks_are in
-      let u = g.stored.used_is in
-      let w = f.few_nodes in
-      omega (arith, n, m, u, w, h)
-  too_large (nesting h) f = let n = g.nest_is in let w = f.shallow in omega (arith, n, w, h)
+module _ {k : List Entry} {t : ProofTerm Name} {z : Scene} {work : Work} {s : Progress} {row : List ℕ} {h : Hand} (g : Grows k t z work s row h) where
+  -- the term is in hand in such a state
+  module _ (state : StateOf) (comes : Comes z.types z.text (Some (state k (standing false t) (drop s.at z.text))))
+      (meets : met (state k (standing false t) (drop s.at z.text)) ≡ entries_marks k ++ marks t)
+      (nests : hand_nesting (state k (standing false t) (drop s.at z.text)) ≡ term_nesting t) where
+    too_large : Unmade s.used h.nest → Fits (state k (standing false t) (drop s.at z.text)) → ⊥
+    unfolding nodes_met node_limit term_nesting_limit
+    too_large (nodes many) f =
+        let n = nodes_both g.met (node ∷ []) in
+        let m = ap nodes_met g.marks_are in
+        let i = ap nodes_met meets in
+        let u = g.stored.used_is in
+        let w = f.few_nodes in
+        omega (arith, n, m, i, u, w, many)
+    too_large (nesting deep) f = let n = g.nest_is in let w = f.shallow in omega (arith, n, nests, w, deep)
 
-  module _ (comes : Comes z.types z.text (Some (holding k (standing false t) (drop s.at z.text)))) where
-    behind : MadeOf s row nest tally work after r → Behind holding k (standing false t) z after r
-    unfolding standing row_numbers seven
-    behind m = rw (m.is, m.stored) (record {
-      reached = arrives comes;
-      placed = record { within = g.placed.within; near = g.placed.near };
-      deep = g.deep;
-      hand = record { kind = g.kind_is; own = refl; nest = g.nest_is; tally = g.tally_is; shallow = m.shallow };
-      stored = stored_as (stored_record g.last (row_numbers row tally) g.stored m.few refl g.row_is) g.marks_are g.records_are;
+    pub grown_not : Unmade s.used h.nest → Refuses z
+    unfolding Next
+    grown_not why = unfit comes (too_large why)
+
+    pub grown_to : {after : Work} {r : Progress} → MadeOf s row h work after r → AtTerm state h z after r
+    unfolding standing
+    grown_to m = rw (m.is, m.stored) (record {
+      entries = k;
+      term = standing false t;
+      behind = record {
+        reached = arrives comes;
+        placed = record { within = g.placed.within; near = g.placed.near };
+        deep = g.deep;
+        hand = record { form_is = g.form_is; own = g.bare; nest = g.nest_is; tally = g.tally_is; shallow = m.shallow };
+        stored = stored_as (stored_record g.last row g.stored m.few g.long g.row_is) g.marks_are g.records_are;
+      };
     })
 
-    pub grown : (left : ℕ) → 3 * (length z.text - s.at) + (2 * s.depth + 1) < left → Turned z after left r
-    unfolding Next
-    grown left h = record {
-      known = makes.modes;
-      refused = λ e. unfit comes (too_large (makes.known e));
-      reading = λ e. absurd (let m = makes.made (λ i. omega (arith, e, i)) in let z : 1 ≡ 0 = ap (λ (q : Progress). q.mode) (sym m.is) ∙ e in omega (arith, z));
-      holding = λ e.
-          let m = makes.made (λ i. omega (arith, e, i)) in (
-            record { entries = k; term = standing false t; behind = behind m },
-            rw m.is h,
-          );
-      giving = λ e. absurd (let m = makes.made (λ i. omega (arith, e, i)) in let z : 1 ≡ 2 = ap (λ (q : Progress). q.mode) (sym m.is) ∙ e in omega (arith, z));
-    }
+  module _ (comes : Comes z.types z.text (Some (holding k (standing false t) (drop s.at z.text)))) where
+    pub not_held : Unmade s.used h.nest → Refuses z
+    unfolding met hand_nesting standing
+    not_held = grown_not holding comes refl refl
+
+    pub held : {after : Work} {r : Progress} → MadeOf s row h work after r → (left : ℕ) → left_at z.text s 1 < left → Turned z after left (Holding r h)
+    unfolding met hand_nesting standing AtState left_of left_at
+    held m left less = record { there = grown_to holding comes refl refl m; less = rw m.is less }

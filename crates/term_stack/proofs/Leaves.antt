@@ -1,26 +1,28 @@
 -- The record of a leaf is made, and the leaf is used for its purpose.
-use Prim.Native.Nat.{ℕ, ◌+◌, ◌-◌, ◌*◌, ◌<◌, ◌≤◌}
+use Prim.Native.Nat.{ℕ, ◌<◌}
 use mathlib.Core.Path.{◌≡◌, refl, sym, ap, ◌∙◌}
 use mathlib.Core.Bool.{false}
 use Rattle.std.specs.Prelude.{Option, None, Some}
 use mathlib.Core.List.{List, [], ◌∷◌, ◌++◌, append_assoc}
 use native.Mathlib.Omega.{arith}
-use lib.ListN.{length, drop}
-use Rattle.definitions.specs.Name.{Name}
-use Rattle.definitions.specs.Term.{ProofTerm}
+use lib.ListN.{drop}
 use Rattle.definitions.specs.TermText.{node_limit}
 use Rattle.definitions.specs.TermReader.{standing}
 use Rattle.definitions.specs.TermMemory.{seven}
 use Rattle.reading_laws.specs.TermMachine.{State, used}
-use Rattle.reading_laws.specs.Marks.{Mark, node, marks, purpose_marks, entries_marks, met, nodes_met}
-use Rattle.reading_laws.proofs.MarksMet.{Begins, begins_all, After, after_used}
+use Rattle.reading_laws.specs.Marks.{Mark, node, marks, purpose_marks, entries_marks, nodes_met}
+use Rattle.reading_laws.proofs.MarksMet.{begins_all, After, after_used}
 use Rattle.reading_laws.proofs.OnTheWay.{Fits, nodes_both}
 use Rattle.reading_laws.proofs.Turns.{Next}
 use Rattle.term_stack.specs.declared.Progress.{Progress}
+use Rattle.term_stack.specs.declared.Form.TheVariants.{Closed}
+use Rattle.term_stack.specs.declared.Hand.{Hand}
 use Rattle.term_stack.specs.declared.Purpose.{Purpose}
-use Rattle.term_stack.specs.Growing.{row_numbers, Unmade, nodes, nesting, MadeOf, Makes}
+use Rattle.term_stack.specs.declared.Work.{Work}
+use Rattle.term_stack.specs.Forms.{as_form}
+use Rattle.term_stack.specs.Growing.{row_numbers, Unmade, nodes, nesting, MadeOf}
 use Rattle.term_stack.specs.Numbers.{records_after}
-use Rattle.term_stack.specs.Standing.{Scene, Placed}
+use Rattle.term_stack.specs.Standing.{Scene, left_at}
 use Rattle.term_stack.specs.Using.{Refuses, Leaf, Using, left_after}
 use Rattle.term_stack.proofs.Stores.{stored_record, stored_as}
 use Rattle.term_stack.proofs.Coming.{unfit}
@@ -31,11 +33,10 @@ unfolding Next
 many_nodes ms None h b = tt
 many_nodes ms (Some τ) h b = λ f. let n = ap nodes_met b.is ∙ nodes_both ms b.more in let w = f.few_nodes in omega (arith, n, w, h)
 
-module _ {z : Scene} {work after : List ℕ} {s r : Progress} {kind a : ℕ} {q : Purpose} (l : Leaf z work s kind a q)
-    (makes : Makes s (record { kind = kind; a = a; b = 0; c = 0; d = 0; e = 0 }) 1 0 work after r) where
-  abbrev before : List Mark
-  before = entries_marks l.entries ++ purpose_marks l.purpose
+abbrev pub leaf_hand : Hand
+leaf_hand = record { form = Closed; own = false; nest = 1; tally = 0 }
 
+module _ {z : Scene} {work : Work} {s : Progress} {kind a : ℕ} {q : Purpose} (l : Leaf z work s kind a q) where
   too_many : Unmade s.used 1 → node_limit < nodes_met (entries_marks l.entries ++ (purpose_marks l.purpose ++ marks l.term))
   unfolding node_limit nodes_met
   too_many (nodes h) =
@@ -51,35 +52,35 @@ module _ {z : Scene} {work after : List ℕ} {s r : Progress} {kind a : ℕ} {q 
       omega (arith, u, m, n₁, n₂, n₃, n₄, n₅, h)
   too_many (nesting h) = absurd (omega (arith, h))
 
-  pub leaf_refused : r.mode ≡ 3 → Refuses z
+  pub leaf_not : Unmade s.used 1 → Refuses z
   unfolding standing
-  leaf_refused e =
+  leaf_not why =
       let ms = entries_marks l.entries ++ (purpose_marks l.purpose ++ marks l.term) in
       let rest = drop s.at z.text in
-      unfit l.comes (many_nodes ms (used l.entries l.purpose (standing false l.term) rest) (too_many (makes.known e))
+      unfit l.comes (many_nodes ms (used l.entries l.purpose (standing false l.term) rest) (too_many why)
       (after_used ms l.entries l.purpose (standing false l.term) rest (begins_all ms)))
 
-  pub leaf_using : (r.mode ≡ 3 → ⊥) → Using z after r q
-  unfolding standing row_numbers seven
-  leaf_using h =
-      let m = makes.made h in
-      let k = entries_marks l.entries in
-      let p = purpose_marks l.purpose in
-      let st = stored_record (λ number. records_after number (k ++ p) l.term) (row_numbers (record { kind = kind; a = a; b = 0; c = 0; d = 0; e = 0 }) 0) l.stored m.few refl l.row_is in
-      record {
-        entries = l.entries;
-        purpose = l.purpose;
-        term = standing false l.term;
-        for = rw (m.is, m.stored) (record {
-          comes = l.comes;
-          placed = record { within = l.placed.within; near = l.placed.near };
-          deep = l.deep;
-          hand = record { kind = l.kind_is; own = refl; nest = sym l.nest_is; tally = sym l.tally_is; shallow = omega arith };
-          purpose_is = l.purpose_is;
-          stored = stored_as st (rw l.marks_are (simp append_assoc)) (λ number. simp append_assoc);
-        });
-      }
+  module _ {after : Work} {r : Progress} (m : MadeOf s (row_numbers kind (a ∷ 0 ∷ 0 ∷ 0 ∷ 0 ∷ []) 0) leaf_hand work after r) where
+    pub leaf_using : Using z after r leaf_hand q
+    unfolding standing row_numbers seven as_form
+    leaf_using =
+        let k = entries_marks l.entries in
+        let p = purpose_marks l.purpose in
+        let st = stored_record (λ number. records_after number (k ++ p) l.term) (seven kind a 0 0 0 0 0) l.stored m.few refl l.row_is in
+        record {
+          entries = l.entries;
+          purpose = l.purpose;
+          term = standing false l.term;
+          for = rw (m.is, m.stored) (record {
+            comes = l.comes;
+            placed = record { within = l.placed.within; near = l.placed.near };
+            deep = l.deep;
+            hand = record { form_is = ap as_form (sym l.form_is); own = refl; nest = sym l.nest_is; tally = sym l.tally_is; shallow = omega arith };
+            purpose_is = l.purpose_is;
+            stored = stored_as st (rw l.marks_are (simp append_assoc)) (λ number. simp append_assoc);
+          });
+        }
 
-  pub leaf_left : (r.mode ≡ 3 → ⊥) → left_after z r ≡ left_after z s
-  unfolding left_after
-  leaf_left h = rw (makes.made h).is
+    pub leaf_left : left_after z r ≡ left_after z s
+    unfolding left_after left_at
+    leaf_left = rw m.is

@@ -1,5 +1,6 @@
 pub mod FormNumbers
 pub mod Marked
+pub mod Alike
 pub mod Stores
 pub mod Coming
 pub mod Grown

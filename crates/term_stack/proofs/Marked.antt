@@ -1,17 +1,14 @@
 -- What was met adds up, and stays met.
-use Prim.Native.Nat.{ℕ, ◌+◌, ◌*◌, ◌/◌, ◌%◌, ◌≤◌}
-use mathlib.Core.Path.{◌≡◌, refl, sym, ap, ◌∙◌}
-use mathlib.Core.Bool.{true}
+use Prim.Native.Nat.{ℕ, ◌+◌, ◌*◌, ◌%◌, ◌≤◌}
+use mathlib.Core.Path.{◌≡◌, refl, ap, ◌∙◌}
 use Rattle.std.specs.Prelude.{Option, None, Some}
-use mathlib.Core.List.{List, [], ◌∷◌, ◌++◌, append_assoc, append-nil}
+use mathlib.Core.List.{List, [], ◌∷◌, ◌++◌}
 use native.Mathlib.Omega.{arith}
-use Rattle.definitions.specs.Name.{Name, eq_name}
-use Rattle.definitions.specs.Text.{occurs}
+use Rattle.definitions.specs.Name.{Name}
 use Rattle.definitions.specs.Term.{Label, proposition, datatype, ProofTerm, Ident, Pair, Named, Function, Application, LetIn, Case, TypeAscription, Unit, Sorry, annotation_count, is_labelled}
 use Rattle.definitions.specs.TermText.{nodes}
 use Rattle.definitions.specs.TermMemory.{label_size, labels_size, store_label, store_labels}
-use Rattle.reading_laws.specs.Marks.{Mark, called, labelled, node, marks, nodes_met}
-use Rattle.reading_laws.proofs.OnTheWay.{nodes_both, nodes_met_lem}
+use Rattle.reading_laws.specs.Marks.{Mark, called, labelled, node}
 use Rattle.words.specs.Table.{added, number_in}
 use Rattle.words.proofs.Added.{met_added}
 use Rattle.term_stack.specs.Numbers.{labels_met, code_met}
@@ -69,7 +66,7 @@ extends_fewer seen xs h x e = let m = met_added x seen xs e in h x m.0 ∙ m.1
 pub extends_itself : (seen : List Name) → Extends (number_in seen) seen
 extends_itself seen x e = refl
 
-label_once : (l : Option (Label Name)) → is_labelled l ≤ 1
+pub label_once : (l : Option (Label Name)) → is_labelled l ≤ 1
 unfolding is_labelled
 label_once None = omega arith
 label_once (Some l) = omega arith

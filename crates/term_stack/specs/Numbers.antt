@@ -1,11 +1,16 @@
--- The numbers of the records and of the stack at each state of the machine, as functions of what was met.
-use Rattle.std.specs.Prelude.{ℕ, ◌+◌, ◌-◌, max, List, [], ◌∷◌, ◌++◌, Option}
+-- The numbers of the records and the stack of entries at each state of the machine, as functions of what was met.
+use Rattle.std.specs.Prelude.{ℕ, ◌+◌, ◌-◌, List, [], ◌∷◌, ◌++◌}
 use Rattle.definitions.specs.Name.{Name}
 use Rattle.definitions.specs.Term.{Label, ProofTerm, Ident, Pair, Named, Function, Application, LetIn, Case, TypeAscription, Unit, Sorry, annotation_count, is_labelled}
 use Rattle.definitions.specs.TermText.{term_nesting}
 use Rattle.definitions.specs.TermMemory.{labels_size, function_kind, label_kind, parameter_label_kind, seven, label_number, parameter_label_number}
 use Rattle.reading_laws.specs.TermMachine.{Purpose, as_head, as_argument, as_body, Entry, in_bracket, second, function_body, case_head, case_first, case_second, let_head, let_body}
-use Rattle.reading_laws.specs.Marks.{Mark, called, labelled, node, label_marks, marks, purpose_marks, entry_marks, entries_marks, nodes_met}
+use Rattle.term_stack.specs.declared.Part.{Part}
+use Rattle.term_stack.specs.declared.Purpose as reader
+use Rattle.term_stack.specs.declared.Purpose.TheVariants.{Head, Argument, Body}
+use Rattle.term_stack.specs.declared.Entry as entries
+use Rattle.term_stack.specs.declared.Entry.TheVariants.{Bracket, Second, FunctionBody, CaseHead, CaseFirst, CaseSecond, LetHead, LetBody}
+use Rattle.reading_laws.specs.Marks.{Mark, called, labelled, node, label_marks, marks, purpose_marks, entries_marks, nodes_met}
 
 -- the labels met, and the bytes of their code
 unfoldable pub labels_met : List Mark → List (Label Name)
@@ -21,25 +26,14 @@ code_met ms = labels_size (labels_met ms)
 unfoldable pub root_after : List Mark → ProofTerm Name → ℕ
 root_after ms a = nodes_met (ms ++ marks a) - 1
 
-unfoldable pub purpose_kind : Purpose → ℕ
-purpose_kind as_head = 0
-purpose_kind (as_argument f) = 1
-purpose_kind (as_body f) = 2
+-- a term that was read after these marks and waits for another
+unfoldable pub part_after : List Mark → ProofTerm Name → Part
+part_after ms a = record { root = root_after ms a; nest = term_nesting a; tally = annotation_count a }
 
-unfoldable pub purpose_number : List Mark → Purpose → ℕ
-purpose_number ms as_head = 0
-purpose_number ms (as_argument f) = root_after ms f
-purpose_number ms (as_body f) = function_kind f
-
-unfoldable pub purpose_nesting : Purpose → ℕ
-purpose_nesting as_head = 0
-purpose_nesting (as_argument f) = term_nesting f
-purpose_nesting (as_body f) = 0
-
-unfoldable pub purpose_tally : Purpose → ℕ
-purpose_tally as_head = 0
-purpose_tally (as_argument f) = annotation_count f
-purpose_tally (as_body f) = 0
+unfoldable pub purpose_after : List Mark → Purpose → reader.Purpose
+purpose_after ms as_head = Head
+purpose_after ms (as_argument f) = Argument (part_after ms f)
+purpose_after ms (as_body f) = Body (function_kind f)
 
 -- With the numbers of the names:
 module _ (number : Name → ℕ) where
@@ -75,21 +69,16 @@ module _ (number : Name → ℕ) where
   records_after ms Unit = seven 12 0 0 0 0 0 0
   records_after ms Sorry = seven 13 0 0 0 0 0 0
 
-  -- The kinds of entries: a bracket 0 to 2 and a pair 3 to 5 by the purpose, a function 6, a case 7 to 9, a let 10 and 11. The last two
-  -- numbers say how deep the terms nest that an entry holds, and how many labels they have.
-  unfoldable pub entry_numbers : List Mark → Entry → List ℕ
-  entry_numbers ms (in_bracket p) = seven (purpose_kind p) (purpose_number ms p) 0 0 0 (purpose_nesting p) (purpose_tally p)
-  entry_numbers ms (second p a) =
-      seven (3 + purpose_kind p) (purpose_number ms p) (root_after (ms ++ purpose_marks p) a) (purpose_nesting p) (purpose_tally p) (term_nesting a) (annotation_count a)
-  entry_numbers ms (function_body x l) =
-      seven 6 (number x) (parameter_label_kind l) (parameter_label_number number (code_met (ms ++ (called x ∷ []))) l) 0 0 (is_labelled l)
-  entry_numbers ms case_head = seven 7 0 0 0 0 0 0
-  entry_numbers ms (case_first a x) = seven 8 (root_after ms a) (number x) 0 0 (term_nesting a) (annotation_count a)
-  entry_numbers ms (case_second a x b y) =
-      seven 9 (root_after ms a) (number x) (root_after (ms ++ (marks a ++ (called x ∷ []))) b) (number y) (max (term_nesting a) (term_nesting b)) (annotation_count a + annotation_count b)
-  entry_numbers ms (let_head x y) = seven 10 (number x) (number y) 0 0 0 0
-  entry_numbers ms (let_body x y a) =
-      seven 11 (number x) (number y) (root_after (ms ++ (called x ∷ called y ∷ [])) a) 0 (term_nesting a) (annotation_count a)
+  -- an entry, put on the stack after these marks
+  unfoldable pub entry_after : List Mark → Entry → entries.Entry
+  entry_after ms (in_bracket p) = Bracket (purpose_after ms p)
+  entry_after ms (second p a) = Second (purpose_after ms p) (part_after (ms ++ purpose_marks p) a)
+  entry_after ms (function_body x l) = FunctionBody (number x) (parameter_label_kind l) (parameter_label_number number (code_met (ms ++ (called x ∷ []))) l)
+  entry_after ms case_head = CaseHead
+  entry_after ms (case_first a x) = CaseFirst (part_after ms a) (number x)
+  entry_after ms (case_second a x b y) = CaseSecond (part_after ms a) (number x) (part_after (ms ++ (marks a ++ (called x ∷ []))) b) (number y)
+  entry_after ms (let_head x y) = LetHead (number x) (number y)
+  entry_after ms (let_body x y a) = LetBody (number x) (number y) (part_after (ms ++ (called x ∷ called y ∷ [])) a)
 
   unfoldable pub purpose_records : List Mark → Purpose → List ℕ
   purpose_records ms as_head = []
@@ -106,9 +95,9 @@ module _ (number : Name → ℕ) where
   entry_records ms (let_head x y) = []
   entry_records ms (let_body x y a) = records_after (ms ++ (called x ∷ called y ∷ [])) a
 
-  unfoldable pub stack_numbers : List Entry → List ℕ
-  stack_numbers [] = []
-  stack_numbers (e ∷ k) = stack_numbers k ++ entry_numbers (entries_marks k) e
+  unfoldable pub stack_of : List Entry → List entries.Entry
+  stack_of [] = []
+  stack_of (e ∷ k) = stack_of k ++ (entry_after (entries_marks k) e ∷ [])
 
   unfoldable pub stack_records : List Entry → List ℕ
   stack_records [] = []

@@ -1,18 +1,24 @@
 -- A state of the machine in memory: what was met, in records, entries, names and labels' code, and the term in hand.
-use Rattle.std.specs.Prelude.{ℕ, ◌+◌, ◌*◌, ◌<◌, ◌≤◌, ◌≡◌, true, List, [], ◌++◌, length, take, drop}
+use Rattle.std.specs.Prelude.{ℕ, ◌+◌, ◌-◌, ◌*◌, ◌≤◌, ◌≡◌, true, List, [], ◌++◌, length, take, drop}
 use Rattle.definitions.specs.Name.{Name, eq_name}
 use Rattle.definitions.specs.Text.{occurs}
 use Rattle.definitions.specs.Term.{ProofTerm, annotation_count}
+use Rattle.definitions.specs.Display.{form}
 use Rattle.definitions.specs.TermText.{term_nesting}
 use Rattle.definitions.specs.TermReader.{Shown}
 use Rattle.definitions.specs.TermMemory.{store_labels}
-use Rattle.reading_laws.specs.TermMachine.{Entry, State, reading}
+use Rattle.reading_laws.specs.TermMachine.{Entry, State, reading, holding, giving}
 use Rattle.reading_laws.specs.Marks.{Mark, marks, entries_marks, nodes_met, names_met, limited_met}
 use Rattle.reading_laws.proofs.OnTheWay.{Reached}
 use Rattle.words.specs.Table.{added, number_in, table_names, Table}
 use Rattle.term_stack.specs.declared.Progress.{Progress}
-use Rattle.term_stack.specs.Forms.{kind_of}
-use Rattle.term_stack.specs.Numbers.{labels_met, code_met, stack_numbers, stack_records, term_records}
+use Rattle.term_stack.specs.declared.Hand.{Hand}
+use Rattle.term_stack.specs.declared.Entry as reader
+use Rattle.term_stack.specs.declared.State as reader_state
+use Rattle.term_stack.specs.declared.State.TheVariants.{Reading, Holding, Giving}
+use Rattle.term_stack.specs.declared.Work.{Work}
+use Rattle.term_stack.specs.Forms.{as_form}
+use Rattle.term_stack.specs.Numbers.{labels_met, code_met, stack_of, stack_records, term_records}
 
 -- what is read, with the caller's list of datatype names, and the memory beside the records: the names' pairs, and the labels' code, as
 -- it was before the reading and as it is
@@ -32,15 +38,20 @@ pub record ThereIs {A : Type 0} (P : A → Type 0) : Type 0 where
 abbrev pub Extends : (Name → ℕ) → List Name → Type 0
 Extends number seen = (x : Name) → occurs eq_name x seen ≡ true → number x ≡ number_in seen x
 
--- the records and the stack hold these numbers, and the labels' code is stored
-pub record Lies (number : Name → ℕ) (ms : List Mark) (records stack : List ℕ) (z : Scene) (work : List ℕ) (used depth : ℕ) : Type 0 where
-  pub records_are : take (7 * used) work ≡ records
-  pub stack_is : take (7 * depth) (drop 14336 work) ≡ stack
+-- the records hold these numbers, the stack has these entries, and the labels' code is stored
+pub record Lies (number : Name → ℕ) (ms : List Mark) (records : List ℕ) (stack : List reader.Entry) (z : Scene) (work : Work) (used depth : ℕ) : Type 0 where
+  pub records_are : take (7 * used) work.records ≡ records
+  pub stack_is : take depth work.entries ≡ stack
   pub code_is : z.code ≡ store_labels number 0 (labels_met ms) z.before
 
+-- the arrays have room for every record and entry, as their types say
+abbrev pub Roomy : Work → Type 0
+Roomy work = (length work.records ≡ 14336) × (length work.entries ≡ 767)
+
 -- what was met is in memory
-pub record Stored (ms : List Mark) (records stack : (Name → ℕ) → List ℕ) (z : Scene) (work : List ℕ) (used depth count to : ℕ) : Type 0 where
-  pub room : length work ≡ 19705
+pub record Stored (ms : List Mark) (records : (Name → ℕ) → List ℕ) (stack : (Name → ℕ) → List reader.Entry) (z : Scene) (work : Work) (used depth count to : ℕ) : Type 0 where
+  pub room : length work.records ≡ 14336
+  pub places : length work.entries ≡ 767
   pub few : used ≤ 2048
   pub few_entries : depth ≤ 767
   pub used_is : used ≡ nodes_met ms
@@ -51,13 +62,13 @@ pub record Stored (ms : List Mark) (records stack : (Name → ℕ) → List ℕ)
   pub lies : (number : Name → ℕ) → Extends number (table_names z.names z.text count)
       → Lies number ms (records number) (stack number) z work used depth
 
--- kind, brackets, nesting and label count are those of the term
-pub record HandOf (a : Shown (ProofTerm Name)) (s : Progress) : Type 0 where
-  pub kind : s.kind ≡ kind_of a.shown
-  pub own : s.own ≡ a.own
-  pub nest : s.nest ≡ term_nesting a.shown
-  pub tally : s.tally ≡ annotation_count a.shown
-  pub shallow : s.nest ≤ 512
+-- form, brackets, nesting and label count are those of the term
+pub record HandOf (a : Shown (ProofTerm Name)) (h : Hand) : Type 0 where
+  pub form_is : h.form ≡ as_form (form a.shown)
+  pub own : h.own ≡ a.own
+  pub nest : h.nest ≡ term_nesting a.shown
+  pub tally : h.tally ≡ annotation_count a.shown
+  pub shallow : h.nest ≤ 512
 
 -- the place in the text: the labels' code is at most twice as long as what was read
 pub record Placed (z : Scene) (s : Progress) : Type 0 where
@@ -65,31 +76,46 @@ pub record Placed (z : Scene) (s : Progress) : Type 0 where
   pub near : s.to ≤ 2 * s.at
 
 -- the machine is before a term, with these entries
-pub record Before (entries : List Entry) (z : Scene) (work : List ℕ) (s : Progress) : Type 0 where
+pub record Before (entries : List Entry) (z : Scene) (work : Work) (s : Progress) : Type 0 where
   pub reached : Reached z.types z.text (reading entries (drop s.at z.text))
   pub placed : Placed z s
   pub deep : s.depth ≡ length entries
   pub stored :
-      Stored (entries_marks entries) (λ number. stack_records number entries) (λ number. stack_numbers number entries) z work s.used s.depth s.count s.to
+      Stored (entries_marks entries) (λ number. stack_records number entries) (λ number. stack_of number entries) z work s.used s.depth s.count s.to
 
-pub record AtReading (z : Scene) (work : List ℕ) (s : Progress) : Type 0 where
+pub record AtReading (z : Scene) (work : Work) (s : Progress) : Type 0 where
   pub entries : List Entry
   pub before : Before entries z work s
 
-abbrev pub Form : Type 0
-Form = List Entry → Shown (ProofTerm Name) → List ℕ → State
+abbrev pub StateOf : Type 0
+StateOf = List Entry → Shown (ProofTerm Name) → List ℕ → State
 
--- the machine is behind a term, in a state of that form
-pub record Behind (form : Form) (entries : List Entry) (term : Shown (ProofTerm Name)) (z : Scene) (work : List ℕ) (s : Progress) : Type 0 where
-  pub reached : Reached z.types z.text (form entries term (drop s.at z.text))
+-- the machine is behind a term, in such a state
+pub record Behind (state : StateOf) (entries : List Entry) (term : Shown (ProofTerm Name)) (h : Hand) (z : Scene) (work : Work) (s : Progress) : Type 0 where
+  pub reached : Reached z.types z.text (state entries term (drop s.at z.text))
   pub placed : Placed z s
   pub deep : s.depth ≡ length entries
-  pub hand : HandOf term s
+  pub hand : HandOf term h
   pub stored :
-      Stored (entries_marks entries ++ marks term.shown) (λ number. term_records number entries term.shown) (λ number. stack_numbers number entries) z work
+      Stored (entries_marks entries ++ marks term.shown) (λ number. term_records number entries term.shown) (λ number. stack_of number entries) z work
       s.used s.depth s.count s.to
 
-pub record AtTerm (form : Form) (z : Scene) (work : List ℕ) (s : Progress) : Type 0 where
+pub record AtTerm (state : StateOf) (h : Hand) (z : Scene) (work : Work) (s : Progress) : Type 0 where
   pub entries : List Entry
   pub term : Shown (ProofTerm Name)
-  pub behind : Behind form entries term z work s
+  pub behind : Behind state entries term h z work s
+
+-- the machine is where the program's state says
+unfoldable pub AtState : Scene → Work → reader_state.State → Type 0
+AtState z work (Reading s) = AtReading z work s
+AtState z work (Holding s h) = AtTerm holding h z work s
+AtState z work (Giving s h) = AtTerm giving h z work s
+
+-- So much is left at a place of the text with so many entries, and a little more.
+unfoldable pub left_at : List ℕ → Progress → ℕ → ℕ
+left_at text s more = 3 * (length text - s.at) + (2 * s.depth + more)
+
+unfoldable pub left_of : List ℕ → reader_state.State → ℕ
+left_of text (Reading s) = left_at text s 0
+left_of text (Holding s h) = left_at text s 1
+left_of text (Giving s h) = left_at text s 0

@@ -1,9 +1,11 @@
 -- A turn that reads text, for every code that the lent memory held before the reading.
-use Rattle.std.specs.Prelude.{ℕ, ◌+◌, ◌-◌, ◌*◌, List, length}
+use Rattle.std.specs.Prelude.{ℕ, List, Option, MatchOption}
 use Rattle.definitions.specs.CallerNames.{names_in}
 use Rattle.term_stack.specs.declared.Progress.{Progress}
-use Rattle.term_stack.specs.Standing.{Scene, ThereIs}
-use Rattle.term_stack.specs.Using.{Turned}
+use Rattle.term_stack.specs.declared.State.{State}
+use Rattle.term_stack.specs.declared.Work.{Work}
+use Rattle.term_stack.specs.Standing.{Scene, ThereIs, left_at}
+use Rattle.term_stack.specs.Using.{Refuses, Turned}
 
 -- what a turn sees: the caller's list, the text, the names' pairs, and the labels' code before the reading and now
 unfoldable pub scene_of : List ℕ → List ℕ → List ℕ → List ℕ → List ℕ → Scene
@@ -11,19 +13,15 @@ scene_of list text names before code = record { types = names_in list; text = te
 
 -- where the machine is when a turn begins
 abbrev pub Standpoint : Type 1
-Standpoint = Scene → List ℕ → Progress → Type 0
+Standpoint = Scene → Work → Progress → Type 0
 
 -- a turn may begin: the machine is there, for some code before the reading
-unfoldable pub TurnBegins : Standpoint → List ℕ → List ℕ → List ℕ → List ℕ → List ℕ → Progress → Type 0
+unfoldable pub TurnBegins : Standpoint → List ℕ → List ℕ → List ℕ → List ℕ → Work → Progress → Type 0
 TurnBegins At list text names code work s = ThereIs (λ (before : List ℕ). At (scene_of list text names before code) work s)
 
--- So much is left at a place of the text with so many entries, and a little more.
-unfoldable pub left_at : List ℕ → Progress → ℕ → ℕ
-left_at text s more = 3 * (length text - s.at) + (2 * s.depth + more)
-
--- the turn has ended: wherever the machine was there, it is nearer to its end now
+-- the turn has ended: wherever the machine was there, there is no term, or it is nearer to its end now
 unfoldable pub TurnEnds
-    : Standpoint → ℕ → List ℕ → List ℕ → List ℕ → List ℕ → List ℕ → Progress → List ℕ → List ℕ → List ℕ → Progress → Type 0
+    : Standpoint → ℕ → List ℕ → List ℕ → List ℕ → List ℕ → Work → Progress → List ℕ → List ℕ → Work → Option State → Type 0
 TurnEnds At more list text names code work s names' code' work' r =
     (before : List ℕ) → At (scene_of list text names before code) work s
-    → Turned (scene_of list text names' before code') work' (left_at text s more) r
+    → MatchOption r (Refuses (scene_of list text names' before code')) (Turned (scene_of list text names' before code') work' (left_at text s more))

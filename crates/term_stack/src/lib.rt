@@ -1,95 +1,96 @@
-// The memory of the reader of terms: the records of what was read, behind them a stack of entries for what is not finished, and the
-// term in hand, whose record is the last.
+// The memory of the reader of terms: the records of what was read, a stack of entries for what is not finished, and the term in hand,
+// whose record is the last.
 #![tactic(auto)]
 
-ghost use Rattle.std.specs.Prelude.{◌≡◌, true, ◌<◌, ◌≤◌, max, length, get_or, leb};
+ghost use Rattle.std.specs.Prelude.{◌≡◌, true, false, ◌+◌, ◌-◌, ◌<◌, ◌≤◌, max, leb, Option, MatchOption};
+ghost use Rattle.definitions.specs.Name.{Name};
+ghost use Rattle.definitions.specs.Term.{Label, is_labelled};
+ghost use Rattle.definitions.specs.TermMemory.{parameter_label_kind};
 ghost use Rattle.definitions.specs.TermReader.{same};
-ghost use Rattle.term_stack.specs.Forms.{form_table};
-ghost use Rattle.term_stack.specs.Growing.{Makes, Enters, Tops};
-ghost use Rattle.term_stack.specs.Standing.{Scene, ThereIs};
-ghost use Rattle.term_stack.specs.Using.{Using, Leaf, Turned, left_after, Gives, last_part, left_giving};
+ghost use Rattle.term_stack.specs.Forms.{rank};
+ghost use Rattle.term_stack.specs.Growing.{row_numbers, Unmade, MadeOf, Entered};
+ghost use Rattle.term_stack.specs.Standing.{Scene, ThereIs, Roomy};
+ghost use Rattle.term_stack.specs.Using.{Using, Leaf, Gives, Refuses, Turned, left_after};
 
-use proof_term::{APPLICATION, CASE, FUNCTION, LET_IN, RECORD_SIZE, push};
+use proof_term::{APPLICATION, CASE, FUNCTION, LET_IN, NO_LABEL, RECORD_SIZE, push};
 
-// Where the reading stands: before a term, behind a term to which more may belong, behind a whole term, or nowhere, since the text
-// has no term.
-pub const READING: usize = 0;
-
-pub const HOLDING: usize = 1;
-
-pub const GIVING: usize = 2;
-
-pub const REFUSED: usize = 3;
-
-// How far the reading is: in the text, in the entries, the records, the names and the labels' code; and of the term in hand the kind,
-// whether it stands in brackets of its own, how deep it nests and how many labels it has.
+// How far the reading is: in the text, in the entries, the records, the names and the labels' code.
 #[derive(Clone, Copy)]
 pub struct Progress {
-    pub mode: usize,
     pub at: usize,
     pub depth: usize,
     pub used: usize,
     pub count: usize,
     pub to: usize,
-    pub kind: usize,
+}
+
+// A term's outermost form, as far as brackets go, in the order of the brackets that it needs.
+#[derive(Clone, Copy)]
+pub enum Form {
+    Closed,
+    Call,
+    Function,
+    Block,
+    Ascription,
+}
+
+impl Form {
+    // The place of a form in the order.
+    #[tactic(auto, unfolding(crate::specs::Forms::rank))]
+    fn rank(self) -> u8
+        ensures { result ≡ rank self }
+    {
+        self as u8
+    }
+}
+
+// The term in hand: its form, whether it stands in brackets of its own, how deep it nests and how many labels it has.
+#[derive(Clone, Copy)]
+pub struct Hand {
+    pub form: Form,
     pub own: bool,
     pub nest: usize,
     pub tally: usize,
 }
 
-// The numbers of a record or of an entry but the last.
-#[derive(Drop)]
-pub struct Row {
-    pub kind: u16,
-    pub a: u16,
-    pub b: u16,
-    pub c: u16,
-    pub d: u16,
-    pub e: u16,
+// Where the reading stands: before a term, behind a term to which more may belong, or behind a whole term.
+#[derive(Clone, Copy)]
+pub enum State {
+    Reading(Progress),
+    Holding(Progress, Hand),
+    Giving(Progress, Hand),
 }
 
-// An entry: its kind, four numbers, and how deep the terms that it holds nest and how many labels they have.
-#[derive(Drop)]
-pub struct Entry {
-    pub kind: u16,
-    pub a: u16,
-    pub b: u16,
-    pub c: u16,
-    pub d: u16,
+// A term that waits for another: its record, how deep it nests and how many labels it has.
+#[derive(Clone, Copy)]
+pub struct Part {
+    pub root: u16,
     pub nest: u16,
     pub tally: u16,
 }
 
-// What a closed term is read for: the head of a term, an argument of the function at record `value`, or the body of the named function
-// of kind `value`.
-#[derive(Drop)]
-pub struct Purpose {
-    pub kind: u16,
-    pub value: u16,
-    pub nest: u16,
-    pub tally: u16,
+// What a closed term is read for: the head of a term, an argument of a function, or the body of a named function, whose records are
+// of this kind.
+#[derive(Clone, Copy)]
+pub enum Purpose {
+    Head,
+    Argument(Part),
+    Body(u16),
 }
 
-pub const AS_HEAD: u16 = 0;
-
-pub const AS_ARGUMENT: u16 = 1;
-
-pub const AS_BODY: u16 = 2;
-
-// The kinds of entries: those of a bracket are the kinds of its purpose, those of a pair three more.
-pub const PAIRS: u16 = 3;
-
-pub const FUNCTION_BODY: u16 = 6;
-
-pub const CASE_HEAD: u16 = 7;
-
-pub const CASE_FIRST: u16 = 8;
-
-pub const CASE_SECOND: u16 = 9;
-
-pub const LET_HEAD: u16 = 10;
-
-pub const LET_BODY: u16 = 11;
+// What waits for a term: the first term after a bracket, the second part of a pair, and the parts of a function, a case and a let,
+// with the terms and the numbers of the names that were read before.
+#[derive(Clone, Copy)]
+pub enum Entry {
+    Bracket(Purpose),
+    Second(Purpose, Part),
+    FunctionBody { name: u16, kind: u16, label: u16 },
+    CaseHead,
+    CaseFirst(Part, u16),
+    CaseSecond(Part, u16, Part, u16),
+    LetHead(u16, u16),
+    LetBody(u16, u16, Part),
+}
 
 const NODE_LIMIT: usize = 2048;
 
@@ -98,236 +99,217 @@ const NESTING_LIMIT: usize = 512;
 // The most entries that a term within the limits needs.
 const ENTRY_LIMIT: usize = 767;
 
-// The numbers of all records and entries.
-pub const WORK_SIZE: usize = RECORD_SIZE * (NODE_LIMIT + ENTRY_LIMIT);
-
-// The form of each kind of record: closed, call, function, block, ascription.
-const FORMS: [u8; 14] = [0, 0, 1, 1, 2, 1, 3, 1, 1, 3, 1, 4, 0, 0];
-
 // From which form on a part is bracketed in strict text.
-pub const CLOSED_ONLY: usize = 1;
+pub const CLOSED_ONLY: Form = Form::Call;
 
-pub const NO_FUNCTION: usize = 2;
+pub const NO_FUNCTION: Form = Form::Function;
 
-pub const NO_ASCRIPTION: usize = 4;
+pub const NO_ASCRIPTION: Form = Form::Ascription;
 
-// There is no term.
-pub fn refused(s: Progress) -> Progress
-    ensures { result.mode ≡ 3 }
-{
-    let mut r = s;
-    r.mode = REFUSED;
-    r
+// The memory of a reading.
+#[derive(Drop)]
+pub struct Work {
+    pub records: [u16; RECORD_SIZE * NODE_LIMIT],
+    pub entries: [Entry; ENTRY_LIMIT],
 }
 
-// The larger of two numbers.
-pub fn larger(a: usize, b: usize) -> usize
-    ensures { result ≡ max a b }
-{
-    if a < b {
-        return b;
+impl Work {
+    // A memory of which nothing is read.
+    pub fn new() -> Work
+        ensures { Roomy result }
+    {
+        Work {
+            records: [0; RECORD_SIZE * NODE_LIMIT],
+            entries: [Entry::CaseHead; ENTRY_LIMIT],
+        }
     }
-    a
 }
 
-// Whether a term of this kind is bracketed where the forms are from `least` on.
-fn is_due(kind: usize, least: usize) -> bool
-    requires { kind < 14 }
-    ensures { result ≡ leb least (get_or form_table kind 0) }
+// Goes on where the brackets of the term in hand are those that are due where forms are bracketed from `least` on.
+pub fn due(hand: Hand, least: Form) -> Option<()>
+    ensures { MatchOption result (same hand.own (leb (rank least) (rank hand.form)) ≡ false)
+        (λ u. same hand.own (leb (rank least) (rank hand.form)) ≡ true) }
 {
-    FORMS[kind] as usize >= least
+    if hand.own == (least.rank() <= hand.form.rank()) {
+        return Some(());
+    }
+    None
 }
 
-// Whether the brackets of a term are those that are due where the forms are bracketed from `least` on.
-pub fn is_as_due(own: bool, kind: usize, least: usize) -> bool
-    requires { kind < 14 }
-    ensures { result ≡ same own (leb least (get_or form_table kind 0)) }
+// The term in hand as one that waits for another.
+pub fn waiting(s: Progress, hand: Hand) -> Part
+    requires { (0 < s.used) × (s.used ≤ 2048) × (hand.nest ≤ 512) × (hand.tally ≤ 4098) }
+    ensures { result ≡ record { root = s.used - 1; nest = hand.nest; tally = hand.tally } }
 {
-    if is_due(kind, least) {
-        return own;
+    Part {
+        root: (s.used - 1) as u16,
+        nest: hand.nest as u16,
+        tally: hand.tally as u16,
     }
-    !own
 }
 
-// Makes a record, whose term is in hand then, if no limit is passed.
-pub fn make(work: &mut [u16], s: Progress, row: Row, nest: usize, tally: usize) -> Progress
-    requires { (length work.old ≡ 19705) × (tally < 65536) }
-    ensures { Makes s row nest tally work.old work.new result }
+// A term of this form over the term in hand and others, which nest so deep and have so many labels with its own.
+pub fn over(form: Form, nest: usize, tally: usize, hand: Hand) -> Hand
+    requires { (nest < 65536) × (tally < 131072) × (hand.nest ≤ 512) × (hand.tally ≤ 4098) }
+    ensures { result ≡ record { form = form; own = false; nest = max nest hand.nest + 1; tally = tally + hand.tally } }
 {
-    if NODE_LIMIT <= s.used {
-        return refused(s);
-    }
-    if NESTING_LIMIT < nest {
-        return refused(s);
-    }
-    let kind = row.kind as usize;
-    let used = push(
-        work,
-        s.used,
-        row.kind,
-        row.a,
-        row.b,
-        row.c,
-        row.d,
-        row.e,
-        tally as u16,
-    );
-    Progress {
-        mode: HOLDING,
-        at: s.at,
-        depth: s.depth,
-        used,
-        count: s.count,
-        to: s.to,
-        kind,
+    Hand {
+        form,
         own: false,
-        nest,
-        tally,
+        nest: nest.max(hand.nest) + 1,
+        tally: tally + hand.tally,
     }
+}
+
+// Makes the record of a term, which is in hand then, if no limit is passed.
+pub fn make(
+    work: &mut Work,
+    s: Progress,
+    kind: u16,
+    numbers: [u16; 5],
+    hand: Hand,
+) -> Option<Progress>
+    requires { hand.tally < 65536 }
+    ensures { MatchOption result (Unmade s.used hand.nest)
+        (MadeOf s (row_numbers kind numbers hand.tally) hand work.old work.new) }
+{
+    if NODE_LIMIT <= s.used || NESTING_LIMIT < hand.nest {
+        return None;
+    }
+    let [a, b, c, d, e] = numbers;
+    let tally = hand.tally as u16;
+    let used = push(&mut work.records, s.used, kind, a, b, c, d, e, tally);
+    Some(Progress { used, ..s })
 }
 
 // Puts an entry on the stack, if there are not more than a term within the limits needs; a term is to be read then.
-pub fn enter(work: &mut [u16], s: Progress, row: Row, tally: u16) -> Progress
-    requires { length work.old ≡ 19705 }
-    ensures { Enters s row tally work.old work.new result }
+pub fn enter(work: &mut Work, s: Progress, entry: Entry) -> Option<State>
+    ensures { MatchOption result (767 ≤ s.depth) (Entered s entry work.old work.new) }
 {
     if ENTRY_LIMIT <= s.depth {
-        return refused(s);
+        return None;
     }
-    push(
-        work,
-        NODE_LIMIT + s.depth,
-        row.kind,
-        row.a,
-        row.b,
-        row.c,
-        row.d,
-        row.e,
-        tally,
-    );
-    let mut r = s;
-    r.mode = READING;
-    r.depth = s.depth + 1;
-    r
-}
-
-// The entry on top of the stack.
-pub fn top(work: &[u16], depth: usize) -> Entry
-    requires { (length work.now ≡ 19705) × (0 < depth) × (depth ≤ 767) }
-    ensures { Tops work.now depth result }
-{
-    let at = RECORD_SIZE * (NODE_LIMIT + depth - 1);
-    Entry {
-        kind: work[at],
-        a: work[at + 1],
-        b: work[at + 2],
-        c: work[at + 3],
-        d: work[at + 4],
-        nest: work[at + 5],
-        tally: work[at + 6],
-    }
+    work.entries[s.depth] = entry;
+    Some(State::Reading(Progress {
+        depth: s.depth + 1,
+        ..s
+    }))
 }
 
 // A closed term is in hand: makes of it what it was read for.
-pub fn use_for(work: &mut [u16], s: Progress, p: Purpose) -> Progress
-    requires { ThereIs (λ (z : Scene). Using z work.old s p) }
-    ensures { (z : Scene) → Using z work.old s p → Turned z work.new (left_after z s) result }
+pub fn use_for(work: &mut Work, s: Progress, hand: Hand, p: Purpose) -> Option<State>
+    requires { ThereIs (λ (z : Scene). Using z work.old s hand p) }
+    ensures { (z : Scene) → Using z work.old s hand p → MatchOption result (Refuses z) (Turned z work.new (left_after z s)) }
 {
-    if p.kind == AS_HEAD {
-        let mut r = s;
-        r.mode = HOLDING;
-        return r;
+    match p {
+        Purpose::Head => Some(State::Holding(s, hand)),
+        Purpose::Argument(function) => {
+            due(hand, CLOSED_ONLY)?;
+            let numbers = [function.root, waiting(s, hand).root, 0, 0, 0];
+            let whole = over(
+                Form::Call,
+                usize::from(function.nest),
+                usize::from(function.tally),
+                hand,
+            );
+            let made = make(work, s, APPLICATION as u16, numbers, whole)?;
+            Some(State::Holding(made, whole))
+        }
+        Purpose::Body(kind) => {
+            due(hand, CLOSED_ONLY)?;
+            let whole = over(Form::Call, 0, 0, hand);
+            let made = make(work, s, kind, [waiting(s, hand).root, 0, 0, 0, 0], whole)?;
+            Some(State::Holding(made, whole))
+        }
     }
-    if !is_as_due(s.own, s.kind, CLOSED_ONLY) {
-        return refused(s);
-    }
-    let last = (s.used - 1) as u16;
-    let nest = larger(p.nest as usize, s.nest) + 1;
-    let tally = p.tally as usize + s.tally;
-    if p.kind == AS_ARGUMENT {
-        let row = Row {
-            kind: APPLICATION as u16,
-            a: p.value,
-            b: last,
-            c: 0,
-            d: 0,
-            e: 0,
-        };
-        return make(work, s, row, nest, tally);
-    }
-    let row = Row {
-        kind: p.value,
-        a: last,
-        b: 0,
-        c: 0,
-        d: 0,
-        e: 0,
-    };
-    make(work, s, row, nest, tally)
 }
 
 // Makes a leaf, and of it what it was read for.
-pub fn use_leaf(work: &mut [u16], s: Progress, kind: u16, a: u16, p: Purpose) -> Progress
+pub fn use_leaf(work: &mut Work, s: Progress, kind: u16, a: u16, p: Purpose) -> Option<State>
     requires { ThereIs (λ (z : Scene). Leaf z work.old s kind a p) }
-    ensures { (z : Scene) → Leaf z work.old s kind a p → Turned z work.new (left_after z s) result }
+    ensures { (z : Scene) → Leaf z work.old s kind a p → MatchOption result (Refuses z) (Turned z work.new (left_after z s)) }
 {
-    let row = Row {
-        kind,
-        a,
-        b: 0,
-        c: 0,
-        d: 0,
-        e: 0,
+    let leaf = Hand {
+        form: Form::Closed,
+        own: false,
+        nest: 1,
+        tally: 0,
     };
-    let leaf = make(work, s, row, 1, 0);
-    if leaf.mode == REFUSED {
-        return leaf;
-    }
-    use_for(work, leaf, p)
+    let made = make(work, s, kind, [a, 0, 0, 0, 0], leaf)?;
+    use_for(work, made, leaf, p)
 }
 
-// The last part of a function, a case or a let is in hand: makes the term of it and of what the entry on top of the stack holds.
-pub fn close_within(work: &mut [u16], s: Progress, e: Entry) -> Progress
-    requires { ThereIs (λ (z : Scene). Gives z work.old s e) × (last_part e.kind ≡ true) }
-    ensures { (z : Scene) → Gives z work.old s e → Turned z work.new (left_giving z s) result }
+// How many labels a parameter has whose label is of this kind.
+fn label_count(kind: u16) -> usize
+    ensures { (l : Option (Label Name)) → kind ≡ parameter_label_kind l → result ≡ is_labelled l }
 {
-    if !is_as_due(s.own, s.kind, NO_ASCRIPTION) {
-        return refused(s);
-    }
-    let last = (s.used - 1) as u16;
-    let nest = larger(e.nest as usize, s.nest) + 1;
-    let tally = e.tally as usize + s.tally;
-    let mut below = s;
-    below.depth = s.depth - 1;
-    if e.kind == FUNCTION_BODY {
-        let row = Row {
-            kind: FUNCTION as u16,
-            a: last,
-            b: e.a,
-            c: e.b,
-            d: e.c,
-            e: 0,
-        };
-        return make(work, below, row, nest, tally);
-    }
-    if e.kind == CASE_SECOND {
-        let row = Row {
-            kind: CASE as u16,
-            a: e.a,
-            b: e.c,
-            c: last,
-            d: e.b,
-            e: e.d,
-        };
-        return make(work, below, row, nest, tally);
-    }
-    let row = Row {
-        kind: LET_IN as u16,
-        a: e.c,
-        b: last,
-        c: e.a,
-        d: e.b,
-        e: 0,
-    };
-    make(work, below, row, nest, tally)
+    usize::from(usize::from(kind) != NO_LABEL)
+}
+
+// The body of a function is in hand, and with it the function.
+pub fn close_function(
+    work: &mut Work,
+    s: Progress,
+    hand: Hand,
+    name: u16,
+    kind: u16,
+    label: u16,
+) -> Option<State>
+    requires { ThereIs (λ (z : Scene). Gives z work.old s hand (Entry.FunctionBody name kind label)) }
+    ensures { (z : Scene) → Gives z work.old s hand (Entry.FunctionBody name kind label)
+        → MatchOption result (Refuses z) (Turned z work.new (left_after z s)) }
+{
+    due(hand, NO_ASCRIPTION)?;
+    let whole = over(Form::Function, 0, label_count(kind), hand);
+    let numbers = [waiting(s, hand).root, name, kind, label, 0];
+    let made = make(work, s, FUNCTION as u16, numbers, whole)?;
+    Some(State::Holding(made, whole))
+}
+
+// The second branch of a case is in hand, and with it the case of this head and first branch.
+pub fn close_case(
+    work: &mut Work,
+    s: Progress,
+    hand: Hand,
+    head: Part,
+    x: u16,
+    left: Part,
+    y: u16,
+) -> Option<State>
+    requires { ThereIs (λ (z : Scene). Gives z work.old s hand (Entry.CaseSecond head x left y)) }
+    ensures { (z : Scene) → Gives z work.old s hand (Entry.CaseSecond head x left y)
+        → MatchOption result (Refuses z) (Turned z work.new (left_after z s)) }
+{
+    due(hand, NO_ASCRIPTION)?;
+    let nest = usize::from(head.nest.max(left.nest));
+    let tally = usize::from(head.tally) + usize::from(left.tally);
+    let whole = over(Form::Block, nest, tally, hand);
+    let numbers = [head.root, left.root, waiting(s, hand).root, x, y];
+    let made = make(work, s, CASE as u16, numbers, whole)?;
+    Some(State::Holding(made, whole))
+}
+
+// The body of a let is in hand, and with it the let of this head.
+pub fn close_let(
+    work: &mut Work,
+    s: Progress,
+    hand: Hand,
+    x: u16,
+    y: u16,
+    head: Part,
+) -> Option<State>
+    requires { ThereIs (λ (z : Scene). Gives z work.old s hand (Entry.LetBody x y head)) }
+    ensures { (z : Scene) → Gives z work.old s hand (Entry.LetBody x y head)
+        → MatchOption result (Refuses z) (Turned z work.new (left_after z s)) }
+{
+    due(hand, NO_ASCRIPTION)?;
+    let whole = over(
+        Form::Block,
+        usize::from(head.nest),
+        usize::from(head.tally),
+        hand,
+    );
+    let numbers = [head.root, waiting(s, hand).root, x, y, 0];
+    let made = make(work, s, LET_IN as u16, numbers, whole)?;
+    Some(State::Holding(made, whole))
 }

@@ -2,9 +2,10 @@
 use mathlib.Core.Path.{sym, ◌∙◌}
 use mathlib.Core.List.{[]}
 use native.Mathlib.Omega.{arith}
-use Rattle.term_stack.specs.Turning.{scene_of, left_at, TurnBegins, TurnEnds}
+use Rattle.term_stack.specs.Standing.{left_at}
+use Rattle.term_stack.specs.Turning.{scene_of, TurnBegins, TurnEnds}
 use Rattle.term_openings.specs.Beginning.{with_names, NamesBegin, NamesEnd}
-use Rattle.term_openings.proofs.ClosedTerms.{turned_within}
+use Rattle.term_openings.proofs.ClosedTerms.{ends_within}
 use Rattle.term_closings.proofs.Chained.{whole_term}
 use Rattle.term_closings.proofs.chain.Goals as goal
 
@@ -20,7 +21,7 @@ argument-requires c =
 
 pub returns-then-argument_follows : goal.returns-then-argument_follows
 unfolding TurnEnds NamesEnd scene_of with_names left_at
-returns-then-argument_follows c before held = turned_within (c.argument.ensures (scene_of _ [] [] before _) held) (omega arith)
+returns-then-argument_follows c before held = ends_within _ _ _ _ _ (c.argument.ensures (scene_of _ [] [] before _) held) (omega arith)
 
 pub expect-requires : goal.expect-requires
 unfolding TurnBegins scene_of
@@ -28,10 +29,8 @@ expect-requires c = c.requires.holds.behind.placed.within
 
 pub ascribe-requires : goal.ascribe-requires
 unfolding TurnBegins scene_of
-ascribe-requires c =
-    (c.requires, sym c.argument_follows.ensures ∙ c.if-argument_follows.false, c.in-Some.ensures)
+ascribe-requires c = (c.requires, sym c.argument_follows.ensures ∙ c.if-argument_follows.false, c.in-Some.ensures)
 
 pub returns : goal.returns
 unfolding TurnEnds scene_of
-returns c before held =
-    whole_term held (sym c.argument_follows.ensures ∙ c.if-argument_follows.false) c.in_default.ensures
+returns c before held = whole_term held (sym c.argument_follows.ensures ∙ c.if-argument_follows.false) c.in_default.ensures

@@ -1,87 +1,81 @@
--- The kind of the entry on top says what it waits for.
-use Prim.Native.Nat.{◌≤◌}
+-- The entry on top says what it waits for.
 use mathlib.Core.List.{[]}
 use native.Mathlib.Omega.{arith}
-use Rattle.term_stack.specs.Turning.{left_at}
-use Rattle.term_stack.specs.Using.{left_giving}
+use Rattle.term_stack.specs.Standing.{left_at}
+use Rattle.term_stack.specs.Using.{left_after}
 use Rattle.term_openings.specs.Beginning.{with_text, with_names, TextBegins, TextEnds, NamesBegin, NamesEnd}
-use Rattle.term_openings.proofs.ClosedTerms.{turned_within}
-use Rattle.term_closings.proofs.Tops.{gives_top, last_six, last_kind}
+use Rattle.term_openings.proofs.ClosedTerms.{ends_within}
+use Rattle.term_closings.proofs.Tops.{gives_top}
 use Rattle.term_closings.proofs.give.Goals as goal
 
-pub top-e-requires : goal.top-e-requires
+pub offset_bounds-work-below : goal.offset_bounds-work-below
 unfolding NamesBegin with_names
-top-e-requires c =
-    let pre = c.requires in
-    let stored = pre.0.holds.behind.stored in
-    (stored.room, pre.1, stored.few_entries)
+offset_bounds-work-below c = omega (arith, c.requires.0.holds.behind.stored.few_entries)
+
+pub bounds-work-below : goal.bounds-work-below
+unfolding NamesBegin with_names
+bounds-work-below c = omega (arith, c.requires.0.holds.behind.stored.few_entries, c.requires.1)
 
 pub give_bracket-requires : goal.give_bracket-requires
 unfolding NamesBegin TextBegins with_text with_names
-give_bracket-requires c =
-    let pre = c.requires in
-    (record { value = with_names pre.0.value [] _; holds = gives_top pre.0.holds pre.1 c.top-e.ensures }, c.if-kind-lt-PAIRS.true)
+give_bracket-requires c = let pre = c.requires in record { value = with_names pre.0.value [] _; holds = gives_top _ pre.0.holds pre.1 c.in-Bracket.is }
 
-pub returns-then-kind-lt-PAIRS : goal.returns-then-kind-lt-PAIRS
-unfolding NamesBegin NamesEnd TextEnds with_text with_names
-returns-then-kind-lt-PAIRS c z at =
-    c.give_bracket.ensures (with_names z [] _) (gives_top at c.requires.1 c.top-e.ensures)
+pub returns-in-Bracket : goal.returns-in-Bracket
+unfolding NamesBegin NamesEnd TextEnds with_text with_names left_at
+returns-in-Bracket c z at = ends_within _ _ _ _ _ (c.give_bracket.ensures (with_names z [] _) (gives_top _ at c.requires.1 c.in-Bracket.is)) (omega (arith, c.requires.1))
 
 pub give_second-requires : goal.give_second-requires
 unfolding NamesBegin TextBegins with_text with_names
-give_second-requires c =
-    let pre = c.requires in
-    (record { value = with_names pre.0.value [] _; holds = gives_top pre.0.holds pre.1 c.top-e.ensures }, c.if-kind-lt-PAIRS.false, c.if-kind-lt-FUNCTION_BODY.true)
+give_second-requires c = let pre = c.requires in record { value = with_names pre.0.value [] _; holds = gives_top _ pre.0.holds pre.1 c.in-Second.is }
 
-pub returns-then-kind-lt-FUNCTION_BODY : goal.returns-then-kind-lt-FUNCTION_BODY
-unfolding NamesBegin NamesEnd TextEnds with_text with_names
-returns-then-kind-lt-FUNCTION_BODY c z at =
-    c.give_second.ensures (with_names z [] _) (gives_top at c.requires.1 c.top-e.ensures)
+pub returns-in-Second : goal.returns-in-Second
+unfolding NamesBegin NamesEnd TextEnds with_text with_names left_at
+returns-in-Second c z at = ends_within _ _ _ _ _ (c.give_second.ensures (with_names z [] _) (gives_top _ at c.requires.1 c.in-Second.is)) (omega (arith, c.requires.1))
 
-pub close_within-requires : goal.close_within-requires
+pub close_function-requires : goal.close_function-requires
 unfolding NamesBegin with_names
-close_within-requires c =
-    let pre = c.requires in
-    (record { value = _; holds = gives_top pre.0.holds pre.1 c.top-e.ensures }, last_six c.if-kind-eq-FUNCTION_BODY.true)
+close_function-requires c = let pre = c.requires in record { value = _; holds = gives_top _ pre.0.holds pre.1 c.in-FunctionBody.is }
 
-pub returns-then-kind-eq-FUNCTION_BODY : goal.returns-then-kind-eq-FUNCTION_BODY
-unfolding NamesBegin NamesEnd with_names left_at left_giving
-returns-then-kind-eq-FUNCTION_BODY c z at =
-    turned_within (c.close_within.ensures _ (gives_top at c.requires.1 c.top-e.ensures)) (omega arith)
+pub returns-in-FunctionBody : goal.returns-in-FunctionBody
+unfolding NamesBegin NamesEnd with_names left_at left_after
+returns-in-FunctionBody c z at = ends_within _ _ _ _ _ (c.close_function.ensures _ (gives_top _ at c.requires.1 c.in-FunctionBody.is)) (omega (arith, c.requires.1))
 
-pub give_case-requires : goal.give_case-requires
+pub give_head-requires : goal.give_head-requires
 unfolding NamesBegin with_names
-give_case-requires c =
-    let six-on = c.if-kind-lt-FUNCTION_BODY.false in
-    let other = c.if-kind-eq-FUNCTION_BODY.false in
-    let seven-on : 7 ≤ c.top-e.result.kind = omega (arith, six-on, other) in
-    let pre = c.requires in
-    (record { value = pre.0.value; holds = gives_top pre.0.holds pre.1 c.top-e.ensures }, seven-on, c.if-kind-lt-CASE_SECOND.true)
+give_head-requires c = let pre = c.requires in record { value = pre.0.value; holds = gives_top _ pre.0.holds pre.1 c.in-CaseHead.is }
 
-pub returns-then-kind-lt-CASE_SECOND : goal.returns-then-kind-lt-CASE_SECOND
-unfolding NamesBegin NamesEnd with_names
-returns-then-kind-lt-CASE_SECOND c z at =
-    c.give_case.ensures z (gives_top at c.requires.1 c.top-e.ensures)
+pub returns-in-CaseHead : goal.returns-in-CaseHead
+unfolding NamesBegin NamesEnd with_names left_at
+returns-in-CaseHead c z at = ends_within _ _ _ _ _ (c.give_head.ensures z (gives_top _ at c.requires.1 c.in-CaseHead.is)) (omega (arith, c.requires.1))
+
+pub give_first-requires : goal.give_first-requires
+unfolding NamesBegin with_names
+give_first-requires c = let pre = c.requires in record { value = pre.0.value; holds = gives_top _ pre.0.holds pre.1 c.in-CaseFirst.is }
+
+pub returns-in-CaseFirst : goal.returns-in-CaseFirst
+unfolding NamesBegin NamesEnd with_names left_at
+returns-in-CaseFirst c z at = ends_within _ _ _ _ _ (c.give_first.ensures z (gives_top _ at c.requires.1 c.in-CaseFirst.is)) (omega (arith, c.requires.1))
+
+pub close_case-requires : goal.close_case-requires
+unfolding NamesBegin with_names
+close_case-requires c = let pre = c.requires in record { value = _; holds = gives_top _ pre.0.holds pre.1 c.in-CaseSecond.is }
+
+pub returns-in-CaseSecond : goal.returns-in-CaseSecond
+unfolding NamesBegin NamesEnd with_names left_at left_after
+returns-in-CaseSecond c z at = ends_within _ _ _ _ _ (c.close_case.ensures _ (gives_top _ at c.requires.1 c.in-CaseSecond.is)) (omega (arith, c.requires.1))
 
 pub give_let-requires : goal.give_let-requires
 unfolding NamesBegin TextBegins with_text with_names
-give_let-requires c =
-    let pre = c.requires in
-    (record { value = with_names pre.0.value [] _; holds = gives_top pre.0.holds pre.1 c.top-e.ensures }, c.if-kind-eq-LET_HEAD.true)
+give_let-requires c = let pre = c.requires in record { value = with_names pre.0.value [] _; holds = gives_top _ pre.0.holds pre.1 c.in-LetHead.is }
 
-pub returns-then-kind-eq-LET_HEAD : goal.returns-then-kind-eq-LET_HEAD
-unfolding NamesBegin NamesEnd TextEnds with_text with_names
-returns-then-kind-eq-LET_HEAD c z at =
-    c.give_let.ensures (with_names z [] _) (gives_top at c.requires.1 c.top-e.ensures)
+pub returns-in-LetHead : goal.returns-in-LetHead
+unfolding NamesBegin NamesEnd TextEnds with_text with_names left_at
+returns-in-LetHead c z at = ends_within _ _ _ _ _ (c.give_let.ensures (with_names z [] _) (gives_top _ at c.requires.1 c.in-LetHead.is)) (omega (arith, c.requires.1))
 
-pub close_within-requires-2 : goal.close_within-requires-2
+pub close_let-requires : goal.close_let-requires
 unfolding NamesBegin with_names
-close_within-requires-2 c =
-    let pre = c.requires in
-    let g = gives_top pre.0.holds pre.1 c.top-e.ensures in
-    (record { value = _; holds = g }, last_kind g c.if-kind-lt-CASE_SECOND.false c.if-kind-eq-LET_HEAD.false)
+close_let-requires c = let pre = c.requires in record { value = _; holds = gives_top _ pre.0.holds pre.1 c.in-LetBody.is }
 
-pub returns : goal.returns
-unfolding NamesBegin NamesEnd with_names left_at left_giving
-returns c z at =
-    turned_within (c.close_within-2.ensures _ (gives_top at c.requires.1 c.top-e.ensures)) (omega arith)
+pub returns-in-LetBody : goal.returns-in-LetBody
+unfolding NamesBegin NamesEnd with_names left_at left_after
+returns-in-LetBody c z at = ends_within _ _ _ _ _ (c.close_let.ensures _ (gives_top _ at c.requires.1 c.in-LetBody.is)) (omega (arith, c.requires.1))

@@ -1,83 +1,68 @@
--- Behind the term the closing bracket; the pair is made, and used for the purpose of the bracket.
-use Prim.Native.Nat.{◌≤◌, ◌<◌}
-use mathlib.Core.Path.{refl}
+-- The bracket closes, and the record of the pair is made over both parts.
+use mathlib.Core.Path.{◌≡◌, ap}
 use native.Mathlib.Omega.{arith}
-use Rattle.term_stack.proofs.Used.{turned_refused}
+use borrow.Author.Rules.{rules}
+use Rattle.std.specs.Prelude.{None}
+use Rattle.term_stack.specs.declared.Part.{Part}
 use Rattle.term_stack.proofs.Closes.{given_small}
 use Rattle.term_openings.specs.Beginning.{with_text, TextBegins, TextEnds}
-use Rattle.term_closings.proofs.Paired.{second_refused, second_stuck, pair_refused, pair_using, pair_turned}
+use Rattle.term_openings.proofs.ClosedTerms.{ends_within}
+use Rattle.term_closings.proofs.Paired.{second_refused, second_stuck, pair_few, pair_not, pair_using, pair_left}
 use Rattle.term_closings.proofs.give_second.Goals as goal
-use Rattle.term_closings.proofs.give_second.Goals.{Start}
 
--- the kinds of pairs
-kinds : (c : Start) → (3 ≤ c.args.e.kind) × (c.args.e.kind < 6)
-kinds c = (c.requires.1, c.requires.2)
-
-pub returns-then-s : goal.returns-then-s
-unfolding TextBegins TextEnds with_text
-returns-then-s c z g = turned_refused c.refused.ensures (second_refused g (kinds (goal.at.returns-then-s c).Start) c.if-s.true)
+pub returns-then-hand : goal.returns-then-hand
+unfolding TextEnds with_text
+returns-then-hand c z g = second_refused g c.if-hand.true
 
 pub expect-requires : goal.expect-requires
 unfolding TextBegins with_text
-expect-requires c = c.requires.0.holds.to.behind.placed.within
+expect-requires c = c.requires.holds.to.placed.within
 
-pub returns-in_default : goal.returns-in_default
-unfolding TextBegins TextEnds with_text
-returns-in_default c z g =
-    turned_refused c.refused-in_default.ensures (second_stuck c.if-s.false g (kinds (goal.at.returns-in_default c).Start) c.in_default.ensures)
+pub returns-in_err-end : goal.returns-in_err-end
+unfolding TextEnds with_text
+returns-in_err-end c z g =
+    let none : c.from_residual.result ≡ None = search rules in
+    rw none (second_stuck c.if-hand.false g c.in_err-end.ensures)
 
-pub overflow_sub-below : goal.overflow_sub-below
+pub waiting-requires : goal.waiting-requires
 unfolding TextBegins with_text
-overflow_sub-below c = (given_small c.requires.0.holds).6
+waiting-requires c = given_small c.requires.holds
 
-pub overflow_sub-row : goal.overflow_sub-row
+pub over-pair-requires : goal.over-pair-requires
 unfolding TextBegins with_text
-overflow_sub-row c = (given_small c.requires.0.holds).3
+over-pair-requires c =
+    let small = given_small c.requires.holds in
+    (search rules, rw c.from-2.ensures (omega (arith, pair_few c.requires.holds)), small.2, small.3)
 
-pub overflow_cast-row-2 : goal.overflow_cast-row-2
+pub make-requires : goal.make-requires
 unfolding TextBegins with_text
-overflow_cast-row-2 c = omega (arith, (given_small c.requires.0.holds).1)
+make-requires c = rw (c.over-pair.ensures, c.from-2.ensures) (pair_few c.requires.holds)
 
-pub overflow_add-nest : goal.overflow_add-nest
-unfolding TextBegins with_text
-overflow_add-nest c =
-    omega (arith, c.larger-nest.ensures, (given_small c.requires.0.holds).5, c.well_formed.1.1.1.0)
-
-pub overflow_add-e : goal.overflow_add-e
-unfolding TextBegins with_text
-overflow_add-e c = omega (arith, (given_small c.requires.0.holds).2)
-
-pub make-pair-requires : goal.make-pair-requires
-unfolding TextBegins with_text
-make-pair-requires c =
-    let g = given_small c.requires.0.holds in
-    (g.0, omega (arith, g.2))
-
-pub returns-then-pair-eq-REFUSED : goal.returns-then-pair-eq-REFUSED
-unfolding TextBegins TextEnds with_text
-returns-then-pair-eq-REFUSED c z g =
-    turned_refused c.if-pair-eq-REFUSED.true
-    (pair_refused c.if-s.false c.in-Some.ensures _ _ refl c.larger-nest.ensures c.make-pair.ensures g (kinds (goal.at.returns-then-pair-eq-REFUSED c).Start) c.if-pair-eq-REFUSED.true)
-
-pub overflow_sub-p : goal.overflow_sub-p
-unfolding TextBegins with_text
-overflow_sub-p c = c.requires.1
+pub returns-in_err-made : goal.returns-in_err-made
+unfolding TextEnds with_text
+returns-in_err-made c z g =
+    let none : c.from_residual-in_err-made.result ≡ None = search rules in
+    rw none (pair_not c.if-hand.false c.in_ok-end.ensures g (rw (c.over-pair.ensures, c.from.ensures) at c.in_err-made.ensures))
 
 pub use_for-requires : goal.use_for-requires
 unfolding TextBegins with_text
 use_for-requires c =
+    let last = ap (λ (p : Part). p.root) c.waiting.ensures in
+    let made = rw (c.over-pair.ensures, c.from.ensures, c.from-2.ensures) at c.in_ok-made.ensures in
     record {
-      value = _;
-      holds = pair_using c.if-s.false c.in-Some.ensures _ _ refl c.larger-nest.ensures c.make-pair.ensures
-          c.requires.0.holds (kinds (goal.at.use_for-requires c).Start) c.if-pair-eq-REFUSED.false;
+      value = with_text c.requires.value c.args.text.now;
+      holds =
+          rw (c.over-pair.ensures, c.from.ensures, c.from-2.ensures)
+          (pair_using c.if-hand.false c.in_ok-end.ensures _ last c.requires.holds made);
     }
 
 pub returns : goal.returns
-unfolding TextBegins TextEnds with_text
+unfolding TextEnds with_text
 returns c z g =
-    let makes = c.make-pair.ensures in
-    let most = c.larger-nest.ensures in
-    let found = c.in-Some.ensures in
-    let own = c.if-s.false in
-    pair_turned own found _ _ refl most makes g c.if-pair-eq-REFUSED.false
-    (c.use_for.ensures _ (pair_using own found _ _ refl most makes g (kinds (goal.at.returns c).Start) c.if-pair-eq-REFUSED.false))
+    let last = ap (λ (p : Part). p.root) c.waiting.ensures in
+    let made = rw (c.over-pair.ensures, c.from.ensures, c.from-2.ensures) at c.in_ok-made.ensures in
+    let bare = c.if-hand.false in
+    let found = c.in_ok-end.ensures in
+    ends_within _ _ _ _ _
+    (c.use_for.ensures _ (rw (c.over-pair.ensures, c.from.ensures, c.from-2.ensures) (pair_using bare found _ last g made)))
+    (pair_left _ found made)

@@ -3,13 +3,12 @@ use mathlib.Core.Path.{◌≡◌}
 use Rattle.std.specs.Prelude.{None}
 use borrow.Author.Rules.{rules}
 use Rattle.term_closings.proofs.Branches.{branch_no_word, branch_no_name, branch_no_arrow, branch_read}
-use Rattle.term_closings.specs.Branching.{branch_word}
 use Rattle.term_closings.proofs.read_branch.Goals as goal
 
 pub returns-in_err-start : goal.returns-in_err-start
 returns-in_err-start c =
     let none : c.from_residual.result ≡ None = search rules in
-    rw none (branch_no_word (branch_word c.args.kind) c.args.text.now c.args.names.now c.args.at c.args.count c.in_err-start.ensures)
+    rw none (branch_no_word c.args.word.now c.args.text.now c.args.names.now c.args.at c.args.count c.in_err-start.ensures)
 
 pub returns-in_err-name : goal.returns-in_err-name
 returns-in_err-name c =

@@ -1,8 +1,9 @@
 -- A name, sorry, or a bracket.
 use mathlib.Core.Path.{refl, sym, ◌∙◌}
+use Rattle.identifier.proofs.Comparing.{eq_name_is}
 use Rattle.words.specs.Places.{between}
 use Rattle.term_openings.specs.Beginning.{with_text, with_names, TextBegins, TextEnds, NamesBegin, NamesEnd}
-use Rattle.term_openings.proofs.ClosedTerms.{turned_behind, is_sorry_lem, sorry_leaf, sorry_long, wordless}
+use Rattle.term_openings.proofs.ClosedTerms.{ends_behind, is_sorry_lem, sorry_leaf, sorry_long, wordless}
 use Rattle.term_openings.proofs.closed_for.Goals as goal
 
 pub name_end-requires : goal.name_end-requires
@@ -17,19 +18,15 @@ pub use_leaf-requires : goal.use_leaf-requires
 unfolding NamesBegin with_names between
 use_leaf-requires c =
     let ends = c.word_end-end.ensures in
-    record {
-      value = _;
-      holds =
-          sorry_leaf c.requires.holds c.in_default.ensures
-          (is_sorry_lem ends (sym c.same_name.ensures ∙ c.if-same_name.true)) ends;
-    }
+    let is = eq_name_is _ _ ∙ (sym (rw c.as_slice.ensures at c.eq.ensures) ∙ c.if-eq.true) in
+    record { value = _; holds = sorry_leaf c.requires.holds c.in_default.ensures (is_sorry_lem ends is) ends }
 
-pub returns-then-same_name : goal.returns-then-same_name
+pub returns-then-eq : goal.returns-then-eq
 unfolding NamesEnd with_names between
-returns-then-same_name c z closed =
+returns-then-eq c z closed =
     let ends = c.word_end-end.ensures in
-    let is = sym c.same_name.ensures ∙ c.if-same_name.true in
-    turned_behind _ _ (c.use_leaf.ensures _ (sorry_leaf closed c.in_default.ensures (is_sorry_lem ends is) ends))
+    let is = eq_name_is _ _ ∙ (sym (rw c.as_slice.ensures at c.eq.ensures) ∙ c.if-eq.true) in
+    ends_behind _ _ _ _ _ (c.use_leaf.ensures _ (sorry_leaf closed c.in_default.ensures (is_sorry_lem ends is) ends))
     (sorry_long ends is) ends.within refl
 
 pub open_for-requires : goal.open_for-requires
@@ -39,7 +36,7 @@ open_for-requires c =
     let given = c.args in (
       record { value = with_names pre.value given.text.now given.names.now; holds = pre.holds },
       wordless c.word_end-end.ensures c.in_default.ensures
-          (sym c.same_name.ensures ∙ c.if-same_name.false),
+          (eq_name_is _ _ ∙ (sym (rw c.as_slice.ensures at c.eq.ensures) ∙ c.if-eq.false)),
     )
 
 pub returns : goal.returns

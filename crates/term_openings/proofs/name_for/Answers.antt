@@ -1,11 +1,12 @@
 -- The number of the name, and then a leaf.
-use mathlib.Core.Path.{refl}
+use mathlib.Core.Path.{◌≡◌, refl}
 use native.Mathlib.Omega.{arith}
+use borrow.Author.Rules.{rules}
+use Rattle.std.specs.Prelude.{None}
 use Rattle.definitions.specs.Sheet.{name_limit}
-use Rattle.term_stack.proofs.Used.{turned_refused}
 use Rattle.term_openings.specs.Beginning.{with_names, NamesBegin, NamesEnd}
 use Rattle.term_openings.proofs.Noting.{noting}
-use Rattle.term_openings.proofs.ClosedTerms.{turned_behind, name_place, name_full, name_leaf}
+use Rattle.term_openings.proofs.ClosedTerms.{ends_behind, name_place, name_full, name_leaf}
 use Rattle.term_openings.proofs.name_for.Goals as goal
 
 pub number_of_name-requires : goal.number_of_name-requires
@@ -14,27 +15,26 @@ number_of_name-requires c =
     let pre = c.requires in
     (pre.0.holds.for.stored.table, name_place pre.0.holds pre.1)
 
-pub returns-in_default : goal.returns-in_default
+pub returns-in_err-name : goal.returns-in_err-name
 unfolding NamesEnd with_names name_limit
-returns-in_default c z closed =
-    let pre = c.requires in
-    turned_refused c.refused.ensures (name_full closed pre.1 c.in_default.ensures)
+returns-in_err-name c z closed =
+    let none : c.from_residual.result ≡ None = search rules in
+    rw none (name_full closed c.requires.1 c.in_err-name.ensures)
 
 pub overflow_cast-name : goal.overflow_cast-name
 unfolding name_limit
 overflow_cast-name c =
-    let number = c.in-Some.ensures in
+    let number = c.in_ok-name.ensures in
     omega (arith, number.below, number.noted.table.few)
 
 pub use_leaf-requires : goal.use_leaf-requires
 unfolding NamesBegin with_names noting name_limit
 use_leaf-requires c =
     let pre = c.requires in
-    record { value = _; holds = name_leaf pre.0.holds pre.1 c.in-Some.ensures }
+    record { value = _; holds = name_leaf pre.0.holds pre.1 c.in_ok-name.ensures }
 
 pub returns : goal.returns
 unfolding NamesEnd with_names noting name_limit
 returns c z closed =
     let pre = c.requires in
-    turned_behind _ _ (c.use_leaf.ensures _ (name_leaf closed pre.1 c.in-Some.ensures))
-    pre.1.from pre.1.within refl
+    ends_behind _ _ _ _ _ (c.use_leaf.ensures _ (name_leaf closed pre.1 c.in_ok-name.ensures)) pre.1.from pre.1.within refl

@@ -7,7 +7,7 @@ use Rattle.words.specs.Places.{between}
 use Rattle.term_stack.specs.Standing.{Scene}
 use Rattle.term_stack.specs.Turning.{scene_of, TurnBegins, TurnEnds}
 use Rattle.term_openings.specs.Beginning.{with_text, with_names, TextBegins, TextEnds, NamesBegin, NamesEnd}
-use Rattle.term_openings.proofs.Dispatch.{meant, call_word_lem, started_by, closed_head, turned_from}
+use Rattle.term_openings.proofs.Dispatch.{meant, call_word_lem, started_by, closed_head, ends_from}
 use Rattle.term_openings.proofs.start.Goals as goal
 use Rattle.term_openings.proofs.start.Goals.{After-start_of-first}
 
@@ -31,7 +31,7 @@ pub returns-in-Function : goal.returns-in-Function
 unfolding TurnEnds scene_of between meant
 returns-in-Function c before at =
     let ends = c.word_end-end.ensures in
-    turned_from _ (c.start_function.ensures before (started_by at ends c.start_of-first.ensures fn_word (ap meant c.in-Function.is))) ends.from
+    ends_from _ _ _ _ _ (c.start_function.ensures before (started_by at ends c.start_of-first.ensures fn_word (ap meant c.in-Function.is))) ends.from
 
 pub start_case-requires : goal.start_case-requires
 unfolding TurnBegins TextBegins scene_of with_text between meant
@@ -43,7 +43,7 @@ pub returns-in-Case : goal.returns-in-Case
 unfolding TurnEnds TextEnds scene_of with_text between meant
 returns-in-Case c before at =
     let ends = c.word_end-end.ensures in
-    turned_from _ (c.start_case.ensures (scene (goal.at.returns-in-Case c).After-start_of-first before) (started_by at ends c.start_of-first.ensures case_word (ap meant c.in-Case.is))) ends.from
+    ends_from _ _ _ _ _ (c.start_case.ensures (scene (goal.at.returns-in-Case c).After-start_of-first before) (started_by at ends c.start_of-first.ensures case_word (ap meant c.in-Case.is))) ends.from
 
 pub start_let-requires : goal.start_let-requires
 unfolding TurnBegins NamesBegin scene_of with_names between meant
@@ -55,7 +55,7 @@ pub returns-in-Let : goal.returns-in-Let
 unfolding TurnEnds NamesEnd scene_of with_names between meant
 returns-in-Let c before at =
     let ends = c.word_end-end.ensures in
-    turned_from _ (c.start_let.ensures (scene (goal.at.returns-in-Let c).After-start_of-first before) (started_by at ends c.start_of-first.ensures let_word (ap meant c.in-Let.is))) ends.from
+    ends_from _ _ _ _ _ (c.start_let.ensures (scene (goal.at.returns-in-Let c).After-start_of-first before) (started_by at ends c.start_of-first.ensures let_word (ap meant c.in-Let.is))) ends.from
 
 pub closed_for-requires : goal.closed_for-requires
 unfolding TurnBegins NamesBegin scene_of with_names between
@@ -89,7 +89,7 @@ returns-in_default c before at =
     let ends = c.word_end-end.ensures in
     let other = c.in_default in
     let calls = call_word_lem _ other.not-Function other.not-Case other.not-Let other.not-Sorry other.not-Other in
-    turned_from _
+    ends_from _ _ _ _ _
     (c.call.ensures (scene (goal.at.returns-in_default c).After-start_of-first before) (record {
       function = calls.value;
       kind_is = c.called.ensures calls.value calls.holds.is;

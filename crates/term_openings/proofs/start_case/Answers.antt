@@ -1,8 +1,10 @@
 -- A blank, and then an entry for the head.
+use mathlib.Core.Path.{◌≡◌}
 use native.Mathlib.Omega.{arith}
-use Rattle.term_stack.specs.Turning.{left_at}
-use Rattle.term_stack.proofs.Opened.{opened}
-use Rattle.term_stack.proofs.Used.{turned_refused}
+use borrow.Author.Rules.{rules}
+use Rattle.std.specs.Prelude.{None}
+use Rattle.term_stack.specs.Standing.{left_at}
+use Rattle.term_stack.proofs.Opened.{opens}
 use Rattle.term_openings.specs.Beginning.{with_text, TextBegins, TextEnds}
 use Rattle.term_openings.proofs.FirstWords.{case_not, case_comes, case_opens}
 use Rattle.term_openings.proofs.start_case.Goals as goal
@@ -11,17 +13,12 @@ pub expect-requires : goal.expect-requires
 unfolding TextBegins with_text
 expect-requires c = c.requires.holds.placed.within
 
-pub returns-in_default : goal.returns-in_default
+pub returns-in_err-head : goal.returns-in_err-head
 unfolding TextEnds with_text
-returns-in_default c z started = turned_refused c.refused.ensures (case_not started c.in_default.ensures)
-
-pub enter-requires : goal.enter-requires
-unfolding TextBegins with_text
-enter-requires c = c.requires.holds.stored.room
+returns-in_err-head c z started = let none : c.from_residual.result ≡ None = search rules in rw none (case_not started c.in_err-head.ensures)
 
 pub returns : goal.returns
 unfolding TextEnds with_text left_at
 returns c z started =
-    let blank = c.in-Some.ensures in
-    opened (case_opens started blank) (rw c.entry.ensures at c.enter.ensures) (case_comes started blank)
-    _ (omega (arith, blank.after))
+    let blank = c.in_ok-head.ensures in
+    opens (case_opens started blank) (case_comes started blank) _ _ c.enter.ensures _ (omega (arith, blank.after))

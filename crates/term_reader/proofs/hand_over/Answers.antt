@@ -12,17 +12,18 @@ store_code-requires c =
     let fitting = c.requires in
     record { value = fitting.value; holds = fitting.holds.measured }
 
-pub copy_out-requires : goal.copy_out-requires
+pub copy_out-requires-clause-copyable : goal.copy_out-requires-clause-copyable
 unfolding Rereads HasRoom scene_of
-copy_out-requires c =
+copy_out-requires-clause-copyable c =
     let fitting = c.requires.holds in
-    record {
-      copyable = held _ (c.store_code.ensures c.requires.value fitting.measured) fitting.counts refl;
-      copyable_2 = holds _ _ _ c.args.s fitting.fits;
-    }
+    held _ (c.store_code.ensures c.requires.value fitting.measured) fitting.size_is refl
+
+pub copy_out-requires-clause-copyable_2 : goal.copy_out-requires-clause-copyable_2
+unfolding HasRoom
+copy_out-requires-clause-copyable_2 c = holds _ _ _ c.args.size.now c.requires.holds.fits
 
 pub returns : goal.returns
 unfolding Rereads HandsOver
 returns c t fitting =
-    let record { records_after = records; names_after = names } = c.copy_out.ensures in
-    handed fitting _ _ (c.store_code.ensures t fitting.measured) records names
+    let copied = c.copy_out.ensures in
+    handed fitting _ _ (c.store_code.ensures t fitting.measured) copied.records_after copied.names_after

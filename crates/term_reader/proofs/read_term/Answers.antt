@@ -1,30 +1,74 @@
--- A text that is too long and a list that is not admitted have no term.
-use mathlib.Core.Path.{sym, ap, ◌∙◌}
-use Rattle.definitions.specs.TermText.{term_text_limit}
-use Rattle.std.specs.Prelude.{Err}
-use Rattle.term_reader.proofs.Handed.{long_refused, unlisted_refused, no_term, restores}
+-- No term in the first pass is 20, a short room then 16, and else the term is handed over.
+use Prim.Native.Nat.{ℕ}
+use mathlib.Core.Path.{◌≡◌, sym, ◌∙◌}
+use borrow.Author.Rules.{rules}
+use lib.ListN.{length-replicate}
+use Rattle.std.specs.Prelude.{Ok, Err}
+use Rattle.definitions.specs.Sheet.{name_limit, pair_size}
+use Rattle.definitions.specs.NameIndex.{slot_count}
+use Rattle.words.specs.Table.{slot_size, slot_offset, table_size}
+use Rattle.definitions.specs.CallerNames.{names_in}
+use Rattle.term_stack.specs.Turning.{scene_of}
+use Rattle.term_reader.specs.Answered.{HasRoom, HandsOver, ReadsTerm, room_of}
+use Rattle.term_reader.proofs.Handed.{answers_20, answers_16, answers_term, refused_all, short_for_lem, counted, fitting, restores}
 use Rattle.term_reader.proofs.read_term.Goals as goal
+use Rattle.term_reader.proofs.read_term.Goals.{After-from_residual, After-at, After-hand_over}
 
-pub returns-then-text-gt-TEXT_LIMIT : goal.returns-then-text-gt-TEXT_LIMIT
-unfolding term_text_limit
-returns-then-text-gt-TEXT_LIMIT c =
-    let list = c.args.types.now in
-    let p = no_term list _ _ _ _ (long_refused _ _ c.if-text-gt-TEXT_LIMIT.true) (ap Err c.at.ensures) in
-    record { reads_term = p.0; restores_term = p.1 }
+pub measure-requires : goal.measure-requires
+unfolding table_size slot_offset slot_size slot_count pair_size name_limit
+measure-requires c = (length-replicate {A = ℕ} 4096 0, c.new-work.ensures)
 
-pub returns-then-not-all_admitted : goal.returns-then-not-all_admitted
-returns-then-not-all_admitted c =
-    let list = c.args.types.now in
-    let unlisted = sym c.all_admitted.ensures ∙ c.if-not-all_admitted.true in
-    let p = no_term list _ _ _ _ (unlisted_refused _ _ unlisted) (ap Err c.at-then-not-all_admitted.ensures) in
-    record { reads_term = p.0; restores_term = p.1 }
+pub too_short-requires : goal.too_short-requires
+too_short-requires c = counted c.in_ok-size.ensures.0
 
-pub read_admitted-requires : goal.read_admitted-requires
-unfolding term_text_limit
-read_admitted-requires c =
-    (c.if-text-gt-TEXT_LIMIT.false, sym c.all_admitted.ensures ∙ c.if-not-all_admitted.false)
+pub hand_over-requires : goal.hand_over-requires
+unfolding HasRoom
+hand_over-requires c =
+    let (read, begins) = c.in_ok-size.ensures in
+    record { value = read.term; holds = fitting _ _ _ _ _ _ begins read (sym c.too_short.ensures ∙ c.if-too_short.false) }
 
-pub returns : goal.returns
-returns c =
-    let list = c.args.types.now in
-    record { reads_term = c.read_admitted.ensures; restores_term = restores list _ _ _ _ c.read_admitted.ensures }
+-- The answer of the definitions: no term, a short room, or the term.
+
+reads_20 : (c : After-from_residual) → let given = c.args in
+    ReadsTerm given.types.now given.text.now given.records.now given.names.now given.code.now given.records.now given.names.now given.code.now c.from_residual.result
+reads_20 c =
+    let (none, is) = c.in_err-size.ensures in
+    let same : c.from_residual.result ≡ Err c.in_err-size.field-0.0 = search rules in
+    rw (same, is) (refused_all _ _ _ _ (answers_20 _ _ _ none))
+
+reads_16 : (c : After-at) → let given = c.args in
+    ReadsTerm given.types.now given.text.now given.records.now given.names.now given.code.now given.records.now given.names.now given.code.now (Err c.at.result)
+unfolding scene_of
+reads_16 c =
+    let (read, begins) = c.in_ok-size.ensures in
+    let short = sym (short_for_lem read.term _ _ _ read.size_is) ∙ sym c.too_short.ensures ∙ c.if-too_short.true in
+    rw c.at.ensures (refused_all _ _ _ _ (answers_16 _ _ _ read.whole.answer short))
+
+reads_all : (c : After-hand_over) → let given = c.args in let now = c.hand_over.new in
+    ReadsTerm given.types.now given.text.now given.records.now given.names.now given.code.now now.records now.names now.code (Ok c.in_ok-size.size)
+unfolding HandsOver scene_of
+reads_all c =
+    let (read, begins) = c.in_ok-size.ensures in
+    let enough = sym c.too_short.ensures ∙ c.if-too_short.false in
+    let given = c.args in
+    let lent = room_of given.records.now given.names.now given.code.now in
+    rw (answers_term lent (names_in given.types.now) given.text.now read.whole.answer (sym (short_for_lem read.term _ _ _ read.size_is) ∙ enough))
+    (c.hand_over.ensures read.term (fitting _ _ _ _ _ _ begins read enough))
+
+pub returns-in_err-size-clause-reads_term : goal.returns-in_err-size-clause-reads_term
+returns-in_err-size-clause-reads_term c = reads_20 (goal.at.returns-in_err-size-clause-reads_term c).After-from_residual
+
+pub returns-in_err-size-clause-restores_term : goal.returns-in_err-size-clause-restores_term
+returns-in_err-size-clause-restores_term c = restores _ _ _ _ _ (reads_20 (goal.at.returns-in_err-size-clause-restores_term c).After-from_residual)
+
+pub returns-then-too_short-clause-reads_term : goal.returns-then-too_short-clause-reads_term
+returns-then-too_short-clause-reads_term c = reads_16 (goal.at.returns-then-too_short-clause-reads_term c).After-at
+
+pub returns-then-too_short-clause-restores_term : goal.returns-then-too_short-clause-restores_term
+returns-then-too_short-clause-restores_term c = restores _ _ _ _ _ (reads_16 (goal.at.returns-then-too_short-clause-restores_term c).After-at)
+
+pub returns-clause-reads_term : goal.returns-clause-reads_term
+returns-clause-reads_term c = reads_all (goal.at.returns-clause-reads_term c).After-hand_over
+
+pub returns-clause-restores_term : goal.returns-clause-restores_term
+returns-clause-restores_term c = restores _ _ _ _ _ (reads_all (goal.at.returns-clause-restores_term c).After-hand_over)

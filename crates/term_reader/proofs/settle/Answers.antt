@@ -1,14 +1,16 @@
 -- Text that is left, brackets around the whole, or neither.
-use mathlib.Core.Path.{refl}
-use native.Mathlib.Omega.{arith}
-use Rattle.term_reader.specs.Whole.{none, more, bracketed}
+use Rattle.term_reader.specs.Whole.{more, bracketed, settled}
+use Rattle.term_reader.proofs.Ends.{no_giving}
 use Rattle.term_reader.proofs.settle.Goals as goal
+use Rattle.term_reader.proofs.settle.Goals.{then-s-text-via-then-s-text, then-s-text-via-else-s-text+then-hand}
+
+pub returns-in_default : goal.returns-in_default
+returns-in_default c = no_giving _ c.args.state c.in_default.not-Giving
 
 pub returns-then-s-text : goal.returns-then-s-text
-returns-then-s-text c = record { lost = λ e. more c.if-s-text.true; kept = λ some. absurd (some c.refused.ensures) }
-
-pub returns-then-s : goal.returns-then-s
-returns-then-s c = record { lost = λ e. bracketed c.if-s.true; kept = λ some. absurd (some c.refused-then-s.ensures) }
+returns-then-s-text c =
+    rw c.in-Giving.is
+    (elim c.then-s-text.branch [ then-s-text-via-then-s-text w ↦ more w.if-s-text.true | then-s-text-via-else-s-text+then-hand w ↦ bracketed w.if-hand.true ])
 
 pub returns : goal.returns
-returns c = record { lost = λ e. none e; kept = λ some. (refl, omega (arith, c.if-s-text.false), c.if-s.false) }
+returns c = rw c.in-Giving.is (settled c.if-s-text.false c.if-hand.false)

@@ -1,16 +1,17 @@
--- Nothing to store, or the same term again.
+-- The same term again, or nothing to store.
+use native.Mathlib.Omega.{arith}
 use Rattle.term_reader.specs.Whole.{HasRead, Rereads}
 use Rattle.term_reader.proofs.Passes.{no_labels, read_again}
 use Rattle.term_reader.proofs.store_code.Goals as goal
-
-pub returns-then-size-eq0 : goal.returns-then-size-eq0
-unfolding Rereads
-returns-then-size-eq0 c t first = no_labels first c.if-size-eq0.true _
 
 pub read-requires : goal.read-requires
 unfolding HasRead
 read-requires c = c.requires.holds.begins
 
-pub returns : goal.returns
+pub returns-then-size-gt0 : goal.returns-then-size-gt0
 unfolding Rereads
-returns c t first = read_again first _ _ _ c.read.ensures
+returns-then-size-gt0 c t first = read_again first _ _ _ _ _ c.read.ensures
+
+pub returns-else-size-gt0 : goal.returns-else-size-gt0
+unfolding Rereads
+returns-else-size-gt0 c t first = no_labels first (omega (arith, c.if-size-gt0.false)) _

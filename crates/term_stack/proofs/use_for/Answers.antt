@@ -1,39 +1,67 @@
 -- The purpose says which record is made over a closed term.
-use mathlib.Core.Path.{refl, sym, ◌∙◌}
+use mathlib.Core.Path.{◌≡◌, ap}
 use native.Mathlib.Omega.{arith}
 use borrow.Author.Rules.{rules}
-use borrow.Author.Tests.{not-true, not-false}
-use Rattle.term_stack.proofs.Used.{used_small, using_not, using_head, using_argument, using_body, turned_refused}
+use Rattle.std.specs.Prelude.{None}
+use Rattle.term_stack.specs.declared.Part.{Part}
+use Rattle.term_stack.proofs.Used.{used_small, used_head, few_in_argument, argument_not_due, argument_not, argument_held, body_not_due, body_not, body_held}
 use Rattle.term_stack.proofs.use_for.Goals as goal
 
-pub returns-then-p-eq-AS_HEAD : goal.returns-then-p-eq-AS_HEAD
-returns-then-p-eq-AS_HEAD c z u = using_head u c.if-p-eq-AS_HEAD.true
+pub returns-in-Head : goal.returns-in-Head
+returns-in-Head c z u = used_head (rw c.in-Head.is at u)
 
-pub is_as_due-requires : goal.is_as_due-requires
-is_as_due-requires c = (used_small c.requires.holds).4
+-- an argument
+pub returns-in_err-due-in-Argument : goal.returns-in_err-due-in-Argument
+returns-in_err-due-in-Argument c z u =
+    let none : c.from_residual.result ≡ None = search rules in
+    rw none (argument_not_due (rw c.in-Argument.is at u) c.in_err-due-in-Argument.ensures)
 
-pub returns-then-not-is_as_due : goal.returns-then-not-is_as_due
-returns-then-not-is_as_due c z u =
-    turned_refused c.refused.ensures (using_not u c.if-p-eq-AS_HEAD.false (sym c.is_as_due.ensures ∙ not-true _ c.if-not-is_as_due.true-raw))
+pub waiting-requires : goal.waiting-requires
+waiting-requires c = used_small c.requires.holds
 
-pub overflow_sub-last : goal.overflow_sub-last
-overflow_sub-last c = (used_small c.requires.holds).3
-
-pub overflow_add-tally : goal.overflow_add-tally
-overflow_add-tally c = omega (arith, (used_small c.requires.holds).2)
+pub over-whole-requires : goal.over-whole-requires
+over-whole-requires c =
+    let u = rw c.in-Argument.is at c.requires.holds in
+    let small = used_small u in
+    (search rules, rw c.from-in-Argument.ensures (omega (arith, few_in_argument u)), small.2, small.3)
 
 pub make-requires : goal.make-requires
-make-requires c = let u = used_small c.requires.holds in (u.0, omega (arith, u.2))
+make-requires c = rw (c.over-whole.ensures, c.from-in-Argument.ensures) (few_in_argument (rw c.in-Argument.is at c.requires.holds))
 
-pub returns-then-p-eq-AS_ARGUMENT : goal.returns-then-p-eq-AS_ARGUMENT
-returns-then-p-eq-AS_ARGUMENT c z u =
-    using_argument _ refl (sym c.is_as_due.ensures ∙ not-false _ c.if-not-is_as_due.false-raw) u c.if-p-eq-AS_ARGUMENT.true
-    (rw (← c.larger-nest.ensures) c.make.ensures)
+pub returns-in_err-made-in-Argument : goal.returns-in_err-made-in-Argument
+returns-in_err-made-in-Argument c z u =
+    let none : c.from_residual-in_err-made-in-Argument.result ≡ None = search rules in
+    let last = ap (λ (p : Part). p.root) c.waiting.ensures in
+    rw none (argument_not _ last c.in_ok-due-in-Argument.ensures (rw c.in-Argument.is at u) (rw (c.over-whole.ensures, c.from.ensures) at c.in_err-made-in-Argument.ensures))
 
-pub make-requires-2 : goal.make-requires-2
-make-requires-2 c = let u = used_small c.requires.holds in (u.0, omega (arith, u.2))
+pub returns-in_ok-made-in-Argument : goal.returns-in_ok-made-in-Argument
+returns-in_ok-made-in-Argument c z u =
+    let last = ap (λ (p : Part). p.root) c.waiting.ensures in
+    rw (c.over-whole.ensures, c.from.ensures, c.from-in-Argument.ensures)
+    (argument_held _ last c.in_ok-due-in-Argument.ensures (rw c.in-Argument.is at u) (rw (c.over-whole.ensures, c.from.ensures, c.from-in-Argument.ensures) at c.in_ok-made-in-Argument.ensures))
 
-pub returns : goal.returns
-returns c z u =
-    using_body _ refl (sym c.is_as_due.ensures ∙ not-false _ c.if-not-is_as_due.false-raw) u c.if-p-eq-AS_HEAD.false c.if-p-eq-AS_ARGUMENT.false
-    (rw (← c.larger-nest.ensures) c.make-2.ensures)
+-- the body of a named function
+pub returns-in_err-due-in-Body : goal.returns-in_err-due-in-Body
+returns-in_err-due-in-Body c z u =
+    let none : c.from_residual-in_err-due-in-Body.result ≡ None = search rules in
+    rw none (body_not_due (rw c.in-Body.is at u) c.in_err-due-in-Body.ensures)
+
+pub over-whole-requires-in-Body : goal.over-whole-requires-in-Body
+over-whole-requires-in-Body c =
+    let small = used_small c.requires.holds in
+    (omega arith, omega arith, small.2, small.3)
+
+pub waiting-requires-in-Body : goal.waiting-requires-in-Body
+waiting-requires-in-Body c = used_small c.requires.holds
+
+pub returns-in_err-made-in-Body : goal.returns-in_err-made-in-Body
+returns-in_err-made-in-Body c z u =
+    let none : c.from_residual-in_err-made-in-Body.result ≡ None = search rules in
+    let last = ap (λ (p : Part). p.root) c.waiting-in-Body.ensures in
+    rw none (body_not _ last c.in_ok-due-in-Body.ensures (rw c.in-Body.is at u) (rw c.over-whole-in-Body.ensures at c.in_err-made-in-Body.ensures))
+
+pub returns-in_ok-made-in-Body : goal.returns-in_ok-made-in-Body
+returns-in_ok-made-in-Body c z u =
+    let last = ap (λ (p : Part). p.root) c.waiting-in-Body.ensures in
+    rw c.over-whole-in-Body.ensures
+    (body_held _ last c.in_ok-due-in-Body.ensures (rw c.in-Body.is at u) (rw c.over-whole-in-Body.ensures at c.in_ok-made-in-Body.ensures))
