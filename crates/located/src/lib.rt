@@ -9,18 +9,20 @@ ghost use Rattle.sheet.specs.Header.{header_of, HasHeader};
 ghost use Rattle.located.specs.AfterHeader.{AfterHeader};
 
 use definitions::{Located, Refusal};
-use output::{put, put_all, put_decimal};
+use output::sink::put_decimal;
+use output::{Sink, Writer};
 use sheet::{Sheet, step_records};
 use steps::step_at;
 
 // The place of refusals 9 to 15 is a step.
+#[tactic(auto, unfolding(definitions::specs::Answers::names_step))]
 fn names_step(refusal: Refusal) -> bool
     ensures { result ≡ names_step refusal }
 {
-    9 <= refusal.number && refusal.number <= 15
+    (9..=15).contains(&refusal.number)
 }
 
-// The column of a step: 0 where there is no such step.
+// The column of a step: 0 where there is no such step, since 0 is no column and a caller in C is handed a number.
 fn column_at(s: &[u8], k: usize) -> u16
     requires { HasHeader s.now (header_of s.now) }
     ensures { result ≡ column (step_records s.now) k }
@@ -49,26 +51,35 @@ pub fn locate(s: &[u8], refusal: Refusal) -> Located
 }
 
 // ` column K` for a refusal that names a step.
-fn put_column(out: &mut [u8], to: usize, located: Located) -> usize
-    ensures { Wrote (column_words located) true out.old to out.new result }
+fn put_column<S: Sink<u8>>(sink: &mut S, located: Located)
+    ensures { S.puts sink.old (column_words located) sink.new }
 {
     if names_step(located.refusal) {
-        let column = put_all(out, to, b" column ", true);
-        return put_decimal(out, column, located.column as u64, true);
+        sink.put_all(b" column ");
+        put_decimal(sink, located.column as u64);
     }
-    to
 }
 
-// `refused R at P`, ` column K` for a refusal that names a step, and a newline: at most 34 bytes.
+// `refused R at P`, ` column K` for a refusal that names a step, and a newline.
+fn put_line<S: Sink<u8>>(sink: &mut S, located: Located)
+    ensures { S.puts sink.old (refusal_line located) sink.new }
+{
+    let refusal = located.refusal;
+    sink.put_all(b"refused ");
+    put_decimal(sink, refusal.number as u64);
+    sink.put_all(b" at ");
+    put_decimal(sink, refusal.place as u64);
+    put_column(sink, located);
+    sink.put(b'\n');
+}
+
+// The line of a refusal in lent memory: at most 34 bytes. A Display would stop with an error where the memory ends, and this tells the
+// position past it.
 pub fn put_refusal(out: &mut [u8], located: Located) -> usize
     ensures wrote { Wrote (refusal_line located) true out.old 0 out.new result }
     ensures located_len_bound { length (refusal_line located) ≤ 34 }
 {
-    let refusal = located.refusal;
-    let number = put_all(out, 0, b"refused ", true);
-    let at = put_decimal(out, number, refusal.number as u64, true);
-    let place = put_all(out, at, b" at ", true);
-    let column = put_decimal(out, place, refusal.place as u64, true);
-    let newline = put_column(out, column, located);
-    put(out, newline, b'\n', true)
+    let mut writer = Writer { out, to: 0 };
+    put_line(&mut writer, located);
+    writer.to
 }
