@@ -21,8 +21,8 @@ const CONNECTIVE: usize = 5;
 // What a quantifier has beside its names: its sign, a colon, a full stop and a blank.
 const QUANTIFIER: usize = 6;
 
-// A bracket on each side (terms and counts of declarations have brackets of their own); and what a parameter has beside its name: the bracket or comma before it, and a blank or the bracket after all.
-const BRACKETS: usize = 2;
+// A bracket on each side; and what a parameter has beside its name: the bracket or comma before it, and a blank or the bracket after all.
+pub const BRACKETS: usize = 2;
 
 // How many bytes a name has.
 pub fn name_length(bytes: &[u8], v: Vocabulary, i: usize) -> usize
