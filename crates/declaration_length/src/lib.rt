@@ -1,4 +1,5 @@
-// How long the lines of declarations are, without writing them.
+// How long the lines of declarations are, without writing them. The lengths are summed and not counted by a `Counter` that the lines are
+// put into: it stops at the largest number, so it tells the length only by a bound of every line, which these functions give.
 #![tactic(auto)]
 
 ghost use Rattle.std.specs.Prelude.{◌≡◌, ◌≤◌, ◌<◌, length};
@@ -10,16 +11,13 @@ ghost use Rattle.declaration_length.specs.Lengths.{LineLength};
 
 use declarations::Declaration;
 use definitions::TermList;
-use prop_length::name_length;
+use prop_length::{BRACKETS, name_length};
 use vocabulary::Vocabulary;
 
 // The bytes of a line beside its name and its count: a word, a blank and a semicolon.
 const ATOM: usize = 6;
 
 const DATATYPE: usize = 10;
-
-// A bracket on each side of a count.
-const BRACKETS: usize = 2;
 
 // How many bytes the count of an atom has: none where it is 0.
 fn count_length(count: u16) -> usize

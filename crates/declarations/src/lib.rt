@@ -7,7 +7,6 @@ ghost use Rattle.std.specs.Prelude.{◌≡◌, [], ◌∷◌, ◌≤◌, ◌<◌
 ghost use Rattle.definitions.specs.Name.{eq_name};
 ghost use Rattle.definitions.specs.Code.{parameter_limit};
 ghost use Rattle.definitions.specs.NameIndex.{start_slot};
-ghost use Rattle.output.specs.Wrote.{Wrote};
 ghost use Rattle.vocabulary.specs.Vocabulary.{name_in, prop_in, Names, SomeProposition};
 ghost use Rattle.prop_lists.specs.Entries.{use_of, entries};
 ghost use Rattle.proof_term_lists.specs.Labels.{term_uses, added_uses, AddedStands, Listable, term_in};
@@ -17,7 +16,8 @@ ghost use Rattle.declarations.specs.Lines.{count_text, break_before, declaration
 use definitions::TermList;
 use identifier::same_name;
 use name_index::{SLOT_COUNT, start_slot};
-use output::{put, put_all, put_decimal};
+use output::Sink;
+use output::sink::put_decimal;
 use prefix_code::{PARAMETER_LIMIT, scan};
 use proof_term_lists::{Added, record_adds};
 use prop_lists::next_entry;
@@ -76,7 +76,8 @@ impl<const N: usize> Declarations<N> {
         &self.rows[..self.len]
     }
 
-    // Whether a declaration has this count and the bytes of this name. The search goes from the newest of the name's slot to older ones.
+    // Whether a declaration has this count and the bytes of this name. The search goes from the newest of the name's slot to older ones,
+    // and where their chain ends is not known before: so it is a `while let`.
     fn is_declared(
         &self,
         slot: usize,
@@ -126,7 +127,8 @@ impl<const N: usize> Declarations<N> {
         self.len += 1;
     }
 
-    // Notes the entries in a list of the proposition at an offset of the code.
+    // Notes the entries in a list of the proposition at an offset of the code. `next_entry` says of each what is left behind it; an iterator
+    // would say the same in ghost members of its own.
     pub fn note_entries(&mut self, bytes: &[u8], v: Vocabulary, at: usize, list: TermList)
         requires some_proposition { SomeProposition bytes.now v at }
         requires held { Held bytes.now v self.old }
@@ -155,7 +157,7 @@ impl<const N: usize> Declarations<N> {
         }
     }
 
-    // Notes a list of the term that record `n` holds: what the label of each record up to it adds.
+    // Notes a list of the term that record `n` holds: what the label of each record up to it adds, which is asked by the record's number.
     pub fn note_term(
         &mut self,
         term_records: &[u16],
@@ -176,76 +178,67 @@ impl<const N: usize> Declarations<N> {
 }
 
 // The count of an atom in brackets, or nothing where it has no parameters.
-fn put_count(out: &mut [u8], to: usize, count: usize, write: bool) -> usize
-    ensures { Wrote (count_text count) write out.old to out.new result }
+fn put_count<S: Sink<u8>>(sink: &mut S, count: usize)
+    ensures { S.puts sink.old (count_text count) sink.new }
 {
     if count == 0 {
-        return to;
+        return;
     }
-    let open = put(out, to, b'(', write);
-    let digits = put_decimal(out, open, count as u64, write);
-    put(out, digits, b')', write)
+    sink.put(b'(');
+    put_decimal(sink, count as u64);
+    sink.put(b')');
 }
 
 // The line of an entry of a list.
-fn put_declaration(
-    out: &mut [u8],
-    to: usize,
+fn put_declaration<S: Sink<u8>>(
+    sink: &mut S,
     this: Declaration,
     list: TermList,
     bytes: &[u8],
     v: Vocabulary,
-    write: bool,
-) -> usize
+)
     requires { Names bytes.now v this.name }
-    ensures { Wrote (declaration list (use_in (name_in bytes.now v) this)) write out.old to out.new result }
+    ensures { S.puts sink.old (declaration list (use_in (name_in bytes.now v) this)) sink.new }
 {
-    let count = usize::from(this.count);
-    let name = usize::from(this.name);
-    let text = vocabulary::name(bytes, v, name);
+    let name = vocabulary::name(bytes, v, this.name as usize);
     match list {
         TermList::Atoms => {
-            let word = put_all(out, to, b"atom ", write);
-            let named = put_all(out, word, text, write);
-            let counted = put_count(out, named, count, write);
-            return put(out, counted, b';', write);
+            sink.put_all(b"atom ");
+            sink.put_all(name);
+            put_count(sink, this.count as usize);
+            sink.put(b';');
         }
         TermList::Datatypes(_) => {
-            let word = put_all(out, to, b"datatype ", write);
-            let named = put_all(out, word, text, write);
-            return put(out, named, b';', write);
+            sink.put_all(b"datatype ");
+            sink.put_all(name);
+            sink.put(b';');
         }
     }
 }
 
 // The newline before each line but the first.
-fn put_line_break(out: &mut [u8], to: usize, line: usize, write: bool) -> usize
-    ensures { Wrote (break_before line) write out.old to out.new result }
+fn put_line_break<S: Sink<u8>>(sink: &mut S, line: usize)
+    ensures { S.puts sink.old (break_before line) sink.new }
 {
     if line == 0 {
-        return to;
+        return;
     }
-    put(out, to, b'\n', write)
+    sink.put(b'\n');
 }
 
 // The lines of the declarations of a list, joined by newlines.
-pub fn put_declarations(
-    out: &mut [u8],
-    to: usize,
+pub fn put_declarations<S: Sink<u8>>(
+    sink: &mut S,
     declared: &[Declaration],
     list: TermList,
     bytes: &[u8],
     v: Vocabulary,
-    write: bool,
-) -> usize
+)
     requires { Declared bytes.now v declared.now }
-    ensures { Wrote (declaration_lines list (declared_uses (name_in bytes.now v) declared.now))
-        write out.old to out.new result }
+    ensures { S.puts sink.old (declaration_lines list (declared_uses (name_in bytes.now v) declared.now)) sink.new }
 {
-    let mut at = to;
     for (j, this) in declared.iter().enumerate() {
-        at = put_line_break(out, at, j, write);
-        at = put_declaration(out, at, *this, list, bytes, v, write);
+        put_line_break(sink, j);
+        put_declaration(sink, *this, list, bytes, v);
     }
-    at
 }

@@ -14,12 +14,13 @@ use Rattle.definitions.specs.declared.TermList.{TermList}
 use Rattle.definitions.specs.declared.TermList.TheVariants.{Atoms, Datatypes}
 use Rattle.definitions.specs.Outcome.{accepted, refused, map_outcome}
 use Rattle.definitions.specs.Name.{Name}
-use Rattle.definitions.specs.Prop.{Prop, get_atoms, get_datatypes}
+use Rattle.definitions.specs.Prop.{Prop, AtomUse, get_atoms, get_datatypes}
 use Rattle.definitions.specs.Term.{ProofTerm, atom_list, datatype_list}
 use Rattle.definitions.specs.Display.{display_term}
 use Rattle.definitions.specs.Text.{firsts, eq_atom_use, compare_atom_use, arranged, declarations, first_list, second_list, heading, text}
 use Rattle.definitions.specs.Answers.{is_in_room, sheet_term, named_term, goal_prop, sheet_text}
 use Rattle.std.specs.Prelude.{Ok, Err}
+use Rattle.output.specs.SinkLaws.{SinkLaws}
 use Rattle.output.specs.Wrote.{Wrote}
 use Rattle.output.specs.Written.{written_of, Fills}
 use Rattle.output.proofs.Writing.{then, dry_run}
@@ -35,7 +36,7 @@ use Rattle.declaration_length.proofs.Sorted.{same_lines}
 use Rattle.sheet.specs.declared.header.Sheet.{Sheet}
 use Rattle.sheet.specs.Header.{vocabulary_of}
 use Rattle.sheet_term.specs.Held.{HeldTerm}
-use Rattle.text.specs.Declaring.{listed_uses, term_of, Declares, Arranges, HeadingLength, TermLength}
+use Rattle.text.specs.Declaring.{listed_uses, heading_lines, term_of, Declares, Arranges, HeadingLength, TermLength}
 
 -- the lines of a list in a version's order are those of the heading
 listed_lines : (v : Version) (list : TermList) (t : ProofTerm Name) (goal : Prop Name)
@@ -71,24 +72,27 @@ pub noted_of : {s : List ℕ} {h : Sheet} {v : Version} {list other : TermList} 
     → Declares s h v other declared
 noted_of same noted = rw same at noted
 
+-- the lines of both lists are the heading
+pub heading_is : {s : List ℕ} {h : Sheet} (v : Version) {first second : List Declaration} → Declares s h v (first_list v) first
+    → Declares s h v (second_list v) second → (t : ProofTerm Name) → named_term s ≡ accepted t
+    → let f = name_in s (vocabulary_of h) in heading_lines v (declared_uses f first) (declared_uses f second) ≡ heading v t (goal_prop s)
+unfolding heading_lines heading
+heading_is v a d t is = rw (lines_are a t is, lines_are d t is)
+
+-- the lines of the first list, a newline, those of the second, two newlines
+pub heading_put : (v : Version) {upper lower : TermList} → upper ≡ first_list v → lower ≡ second_list v → (first second : List (AtomUse Name))
+    → {S : Type 0} {puts : S → List ℕ → S → Type 0} → SinkLaws puts → {sink₀ sink₁ sink₂ sink₃ sink₄ : S}
+    → puts sink₀ (declaration_lines upper first) sink₁ → puts sink₁ (10 ∷ []) sink₂
+    → puts sink₂ (declaration_lines lower second) sink₃ → puts sink₃ (10 ∷ 10 ∷ []) sink₄
+    → puts sink₀ (heading_lines v first second) sink₄
+unfolding heading_lines
+heading_put v up low first second laws lines line others end = rw (← up, ← low) (laws.then lines (laws.then line (laws.then others end)))
+
 -- By a sheet's vocabulary:
 module _ {s : List ℕ} {h : Sheet} {words : Vocabulary} (same : words ≡ vocabulary_of h) where
   -- what is noted can be printed
   pub printable : {v : Version} {list : TermList} {declared : List Declaration} → Declares s h v list declared → Declared s words declared
   printable noted = rw same noted.table
-
-  -- the lines of the first list, a newline, those of the second, two newlines
-  pub heading_written : (v : Version) {upper lower : TermList} → upper ≡ first_list v → lower ≡ second_list v
-      → {first second : List Declaration} → Declares s h v (first_list v) first → Declares s h v (second_list v) second
-      → {write : Bool} {out₀ out₁ out₂ out₃ out₄ : List ℕ} {to₁ to₂ to₃ to₄ : ℕ}
-      → Wrote (declaration_lines upper (declared_uses (name_in s words) first)) write out₀ 0 out₁ to₁
-      → Wrote (10 ∷ []) write out₁ to₁ out₂ to₂
-      → Wrote (declaration_lines lower (declared_uses (name_in s words) second)) write out₂ to₂ out₃ to₃
-      → Wrote (10 ∷ 10 ∷ []) write out₃ to₃ out₄ to₄
-      → (t : ProofTerm Name) → named_term s ≡ accepted t → Wrote (heading v t (goal_prop s)) write out₀ 0 out₄ to₄
-  unfolding heading
-  heading_written v up low a d lines line others end t is =
-      rw (← lines_are a t is, ← lines_are d t is, ← up, ← low, ← same) (then lines (then line (then others end)))
 
   -- as long are the lines of both lists as they were first met, and three newlines
   pub heading_measured : (v : Version) {upper lower : TermList} → upper ≡ first_list v → lower ≡ second_list v

@@ -8,7 +8,8 @@ use Rattle.definitions.specs.Name.{Name}
 use Rattle.definitions.specs.Sheet.{names, propositions, proposition_pairs, code_bytes, name_of, pair_offset}
 use Rattle.definitions.specs.Prop.{Prop, AtomUse, get_atoms, get_datatypes}
 use Rattle.definitions.specs.Term.{ProofTerm, atom_list, datatype_list, rename_term}
-use Rattle.definitions.specs.Text.{firsts, eq_atom_use, compare_atom_use, arranged, heading}
+use Rattle.definitions.specs.Utf8.{utf8}
+use Rattle.definitions.specs.Text.{firsts, eq_atom_use, compare_atom_use, arranged, first_list, second_list, heading}
 use Rattle.definitions.specs.Answers.{named_term, goal_prop}
 use Rattle.order_laws.proofs.Datatypes.{as_use}
 use Rattle.prefix_code.specs.PropAt.{prop_at}
@@ -17,6 +18,7 @@ use Rattle.prop.specs.Ends.{Known}
 use Rattle.proof_term.specs.Records.{term_at}
 use Rattle.declarations.specs.declared.Declaration.{Declaration}
 use Rattle.declarations.specs.Memory.{declared_uses, Declared}
+use Rattle.declarations.specs.Lines.{declaration_lines}
 use Rattle.sheet.specs.declared.header.Sheet.{Sheet}
 use Rattle.sheet.specs.Header.{vocabulary_of}
 
@@ -24,6 +26,10 @@ use Rattle.sheet.specs.Header.{vocabulary_of}
 abbrev pub listed_uses : TermList → ProofTerm Name → Prop Name → List (AtomUse Name)
 listed_uses Atoms t goal = atom_list t ++ get_atoms goal
 listed_uses (Datatypes v) t goal = map as_use (datatype_list v t ++ get_datatypes goal)
+
+-- the lines of both lists of a version's heading, a newline between them and an empty line behind
+unfoldable pub heading_lines : Version → List (AtomUse Name) → List (AtomUse Name) → List ℕ
+heading_lines v first second = declaration_lines (first_list v) first ++ (utf8 "\n" ++ (declaration_lines (second_list v) second ++ utf8 "\n\n"))
 
 -- Of a sheet's bytes:
 module _ (s : List ℕ) where

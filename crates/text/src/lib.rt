@@ -11,18 +11,19 @@ ghost use Rattle.definitions.specs.Text.{first_list, second_list, heading};
 ghost use Rattle.definitions.specs.Answers.{is_in_room, named_term, goal_prop, sheet_text};
 ghost use Rattle.output.specs.Wrote.{Wrote};
 ghost use Rattle.output.specs.Written.{written_of, Fills};
-ghost use Rattle.declarations.specs.Memory.{Declared};
+ghost use Rattle.vocabulary.specs.Vocabulary.{name_in};
+ghost use Rattle.declarations.specs.Memory.{declared_uses, Declared};
 ghost use Rattle.sheet.specs.Header.{vocabulary_of};
 ghost use Rattle.sheet.proofs.Admitted.{AcceptedSheet};
 ghost use Rattle.sheet_term.specs.Held.{HeldTerm};
-ghost use Rattle.text.specs.Declaring.{term_of, Declares, Arranges, EndsKnown, HeadingLength, TermLength};
+ghost use Rattle.text.specs.Declaring.{heading_lines, term_of, Declares, Arranges, EndsKnown, HeadingLength, TermLength};
 
 use declaration_length::lines_length;
 use declaration_order::sort_declarations;
 use declarations::{Declaration, Declarations, put_declarations};
 use definitions::{Refusal, Style, TermList, Version};
 use number::pair_offset;
-use output::{put, put_all};
+use output::{Sink, Writer};
 use proof_term_display::print_term;
 use proof_term_length::term_length;
 use prop::fill_all_ends;
@@ -35,7 +36,8 @@ const DECLARATION_LIMIT: usize = Sheet::NAME_LIMIT * (Sheet::PARAMETER_LIMIT + 1
 // The text of a sheet's term has fewer bytes: 2 to the 42nd.
 const TERM_TEXT_LIMIT: usize = 4398046511104;
 
-// The list whose declarations come first in a version of the heading, and the list whose come second.
+// The list whose declarations come first in a version of the heading, and the list whose come second. The version is looked at here and
+// where the order is chosen, and nowhere else.
 #[tactic(auto, unfolding(definitions::specs::Text::first_list, definitions::specs::Text::second_list))]
 fn lists(version: Version) -> (TermList, TermList)
     ensures { (result.0 ≡ first_list version) × (result.1 ≡ second_list version) }
@@ -46,7 +48,8 @@ fn lists(version: Version) -> (TermList, TermList)
     }
 }
 
-// Stores the declarations of a list of the term and then of what the goal adds to it, and says how many there are.
+// Stores the declarations of a list of the term and then of what the goal adds to it, and says how many there are. A sheet, its header,
+// the records of its term and the term's own stay four parameters: in a struct each `s.now` of the clauses would be a field's `t.sheet.now`.
 fn declare(
     s: &[u8],
     h: Sheet,
@@ -68,6 +71,28 @@ fn declare(
     let all = noted.declared();
     declared[..all.len()].copy_from_slice(all);
     all.len()
+}
+
+// Stores the declarations of both lists of a version's heading, and says how many there are of each.
+fn declare_both(
+    s: &[u8],
+    h: Sheet,
+    terms: &[u16],
+    n: usize,
+    version: Version,
+    first: &mut [Declaration; DECLARATION_LIMIT],
+    second: &mut [Declaration; DECLARATION_LIMIT],
+) -> (usize, usize)
+    requires accepted_sheet { AcceptedSheet s.now h }
+    requires held_term { HeldTerm s.now terms.now n }
+    ensures within { (result.0 ≤ length first.new) × (result.1 ≤ length second.new) }
+    ensures declares { Declares s.now h First (first_list version) (take result.0 first.new) }
+    ensures declares_2 { Declares s.now h First (second_list version) (take result.1 second.new) }
+{
+    let (upper, lower) = lists(version);
+    let first_count = declare(s, h, terms, n, upper, first);
+    let second_count = declare(s, h, terms, n, lower, second);
+    (first_count, second_count)
 }
 
 // Puts declarations, as they were first met, into the order of a version.
@@ -97,29 +122,30 @@ fn fill_sheet_ends(s: &[u8], h: Sheet, ends: &mut [u16; Sheet::CODE_LIMIT])
 }
 
 // What stands before the term: the lines of the first list, those of the second, and an empty line.
-fn put_heading(
-    out: &mut [u8],
+fn put_heading<S: Sink<u8>>(
+    sink: &mut S,
     s: &[u8],
     h: Sheet,
     version: Version,
     first: &[Declaration],
     second: &[Declaration],
-) -> usize
+)
     requires accepted_sheet { AcceptedSheet s.now h }
-    requires declares { Declares s.now h version (first_list version) first.now }
-    requires declares_2 { Declares s.now h version (second_list version) second.now }
-    ensures { (t : ProofTerm Name) → named_term s.now ≡ accepted t →
-        Wrote (heading version t (goal_prop s.now)) true out.old 0 out.new result }
+    requires tables { Declared s.now (vocabulary_of h) first.now × Declared s.now (vocabulary_of h) second.now }
+    ensures { S.puts sink.old (heading_lines version
+        (declared_uses (name_in s.now (vocabulary_of h)) first.now)
+        (declared_uses (name_in s.now (vocabulary_of h)) second.now)) sink.new }
 {
     let v = vocabulary(h);
     let (upper, lower) = lists(version);
-    let upper_end = put_declarations(out, 0, first, upper, s, v, true);
-    let line = put(out, upper_end, b'\n', true);
-    let end = put_declarations(out, line, second, lower, s, v, true);
-    put_all(out, end, b"\n\n", true)
+    put_declarations(sink, first, upper, s, v);
+    sink.put(b'\n');
+    put_declarations(sink, second, lower, s, v);
+    sink.put_all(b"\n\n");
 }
 
-// How long what stands before the term is: the order of the lines is no matter.
+// How long what stands before the term is: the order of the lines is no matter, so they are measured before they are sorted. The lengths
+// are summed and not counted by a sink, as `declaration_length` says.
 fn heading_length(
     s: &[u8],
     h: Sheet,
@@ -136,6 +162,26 @@ fn heading_length(
     let v = vocabulary(h);
     let (upper, lower) = lists(version);
     lines_length(first, upper, s, v) + lines_length(second, lower, s, v) + 3
+}
+
+// The same in lent memory, and the position behind it.
+fn write_heading(
+    out: &mut [u8],
+    s: &[u8],
+    h: Sheet,
+    version: Version,
+    first: &[Declaration],
+    second: &[Declaration],
+) -> usize
+    requires accepted_sheet { AcceptedSheet s.now h }
+    requires tables { Declared s.now (vocabulary_of h) first.now × Declared s.now (vocabulary_of h) second.now }
+    ensures { Wrote (heading_lines version
+        (declared_uses (name_in s.now (vocabulary_of h)) first.now)
+        (declared_uses (name_in s.now (vocabulary_of h)) second.now)) true out.old 0 out.new result }
+{
+    let mut writer = Writer { out, to: 0 };
+    put_heading(&mut writer, s, h, version, first, second);
+    writer.to
 }
 
 // The term, from its records.
@@ -202,11 +248,17 @@ fn text_length(s: &[u8], h: Sheet, terms: &[u16], n: usize, version: Version, st
     let mut ends = [0u16; Sheet::CODE_LIMIT];
     fill_sheet_ends(s, h, &mut ends);
     let term = measure_term(s, h, terms, n, style, &ends);
-    let (upper, lower) = lists(version);
     let mut first = [Declaration { name: 0, count: 0 }; DECLARATION_LIMIT];
     let mut second = [Declaration { name: 0, count: 0 }; DECLARATION_LIMIT];
-    let first_count = declare(s, h, terms, n, upper, &mut first);
-    let second_count = declare(s, h, terms, n, lower, &mut second);
+    let (first_count, second_count) = declare_both(
+        s,
+        h,
+        terms,
+        n,
+        version,
+        &mut first,
+        &mut second,
+    );
     heading_length(
         s,
         h,
@@ -226,7 +278,7 @@ pub fn sheet_text_length(s: &[u8], version: Version, style: Style) -> Result<usi
 }
 
 // The text of a sheet's term in a version, in lent memory: measured, and then written where it fits. A term that is too long for the
-// memory is refused before anything is declared.
+// memory is refused before anything is declared. A test of room has no value to hand on, so it is an `if`.
 pub fn text(
     s: &[u8],
     h: Sheet,
@@ -247,11 +299,17 @@ pub fn text(
     if out.len() < term {
         return Err(Refusal::at(16, 0));
     }
-    let (upper, lower) = lists(version);
     let mut first = [Declaration { name: 0, count: 0 }; DECLARATION_LIMIT];
     let mut second = [Declaration { name: 0, count: 0 }; DECLARATION_LIMIT];
-    let first_count = declare(s, h, terms, n, upper, &mut first);
-    let second_count = declare(s, h, terms, n, lower, &mut second);
+    let (first_count, second_count) = declare_both(
+        s,
+        h,
+        terms,
+        n,
+        version,
+        &mut first,
+        &mut second,
+    );
     let first = &mut first[..first_count];
     let second = &mut second[..second_count];
     let end = heading_length(s, h, version, first, second) + term;
@@ -260,7 +318,7 @@ pub fn text(
     }
     arrange(s, h, version, first);
     arrange(s, h, version, second);
-    let start = put_heading(out, s, h, version, first, second);
+    let start = write_heading(out, s, h, version, first, second);
     put_term(out, start, s, h, terms, n, style, &ends);
     Ok(end)
 }

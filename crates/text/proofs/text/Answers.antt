@@ -1,5 +1,5 @@
 -- The term and the lines before it are measured; the text is refused for want of room, or written.
-use Rattle.text.proofs.Heading.{in_order, noted_of, term_too_long, text_too_long, text_fills}
+use Rattle.text.proofs.Heading.{in_order, heading_is, term_too_long, text_too_long, text_fills}
 use Rattle.text.proofs.text.Goals as goal
 
 pub returns-then-out-term : goal.returns-then-out-term
@@ -11,13 +11,9 @@ returns-then-out-end c =
     rw c.at-then-out-end.ensures
     (text_too_long c.requires.held_term _ _ c.measure_term-term.ensures c.heading_length.ensures c.if-out-end.true)
 
-pub put_heading-start-requires-clause-declares : goal.put_heading-start-requires-clause-declares
-put_heading-start-requires-clause-declares c = noted_of c.lists-upper.ensures.0 (in_order c.declare-first_count.ensures.declares c.arrange.ensures)
-
-pub put_heading-start-requires-clause-declares_2 : goal.put_heading-start-requires-clause-declares_2
-put_heading-start-requires-clause-declares_2 c = noted_of c.lists-upper.ensures.1 (in_order c.declare-second_count.ensures.declares c.arrange-2.ensures)
-
 pub returns : goal.returns
 returns c =
+    let both = c.declare_both-first_count.ensures in
+    let heading = heading_is c.args.version (in_order both.declares c.arrange.ensures) (in_order both.declares_2 c.arrange-2.ensures) in
     text_fills c.requires.held_term _ _ c.measure_term-term.ensures c.heading_length.ensures c.if-out-end.false
-    c.put_heading-start.ensures c.put_term.ensures
+    (λ t is. rw (← heading t is) c.write_heading-start.ensures) c.put_term.ensures

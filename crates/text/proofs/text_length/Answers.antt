@@ -1,5 +1,5 @@
 -- The term's length is counted, and then that of the lines before it.
-use Rattle.text.proofs.Heading.{noted_of, text_long}
+use Rattle.text.proofs.Heading.{text_long}
 use Rattle.text.proofs.text_length.Goals as goal
 
 pub returns : goal.returns
