@@ -25,7 +25,7 @@ pub fn name_end(text: &[u8], start: usize) -> usize
     text.len()
 }
 
-// A name has at most so many bytes.
+// A name has at most so many bytes. A sheet has this limit for itself, above this crate; each is proved to be document 01's.
 const NAME_LENGTH_LIMIT: usize = 32;
 
 // Whether these bytes are a name of document 01.

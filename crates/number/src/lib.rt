@@ -35,7 +35,8 @@ pub fn pair_length(pairs: &[u8], i: usize) -> usize
     number_at(pairs, PAIR_SIZE * i + 2)
 }
 
-// The bytes that the pair of a number marks.
+// The bytes that the pair of a number marks. That they lie within the text is asked of this pair alone: a struct of the pairs and the text
+// would keep it of every pair, which does not hold before a sheet is admitted.
 #[tactic(auto, unfolding(definitions::specs::Sheet::pair_end, definitions::specs::Sheet::marked))]
 pub fn marked_bytes<'a>(pairs: &[u8], bytes: &'a [u8], i: usize) -> &'a [u8]
     requires { NameWithin pairs.now bytes.now i }
