@@ -16,7 +16,7 @@ ghost use Rattle.proof_term.specs.Making.{Room, Pushed, Made};
 use nodes::{label_of_numbers, parameter_of_numbers};
 pub use nodes::{Kind, Label, Node, kind_at, label_at, node_at, parameter_at, parts_at};
 
-// The numbers of a record.
+// The numbers of a record. Records are rows of a memory of u16 and no structs, since the memory of a term that is read comes from C.
 pub const RECORD_SIZE: usize = 7;
 
 // A term has at most so many nodes, and so many records.
@@ -126,6 +126,9 @@ pub fn make(records: &mut [u16], used: usize, node: Node) -> usize
     let tally = tally_over(records, used, kind, [a, b, c]);
     push(records, used, kind.number(), a, b, c, d, e, tally as u16)
 }
+
+// The memory and the number of records stand as two parameters: of a struct that lends the memory, each clause would say
+// `records.old.memory`, `records.new.memory` and `records.old.used`.
 
 // The makers. Each makes record `used` over earlier records and gives the number of the next one. A label is a kind and a number.
 

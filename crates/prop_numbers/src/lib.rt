@@ -29,6 +29,9 @@ pub const NAMES: usize = 1024;
 // 512 levels deep, and an enum takes twice the frame of a number (docs/DECISIONS.md, 135).
 pub const STOPS: usize = STANDING + NODE_LIMIT;
 
+// Code, made numbers and node stand in no struct: `Known`, `Space` and `Rep` name what a clause asks of them, and of a struct each clause
+// would spell its fields out. The length of the made numbers is part of `Space`, since most functions only read them.
+
 // The head byte of a proposition.
 fn head(code: &[u8], made: &[u32], p: usize) -> usize
     requires { Space code.now made.now p }
