@@ -1,5 +1,5 @@
 -- Propositions by their forms: the byte in front tells the form, and propositions with different bytes in front are different.
-use Prim.Native.Nat.{ℕ, ◌+◌, ◌*◌, ◌≤◌, ◌<◌}
+use Prim.Native.Nat.{ℕ, ◌+◌, ◌≤◌, ◌<◌}
 use mathlib.Core.Path.{◌≡◌, refl, sym, ap, ◌∙◌, subst}
 use mathlib.Core.Bool.{Bool, true, false}
 use Rattle.std.specs.Prelude.{Option, None, Some, Ok}
@@ -19,6 +19,7 @@ use Rattle.prefix_code.specs.Scan.{Stands, proposition_coding}
 use Rattle.prefix_code.proofs.Positions.{byte_at}
 use Rattle.prefix_code.proofs.Forms.{inside_at, binary_at, atom_at, quantified_at, true_at, false_at}
 use Rattle.prefix_code.proofs.Reading as reading
+use Rattle.alpha_eq.specs.declared.Pair.{Pair}
 use Rattle.alpha_eq.specs.Bindings.{bindings_of}
 use Rattle.alpha_eq.specs.Comparing.{Compared, compared, alpha_eq_under_in, alpha_eq_sides_in, alpha_eq_atom_in, alpha_eq_scope_in, of_sides, of_applied, of_scope, form_coding, Standing, end_of, Two, Answers, WithRoom}
 
@@ -76,7 +77,7 @@ front_at : {names : ℕ} {code : List ℕ} {at : ℕ} (name_of : ℕ → Name) (
 unfolding Stands
 front_at {code} {at} name_of s = front_stands code at s.value s.rest s.stands.1 ∙ sym (front_renamed name_of s.value)
 
-pub inside : {pairs text memory : List ℕ} {depth : ℕ} {code : List ℕ} {i j : ℕ} → WithRoom (λ p. p) code i j pairs text memory depth
+pub inside : {pairs text : List ℕ} {memory : List Pair} {depth : ℕ} {code : List ℕ} {i j : ℕ} → WithRoom (λ p. p) code i j pairs text memory depth
     → (i < length code) × (j < length code)
 inside {code} {i} {j} asked =
     let names = asked.forms.names in
@@ -85,12 +86,12 @@ inside {code} {i} {j} asked =
     ((inside_at names code i l.rest l.value l.stands).0, (inside_at names code j r.rest r.value r.stands).0)
 
 -- the byte in front is that of a head
-pub known : {pairs text memory : List ℕ} {depth : ℕ} {code : List ℕ} {i j : ℕ} → WithRoom (λ p. p) code i j pairs text memory depth → get_or code i 0 < 8
+pub known : {pairs text : List ℕ} {memory : List Pair} {depth : ℕ} {code : List ℕ} {i j : ℕ} → WithRoom (λ p. p) code i j pairs text memory depth → get_or code i 0 < 8
 known {code} {i} asked =
     let l = asked.forms.two.left in
     (reading.inside (reading.present asked.forms.names code i l.value l.rest l.stands)).known
 
-module _ (pairs text memory : List ℕ) (depth : ℕ) (code : List ℕ) (i j : ℕ) where
+module _ (pairs text : List ℕ) (memory : List Pair) (depth : ℕ) (code : List ℕ) (i j : ℕ) where
   pub other_front : (get_or code i 0 ≡ get_or code j 0 → ⊥) → Answers proposition_coding code i j (alpha_eq_under_in pairs text memory depth) (Ok None)
   unfolding compared alpha_eq_under_in
   other_front differ = record {
@@ -167,14 +168,14 @@ module _ {A : Type 0} (make : A → Prop ℕ) {code : List ℕ} {i j : ℕ} (for
     two_forms : Two (form_coding make) code i j names
     two_forms = record { left = left_form.0; right = right_form.0 }
 
-  pub forms_asked : {pairs text memory : List ℕ} {depth : ℕ} → WithRoom (λ p. p) code i j pairs text memory depth
+  pub forms_asked : {pairs text : List ℕ} {memory : List Pair} {depth : ℕ} → WithRoom (λ p. p) code i j pairs text memory depth
       → WithRoom make code i j pairs text memory depth
   unfolding two_forms
   forms_asked {memory} {depth} asked =
       let two = asked.forms.two in
       record {
         forms = record { names = asked.forms.names; two = two_forms two; named = asked.forms.named; bound = asked.forms.bound };
-        room = subst (λ (p : Prop ℕ). 2 * (depth + nesting p) ≤ length memory) (left_form two).1 asked.room;
+        room = subst (λ (p : Prop ℕ). depth + nesting p ≤ length memory) (left_form two).1 asked.room;
       }
 
   pub by_form : (outcome : A → A → Outcome Bool) (whole : Prop ℕ → Prop ℕ → Outcome Bool) → ((a b : A) → whole (make a) (make b) ≡ outcome a b)
@@ -188,7 +189,7 @@ module _ {A : Type 0} (make : A → Prop ℕ) {code : List ℕ} {i j : ℕ} (for
         cc (same l.value m.value);
   }
 
-module _ (pairs text memory : List ℕ) (depth : ℕ) where
+module _ (pairs text : List ℕ) (memory : List Pair) (depth : ℕ) where
   pub sides_under : (a b : Sides ℕ) → alpha_eq_under_in pairs text memory depth (of_sides a) (of_sides b) ≡ alpha_eq_sides_in pairs text memory depth a b
   unfolding alpha_eq_under_in alpha_eq_sides_in alpha_eq_under rename_prop
   sides_under a b = refl

@@ -18,6 +18,7 @@ use Rattle.number.specs.Pairs.{NameWithin}
 use Rattle.identifier.proofs.Within.{last_within}
 use Rattle.prefix_code.specs.Scan.{parameter_coding}
 use Rattle.prefix_code.proofs.Parameters.{ParameterBytes, parameter_bytes, first_parameter, none_stand}
+use Rattle.alpha_eq.specs.declared.Pair.{Pair}
 use Rattle.alpha_eq.specs.Comparing.{Compared, compared, bound_alike_in, alpha_eq_parameter_in, alpha_eq_parameters_in, several_coding, Standing, end_of, Two, Comparable, Answers}
 use Rattle.alpha_eq.proofs.Outcomes.{Stops, yes_ends, stopped, followed}
 use Rattle.alpha_eq.proofs.Standing.{moved}
@@ -31,14 +32,14 @@ module _ {names : ℕ} {code : List ℕ} {at : ℕ} (s : Standing parameter_codi
   id_at one = (parameter_at.instantiated one).1
 
 -- the names of two lie in the text
-pub names_within : {pairs text memory : List ℕ} {depth : ℕ} {code : List ℕ} {i j x y : ℕ} → Comparable parameter_coding code i j pairs text memory depth
+pub names_within : {pairs text : List ℕ} {memory : List Pair} {depth : ℕ} {code : List ℕ} {i j x y : ℕ} → Comparable parameter_coding code i j pairs text memory depth
     → x ≡ number_at code (i + 1) → y ≡ number_at code (j + 1) → NameWithin pairs text x × NameWithin pairs text y
 names_within {x} {y} asked x-at y-at =
     let l = parameter_at asked.two.left in
     let r = parameter_at asked.two.right in
     (last_within (asked.named x (omega arith)), last_within (asked.named y (omega arith)))
 
-module _ (pairs text memory : List ℕ) (depth : ℕ) (code : List ℕ) (i j : ℕ) where
+module _ (pairs text : List ℕ) (memory : List Pair) (depth : ℕ) (code : List ℕ) (i j : ℕ) where
   -- of different kinds: no
   pub other_kind : (get_or code i 0 ≡ get_or code j 0 → ⊥)
       → Answers parameter_coding code i j (alpha_eq_parameter_in pairs text memory depth) (Ok None)
@@ -91,7 +92,7 @@ cons_length : {ps others : List (PropParameter ℕ)} {p : PropParameter ℕ} →
 unfolding encode_parameters
 cons_length {others} {p} e = rw e (length-append (encode_parameter p) (encode_parameters others))
 
-module _ (pairs text memory : List ℕ) (depth : ℕ) where
+module _ (pairs text : List ℕ) (memory : List Pair) (depth : ℕ) where
   -- what is left to compare, so many parameters from `left` and `right` on, decides the comparison from i and j on
   pub record Remaining (code : List ℕ) (i j count left right needed : ℕ) : Type 0 where
     pub asked : Comparable (several_coding needed) code left right pairs text memory depth
@@ -109,7 +110,7 @@ module _ (pairs text memory : List ℕ) (depth : ℕ) where
   unfolding alpha_eq_parameter_in alpha_eq_parameters_in alpha_eq_parameters
   cons_outcome e f = rw (e, f)
 
-module _ {pairs text memory : List ℕ} {depth : ℕ} {code : List ℕ} {i j count left right needed : ℕ}
+module _ {pairs text : List ℕ} {memory : List Pair} {depth : ℕ} {code : List ℕ} {i j count left right needed : ℕ}
     (held : Remaining pairs text memory depth code i j count left right needed) where
   module _ (more : 0 < needed) where
     parts : {names at : ℕ} (s : Standing (several_coding needed) names code at) → First names code at (needed - 1) s.value

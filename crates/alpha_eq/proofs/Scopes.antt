@@ -1,6 +1,6 @@
 -- Two propositions of one quantifier: the datatypes decide, and after a yes the bodies do, with the objects bound to each other.
 use Rattle.std.specs.Prelude.{Ok, None}
-use Prim.Native.Nat.{ℕ, ◌+◌, ◌*◌, ◌≤◌}
+use Prim.Native.Nat.{ℕ, ◌+◌, ◌≤◌}
 use mathlib.Core.Path.{◌≡◌, sym, ◌∙◌}
 use mathlib.Core.Bool.{Bool, true, false}
 use mathlib.Core.List.{List, ◌∷◌, ◌++◌}
@@ -16,6 +16,7 @@ use Rattle.definitions.specs.Comparison.{no, and_also, alpha_eq_scope, alpha_eq_
 use Rattle.prefix_code.specs.Scan.{Stands, proposition_coding}
 use Rattle.prefix_code.specs.Head.{encode_head, CodableHead}
 use Rattle.prefix_code.proofs.Heads.{QuantifiedBytes, quantified_bytes}
+use Rattle.alpha_eq.specs.declared.Pair.{Pair}
 use Rattle.alpha_eq.specs.Bindings.{bindings_of}
 use Rattle.alpha_eq.specs.Comparing.{Compared, compared, alpha_eq_under_in, alpha_eq_scope_in, of_scope, form_coding, Standing, end_of, Two, Answers, WithRoom}
 use Rattle.alpha_eq.proofs.Bindings.{pushed, bindings_pushed, bound_pushed}
@@ -42,9 +43,9 @@ abbrev two_bodies : {names : ℕ} {code : List ℕ} {i j : ℕ} → Two (form_co
 two_bodies two = record { left = body_of two.left; right = body_of two.right }
 
 -- what the comparison of the bodies asks
-module _ {pairs text memory : List ℕ} {depth : ℕ} {code : List ℕ} {i j : ℕ} (asked : WithRoom of_scope code i j pairs text memory depth) where
+module _ {pairs text : List ℕ} {memory : List Pair} {depth : ℕ} {code : List ℕ} {i j : ℕ} (asked : WithRoom of_scope code i j pairs text memory depth) where
   -- room for the binding of the two objects
-  pub room_here : 2 * (depth + 1) ≤ length memory
+  pub room_here : depth + 1 ≤ length memory
   unfolding nesting
   room_here = omega (arith, asked.room)
 
@@ -64,7 +65,7 @@ module _ {pairs text memory : List ℕ} {depth : ℕ} {code : List ℕ} {i j : �
         room = simp length-set (omega (arith, asked.room));
       }
 
-module _ (pairs text memory : List ℕ) (depth : ℕ) (code : List ℕ) (i j : ℕ) {t u : ℕ} {same : Bool}
+module _ (pairs text : List ℕ) (memory : List Pair) (depth : ℕ) (code : List ℕ) (i j : ℕ) {t u : ℕ} {same : Bool}
     (fronts : get_or code i 0 ≡ get_or code j 0) (t-at : t ≡ number_at code (i + 3)) (u-at : u ≡ number_at code (j + 3))
     (named : same ≡ eq_name (marked pairs text t) (marked pairs text u)) where
   -- with one byte in front the quantifiers are equal
@@ -94,7 +95,7 @@ module _ (pairs text memory : List ℕ) (depth : ℕ) (code : List ℕ) (i j : �
   other_datatype e = record { answer = λ names two. rw (scope_outcome two, e) }
 
   -- else the bodies decide
-  pub bodies_decide : {x y : ℕ} {r : Compared} → 2 * (depth + 1) ≤ length memory → same ≡ true
+  pub bodies_decide : {x y : ℕ} {r : Compared} → depth + 1 ≤ length memory → same ≡ true
       → x ≡ number_at code (i + 1) → y ≡ number_at code (j + 1)
       → Answers proposition_coding code (i + 5) (j + 5) (alpha_eq_under_in pairs text (pushed memory depth x y) (depth + 1)) r
       → Answers (form_coding of_scope) code i j (alpha_eq_scope_in pairs text memory depth) r

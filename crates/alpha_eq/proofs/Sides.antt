@@ -12,6 +12,7 @@ use Rattle.definitions.specs.Code.{encode, Codable}
 use Rattle.definitions.specs.Comparison.{and_also, alpha_eq_sides}
 use Rattle.prefix_code.specs.Scan.{Stands, proposition_coding}
 use Rattle.prefix_code.proofs.Positions.{after, byte_at}
+use Rattle.alpha_eq.specs.declared.Pair.{Pair}
 use Rattle.alpha_eq.specs.Bindings.{Kept}
 use Rattle.alpha_eq.specs.Comparing.{Compared, alpha_eq_under_in, alpha_eq_sides_in, of_sides, form_coding, Standing, end_of, Two, Answers, WithRoom}
 use Rattle.alpha_eq.proofs.Outcomes.{Stops, yes_ends, stopped, followed}
@@ -63,7 +64,7 @@ module _ {names : ℕ} {code : List ℕ} {i j : ℕ} (two : Two (form_coding of_
   two_rights at_left at_right = record { left = moved at_left (right_side two.left); right = moved at_right (right_side two.right) }
 
   -- with one byte in front the connectives are equal
-  sides_outcome : (pairs text memory : List ℕ) (depth : ℕ) → get_or code i 0 ≡ get_or code j 0
+  sides_outcome : (pairs text : List ℕ) (memory : List Pair) (depth : ℕ) → get_or code i 0 ≡ get_or code j 0
       → alpha_eq_sides_in pairs text memory depth two.left.value two.right.value
       ≡ and_also (alpha_eq_under_in pairs text memory depth two.left.value.left two.right.value.left)
       (alpha_eq_under_in pairs text memory depth two.left.value.right two.right.value.right)
@@ -74,7 +75,7 @@ module _ {names : ℕ} {code : List ℕ} {i j : ℕ} (two : Two (form_coding of_
       rw (eq-eqb (connective_byte two.left.value.connective) (connective_byte two.right.value.connective) (sym l.byte ∙ (fronts ∙ r.byte)))
 
 -- what the comparison of the left sides asks
-module _ {pairs text memory : List ℕ} {depth : ℕ} {code : List ℕ} {i j : ℕ} (asked : WithRoom of_sides code i j pairs text memory depth) where
+module _ {pairs text : List ℕ} {memory : List Pair} {depth : ℕ} {code : List ℕ} {i j : ℕ} (asked : WithRoom of_sides code i j pairs text memory depth) where
   pub sides_inside : (i < length code) × (j < length code)
   sides_inside = ((sides_at asked.forms.two.left).inside, (sides_at asked.forms.two.right).inside)
 
@@ -95,7 +96,7 @@ module _ {pairs text memory : List ℕ} {depth : ℕ} {code : List ℕ} {i j : �
     pub rights_after : i < a
     rights_after = let at = yes_ends _ _ _ (lefts.answer asked.forms.names (two_lefts asked.forms.two)) in omega arith
 
-    pub rights_asked : {after : List ℕ} → Kept depth memory after → length after ≡ length memory
+    pub rights_asked : {after : List Pair} → Kept depth memory after → length after ≡ length memory
         → WithRoom (λ p. p) code a b pairs text after depth
     unfolding nesting
     rights_asked kept long =
@@ -110,7 +111,7 @@ module _ {pairs text memory : List ℕ} {depth : ℕ} {code : List ℕ} {i j : �
           room = omega (arith, asked.room);
         }
 
-module _ (pairs text memory : List ℕ) (depth : ℕ) (code : List ℕ) (i j : ℕ) (fronts : get_or code i 0 ≡ get_or code j 0) where
+module _ (pairs text : List ℕ) (memory : List Pair) (depth : ℕ) (code : List ℕ) (i j : ℕ) (fronts : get_or code i 0 ≡ get_or code j 0) where
   -- a no or a refusal of the left sides is the answer
   pub lefts_stop : {r : Compared} → Answers proposition_coding code (i + 1) (j + 1) (alpha_eq_under_in pairs text memory depth) r → Stops r
       → Answers (form_coding of_sides) code i j (alpha_eq_sides_in pairs text memory depth) r
@@ -120,7 +121,7 @@ module _ (pairs text memory : List ℕ) (depth : ℕ) (code : List ℕ) (i j : �
   }
 
   -- after a yes the right sides decide
-  pub rights_decide : {a b : ℕ} {after : List ℕ} {r : Compared}
+  pub rights_decide : {a b : ℕ} {after : List Pair} {r : Compared}
       → Answers proposition_coding code (i + 1) (j + 1) (alpha_eq_under_in pairs text memory depth) (Ok (Some (a, b))) → Kept depth memory after
       → Answers proposition_coding code a b (alpha_eq_under_in pairs text after depth) r
       → Answers (form_coding of_sides) code i j (alpha_eq_sides_in pairs text memory depth) r

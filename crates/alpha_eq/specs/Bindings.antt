@@ -1,14 +1,18 @@
--- The bindings in lent memory: two name numbers for each quantifier above, the left proposition's object and the right one's,
--- the latest last.
-use Rattle.std.specs.Prelude.{ℕ, zero, suc, ◌+◌, ◌*◌, ◌≤◌, ◌<◌, ◌≡◌, List, [], ◌∷◌, length, get_or}
+-- The bindings in lent memory: a pair of name numbers for each quantifier above, the latest last.
+use Rattle.std.specs.Prelude.{ℕ, zero, suc, ◌≤◌, ◌<◌, ◌≡◌, List, [], ◌∷◌, length, get_or}
 use Rattle.definitions.specs.Name.{Name}
 use Rattle.definitions.specs.Comparison.{Binding}
 use Rattle.identifier.specs.Pairs.{PairsWithin}
+use Rattle.alpha_eq.specs.declared.Pair.{Pair}
+
+-- the pair at a place
+abbrev pub pair_at : List Pair → ℕ → Pair
+pair_at memory k = get_or memory k (record { left = 0; right = 0 })
 
 -- Of the bytes of each name and the lent memory:
-module _ (name_of : ℕ → Name) (memory : List ℕ) where
+module _ (name_of : ℕ → Name) (memory : List Pair) where
   unfoldable pub binding_at : ℕ → Binding
-  binding_at k = record { left = name_of (get_or memory (2 * k) 0); right = name_of (get_or memory (2 * k + 1) 0) }
+  binding_at k = record { left = name_of (pair_at memory k).left; right = name_of (pair_at memory k).right }
 
   -- so many bindings, the latest first
   unfoldable pub bindings_of : ℕ → List Binding
@@ -16,10 +20,11 @@ module _ (name_of : ℕ → Name) (memory : List ℕ) where
   bindings_of (suc k) = binding_at k ∷ bindings_of k
 
 -- so many bindings are in the memory, and their numbers mark names of the text
-pub record Bound (pairs text memory : List ℕ) (depth : ℕ) : Type 0 where
-  pub present : 2 * depth ≤ length memory
-  pub named : (k : ℕ) → k < 2 * depth → PairsWithin pairs text (get_or memory k 0)
+pub record Bound (pairs text : List ℕ) (memory : List Pair) (depth : ℕ) : Type 0 where
+  pub present : depth ≤ length memory
+  pub left : (k : ℕ) → k < depth → PairsWithin pairs text (pair_at memory k).left
+  pub right : (k : ℕ) → k < depth → PairsWithin pairs text (pair_at memory k).right
 
 -- so many bindings are as they were
-pub record Kept (depth : ℕ) (before after : List ℕ) : Type 0 where
-  pub same : (k : ℕ) → k < 2 * depth → get_or after k 0 ≡ get_or before k 0
+pub record Kept (depth : ℕ) (before after : List Pair) : Type 0 where
+  pub same : (k : ℕ) → k < depth → pair_at after k ≡ pair_at before k

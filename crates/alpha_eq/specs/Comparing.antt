@@ -1,5 +1,5 @@
 -- The comparison of two things whose codes stand at two positions: what it asks, and which outcome of the definitions it answers.
-use Rattle.std.specs.Prelude.{ℕ, ◌+◌, ◌*◌, ◌≤◌, ◌<◌, ◌≡◌, Bool, true, false, List, map, length, Option, Some, None, Result, Ok, Err}
+use Rattle.std.specs.Prelude.{ℕ, ◌+◌, ◌≤◌, ◌<◌, ◌≡◌, Bool, true, false, List, map, length, Option, Some, None, Result, Ok, Err}
 use Rattle.definitions.specs.Outcome.{Outcome, refused, accepted}
 use Rattle.definitions.specs.Name.{Name}
 use Rattle.definitions.specs.Sheet.{marked, proposition_nesting_limit}
@@ -9,6 +9,7 @@ use Rattle.definitions.specs.Comparison.{Binding, bound_alike, alpha_eq_paramete
 use Rattle.prefix_code.specs.Scan.{Coding, Stands, proposition_coding, parameters_coding}
 use Rattle.identifier.specs.Pairs.{PairsWithin}
 use Rattle.definitions.specs.declared.Refusal.{Refusal}
+use Rattle.alpha_eq.specs.declared.Pair.{Pair}
 use Rattle.alpha_eq.specs.Bindings.{bindings_of, Bound}
 use Rattle.sheet.specs.Checks.{outcome_of}
 
@@ -40,7 +41,7 @@ abbrev pub several_coding : ℕ → ℕ → Coding (List (PropParameter ℕ))
 several_coding count names = parameters_coding names count
 
 -- The definitions' comparisons for things of a sheet: names are what the pairs mark in the text, and so many bindings are in memory.
-module _ (pairs text memory : List ℕ) (depth : ℕ) where
+module _ (pairs text : List ℕ) (memory : List Pair) (depth : ℕ) where
   abbrev name_of : ℕ → Name
   name_of = marked pairs text
 
@@ -94,7 +95,7 @@ module _ {A : Type 0} (coding : ℕ → Coding A) (code : List ℕ) (i j : ℕ) 
     pub right : Standing coding names code j
 
   -- two are there; their names and those of the bindings lie in the text
-  pub record Comparable (pairs text memory : List ℕ) (depth : ℕ) : Type 0 where
+  pub record Comparable (pairs text : List ℕ) (memory : List Pair) (depth : ℕ) : Type 0 where
     pub names : ℕ
     pub two : Two names
     pub named : (n : ℕ) → n < names → PairsWithin pairs text n
@@ -106,9 +107,9 @@ module _ {A : Type 0} (coding : ℕ → Coding A) (code : List ℕ) (i j : ℕ) 
         → r ≡ compared (outcome two.left.value two.right.value) (end_of two.left) (end_of two.right)
 
 -- two propositions of a form, with room in memory for the bindings of the left one's quantifiers
-pub record WithRoom {A : Type 0} (make : A → Prop ℕ) (code : List ℕ) (i j : ℕ) (pairs text memory : List ℕ) (depth : ℕ) : Type 0 where
+pub record WithRoom {A : Type 0} (make : A → Prop ℕ) (code : List ℕ) (i j : ℕ) (pairs text : List ℕ) (memory : List Pair) (depth : ℕ) : Type 0 where
   pub forms : Comparable (form_coding make) code i j pairs text memory depth
-  pub room : 2 * (depth + nesting (make forms.two.left.value)) ≤ length memory
+  pub room : depth + nesting (make forms.two.left.value) ≤ length memory
 
 -- two propositions, the left one nesting no deeper than those of a sheet do, whose names lie in the text
 pub record TwoPropositions (code : List ℕ) (i j : ℕ) (pairs text : List ℕ) : Type 0 where

@@ -17,12 +17,23 @@ use number::number_at;
 use prefix_code::{Head, ParameterKind};
 use sheet::Sheet;
 
+// Codes, places, names and bindings stand loose below: the two places move with each call, the bindings are written, and in a struct of
+// the three that are lent and stay each clause would read `w.now.code.now` for `code.now`. What is asked and answered is one relation of a
+// coding, `Comparable`, `WithRoom` or `Answers`, and each function names its own coding in it.
+
 // What the walk over two codes answers: where both end if they are the same, nothing if they are not, or a refusal.
 pub type Compared = Result<Option<(usize, usize)>, Refusal>;
 
+// The objects of two quantifiers that bind each other, by the numbers of their names: the left proposition's and the right one's.
+#[derive(Clone, Copy)]
+pub struct Pair {
+    pub left: u16,
+    pub right: u16,
+}
+
 // Two uninstantiated parameters, by the latest binding that has either: 19 where there is none.
 fn bound_alike(
-    bindings: &[u16],
+    bindings: &[Pair],
     depth: usize,
     pairs: &[u8],
     text: &[u8],
@@ -35,8 +46,9 @@ fn bound_alike(
         ≡ bound_alike_in pairs.now text.now bindings.now depth x y }
 {
     for k in (0..depth).rev() {
-        let binds_x = same_bytes(pairs, text, usize::from(bindings[2 * k]), x);
-        let binds_y = same_bytes(pairs, text, usize::from(bindings[2 * k + 1]), y);
+        let Pair { left, right } = bindings[k];
+        let binds_x = same_bytes(pairs, text, usize::from(left), x);
+        let binds_y = same_bytes(pairs, text, usize::from(right), y);
         if binds_x || binds_y {
             return Ok(binds_x && binds_y);
         }
@@ -51,7 +63,7 @@ fn alpha_eq_parameter(
     j: usize,
     pairs: &[u8],
     text: &[u8],
-    bindings: &[u16],
+    bindings: &[Pair],
     depth: usize,
 ) -> Compared
     requires { Comparable parameter_coding code.now i j pairs.now text.now bindings.now depth }
@@ -89,7 +101,7 @@ fn alpha_eq_parameters(
     count: usize,
     pairs: &[u8],
     text: &[u8],
-    bindings: &[u16],
+    bindings: &[Pair],
     depth: usize,
 ) -> Compared
     requires { Comparable (several_coding count) code.now i j pairs.now text.now bindings.now depth }
@@ -116,7 +128,7 @@ fn alpha_eq_atom(
     j: usize,
     pairs: &[u8],
     text: &[u8],
-    bindings: &[u16],
+    bindings: &[Pair],
     depth: usize,
 ) -> Compared
     requires { Comparable (form_coding of_applied) code.now i j pairs.now text.now bindings.now depth }
@@ -154,7 +166,7 @@ fn alpha_eq_sides(
     j: usize,
     pairs: &[u8],
     text: &[u8],
-    bindings: &mut [u16],
+    bindings: &mut [Pair],
     depth: usize,
 ) -> Compared
     requires with_room { WithRoom of_sides code.now i j pairs.now text.now bindings.old depth }
@@ -178,7 +190,7 @@ fn alpha_eq_scope(
     j: usize,
     pairs: &[u8],
     text: &[u8],
-    bindings: &mut [u16],
+    bindings: &mut [Pair],
     depth: usize,
 ) -> Compared
     requires with_room { WithRoom of_scope code.now i j pairs.now text.now bindings.old depth }
@@ -192,8 +204,10 @@ fn alpha_eq_scope(
     if !same_bytes(pairs, text, t, u) {
         return Ok(None);
     }
-    bindings[2 * depth] = number_at(code, i + 1) as u16;
-    bindings[2 * depth + 1] = number_at(code, j + 1) as u16;
+    bindings[depth] = Pair {
+        left: number_at(code, i + 1) as u16,
+        right: number_at(code, j + 1) as u16,
+    };
     alpha_eq_under(code, i + 5, j + 5, pairs, text, bindings, depth + 1)
 }
 
@@ -205,7 +219,7 @@ pub fn alpha_eq_under(
     j: usize,
     pairs: &[u8],
     text: &[u8],
-    bindings: &mut [u16],
+    bindings: &mut [Pair],
     depth: usize,
 ) -> Compared
     requires { WithRoom (λ p. p) code.now i j pairs.now text.now bindings.old depth }
@@ -228,15 +242,15 @@ pub fn alpha_eq_under(
     }
 }
 
-// Two name numbers for each quantifier above a place: as many as a proposition nests deep.
-const BINDINGS: usize = 2 * Sheet::PROPOSITION_NESTING_LIMIT;
+// One for each quantifier above a place: as many as a proposition nests deep.
+const BINDINGS: usize = Sheet::PROPOSITION_NESTING_LIMIT;
 
 // Are the propositions at i and j the same up to the names of their bound objects?
 pub fn alpha_eq(code: &[u8], i: usize, j: usize, pairs: &[u8], text: &[u8]) -> Result<bool, Refusal>
     requires { TwoPropositions code.now i j pairs.now text.now }
     ensures { Decides code.now i j (marked pairs.now text.now) result }
 {
-    let mut bindings = [0u16; BINDINGS];
+    let mut bindings = [Pair { left: 0, right: 0 }; BINDINGS];
     let ends = alpha_eq_under(code, i, j, pairs, text, &mut bindings, 0)?;
     Ok(ends.is_some())
 }

@@ -1,6 +1,6 @@
 -- The calls end by the bytes of the code from i on: a form's function calls on parts of it, which start later. Where two
 -- calls follow each other, the second finds the bindings as the first found them.
-use Prim.Native.Nat.{ℕ, ◌+◌, ◌*◌, ◌≤◌}
+use Prim.Native.Nat.{ℕ, ◌+◌, ◌≤◌}
 use mathlib.Core.Path.{◌≡◌, ◌∙◌}
 use native.Mathlib.Omega.{arith}
 use lib.ListN.{length, length-set}
@@ -19,7 +19,7 @@ use Rattle.alpha_eq.proofs.+alpha_eq_scope_alpha_eq_sides_alpha_eq_under.Goals.{
 
 -- `alpha_eq_scope` by its places: room for the binding of the two objects
 room : (t : ℕ) → (c : alpha_eq_scope-After-same_bytes t) → let s = c.args in
-    2 * (s.depth + 1) ≤ length s.bindings.now
+    s.depth + 1 ≤ length s.bindings.now
 room t c = room_here c.requires.with_room
 
 pub alpha_eq_scope-same_bytes-requires : goal.alpha_eq_scope-same_bytes-requires
@@ -72,9 +72,6 @@ alpha_eq_scope-overflow_add-i-2 t c = omega (arith, scope_at c.requires.with_roo
 pub alpha_eq_scope-number_at-requires : goal.alpha_eq_scope-number_at-requires
 alpha_eq_scope-number_at-requires t c = omega (arith, scope_at c.requires.with_room.forms.two.left)
 
-pub alpha_eq_scope-overflow_mul-bindings : goal.alpha_eq_scope-overflow_mul-bindings
-alpha_eq_scope-overflow_mul-bindings t c = omega (arith, room t (goal.at.alpha_eq_scope-overflow_mul-bindings t c).After-same_bytes)
-
 pub alpha_eq_scope-offset_bounds-bindings-depth : goal.alpha_eq_scope-offset_bounds-bindings-depth
 alpha_eq_scope-offset_bounds-bindings-depth t c =
     let here = goal.at.alpha_eq_scope-offset_bounds-bindings-depth t c in
@@ -88,22 +85,6 @@ alpha_eq_scope-overflow_add-j-2 t c = omega (arith, scope_at c.requires.with_roo
 
 pub alpha_eq_scope-number_at-requires-2 : goal.alpha_eq_scope-number_at-requires-2
 alpha_eq_scope-number_at-requires-2 t c = omega (arith, scope_at c.requires.with_room.forms.two.right)
-
-pub alpha_eq_scope-overflow_mul-bindings-2 : goal.alpha_eq_scope-overflow_mul-bindings-2
-alpha_eq_scope-overflow_mul-bindings-2 t c = omega (arith, room t (goal.at.alpha_eq_scope-overflow_mul-bindings-2 t c).After-same_bytes)
-
-pub alpha_eq_scope-overflow_add-bindings : goal.alpha_eq_scope-overflow_add-bindings
-alpha_eq_scope-overflow_add-bindings t c = omega (arith, room t (goal.at.alpha_eq_scope-overflow_add-bindings t c).After-same_bytes)
-
-pub alpha_eq_scope-offset_bounds-bindings-depth-2 : goal.alpha_eq_scope-offset_bounds-bindings-depth-2
-alpha_eq_scope-offset_bounds-bindings-depth-2 t c =
-    let here = goal.at.alpha_eq_scope-offset_bounds-bindings-depth-2 t c in
-    omega (arith, room t here.After-same_bytes)
-
-pub alpha_eq_scope-bounds-bindings-depth-2 : goal.alpha_eq_scope-bounds-bindings-depth-2
-alpha_eq_scope-bounds-bindings-depth-2 t c =
-    let here = goal.at.alpha_eq_scope-bounds-bindings-depth-2 t c in
-    simp length-set (omega (arith, room t here.After-same_bytes))
 
 pub alpha_eq_scope-overflow_add-i-3 : goal.alpha_eq_scope-overflow_add-i-3
 alpha_eq_scope-overflow_add-i-3 t c = omega (arith, scope_at c.requires.with_room.forms.two.left)
