@@ -1,4 +1,5 @@
-// A step's conclusion, as it is taken apart for a label.
+// A step's conclusion, as it is taken apart for a label. The walk stands on the steps and below the sheet, so it takes the pairs and
+// the code, of which `Readable` says once what is asked.
 ghost use Rattle.std.specs.Prelude.{ℕ, ◌<◌, ◌≡◌};
 ghost use Rattle.proof_tree.specs.Table.{ending_of};
 ghost use Rattle.proof_tree.specs.Opening.{Readable};

@@ -1,6 +1,7 @@
 // From the steps of a sheet to the records of its term (source document 000).
 // The count of names, by which propositions are read from their code, is passed on for the contracts alone. The slices that the walk
-// reads travel one by one: in a struct each clause below would name them field by field, as `steps.now.records.now`.
+// reads travel one by one: in a struct each clause below would name them field by field, as `steps.now.records.now`. So do the records
+// that it makes and the count of those made: each call hands the memory on and gives the count back.
 #![tactic(auto)]
 
 mod conclusion;

@@ -80,7 +80,7 @@ macro_rules! row {
     };
 }
 
-// A row for each rule, in the order of their bytes.
+// A row for each rule, in the order of their bytes, so that a rule's byte, which the steps have, is its place.
 const ROWS: [Row; 17] = [
     row!(2, 2, [Own, Own, Unread], Bare, Pair), // AndIntro
     row!(1, 1, [Inferring, Unread, Unread], Bare, ProjectFst), // AndElimFst

@@ -61,11 +61,7 @@ pub fn rule_byte(step_records: &[u8], k: usize) -> u8
     requires { HasStep step_records.now k }
     ensures { result ≡ rule_byte step_records.now k }
 {
-    StepRecord {
-        records: step_records,
-        k,
-    }
-    .rule_byte()
+    StepRecord { step_records, k }.rule_byte()
 }
 
 // Its premiss count.
@@ -73,11 +69,7 @@ pub fn premiss_count(step_records: &[u8], k: usize) -> u8
     requires { HasStep step_records.now k }
     ensures { result ≡ premiss_count step_records.now k }
 {
-    StepRecord {
-        records: step_records,
-        k,
-    }
-    .premiss_count()
+    StepRecord { step_records, k }.premiss_count()
 }
 
 // Step k.
@@ -85,11 +77,7 @@ pub fn step_at(step_records: &[u8], k: usize) -> Step
     requires { HasStep step_records.now k }
     ensures { result ≡ step_at step_records.now k }
 {
-    StepRecord {
-        records: step_records,
-        k,
-    }
-    .step()
+    StepRecord { step_records, k }.step()
 }
 
 // Step k has a number that refusal 9 does not let pass.
@@ -97,11 +85,7 @@ pub fn bad_step(step_records: &[u8], k: usize, names: usize, propositions: usize
     requires { HasStep step_records.now k }
     ensures { result ≡ bad_step names propositions step_records.now k }
 {
-    StepRecord {
-        records: step_records,
-        k,
-    }
-    .is_bad(names, propositions)
+    StepRecord { step_records, k }.is_bad(names, propositions)
 }
 
 // How many identifiers the rule of a byte has.
@@ -145,7 +129,8 @@ fn tree_start(step_records: &[u8], k: usize, sizes: &[u16]) -> Option<usize>
 }
 
 // Refusal 10, its first part: the lowest step that finds too few trees. The sizes are those of the steps' trees. Each turn reads the
-// sizes that the turns before it wrote, so no search over a closure that only reads serves; nor does a struct that lends them.
+// sizes that the turns before it wrote, so no search over a closure that only reads serves; nor does a struct of the records and the
+// sizes, which would lend them to two readers alone.
 #[tactic(auto, unfolding(definitions::specs::Sheet::step_size, definitions::specs::Sheet::step_limit, crate::specs::Tables::TreeStart))]
 pub fn fill_sizes(step_records: &[u8], steps: usize, sizes: &mut [u16]) -> Option<usize>
     requires { (HasSteps step_records.now steps) × (steps ≤ step_limit) × (steps ≤ length sizes.old) }
@@ -160,7 +145,8 @@ pub fn fill_sizes(step_records: &[u8], steps: usize, sizes: &mut [u16]) -> Optio
     None
 }
 
-// Refusal 10, its second part: the last step's tree has not all the steps.
+// Refusal 10, its second part: the last step's tree has not all the steps. The sizes are a table that the caller keeps beside the
+// records, so what they are is asked for in each clause.
 pub fn leaves_trees(step_records: &[u8], steps: usize, sizes: &[u16]) -> bool
     requires { (0 < steps) × (steps ≤ length sizes.now) × SizeTable step_records.now steps sizes.now }
     ensures { (names : ℕ) (pairs code : List ℕ) →

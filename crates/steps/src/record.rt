@@ -34,9 +34,9 @@ const TYPE_JUDGEMENT: usize = 1;
 // Step k of records that have it.
 #[derive(Clone, Copy)]
 pub struct StepRecord<'a> {
-    pub records: &'a [u8],
+    pub step_records: &'a [u8],
     pub k: usize,
-    pub ghost there: { HasStep records.now k },
+    pub ghost there: { HasStep step_records.now k },
 }
 
 impl StepRecord<'_> {
@@ -44,30 +44,30 @@ impl StepRecord<'_> {
     #[tactic(auto, unfolding(definitions::specs::Sheet::step_size, definitions::specs::Sheet::step_number))]
     fn number(&self, at: usize) -> usize
         requires { at + 1 < step_size }
-        ensures { (result ≡ step_number self.now.records.now self.now.k at) × (result < 65536) }
+        ensures { (result ≡ step_number self.now.step_records.now self.now.k at) × (result < 65536) }
     {
-        number_at(self.records, STEP_SIZE * self.k + at)
+        number_at(self.step_records, STEP_SIZE * self.k + at)
     }
 
     #[tactic(auto, unfolding(definitions::specs::Sheet::step_size, definitions::specs::Sheet::rule_byte))]
     pub fn rule_byte(&self) -> u8
-        ensures { result ≡ rule_byte self.now.records.now self.now.k }
+        ensures { result ≡ rule_byte self.now.step_records.now self.now.k }
     {
-        self.records[STEP_SIZE * self.k]
+        self.step_records[STEP_SIZE * self.k]
     }
 
     #[tactic(auto, unfolding(definitions::specs::Sheet::step_size, definitions::specs::Sheet::premiss_count))]
     pub fn premiss_count(&self) -> u8
-        ensures { result ≡ premiss_count self.now.records.now self.now.k }
+        ensures { result ≡ premiss_count self.now.step_records.now self.now.k }
     {
-        self.records[STEP_SIZE * self.k + 1]
+        self.step_records[STEP_SIZE * self.k + 1]
     }
 
     // The name and the id at an offset.
     #[tactic(auto, unfolding(crate::specs::StepAt::identifier_at))]
     fn identifier(&self, at: usize) -> Identifier
         requires { at + 3 < step_size }
-        ensures { result ≡ identifier_at self.now.records.now self.now.k at }
+        ensures { result ≡ identifier_at self.now.step_records.now self.now.k at }
     {
         Identifier {
             name: self.number(at) as u16,
@@ -78,7 +78,7 @@ impl StepRecord<'_> {
     // The conclusion: its kind says what the numbers after it are.
     #[tactic(auto, unfolding(definitions::specs::Sheet::step_size, crate::specs::StepAt::conclusion_at))]
     fn conclusion(&self) -> Conclusion
-        ensures { result ≡ conclusion_at self.now.records.now self.now.k }
+        ensures { result ≡ conclusion_at self.now.step_records.now self.now.k }
     {
         let first = self.number(NUMBER) as u16;
         if self.number(KIND) == PROP_IS_TRUE {
@@ -94,7 +94,7 @@ impl StepRecord<'_> {
     // The column that the step was drawn in.
     #[tactic(auto, unfolding(definitions::specs::Sheet::step_size, definitions::specs::Sheet::column))]
     fn column(&self) -> u16
-        ensures { result ≡ column self.now.records.now self.now.k }
+        ensures { result ≡ column self.now.step_records.now self.now.k }
     {
         self.number(COLUMN) as u16
     }
@@ -102,7 +102,7 @@ impl StepRecord<'_> {
     // The step as a value.
     #[tactic(auto, unfolding(definitions::specs::Sheet::step_size, crate::specs::StepAt::step_at))]
     pub fn step(&self) -> Step
-        ensures { result ≡ step_at self.now.records.now self.now.k }
+        ensures { result ≡ step_at self.now.step_records.now self.now.k }
     {
         Step {
             rule: self.rule_byte(),
@@ -118,7 +118,7 @@ impl StepRecord<'_> {
     #[tactic(auto, unfolding(definitions::specs::Admission::no_name))]
     fn no_name(&self, at: usize, names: usize) -> bool
         requires { at + 1 < step_size }
-        ensures { (propositions : ℕ) → result ≡ no_name names propositions self.now.records.now self.now.k at }
+        ensures { (propositions : ℕ) → result ≡ no_name names propositions self.now.step_records.now self.now.k at }
     {
         names <= self.number(at)
     }
@@ -127,7 +127,7 @@ impl StepRecord<'_> {
     #[tactic(auto, unfolding(definitions::specs::Admission::not_zero))]
     fn not_zero(&self, at: usize) -> bool
         requires { at + 1 < step_size }
-        ensures { (names propositions : ℕ) → result ≡ not_zero names propositions self.now.records.now self.now.k at }
+        ensures { (names propositions : ℕ) → result ≡ not_zero names propositions self.now.step_records.now self.now.k at }
     {
         self.number(at) != 0
     }
@@ -137,7 +137,7 @@ impl StepRecord<'_> {
     fn uses_identifier(&self, at: usize) -> bool
         requires { at + 3 < step_size }
         ensures { (names propositions : ℕ) →
-            result ≡ bad_identifier names propositions self.now.records.now self.now.k at false }
+            result ≡ bad_identifier names propositions self.now.step_records.now self.now.k at false }
     {
         self.not_zero(at) || self.not_zero(at + 2)
     }
@@ -145,7 +145,7 @@ impl StepRecord<'_> {
     // An identifier has no name where the rule has it, or is used where the rule lacks it.
     #[tactic(auto, unfolding(definitions::specs::Sheet::step_size, definitions::specs::Admission::bad_identifier))]
     fn bad_identifiers(&self, rule: Rule, names: usize) -> bool
-        ensures { (propositions : ℕ) → result ≡ bad_identifiers names propositions self.now.records.now self.now.k rule }
+        ensures { (propositions : ℕ) → result ≡ bad_identifiers names propositions self.now.step_records.now self.now.k rule }
     {
         match rule.identifier_count() {
             0 => self.uses_identifier(FIRST) || self.uses_identifier(SECOND),
@@ -157,7 +157,7 @@ impl StepRecord<'_> {
     // A conclusion of kind 0: a proposition number, 0, 0.
     #[tactic(auto, unfolding(definitions::specs::Sheet::step_size, definitions::specs::Admission::bad_prop_is_true))]
     fn bad_prop_is_true(&self, propositions: usize) -> bool
-        ensures { (names : ℕ) → result ≡ bad_prop_is_true names propositions self.now.records.now self.now.k }
+        ensures { (names : ℕ) → result ≡ bad_prop_is_true names propositions self.now.step_records.now self.now.k }
     {
         propositions <= self.number(NUMBER) || (self.not_zero(UNIQUE_ID) || self.not_zero(DATATYPE))
     }
@@ -165,14 +165,14 @@ impl StepRecord<'_> {
     // A conclusion of kind 1: a name, an id, a datatype name.
     #[tactic(auto, unfolding(definitions::specs::Sheet::step_size, definitions::specs::Admission::bad_type_judgement))]
     fn bad_type_judgement(&self, names: usize) -> bool
-        ensures { (propositions : ℕ) → result ≡ bad_type_judgement names propositions self.now.records.now self.now.k }
+        ensures { (propositions : ℕ) → result ≡ bad_type_judgement names propositions self.now.step_records.now self.now.k }
     {
         self.no_name(NUMBER, names) || self.no_name(DATATYPE, names)
     }
 
     #[tactic(auto, unfolding(definitions::specs::Sheet::step_size, definitions::specs::Admission::bad_conclusion))]
     fn bad_conclusion(&self, names: usize, propositions: usize) -> bool
-        ensures { result ≡ bad_conclusion names propositions self.now.records.now self.now.k }
+        ensures { result ≡ bad_conclusion names propositions self.now.step_records.now self.now.k }
     {
         match self.number(KIND) {
             PROP_IS_TRUE => self.bad_prop_is_true(propositions),
@@ -184,7 +184,7 @@ impl StepRecord<'_> {
     // The column is out of range.
     #[tactic(auto, unfolding(definitions::specs::Sheet::column_limit, definitions::specs::Admission::bad_column))]
     fn bad_column(&self) -> bool
-        ensures { (names propositions : ℕ) → result ≡ bad_column names propositions self.now.records.now self.now.k }
+        ensures { (names propositions : ℕ) → result ≡ bad_column names propositions self.now.step_records.now self.now.k }
     {
         COLUMN_LIMIT < self.column()
     }
@@ -192,7 +192,7 @@ impl StepRecord<'_> {
     // The rule, the kind, a name, a proposition number or the column is out of range, or an unused field is not 0.
     #[tactic(auto, unfolding(definitions::specs::Sheet::step_size, definitions::specs::Tree::rule_in, definitions::specs::Admission::identifiers, definitions::specs::Admission::bad_step))]
     pub fn is_bad(&self, names: usize, propositions: usize) -> bool
-        ensures { result ≡ bad_step names propositions self.now.records.now self.now.k }
+        ensures { result ≡ bad_step names propositions self.now.step_records.now self.now.k }
     {
         let Some(rule) = Rule::of_byte(self.rule_byte()) else {
             return true;
