@@ -10,7 +10,7 @@ use lib.Seq.{get_or-set_same, get_or-set_other}
 use Rattle.std.specs.Prelude.{Option, None, Some}
 use Rattle.definitions.specs.Name.{Name}
 use Rattle.definitions.specs.NameIndex.{slot_count, start_slot}
-use Rattle.declarations.specs.Chains.{up_to, Newest, Chained}
+use Rattle.declarations.specs.Chains.{Newest, Chained}
 
 pub start_slot_below : (x : Name) → start_slot x < slot_count
 unfolding start_slot slot_count

@@ -21,7 +21,7 @@ use Rattle.prop_lists.specs.Entries.{use_of}
 use Rattle.declarations.specs.declared.Declaration.{Declaration}
 use Rattle.declarations.specs.declared.Declarations.{Declarations}
 use Rattle.declarations.specs.Memory.{use_over, uses_over, use_in, declarations, declared_uses, is_declared, flag_of, flagged, Fresh, Noted, Declared, Held, Notes}
-use Rattle.declarations.specs.Chains.{row, slot_of, up_to, Newest, Chained}
+use Rattle.declarations.specs.Chains.{row, slot_of, Newest}
 use Rattle.declarations.proofs.Firsts.{occurs_append, occurs_firsts, firsts_known, firsts_new, eq_atom_use_true, eq_atom_use_refl, same_search}
 use Rattle.declarations.proofs.Declared.{flagged_few, flagged_more}
 use Rattle.declarations.proofs.Chains.{start_slot_below, chained_more}

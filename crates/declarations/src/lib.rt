@@ -33,6 +33,9 @@ pub struct Declaration {
     pub count: u16,
 }
 
+// The functions below take a memory and its vocabulary as two parameters: as fields of one struct, `name_in bytes.now v` would read
+// `name_in names.entry.bytes.now names.entry.v` in each clause.
+
 // Whether a declaration has this count and the bytes of this name. The counts are compared first, so that few names are.
 fn has(other: Declaration, name: usize, count: usize, bytes: &[u8], v: Vocabulary) -> bool
     requires { Names bytes.now v name × Names bytes.now v other.name }
@@ -43,7 +46,7 @@ fn has(other: Declaration, name: usize, count: usize, bytes: &[u8], v: Vocabular
         && same_name(wanted, vocabulary::name(bytes, v, usize::from(other.name)))
 }
 
-// The declarations so far: the first `len` rows. Whether a use was noted, by its name's number and its count. The declarations of a
+// The declarations so far: the first `len` of N rows. Whether a use was noted, by its name's number and its count. The declarations of a
 // start slot in a chain: its newest, and behind each the next older one.
 #[derive(Drop)]
 pub struct Declarations<const N: usize> {

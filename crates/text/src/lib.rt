@@ -36,8 +36,8 @@ const DECLARATION_LIMIT: usize = Sheet::NAME_LIMIT * (Sheet::PARAMETER_LIMIT + 1
 // The text of a sheet's term has fewer bytes: 2 to the 42nd.
 const TERM_TEXT_LIMIT: usize = 4398046511104;
 
-// The list whose declarations come first in a version of the heading, and the list whose come second. The version is looked at here and
-// where the order is chosen, and nowhere else.
+// The list whose declarations come first in a version of the heading, and the list whose come second. In this crate the version is looked
+// at here and where the order is chosen, and handed on elsewhere.
 #[tactic(auto, unfolding(definitions::specs::Text::first_list, definitions::specs::Text::second_list))]
 fn lists(version: Version) -> (TermList, TermList)
     ensures { (result.0 ≡ first_list version) × (result.1 ≡ second_list version) }

@@ -1,13 +1,11 @@
 -- The next of the declarations that are left is the one, or the search goes on with the next older one of its slot.
-use Prim.Native.Nat.{◌<◌}
 use mathlib.Core.Path.{◌≡◌, sym, ◌∙◌}
 use native.Mathlib.Omega.{arith}
 use borrow.Author.Rules.{rules}
 use lib.ListN.{length}
-use Rattle.definitions.specs.NameIndex.{slot_count, start_slot}
+use Rattle.definitions.specs.NameIndex.{slot_count}
 use Rattle.vocabulary.specs.Vocabulary.{name_in}
 use Rattle.prop_lists.specs.Entries.{use_of}
-use Rattle.declarations.specs.Memory.{use_over, use_in, same_use}
 use Rattle.declarations.specs.Chains.{row}
 use Rattle.declarations.proofs.Chains.{start_slot_below}
 use Rattle.declarations.proofs.Noting.{newest_of}

@@ -1,13 +1,9 @@
 -- Each return is one of the three ways to note a use: by its flag, by a declaration that has its bytes, or as a new declaration.
-use Prim.Native.Nat.{◌+◌, ◌*◌, ◌≤◌, ◌<◌}
-use mathlib.Core.Path.{◌≡◌, refl, sym, ap, ◌∙◌}
+use mathlib.Core.Path.{sym, ap, ◌∙◌}
 use native.Mathlib.Omega.{arith}
 use borrow.Author.Rules.{rules}
-use lib.ListN.{length}
 use Rattle.definitions.specs.Code.{parameter_limit}
 use Rattle.definitions.specs.NameIndex.{slot_count, start_slot}
-use Rattle.vocabulary.specs.Vocabulary.{name_in}
-use Rattle.declarations.specs.Memory.{flag_of}
 use Rattle.declarations.proofs.Noting.{has_flag, noted_again, slot_below, room_for_one, noted_known, noted_new}
 use Rattle.declarations.proofs.Declarations.note.Goals as goal
 

@@ -1,5 +1,3 @@
-use native.Mathlib.Omega.{arith}
-use Rattle.prop_lists.specs.Entries.{use_of, FirstEntry}
 use Rattle.prop_lists.proofs.Rows.{begins, row_there, entries_there}
 use Rattle.declarations.proofs.Threads.{all_left, one_less, none_left}
 use Rattle.declarations.proofs.Declarations.note_entries.Goals as goal
