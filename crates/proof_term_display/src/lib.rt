@@ -137,7 +137,9 @@ fn form_of(kind: Kind) -> Form
     }
 }
 
-// Whether a part is bracketed, by its position, the style and its form: closed, call, function, block, ascription.
+// Whether a part is bracketed, by its position, the style and its form: closed, call, function, block, ascription. It is a table of
+// document 01, with a row for each position and a column for each form, and so are the formats below, which end at a full stop since
+// what is as long for each kind is one array.
 #[tactic(auto, unfolding(crate::specs::Brackets::is_bracketed, definitions::specs::Display::brackets_of, definitions::specs::Display::is_strict, definitions::specs::Display::brackets, definitions::specs::Display::bracketed))]
 fn brackets_of(position: PartPosition, style: Style) -> [bool; 5]
     ensures { result ≡ bracket_row position style }

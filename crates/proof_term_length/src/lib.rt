@@ -16,7 +16,8 @@ use proof_term_display::{TermPart, is_bracketed, kind_at};
 use prop_length::{name_length, text_length};
 use vocabulary::Vocabulary;
 
-// Half as many as a sheet's code has bytes, and as many as a term of a sheet has records.
+// Half as many as a sheet's code has bytes, and as many as a term of a sheet has records. The limits of a sheet are constants of `sheet`,
+// which this crate does not build on; the memory is fixed, since a library has no heap.
 const KNOWN_LIMIT: usize = 4096;
 
 const RECORD_LIMIT: usize = 2048;
@@ -61,7 +62,8 @@ fn make_row(
     }
 }
 
-// The row of each kind of record.
+// The row of each kind of record. The formats of the printing say the same byte by byte, and a measure that went through them would look
+// at each byte that a printing puts.
 fn row_of(kind: Kind) -> Row
     ensures { result ≡ row_of kind }
 {
@@ -87,6 +89,9 @@ fn sum(a: usize, b: usize, cap: usize) -> usize
 {
     a.saturating_add(b).min(cap)
 }
+
+// Records, memory, vocabulary, lengths, style and cap stand loose in what follows: three of the functions take each a part of them, and
+// what they ask for speaks of one record, memory or table at a time.
 
 // The length of the name in a number of record `n`, if there is one. A number of no name stands for no byte.
 fn name_in(records: &[u16], n: usize, number: Option<usize>, bytes: &[u8], v: Vocabulary) -> usize
@@ -158,7 +163,8 @@ fn bare_length(
 }
 
 // The length of the text of the proposition at `at`, which is found out once, unless a label 4,096 bytes away takes turns with it.
-// An entry is twice a length, and one more for an offset in the upper half of the code.
+// An entry is twice a length, and one more for an offset in the upper half of the code: a struct of both would take twice the memory, which
+// lies in the frame of the deepest printing.
 fn known_length(
     bytes: &[u8],
     v: Vocabulary,
