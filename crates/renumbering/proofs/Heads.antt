@@ -1,15 +1,13 @@
 -- What is written for a head: a byte below 5 is one by itself, an atom has a name and parameters, a quantifier two names.
 use Prim.Native.Nat.{ℕ, ◌+◌, ◌<◌}
 use mathlib.Core.Path.{◌≡◌, refl}
-use mathlib.Core.Bool.{Bool}
 use mathlib.Core.List.{List, [], ◌∷◌}
 use native.Mathlib.Omega.{arith}
 use lib.ListN.{get_or, length-map}
 use Rattle.definitions.specs.Sheet.{number_at}
 use Rattle.definitions.specs.Prop.{PropParameter, Quantifier, connective_byte}
 use Rattle.definitions.specs.Code.{u16}
-use Rattle.output.specs.Wrote.{Wrote}
-use Rattle.output.proofs.Writing as writing
+use Rattle.output.specs.SinkLaws.{SinkLaws}
 use Rattle.prefix_code.specs.Scan.{Stands, parameters_coding}
 use Rattle.prefix_code.specs.Head.{Head, TrueHead, FalseHead, BinaryHead, AtomHead, QuantifiedHead, encode_head, head_coding}
 use Rattle.prefix_code.proofs.Positions.{byte_at}
@@ -79,32 +77,32 @@ module _ (names : ℕ) {code : List ℕ} {at : ℕ} (s : Standing (head_coding n
       let a = atom_at k in
       record { value = a.parameters; rest = s.rest; inside = a.bytes.inside; stands = a.bytes.parameters }
 
-module _ (names : ℕ) {code : List ℕ} {at : ℕ} (numbers : List ℕ) {write : Bool} {before first : List ℕ} {to next : ℕ}
-    (w : Wrote (get_or code at 0 ∷ []) write before to first next) where
-  pub bare_written : get_or code at 0 < 5 → Renumbers (head_coding names) rename_head code at numbers write before to first next
-  bare_written k = record { wrote = λ h rest s. rw (bare_text names code at (mapped numbers) h rest s k) w }
+module _ (names : ℕ) {code : List ℕ} {at : ℕ} (numbers : List ℕ) {S : Type 0} {puts : S → List ℕ → S → Type 0} (laws : SinkLaws puts) {before first : S}
+    (w : puts before (get_or code at 0 ∷ []) first) where
+  pub bare_written : get_or code at 0 < 5 → Renumbers (head_coding names) rename_head code at numbers puts before first
+  bare_written k = record { put = λ h rest s. rw (bare_text names code at (mapped numbers) h rest s k) w }
 
-  module _ {second : List ℕ} {position : ℕ} (v : Wrote (u16 (mapped numbers (number_at code (at + 1)))) write first next second position) where
-    pub atom_written : get_or code at 0 ≡ 5 → {third fourth : List ℕ} {counted end : ℕ}
-        → Wrote (get_or code (at + 3) 0 ∷ []) write second position third counted
-        → Renumbers (parameters_coding names (get_or code (at + 3) 0)) rename_parameters code (at + 4) numbers write third counted fourth end
-        → Renumbers (head_coding names) rename_head code at numbers write before to fourth end
+  module _ {second : S} (v : puts first (u16 (mapped numbers (number_at code (at + 1)))) second) where
+    pub atom_written : get_or code at 0 ≡ 5 → {third fourth : S}
+        → puts second (get_or code (at + 3) 0 ∷ []) third
+        → Renumbers (parameters_coding names (get_or code (at + 3) 0)) rename_parameters code (at + 4) numbers puts third fourth
+        → Renumbers (head_coding names) rename_head code at numbers puts before fourth
     unfolding encode_head rename_head rename_parameters
     atom_written k u ps = record {
-      wrote = λ h rest s.
+      put = λ h rest s.
           let a = atom_there names code at h rest s k in
           let b = a.bytes in
-          let joined = writing.then (rw k at w) (writing.then v (writing.then u (ps.wrote a.parameters rest b.parameters))) in
+          let joined = laws.then (rw k at w) (laws.then v (laws.then u (ps.put a.parameters rest b.parameters))) in
           rw (a.is, length-map, ← b.count, ← b.name) joined;
     }
 
-    pub quantifier_written : 5 < get_or code at 0 → {third : List ℕ} {end : ℕ}
-        → Wrote (u16 (mapped numbers (number_at code (at + 3)))) write second position third end
-        → Renumbers (head_coding names) rename_head code at numbers write before to third end
+    pub quantifier_written : 5 < get_or code at 0 → {third : S}
+        → puts second (u16 (mapped numbers (number_at code (at + 3)))) third
+        → Renumbers (head_coding names) rename_head code at numbers puts before third
     unfolding encode_head rename_head
     quantifier_written k u = record {
-      wrote = λ h rest s.
+      put = λ h rest s.
           let a = quantifier_there names code at h rest s k in
           let b = a.bytes in
-          rw (a.is, ← b.byte, ← b.object, ← b.datatype) (writing.then w (writing.then v u));
+          rw (a.is, ← b.byte, ← b.object, ← b.datatype) (laws.then w (laws.then v u));
     }

@@ -1,15 +1,13 @@
 -- What is written for a parameter, and for parameters one after another.
 use Prim.Native.Nat.{ℕ, ◌+◌, ◌-◌, ◌≤◌, ◌<◌}
 use mathlib.Core.Path.{◌≡◌, refl, ◌∙◌}
-use mathlib.Core.Bool.{Bool}
 use mathlib.Core.List.{List, [], ◌∷◌, ◌++◌, append_assoc}
 use native.Mathlib.Omega.{arith}
 use lib.ListN.{length, get_or, drop}
 use Rattle.definitions.specs.Sheet.{number_at}
 use Rattle.definitions.specs.Prop.{PropParameter, rename_parameter}
 use Rattle.definitions.specs.Code.{u16, encode_parameter, encode_parameters, CodableParameters}
-use Rattle.output.specs.Wrote.{Wrote}
-use Rattle.output.proofs.Writing as writing
+use Rattle.output.specs.SinkLaws.{SinkLaws}
 use Rattle.prefix_code.specs.Scan.{Stands, Ends, Several, parameter_coding, parameters_coding}
 use Rattle.prefix_code.proofs.Positions.{after, extent}
 use Rattle.prefix_code.proofs.Parameters.{ParameterBytes, parameter_bytes}
@@ -21,38 +19,38 @@ module _ (names : ℕ) {code : List ℕ} {at : ℕ} where
   pub parameter_at : (s : Standing (parameter_coding names) code at) → ParameterBytes names code at s.value s.rest
   parameter_at s = parameter_bytes names code at s.value s.rest s.stands
 
-module _ (names : ℕ) {code : List ℕ} {at : ℕ} (numbers : List ℕ) {write : Bool} {before first second : List ℕ} {to next position : ℕ}
-    (w : Wrote (get_or code at 0 ∷ []) write before to first next)
-    (v : Wrote (u16 (mapped numbers (number_at code (at + 1)))) write first next second position) where
-  pub uninstantiated_written : get_or code at 0 ≡ 0 → Renumbers (parameter_coding names) rename_parameter code at numbers write before to second position
+module _ (names : ℕ) {code : List ℕ} {at : ℕ} (numbers : List ℕ) {S : Type 0} {puts : S → List ℕ → S → Type 0} (laws : SinkLaws puts) {before first second : S}
+    (w : puts before (get_or code at 0 ∷ []) first)
+    (v : puts first (u16 (mapped numbers (number_at code (at + 1)))) second) where
+  pub uninstantiated_written : get_or code at 0 ≡ 0 → Renumbers (parameter_coding names) rename_parameter code at numbers puts before second
   unfolding encode_parameter rename_parameter
   uninstantiated_written byte = record {
-    wrote = λ p rest s.
+    put = λ p rest s.
         let b = parameter_bytes names code at p rest s in
-        rw (b.uninstantiated byte).0 (writing.then (rw byte at w) v);
+        rw (b.uninstantiated byte).0 (laws.then (rw byte at w) v);
   }
 
-  pub instantiated_written : {third : List ℕ} {id end : ℕ} → get_or code at 0 ≡ 1 → id ≡ number_at code (at + 3)
-      → Wrote (u16 id) write second position third end
-      → Renumbers (parameter_coding names) rename_parameter code at numbers write before to third end
+  pub instantiated_written : {third : S} {id : ℕ} → get_or code at 0 ≡ 1 → id ≡ number_at code (at + 3)
+      → puts second (u16 id) third
+      → Renumbers (parameter_coding names) rename_parameter code at numbers puts before third
   unfolding encode_parameter rename_parameter
   instantiated_written byte id_at u = record {
-    wrote = λ p rest s.
+    put = λ p rest s.
         let b = parameter_bytes names code at p rest s in
-        rw ((b.instantiated byte).0, ← id_at) (writing.then (rw byte at w) (writing.then v u));
+        rw ((b.instantiated byte).0, ← id_at) (laws.then (rw byte at w) (laws.then v u));
   }
 
 -- The parameters that are left decide what is left to write.
-module _ (names : ℕ) (code numbers : List ℕ) (write : Bool) (before : List ℕ) (to at count : ℕ) where
-  pub record Rest (ps : List (PropParameter ℕ)) (rest : List ℕ) (mid : List ℕ) (i needed position : ℕ) : Type 0 where
+module _ (names : ℕ) (code numbers : List ℕ) {S : Type 0} (puts : S → List ℕ → S → Type 0) (before : S) (at count : ℕ) where
+  pub record Rest (ps : List (PropParameter ℕ)) (rest : List ℕ) (mid : S) (i needed : ℕ) : Type 0 where
     pub others : List (PropParameter ℕ)
     pub stands : Stands (parameters_coding names needed) code i others rest
     pub left : Left (encode_parameters (rename_parameters (mapped numbers) ps)) (encode_parameters (rename_parameters (mapped numbers) others))
-        write before to mid position
+        puts before mid
 
-  pub record Remaining (mid : List ℕ) (i needed position : ℕ) : Type 0 where
+  pub record Remaining (mid : S) (i needed : ℕ) : Type 0 where
     pub inside : i ≤ length code
-    pub some : (ps : List (PropParameter ℕ)) (rest : List ℕ) → Stands (parameters_coding names count) code at ps rest → Rest ps rest mid i needed position
+    pub some : (ps : List (PropParameter ℕ)) (rest : List ℕ) → Stands (parameters_coding names count) code at ps rest → Rest ps rest mid i needed
 
 -- the first of some parameters, and the others
 pub record First (names : ℕ) (code : List ℕ) (i needed : ℕ) (ps : List (PropParameter ℕ)) (rest : List ℕ) : Type 0 where
@@ -77,11 +75,11 @@ first_of names code i needed (p ∷ ps) rest h s =
       behind = λ j e. ((s.0.0.1, fewer), rw e (after code i (encode_parameter p) (encode_parameters ps ++ rest) here));
     }
 
-module _ {names : ℕ} {code numbers : List ℕ} {write : Bool} {before : List ℕ} {to at count : ℕ} where
-  pub at_first : at ≤ length code → Remaining names code numbers write before to at count before at count to
+module _ {names : ℕ} {code numbers : List ℕ} {S : Type 0} {puts : S → List ℕ → S → Type 0} (laws : SinkLaws puts) {before : S} {at count : ℕ} where
+  pub at_first : at ≤ length code → Remaining names code numbers puts before at count before at count
   at_first h = record { inside = h; some = λ ps rest s. record { others = ps; stands = s; left = all_left } }
 
-  module _ {mid : List ℕ} {i needed position : ℕ} (r : Remaining names code numbers write before to at count mid i needed position) where
+  module _ {mid : S} {i needed : ℕ} (r : Remaining names code numbers puts before at count mid i needed) where
     -- one is there
     pub next_asked : Standing (parameters_coding names count) code at → 0 < needed → Standing (parameter_coding names) code i
     next_asked s h =
@@ -95,12 +93,12 @@ module _ {names : ℕ} {code numbers : List ℕ} {write : Bool} {before : List �
         let one = next_asked s h in
         omega (arith, ends.found one.value one.rest one.stands, extent code i (encode_parameter one.value) one.rest r.inside one.stands.1)
 
-    pub one_written : Standing (parameters_coding names count) code at → 0 < needed → {out : List ℕ} {next j : ℕ}
-        → Renumbers (parameter_coding names) rename_parameter code i numbers write mid position out next
+    pub one_written : Standing (parameters_coding names count) code at → 0 < needed → {out : S} {j : ℕ}
+        → Renumbers (parameter_coding names) rename_parameter code i numbers puts mid out
         → Ends (parameter_coding names) code i j
-        → Remaining names code numbers write before to at count out j (needed - 1) next
+        → Remaining names code numbers puts before at count out j (needed - 1)
     unfolding rename_parameters encode_parameters
-    one_written here h {out} {next} {j} w ends = record {
+    one_written here h {out} {j} w ends = record {
       inside = next_inside here h ends;
       some = λ ps rest s.
           let more = r.some ps rest s in
@@ -108,16 +106,16 @@ module _ {names : ℕ} {code numbers : List ℕ} {write : Bool} {before : List �
           record {
             others = f.others;
             stands = f.behind j (ends.found f.parameter (encode_parameters f.others ++ rest) f.stands);
-            left = piece_less (rw f.is at more.left) (w.wrote f.parameter (encode_parameters f.others ++ rest) f.stands);
+            left = piece_less laws (rw f.is at more.left) (w.put f.parameter (encode_parameters f.others ++ rest) f.stands);
           };
     }
 
-    pub all_written : needed ≡ 0 → Renumbers (parameters_coding names count) rename_parameters code at numbers write before to mid position
+    pub all_written : needed ≡ 0 → Renumbers (parameters_coding names count) rename_parameters code at numbers puts before mid
     unfolding Stands Several rename_parameters encode_parameters
-    all_written none = record { wrote = λ ps rest s. let more = r.some ps rest s in go ps more.others (more.stands.0.1 ∙ none) more.left }
+    all_written none = record { put = λ ps rest s. let more = r.some ps rest s in go ps more.others (more.stands.0.1 ∙ none) more.left }
       where
         go : (ps qs : List (PropParameter ℕ)) → length qs ≡ 0
-            → Left (encode_parameters (rename_parameters (mapped numbers) ps)) (encode_parameters (rename_parameters (mapped numbers) qs)) write before to mid position
-            → Wrote (encode_parameters (rename_parameters (mapped numbers) ps)) write before to mid position
-        go ps [] e l = none_left l
+            → Left (encode_parameters (rename_parameters (mapped numbers) ps)) (encode_parameters (rename_parameters (mapped numbers) qs)) puts before mid
+            → puts before (encode_parameters (rename_parameters (mapped numbers) ps)) mid
+        go ps [] e l = none_left laws l
         go ps (q ∷ qs) e l = absurd (omega arith)

@@ -1,20 +1,19 @@
 -- A proposition is a head and its parts. What is left of its code behind any of its heads is a row of propositions.
 use Prim.Native.Nat.{ℕ, ◌+◌, ◌≤◌, ◌<◌}
 use mathlib.Core.Path.{◌≡◌, refl, sym, ap, ◌∙◌}
-use mathlib.Core.Bool.{Bool}
 use mathlib.Core.List.{List, [], ◌∷◌, ◌++◌, append_assoc, append-nil}
 use native.Mathlib.Omega.{arith}
 use lib.ListN.{length, drop, length-append, length-drop}
 use Rattle.definitions.specs.Prop.{Prop, True, False, Binary, Atom, Quantified, rename_prop}
 use Rattle.definitions.specs.Code.{u16, encode, Codable}
 use Rattle.definitions.proofs.PrefixCode.{code_nonempty}
-use Rattle.output.specs.Wrote.{Wrote}
+use Rattle.output.specs.SinkLaws.{SinkLaws}
 use Rattle.prefix_code.specs.Scan.{Stands, Ends}
 use Rattle.prefix_code.specs.Head.{Head, TrueHead, FalseHead, BinaryHead, AtomHead, QuantifiedHead, encode_head, CodableHead, head_coding}
 use Rattle.prefix_code.proofs.Positions.{after, extent}
 use Rattle.prefix_code.proofs.Heads.{HeadAt}
 use Rattle.prefix_code.proofs.Propositions.{headed}
-use Rattle.renumbering.specs.Renumbered.{mapped, rename_head, rename_parameters, Standing, Renumbers, Whole, RenumbersWhole}
+use Rattle.renumbering.specs.Renumbered.{mapped, rename_head, rename_parameters, Standing, Renumbers, Whole, PutWhole}
 use Rattle.renumbering.proofs.Writes.{Left, all_left, piece_less, none_left}
 
 abbrev pub head_of : Prop ℕ → Head
@@ -131,18 +130,18 @@ unfolding CodableRow row
 whole_row {p = p} g e = record { codable = (g, tt); coded = e ∙ sym (append-nil (encode p)) }
 
 -- The propositions that are left decide what is left to write.
-module _ (names : ℕ) (code numbers : List ℕ) (write : Bool) (before : List ℕ) (to : ℕ) where
-  pub record Rest (p : Prop ℕ) (mid : List ℕ) (i position : ℕ) : Type 0 where
+module _ (names : ℕ) (code numbers : List ℕ) {S : Type 0} (puts : S → List ℕ → S → Type 0) (before : S) where
+  pub record Rest (p : Prop ℕ) (mid : S) (i : ℕ) : Type 0 where
     pub others : List (Prop ℕ)
     pub stands : RowAt names code i others
-    pub left : Left (encode (rename_prop (mapped numbers) p)) (row_over (mapped numbers) others) write before to mid position
+    pub left : Left (encode (rename_prop (mapped numbers) p)) (row_over (mapped numbers) others) puts before mid
 
-  pub record Remaining (mid : List ℕ) (i position : ℕ) : Type 0 where
+  pub record Remaining (mid : S) (i : ℕ) : Type 0 where
     pub inside : i ≤ length code
-    pub some : (p : Prop ℕ) → Codable names p → code ≡ encode p → Rest p mid i position
+    pub some : (p : Prop ℕ) → Codable names p → code ≡ encode p → Rest p mid i
 
-module _ {names : ℕ} {code numbers : List ℕ} {write : Bool} {before : List ℕ} {to : ℕ} where
-  pub at_first : Remaining names code numbers write before to before 0 to
+module _ {names : ℕ} {code numbers : List ℕ} {S : Type 0} {puts : S → List ℕ → S → Type 0} (laws : SinkLaws puts) {before : S} where
+  pub at_first : Remaining names code numbers puts before before 0
   unfolding CodableRow row row_over
   at_first = record {
     inside = omega arith;
@@ -153,7 +152,7 @@ module _ {names : ℕ} {code numbers : List ℕ} {write : Bool} {before : List �
     };
   }
 
-  module _ {mid : List ℕ} {i position : ℕ} (r : Remaining names code numbers write before to mid i position) where
+  module _ {mid : S} {i : ℕ} (r : Remaining names code numbers puts before mid i) where
     pub next_asked : Whole names code → i < length code → Standing (head_coding names) code i
     next_asked w h =
         let more = r.some w.value w.codable w.coded in
@@ -169,10 +168,10 @@ module _ {names : ℕ} {code numbers : List ℕ} {write : Bool} {before : List �
         let within : j ≤ length code = omega (arith, found, extent code i (encode_head one.value) one.rest r.inside one.stands.1) in
         (within, (headed names code i j ends within).further)
 
-    pub one_written : Whole names code → i < length code → {out : List ℕ} {next j : ℕ}
-        → Renumbers (head_coding names) rename_head code i numbers write mid position out next → Ends (head_coding names) code i j
-        → Remaining names code numbers write before to out j next
-    one_written whole h {out} {next} {j} w ends = record {
+    pub one_written : Whole names code → i < length code → {out : S} {j : ℕ}
+        → Renumbers (head_coding names) rename_head code i numbers puts mid out → Ends (head_coding names) code i j
+        → Remaining names code numbers puts before out j
+    one_written whole h {out} {j} w ends = record {
       inside = (next_inside whole h ends).0;
       some = λ p g e.
           let more = r.some p g e in
@@ -183,17 +182,17 @@ module _ {names : ℕ} {code numbers : List ℕ} {write : Bool} {before : List �
           record {
             others = parts q ++ f.others;
             stands = rw ended f.behind;
-            left = piece_less (rw (f.is, row_over_lem (mapped numbers) q f.others) at more.left) (w.wrote (head_of q) rest f.stands);
+            left = piece_less laws (rw (f.is, row_over_lem (mapped numbers) q f.others) at more.left) (w.put (head_of q) rest f.stands);
           };
     }
 
-    pub all_written : length code ≤ i → RenumbersWhole names code numbers write before to mid position
+    pub all_written : length code ≤ i → PutWhole names code numbers puts before mid
     unfolding row_over row
-    all_written h = record { wrote = λ p g e. let more = r.some p g e in go p more.others more.stands more.left }
+    all_written h = record { put = λ p g e. let more = r.some p g e in go p more.others more.stands more.left }
       where
         go : (p : Prop ℕ) (ps : List (Prop ℕ)) → RowAt names code i ps
-            → Left (encode (rename_prop (mapped numbers) p)) (row_over (mapped numbers) ps) write before to mid position
-            → Wrote (encode (rename_prop (mapped numbers) p)) write before to mid position
-        go p [] s l = none_left l
+            → Left (encode (rename_prop (mapped numbers) p)) (row_over (mapped numbers) ps) puts before mid
+            → puts before (encode (rename_prop (mapped numbers) p)) mid
+        go p [] s l = none_left laws l
         go p (q ∷ qs) s l =
             absurd (omega (arith, length-drop i code, ap length s.coded, length-append (encode q) (row qs), code_nonempty q))

@@ -1,15 +1,13 @@
 -- What is made of a conclusion and a step, and what is written of them, piece by piece.
 use Prim.Native.Nat.{ℕ, ◌+◌}
 use mathlib.Core.Path.{◌≡◌, refl, ap}
-use mathlib.Core.Bool.{Bool}
 use mathlib.Core.List.{List, [], ◌∷◌, ◌++◌, map, append_assoc, append-nil}
 use native.Mathlib.Numerals.{add-one}
 use lib.Dec.{leb}
 use Rattle.definitions.specs.Encode.{concat}
 use Rattle.definitions.specs.Graft.{up_to}
 use Rattle.output.specs.Numbers.{u16s}
-use Rattle.output.specs.Wrote.{Wrote}
-use Rattle.output.proofs.Writing as writing
+use Rattle.output.specs.SinkLaws.{SinkLaws}
 use Rattle.steps.specs.declared.Conclusion.{Conclusion}
 use Rattle.steps.specs.declared.Conclusion.TheVariants.{PropIsTrue, TypeJudgement}
 use Rattle.steps.specs.declared.Judgement.{Judgement}
@@ -42,24 +40,24 @@ pub step_over_lem : (f : ℕ → ℕ) (shift : ℕ) (s : Step) {first second : �
 unfolding step_over
 step_over_lem f shift s x y z = rw (x, y, z)
 
-module _ (c : Conclusion) (column : ℕ) {write : Bool} {before after : List ℕ} {to next : ℕ} where
-  pub proposition_written : (p : ℕ) → c ≡ PropIsTrue p → Wrote (u16s (0 ∷ p ∷ 0 ∷ 0 ∷ column ∷ [])) write before to after next
-      → Wrote (conclusion_bytes c column) write before to after next
+module _ (c : Conclusion) (column : ℕ) {S : Type 0} (puts : S → List ℕ → S → Type 0) {before after : S} where
+  pub proposition_written : (p : ℕ) → c ≡ PropIsTrue p → puts before (u16s (0 ∷ p ∷ 0 ∷ 0 ∷ column ∷ [])) after
+      → puts before (conclusion_bytes c column) after
   unfolding conclusion_bytes
   proposition_written p e w = rw e w
 
   pub judgement_written : (x : Judgement) → c ≡ TypeJudgement x
-      → Wrote (u16s (1 ∷ x.name ∷ x.unique_id ∷ x.datatype ∷ column ∷ [])) write before to after next
-      → Wrote (conclusion_bytes c column) write before to after next
+      → puts before (u16s (1 ∷ x.name ∷ x.unique_id ∷ x.datatype ∷ column ∷ [])) after
+      → puts before (conclusion_bytes c column) after
   unfolding conclusion_bytes
   judgement_written x e w = rw e w
 
-pub step_written : (s : Step) {write : Bool} {before a b c after : List ℕ} {to i j k next : ℕ} → Wrote (s.rule ∷ []) write before to a i
-    → Wrote (s.premiss_count ∷ []) write a i b j
-    → Wrote (u16s (s.first.name ∷ s.first.unique_id ∷ s.second.name ∷ s.second.unique_id ∷ [])) write b j c k
-    → Wrote (conclusion_bytes s.conclusion s.column) write c k after next → Wrote (step_bytes s) write before to after next
+pub step_written : (s : Step) {S : Type 0} {puts : S → List ℕ → S → Type 0} (laws : SinkLaws puts) {before a b c after : S} → puts before (s.rule ∷ []) a
+    → puts a (s.premiss_count ∷ []) b
+    → puts b (u16s (s.first.name ∷ s.first.unique_id ∷ s.second.name ∷ s.second.unique_id ∷ [])) c
+    → puts c (conclusion_bytes s.conclusion s.column) after → puts before (step_bytes s) after
 unfolding step_bytes
-step_written s rule count names conclusion = writing.then rule (writing.then count (writing.then names conclusion))
+step_written s laws rule count names conclusion = laws.then rule (laws.then count (laws.then names conclusion))
 
 concat_append : (xs ys : List (List ℕ)) → concat (xs ++ ys) ≡ concat xs ++ concat ys
 unfolding concat
@@ -82,11 +80,11 @@ module _ (f : ℕ → ℕ) (shift : ℕ) (records : List ℕ) where
         append-nil,
       )
 
-  pub step_added : (k : ℕ) {write : Bool} {before mid after : List ℕ} {to position next : ℕ} {s t : Step}
-      → Wrote (steps_over f shift records k) write before to mid position → s ≡ step_at records k → t ≡ step_over f shift s
-      → Wrote (step_bytes t) write mid position after next → Wrote (steps_over f shift records (k + 1)) write before to after next
-  step_added k a e g b = rw (one_more k) (writing.then a (rw (g, e) at b))
+  pub step_added : (k : ℕ) {S : Type 0} {puts : S → List ℕ → S → Type 0} (laws : SinkLaws puts) {before mid after : S} {s t : Step}
+      → puts before (steps_over f shift records k) mid → s ≡ step_at records k → t ≡ step_over f shift s
+      → puts mid (step_bytes t) after → puts before (steps_over f shift records (k + 1)) after
+  step_added k laws a e g b = rw (one_more k) (laws.then a (rw (g, e) at b))
 
-  pub none_added : (write : Bool) (before : List ℕ) (to : ℕ) → Wrote (steps_over f shift records 0) write before to before to
+  pub none_added : {S : Type 0} {puts : S → List ℕ → S → Type 0} (laws : SinkLaws puts) (before : S) → puts before (steps_over f shift records 0) before
   unfolding steps_over concat up_to
-  none_added write before to = writing.none write before to
+  none_added laws before = laws.none before

@@ -1,20 +1,18 @@
--- A text is written piece by piece: once what is left of it is written, all of it is.
-use Prim.Native.Nat.{ℕ}
-use mathlib.Core.Bool.{Bool}
+-- A text is put piece by piece: once what is left of it is put, all of it is.
 use mathlib.Core.List.{List, [], ◌++◌}
-use Rattle.output.specs.Wrote.{Wrote}
-use Rattle.output.proofs.Writing as writing
+use Prim.Native.Nat.{ℕ}
+use Rattle.output.specs.SinkLaws.{SinkLaws}
 
-pub record Left (text left : List ℕ) (write : Bool) (before : List ℕ) (to : ℕ) (mid : List ℕ) (position : ℕ) : Type 0 where
-  pub written : (after : List ℕ) (next : ℕ) → Wrote left write mid position after next → Wrote text write before to after next
+pub record Left {S : Type 0} (text left : List ℕ) (puts : S → List ℕ → S → Type 0) (before mid : S) : Type 0 where
+  pub all : (after : S) → puts mid left after → puts before text after
 
-module _ {text : List ℕ} {write : Bool} {before : List ℕ} {to : ℕ} where
-  pub all_left : Left text text write before to before to
-  all_left = record { written = λ after next w. w }
+module _ {S : Type 0} {puts : S → List ℕ → S → Type 0} {text : List ℕ} {before : S} where
+  pub all_left : Left text text puts before before
+  all_left = record { all = λ after w. w }
 
-  pub piece_less : {piece left mid after : List ℕ} {position next : ℕ} → Left text (piece ++ left) write before to mid position
-      → Wrote piece write mid position after next → Left text left write before to after next
-  piece_less l w = record { written = λ after next v. l.written after next (writing.then w v) }
+  pub piece_less : {piece left : List ℕ} {mid after : S} → SinkLaws puts → Left text (piece ++ left) puts before mid → puts mid piece after
+      → Left text left puts before after
+  piece_less laws l w = record { all = λ after v. l.all after (laws.then w v) }
 
-  pub none_left : {mid : List ℕ} {position : ℕ} → Left text [] write before to mid position → Wrote text write before to mid position
-  none_left {mid} {position} l = l.written mid position (writing.none write mid position)
+  pub none_left : {mid : S} → SinkLaws puts → Left text [] puts before mid → puts before text mid
+  none_left {mid} laws l = l.all mid (laws.none mid)

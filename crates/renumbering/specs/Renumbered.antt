@@ -28,10 +28,10 @@ module _ {A : Type 0} (coding : Coding A) where
     pub inside : at ≤ length code
     pub stands : Stands coding code at value rest
 
-  -- whatever stands at the position is written over the map's numbers
-  pub record Renumbers (rename : (ℕ → ℕ) → A → A) (code : List ℕ) (at : ℕ) (numbers : List ℕ) (write : Bool)
-      (before : List ℕ) (to : ℕ) (after : List ℕ) (r : ℕ) : Type 0 where
-    pub wrote : (a : A) (rest : List ℕ) → Stands coding code at a rest → Wrote (coding.code (rename (mapped numbers) a)) write before to after r
+  -- whatever stands at the position is put over the map's numbers
+  pub record Renumbers {S : Type 0} (rename : (ℕ → ℕ) → A → A) (code : List ℕ) (at : ℕ) (numbers : List ℕ)
+      (puts : S → List ℕ → S → Type 0) (before after : S) : Type 0 where
+    pub put : (a : A) (rest : List ℕ) → Stands coding code at a rest → puts before (coding.code (rename (mapped numbers) a)) after
 
 -- the code is that of one proposition
 pub record Whole (names : ℕ) (code : List ℕ) : Type 0 where
@@ -39,6 +39,10 @@ pub record Whole (names : ℕ) (code : List ℕ) : Type 0 where
   pub codable : Codable names value
   pub coded : code ≡ encode value
 
--- whatever proposition it is, it is written over the map's numbers
+-- whatever proposition it is, it is put over the map's numbers
+pub record PutWhole {S : Type 0} (names : ℕ) (code numbers : List ℕ) (puts : S → List ℕ → S → Type 0) (before after : S) : Type 0 where
+  pub put : (p : Prop ℕ) → Codable names p → code ≡ encode p → puts before (encode (rename_prop (mapped numbers) p)) after
+
+-- the same, in lent memory by a position and a flag
 pub record RenumbersWhole (names : ℕ) (code numbers : List ℕ) (write : Bool) (before : List ℕ) (to : ℕ) (after : List ℕ) (r : ℕ) : Type 0 where
   pub wrote : (p : Prop ℕ) → Codable names p → code ≡ encode p → Wrote (encode (rename_prop (mapped numbers) p)) write before to after r

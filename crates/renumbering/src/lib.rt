@@ -8,134 +8,105 @@ ghost use Rattle.definitions.specs.Code.{u16};
 ghost use Rattle.output.specs.Wrote.{Wrote};
 ghost use Rattle.prefix_code.specs.Scan.{proposition_coding, parameter_coding, parameters_coding};
 ghost use Rattle.prefix_code.specs.Head.{head_coding};
-ghost use Rattle.renumbering.specs.Renumbered.{Standing, Renumbers, rename_head, rename_parameters, Whole, RenumbersWhole};
+ghost use Rattle.renumbering.specs.Renumbered.{Standing, Renumbers, rename_head, rename_parameters, Whole, PutWhole, RenumbersWhole};
 ghost use Rattle.definitions.specs.Prop.{rename_parameter};
 ghost use Rattle.renumbering.specs.Renumbered.{mapped};
 ghost use Rattle.renumbering.specs.StepOver.{identifiers_of, name_over, conclusion_over, step_over, conclusion_bytes, step_bytes, steps_over};
 ghost use Rattle.renumbering.specs.StepOver.{ConclusionMapped, IdentifiersMapped, StepMapped, StepsMapped};
 
 use number::number_at;
-use output::{put, put_u16, put_u16s};
+use output::sink::{put_u16, put_u16s};
+use output::{Counter, Sink, Writer};
 use prefix_code::{Head, ParameterKind, head_end, parameter_end};
 use steps::{Conclusion, Identifier, Judgement, Step, identifier_count, step_at};
 
-// Code, place, map and memory stand loose in what follows: both places move from call to call, and a struct that holds the memory to be
-// written must be named in each clause that speaks of it before and after, which makes the clauses longer than these are.
+// Code, place and map stand loose in what follows: the place moves from call to call, and what is asked and promised is one relation of a
+// coding, `Standing` or `Renumbers`, in which each function names its own.
 
 // The name whose number stands at a position, through the map.
 #[tactic(auto, unfolding(crate::specs::Renumbered::mapped))]
-fn put_name(
-    code: &[u8],
-    at: usize,
-    numbers: &[u16],
-    out: &mut [u8],
-    to: usize,
-    write: bool,
-) -> usize
+fn put_name<S: Sink<u8>>(code: &[u8], at: usize, numbers: &[u16], sink: &mut S)
     requires { (at + 1 < length code.now) × (number_at code.now at < length numbers.now) }
-    ensures { Wrote (u16 (mapped numbers.now (number_at code.now at))) write out.old to out.new result }
+    ensures { S.puts sink.old (u16 (mapped numbers.now (number_at code.now at))) sink.new }
 {
-    put_u16(out, to, numbers[number_at(code, at)], write)
+    put_u16(sink, numbers[number_at(code, at)]);
 }
 
 // The parameter at a position: its kind, its name through the map, and its id if it has one.
-fn put_parameter(
-    code: &[u8],
-    at: usize,
-    names: usize,
-    numbers: &[u16],
-    out: &mut [u8],
-    to: usize,
-    write: bool,
-) -> usize
+fn put_parameter<S: Sink<u8>>(code: &[u8], at: usize, names: usize, numbers: &[u16], sink: &mut S)
     requires { Standing (parameter_coding names) code.now at × (names ≤ length numbers.now) }
-    ensures { Renumbers (parameter_coding names) rename_parameter code.now at numbers.now write
-        out.old to out.new result }
+    ensures { Renumbers (parameter_coding names) rename_parameter code.now at numbers.now S.puts sink.old sink.new }
 {
     let byte = code[at];
     let Some(kind) = ParameterKind::of_byte(byte) else {
         unreachable!();
     };
-    let started = put(out, to, byte, write);
-    let named = put_name(code, at + 1, numbers, out, started, write);
+    sink.put(byte);
+    put_name(code, at + 1, numbers, sink);
     match kind {
-        ParameterKind::Uninstantiated => named,
-        ParameterKind::Instantiated => {
-            let id = number_at(code, at + 3);
-            put_u16(out, named, id as u16, write)
-        }
+        ParameterKind::Uninstantiated => {}
+        ParameterKind::Instantiated => put_u16(sink, number_at(code, at + 3) as u16),
     }
 }
 
 // So many parameters from a position on.
-fn put_parameters(
+fn put_parameters<S: Sink<u8>>(
     code: &[u8],
     at: usize,
     count: usize,
     names: usize,
     numbers: &[u16],
-    out: &mut [u8],
-    to: usize,
-    write: bool,
-) -> usize
+    sink: &mut S,
+)
     requires { Standing (parameters_coding names count) code.now at × (names ≤ length numbers.now) }
-    ensures { Renumbers (parameters_coding names count) rename_parameters code.now at numbers.now
-        write out.old to out.new result }
+    ensures { Renumbers (parameters_coding names count) rename_parameters code.now at numbers.now S.puts sink.old sink.new }
 {
     let mut i = at;
-    let mut position = to;
     for _ in 0..count {
-        position = put_parameter(code, i, names, numbers, out, position, write);
+        put_parameter(code, i, names, numbers, sink);
         i = parameter_end(code, i, names);
     }
-    position
 }
 
 // The head at a position: all that stands before its parts.
-fn put_head(
-    code: &[u8],
-    at: usize,
-    names: usize,
-    numbers: &[u16],
-    out: &mut [u8],
-    to: usize,
-    write: bool,
-) -> usize
+fn put_head<S: Sink<u8>>(code: &[u8], at: usize, names: usize, numbers: &[u16], sink: &mut S)
     requires { Standing (head_coding names) code.now at × (names ≤ length numbers.now) }
-    ensures { Renumbers (head_coding names) rename_head code.now at numbers.now write
-        out.old to out.new result }
+    ensures { Renumbers (head_coding names) rename_head code.now at numbers.now S.puts sink.old sink.new }
 {
-    let byte = code[at];
-    let Some(head) = Head::of_byte(byte) else {
+    let front = code[at];
+    let Some(head) = Head::of_byte(front) else {
         unreachable!();
     };
-    let next = put(out, to, byte, write);
+    sink.put(front);
     match head {
-        Head::True | Head::False | Head::Binary(_) => next,
+        Head::True | Head::False | Head::Binary(_) => {}
         Head::Atom => {
             let count = code[at + 3];
-            let named = put_name(code, at + 1, numbers, out, next, write);
-            let counted = put(out, named, count, write);
-            let first = at + 4;
-            put_parameters(
-                code,
-                first,
-                count as usize,
-                names,
-                numbers,
-                out,
-                counted,
-                write,
-            )
+            put_name(code, at + 1, numbers, sink);
+            sink.put(count);
+            put_parameters(code, at + 4, count as usize, names, numbers, sink);
         }
         Head::Quantified(_) => {
-            let named = put_name(code, at + 1, numbers, out, next, write);
-            put_name(code, at + 3, numbers, out, named, write)
+            put_name(code, at + 1, numbers, sink);
+            put_name(code, at + 3, numbers, sink);
         }
     }
 }
 
 // The proposition that is all of the code, head by head.
+pub fn put_proposition<S: Sink<u8>>(code: &[u8], names: usize, numbers: &[u16], sink: &mut S)
+    requires { Whole names code.now × (names ≤ length numbers.now) }
+    ensures { PutWhole names code.now numbers.now S.puts sink.old sink.new }
+{
+    let mut i = 0;
+    // A head's own bytes say where it ends, so the place moves by no fixed step.
+    while i < code.len() {
+        put_head(code, i, names, numbers, sink);
+        i = head_end(code, i, names);
+    }
+}
+
+// The same in lent memory, by a position and a flag.
 pub fn put_renumbered(
     code: &[u8],
     names: usize,
@@ -148,14 +119,14 @@ pub fn put_renumbered(
     ensures { RenumbersWhole names code.now numbers.now write
         out.old to out.new result }
 {
-    let mut i = 0;
-    let mut position = to;
-    // A head's own bytes say where it ends, so the place moves by no fixed step.
-    while i < code.len() {
-        position = put_head(code, i, names, numbers, out, position, write);
-        i = head_end(code, i, names);
+    if write {
+        let mut writer = Writer { out, to };
+        put_proposition(code, names, numbers, &mut writer);
+        return writer.to;
     }
-    position
+    let mut counter = Counter { count: to };
+    put_proposition(code, names, numbers, &mut counter);
+    counter.count
 }
 
 // The numbers of a step's identifiers: the map's for those that its rule has, and the others as they stand.
@@ -213,30 +184,20 @@ fn renumber_step(numbers: &[u16], step: Step, shift: usize) -> Step
 
 // A conclusion and the column after it: kind 0, a proposition and two zeros, or kind 1, an object and its datatype. The
 // kinds are bytes of document 01's format, which are written here alone, and read as a `Conclusion`.
-fn put_conclusion(
-    out: &mut [u8],
-    to: usize,
-    conclusion: Conclusion,
-    column: u16,
-    write: bool,
-) -> usize
-    ensures { Wrote (conclusion_bytes conclusion column) write out.old to out.new result }
+fn put_conclusion<S: Sink<u8>>(sink: &mut S, conclusion: Conclusion, column: u16)
+    ensures { S.puts sink.old (conclusion_bytes conclusion column) sink.new }
 {
     match conclusion {
-        Conclusion::PropIsTrue(p) => {
-            let numbers = [0, p, 0, 0, column];
-            put_u16s(out, to, &numbers, write)
-        }
+        Conclusion::PropIsTrue(p) => put_u16s(sink, &[0, p, 0, 0, column]),
         Conclusion::TypeJudgement(x) => {
-            let numbers = [1, x.name, x.unique_id, x.datatype, column];
-            put_u16s(out, to, &numbers, write)
+            put_u16s(sink, &[1, x.name, x.unique_id, x.datatype, column]);
         }
     }
 }
 
 // The record of a step.
-fn put_step(out: &mut [u8], to: usize, step: Step, write: bool) -> usize
-    ensures { Wrote (step_bytes step) write out.old to out.new result }
+fn put_step<S: Sink<u8>>(sink: &mut S, step: Step)
+    ensures { S.puts sink.old (step_bytes step) sink.new }
 {
     let names = [
         step.first.name,
@@ -245,13 +206,29 @@ fn put_step(out: &mut [u8], to: usize, step: Step, write: bool) -> usize
         step.second.unique_id,
     ];
     let conclusion = step.conclusion;
-    let after_rule = put(out, to, step.rule, write);
-    let after_count = put(out, after_rule, step.premiss_count, write);
-    let after_names = put_u16s(out, after_count, &names, write);
-    put_conclusion(out, after_names, conclusion, step.column, write)
+    sink.put(step.rule);
+    sink.put(step.premiss_count);
+    put_u16s(sink, &names);
+    put_conclusion(sink, conclusion, step.column);
 }
 
 // The first steps, one after another.
+pub fn put_renumbered_steps<S: Sink<u8>>(
+    records: &[u8],
+    steps: usize,
+    shift: usize,
+    numbers: &[u16],
+    sink: &mut S,
+)
+    requires { StepsMapped records.now steps shift numbers.now }
+    ensures { S.puts sink.old (steps_over (mapped numbers.now) shift records.now steps) sink.new }
+{
+    for k in 0..steps {
+        put_step(sink, renumber_step(numbers, step_at(records, k), shift));
+    }
+}
+
+// The same in lent memory, by a position and a flag.
 pub fn put_steps(
     records: &[u8],
     steps: usize,
@@ -265,10 +242,12 @@ pub fn put_steps(
     ensures { Wrote (steps_over (mapped numbers.now) shift records.now steps) write
         out.old to out.new result }
 {
-    let mut position = to;
-    for k in 0..steps {
-        let step = renumber_step(numbers, step_at(records, k), shift);
-        position = put_step(out, position, step, write);
+    if write {
+        let mut writer = Writer { out, to };
+        put_renumbered_steps(records, steps, shift, numbers, &mut writer);
+        return writer.to;
     }
-    position
+    let mut counter = Counter { count: to };
+    put_renumbered_steps(records, steps, shift, numbers, &mut counter);
+    counter.count
 }

@@ -3,5 +3,5 @@ use Rattle.renumbering.proofs.Steps.{step_written}
 use Rattle.renumbering.proofs.put_step.Goals as goal
 
 pub returns : goal.returns
-returns c =
-    step_written _ c.put-after_rule.ensures c.put-after_count.ensures c.put_u16s-after_names.ensures c.put_conclusion.ensures
+returns g c =
+    step_written _ g.met.S.Sink.laws c.put.ensures c.put-2.ensures c.put_u16s.ensures c.put_conclusion.ensures

@@ -2,10 +2,10 @@
 use Prim.Native.Nat.{◌-◌}
 use lib.ListN.{length}
 use Rattle.renumbering.proofs.Rows.{Remaining}
-use Rattle.renumbering.proofs.put_renumbered.Given as goal
+use Rattle.renumbering.proofs.put_proposition.Given as goal
 
 abbrev pub invariant-loop-i : goal.invariant-loop-i
-invariant-loop-i l = Remaining l.names l.code l.numbers l.write l.initial.out l.to l.out l.i l.position
+invariant-loop-i g l = Remaining l.names l.code l.numbers g.S.Sink.puts l.initial.sink l.sink l.i
 
 abbrev pub decreases-loop-i : goal.decreases-loop-i
-decreases-loop-i l = length l.code - l.i
+decreases-loop-i g l = length l.code - l.i

@@ -1,0 +1,25 @@
+-- The invariant: the propositions that are left decide what is left to write. The measure is the code that is left.
+use native.Mathlib.Omega.{arith}
+use Rattle.renumbering.proofs.Rows.{at_first, next_asked, next_inside, one_written, all_written}
+use Rattle.renumbering.proofs.put_proposition.Goals as goal
+
+pub loop-i-init : goal.loop-i-init
+loop-i-init g c = at_first g.met.S.Sink.laws
+
+pub put_head-requires : goal.put_head-requires
+put_head-requires g c = (next_asked g.met.S.Sink.laws c.loop-i.invariant c.requires.0 c.loop-i-test.true, c.requires.1)
+
+pub head_end-i-requires : goal.head_end-i-requires
+head_end-i-requires g c = c.loop-i.invariant.inside
+
+pub loop-i-smaller : goal.loop-i-smaller
+loop-i-smaller g c =
+    omega (arith, next_inside g.met.S.Sink.laws c.loop-i.invariant c.requires.0 c.loop-i-test.true c.head_end-i.ensures)
+
+pub loop-i-preserved : goal.loop-i-preserved
+loop-i-preserved g c =
+    one_written g.met.S.Sink.laws c.loop-i.invariant c.requires.0 c.loop-i-test.true c.put_head.ensures
+    c.head_end-i.ensures
+
+pub returns : goal.returns
+returns g c = all_written g.met.S.Sink.laws c.loop-i.invariant (omega arith)
