@@ -25,6 +25,8 @@ use term_stack::{
 };
 use words::{argument_follows, expect};
 
+// As in `term_openings`, each function is lent the memories that it reads or writes and no others, so that its contract says what stays.
+
 // The first term after a bracket is in hand: the bracket closes, or the second part of a pair is to be read.
 fn give_bracket(text: &[u8], work: &mut Work, s: Progress, hand: Hand, p: Purpose) -> Option<State>
     requires { TextBegins (AtEntry hand (Entry.Bracket p)) text.now work.old s }
@@ -81,7 +83,8 @@ fn give_let(text: &[u8], work: &mut Work, s: Progress, hand: Hand, x: u16, y: u1
     enter(work, Progress { at: body, ..s }, entry)
 }
 
-// What stands before the branch of a case: this word, a name and an arrow. The branch begins at the end of what was read.
+// What stands before the branch of a case: this word, a name and an arrow. The branch begins at the end of what was read. The names and
+// their count are two parameters, as in `words`.
 fn read_branch(
     text: &[u8],
     at: usize,

@@ -24,6 +24,10 @@ use prop_reader::{LabelRead, read_label};
 use term_stack::{Entry, Progress, Purpose, State, Work, enter, use_leaf};
 use words::{Start, expect, name_end, number_of_name, start_of, word_end};
 
+// Each function is lent the memories that it reads or writes and no others, so that its contract says of the others that they stay: over
+// a struct of text, list, names, code and work every clause would speak of all five. What a function asks of them together, as
+// `NamesBegin`, is a fact over several loans, which no type of one of them can hold.
+
 // A name as a closed term, from `s.at` to `end`, read for a purpose.
 fn name_for(
     text: &[u8],
@@ -93,7 +97,8 @@ fn start_case(text: &[u8], work: &mut Work, s: Progress) -> Option<State>
     enter(work, Progress { at: head, ..s }, Entry::CaseHead)
 }
 
-// After the word of a named function, whose records are of this kind: a blank, and then the body, a closed term.
+// After the word of a named function, whose records are of this kind: a blank, and then the body, a closed term. It shares with
+// `start_case` the line for the blank alone.
 fn call(text: &[u8], names: &mut [u8], work: &mut Work, s: Progress, kind: u16) -> Option<State>
     requires { NamesBegin (AtCall kind) text.now names.old work.old s }
     ensures { NamesEnd (AtCall kind) 0 text.now names.old work.old s
@@ -104,7 +109,8 @@ fn call(text: &[u8], names: &mut [u8], work: &mut Work, s: Progress, kind: u16) 
     closed_for(text, names, work, behind, Purpose::Body(kind))
 }
 
-// The name after these bytes at `at`, with its number.
+// The name after these bytes at `at`, with its number. The names and their count are two parameters, as in `words`, whose fact `Table`
+// ties both to the text; so are the code and where it ends, below.
 fn name_after(
     text: &[u8],
     at: usize,

@@ -23,7 +23,8 @@ use words::{TABLE_SIZE, all_admitted, clear};
 // A term's text has at most so many bytes; a sheet's text has a limit of its own.
 const TEXT_LIMIT: usize = 65536;
 
-// How many nodes, names, bytes of code and labels a term has.
+// How many nodes, names, bytes of code and labels a term has. The lent memories are longer than what a term takes of them, so its sizes
+// are handed beside them.
 #[derive(Drop)]
 pub struct TermSize {
     pub nodes: usize,
@@ -43,7 +44,7 @@ fn goes_on(state: State) -> bool
     }
 }
 
-// One turn.
+// One turn. As in `term_openings`, each function is lent the memories that it reads or writes and no others.
 fn turn(
     text: &[u8],
     types: &[u8],

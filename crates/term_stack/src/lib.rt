@@ -161,6 +161,9 @@ pub fn over(form: Form, nest: usize, tally: usize, hand: Hand) -> Hand
     }
 }
 
+// The memory is changed in place, and the progress is a value that each step hands on changed: so they are two parameters and no
+// struct.
+
 // Makes the record of a term, which is in hand then, if no limit is passed.
 pub fn make(
     work: &mut Work,
