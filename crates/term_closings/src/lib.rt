@@ -15,7 +15,7 @@ ghost use Rattle.term_openings.specs.Beginning.{TextBegins, TextEnds, NamesBegin
 ghost use Rattle.term_closings.specs.Branching.{BranchLacks, BranchGiven};
 ghost use Rattle.term_closings.specs.Giving.{AtEntry};
 
-use proof_term::{PAIR, TYPE_ASCRIPTION};
+use proof_term::Kind;
 use prop_parts::{NameRead, read_name};
 use prop_reader::read_label;
 use term_openings::closed_for;
@@ -68,7 +68,7 @@ fn give_second(
         usize::from(first.tally),
         hand,
     );
-    let made = make(work, behind, PAIR as u16, numbers, pair)?;
+    let made = make(work, behind, Kind::Pair, numbers, pair)?;
     use_for(work, made, pair, p)
 }
 
@@ -211,7 +211,7 @@ fn ascribe(
     let root = waiting(s, hand).root;
     let numbers = [root, 0, label.kind as u16, label.number as u16, 0];
     let whole = over(Form::Ascription, 0, 1, hand);
-    let made = make(work, behind, TYPE_ASCRIPTION as u16, numbers, whole)?;
+    let made = make(work, behind, Kind::TypeAscription, numbers, whole)?;
     Some(State::Giving(made, whole))
 }
 

@@ -23,6 +23,7 @@ use Rattle.atom_reader.specs.Scope.{Crowded}
 use Rattle.atom_reader.proofs.Readings.{gives_any, gives_from}
 use Rattle.term_stack.specs.declared.Entry as stacked
 use Rattle.term_stack.specs.declared.Work.{Work}
+use Rattle.proof_term.specs.declared.nodes.Kind.{Kind}
 use Rattle.term_stack.specs.declared.Progress.{Progress}
 use Rattle.term_stack.specs.declared.Purpose.TheVariants.{Body}
 use Rattle.term_stack.specs.declared.Entry.TheVariants.{CaseHead, LetHead}
@@ -63,7 +64,7 @@ module _ {z : Scene} {work : Work} {s : Progress} (c : Started case_word z work 
     }
 
 -- The body of a named function.
-module _ {z : Scene} {work : Work} {s : Progress} {kind : ℕ} (c : AtCall kind z work s) where
+module _ {z : Scene} {work : Work} {s : Progress} {kind : Kind} (c : AtCall kind z work s) where
   pub body_not : expect (utf8 " ") (drop s.at z.text) ≡ None → Refuses z
   unfolding start
   body_not e = ends_here (expect (utf8 " ") (drop s.at z.text)) _ c.started.comes e

@@ -3,18 +3,18 @@ use Rattle.std.specs.Prelude.{ℕ, ◌+◌, ◌<◌, ◌≤◌, ◌≡◌, false
 use Rattle.definitions.specs.Name.{Name}
 use Rattle.definitions.specs.Term.{NamedFunction}
 use Rattle.definitions.specs.TermReader.{Start, call_word, word, name, expect, start_of, is_sorry}
-use Rattle.definitions.specs.TermMemory.{function_kind}
 use Rattle.definitions.proofs.Readings.{given}
 use Rattle.reading_laws.specs.TermMachine as machine
 use Rattle.reading_laws.specs.TermMachine.{Entry, closed_for, start}
 use Rattle.reading_laws.specs.Marks.{purpose_marks, entries_marks}
 use Rattle.words.specs.Table.{add_name, number_in, table_names, TooMany, Noted}
 use Rattle.prop_parts.specs.declared.NameRead as reader
+use Rattle.proof_term.specs.declared.nodes.Kind.{Kind}
 use Rattle.term_stack.specs.declared.Progress.{Progress}
 use Rattle.term_stack.specs.declared.Purpose.{Purpose}
 use Rattle.term_stack.specs.declared.State.{State}
 use Rattle.term_stack.specs.declared.Work.{Work}
-use Rattle.term_stack.specs.Numbers.{purpose_after, purpose_records, stack_of, stack_records}
+use Rattle.term_stack.specs.Numbers.{as_kind, purpose_after, purpose_records, stack_of, stack_records}
 use Rattle.term_stack.specs.Standing.{Scene, ThereIs, Stored, Placed, left_at}
 use Rattle.term_stack.specs.Turning.{Standpoint}
 use Rattle.term_stack.specs.Using.{Comes, Refuses, Turned}
@@ -53,9 +53,9 @@ pub record Started (first : Start) (z : Scene) (work : Work) (s : Progress) : Ty
       Stored (entries_marks entries) (λ number. stack_records number entries) (λ number. stack_of number entries) z work s.used s.depth s.count s.to
 
 -- the first word is that of a named function, whose records are of this kind
-pub record AtCall (kind : ℕ) (z : Scene) (work : Work) (s : Progress) : Type 0 where
+pub record AtCall (kind : Kind) (z : Scene) (work : Work) (s : Progress) : Type 0 where
   pub function : NamedFunction
-  pub kind_is : kind ≡ function_kind function
+  pub kind_is : kind ≡ as_kind function
   pub started : Started (call_word function) z work s
 
 -- the name after these bytes, with its number

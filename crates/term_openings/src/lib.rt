@@ -6,19 +6,17 @@ ghost use Rattle.definitions.specs.CallerNames.{names_in};
 ghost use Rattle.definitions.specs.Term.{NamedFunction};
 ghost use Rattle.definitions.specs.TermReader.{fn_word, case_word, let_word};
 ghost use Rattle.definitions.specs.TermText.{term_text_limit};
-ghost use Rattle.definitions.specs.TermMemory.{function_kind};
 ghost use Rattle.words.specs.Places.{NameEnds};
 ghost use Rattle.words.specs.Starts.{as_call};
 ghost use Rattle.words.specs.Table.{Table};
 ghost use Rattle.prop_reader.specs.Answer.{LabelBegins};
+ghost use Rattle.term_stack.specs.Numbers.{as_kind};
 ghost use Rattle.term_stack.specs.Standing.{ThereIs, AtReading};
 ghost use Rattle.term_stack.specs.Turning.{TurnBegins, TurnEnds};
 ghost use Rattle.term_openings.specs.Beginning.{AtClosed, Wordless, Started, AtCall, NameLacksAfter, NameThere, TextBegins, TextEnds, NamesBegin, NamesEnd};
 ghost use Rattle.term_openings.specs.Parameters.{ParameterLacks, ParameterGiven};
 
-use proof_term::{
-    ABORT, IDENT, NO_LABEL, OR_LEFT, OR_RIGHT, PROJECT_FST, PROJECT_SND, SORRY, UNIT,
-};
+use proof_term::{Kind, NO_LABEL};
 use prop_parts::{NameRead, read_name};
 use prop_reader::{LabelRead, read_label};
 use term_stack::{Entry, Progress, Purpose, State, Work, enter, use_leaf};
@@ -48,7 +46,7 @@ fn name_for(
         count: name.count,
         ..s
     };
-    use_leaf(work, behind, IDENT as u16, name.number as u16, p)
+    use_leaf(work, behind, Kind::Ident, name.number as u16, p)
 }
 
 // A bracket that opens, read for a purpose: unit where it closes at once, or else an entry for what stands in it.
@@ -59,7 +57,7 @@ fn open_for(text: &[u8], work: &mut Work, s: Progress, p: Purpose) -> Option<Sta
     let inside = expect(text, s.at, b"(")?;
     if let Some(end) = expect(text, inside, b")") {
         let behind = Progress { at: end, ..s };
-        return use_leaf(work, behind, UNIT as u16, 0, p);
+        return use_leaf(work, behind, Kind::Unit, 0, p);
     }
     let behind = Progress { at: inside, ..s };
     enter(work, behind, Entry::Bracket(p))
@@ -83,7 +81,7 @@ pub fn closed_for(
     let end = word_end(text, s.at);
     if &text[s.at..end] == b"sorry".as_slice() {
         let behind = Progress { at: end, ..s };
-        return use_leaf(work, behind, SORRY as u16, 0, p);
+        return use_leaf(work, behind, Kind::Sorry, 0, p);
     }
     open_for(text, work, s, p)
 }
@@ -99,7 +97,7 @@ fn start_case(text: &[u8], work: &mut Work, s: Progress) -> Option<State>
 
 // After the word of a named function, whose records are of this kind: a blank, and then the body, a closed term. It shares with
 // `start_case` the line for the blank alone.
-fn call(text: &[u8], names: &mut [u8], work: &mut Work, s: Progress, kind: u16) -> Option<State>
+fn call(text: &[u8], names: &mut [u8], work: &mut Work, s: Progress, kind: Kind) -> Option<State>
     requires { NamesBegin (AtCall kind) text.now names.old work.old s }
     ensures { NamesEnd (AtCall kind) 0 text.now names.old work.old s
         names.new work.new result }
@@ -203,15 +201,15 @@ fn start_function(
 }
 
 // The kind of the records of the named function that this word calls; of a word that calls none nothing is said.
-fn called(first: Start) -> u16
-    ensures { (f : NamedFunction) → first ≡ as_call f → result ≡ function_kind f }
+fn called(first: Start) -> Kind
+    ensures { (f : NamedFunction) → first ≡ as_call f → result ≡ as_kind f }
 {
     match first {
-        Start::Fst => PROJECT_FST as u16,
-        Start::Snd => PROJECT_SND as u16,
-        Start::Inl => OR_LEFT as u16,
-        Start::Inr => OR_RIGHT as u16,
-        _ => ABORT as u16,
+        Start::Fst => Kind::ProjectFst,
+        Start::Snd => Kind::ProjectSnd,
+        Start::Inl => Kind::OrLeft,
+        Start::Inr => Kind::OrRight,
+        _ => Kind::Abort,
     }
 }
 

@@ -7,6 +7,7 @@ use Rattle.definitions.specs.Term.{Label, NamedFunction, ProofTerm}
 use Rattle.reading_laws.specs.TermMachine.{Purpose, as_head, as_argument, as_body, Entry, in_bracket, second, function_body, case_head, case_first, case_second, let_head, let_body}
 use Rattle.reading_laws.specs.Marks.{Mark, entries_marks}
 use Rattle.words.specs.Table.{number_in, table_names}
+use Rattle.proof_term.specs.declared.nodes.Kind.{Kind}
 use Rattle.term_stack.specs.declared.Progress.{Progress}
 use Rattle.term_stack.specs.declared.Hand.{Hand}
 use Rattle.term_stack.specs.declared.Part.{Part}
@@ -23,7 +24,7 @@ use Rattle.term_stack.proofs.Marked.{extends_itself}
 pub data ReadFor : reader.Purpose → Purpose → Type 0 where
   for_head : ReadFor Head as_head
   for_argument : {f : Part} {t : ProofTerm Name} → ReadFor (Argument f) (as_argument t)
-  for_body : {kind : ℕ} {g : NamedFunction} → ReadFor (Body kind) (as_body g)
+  for_body : {kind : Kind} {g : NamedFunction} → ReadFor (Body kind) (as_body g)
 
 pub data StandsFor : stacked.Entry → Entry → Type 0 where
   for_bracket : {q : reader.Purpose} {p : Purpose} → StandsFor (Bracket q) (in_bracket p)

@@ -14,6 +14,8 @@ use Rattle.reading_laws.specs.Marks.{Mark, node, marks, purpose_marks, entries_m
 use Rattle.reading_laws.proofs.MarksMet.{begins_all, After, after_used}
 use Rattle.reading_laws.proofs.OnTheWay.{Fits, nodes_both}
 use Rattle.reading_laws.proofs.Turns.{Next}
+use Rattle.proof_term.specs.declared.nodes.Kind.{Kind}
+use Rattle.proof_term.specs.Views.{kind_number}
 use Rattle.term_stack.specs.declared.Progress.{Progress}
 use Rattle.term_stack.specs.declared.Form.TheVariants.{Closed}
 use Rattle.term_stack.specs.declared.Hand.{Hand}
@@ -36,7 +38,7 @@ many_nodes ms (Some τ) h b = λ f. let n = ap nodes_met b.is ∙ nodes_both ms 
 abbrev pub leaf_hand : Hand
 leaf_hand = record { form = Closed; own = false; nest = 1; tally = 0 }
 
-module _ {z : Scene} {work : Work} {s : Progress} {kind a : ℕ} {q : Purpose} (l : Leaf z work s kind a q) where
+module _ {z : Scene} {work : Work} {s : Progress} {kind : Kind} {a : ℕ} {q : Purpose} (l : Leaf z work s kind a q) where
   too_many : Unmade s.used 1 → node_limit < nodes_met (entries_marks l.entries ++ (purpose_marks l.purpose ++ marks l.term))
   unfolding node_limit nodes_met
   too_many (nodes h) =
@@ -60,13 +62,13 @@ module _ {z : Scene} {work : Work} {s : Progress} {kind a : ℕ} {q : Purpose} (
       unfit l.comes (many_nodes ms (used l.entries l.purpose (standing false l.term) rest) (too_many why)
       (after_used ms l.entries l.purpose (standing false l.term) rest (begins_all ms)))
 
-  module _ {after : Work} {r : Progress} (m : MadeOf s (row_numbers kind (a ∷ 0 ∷ 0 ∷ 0 ∷ 0 ∷ []) 0) leaf_hand work after r) where
+  module _ {after : Work} {r : Progress} (m : MadeOf s (row_numbers (kind_number kind) (a ∷ 0 ∷ 0 ∷ 0 ∷ 0 ∷ []) 0) leaf_hand work after r) where
     pub leaf_using : Using z after r leaf_hand q
     unfolding standing row_numbers seven as_form
     leaf_using =
         let k = entries_marks l.entries in
         let p = purpose_marks l.purpose in
-        let st = stored_record (λ number. records_after number (k ++ p) l.term) (seven kind a 0 0 0 0 0) l.stored m.few refl l.row_is in
+        let st = stored_record (λ number. records_after number (k ++ p) l.term) (seven (kind_number kind) a 0 0 0 0 0) l.stored m.few refl l.row_is in
         record {
           entries = l.entries;
           purpose = l.purpose;

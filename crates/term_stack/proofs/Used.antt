@@ -8,7 +8,7 @@ use lib.ListN.{drop}
 use lib.Dec.{leb}
 use Rattle.std.specs.Prelude.{Some}
 use Rattle.definitions.specs.Name.{Name}
-use Rattle.definitions.specs.Term.{NamedFunction, ProofTerm, Named, Application, annotation_count}
+use Rattle.definitions.specs.Term.{NamedFunction, fst, snd, inl, inr, abort, ProofTerm, Named, Application, annotation_count}
 use Rattle.definitions.specs.Display.{form, argument_of, body_of}
 use Rattle.definitions.specs.TermText.{term_nesting}
 use Rattle.definitions.specs.TermReader.{Shown, standing, same}
@@ -16,6 +16,8 @@ use Rattle.definitions.specs.TermMemory.{function_kind, seven}
 use Rattle.reading_laws.specs.TermMachine.{Purpose, as_argument, as_body, Entry, holding, used}
 use Rattle.reading_laws.specs.Marks.{Mark, marks, purpose_marks, entries_marks, nodes_met}
 use Rattle.reading_laws.proofs.OnTheWay.{nodes_both, nodes_met_lem}
+use Rattle.proof_term.specs.declared.nodes.Kind.{Kind}
+use Rattle.proof_term.specs.Views.{kind_number}
 use Rattle.term_stack.specs.declared.Progress.{Progress}
 use Rattle.term_stack.specs.declared.Form.TheVariants.{Call}
 use Rattle.term_stack.specs.declared.Hand.{Hand}
@@ -26,7 +28,7 @@ use Rattle.term_stack.specs.declared.State.TheVariants.{Holding}
 use Rattle.term_stack.specs.declared.Work.{Work}
 use Rattle.term_stack.specs.Forms.{as_form, rank, least_form}
 use Rattle.term_stack.specs.Growing.{row_numbers, Unmade, MadeOf}
-use Rattle.term_stack.specs.Numbers.{part_after, purpose_after, root_after, records_after, purpose_records, stack_records, term_records}
+use Rattle.term_stack.specs.Numbers.{as_kind, part_after, purpose_after, root_after, records_after, purpose_records, stack_records, term_records}
 use Rattle.term_stack.specs.Standing.{Scene, HandOf, AtState, left_at, left_of}
 use Rattle.term_stack.specs.Using.{Comes, Refuses, Turned, UsedFor, Using, left_after}
 use Rattle.term_stack.proofs.Alike.{ReadFor, for_head, for_argument, for_body, purpose_for}
@@ -157,14 +159,24 @@ module _ {z : Scene} {work : Work} {s : Progress} {h : Hand} {f : Part} where
             → Turned z after (left_after z s) (Holding r (called f.nest f.tally h))
         made {k} {a = a} (for_argument {t = t}) u = held (argument_grows k t a last u is) (applied u) m _ (omega arith)
 
+-- the number of the kind of a named function's records
+named_kind : (g : NamedFunction) → kind_number (as_kind g) ≡ function_kind g
+unfolding as_kind function_kind
+named_kind fst = refl
+named_kind snd = refl
+named_kind inl = refl
+named_kind inr = refl
+named_kind abort = refl
+
 -- As the body of a named function.
-module _ {z : Scene} {work : Work} {s : Progress} {h : Hand} {kind : ℕ} where
+module _ {z : Scene} {work : Work} {s : Progress} {h : Hand} {kind : Kind} where
   body_grows : (k : List Entry) (g : NamedFunction) (a : Shown (ProofTerm Name)) (last : ℕ) → UsedFor k (as_body g) a z work s h (Body kind) → last ≡ s.used - 1
-      → Grows k (Named g a.shown) z work s (row_numbers kind (last ∷ 0 ∷ 0 ∷ 0 ∷ 0 ∷ []) (0 + h.tally)) (called 0 0 h)
+      → Grows k (Named g a.shown) z work s (row_numbers (kind_number kind) (last ∷ 0 ∷ 0 ∷ 0 ∷ 0 ∷ []) (0 + h.tally)) (called 0 0 h)
   unfolding purpose_marks purpose_records purpose_after term_records records_after marks form as_form term_nesting annotation_count row_numbers root_after seven
   body_grows k g a last u is =
       let ms = entries_marks k in
-      let kind_is : kind ≡ function_kind g = let e = u.purpose_is in cc in
+      let named : kind ≡ as_kind g = let e = u.purpose_is in cc in
+      let kind_is : kind_number kind ≡ function_kind g = ap kind_number named ∙ named_kind g in
       let m = u.hand.nest in
       let l = u.hand.tally in
       let tally : 0 + h.tally ≡ annotation_count a.shown = omega (arith, l) in
@@ -205,7 +217,7 @@ module _ {z : Scene} {work : Work} {s : Progress} {h : Hand} {kind : ℕ} where
         unmade {k} {a = a} (for_body {g = g}) u = not_held (body_grows k g a last u is) (called_on u) why
 
     pub body_held : {after : Work} {r : Progress} → Using z work s h (Body kind)
-        → MadeOf s (row_numbers kind (last ∷ 0 ∷ 0 ∷ 0 ∷ 0 ∷ []) (0 + h.tally)) (called 0 0 h) work after r → Turned z after (left_after z s) (Holding r (called 0 0 h))
+        → MadeOf s (row_numbers (kind_number kind) (last ∷ 0 ∷ 0 ∷ 0 ∷ 0 ∷ []) (0 + h.tally)) (called 0 0 h) work after r → Turned z after (left_after z s) (Holding r (called 0 0 h))
     unfolding left_after left_at
     body_held {after} {r} u m = made (purpose_for u) u.for
       where

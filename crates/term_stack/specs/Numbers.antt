@@ -1,10 +1,12 @@
 -- The numbers of the records and the stack of entries at each state of the machine, as functions of what was met.
 use Rattle.std.specs.Prelude.{ℕ, ◌+◌, ◌-◌, List, [], ◌∷◌, ◌++◌}
 use Rattle.definitions.specs.Name.{Name}
-use Rattle.definitions.specs.Term.{Label, ProofTerm, Ident, Pair, Named, Function, Application, LetIn, Case, TypeAscription, Unit, Sorry, annotation_count, is_labelled}
+use Rattle.definitions.specs.Term.{Label, NamedFunction, fst, snd, inl, inr, abort, ProofTerm, Ident, Pair, Named, Function, Application, LetIn, Case, TypeAscription, Unit, Sorry, annotation_count, is_labelled}
 use Rattle.definitions.specs.TermText.{term_nesting}
 use Rattle.definitions.specs.TermMemory.{labels_size, function_kind, label_kind, parameter_label_kind, seven, label_number, parameter_label_number}
 use Rattle.reading_laws.specs.TermMachine.{Purpose, as_head, as_argument, as_body, Entry, in_bracket, second, function_body, case_head, case_first, case_second, let_head, let_body}
+use Rattle.proof_term.specs.declared.nodes.Kind.{Kind}
+use Rattle.proof_term.specs.declared.nodes.Kind.TheVariants.{ProjectFst, ProjectSnd, OrLeft, OrRight, Abort}
 use Rattle.term_stack.specs.declared.Part.{Part}
 use Rattle.term_stack.specs.declared.Purpose as reader
 use Rattle.term_stack.specs.declared.Purpose.TheVariants.{Head, Argument, Body}
@@ -30,10 +32,18 @@ root_after ms a = nodes_met (ms ++ marks a) - 1
 unfoldable pub part_after : List Mark → ProofTerm Name → Part
 part_after ms a = record { root = root_after ms a; nest = term_nesting a; tally = annotation_count a }
 
+-- the kind of the records of a named function
+unfoldable pub as_kind : NamedFunction → Kind
+as_kind fst = ProjectFst
+as_kind snd = ProjectSnd
+as_kind inl = OrLeft
+as_kind inr = OrRight
+as_kind abort = Abort
+
 unfoldable pub purpose_after : List Mark → Purpose → reader.Purpose
 purpose_after ms as_head = Head
 purpose_after ms (as_argument f) = Argument (part_after ms f)
-purpose_after ms (as_body f) = Body (function_kind f)
+purpose_after ms (as_body f) = Body (as_kind f)
 
 -- With the numbers of the names:
 module _ (number : Name → ℕ) where

@@ -11,6 +11,8 @@ use Rattle.reading_laws.specs.TermMachine.{Purpose, Entry, State, onward, turn, 
 use Rattle.reading_laws.specs.Marks.{Mark, node, marks, purpose_marks, entry_marks, entries_marks}
 use Rattle.reading_laws.proofs.OnTheWay.{Reached}
 use Rattle.words.specs.Table.{table_names}
+use Rattle.proof_term.specs.declared.nodes.Kind.{Kind}
+use Rattle.proof_term.specs.Views.{kind_number}
 use Rattle.term_stack.specs.declared.Progress.{Progress}
 use Rattle.term_stack.specs.declared.Hand.{Hand}
 use Rattle.term_stack.specs.declared.Purpose as reader
@@ -58,7 +60,7 @@ pub record Using (z : Scene) (work : Work) (s : Progress) (h : Hand) (q : reader
   pub for : UsedFor entries purpose term z work s h q
 
 -- a leaf is to be made, of this kind and with this number, and used for a purpose; its names are met
-pub record Leaf (z : Scene) (work : Work) (s : Progress) (kind a : ℕ) (q : reader.Purpose) : Type 0 where
+pub record Leaf (z : Scene) (work : Work) (s : Progress) (kind : Kind) (a : ℕ) (q : reader.Purpose) : Type 0 where
   pub entries : List Entry
   pub purpose : Purpose
   pub term : ProofTerm Name
@@ -72,7 +74,7 @@ pub record Leaf (z : Scene) (work : Work) (s : Progress) (kind a : ℕ) (q : rea
       (λ number. stack_of number entries) z work s.used s.depth s.count s.to
   pub marks_are : marks term ≡ names ++ (node ∷ [])
   pub row_is : (number : Name → ℕ) → Extends number (table_names z.names z.text s.count)
-      → seven kind a 0 0 0 0 0 ≡ records_after number (entries_marks entries ++ purpose_marks purpose) term
+      → seven (kind_number kind) a 0 0 0 0 0 ≡ records_after number (entries_marks entries ++ purpose_marks purpose) term
   pub form_is : form term ≡ closed
   pub nest_is : term_nesting term ≡ 1
   pub tally_is : annotation_count term ≡ 0

@@ -7,12 +7,13 @@ ghost use Rattle.definitions.specs.Name.{Name};
 ghost use Rattle.definitions.specs.Term.{Label, is_labelled};
 ghost use Rattle.definitions.specs.TermMemory.{parameter_label_kind};
 ghost use Rattle.definitions.specs.TermReader.{same};
+ghost use Rattle.proof_term.specs.Views.{kind_number};
 ghost use Rattle.term_stack.specs.Forms.{rank};
 ghost use Rattle.term_stack.specs.Growing.{row_numbers, Unmade, MadeOf, Entered};
 ghost use Rattle.term_stack.specs.Standing.{Scene, ThereIs, Roomy};
 ghost use Rattle.term_stack.specs.Using.{Using, Leaf, Gives, Refuses, Turned, left_after};
 
-use proof_term::{APPLICATION, CASE, FUNCTION, LET_IN, NO_LABEL, RECORD_SIZE, push};
+use proof_term::{Kind, NO_LABEL, RECORD_SIZE, push};
 
 // How far the reading is: in the text, in the entries, the records, the names and the labels' code.
 #[derive(Clone, Copy)]
@@ -75,7 +76,7 @@ pub struct Part {
 pub enum Purpose {
     Head,
     Argument(Part),
-    Body(u16),
+    Body(Kind),
 }
 
 // What waits for a term: the first term after a bracket, the second part of a pair, and the parts of a function, a case and a let,
@@ -168,20 +169,30 @@ pub fn over(form: Form, nest: usize, tally: usize, hand: Hand) -> Hand
 pub fn make(
     work: &mut Work,
     s: Progress,
-    kind: u16,
+    kind: Kind,
     numbers: [u16; 5],
     hand: Hand,
 ) -> Option<Progress>
     requires { hand.tally < 65536 }
     ensures { MatchOption result (Unmade s.used hand.nest)
-        (MadeOf s (row_numbers kind numbers hand.tally) hand work.old work.new) }
+        (MadeOf s (row_numbers (kind_number kind) numbers hand.tally) hand work.old work.new) }
 {
     if NODE_LIMIT <= s.used || NESTING_LIMIT < hand.nest {
         return None;
     }
     let [a, b, c, d, e] = numbers;
     let tally = hand.tally as u16;
-    let used = push(&mut work.records, s.used, kind, a, b, c, d, e, tally);
+    let used = push(
+        &mut work.records,
+        s.used,
+        kind.number(),
+        a,
+        b,
+        c,
+        d,
+        e,
+        tally,
+    );
     Some(Progress { used, ..s })
 }
 
@@ -215,7 +226,7 @@ pub fn use_for(work: &mut Work, s: Progress, hand: Hand, p: Purpose) -> Option<S
                 usize::from(function.tally),
                 hand,
             );
-            let made = make(work, s, APPLICATION as u16, numbers, whole)?;
+            let made = make(work, s, Kind::Application, numbers, whole)?;
             Some(State::Holding(made, whole))
         }
         Purpose::Body(kind) => {
@@ -228,7 +239,7 @@ pub fn use_for(work: &mut Work, s: Progress, hand: Hand, p: Purpose) -> Option<S
 }
 
 // Makes a leaf, and of it what it was read for.
-pub fn use_leaf(work: &mut Work, s: Progress, kind: u16, a: u16, p: Purpose) -> Option<State>
+pub fn use_leaf(work: &mut Work, s: Progress, kind: Kind, a: u16, p: Purpose) -> Option<State>
     requires { ThereIs (λ (z : Scene). Leaf z work.old s kind a p) }
     ensures { (z : Scene) → Leaf z work.old s kind a p → MatchOption result (Refuses z) (Turned z work.new (left_after z s)) }
 {
@@ -265,7 +276,7 @@ pub fn close_function(
     due(hand, NO_ASCRIPTION)?;
     let whole = over(Form::Function, 0, label_count(kind), hand);
     let numbers = [waiting(s, hand).root, name, kind, label, 0];
-    let made = make(work, s, FUNCTION as u16, numbers, whole)?;
+    let made = make(work, s, Kind::Function, numbers, whole)?;
     Some(State::Holding(made, whole))
 }
 
@@ -288,7 +299,7 @@ pub fn close_case(
     let tally = usize::from(head.tally) + usize::from(left.tally);
     let whole = over(Form::Block, nest, tally, hand);
     let numbers = [head.root, left.root, waiting(s, hand).root, x, y];
-    let made = make(work, s, CASE as u16, numbers, whole)?;
+    let made = make(work, s, Kind::Case, numbers, whole)?;
     Some(State::Holding(made, whole))
 }
 
@@ -313,6 +324,6 @@ pub fn close_let(
         hand,
     );
     let numbers = [head.root, waiting(s, hand).root, x, y, 0];
-    let made = make(work, s, LET_IN as u16, numbers, whole)?;
+    let made = make(work, s, Kind::LetIn, numbers, whole)?;
     Some(State::Holding(made, whole))
 }

@@ -1,34 +1,36 @@
 -- Each word has the kind of its function.
-use Prim.Native.Nat.{ℕ}
 use mathlib.Core.Path.{◌≡◌, refl, sym, ap, ◌∙◌}
 use Rattle.definitions.specs.Term.{NamedFunction, fst, snd, inl, inr, abort}
-use Rattle.definitions.specs.TermMemory.{function_kind}
+use Rattle.proof_term.specs.declared.nodes.Kind.{Kind}
+use Rattle.proof_term.specs.declared.nodes.Kind.TheVariants.{ProjectFst, ProjectSnd, OrLeft, OrRight}
+use Rattle.proof_term.specs.declared.nodes.Kind.TheVariants as kinds
+use Rattle.term_stack.specs.Numbers.{as_kind}
 use Rattle.words.specs.declared.Start.{Start}
 use Rattle.words.specs.declared.Start.TheVariants.{Function, Case, Let, Fst, Snd, Inl, Inr, Abort, Sorry, Other}
 use Rattle.words.specs.Starts.{as_call}
 use Rattle.term_openings.proofs.called.Goals as goal
 
-start_kind : Start → ℕ
-start_kind Fst = 2
-start_kind Snd = 3
-start_kind Inl = 7
-start_kind Inr = 8
-start_kind Abort = 10
-start_kind Function = 10
-start_kind Case = 10
-start_kind Let = 10
-start_kind Sorry = 10
-start_kind Other = 10
+start_kind : Start → Kind
+start_kind Fst = ProjectFst
+start_kind Snd = ProjectSnd
+start_kind Inl = OrLeft
+start_kind Inr = OrRight
+start_kind Abort = kinds.Abort
+start_kind Function = kinds.Abort
+start_kind Case = kinds.Abort
+start_kind Let = kinds.Abort
+start_kind Sorry = kinds.Abort
+start_kind Other = kinds.Abort
 
-call_kind : (f : NamedFunction) → start_kind (as_call f) ≡ function_kind f
-unfolding start_kind as_call function_kind
+call_kind : (f : NamedFunction) → start_kind (as_call f) ≡ as_kind f
+unfolding start_kind as_call as_kind
 call_kind fst = refl
 call_kind snd = refl
 call_kind inl = refl
 call_kind inr = refl
 call_kind abort = refl
 
-others_kind : (r : Start) → (r ≡ Fst → ⊥) → (r ≡ Snd → ⊥) → (r ≡ Inl → ⊥) → (r ≡ Inr → ⊥) → 10 ≡ start_kind r
+others_kind : (r : Start) → (r ≡ Fst → ⊥) → (r ≡ Snd → ⊥) → (r ≡ Inl → ⊥) → (r ≡ Inr → ⊥) → kinds.Abort ≡ start_kind r
 unfolding start_kind
 others_kind Fst h _ _ _ = absurd (h refl)
 others_kind Snd _ h _ _ = absurd (h refl)

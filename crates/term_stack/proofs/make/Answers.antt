@@ -1,4 +1,5 @@
 -- A record is made where no limit is passed.
+use mathlib.Core.Path.{refl}
 use native.Mathlib.Omega.{arith}
 use Rattle.definitions.specs.TermMemory.{seven}
 use Rattle.term_stack.specs.Growing.{row_numbers}
@@ -9,6 +10,6 @@ unfolding row_numbers seven
 returns c = record {
   few = omega (arith, c.if-s-ge-NODE_LIMIT.false);
   shallow = omega (arith, c.if-hand-gt-NESTING_LIMIT.false);
-  stored = rw c.push-used.ensures.stored;
+  stored = rw (c.push-used.ensures.stored, c.number.ensures) refl;
   is = rw c.push-used.ensures.counted;
 }
