@@ -1,7 +1,7 @@
 -- The code of a proposition of an accepted sheet, as it stands and over other name numbers; and two propositions by their codes.
-use Prim.Native.Nat.{ℕ, ◌+◌, ◌-◌, ◌≤◌, ◌<◌}
+use Prim.Native.Nat.{ℕ, ◌+◌, ◌≤◌, ◌<◌}
 use mathlib.Core.Path.{◌≡◌, sym, ap, ap₂, ◌∙◌}
-use mathlib.Core.Bool.{Bool, true}
+use mathlib.Core.Bool.{true}
 use mathlib.Core.List.{List}
 use native.Mathlib.Omega.{arith}
 use lib.ListN.{length, take, drop, length-take, length-drop}
@@ -9,7 +9,7 @@ use lib.Seq.{take_at, sets-eq}
 use Rattle.definitions.specs.Name.{eq_name}
 use Rattle.definitions.specs.Prop.{rename_prop}
 use Rattle.definitions.specs.Code.{encode, Codable}
-use Rattle.definitions.specs.Sheet.{code_limit, code_length, names, propositions, proposition_pairs, code_bytes, pair_offset, pair_length, marked}
+use Rattle.definitions.specs.Sheet.{code_limit, name_limit, names, propositions, proposition_pairs, code_bytes, pair_offset, pair_length, marked}
 use Rattle.definitions.specs.Tree.{prop_of, root_of}
 use Rattle.definitions.specs.Graft.{renumbered}
 use Rattle.definitions.proofs.Readings.{Bytes}
@@ -29,13 +29,6 @@ use Rattle.sheet.proofs.Slices.{lengths}
 use Rattle.sheet.proofs.Admitted.{AcceptedSheet, has_codes}
 use Rattle.equal_conclusions.specs.Equality.{code_over, same_proposition}
 
--- bytes from the start on
-pub from_start : (left right : List ℕ) (n m : ℕ) {b : Bool} → b ≡ eq_name (take (n - 0) left) (take (m - 0) right) → b ≡ eq_name (take n left) (take m right)
-from_start left right n m e =
-    let same : n - 0 ≡ n = omega arith in
-    let same' : m - 0 ≡ m = omega arith in
-    rw (same, same') at e
-
 -- Of an accepted sheet:
 module _ {s : List ℕ} {h : Sheet} (a : AcceptedSheet s h) where
   checks : Checks s
@@ -49,9 +42,9 @@ module _ {s : List ℕ} {h : Sheet} (a : AcceptedSheet s h) where
   names_in numbers l = rw a.header l
 
   -- a map that has room for the most names has a number for each
-  pub has_numbers : {r t numbers : List ℕ} {n : ℕ} → Numbered r t n numbers → names s ≤ length numbers
+  pub has_numbers : (numbers : List ℕ) → name_limit ≤ length numbers → names s ≤ length numbers
   unfolding header_of
-  has_numbers numbered = omega (arith, numbered.room, a.sheet.in_range.names)
+  has_numbers numbers room = omega (arith, room, a.sheet.in_range.names)
 
   -- its code is not longer than all code
   pub short_code : (i : ℕ) → length (marked (proposition_pairs s) (code_bytes s) i) ≤ code_limit

@@ -18,13 +18,14 @@ use Rattle.definitions.proofs.Readings.{Bytes}
 use Rattle.graft_laws.specs.Merges.{Merges}
 use Rattle.graft_laws.proofs.Answered.{answer_admitted}
 use Rattle.graft_laws.proofs.AnswerMerges.{answer_merges}
-use Rattle.std.specs.Prelude.{Result, Err, Ok, MatchResult, IsErrAnd}
+use Rattle.std.specs.Prelude.{Result, Err, Ok, MatchResult, IfOk, IsErrAnd}
 use Rattle.std.proofs.lemmas.Result.{err_from_is_err_and}
 use Rattle.output.specs.Written.{Fills, written_of, filled}
 use Rattle.vocabulary.specs.declared.Vocabulary.{Vocabulary}
 use Rattle.vocabulary.specs.Vocabulary.{pairs_in, text_in, name_in, Within}
 use Rattle.sheet.specs.declared.header.Sheet.{Sheet}
 use Rattle.sheet.specs.Header.{header_of, layout_of, vocabulary_of, InRange, HasHeader}
+use Rattle.sheet.specs.Admitted.{Accepted, Admits}
 use Rattle.sheet.proofs.Admitted.{AcceptedSheet, admitted_sheet, has_header}
 use Rattle.sheet.proofs.NamesAndCode.{count_is, names_are, within}
 use Rattle.restating.specs.Slots.{slots_after}
@@ -52,6 +53,16 @@ refused_as (Err x) cases is = (x, refl, cc)
 
 pub told_by : {o : defined.Grafted} {before after : List ℕ} {r x : Result ℕ (Whose × Refusal)} → FillsBy o before after r → r ≡ x → FillsBy o before after x
 told_by f e = rw e at f
+
+-- what a sheet's checks answer, by what it is
+pub admits_ok : (s : List ℕ) {t : List ℕ} {r : Result (List ℕ) Refusal} → Admits s r → r ≡ Ok t → (t ≡ s) × Accepted s
+admits_ok s a e = rw e at a
+
+pub admits_err : (s : List ℕ) {r : Result (List ℕ) Refusal} {x : Refusal} → Admits s r → r ≡ Err x → admitted s ≡ refused x
+admits_err s a e = rw e at a
+
+pub where_ok : {A E P : Type 0} {r : Result A E} {x : A} → IfOk r (λ _. P) → r ≡ Ok x → P
+where_ok p e = rw e at p
 
 -- a part of bytes that others follow
 part_of : (a rest : List ℕ) (p n : ℕ) → p + n ≤ length a → take n (drop p (a ++ rest)) ≡ take n (drop p a)
@@ -90,6 +101,45 @@ module _ {a : List ℕ} (has : HasHeader a (header_of a)) (rest : List ℕ) {v :
       ∙ (ap₂ index (ap (λ l. name_in l v) f ∙ (same_names ∙ (ap (name_in a) is ∙ names_are has)))
       (ap (λ w. w.name_count) is ∙ count_is has))
 
+-- What a graft answers:
+module _ (s t : List ℕ) (k room : ℕ) {before after : List ℕ} {r : Result Sheet Refusal} (f : Merging (graft s t k room) before after r) where
+  -- a refusal
+  pub stays-refused : {x : Refusal} → r ≡ Err x → (slots : List ℕ)
+      → Fills (graft s t k room) before after (Err x) × (slots ≡ slots_after (graft s t k room) slots)
+  unfolding headed filled written_of slots_after
+  stays-refused {x} e slots = go (graft s t k room) refl
+    where
+      go : (o : Outcome (List ℕ)) → graft s t k room ≡ o
+          → Fills (graft s t k room) before after (Err x) × (slots ≡ slots_after (graft s t k room) slots)
+      go (refused y) is =
+          let answer = rw is at f.answer in
+          let same : y ≡ x = cc in
+          rw (is, same) (record { answer = refl; memory = rw is at f.memory }, refl)
+      go (accepted m) is = let answer = rw is at f.answer in absurd (let z : ◌≡◌ {A = ℕ} 0 1 = cc in omega arith)
+
+  -- a merged sheet: its header, and its bytes at the start of the memory
+  pub record Stands (m : Sheet) : Type 0 where
+    pub sheet : List ℕ
+    pub is : graft s t k room ≡ accepted sheet
+    pub header : m ≡ header_of sheet
+    pub has : HasHeader sheet (header_of sheet)
+    pub memory : after ≡ sheet ++ drop (length sheet) before
+
+  module _ {m : Sheet} (o : Stands m) where
+    pub in_range : InRange m
+    in_range = rw o.header o.has.in_range
+
+    pub vocabulary-is : {v : Vocabulary} → v ≡ vocabulary_of m → v ≡ vocabulary_of (header_of o.sheet)
+    vocabulary-is e = e ∙ ap vocabulary_of o.header
+
+    pub indexed : {l : ℕ} {slots : List ℕ} (old : List ℕ) → l ≡ (layout_of m).end → slots ≡ index_of o.sheet
+        → Fills (graft s t k room) before after (Ok l) × (slots ≡ slots_after (graft s t k room) old)
+    unfolding written_of filled slots_after
+    indexed old e f =
+        let size : (layout_of m).end ≡ length o.sheet =
+        ap (λ x. (layout_of x).end) o.header ∙ (layout_end o.sheet ∙ sym o.has.whole) in
+        rw (o.is, e, size) (record { answer = refl; memory = o.memory }, f)
+
 -- Of two accepted sheets:
 module _ {s t : List ℕ} {h g : Sheet} (a : AcceptedSheet s h) (b : AcceptedSheet t g) (s-bytes : Bytes s) (t-bytes : Bytes t) (k room : ℕ) where
   pub by-graft : graft_answer s t k room ≡ by Neither (graft s t k room) merged
@@ -103,53 +153,16 @@ module _ {s t : List ℕ} {h g : Sheet} (a : AcceptedSheet s h) (b : AcceptedShe
       let answer : graft_answer s t k room ≡ merged m = by-graft ∙ rw e in
       has_header (admitted_sheet m (answer_admitted s t k room m s-bytes t-bytes answer))
 
-  module _ {before after : List ℕ} {r : Result Sheet Refusal} (f : Merging (graft s t k room) before after r) where
-    -- a refusal
-    pub stays-refused : {x : Refusal} → r ≡ Err x → (slots : List ℕ)
-        → Fills (graft s t k room) before after (Err x) × (slots ≡ slots_after (graft s t k room) slots)
-    unfolding headed filled written_of slots_after
-    stays-refused {x} e slots = go (graft s t k room) refl
-      where
-        go : (o : Outcome (List ℕ)) → graft s t k room ≡ o
-            → Fills (graft s t k room) before after (Err x) × (slots ≡ slots_after (graft s t k room) slots)
-        go (refused y) is =
-            let answer = rw is at f.answer in
-            let same : y ≡ x = cc in
-            rw (is, same) (record { answer = refl; memory = rw is at f.memory }, refl)
-        go (accepted m) is = let answer = rw is at f.answer in absurd (let z : ◌≡◌ {A = ℕ} 0 1 = cc in omega arith)
-
-    -- a merged sheet: its header, and its bytes at the start of the memory
-    pub record Stands (m : Sheet) : Type 0 where
-      pub sheet : List ℕ
-      pub is : graft s t k room ≡ accepted sheet
-      pub header : m ≡ header_of sheet
-      pub has : HasHeader sheet (header_of sheet)
-      pub memory : after ≡ sheet ++ drop (length sheet) before
-
-    pub stands : {m : Sheet} → r ≡ Ok m → Stands m
-    unfolding headed filled
-    stands {m} e = go (graft s t k room) refl
-      where
-        go : (o : Outcome (List ℕ)) → graft s t k room ≡ o → Stands m
-        go (refused y) is = let answer = rw is at f.answer in absurd (let z : ◌≡◌ {A = ℕ} 0 1 = cc in omega arith)
-        go (accepted l) is =
-            let answer = rw is at f.answer in
-            record { sheet = l; is = is; header = cc; has = merged_header l is; memory = rw is at f.memory }
-
-    module _ {m : Sheet} (o : Stands m) where
-      pub in_range : InRange m
-      in_range = rw o.header o.has.in_range
-
-      pub vocabulary-is : {v : Vocabulary} → v ≡ vocabulary_of m → v ≡ vocabulary_of (header_of o.sheet)
-      vocabulary-is e = e ∙ ap vocabulary_of o.header
-
-      pub indexed : {l : ℕ} {slots : List ℕ} (old : List ℕ) → l ≡ (layout_of m).end → slots ≡ index_of o.sheet
-          → Fills (graft s t k room) before after (Ok l) × (slots ≡ slots_after (graft s t k room) old)
-      unfolding written_of filled slots_after
-      indexed old e f =
-          let size : (layout_of m).end ≡ length o.sheet =
-          ap (λ x. (layout_of x).end) o.header ∙ (layout_end o.sheet ∙ sym o.has.whole) in
-          rw (o.is, e, size) (record { answer = refl; memory = o.memory }, f)
+  pub stands : {before after : List ℕ} {r : Result Sheet Refusal} (f : Merging (graft s t k room) before after r) {m : Sheet} → r ≡ Ok m
+      → Stands s t k room f m
+  unfolding headed filled
+  stands f {m} e = go (graft s t k room) refl
+    where
+      go : (o : Outcome (List ℕ)) → graft s t k room ≡ o → Stands s t k room f m
+      go (refused y) is = let answer = rw is at f.answer in absurd (let z : ◌≡◌ {A = ℕ} 0 1 = cc in omega arith)
+      go (accepted l) is =
+          let answer = rw is at f.answer in
+          record { sheet = l; is = is; header = cc; has = merged_header l is; memory = rw is at f.memory }
 
   -- an answer of neither sheet: the length, or the refusal
   pub neither : {before after : List ℕ} {w : Result ℕ Refusal} {r : Result ℕ (Whose × Refusal)} → Fills (graft s t k room) before after w

@@ -1,9 +1,10 @@
 -- The tests of 26 and 27, and what they make of the answer.
 use Prim.Native.Nat.{ℕ, ◌+◌, ◌-◌, ◌≤◌, ◌<◌}
 use mathlib.Core.Path.{◌≡◌, refl, sym, ap, ◌∙◌}
-use mathlib.Core.Bool.{Bool, true, false, not}
+use mathlib.Core.Bool.{Bool, true, false, not, true≢false}
 use mathlib.Core.List.{List}
 use native.Mathlib.Omega.{arith}
+use native.Mathlib.Decide.{dec_lt}
 use lib.ListN.{length}
 use lib.Dec.{ltb, eqb}
 use borrow.Author.Tests.{le-leb, lt-leb, eq-eqb, ne_eqb}
@@ -24,7 +25,7 @@ use Rattle.name_index.specs.declared.Index.{Index}
 use Rattle.merged_names.specs.Numbered.{Indexed, Numbered}
 use Rattle.steps.specs.Records.{HasStep}
 use Rattle.sheet.specs.declared.header.Sheet.{Sheet}
-use Rattle.std.specs.Prelude.{Result, Err, ℕ}
+use Rattle.std.specs.Prelude.{Result, Ok, Err, IfOk}
 use Rattle.sheet.specs.Header.{header_of, vocabulary_of}
 use Rattle.sheet.proofs.Admitted.{AcceptedSheet, has_steps, its_header}
 use Rattle.sheet.proofs.NamesAndCode.{count_is, names_are, within, names_of}
@@ -56,6 +57,20 @@ module _ {s : List ℕ} {h : Sheet} (a : AcceptedSheet s h) (k : ℕ) where
     by_premisses e is f =
         let sorry : rule_byte (step_records s) k ≡ 15 = ap (λ r. rule_byte r k) (sym are) ∙ (sym e ∙ is) in
         rw (lt-leb (steps s) k l, eq-eqb (rule_byte (step_records s) k) 15 sorry, f, are)
+
+-- an open step is one of the steps
+pub open_step : (s : List ℕ) (k : ℕ) → not_open s k ≡ false → k < steps s
+unfolding not_open
+open_step s k e = go (dec_lt k (steps s))
+  where
+    go : Dec (k < steps s) → k < steps s
+    go (yes l) = l
+    go (no past) = absurd (true≢false (rw (le-leb (steps s) k (omega arith)) at e))
+
+-- what holds anyway holds where there is an answer
+pub whenever : {A E P : Type 0} (r : Result A E) → P → IfOk r (λ _. P)
+whenever (Ok a) p = p
+whenever (Err x) p = tt
 
 -- 27
 module _ (s t : List ℕ) (k : ℕ) (deep : Bool) (room : ℕ) {same : Bool}

@@ -56,10 +56,7 @@ codes_count : (s t : List ℕ) → length (donor_codes s t) ≡ sheet.propositio
 unfolding donor_codes
 codes_count s t = row_length _ (sheet.propositions t)
 
--- slices from the start, and up to the end
-pub from_zero : (l : List ℕ) (n : ℕ) → take (n - 0) l ≡ take n l
-from_zero l n = let z : n - 0 ≡ n = omega arith in rw z
-
+-- a slice up to the end
 up_to_end : (l : List ℕ) (n : ℕ) → take (length l - n) (drop n l) ≡ drop n l
 up_to_end l n = rw (← (length-drop n l)) (take-length (drop n l))
 
@@ -77,9 +74,9 @@ module _ {s : List ℕ} {h : Sheet} (a : AcceptedSheet s h) where
   records_long e = ap length e ∙ (lengths s a.sheet.whole).step_records
 
   pub parts_around : (k : ℕ) {records : List ℕ} → records ≡ step_records s
-      → (take (step_size * k - 0) records ≡ take (step_size * k) (step_records s))
+      → (take (step_size * k) records ≡ take (step_size * k) (step_records s))
       × (take (length records - step_size * (k + 1)) (drop (step_size * (k + 1)) records) ≡ drop (step_size * (k + 1)) (step_records s))
-  parts_around k e = rw e (from_zero (step_records s) (step_size * k), up_to_end (step_records s) (step_size * (k + 1)))
+  parts_around k e = rw e (refl, up_to_end (step_records s) (step_size * (k + 1)))
 
   -- they can be written over a map's numbers
   pub steps_mapped : (numbers : List ℕ) → sheet.names s ≤ length numbers → {records : List ℕ} → records ≡ step_records s → {shift : ℕ}

@@ -2,13 +2,13 @@
 // appended. What is appended is made first, so that the header is known, and with it whether the sheet passes a limit and fits.
 #![tactic(auto)]
 
-ghost use Rattle.std.specs.Prelude.{◌≡◌, true, false, ◌≤◌, ◌<◌, length, take};
+ghost use Rattle.std.specs.Prelude.{◌≡◌, true, false, ◌<◌, length};
 ghost use Rattle.definitions.specs.Sheet.{names, steps};
 ghost use Rattle.definitions.specs.Graft.{not_open};
 ghost use Rattle.output.specs.Wrote.{Wrote};
 ghost use Rattle.merged_names.specs.Numbered.{Numbered};
-ghost use Rattle.sheet.specs.Header.{InRange};
-ghost use Rattle.sheet.proofs.Admitted.{AcceptedSheet};
+ghost use Rattle.sheet.specs.Header.{InRange, header_of};
+ghost use Rattle.sheet.specs.Admitted.{Accepted};
 ghost use Rattle.equal_conclusions.specs.Equality.{Numbers};
 ghost use Rattle.appended_parts.specs.Appended.{Room};
 ghost use Rattle.merged_sheet.specs.Parts.{PairRoom, ByteRoom, Longer, Few, head_and_pairs, records_with, text_and_code, header_with, NewParts};
@@ -20,7 +20,7 @@ use number::PAIR_SIZE;
 use output::put_all;
 use renumbering::put_steps;
 use restating::put_header;
-use sheet::{Sheet, code_bytes, name_pairs, proposition_pairs, step_records, text_bytes};
+use sheet::{AdmittedSheet, Sheet};
 use steps::STEP_SIZE;
 
 // The room for the pairs of the most names or propositions.
@@ -29,49 +29,49 @@ const PAIR_ROOM: usize = PAIR_SIZE * Sheet::NAME_LIMIT;
 // The header of the merged sheet m, and all pairs.
 #[tactic(auto, unfolding(definitions::specs::Sheet::pair_size, definitions::specs::Sheet::name_limit, definitions::specs::Sheet::proposition_limit))]
 fn put_pairs(
-    host: &[u8],
-    h: Sheet,
+    host: &AdmittedSheet,
     m: Sheet,
     new_names: &[u8],
     new_propositions: &[u8],
     out: &mut [u8],
 ) -> usize
-    requires accepted_sheet { AcceptedSheet host.now h × InRange m × Longer h m }
+    requires longer { InRange m × Longer (header_of host.now) m }
     requires pair_room { PairRoom new_names.now × PairRoom new_propositions.now }
-    ensures { Wrote (head_and_pairs host.now h m new_names.now new_propositions.now)
+    ensures { Wrote (head_and_pairs host.now (header_of host.now) m new_names.now new_propositions.now)
         true out.old 0 out.new result }
 {
+    let h = host.header();
     let names = &new_names[..PAIR_SIZE * (m.names - h.names)];
     let propositions = &new_propositions[..PAIR_SIZE * (m.propositions - h.propositions)];
     let after_header = put_header(out, m, true);
-    let after_names = put_all(out, after_header, name_pairs(host, h), true);
+    let after_names = put_all(out, after_header, host.name_pairs(), true);
     let after_new_names = put_all(out, after_names, names, true);
-    let after_propositions = put_all(out, after_new_names, proposition_pairs(host, h), true);
+    let after_propositions = put_all(out, after_new_names, host.proposition_pairs(), true);
     put_all(out, after_propositions, propositions, true)
 }
 
 // The host's steps, with the donor's in place of step k.
 fn put_records(
-    host: &[u8],
-    h: Sheet,
+    host: &AdmittedSheet,
     k: usize,
-    donor: &[u8],
-    g: Sheet,
+    donor: &AdmittedSheet,
     numbers: &[u16],
     out: &mut [u8],
     to: usize,
 ) -> usize
-    requires accepted_sheet { AcceptedSheet host.now h × AcceptedSheet donor.now g × (k < steps host.now) }
+    requires k_bound { k < steps host.now }
     requires numbers { Numbers donor.now numbers.now }
     ensures { Wrote (records_with host.now k donor.now numbers.now) true
         out.old to out.new result }
 {
-    let records = step_records(host, h);
-    let before = &records[0..STEP_SIZE * k];
+    let h = host.header();
+    let g = donor.header();
+    let records = host.step_records();
+    let before = &records[..STEP_SIZE * k];
     let after = &records[STEP_SIZE * (k + 1)..];
     let after_before = put_all(out, to, before, true);
     let after_donor = put_steps(
-        step_records(donor, g),
+        donor.step_records(),
         g.steps,
         h.propositions,
         numbers,
@@ -85,24 +85,24 @@ fn put_records(
 // The text and the code.
 #[tactic(auto, unfolding(definitions::specs::Sheet::text_limit, definitions::specs::Sheet::code_limit))]
 fn put_text_and_code(
-    host: &[u8],
-    h: Sheet,
+    host: &AdmittedSheet,
     m: Sheet,
     new_text: &[u8],
     new_code: &[u8],
     out: &mut [u8],
     to: usize,
 ) -> usize
-    requires accepted_sheet { AcceptedSheet host.now h × InRange m × Longer h m }
+    requires longer { InRange m × Longer (header_of host.now) m }
     requires byte_room { ByteRoom new_text.now × ByteRoom new_code.now }
-    ensures { Wrote (text_and_code host.now h m new_text.now new_code.now) true
+    ensures { Wrote (text_and_code host.now (header_of host.now) m new_text.now new_code.now) true
         out.old to out.new result }
 {
+    let h = host.header();
     let text = &new_text[..m.text_length - h.text_length];
     let code = &new_code[..m.code_length - h.code_length];
-    let after_text = put_all(out, to, text_bytes(host, h), true);
+    let after_text = put_all(out, to, host.text_bytes(), true);
     let after_new_text = put_all(out, after_text, text, true);
-    let after_code = put_all(out, after_new_text, code_bytes(host, h), true);
+    let after_code = put_all(out, after_new_text, host.code_bytes(), true);
     put_all(out, after_code, code, true)
 }
 
@@ -122,27 +122,26 @@ fn merged_header(h: Sheet, g: Sheet, names: Appended, propositions: Appended) ->
 }
 
 // What is appended, and the header that the merged sheet has with it.
-fn append_parts<'a>(
-    host: &'a [u8],
-    h: Sheet,
-    donor: &'a [u8],
-    g: Sheet,
+fn append_parts(
+    host: &AdmittedSheet,
+    donor: &AdmittedSheet,
     numbers: &[u16],
     new_names: &mut [u8],
     new_text: &mut [u8],
     new_propositions: &mut [u8],
     new_code: &mut [u8],
 ) -> Sheet
-    requires accepted_sheet { AcceptedSheet host.now h × AcceptedSheet donor.now g }
     requires numbered { Numbered host.now donor.now (names donor.now) numbers.now }
     requires room { Room new_names.old new_text.old × Room new_propositions.old new_code.old }
-    ensures { NewParts host.now donor.now result new_names.new new_text.new
+    ensures new_parts { NewParts host.now donor.now result new_names.new new_text.new
         new_propositions.new new_code.new }
+    ensures accepted { Accepted host.now × Accepted donor.now }
 {
-    let names = append_names(host, h, donor, g, numbers, new_names, new_text);
+    let h = host.header();
+    let g = donor.header();
+    let names = append_names(host, donor, numbers, new_names, new_text);
     let propositions = append_propositions(
         donor,
-        g,
         numbers,
         h.code_length,
         new_propositions,
@@ -151,18 +150,18 @@ fn append_parts<'a>(
     merged_header(h, g, names, propositions)
 }
 
-// The merged sheet, where it passes no limit and fits; its levels were counted before. The answer is its header.
-pub fn merge<'a>(
-    host: &'a [u8],
-    h: Sheet,
+// The merged sheet, where it passes no limit and fits. The answer is its header. Whether its levels pass their limit is told, since it
+// is counted by the tables of sizes, which nothing here reads. What is appended has four memories of its own, as large as a sheet can
+// need: where each part is to stand is known only once all is counted, and there is no heap.
+pub fn merge(
+    host: &AdmittedSheet,
     k: usize,
-    donor: &'a [u8],
-    g: Sheet,
+    donor: &AdmittedSheet,
     numbers: &[u16],
     deep: bool,
     out: &mut [u8],
 ) -> Result<Sheet, Refusal>
-    requires accepted_sheet { AcceptedSheet host.now h × AcceptedSheet donor.now g × (not_open host.now k ≡ false) }
+    requires is_open { not_open host.now k ≡ false }
     requires numbered { Numbered host.now donor.now (names donor.now) numbers.now }
     ensures { Merging (limited host.now donor.now k deep (length out.old))
         out.old out.new result }
@@ -173,9 +172,7 @@ pub fn merge<'a>(
     let mut new_code = [0u8; Sheet::CODE_LIMIT];
     let m = append_parts(
         host,
-        h,
         donor,
-        g,
         numbers,
         &mut new_names,
         &mut new_text,
@@ -188,8 +185,8 @@ pub fn merge<'a>(
     if out.len() < m.layout().end {
         return Err(Refusal::at(16, 0));
     }
-    let after_pairs = put_pairs(host, h, m, &new_names, &new_propositions, out);
-    let after_records = put_records(host, h, k, donor, g, numbers, out, after_pairs);
-    put_text_and_code(host, h, m, &new_text, &new_code, out, after_records);
+    let after_pairs = put_pairs(host, m, &new_names, &new_propositions, out);
+    let after_records = put_records(host, k, donor, numbers, out, after_pairs);
+    put_text_and_code(host, m, &new_text, &new_code, out, after_records);
     Ok(m)
 }

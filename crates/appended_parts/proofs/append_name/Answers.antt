@@ -1,23 +1,30 @@
 -- A name whose number was given before is passed over, and a new one is appended.
-use mathlib.Core.Path.{sym, ◌∙◌}
+use mathlib.Core.Path.{◌≡◌, refl, sym, ◌∙◌}
 use native.Mathlib.Omega.{arith}
-use Rattle.definitions.specs.Sheet.{name_limit}
-use Rattle.sheet.proofs.Admitted.{its_header}
+use lib.ListN.{length}
+use Rattle.definitions.specs.Sheet.{name_limit, name_of}
+use Rattle.sheet.proofs.Admitted.{AcceptedSheet, with_header, beside_header}
 use Rattle.equal_conclusions.proofs.Codes.{has_numbers}
 use Rattle.equal_conclusions.proofs.Conclusions.{name_here, name_is}
+use Rattle.appended_parts.specs.Appended.{Addable}
+use Rattle.appended_parts.proofs.Pieces.{one_appended}
 use Rattle.appended_parts.proofs.Short.{name_addable, name_room}
 use Rattle.appended_parts.proofs.Turns.{name_count, text_size, text_within, few_names, not_new, name_appended}
 use Rattle.appended_parts.proofs.append_name.Goals as goal
+use Rattle.appended_parts.proofs.append_name.Goals.{After-header-h, After-name-piece}
+
+host : (c : After-header-h) → AcceptedSheet c.args.host.now c.header-h.result
+host c = beside_header c.header-h.ensures.is c.header-h.ensures.accepted
 
 pub offset_bounds-numbers-n : goal.offset_bounds-numbers-n
 offset_bounds-numbers-n c =
-    let record { accepted_sheet = (_, donor); n_bound = (below, numbered); appends = _ } = c.requires in
-    omega (arith, has_numbers donor numbered, below)
+    let (below, numbered) = c.requires.n_bound in
+    omega (arith, has_numbers (with_header c.vocabulary-v.ensures.accepted) _ numbered.room, below)
 
 pub bounds-numbers-n : goal.bounds-numbers-n
 bounds-numbers-n c =
-    let record { accepted_sheet = (_, donor); n_bound = (below, numbered); appends = _ } = c.requires in
-    omega (arith, has_numbers donor numbered, below)
+    let (below, numbered) = c.requires.n_bound in
+    omega (arith, has_numbers (with_header c.vocabulary-v.ensures.accepted) _ numbered.room, below)
 
 pub overflow_cast-numbers : goal.overflow_cast-numbers
 overflow_cast-numbers c = omega (arith, c.type_inv.numbers c.args.n)
@@ -25,30 +32,40 @@ overflow_cast-numbers c = omega (arith, c.type_inv.numbers c.args.n)
 pub overflow_add-h : goal.overflow_add-h
 unfolding name_limit
 overflow_add-h c =
-    let record { accepted_sheet = (host, donor); n_bound = (below, _); appends = so } = c.requires in
-    omega (arith, few_names host, (name_room donor c.args.host.now c.args.n below).0, so.count)
+    let record { n_bound = (below, _); appends = so } = c.requires in
+    let few = few_names (host (goal.at.overflow_add-h c).After-header-h) in
+    omega (arith, few, (name_room (with_header c.vocabulary-v.ensures.accepted) c.args.host.now c.args.n below).0, so.count)
 
 pub returns-then-numbers-n : goal.returns-then-numbers-n
 returns-then-numbers-n c =
-    let record { accepted_sheet = (host, _); n_bound = (below, numbered); appends = so } = c.requires in
-    not_new _ _ below so (name_count host) (λ e. c.if-numbers-n.true (numbered.stored _ below ∙ e))
+    let record { n_bound = (below, numbered); appends = so } = c.requires in
+    let first = name_count (host (goal.at.returns-then-numbers-n c).After-header-h) in
+    not_new _ _ below so first (λ e. c.if-numbers-n.true (numbered.stored _ below ∙ e))
 
-pub vocabulary-requires : goal.vocabulary-requires
-vocabulary-requires c = (its_header c.requires.accepted_sheet.1).in_range
+pub name-piece-requires : goal.name-piece-requires
+name-piece-requires c =
+    let v = c.vocabulary-v.ensures in
+    rw c.bytes.ensures.is (name_here (with_header v.accepted) v.is c.requires.n_bound.0)
 
-pub name-name-requires : goal.name-name-requires
-name-name-requires c =
-    let record { accepted_sheet = (_, donor); n_bound = (below, _); appends = _ } = c.requires in
-    name_here donor c.vocabulary.ensures below
+-- the piece is the name, and fits
+piece_is : (c : After-name-piece) → c.name-piece.result.now ≡ name_of c.args.donor.now c.args.n
+piece_is c =
+    let v = c.vocabulary-v.ensures in
+    rw c.bytes.ensures.is at c.name-piece.ensures ∙ name_is (with_header v.accepted) v.is _
 
-pub append_piece-requires : goal.append_piece-requires
-append_piece-requires c =
-    let record { accepted_sheet = (host, donor); n_bound = (below, _); appends = so } = c.requires in
-    name_addable donor _ _ below (text_within host) so
-    (c.name-name.ensures ∙ name_is donor c.vocabulary.ensures _)
+addable : (c : After-name-piece) → Addable c.header-h.result.text_length c.args.before (length c.name-piece.result.now)
+addable c =
+    let record { n_bound = (below, _); appends = so } = c.requires in
+    name_addable (with_header c.vocabulary-v.ensures.accepted) _ _ below (text_within (host (goal.at.After-name-piece c).After-header-h)) so (piece_is c)
+
+pub append_pair-requires : goal.append_pair-requires
+append_pair-requires c = addable (goal.at.append_pair-requires c).After-name-piece
 
 pub returns : goal.returns
 returns c =
-    let record { accepted_sheet = (host, donor); n_bound = (below, numbered); appends = so } = c.requires in
-    name_appended _ _ below so (name_count host) (sym (numbered.stored _ below) ∙ c.if-numbers-n.false)
-    (c.name-name.ensures ∙ name_is donor c.vocabulary.ensures _) (text_size host) c.append_piece.ensures
+    let record { n_bound = (below, numbered); appends = so } = c.requires in
+    let here = (goal.at.returns c).After-name-piece in
+    let accepted = host (goal.at.returns c).After-header-h in
+    rw c.append_pair.ensures.more
+    (name_appended _ _ below so (name_count accepted) (sym (numbered.stored _ below) ∙ c.if-numbers-n.false) (piece_is here) (text_size accepted)
+    (λ pieces more. one_appended _ refl (addable here) more c.append_pair.ensures.pair c.put_all.ensures))

@@ -1,30 +1,32 @@
 -- The invariant: the propositions below i are appended.
-use mathlib.Core.Path.{refl}
+use mathlib.Core.Path.{◌≡◌, refl}
 use native.Mathlib.Omega.{arith}
+use Rattle.definitions.specs.Sheet.{propositions}
+use Rattle.sheet.proofs.Admitted.{beside_header}
 use Rattle.appended_parts.specs.Appended.{codes_below}
 use Rattle.appended_parts.proofs.Turns.{turned, proposition_count, no_codes}
 use Rattle.appended_parts.proofs.append_propositions.Goals as goal
+use Rattle.appended_parts.proofs.append_propositions.Goals.{After-header-i-end}
+
+all : (c : After-header-i-end) → c.header-i-end.result.propositions ≡ propositions c.args.donor.now
+all c = proposition_count (beside_header c.header-i-end.ensures.is c.header-i-end.ensures.accepted)
 
 pub loop-i-init : goal.loop-i-init
-loop-i-init c =
-    let record { accepted_sheet = _; numbers = _; room = room } = c.requires in
-    record { reached = omega arith; so = no_codes _ _ _ room; pair_size = refl; byte_size = refl }
+loop-i-init c = record { reached = omega arith; so = no_codes _ _ _ c.requires.room; pair_size = refl; byte_size = refl }
 
 pub append_proposition-appended-requires : goal.append_proposition-appended-requires
 append_proposition-appended-requires c =
-    let record { accepted_sheet = (donor, offset); numbers = numbers; room = _ } = c.requires in
     record {
-      accepted_sheet = (donor, omega (arith, proposition_count donor, c.loop-i-test.true), offset);
-      numbers = numbers;
+      i_bound = (omega (arith, all (goal.at.append_proposition-appended-requires c).After-header-i-end, c.loop-i-test.true), c.requires.from_bound);
+      numbers = c.requires.numbers;
       appends = c.loop-i.invariant.so;
     }
 
 pub loop-i-preserved : goal.loop-i-preserved
 loop-i-preserved c =
     let inv = c.loop-i.invariant in
-    let record { accepted_sheet = (donor, _); numbers = _; room = _ } = c.requires in
     record {
-      reached = omega (arith, proposition_count donor, c.loop-i-test.true);
+      reached = omega (arith, all (goal.at.loop-i-preserved c).After-header-i-end, c.loop-i-test.true);
       so = c.append_proposition-appended.ensures;
       pair_size = omega (arith, inv.pair_size);
       byte_size = omega (arith, inv.byte_size);
@@ -37,6 +39,4 @@ pub shape_of-code : goal.shape_of-code
 shape_of-code c = c.loop-i.invariant.byte_size
 
 pub returns : goal.returns
-returns c =
-    let record { accepted_sheet = (donor, _); numbers = _; room = _ } = c.requires in
-    turned (codes_below _ _) c.loop-i.invariant (omega (arith, proposition_count donor, c.loop-i-test.false))
+returns c = turned (codes_below _ _) c.loop-i.invariant (omega (arith, all (goal.at.returns c).After-header-i-end, c.loop-i-test.false))

@@ -1,19 +1,18 @@
 -- A code over other numbers is as long as the code, and so it fits.
-use native.Mathlib.Omega.{arith}
-use borrow.Author.Rules.{rules}
-use Rattle.definitions.proofs.Readings.{Bytes}
-use Rattle.equal_conclusions.proofs.Codes.{whole_code, code_stored, names_in}
+use Rattle.sheet.proofs.Admitted.{with_header}
+use Rattle.equal_conclusions.proofs.Codes.{whole_code, code_stored, names_in, has_numbers}
 use Rattle.equal_conclusions.proofs.renumber_proposition.Goals as goal
-use Rattle.equal_conclusions.proofs.renumber_proposition.Goals.{After-proposition_code}
-
-bytes : (c : After-proposition_code) → Bytes c.args.s.now
-bytes c = λ i. omega (arith, c.type_inv.s i)
 
 pub put_renumbered-requires : goal.put_renumbered-requires
 put_renumbered-requires c =
-    (whole_code c.requires.accepted_sheet.0 (bytes (goal.at.put_renumbered-requires c).After-proposition_code) _ c.requires.accepted_sheet.1 c.proposition_code.ensures, names_in c.requires.accepted_sheet.0 c.args.numbers.now c.requires.numbers.0)
+    let accepted = c.proposition_code.ensures.accepted in
+    let sheet = with_header accepted in
+    rw c.header-names.ensures.is
+    (whole_code sheet accepted.bytes _ c.requires.i_bound c.proposition_code.ensures.is, names_in sheet c.args.numbers.now (has_numbers sheet _ c.requires.room.0))
 
 pub returns : goal.returns
 returns c =
-    let p = code_stored c.requires.accepted_sheet.0 (bytes (goal.at.returns c).After-proposition_code) _ c.requires.accepted_sheet.1 c.proposition_code.ensures c.requires.numbers.1 c.put_renumbered.ensures in
-    record { code_after = p.0; upper_bound = p.1 }
+    let accepted = c.proposition_code.ensures.accepted in
+    let p = code_stored (with_header accepted) accepted.bytes _ c.requires.i_bound c.proposition_code.ensures.is c.requires.room.1
+    (rw c.header-names.ensures.is at c.put_renumbered.ensures) in
+    record { code_after = p.0; upper_bound = p.1; accepted = accepted }

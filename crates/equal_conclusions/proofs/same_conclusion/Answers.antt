@@ -1,41 +1,38 @@
 -- Two conclusions by their kinds.
 use Prim.Native.Nat.{◌-◌}
 use mathlib.Core.Path.{◌≡◌, sym, ◌∙◌}
-use borrow.Author.Rules.{rules}
 use Rattle.definitions.specs.Sheet.{steps, step_records}
 use Rattle.steps.specs.StepAt.{step_at}
-use Rattle.sheet.proofs.Admitted.{its_header}
+use Rattle.sheet.proofs.Admitted.{AcceptedSheet, with_header, beside_header}
 use Rattle.equal_conclusions.proofs.Conclusions.{has_step, some_step, root_below, root_is, known, concluded, root_concluded, two_propositions, two_judgements, proposition_and_judgement, judgement_and_proposition}
 use Rattle.equal_conclusions.proofs.same_conclusion.Goals as goal
-use Rattle.equal_conclusions.proofs.same_conclusion.Goals.{After-step_at-theirs}
+use Rattle.equal_conclusions.proofs.same_conclusion.Goals.{After-header-root, After-step_at-theirs}
 
-pub step_records-requires : goal.step_records-requires
-step_records-requires c = its_header c.requires.accepted_sheet.0
+-- the donor beside its header
+donor_at : (c : After-header-root) → AcceptedSheet c.args.donor.now c.header-root.result
+donor_at c = beside_header c.header-root.ensures.is c.header-root.ensures.accepted
 
 pub step_at-ours-requires : goal.step_at-ours-requires
 step_at-ours-requires c =
-    let record { accepted_sheet = (host, _, below); numbered = _; numbered_2 = _ } = c.requires in
-    has_step host _ below c.step_records.ensures
+    let record { is = is; accepted = accepted } = c.step_records.ensures in
+    has_step (with_header accepted) _ c.requires.k_bound is
 
-pub step_records-requires-2 : goal.step_records-requires-2
-step_records-requires-2 c = its_header c.requires.accepted_sheet.1
-
-pub overflow_sub-g : goal.overflow_sub-g
-overflow_sub-g c = some_step c.requires.accepted_sheet.1
+pub overflow_sub-root : goal.overflow_sub-root
+overflow_sub-root c = some_step (donor_at (goal.at.overflow_sub-root c).After-header-root)
 
 pub step_at-theirs-requires : goal.step_at-theirs-requires
 step_at-theirs-requires c =
-    let donor = c.requires.accepted_sheet.1 in
-    has_step donor _ (root_below donor) c.step_records-2.ensures
+    let donor = donor_at (goal.at.step_at-theirs-requires c).After-header-root in
+    has_step donor _ (root_below donor) c.step_records-2.ensures.is
 
 -- the conclusion of the host's step, and that of the donor's root
 ours : (c : After-step_at-theirs) → c.step_at-ours.result.conclusion
     ≡ (step_at (step_records c.args.host.now) c.args.k).conclusion
-ours c = concluded c.requires.accepted_sheet.0 _ c.step_at-ours.ensures c.step_records.ensures
+ours c = concluded (with_header c.step_records.ensures.accepted) _ c.step_at-ours.ensures c.step_records.ensures.is
 
 theirs : (c : After-step_at-theirs) → c.step_at-theirs.result.conclusion
     ≡ (step_at (step_records c.args.donor.now) (steps c.args.donor.now - 1)).conclusion
-theirs c = root_concluded c.requires.accepted_sheet.1 c.step_at-theirs.ensures c.step_records-2.ensures
+theirs c = root_concluded (donor_at (goal.at.After-step_at-theirs c).After-header-root) c.step_at-theirs.ensures c.step_records-2.ensures.is
 
 pub returns-in_default : goal.returns-in_default
 returns-in_default c =
@@ -43,19 +40,21 @@ returns-in_default c =
 
 pub same_propositions-requires : goal.same_propositions-requires
 same_propositions-requires c =
-    let record { accepted_sheet = (host, donor, below); numbered = numbered; numbered_2 = merged } = c.requires in record {
-      accepted_sheet = (host, donor);
+    let here = goal.at.same_propositions-requires c in
+    let host = with_header c.step_records.ensures.accepted in
+    let donor = donor_at here.After-header-root in
+    let record { k_bound = below; numbered = numbered; numbered_2 = merged } = c.requires in record {
       numbered = numbered;
       numbered_2 = merged;
       p_bound = (
-        (known host _ below).proposition _ (sym (ours (goal.at.same_propositions-requires c).After-step_at-theirs) ∙ c.in-PropIsTrue.is),
-        (known donor _ (rw (root_is donor) at (root_below donor))).proposition _ (sym (theirs (goal.at.same_propositions-requires c).After-step_at-theirs) ∙ c.in-PropIsTrue-theirs.is),
+        (known host _ below).proposition _ (sym (ours here.After-step_at-theirs) ∙ c.in-PropIsTrue.is),
+        (known donor _ (rw (root_is donor) at (root_below donor))).proposition _ (sym (theirs here.After-step_at-theirs) ∙ c.in-PropIsTrue-theirs.is),
       );
     }
 
-pub returns-in-PropIsTrue : goal.returns-in-PropIsTrue
-returns-in-PropIsTrue c =
-    two_propositions _ _ _ _ (ours (goal.at.returns-in-PropIsTrue c).After-step_at-theirs) (theirs (goal.at.returns-in-PropIsTrue c).After-step_at-theirs) c.in-PropIsTrue.is c.in-PropIsTrue-theirs.is c.same_propositions.ensures
+pub returns-in-PropIsTrue-theirs : goal.returns-in-PropIsTrue-theirs
+returns-in-PropIsTrue-theirs c =
+    two_propositions _ _ _ _ (ours (goal.at.returns-in-PropIsTrue-theirs c).After-step_at-theirs) (theirs (goal.at.returns-in-PropIsTrue-theirs c).After-step_at-theirs) c.in-PropIsTrue.is c.in-PropIsTrue-theirs.is c.same_propositions.ensures
 
 pub returns-in_default-theirs : goal.returns-in_default-theirs
 returns-in_default-theirs c =
@@ -63,14 +62,13 @@ returns-in_default-theirs c =
 
 pub same_judgements-requires : goal.same_judgements-requires
 same_judgements-requires c =
-    let record { accepted_sheet = (host, donor, below); numbered = _; numbered_2 = _ } = c.requires in record {
-      accepted_sheet = (host, donor);
-      known_judgement = (
-        (known host _ below).judgement _ (sym (ours (goal.at.same_judgements-requires c).After-step_at-theirs) ∙ c.in-TypeJudgement.is),
-        (known donor _ (rw (root_is donor) at (root_below donor))).judgement _ (sym (theirs (goal.at.same_judgements-requires c).After-step_at-theirs) ∙ c.in-TypeJudgement-theirs.is),
-      );
-    }
+    let here = goal.at.same_judgements-requires c in
+    let host = with_header c.step_records.ensures.accepted in
+    let donor = donor_at here.After-header-root in (
+      (known host _ c.requires.k_bound).judgement _ (sym (ours here.After-step_at-theirs) ∙ c.in-TypeJudgement.is),
+      (known donor _ (rw (root_is donor) at (root_below donor))).judgement _ (sym (theirs here.After-step_at-theirs) ∙ c.in-TypeJudgement-theirs.is),
+    )
 
-pub returns-in-TypeJudgement : goal.returns-in-TypeJudgement
-returns-in-TypeJudgement c =
-    two_judgements _ _ _ _ (ours (goal.at.returns-in-TypeJudgement c).After-step_at-theirs) (theirs (goal.at.returns-in-TypeJudgement c).After-step_at-theirs) c.in-TypeJudgement.is c.in-TypeJudgement-theirs.is c.same_judgements.ensures
+pub returns-in-TypeJudgement-theirs : goal.returns-in-TypeJudgement-theirs
+returns-in-TypeJudgement-theirs c =
+    two_judgements _ _ _ _ (ours (goal.at.returns-in-TypeJudgement-theirs c).After-step_at-theirs) (theirs (goal.at.returns-in-TypeJudgement-theirs c).After-step_at-theirs) c.in-TypeJudgement.is c.in-TypeJudgement-theirs.is c.same_judgements.ensures

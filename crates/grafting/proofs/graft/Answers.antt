@@ -1,44 +1,80 @@
--- A refused host is the answer; of an accepted one the laws hold of the very bytes.
+-- A refused host is the answer, and then a refused donor; of two accepted sheets the laws hold of the very bytes.
 use mathlib.Core.Path.{◌≡◌, sym, ap, ◌∙◌}
 use native.Mathlib.Omega.{arith}
 use Rattle.std.proofs.Common.{rules}
-use Rattle.std.specs.Prelude.{Err}
-use Rattle.definitions.specs.declared.Whose.TheVariants.{Host}
+use Rattle.std.specs.Prelude.{Ok, Err}
+use Rattle.definitions.specs.declared.Whose.TheVariants.{Neither, Host, Donor}
 use Rattle.definitions.specs.NameIndex.{slot_count}
-use Rattle.definitions.proofs.Readings.{Bytes}
-use Rattle.sheet.proofs.Admitted.{accepted_sheet, accepted_sizes, refused_sheet}
-use Rattle.grafting.proofs.Answers.{by_mapped, accepted_by, refused_as, told_by, host-refused, bytes-merge}
+use Rattle.sheet.specs.Admitted.{Accepted}
+use Rattle.sheet.proofs.Admitted.{with_header}
+use Rattle.grafting.proofs.Answers.{By, by_mapped, accepted_by, refused_as, told_by, admits_ok, admits_err, where_ok, host-refused, donor-refused, neither, slots-of-neither, bytes-merge}
 use Rattle.grafting.proofs.graft.Goals as goal
-use Rattle.grafting.proofs.graft.Goals.{After-slice_known-1}
+use Rattle.grafting.proofs.graft.Goals.{After-map_err, After-map_err-2, In_ok-h, In_ok-g}
 
-host_bytes : (c : After-slice_known-1) → Bytes c.args.host.now
-host_bytes c = λ i. omega (arith, c.type_inv.host i)
+host_checked : (c : After-map_err) → By c.with_sizes-host_checked.result Host c.map_err.result
+host_checked c = by_mapped c.with_sizes-host_checked.result c.map_err.result Host c.map_err.ensures.cases (λ x e p. search rules)
 
-donor_bytes : (c : After-slice_known-1) → Bytes c.args.donor.now
-donor_bytes c = λ i. omega (arith, c.type_inv.donor i)
+donor_checked : (c : After-map_err-2) → By c.with_sizes-donor_checked.result Donor c.map_err-2.result
+donor_checked c = by_mapped c.with_sizes-donor_checked.result c.map_err-2.result Donor c.map_err-2.ensures.cases (λ x e p. search rules)
+
+-- the sheets that were accepted
+host_ok : (c : In_ok-h) → c.with_sizes-host_checked.result ≡ Ok c.in_ok-h.h
+host_ok c = accepted_by _ Host (host_checked (goal.at.In_ok-h c).After-map_err) c.in_ok-h.was
+
+host : (c : In_ok-h) → (c.in_ok-h.h ≡ c.args.host.now) × Accepted c.args.host.now
+host c = admits_ok _ c.with_sizes-host_checked.ensures.admits (host_ok c)
+
+donor_ok : (c : In_ok-g) → c.with_sizes-donor_checked.result ≡ Ok c.in_ok-g.g
+donor_ok c = accepted_by _ Donor (donor_checked (goal.at.In_ok-g c).After-map_err-2) c.in_ok-g.was
+
+donor : (c : In_ok-g) → (c.in_ok-g.g ≡ c.args.donor.now) × Accepted c.args.donor.now
+donor c = admits_ok _ c.with_sizes-donor_checked.ensures.admits (donor_ok c)
 
 pub returns-in_err-h : goal.returns-in_err-h
 returns-in_err-h c =
-    let checked = by_mapped c.check.result c.map_err.result Host c.map_err.ensures.cases (λ x e p. search rules) in
     let passed : Err c.in_err-h.field-0.0 ≡ c.from_residual.result = search rules in
-    let (_, is, mapped) = refused_as _ checked c.in_err-h.was in
-    let (answer, slots) = host-refused _ _ _ _ (refused_sheet _ (sym c.check.ensures.value ∙ is)) _ _ in
+    let (_, is, mapped) = refused_as _ (host_checked (goal.at.returns-in_err-h c).After-map_err) c.in_err-h.was in
+    let (answer, slots) = host-refused _ _ _ _ (admits_err _ c.with_sizes-host_checked.ensures.admits is) _ _ in
     let handed = told_by answer (ap (λ e. Err e) (sym mapped) ∙ passed) in
-    let start = (goal.at.returns-in_err-h c).After-slice_known-1 in
-    record { fills_by = handed; slots_after = slots; by_index = bytes-merge _ _ _ _ (host_bytes start) (donor_bytes start) handed }
-
-pub graft_donor-requires : goal.graft_donor-requires
-unfolding slot_count
-graft_donor-requires c =
-    let checked = by_mapped c.check.result c.map_err.result Host c.map_err.ensures.cases (λ x e p. search rules) in
-    let accepts = sym c.check.ensures.value ∙ accepted_by _ Host checked c.in_ok-h.was in
     record {
-      accepted_sheet = (accepted_sheet _ accepts, search rules);
-      size_table = accepted_sizes _ accepts c.check.ensures.sized;
+      fills_by = handed;
+      slots_after = slots;
+      by_index = bytes-merge _ _ _ _ (λ i. omega (arith, c.type_inv.host i)) (λ i. omega (arith, c.type_inv.donor i)) handed;
+    }
+
+pub returns-in_err-g : goal.returns-in_err-g
+returns-in_err-g c =
+    let here = goal.at.returns-in_err-g c in
+    let passed : Err c.in_err-g.field-0.0 ≡ c.from_residual-in_err-g.result = search rules in
+    let (_, is, mapped) = refused_as _ (donor_checked here.After-map_err-2) c.in_err-g.was in
+    let (answer, slots) = donor-refused _ _ _ _ (with_header (host here.In_ok-h).1) (admits_err _ c.with_sizes-donor_checked.ensures.admits is) _ _ in
+    let handed = told_by answer (ap (λ e. Err e) (sym mapped) ∙ passed) in
+    record {
+      fills_by = handed;
+      slots_after = slots;
+      by_index = bytes-merge _ _ _ _ (λ i. omega (arith, c.type_inv.host i)) (λ i. omega (arith, c.type_inv.donor i)) handed;
+    }
+
+pub graft_indexed-written-requires : goal.graft_indexed-written-requires
+unfolding slot_count
+graft_indexed-written-requires c =
+    let here = goal.at.graft_indexed-written-requires c in
+    record {
+      slots_len = search rules;
+      size_table = rw (host here.In_ok-h).0 (where_ok c.with_sizes-host_checked.ensures.sized (host_ok here.In_ok-h));
+      size_table_2 = rw (donor here.In_ok-g).0 (where_ok c.with_sizes-donor_checked.ensures.sized (donor_ok here.In_ok-g));
     }
 
 pub returns : goal.returns
 returns c =
-    let record { fills_by = answer; slots_after = slots } = c.graft_donor.ensures in
-    let start = (goal.at.returns c).After-slice_known-1 in
-    record { fills_by = answer; slots_after = slots; by_index = bytes-merge _ _ _ _ (host_bytes start) (donor_bytes start) answer }
+    let here = goal.at.returns c in
+    let (is-host, ours) = host here.In_ok-h in
+    let (is-donor, theirs) = donor here.In_ok-g in
+    let record { fills = fills; slots_after = slots } = rw (is-host, is-donor) at c.graft_indexed-written.ensures in
+    let answer = neither (with_header ours) (with_header theirs) ours.bytes theirs.bytes _ _ fills
+    (by_mapped c.graft_indexed-written.result c.map_err-3.result Neither c.map_err-3.ensures.cases (λ x e p. search rules)) in
+    record {
+      fills_by = answer;
+      slots_after = slots ∙ slots-of-neither (with_header ours) (with_header theirs) ours.bytes theirs.bytes _ _ _;
+      by_index = bytes-merge _ _ _ _ ours.bytes theirs.bytes answer;
+    }

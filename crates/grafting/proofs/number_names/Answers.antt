@@ -1,61 +1,72 @@
 -- Each sheet has its index beside it; the host grafted into itself has its own lowest numbers.
-use borrow.Author.Rules.{rules}
+use Rattle.std.proofs.Common.{rules}
 use Rattle.definitions.specs.NameIndex.{slot_count}
-use Rattle.sheet.proofs.Admitted.{its_header}
+use Rattle.sheet.proofs.Admitted.{AcceptedSheet, with_header}
 use Rattle.restating.proofs.Answers.{vocabulary-within, few_names, built}
+use Rattle.sheet.specs.Header.{header_of}
 use Rattle.grafting.proofs.Tests.{indexed, none_numbered}
 use Rattle.grafting.proofs.number_names.Goals as goal
-
-pub vocabulary-v-requires : goal.vocabulary-v-requires
-vocabulary-v-requires c = (its_header c.requires.accepted_sheet.0).in_range
-
-pub vocabulary-w-requires : goal.vocabulary-w-requires
-vocabulary-w-requires c = (its_header c.requires.accepted_sheet.1).in_range
+use Rattle.grafting.proofs.number_names.Goals.{After-build-2}
 
 pub build-requires : goal.build-requires
 unfolding slot_count
 build-requires c =
-    let host = c.requires.accepted_sheet.0 in
-    record {
-      slots_len = (search rules, vocabulary-within host c.vocabulary-v.ensures);
-      name_count_bound = few_names host c.vocabulary-v.ensures;
-    }
+    let v = c.vocabulary-v.ensures in
+    let host = with_header v.accepted in
+    rw c.bytes-s.ensures.is
+    record { slots_len = (search rules, vocabulary-within host v.is); name_count_bound = few_names host v.is }
 
 pub build-requires-2 : goal.build-requires-2
 unfolding slot_count
 build-requires-2 c =
-    let donor = c.requires.accepted_sheet.1 in
-    record {
-      slots_len = (search rules, vocabulary-within donor c.vocabulary-w.ensures);
-      name_count_bound = few_names donor c.vocabulary-w.ensures;
-    }
+    let w = c.vocabulary-w.ensures in
+    let donor = with_header w.accepted in
+    rw c.bytes-t.ensures.is
+    record { slots_len = (search rules, vocabulary-within donor w.is); name_count_bound = few_names donor w.is }
+
+-- the host, the bytes that the index is of
+host_here : (c : After-build-2) → AcceptedSheet c.bytes-s.result.now (header_of c.args.host.now)
+host_here c = rw c.bytes-s.ensures.is (with_header c.vocabulary-v.ensures.accepted)
+
+-- the donor likewise
+donor_here : (c : After-build-2) → AcceptedSheet c.bytes-t.result.now (header_of c.args.donor.now)
+donor_here c = rw c.bytes-t.ensures.is (with_header c.vocabulary-w.ensures.accepted)
 
 pub invariant_of-host_index : goal.invariant_of-host_index
 unfolding slot_count
 invariant_of-host_index c =
-    record { within = vocabulary-within c.requires.accepted_sheet.0 c.vocabulary-v.ensures; whole = search rules }
+    let host = host_here (goal.at.invariant_of-host_index c).After-build-2 in
+    record { within = vocabulary-within host c.vocabulary-v.ensures.is; whole = search rules }
 
 pub invariant_of-donor_index : goal.invariant_of-donor_index
 unfolding slot_count
 invariant_of-donor_index c =
-    record { within = vocabulary-within c.requires.accepted_sheet.1 c.vocabulary-w.ensures; whole = search rules }
+    let donor = donor_here (goal.at.invariant_of-donor_index c).After-build-2 in
+    record { within = vocabulary-within donor c.vocabulary-w.ensures.is; whole = search rules }
 
 pub fill_numbers-requires : goal.fill_numbers-requires
 fill_numbers-requires c =
-    let record { accepted_sheet = (host, _); name_limit_in_bounds = (room, _) } = c.requires in
-    let here = built host c.vocabulary-v.ensures c.build.ensures in
-    record { indexed = (indexed host c.vocabulary-v.ensures here, indexed host c.vocabulary-v.ensures here); numbered = none_numbered _ _ room }
+    let host = host_here (goal.at.fill_numbers-requires c).After-build-2 in
+    let index = indexed host c.vocabulary-v.ensures.is (built host c.vocabulary-v.ensures.is c.build.ensures) in
+    record { indexed = (index, index); numbered = none_numbered _ _ c.requires.0 }
 
 pub fill_numbers-requires-2 : goal.fill_numbers-requires-2
 fill_numbers-requires-2 c =
-    let record { accepted_sheet = (host, donor); name_limit_in_bounds = (_, room) } = c.requires in record {
+    let here = (goal.at.fill_numbers-requires-2 c).After-build-2 in
+    let host = host_here here in
+    let donor = donor_here here in
+    record {
       indexed = (
-        indexed host c.vocabulary-v.ensures (built host c.vocabulary-v.ensures c.build.ensures),
-        indexed donor c.vocabulary-w.ensures (built donor c.vocabulary-w.ensures c.build-2.ensures),
+        indexed host c.vocabulary-v.ensures.is (built host c.vocabulary-v.ensures.is c.build.ensures),
+        indexed donor c.vocabulary-w.ensures.is (built donor c.vocabulary-w.ensures.is c.build-2.ensures),
       );
-      numbered = none_numbered _ _ room;
+      numbered = none_numbered _ _ c.requires.1;
     }
 
 pub returns : goal.returns
 returns c =
-    record { numbered = c.fill_numbers.ensures.numbered_2; numbered_2 = c.fill_numbers-2.ensures.numbered_2 }
+    record {
+      numbered = rw c.bytes-s.ensures.is at c.fill_numbers.ensures.numbered_2;
+      numbered_2 = rw (c.bytes-s.ensures.is, c.bytes-t.ensures.is) at c.fill_numbers-2.ensures.numbered_2;
+      accepted = (c.vocabulary-v.ensures.accepted, c.vocabulary-w.ensures.accepted);
+    }

@@ -1,39 +1,44 @@
 -- What is appended gives the header.
-use native.Mathlib.Omega.{arith}
-use Rattle.definitions.proofs.Readings.{Bytes}
-use Rattle.sheet.proofs.Admitted.{its_header}
+use Rattle.sheet.proofs.Admitted.{AcceptedSheet, its_header, beside_header}
 use Rattle.equal_conclusions.proofs.Codes.{has_numbers}
 use Rattle.merged_sheet.proofs.Bytes.{code_within, few_appended, few_codes, new_parts}
 use Rattle.merged_sheet.proofs.append_parts.Goals as goal
-use Rattle.merged_sheet.proofs.append_parts.Goals.{After-shared_slice_known-3-1}
+use Rattle.merged_sheet.proofs.append_parts.Goals.{After-header-g}
 
-donor_bytes : (c : After-shared_slice_known-3-1) → Bytes c.args.donor.now
-donor_bytes c = λ i. omega (arith, c.type_inv.donor i)
+host : (c : After-header-g) → AcceptedSheet c.args.host.now c.header-h.result
+host c = beside_header c.header-h.ensures.is c.header-h.ensures.accepted
+
+donor : (c : After-header-g) → AcceptedSheet c.args.donor.now c.header-g.result
+donor c = beside_header c.header-g.ensures.is c.header-g.ensures.accepted
 
 pub append_names-names-requires : goal.append_names-names-requires
-append_names-names-requires c =
-    let record { accepted_sheet = (host, donor); numbered = numbered; room = (names, _) } = c.requires in
-    record { accepted_sheet = (host, donor); numbered = numbered; room = names }
+append_names-names-requires c = record { numbered = c.requires.numbered; room = c.requires.room.0 }
 
 pub append_propositions-propositions-requires : goal.append_propositions-propositions-requires
 append_propositions-propositions-requires c =
-    let record { accepted_sheet = (host, donor); numbered = numbered; room = (_, propositions) } = c.requires in
+    let here = (goal.at.append_propositions-propositions-requires c).After-header-g in
     record {
-      accepted_sheet = (donor, code_within host);
-      numbers = has_numbers donor numbered;
-      room = propositions;
+      from_bound = code_within (host here);
+      numbers = has_numbers (donor here) _ c.requires.numbered.room;
+      room = c.requires.room.1;
     }
 
 pub merged_header-requires : goal.merged_header-requires
 merged_header-requires c =
-    let record { accepted_sheet = (host, donor); numbered = _; room = _ } = c.requires in (
-      (its_header host).in_range,
-      (its_header donor).in_range,
-      few_appended donor c.args.host.now c.append_names-names.ensures,
-      few_codes donor (donor_bytes (goal.at.merged_header-requires c).After-shared_slice_known-3-1) c.args.numbers.now c.append_propositions-propositions.ensures,
+    let here = (goal.at.merged_header-requires c).After-header-g in (
+      (its_header (host here)).in_range,
+      (its_header (donor here)).in_range,
+      few_appended (donor here) c.args.host.now c.append_names-names.ensures,
+      few_codes (donor here) c.header-g.ensures.accepted.bytes c.args.numbers.now c.append_propositions-propositions.ensures,
     )
 
 pub returns : goal.returns
 returns c =
-    let record { accepted_sheet = (host, donor); numbered = numbered; room = _ } = c.requires in
-    new_parts host donor (donor_bytes (goal.at.returns c).After-shared_slice_known-3-1) numbered c.append_names-names.ensures c.append_propositions-propositions.ensures c.merged_header.ensures
+    let here = (goal.at.returns c).After-header-g in
+    let bytes = c.header-g.ensures.accepted.bytes in
+    record {
+      new_parts =
+          new_parts (host here) (donor here) bytes c.requires.numbered c.append_names-names.ensures c.append_propositions-propositions.ensures
+          c.merged_header.ensures;
+      accepted = (c.header-h.ensures.accepted, c.header-g.ensures.accepted);
+    }

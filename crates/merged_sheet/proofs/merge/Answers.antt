@@ -11,43 +11,42 @@ use Rattle.definitions.specs.Graft.{merged_sheet}
 use Rattle.graft_laws.proofs.MergedSheet.{Grafts, here}
 use Rattle.output.proofs.Writing.{then}
 use Rattle.sheet.specs.Header.{header_of}
+use Rattle.sheet.proofs.Admitted.{with_header}
 use Rattle.equal_conclusions.proofs.Codes.{has_numbers}
 use Rattle.merged_sheet.proofs.Bytes.{grafts, longer, merged_bytes, header_is, end_is, range}
 use Rattle.merged_sheet.proofs.Answers.{over-by-header, over-by-levels, inside_both, passes-limit, no_room, written}
 use Rattle.merged_sheet.proofs.merge.Goals as goal
-use Rattle.merged_sheet.proofs.merge.Goals.{After-append_parts-m, After-layout, After-out_of_range, After-slice_known-1, Else-deep}
+use Rattle.merged_sheet.proofs.merge.Goals.{After-append_parts-m, After-layout, After-out_of_range, Else-deep}
 
 -- the two sheets and the open step
-graft_here : (c : After-slice_known-1) → Grafts c.args.host.now c.args.donor.now c.args.k
+graft_here : (c : After-append_parts-m) → Grafts c.args.host.now c.args.donor.now c.args.k
 graft_here c =
-    let record { accepted_sheet = (host, donor, open-there); numbered = _ } = c.requires in
-    grafts host donor (λ i. omega (arith, c.type_inv.host i))
-    (λ i. omega (arith, c.type_inv.donor i)) open-there
+    let (host, donor) = c.append_parts-m.ensures.accepted in
+    grafts (with_header host) (with_header donor) host.bytes donor.bytes c.requires.is_open
 
 -- the header is the merged sheet's
-abbrev merged_here : After-slice_known-1 → List ℕ
+abbrev merged_here : After-append_parts-m → List ℕ
 merged_here c = merged_sheet c.args.host.now c.args.donor.now c.args.k
 
-its_header : (c : After-append_parts-m) → c.append_parts-m.result ≡ header_of (merged_here (goal.at.After-append_parts-m c).After-slice_known-1)
-its_header c = let record { accepted_sheet = (host, _, _); numbered = _ } = c.requires in header_is host c.append_parts-m.ensures (graft_here (goal.at.After-append_parts-m c).After-slice_known-1)
+its_header : (c : After-append_parts-m) → c.append_parts-m.result ≡ header_of (merged_here c)
+its_header c = header_is (with_header c.append_parts-m.ensures.accepted.0) c.append_parts-m.ensures.new_parts (graft_here c)
 
-outside : (c : After-out_of_range) → c.out_of_range.result ≡ header_out_of_range (merged_here (goal.at.After-out_of_range c).After-slice_known-1)
+outside : (c : After-out_of_range) → c.out_of_range.result ≡ header_out_of_range (merged_here (goal.at.After-out_of_range c).After-append_parts-m)
 outside c = c.out_of_range.ensures _ (its_header (goal.at.After-out_of_range c).After-append_parts-m)
 
-within : (c : Else-deep) → header_out_of_range (merged_here (goal.at.Else-deep c).After-slice_known-1) ≡ false
+within : (c : Else-deep) → header_out_of_range (merged_here (goal.at.Else-deep c).After-append_parts-m) ≡ false
 within c = sym (outside (goal.at.Else-deep c).After-out_of_range) ∙ c.if-out_of_range.false
 
-end : (c : After-layout) → c.layout.result.end ≡ length (merged_here (goal.at.After-layout c).After-slice_known-1)
+end : (c : After-layout) → c.layout.result.end ≡ length (merged_here (goal.at.After-layout c).After-append_parts-m)
 end c =
-    let record { accepted_sheet = (host, _, _); numbered = _ } = c.requires in
-    ap (λ l. l.end) c.layout.ensures ∙ end_is host c.append_parts-m.ensures (graft_here (goal.at.After-layout c).After-slice_known-1)
+    let record { new_parts = new; accepted = (host, _) } = c.append_parts-m.ensures in
+    ap (λ l. l.end) c.layout.ensures ∙ end_is (with_header host) new (graft_here (goal.at.After-layout c).After-append_parts-m)
 
 pub append_parts-m-requires : goal.append_parts-m-requires
 unfolding pair_size name_limit text_limit
 append_parts-m-requires c =
-    let record { accepted_sheet = (host, donor, _); numbered = numbered } = c.requires in record {
-      accepted_sheet = (host, donor);
-      numbered = numbered;
+    record {
+      numbered = c.requires.numbered;
       room = (record { for_pairs = omega arith; for_bytes = omega arith }, record { for_pairs = omega arith; for_bytes = omega arith });
     }
 
@@ -61,8 +60,8 @@ returns-then-out_of_range c =
 
 pub layout-requires : goal.layout-requires
 layout-requires c =
-    let record { accepted_sheet = (host, _, _); numbered = _ } = c.requires in
-    range host c.append_parts-m.ensures (graft_here (goal.at.layout-requires c).After-slice_known-1) (within c)
+    let record { new_parts = new; accepted = (host, _) } = c.append_parts-m.ensures in
+    range (with_header host) new (graft_here (goal.at.layout-requires c).After-append_parts-m) (within c)
 
 pub returns-then-out-layout : goal.returns-then-out-layout
 returns-then-out-layout c =
@@ -72,34 +71,33 @@ returns-then-out-layout c =
 pub put_pairs-after_pairs-requires : goal.put_pairs-after_pairs-requires
 unfolding pair_size name_limit
 put_pairs-after_pairs-requires c =
-    let record { accepted_sheet = (host, _, _); numbered = _ } = c.requires in
-    let new = c.append_parts-m.ensures in
+    let here = goal.at.put_pairs-after_pairs-requires c in
+    let record { new_parts = new; accepted = (host, _) } = c.append_parts-m.ensures in
     record {
-      accepted_sheet = (host, range host new (graft_here (goal.at.put_pairs-after_pairs-requires c).After-slice_known-1) (within (goal.at.put_pairs-after_pairs-requires c).Else-deep), longer host new);
+      longer = (range (with_header host) new (graft_here here.After-append_parts-m) (within here.Else-deep), longer (with_header host) new);
       pair_room = (omega arith, omega arith);
     }
 
 pub put_records-after_records-requires : goal.put_records-after_records-requires
 put_records-after_records-requires c =
-    let record { accepted_sheet = (host, donor, _); numbered = numbered } = c.requires in
     record {
-      accepted_sheet = (host, donor, here (graft_here (goal.at.put_records-after_records-requires c).After-slice_known-1));
-      numbers = has_numbers donor numbered;
+      k_bound = here (graft_here (goal.at.put_records-after_records-requires c).After-append_parts-m);
+      numbers = has_numbers (with_header c.append_parts-m.ensures.accepted.1) _ c.requires.numbered.room;
     }
 
 pub put_text_and_code-requires : goal.put_text_and_code-requires
 unfolding text_limit
 put_text_and_code-requires c =
-    let record { accepted_sheet = (host, _, _); numbered = _ } = c.requires in
-    let new = c.append_parts-m.ensures in
+    let here = goal.at.put_text_and_code-requires c in
+    let record { new_parts = new; accepted = (host, _) } = c.append_parts-m.ensures in
     record {
-      accepted_sheet = (host, range host new (graft_here (goal.at.put_text_and_code-requires c).After-slice_known-1) (within (goal.at.put_text_and_code-requires c).Else-deep), longer host new);
+      longer = (range (with_header host) new (graft_here here.After-append_parts-m) (within here.Else-deep), longer (with_header host) new);
       byte_room = (omega arith, omega arith);
     }
 
 pub returns : goal.returns
 returns c =
-    let record { accepted_sheet = (host, donor, _); numbered = numbered } = c.requires in
+    let record { new_parts = new; accepted = (host, donor) } = c.append_parts-m.ensures in
     written _ _ _ _ (inside_both _ _ _ _ (within (goal.at.returns c).Else-deep) c.if-deep.false) _ (omega (arith, c.if-out-layout.false, end (goal.at.returns c).After-layout)) (its_header (goal.at.returns c).After-append_parts-m)
-    (merged_bytes host c.append_parts-m.ensures donor numbered c.args.k)
+    (merged_bytes (with_header host) new (with_header donor) c.requires.numbered c.args.k)
     (then c.put_pairs-after_pairs.ensures (then c.put_records-after_records.ensures c.put_text_and_code.ensures))
