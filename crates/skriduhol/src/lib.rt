@@ -57,6 +57,8 @@ fn asked_version(number: usize) -> Result<Version, Located>
 }
 
 // The text of a version in a style: the sheet's term, and then its declarations and the term as printed.
+// It shares with the lists the term's memory and the line that fills it; a closure over that term would write the lent memory, and so
+// carry the clauses of both.
 fn styled_text(s: &[u8], version: Version, style: Style, out: &mut [u8]) -> Result<usize, Refusal>
     ensures { Fills (is_in_room (length out.old) (sheet_text s.now version style)) out.old out.new result }
 {
