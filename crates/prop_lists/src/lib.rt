@@ -50,7 +50,8 @@ fn next_head(code: &[u8], at: usize, end: usize, names: usize, list: TermList) -
 }
 
 // The next entry at or after `at`, before `end`, if there is one: an atom's name and count stand behind its byte, a datatype's name behind the
-// object's.
+// object's. The walks over it keep their position themselves: a step of an iterator would have to promise that code, end, names and
+// list stay and that a row stands at the new position, which the invariant of a walk says in a line.
 pub fn next_entry(code: &[u8], at: usize, end: usize, names: usize, list: TermList) -> Option<Entry>
     requires { Row names code.now at end }
     ensures { GivesEntry names list code.now at end result }
