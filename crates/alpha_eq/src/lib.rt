@@ -11,7 +11,7 @@ ghost use Rattle.alpha_eq.specs.Bindings.{Bound, Kept};
 ghost use Rattle.alpha_eq.specs.Comparing.{of_sides, of_applied, of_scope, form_coding, several_coding, bound_alike_in, alpha_eq_parameter_in, alpha_eq_parameters_in, alpha_eq_atom_in, alpha_eq_under_in, alpha_eq_sides_in, alpha_eq_scope_in, Comparable, Answers, WithRoom, TwoPropositions, Decides};
 ghost use Rattle.sheet.specs.Checks.{outcome_of};
 
-use definitions::Refusal;
+use definitions::{Reason, Refusal};
 use identifier::same_bytes;
 use number::number_at;
 use prefix_code::{Head, ParameterKind};
@@ -53,7 +53,7 @@ fn bound_alike(
             return Ok(binds_x && binds_y);
         }
     }
-    Err(Refusal::at(19, 0))
+    Err(Reason::UnboundParameter.at(0))
 }
 
 // The parameters at i and j.

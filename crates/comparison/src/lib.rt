@@ -10,7 +10,7 @@ ghost use Rattle.definitions.specs.Answers.{comparison};
 ghost use Rattle.sheet.specs.Checks.{outcome_of};
 ghost use Rattle.comparison.specs.Conclusions.{named_prop, JudgementIn, ConclusionIn, judgement_eq, conclusion_comparison};
 
-use definitions::Refusal;
+use definitions::{Reason, Refusal};
 use identifier::same_bytes;
 use number::pair_offset;
 use sheet::AdmittedSheet;
@@ -81,7 +81,7 @@ fn compare_steps(sheet: &AdmittedSheet, i: usize, j: usize) -> Result<bool, Refu
 {
     let steps = sheet.header().steps;
     if steps <= i || steps <= j {
-        return Err(Refusal::at(17, 0));
+        return Err(Reason::ComparedStep.at(0));
     }
     let records = sheet.step_records();
     let left = step_at(records, i).conclusion;

@@ -9,7 +9,7 @@ ghost use Rattle.output.specs.Written.{Fills};
 ghost use Rattle.exercise_laws.specs.Counts.{each};
 ghost use Rattle.exercises.specs.Sizes.{Few, size, CountOf, Located, Divided, code_at};
 
-use definitions::Refusal;
+use definitions::{Reason, Refusal};
 use names::count_names;
 use output::{Counter, Sink, Writer};
 use prefix_code::{AND, ATOM, IMPL, OR};
@@ -123,15 +123,15 @@ pub fn exercise(text: &[u8], n: usize, ordinal: usize, out: &mut [u8]) -> Result
     ensures { Fills (exercise_answer text.now n ordinal (length out.old))
         out.old out.new result }
 {
-    let names = count_names(text).ok_or(Refusal::at(29, 0))?;
+    let names = count_names(text).ok_or(Reason::Exercise.at(0))?;
     if CONNECTIVE_LIMIT < n {
-        return Err(Refusal::at(29, 0));
+        return Err(Reason::Exercise.at(0));
     }
-    let place = locate(names, n, ordinal).ok_or(Refusal::at(30, 0))?;
+    let place = locate(names, n, ordinal).ok_or(Reason::Ordinal.at(0))?;
     let mut length = Counter { count: 0 };
     put_sized(&mut length, names, place.size, place.index);
     if out.len() < length.count {
-        return Err(Refusal::at(16, 0));
+        return Err(Reason::Room.at(0));
     }
     put_sized(&mut Writer { out, to: 0 }, names, place.size, place.index);
     Ok(length.count)

@@ -17,7 +17,7 @@ ghost use Rattle.restating.specs.Slots.{slots_after};
 ghost use Rattle.merged_sheet.specs.Merging.{Merging};
 ghost use Rattle.grafting.specs.Answered.{equal_and_limited, FillsBy, slots_by};
 
-use definitions::{Refusal, Whose};
+use definitions::{Reason, Refusal, Whose};
 use equal_conclusions::same_conclusion;
 use merged_names::fill_numbers;
 use merged_sheet::merge;
@@ -148,7 +148,7 @@ fn merge_equal(
     let mut donor_numbers = [0u16; Sheet::NAME_LIMIT];
     number_names(host, donor, &mut host_numbers, &mut donor_numbers);
     if !same_conclusion(host, &host_numbers, k, donor, &donor_numbers) {
-        return Err(Refusal::at(27, 0));
+        return Err(Reason::ConclusionsDiffer.at(0));
     }
     merge(host, k, donor, &donor_numbers, deep, out)
 }
@@ -169,7 +169,7 @@ fn graft_accepted(
     ensures accepted { IfOk result (λ _. Accepted host.now × Accepted donor.now) }
 {
     if not_open(host, k) {
-        return Err(Refusal::at(26, 0));
+        return Err(Reason::NoOpenStep.at(0));
     }
     let deep = too_deep(host, host_sizes, k, donor, donor_sizes);
     merge_equal(host, k, donor, deep, out)

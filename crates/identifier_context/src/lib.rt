@@ -10,7 +10,7 @@ ghost use Rattle.number.specs.Pairs.{NameWithin};
 ghost use Rattle.identifier_context.specs.Memory.{Holds, entry_size, name_at, entry_of, entry_at};
 ghost use Rattle.identifier_context.specs.Promises.{Inserts, Finds, Removes, name_asked, admitted, closed, is_visible, Shows};
 
-use definitions::Refusal;
+use definitions::{Reason, Refusal};
 use identifier::same_bytes;
 
 // The numbers of an entry.
@@ -58,7 +58,7 @@ pub fn insert(entries: &mut [u16], len: usize, entry: Entry) -> Result<usize, Re
     ensures { Inserts entries.old entries.new len entry result }
 {
     if entries.len() / ENTRY_SIZE <= len {
-        return Err(Refusal::at(16, 0));
+        return Err(Reason::Room.at(0));
     }
     let at = ENTRY_SIZE * len;
     entries[at..at + ENTRY_SIZE].copy_from_slice(&[entry.name, entry.id, entry.kind, entry.number]);

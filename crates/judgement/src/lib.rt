@@ -18,7 +18,7 @@ ghost use Rattle.judgement.specs.Asked.{Known, held_term, may_check, ruled, Lowe
 
 use checkable::is_checkable;
 use checker::check;
-use definitions::Refusal;
+use definitions::{Reason, Refusal};
 use hypotheses::{are_free, assume, is_free, is_out};
 use merged_names::fill_numbers;
 use name_index::{Index, SLOT_COUNT, build};
@@ -143,10 +143,10 @@ fn judge_held(
         hypotheses.now k) }
 {
     if is_outside(h, hypotheses, k) {
-        return Err(Refusal::at(31, 0));
+        return Err(Reason::JudgedNumber.at(0));
     }
     if !may_check(s, h, terms, n, hypotheses, k) {
-        return Err(Refusal::at(22, 0));
+        return Err(Reason::Uncheckable.at(0));
     }
     let mut numbers = [0u16; Sheet::NAME_LIMIT];
     number_names(s, h, &mut numbers);

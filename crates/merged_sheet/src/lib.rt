@@ -15,7 +15,7 @@ ghost use Rattle.merged_sheet.specs.Parts.{PairRoom, ByteRoom, Longer, Few, head
 ghost use Rattle.merged_sheet.specs.Merging.{limited, Merging};
 
 use appended_parts::{Appended, append_names, append_propositions};
-use definitions::Refusal;
+use definitions::{Reason, Refusal};
 use number::PAIR_SIZE;
 use output::put_all;
 use renumbering::put_steps;
@@ -180,10 +180,10 @@ pub fn merge(
         &mut new_code,
     );
     if m.out_of_range() || deep {
-        return Err(Refusal::at(28, 0));
+        return Err(Reason::MergedLimit.at(0));
     }
     if out.len() < m.layout().end {
-        return Err(Refusal::at(16, 0));
+        return Err(Reason::Room.at(0));
     }
     let after_pairs = put_pairs(host, m, &new_names, &new_propositions, out);
     let after_records = put_records(host, k, donor, numbers, out, after_pairs);

@@ -1,12 +1,13 @@
 // A step's conclusion, as it is taken apart for a label. The walk stands on the steps and below the sheet, so it takes the pairs and
 // the code, of which `Readable` says once what is asked.
 ghost use Rattle.std.specs.Prelude.{ℕ, ◌<◌, ◌≡◌};
+ghost use Rattle.definitions.specs.Reason.{number_of};
 ghost use Rattle.proof_tree.specs.Table.{ending_of};
 ghost use Rattle.proof_tree.specs.Opening.{Readable};
 ghost use Rattle.proof_tree.specs.Labelling.{left_label_of, datatype_label_of, parameter_label_of, label_or, AnnotationOf};
 
 use crate::table::Ending;
-use definitions::Refusal;
+use definitions::{Reason, Refusal};
 use number::pair_offset;
 use prefix_code::{Connective, Quantifier, Shape, shape_at};
 use proof_term::Label;
@@ -54,13 +55,13 @@ fn datatype_label(pairs: &[u8], code: &[u8], conclusion: Conclusion) -> Option<L
 }
 
 // A label that step k must have, or its refusal.
-fn or_refusal(label: Option<Label>, number: u8, k: usize) -> Result<Option<Label>, Refusal>
+fn or_refusal(label: Option<Label>, reason: Reason, k: usize) -> Result<Option<Label>, Refusal>
     requires { k < 65536 }
-    ensures { result ≡ label_or number k label }
+    ensures { result ≡ label_or (number_of reason) k label }
 {
     match label {
         Some(label) => Ok(Some(label)),
-        None => Err(Refusal::at(number, k)),
+        None => Err(reason.at(k)),
     }
 }
 
@@ -77,8 +78,16 @@ pub fn annotation_of(
         pairs.now code.now conclusion result }
 {
     match ending {
-        Ending::LeftLabelled => or_refusal(left_label(pairs, code, conclusion), 14, k),
-        Ending::DatatypeLabelled => or_refusal(datatype_label(pairs, code, conclusion), 15, k),
+        Ending::LeftLabelled => or_refusal(
+            left_label(pairs, code, conclusion),
+            Reason::NoImplication,
+            k,
+        ),
+        Ending::DatatypeLabelled => or_refusal(
+            datatype_label(pairs, code, conclusion),
+            Reason::NoUniversal,
+            k,
+        ),
         Ending::Bare | Ending::Ascribed | Ending::PremissOwn => Ok(None),
     }
 }

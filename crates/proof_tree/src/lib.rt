@@ -23,7 +23,7 @@ ghost use Rattle.proof_tree.specs.Exporting.{RoomFor, GoodStepPlaced, StepExport
 ghost use Rattle.proof_tree.specs.Wrapping.{Wrapped};
 
 use conclusion::annotation_of;
-use definitions::Refusal;
+use definitions::{Reason, Refusal};
 use number::pair_offset;
 use proof_term::{Label, Node, make};
 use step::premiss;
@@ -45,7 +45,7 @@ fn wrap_into_type_ascription(
         term_records.new conclusion result }
 {
     let Conclusion::PropIsTrue(p) = conclusion else {
-        return Err(Refusal::at(13, k));
+        return Err(Reason::AscribedJudgement.at(k));
     };
     let at = pair_offset(pairs, p as usize);
     let ascription = Node::TypeAscription {
@@ -118,7 +118,7 @@ fn do_export_as_proof_term(
 {
     let row = row_of(rule_byte(step_records, k));
     if !row.admits_count(premiss_count(step_records, k)) {
-        return Err(Refusal::at(12, k));
+        return Err(Reason::PremissCount.at(k));
     }
     let reads = row.fewest as usize;
     let modes = row.modes;

@@ -23,7 +23,7 @@ ghost use Rattle.restating.specs.Step.{given_of, header_numbers, sheet_with, roo
 ghost use Rattle.restating.specs.Slots.{slots_after};
 
 use comparison::compare_conclusions;
-use definitions::Refusal;
+use definitions::{Reason, Refusal};
 use name_index::{SLOT_COUNT, build};
 use output::{put_all, put_u16s};
 use sheet::{AdmittedSheet, Sheet};
@@ -139,10 +139,10 @@ fn judge(
 {
     let h = sheet.header();
     if bad_step(step, 0, h.names, h.propositions) {
-        return Err(Refusal::at(23, 0));
+        return Err(Reason::Given.at(0));
     }
     if no_step_left(sheet, sizes) {
-        return Err(Refusal::at(24, 0));
+        return Err(Reason::NoStepLeft.at(0));
     }
     compare_root(sheet, step)
 }
@@ -159,7 +159,7 @@ fn write_sheet(
 {
     let end = sheet.bytes().len() + Sheet::STEP_SIZE;
     if out.len() < end {
-        return Err(Refusal::at(16, 0));
+        return Err(Reason::Room.at(0));
     }
     put_sheet(out, sheet, step);
     Ok(end)
@@ -180,7 +180,7 @@ fn restate_accepted(
     put_record(&mut step, given);
     let same = judge(sheet, sizes, &step)?;
     if !same {
-        return Err(Refusal::at(25, 0));
+        return Err(Reason::NotAlphaEqual.at(0));
     }
     write_sheet(sheet, &step, out)
 }

@@ -5,7 +5,7 @@ ghost use Rattle.definitions.specs.Sheet.{header_out_of_range};
 ghost use Rattle.sheet.specs.Header.{header_of, InRange, layout_of};
 ghost use Rattle.sheet.specs.Checks.{answered, short_check};
 
-use definitions::Refusal;
+use definitions::{Reason, Refusal};
 use reader::header_number;
 
 // The six header numbers: T, N, C, P, S and the goal. A header that was only read may lie outside its ranges, so the ranges are asked
@@ -37,7 +37,7 @@ fn header_field(s: &[u8], k: usize) -> Result<usize, Refusal>
     ensures { MatchResult result (λ n. Some n ≡ number_after s.now (2 * k))
         (λ refusal. Err refusal ≡ answered (header_of s.now) (short_check s.now)) }
 {
-    header_number(s, k).ok_or(Refusal::at(1, 0))
+    header_number(s, k).ok_or(Reason::NoHeader.at(0))
 }
 
 impl Sheet {

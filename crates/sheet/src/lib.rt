@@ -7,6 +7,7 @@ mod pairs;
 mod parts;
 
 ghost use Rattle.std.specs.Prelude.{◌≡◌, ◌<◌, ◌≤◌, length, IfSome};
+ghost use Rattle.definitions.specs.Reason.{number_of};
 ghost use Rattle.definitions.specs.Outcome.{refuse_at};
 ghost use Rattle.definitions.specs.Sheet.{step_limit};
 ghost use Rattle.definitions.specs.Admission.{header_checks};
@@ -15,20 +16,20 @@ ghost use Rattle.sheet.specs.Checks.{outcome_of, checked_of, answered, name_chec
 ghost use Rattle.sheet.specs.Sizes.{steps_finding_trees, sized_steps, Sized};
 
 pub use admitted_sheet::AdmittedSheet;
-use definitions::Refusal;
+use definitions::{Reason, Refusal};
 pub use header::{Layout, Sheet};
 pub use pairs::{first_bad_code, first_bad_name, first_bad_pair, first_deep_proposition};
 pub use parts::{code_bytes, name_pairs, proposition_pairs, step_records, text_bytes, vocabulary};
 use steps::{fill_sizes, first_bad_step, first_deep_tree, leaves_trees};
 
-// The refusal of a number at a place that was found, if one was.
+// The refusal for a reason at a place that was found, if one was.
 #[tactic(auto, unfolding(definitions::specs::Outcome::refuse, definitions::specs::Outcome::refuse_at))]
-fn refuse_at(place: Option<usize>, number: u8) -> Result<(), Refusal>
+fn refuse_at(place: Option<usize>, reason: Reason) -> Result<(), Refusal>
     requires { IfSome place (λ k. k < 65536) }
-    ensures { outcome_of result ≡ refuse_at place number }
+    ensures { outcome_of result ≡ refuse_at place (number_of reason) }
 {
     match place {
-        Some(place) => Err(Refusal::at(number, place)),
+        Some(place) => Err(reason.at(place)),
         None => Ok(()),
     }
 }
@@ -39,10 +40,10 @@ pub fn check_header(s: &[u8]) -> Result<Sheet, Refusal>
 {
     let h = Sheet::header(s)?;
     if h.out_of_range() {
-        return Err(Refusal::at(2, 0));
+        return Err(Reason::HeaderRange.at(0));
     }
     if s.len() != h.layout().end {
-        return Err(Refusal::at(3, 0));
+        return Err(Reason::ByteCount.at(0));
     }
     Ok(h)
 }
@@ -54,8 +55,11 @@ fn check_names(s: &[u8], h: Sheet) -> Result<(), Refusal>
 {
     let pairs = name_pairs(s, h);
     let bad_pair = first_bad_pair(pairs, h.names, h.text_length, Sheet::NAME_LENGTH_LIMIT);
-    refuse_at(bad_pair, 4)?;
-    refuse_at(first_bad_name(pairs, text_bytes(s, h), h.names), 5)
+    refuse_at(bad_pair, Reason::NamePair)?;
+    refuse_at(
+        first_bad_name(pairs, text_bytes(s, h), h.names),
+        Reason::NameByte,
+    )
 }
 
 // Refusals 6 to 8: the propositions.
@@ -66,11 +70,14 @@ fn check_propositions(s: &[u8], h: Sheet) -> Result<(), Refusal>
     let pairs = proposition_pairs(s, h);
     let code = code_bytes(s, h);
     let bad_pair = first_bad_pair(pairs, h.propositions, h.code_length, h.code_length);
-    refuse_at(bad_pair, 6)?;
-    refuse_at(first_bad_code(pairs, code, h.propositions, h.names), 7)?;
+    refuse_at(bad_pair, Reason::PropositionPair)?;
+    refuse_at(
+        first_bad_code(pairs, code, h.propositions, h.names),
+        Reason::PropositionCode,
+    )?;
     refuse_at(
         first_deep_proposition(pairs, code, h.propositions, h.names),
-        8,
+        Reason::PropositionNesting,
     )
 }
 
@@ -80,7 +87,10 @@ fn check_steps(s: &[u8], h: Sheet) -> Result<(), Refusal>
     ensures { outcome_of result ≡ step_checks s.now }
 {
     let records = step_records(s, h);
-    refuse_at(first_bad_step(records, h.steps, h.names, h.propositions), 9)
+    refuse_at(
+        first_bad_step(records, h.steps, h.names, h.propositions),
+        Reason::StepField,
+    )
 }
 
 // Refusals 10 and 11: the steps' trees.
@@ -91,15 +101,15 @@ fn check_trees(s: &[u8], h: Sheet, sizes: &mut [u16]) -> Result<(), Refusal>
 {
     let records = step_records(s, h);
     let steps = h.steps;
-    refuse_at(fill_sizes(records, steps, sizes), 10)?;
+    refuse_at(fill_sizes(records, steps, sizes), Reason::TreeCount)?;
     if leaves_trees(records, steps, sizes) {
-        return Err(Refusal::at(10, steps - 1));
+        return Err(Reason::TreeCount.at(steps - 1));
     }
     let mut heights = [0u16; Sheet::STEP_LIMIT];
     let limit = Sheet::TREE_NESTING_LIMIT;
     refuse_at(
         first_deep_tree(records, steps, sizes, &mut heights, limit),
-        11,
+        Reason::TreeNesting,
     )
 }
 

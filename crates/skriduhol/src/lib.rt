@@ -30,7 +30,7 @@ ghost use Rattle.skriduhol.specs.Grafts.{GraftsOf};
 ghost use Rattle.skriduhol.specs.Board.{Prints};
 ghost use Rattle.skriduhol.specs.Searched.{searched_of, plain_answer};
 
-use definitions::{Located, Refusal, Style, TermList, Version, Whose};
+use definitions::{Located, Reason, Refusal, Style, TermList, Version, Whose};
 use list_length::list_length;
 use located::{locate, put_refusal};
 use name_index::{Index, SLOT_COUNT};
@@ -50,7 +50,7 @@ fn asked_version(number: usize) -> Result<Version, Located>
         2 => Ok(Version::Second),
         3 => Ok(Version::Third),
         _ => Err(Located {
-            refusal: Refusal::at(21, 0),
+            refusal: Reason::Version.at(0),
             column: 0,
         }),
     }
@@ -113,7 +113,7 @@ fn label_list(s: &[u8], which: TermList, out: &mut [u16]) -> Result<usize, Refus
     let v = vocabulary(h);
     let end = put_list(&terms, n, which, s, v, out, 0, false);
     if out.len() < end {
-        return Err(Refusal::at(16, 0));
+        return Err(Reason::Room.at(0));
     }
     put_list(&terms, n, which, s, v, out, 0, true);
     Ok(end)

@@ -12,7 +12,7 @@ ghost use Rattle.term_reader.specs.Whole.{Unsettled, Settled, ReadEnds, Measures
 ghost use Rattle.term_reader.specs.Answered.{answer_of, Copyable, short_for, HasRoom, HandsOver};
 ghost use Rattle.term_reader.specs.Answered.{ReadsTerm, RestoresTerm};
 
-use definitions::Refusal;
+use definitions::{Reason, Refusal};
 use number::PAIR_SIZE;
 use proof_term::RECORD_SIZE;
 use term_closings::{chain, give};
@@ -118,7 +118,7 @@ fn measure(
     requires { (length names.old ≡ table_size) × Roomy work.old }
     ensures { Measures types.now text.now names.new work.new result }
 {
-    let no_term = Refusal::at(20, 0);
+    let no_term = Reason::NoTerm.at(0);
     if TEXT_LIMIT < text.len() || !all_admitted(types) {
         return Err(no_term);
     }
@@ -215,7 +215,7 @@ pub fn read_term(
     let mut pairs = [0u8; TABLE_SIZE];
     let size = measure(text, types, &mut pairs, &mut work)?;
     if too_short(records.len(), names.len(), code.len(), &size) {
-        return Err(Refusal::at(16, 0));
+        return Err(Reason::Room.at(0));
     }
     hand_over(
         text, types, &mut pairs, &mut work, records, names, code, &size,

@@ -21,7 +21,7 @@ ghost use Rattle.text.specs.Declaring.{heading_lines, term_of, Declares, Arrange
 use declaration_length::lines_length;
 use declaration_order::sort_declarations;
 use declarations::{Declaration, Declarations, put_declarations};
-use definitions::{Refusal, Style, TermList, Version};
+use definitions::{Reason, Refusal, Style, TermList, Version};
 use number::pair_offset;
 use output::{Sink, Writer};
 use proof_term_display::print_term;
@@ -297,7 +297,7 @@ pub fn text(
     fill_sheet_ends(s, h, &mut ends);
     let term = measure_term(s, h, terms, n, style, &ends);
     if out.len() < term {
-        return Err(Refusal::at(16, 0));
+        return Err(Reason::Room.at(0));
     }
     let mut first = [Declaration { name: 0, count: 0 }; DECLARATION_LIMIT];
     let mut second = [Declaration { name: 0, count: 0 }; DECLARATION_LIMIT];
@@ -314,7 +314,7 @@ pub fn text(
     let second = &mut second[..second_count];
     let end = heading_length(s, h, version, first, second) + term;
     if out.len() < end {
-        return Err(Refusal::at(16, 0));
+        return Err(Reason::Room.at(0));
     }
     arrange(s, h, version, first);
     arrange(s, h, version, second);
