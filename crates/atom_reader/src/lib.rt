@@ -1,5 +1,6 @@
 // An atom of a label: its name and its parameters, read from strict text into prefix code. A reader gives what it read, or none where
-// it does not stand there or there are too many names. Names are noted in any case; code is stored only where `write` says so.
+// it does not stand there or there are too many names. Names are noted in any case; code is stored only where `write` says so, a flag
+// for the reason that prop_parts gives.
 #![tactic(auto)]
 
 ghost use Rattle.std.specs.Prelude.{◌≡◌, List, ◌<◌, length, drop};
