@@ -23,10 +23,10 @@ use merged_names::fill_numbers;
 use merged_sheet::merge;
 use name_index::{Index, SLOT_COUNT, build};
 use sheet::{AdmittedSheet, Sheet, vocabulary};
-use steps::{first_deep_tree, premiss_count, rule_byte};
+use steps::{Rule, first_deep_tree, premiss_count, rule_byte};
 
 // The byte of the rule Sorry.
-const SORRY: u8 = 15;
+const SORRY: u8 = Rule::Sorry as u8;
 
 // 26: the host step is no Sorry without premisses.
 fn not_open(host: &AdmittedSheet, k: usize) -> bool

@@ -93,7 +93,7 @@ pub enum Entry {
     LetBody(u16, u16, Part),
 }
 
-const NODE_LIMIT: usize = 2048;
+const NODE_LIMIT: usize = proof_term::NODE_LIMIT;
 
 const NESTING_LIMIT: usize = 512;
 
