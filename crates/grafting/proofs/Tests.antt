@@ -14,13 +14,12 @@ use Rattle.definitions.specs.Tree.{height, root_of}
 use Rattle.definitions.specs.Encode.{rule_number}
 use Rattle.definitions.specs.Equal.{eq_conclusion}
 use Rattle.definitions.specs.Answers.{named_conclusion}
-use Rattle.definitions.specs.NameIndex.{slot_count, index_of}
+use Rattle.definitions.specs.NameIndex.{index_of}
 use Rattle.definitions.specs.Graft.{not_open, differ, passes_limit, graft}
 use Rattle.graft_laws.specs.Levels.{above}
 use Rattle.graft_laws.proofs.MergedSheet.{Grafts}
 use Rattle.graft_laws.proofs.MergedLevels.{merged_levels}
 use Rattle.output.specs.Written.{filled}
-use Rattle.vocabulary.specs.declared.Vocabulary.{Vocabulary}
 use Rattle.name_index.specs.declared.Index.{Index}
 use Rattle.merged_names.specs.Numbered.{Indexed, Numbered}
 use Rattle.steps.specs.Records.{HasStep}
@@ -28,7 +27,7 @@ use Rattle.sheet.specs.declared.header.Sheet.{Sheet}
 use Rattle.std.specs.Prelude.{Result, Ok, Err, IfOk}
 use Rattle.sheet.specs.Header.{header_of, vocabulary_of}
 use Rattle.sheet.proofs.Admitted.{AcceptedSheet, has_steps, its_header}
-use Rattle.sheet.proofs.NamesAndCode.{count_is, names_are, within, names_of}
+use Rattle.sheet.proofs.NamesAndCode.{count_is, names_are, names_of}
 use Rattle.merged_sheet.specs.Merging.{limited, headed, Merging}
 use Rattle.grafting.specs.Answered.{equal_and_limited}
 use Rattle.definitions.specs.declared.Refusal.{Refusal}

@@ -71,6 +71,10 @@ at_most_twenty h l = l.least 20 (omega arith) (omega arith)
 pub taken_whole : (l : List ℕ) {count : ℕ} → count ≤ length l → count ≡ length (take count l)
 taken_whole l {count} h = omega (arith, length-take count l)
 
+-- and 1 for 0
+pub digits_of_zero : {count : ℕ} → LeastDigits 0 count → count ≡ 1
+digits_of_zero l = least_is_length l ∙ one_digit 0 (omega arith)
+
 -- the digits of a number are one more than the greatest power of ten within it, and 0 has as many as 1
 pub least_count : (n power : ℕ) → 10 ^ power ≤ max n 1 → max n 1 < 10 * 10 ^ power → LeastDigits n (power + 1)
 least_count n power low high =

@@ -47,8 +47,11 @@ invariant_of-donor_index c =
 pub fill_numbers-requires : goal.fill_numbers-requires
 fill_numbers-requires c =
     let host = host_here (goal.at.fill_numbers-requires c).After-build-2 in
-    let index = indexed host c.vocabulary-v.ensures.is (built host c.vocabulary-v.ensures.is c.build.ensures) in
-    record { indexed = (index, index); numbered = none_numbered _ _ c.requires.0 }
+    let built = built host c.vocabulary-v.ensures.is c.build.ensures in
+    record {
+      indexed = (indexed host c.vocabulary-v.ensures.is built, indexed host c.vocabulary-v.ensures.is built);
+      numbered = none_numbered _ _ c.requires.0;
+    }
 
 pub fill_numbers-requires-2 : goal.fill_numbers-requires-2
 fill_numbers-requires-2 c =
