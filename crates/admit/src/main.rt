@@ -1,12 +1,17 @@
 // Says of each file that its arguments name whether it holds a sheet, or which of refusals 1 to 11 it meets.
 #![tactic(auto)]
 
-use std::{env, fs, io};
+use std::rt::Files;
+use std::{env, io};
+
+// More bytes than the longest sheet has. A file is read no further.
+const ROOM: usize = 65536;
 
 // A line for a file: its name and the answer for its bytes, which are none where it cannot be read.
-fn answer_file(rt: &HostRuntime, path: &str) -> io::Result<()> {
-    let bytes = fs::read(rt, path).unwrap_or(Vec::new(rt.alloc()));
-    match sheet::answer(&bytes) {
+fn answer_file(rt: &(impl Files + Print), path: &str) -> io::Result<()> {
+    let mut bytes = [0u8; ROOM];
+    let count = input::read_file(rt, path, &mut bytes);
+    match sheet::answer(&bytes[..count]) {
         Ok(_) => println!(rt; "{path}: accepted"),
         Err(refusal) => println!(rt; "{path}: refused {} at {}", refusal.number, refusal.place),
     }

@@ -16,7 +16,7 @@ use number::pair_offset;
 use sheet::AdmittedSheet;
 use steps::{Conclusion, Judgement, step_at};
 
-// Whether the names of two numbers have the same bytes: the one place where a number of the sheet becomes one among its pairs.
+// Whether the names of two numbers have the same bytes: the one place where a name's number becomes one among the pairs.
 fn same_named(sheet: &AdmittedSheet, a: u16, b: u16) -> bool
     requires { (a < names sheet.now) × (b < names sheet.now) }
     ensures { result ≡ eq_name (name_of sheet.now a) (name_of sheet.now b) }

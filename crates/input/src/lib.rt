@@ -3,7 +3,9 @@
 
 ghost use Rattle.std.specs.Prelude.{◌≤◌, length};
 
+use std::fs;
 use std::io::Read;
+use std::rt::Files;
 
 // Reads until the memory is full, the input ends or a read fails, and returns how many bytes came. They stand at the memory's start,
 // which is the caller's, as `Read::read` has it: board lends it no more than a sheet can be long.
@@ -24,7 +26,18 @@ pub fn read_full(input: &mut impl Read, memory: &mut [u8]) -> usize
     count
 }
 
-// So many bytes of an input, and zeros past its end.
+// The same of the file at a path. One that cannot be opened has no bytes. A file may have no end, so that what is read of it is as long
+// as the memory and no Vec of all that comes.
+pub fn read_file(rt: &impl Files, path: &str, memory: &mut [u8]) -> usize
+    ensures { result ≤ length memory.new }
+{
+    let Ok(mut file) = fs::open(rt, path) else {
+        return 0;
+    };
+    read_full(&mut file, memory)
+}
+
+// So many bytes of an input, and zeros past its end. No contract says which, since none speaks of what an input holds.
 pub fn read_array<const N: usize>(input: &mut impl Read) -> [u8; N] {
     let mut bytes = [0; N];
     read_full(input, &mut bytes);

@@ -57,7 +57,8 @@ fn is_outside(h: Sheet, hypotheses: &[u16], k: usize) -> bool
     is_out(hypotheses, h.names, h.propositions)
 }
 
-// The question is two parameters, the hypotheses and k, and no struct: a clause says `hypotheses.now k` of either form.
+// The question is two parameters, the hypotheses and k, and no struct: of a struct each clause would say `question.hypotheses.now` and
+// `question.k` for `hypotheses.now` and `k`.
 
 // 22 of the term, the proposition and the hypotheses: whether the rules speak of them.
 fn may_check(s: &[u8], h: Sheet, terms: &[u16], n: usize, hypotheses: &[u16], k: usize) -> bool

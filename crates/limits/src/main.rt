@@ -5,7 +5,8 @@
 ghost use Rattle.std.specs.Prelude.{◌≤◌};
 
 use skriduhol::BOARD_ROOM;
-use std::{env, fs, io};
+use std::rt::Files;
+use std::{env, io};
 
 // The number of a decimal digit; another byte counts as 0.
 fn digit(b: u8) -> usize
@@ -45,13 +46,14 @@ fn write_answer(rt: &impl Print, s: &[u8], room: usize) -> io::Result<()>
     println!(rt)
 }
 
-// The same of the drawing in a file, which has no bytes where it cannot be read.
-fn answer_file(rt: &HostRuntime, path: &str, room: usize) -> io::Result<()>
+// The same of the drawing in a file, of which no more is read than the buffer holds: that is longer than the longest sheet.
+fn answer_file(rt: &(impl Files + Print), path: &str, room: usize) -> io::Result<()>
     requires { room ≤ 65536 }
 {
-    let bytes = fs::read(rt, path).unwrap_or(Vec::new(rt.alloc()));
+    let mut bytes = [0u8; BOARD_ROOM];
+    let count = input::read_file(rt, path, &mut bytes);
     print!(rt; "{path} in {room}: ")?;
-    write_answer(rt, &bytes, room)
+    write_answer(rt, &bytes[..count], room)
 }
 
 fn main(rt: HostRuntime) -> io::Result<()> {

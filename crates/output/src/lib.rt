@@ -17,6 +17,9 @@ pub use counter::Counter;
 pub use sink::Sink;
 pub use writer::Writer;
 
+// Each of these goes by a position and a flag: a writer takes the elements, or a counter where nothing is to be written. Memories of
+// bytes and of numbers have a function each, since neither needs the bound on its length that memory of any element does.
+
 // One byte.
 pub fn put(out: &mut [u8], to: usize, b: u8, write: bool) -> usize
     ensures { Wrote (b ∷ []) write out.old to out.new result }

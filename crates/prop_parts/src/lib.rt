@@ -49,7 +49,7 @@ pub struct NameRead {
     pub count: usize,
 }
 
-// The signs here stand with the blanks and the bracket that are expected with them; prop prints its signs without.
+// A sign is expected with its blanks or its bracket at once, as one text; prop puts a sign and what stands around it one by one.
 
 // The connective at `at`.
 pub fn connective_at(text: &[u8], at: usize) -> Option<Connective>

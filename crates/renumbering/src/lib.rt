@@ -183,7 +183,7 @@ fn renumber_step(numbers: &[u16], step: Step, shift: usize) -> Step
 }
 
 // A conclusion and the column after it: kind 0, a proposition and two zeros, or kind 1, an object and its datatype. The
-// kinds are bytes of document 01's format, which are written here alone, and read as a `Conclusion`.
+// kinds are numbers of document 01's format, and each stands in the one line that puts it.
 fn put_conclusion<S: Sink<u8>>(sink: &mut S, conclusion: Conclusion, column: u16)
     ensures { S.puts sink.old (conclusion_bytes conclusion column) sink.new }
 {

@@ -40,8 +40,8 @@ use sheet::{check_header, vocabulary};
 use sheet_term::{TERM_NUMBERS, sheet_term};
 use text::{sheet_text_length, text};
 
-// The version of a number, or 21, which names no step of any sheet. `Version` is of a crate below, and so a `TryFrom` would stand
-// there, without the refusal.
+// The version of a number, or 21, which names no step of any sheet. A number is turned into a version here alone, and refused with
+// the column of no step: a `TryFrom` would give the refusal without it, and be asked at once for the rest.
 fn asked_version(number: usize) -> Result<Version, Located>
     ensures { (s : List ℕ) → result ≡ asked_of s (version_of number) }
 {

@@ -312,8 +312,8 @@ pub extern "C" fn skriduhol_compare(
     hand(compared.map(yes_or_no), value, column)
 }
 
-// What is given for a restatement: a kind, three numbers and a column, in the order of a step record. `Given` is of a crate below, so
-// that a `From` would stand there, where nothing else speaks of this order.
+// What is given for a restatement: a kind, three numbers and a column, in the order of a step record. Five loose numbers are given by
+// C alone, so that this stands beside the exports and is no `From` of the crate that has `Given`.
 #[tactic(auto, unfolding(restating::specs::Step::given_of, crate::specs::Handed::given_in))]
 fn given_in(given: &[u16; 5]) -> Given
     ensures { given_of result ≡ given_in given.now }
