@@ -1,13 +1,10 @@
 -- What the label of a record adds stands in the memory, and one record after the other adds what the term's labels add.
-use Prim.Native.Nat.{ℕ, ◌+◌, ◌≤◌}
+use Prim.Native.Nat.{ℕ, ◌+◌, ◌≤◌, ◌<◌}
 use mathlib.Core.Path.{◌≡◌, refl, sym, ap, ◌∙◌}
 use mathlib.Core.Bool.{Bool, true, false, cond}
-use mathlib.Core.Logic.{by_cases}
 use Rattle.std.specs.Prelude.{Option, None, Some}
 use mathlib.Core.List.{List, [], ◌++◌, map-append}
 use native.Mathlib.Omega.{arith}
-use native.Mathlib.Decide.{ℕ_discrete}
-use borrow.Author.Tests.{ne_eqb}
 use Rattle.definitions.specs.declared.Version.{Version}
 use Rattle.definitions.specs.declared.Version.TheVariants.{First, Second, Third}
 use Rattle.definitions.specs.declared.TermList.{TermList}
@@ -16,32 +13,41 @@ use Rattle.definitions.specs.Prop.{AtomUse}
 use Rattle.definitions.specs.Term.{Label, ProofTerm, Ident, Pair, Named, Function, Application, LetIn, Case, TypeAscription, Unit, Sorry, of_label, of_labels, label_atoms, proposition_datatypes, label_datatypes, atom_list, datatype_list}
 use Rattle.prefix_code.specs.PropAt.{Present}
 use Rattle.vocabulary.specs.declared.Vocabulary.{Vocabulary}
-use Rattle.vocabulary.specs.Vocabulary.{code_in, prop_in, Within}
+use Rattle.vocabulary.specs.Vocabulary.{code_in, prop_in, Within, SomeProposition}
 use Rattle.proof_term.specs.Records.{field_at, label_of}
 use Rattle.proof_term.specs.Labels.{has_label, of_own_label, of_record, of_records, LabelFits}
+use Rattle.proof_term.specs.Views.{label_of_numbers, label_meant}
+use Rattle.proof_term.specs.declared.nodes.Label as read
+use Rattle.proof_term.specs.declared.nodes.Label.TheVariants as label
 use Rattle.proof_term.proofs.Labels.{in_order, records_more}
+use Rattle.proof_term.proofs.Views.{label_same, datatype_read, proposition_read}
 use Rattle.prop_lists.specs.Entries.{use_of, datatype_uses}
 use Rattle.proof_term_lists.specs.declared.Added.{Added}
-use Rattle.proof_term_lists.specs.declared.Added.TheVariants.{Datatype, Proposition}
-use Rattle.proof_term_lists.specs.Labels.{label_uses, term_uses, proposition_adds, label_adds, record_adds, added_uses, AddedStands, Listable, term_in}
+use Rattle.proof_term_lists.specs.Labels.{label_uses, term_uses, label_adds, record_adds, added_uses, AddedStands, Listable, term_in}
 
 module _ (bytes : List ℕ) (v : Vocabulary) where
   -- what a label adds, as the definitions say
-  label_adds_lem : (list : TermList) (kind number : ℕ) → added_uses bytes v list (label_adds list kind number) ≡ label_uses list (label_of (prop_in bytes v) kind number)
-  unfolding label_adds proposition_adds label_uses label_of label_atoms label_datatypes proposition_datatypes
-  label_adds_lem Atoms kind number = by_cases (ℕ_discrete kind 2) (λ is. rw is) (λ other. rw (ne_eqb kind 2 other))
-  label_adds_lem (Datatypes First) kind number = by_cases (ℕ_discrete kind 2) (λ is. rw is) (λ other. rw (ne_eqb kind 2 other))
-  label_adds_lem (Datatypes Second) kind number = by_cases (ℕ_discrete kind 2) (λ is. rw is) (λ other. rw (ne_eqb kind 2 other))
-  label_adds_lem (Datatypes Third) kind number = by_cases (ℕ_discrete kind 2) (λ is. rw is) (λ other. rw (ne_eqb kind 2 other))
+  label_adds_lem : (list : TermList) (l : read.Label) → added_uses bytes v list (label_adds list l) ≡ label_uses list (label_meant (prop_in bytes v) l)
+  unfolding label_adds label_uses label_atoms label_datatypes proposition_datatypes
+  label_adds_lem Atoms (label.Datatype name) = refl
+  label_adds_lem Atoms (label.Proposition number) = refl
+  label_adds_lem (Datatypes First) (label.Datatype name) = refl
+  label_adds_lem (Datatypes First) (label.Proposition number) = refl
+  label_adds_lem (Datatypes Second) (label.Datatype name) = refl
+  label_adds_lem (Datatypes Second) (label.Proposition number) = refl
+  label_adds_lem (Datatypes Third) (label.Datatype name) = refl
+  label_adds_lem (Datatypes Third) (label.Proposition number) = refl
 
   record_adds_lem : (list : TermList) (records : List ℕ) (m : ℕ)
       → added_uses bytes v list (record_adds list records m) ≡ of_record (label_uses list) (prop_in bytes v) records m
   unfolding record_adds of_own_label
   record_adds_lem list records m = go (has_label (field_at records m 0) (field_at records m 3))
     where
-      go : (b : Bool) → added_uses bytes v list (cond b (label_adds list (field_at records m 3) (field_at records m 4)) None)
+      go : (b : Bool) → added_uses bytes v list (cond b (label_adds list (label_of_numbers (field_at records m 3) (field_at records m 4))) None)
           ≡ cond b (label_uses list (label_of (prop_in bytes v) (field_at records m 3) (field_at records m 4))) []
-      go true = label_adds_lem list (field_at records m 3) (field_at records m 4)
+      go true =
+          label_adds_lem list (label_of_numbers (field_at records m 3) (field_at records m 4))
+          ∙ ap (label_uses list) (label_same (prop_in bytes v) (field_at records m 3) (field_at records m 4))
       go false = refl
 
   -- the entries that the labels of the records below m add
@@ -61,20 +67,32 @@ module _ (bytes : List ℕ) (v : Vocabulary) where
   -- what a label adds stands in the memory
   module _ (within : Within bytes v) (few : v.name_count ≤ 65536) (kind number : ℕ)
       (fits : LabelFits v.name_count (Present v.name_count (code_in bytes v)) kind number) where
-    name_stands : kind ≡ 2 → AddedStands bytes v (Some (Datatype number))
-    name_stands is = let below = fits.datatype is in (below, omega arith)
+    label_stands : (list : TermList) (l : read.Label) → label_of_numbers kind number ≡ l → AddedStands bytes v (label_adds list l)
+    unfolding label_adds
+    label_stands list (label.Datatype name) is = go list
+      where
+        read_as : (kind ≡ 2) × (name ≡ number)
+        read_as = datatype_read kind number is
 
-    proposition_stands : (kind ≡ 2 → ⊥) → AddedStands bytes v (Some (Proposition number))
-    proposition_stands other = record { within = within; present = fits.proposition other }
+        stands : (name < v.name_count) × (name < 65536)
+        stands = let below = fits.datatype read_as.0 in (omega (arith, read_as.1, below), omega (arith, read_as.1, below))
 
-    label_stands : (list : TermList) → AddedStands bytes v (label_adds list kind number)
-    unfolding label_adds proposition_adds
-    label_stands Atoms = by_cases (ℕ_discrete kind 2) (λ is. rw is tt) (λ other. rw (ne_eqb kind 2 other) (proposition_stands other))
-    label_stands (Datatypes First) = by_cases (ℕ_discrete kind 2) (λ is. rw is (name_stands is)) (λ other. rw (ne_eqb kind 2 other) tt)
-    label_stands (Datatypes Second) =
-        by_cases (ℕ_discrete kind 2) (λ is. rw is (name_stands is)) (λ other. rw (ne_eqb kind 2 other) (proposition_stands other))
-    label_stands (Datatypes Third) =
-        by_cases (ℕ_discrete kind 2) (λ is. rw is (name_stands is)) (λ other. rw (ne_eqb kind 2 other) (proposition_stands other))
+        go : (list : TermList) → AddedStands bytes v (label_adds list (label.Datatype name))
+        go Atoms = tt
+        go (Datatypes w) = stands
+    label_stands list (label.Proposition at) is = go list
+      where
+        read_as : (kind ≡ 2 → ⊥) × (at ≡ number)
+        read_as = proposition_read kind number is
+
+        stands : SomeProposition bytes v at
+        stands = record { within = within; present = rw read_as.1 (fits.proposition read_as.0) }
+
+        go : (list : TermList) → AddedStands bytes v (label_adds list (label.Proposition at))
+        go Atoms = stands
+        go (Datatypes First) = tt
+        go (Datatypes Second) = stands
+        go (Datatypes Third) = stands
 
 module _ {bytes : List ℕ} {v : Vocabulary} {records : List ℕ} {n : ℕ} (here : Listable bytes v records n) (list : TermList) where
   pub added_stands : (m : ℕ) {added : Option Added} → m ≤ n → added ≡ record_adds list records m → AddedStands bytes v added
@@ -82,8 +100,8 @@ module _ {bytes : List ℕ} {v : Vocabulary} {records : List ℕ} {n : ℕ} (her
   added_stands m h is = rw is (go (has_label (field_at records m 0) (field_at records m 3)) refl)
     where
       go : (b : Bool) → has_label (field_at records m 0) (field_at records m 3) ≡ b
-          → AddedStands bytes v (cond b (label_adds list (field_at records m 3) (field_at records m 4)) None)
-      go true has = label_stands bytes v here.within here.few (field_at records m 3) (field_at records m 4) (here.labels m h has) list
+          → AddedStands bytes v (cond b (label_adds list (label_of_numbers (field_at records m 3) (field_at records m 4))) None)
+      go true has = label_stands bytes v here.within here.few (field_at records m 3) (field_at records m 4) (here.labels m h has) list _ refl
       go false has = tt
 
   -- once all records are passed

@@ -1,6 +1,5 @@
 -- What the labels of a term in records add to a list, and what is asked of the labels.
-use Rattle.std.specs.Prelude.{ℕ, ◌+◌, ◌*◌, ◌≤◌, ◌<◌, cond, List, [], ◌∷◌, length, eqb, Option, None, Some}
-use Rattle.definitions.specs.declared.Version.{Version}
+use Rattle.std.specs.Prelude.{ℕ, ◌+◌, ◌*◌, ◌≤◌, ◌<◌, cond, List, [], ◌∷◌, length, Option, None, Some}
 use Rattle.definitions.specs.declared.Version.TheVariants.{First, Second, Third}
 use Rattle.definitions.specs.declared.TermList.{TermList}
 use Rattle.definitions.specs.declared.TermList.TheVariants.{Atoms, Datatypes}
@@ -11,6 +10,9 @@ use Rattle.vocabulary.specs.declared.Vocabulary.{Vocabulary}
 use Rattle.vocabulary.specs.Vocabulary.{code_in, prop_in, Within, SomeProposition}
 use Rattle.proof_term.specs.Records.{record_size, field_at, term_at}
 use Rattle.proof_term.specs.Labels.{has_label, InOrder, LabelsFit}
+use Rattle.proof_term.specs.Views.{label_of_numbers}
+use Rattle.proof_term.specs.declared.nodes.Label as read
+use Rattle.proof_term.specs.declared.nodes.Label.TheVariants as label
 use Rattle.prop_lists.specs.Entries.{use_of, datatype_uses, entries}
 use Rattle.proof_term_lists.specs.declared.Added.{Added}
 use Rattle.proof_term_lists.specs.declared.Added.TheVariants.{Datatype, Proposition}
@@ -24,21 +26,19 @@ label_uses (Datatypes v) l = datatype_uses (label_datatypes v l)
 abbrev pub term_uses : TermList → ProofTerm ℕ → List (AtomUse ℕ)
 term_uses list t = of_labels (label_uses list) t
 
--- what a label adds, by its kind and its number: a label of kind 2 is a datatype, any other a proposition, whose datatypes are listed
--- in versions 2 and 3 only
-unfoldable pub proposition_adds : Version → ℕ → Option Added
-proposition_adds First number = None
-proposition_adds Second number = Some (Proposition number)
-proposition_adds Third number = Some (Proposition number)
-
-unfoldable pub label_adds : TermList → ℕ → ℕ → Option Added
-label_adds Atoms kind number = cond (eqb kind 2) None (Some (Proposition number))
-label_adds (Datatypes v) kind number = cond (eqb kind 2) (Some (Datatype number)) (proposition_adds v number)
+-- what a label adds: a datatype is no atom, and the datatypes of a proposition are listed in versions 2 and 3 only
+unfoldable pub label_adds : TermList → read.Label → Option Added
+label_adds Atoms (label.Datatype name) = None
+label_adds (Datatypes v) (label.Datatype name) = Some (Datatype name)
+label_adds Atoms (label.Proposition number) = Some (Proposition number)
+label_adds (Datatypes First) (label.Proposition number) = None
+label_adds (Datatypes Second) (label.Proposition number) = Some (Proposition number)
+label_adds (Datatypes Third) (label.Proposition number) = Some (Proposition number)
 
 -- what the label of record m adds, if it has one
 unfoldable pub record_adds : TermList → List ℕ → ℕ → Option Added
 record_adds list records m =
-    cond (has_label (field_at records m 0) (field_at records m 3)) (label_adds list (field_at records m 3) (field_at records m 4)) None
+    cond (has_label (field_at records m 0) (field_at records m 3)) (label_adds list (label_of_numbers (field_at records m 3) (field_at records m 4))) None
 
 -- In a memory with a vocabulary:
 module _ (bytes : List ℕ) (v : Vocabulary) where

@@ -11,7 +11,7 @@ ghost use Rattle.proof_term_lists.specs.Numbers.{list_numbers};
 
 use definitions::{TermList, Version};
 use output::{Counter, Sink, Writer};
-use proof_term::{DATATYPE, field, has_label};
+use proof_term::{Label, field, has_label, label_at};
 use prop_lists::{put_entries, put_entry};
 use vocabulary::Vocabulary;
 
@@ -23,28 +23,20 @@ pub enum Added {
     Proposition(usize),
 }
 
-// What a label adds to a list, by its kind and its number. A datatype is no atom, and the datatypes of a proposition are listed in
-// versions 2 and 3 only.
-#[tactic(auto, unfolding(crate::specs::Labels::label_adds, crate::specs::Labels::proposition_adds))]
-fn label_adds(kind: usize, number: usize, list: TermList) -> Option<Added>
-    ensures { result ≡ label_adds list kind number }
+// What a label adds to a list. A datatype is no atom, and the datatypes of a proposition are listed in versions 2 and 3 only.
+#[tactic(auto, unfolding(crate::specs::Labels::label_adds))]
+fn label_adds(label: Label, list: TermList) -> Option<Added>
+    ensures { result ≡ label_adds list label }
 {
-    match list {
-        TermList::Atoms => {
-            if kind == DATATYPE {
-                return None;
-            }
-            Some(Added::Proposition(number))
-        }
-        TermList::Datatypes(version) => {
-            if kind == DATATYPE {
-                return Some(Added::Datatype(number));
-            }
-            match version {
-                Version::First => None,
-                Version::Second | Version::Third => Some(Added::Proposition(number)),
-            }
-        }
+    match label {
+        Label::Datatype(name) => match list {
+            TermList::Atoms => None,
+            TermList::Datatypes(_) => Some(Added::Datatype(usize::from(name))),
+        },
+        Label::Proposition(number) => match list {
+            TermList::Datatypes(Version::First) => None,
+            _ => Some(Added::Proposition(usize::from(number))),
+        },
     }
 }
 
@@ -54,9 +46,8 @@ pub fn record_adds(term_records: &[u16], m: usize, list: TermList) -> Option<Add
     requires { record_size * (m + 1) ≤ length term_records.now }
     ensures { result ≡ record_adds list term_records.now m }
 {
-    let kind = field(term_records, m, 3);
-    if has_label(field(term_records, m, 0), kind) {
-        return label_adds(kind, field(term_records, m, 4), list);
+    if has_label(field(term_records, m, 0), field(term_records, m, 3)) {
+        return label_adds(label_at(term_records, m), list);
     }
     None
 }
