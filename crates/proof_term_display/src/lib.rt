@@ -17,7 +17,7 @@ ghost use Rattle.proof_term_display.specs.Item.{KindAt, LabelReady, ItemReady, r
 
 use definitions::Style;
 use output::{Counter, Sink, Writer};
-use proof_term::{DATATYPE, KINDS, Kind, NO_LABEL, field};
+use proof_term::{KINDS, Kind, Label, field, label_at, parameter_at};
 use prop::put_proposition;
 use vocabulary::{Vocabulary, name};
 
@@ -218,12 +218,10 @@ fn put_label<S: Sink<u8>>(
     requires label_ready { LabelReady bytes.now v ends.now records.now n }
     ensures { S.puts sink.old (label_text bytes.now v records.now n) sink.new }
 {
-    let label = field(records, n, 4);
-    if field(records, n, 3) == DATATYPE {
-        sink.put_all(name(bytes, v, label));
-        return;
+    match label_at(records, n) {
+        Label::Datatype(datatype) => sink.put_all(name(bytes, v, usize::from(datatype))),
+        Label::Proposition(at) => put_proposition(sink, bytes, v, ends, usize::from(at)),
     }
-    put_proposition(sink, bytes, v, ends, label);
 }
 
 // The label of the parameter of record `n`, if it has one, after a colon.
@@ -239,9 +237,9 @@ fn put_parameter_label<S: Sink<u8>>(
     requires label_ready { (field_at records.now n 3 ≡ 0 → ⊥) → LabelReady bytes.now v ends.now records.now n }
     ensures { S.puts sink.old (parameter_label_text bytes.now v records.now n) sink.new }
 {
-    if field(records, n, 3) == NO_LABEL {
+    let Some(_) = parameter_at(records, n) else {
         return;
-    }
+    };
     sink.put_all(b": ");
     put_label(sink, records, n, bytes, v, ends);
 }
