@@ -11,7 +11,7 @@ use TermPart::{
     Argument, AscribedBody, First, Function, NamedBody, PairFirst, PairSecond, Second, Third,
 };
 use definitions::Style;
-use proof_term::{DATATYPE, Kind, field, has_label};
+use proof_term::{Kind, Label, field, has_label, label_at};
 use proof_term_display::{TermPart, is_bracketed, kind_at};
 use prop_length::{name_length, text_length};
 use vocabulary::Vocabulary;
@@ -202,15 +202,13 @@ fn label_length(
     ensures { (result ≡ own_label_length bytes.now v records.now n)
         × Known bytes.now v known.new }
 {
-    let kind = field(records, n, 3);
-    if !has_label(field(records, n, 0), kind) {
+    if !has_label(field(records, n, 0), field(records, n, 3)) {
         return 0;
     }
-    let label = field(records, n, 4);
-    if kind == DATATYPE {
-        return COLON + name_length(bytes, v, label);
+    match label_at(records, n) {
+        Label::Datatype(name) => COLON + name_length(bytes, v, usize::from(name)),
+        Label::Proposition(at) => COLON + known_length(bytes, v, ends, usize::from(at), known),
     }
-    COLON + known_length(bytes, v, ends, label, known)
 }
 
 // The length of record `n`'s text, as far as the cap.
