@@ -1,6 +1,7 @@
 -- What an answer means by whether it stops, and the frames of what is made.
 use Prim.Native.Nat.{ℕ, ◌+◌, ◌≤◌, ◌<◌}
 use mathlib.Core.Path.{◌≡◌, refl}
+use Rattle.std.specs.Prelude.{Option}
 use mathlib.Core.List.{List}
 use native.Mathlib.Omega.{arith}
 use Rattle.definitions.specs.Name.{Name}
@@ -27,19 +28,19 @@ nodes_same f Unit = refl
 nodes_same f Sorry = refl
 
 -- an answer of `infer` that stops
-pub record Stopping (code scope : List ℕ) (t : ProofTerm ℕ) (n r : ℕ) : Type 0 where
+pub record Stopping (code : List ℕ) (scope : List (Option ℕ)) (t : ProofTerm ℕ) (n r : ℕ) : Type 0 where
   pub k : ℕ
   pub at : r ≡ stops + k
   pub means : Means code scope t n (stopped k)
 
 -- and one that does not
-pub record Deriving (code scope mades : List ℕ) (t : ProofTerm ℕ) (n r : ℕ) : Type 0 where
+pub record Deriving (code : List ℕ) (scope : List (Option ℕ)) (mades : List ℕ) (t : ProofTerm ℕ) (n r : ℕ) : Type 0 where
   pub prop : Prop ℕ
   pub low : r < stops
   pub rep : Rep code mades n (n + nodes t) r prop
   pub means : Means code scope t n (derived prop)
 
-module _ {code scope mades : List ℕ} {t : ProofTerm ℕ} {n r : ℕ} where
+module _ {code : List ℕ} {scope : List (Option ℕ)} {mades : List ℕ} {t : ProofTerm ℕ} {n r : ℕ} where
   pub stopping : InfersAs code scope mades t n r → stops ≤ r → Stopping code scope t n r
   stopping x h = go x.outcome x.shown x.means
     where
@@ -62,12 +63,12 @@ module _ {code scope mades : List ℕ} {t : ProofTerm ℕ} {n r : ℕ} where
   infers-as a low rep m = record { outcome = derived a; shown = proposition low rep; means = m }
 
 -- the same of `check`
-pub record Failing (code scope : List ℕ) (t : ProofTerm ℕ) (n p r : ℕ) : Type 0 where
+pub record Failing (code : List ℕ) (scope : List (Option ℕ)) (t : ProofTerm ℕ) (n p r : ℕ) : Type 0 where
   pub k : ℕ
   pub at : r ≡ stops + k
   pub means : Decides code scope t n p (stopped k)
 
-module _ {code scope : List ℕ} {t : ProofTerm ℕ} {n p r : ℕ} where
+module _ {code : List ℕ} {scope : List (Option ℕ)} {t : ProofTerm ℕ} {n p r : ℕ} where
   pub failing : ChecksAs code scope t n p r → (r ≡ 0 → ⊥) → Failing code scope t n p r
   failing x h = go x.outcome x.shown x.means
     where

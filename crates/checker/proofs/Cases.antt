@@ -1,6 +1,7 @@
 -- A case whose head is inferred: the disjunction that stands, and the two branches under their binders.
 use Prim.Native.Nat.{ℕ, ◌+◌, ◌≤◌, ◌<◌}
 use mathlib.Core.Path.{◌≡◌, refl, sym, ap, ◌∙◌}
+use Rattle.std.specs.Prelude.{Option, Some}
 use mathlib.Core.List.{List}
 use native.Mathlib.Omega.{arith}
 use lib.ListN.{length, set}
@@ -27,7 +28,7 @@ use Rattle.checker.proofs.Sides.{Unopened, Opening, unopened, opening}
 use Rattle.checker.proofs.Inferring.{head_stands_there, head_halves}
 use Rattle.checker.proofs.Steps.{Call, call, few, bound_in, bound_long, restored, or_is, answer_space}
 
-module _ {records code : List ℕ} {stride : ℕ} {scope mades : List ℕ} {m n : ℕ} (j : Judgeable records code stride scope mades m n)
+module _ {records code : List ℕ} {stride : ℕ} {scope : List (Option ℕ)} {mades : List ℕ} {m n : ℕ} (j : Judgeable records code stride scope mades m n)
     {kind : Kind} {a : ℕ} (k : kind ≡ kind_of (field_at records m 0)) (ea : a ≡ field_at records m 1) (e : kind ≡ variant.Case) where
   abbrev own : Well records code stride m
   own = j.well m (omega arith)
@@ -52,7 +53,7 @@ module _ {records code : List ℕ} {stride : ℕ} {scope mades : List ℕ} {m n 
   head_few = few j (n + 1) view.first (omega (arith, j.room, view.size))
 
   -- Of the head's answer:
-  module _ {scope₁ mades₁ : List ℕ} {r : ℕ} (i : Inferred records code stride scope mades a (n + 1) scope₁ mades₁ r) where
+  module _ {scope₁ : List (Option ℕ)} {mades₁ : List ℕ} {r : ℕ} (i : Inferred records code stride scope mades a (n + 1) scope₁ mades₁ r) where
     pub head_space : r < stops → Space code mades₁ r
     head_space = answer_space i.answer j.ends.space (i.kept.long ∙ j.slots) (omega (arith, j.room, view.size))
 
@@ -91,15 +92,15 @@ module _ {records code : List ℕ} {stride : ℕ} {scope mades : List ℕ} {m n 
           pub left_few : Few records b next
           left_few = few j next left_less (omega (arith, left_room, j.room))
 
-          module _ {bound : List ℕ} {hidden : ℕ} (bd : Bound scope₁ (field_at records m 4) (h + 1) bound hidden) where
+          module _ {bound : List (Option ℕ)} {hidden : Option ℕ} (bd : Bound scope₁ (field_at records m 4) (h + 1) bound hidden) where
             pub left_call : Call records code stride bound mades₁ m b next
             left_call = call j left_less (bound_in bd left_name.below entries left_stood) (i.kept.long ∙ j.slots) (omega (arith, left_room, j.room))
 
-            pub left_long : {called : List ℕ} → called ≡ bound → length called ≡ name_space
+            pub left_long : {called : List (Option ℕ)} → called ≡ bound → length called ≡ name_space
             left_long s = ap length s ∙ bound_long bd left_name.below entries
 
             -- Once its binder is taken off again:
-            module _ {called mades₂ back : List ℕ} (s : called ≡ bound) (kept : Kept next (next + nodes (term b)) mades₁ mades₂)
+            module _ {called : List (Option ℕ)} {mades₂ : List ℕ} {back : List (Option ℕ)} (s : called ≡ bound) (kept : Kept next (next + nodes (term b)) mades₁ mades₂)
                 (off : back ≡ set called (field_at records m 4) hidden) where
               pub left_back : back ≡ scope
               left_back = restored bd left_name.below entries s off ∙ i.same
@@ -110,8 +111,8 @@ module _ {records code : List ℕ} {stride : ℕ} {scope mades : List ℕ} {m n 
                   kept_then (kept_wider n (n + nodes (term m)) (omega arith) (omega (arith, view.size)) i.kept)
                   (kept_wider n (n + nodes (term m)) (rw en (omega arith)) left_room kept)
 
-              pub left_under : called ≡ set scope (field_at records m 4) (h + 1 + 1)
-              left_under = s ∙ bd.bound ∙ ap (λ (l : List ℕ). set l (field_at records m 4) (h + 1 + 1)) i.same
+              pub left_under : called ≡ set scope (field_at records m 4) (Some (h + 1))
+              left_under = s ∙ bd.bound ∙ ap (λ (l : List (Option ℕ)). set l (field_at records m 4) (Some (h + 1))) i.same
 
               -- The right branch likewise:
               module _ {c last side : ℕ} (ec : c ≡ field_at records m 3) (el : last ≡ next + nodes (term b)) (scanned : Scanned name_space code (h + 1) side) where
@@ -124,18 +125,18 @@ module _ {records code : List ℕ} {stride : ℕ} {scope mades : List ℕ} {m n 
                 entries₂ : Entries code back
                 entries₂ = rw left_back j.entries
 
-                module _ {bound₂ : List ℕ} {hidden₂ : ℕ} (bd₂ : Bound back (field_at records m 5) side bound₂ hidden₂) where
+                module _ {bound₂ : List (Option ℕ)} {hidden₂ : Option ℕ} (bd₂ : Bound back (field_at records m 5) side bound₂ hidden₂) where
                   pub right_call : Call records code stride bound₂ mades₂ m c last
                   right_call = call j right_less (bound_in bd₂ right_name.below entries₂ (sides scanned).right) (kept.long ∙ i.kept.long ∙ j.slots)
                       (omega (arith, right_room, j.room))
 
-                  pub right_long : {called₂ : List ℕ} → called₂ ≡ bound₂ → length called₂ ≡ name_space
+                  pub right_long : {called₂ : List (Option ℕ)} → called₂ ≡ bound₂ → length called₂ ≡ name_space
                   right_long s₂ = ap length s₂ ∙ bound_long bd₂ right_name.below entries₂
 
-                  pub right_under : {called₂ : List ℕ} → called₂ ≡ bound₂ → called₂ ≡ set scope (field_at records m 5) (side + 1)
-                  right_under s₂ = s₂ ∙ bd₂.bound ∙ ap (λ (l : List ℕ). set l (field_at records m 5) (side + 1)) left_back
+                  pub right_under : {called₂ : List (Option ℕ)} → called₂ ≡ bound₂ → called₂ ≡ set scope (field_at records m 5) (Some side)
+                  right_under s₂ = s₂ ∙ bd₂.bound ∙ ap (λ (l : List (Option ℕ)). set l (field_at records m 5) (Some side)) left_back
 
-                  pub right_back : {called₂ back₂ : List ℕ} → called₂ ≡ bound₂ → back₂ ≡ set called₂ (field_at records m 5) hidden₂ → back₂ ≡ scope
+                  pub right_back : {called₂ back₂ : List (Option ℕ)} → called₂ ≡ bound₂ → back₂ ≡ set called₂ (field_at records m 5) hidden₂ → back₂ ≡ scope
                   right_back s₂ off₂ = restored bd₂ right_name.below entries₂ s₂ off₂ ∙ left_back
 
                   pub right_kept : {mades₃ : List ℕ} → Kept last (last + nodes (term c)) mades₂ mades₃ → Kept n (n + nodes (term m)) mades mades₃

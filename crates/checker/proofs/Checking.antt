@@ -2,7 +2,7 @@
 use Prim.Native.Nat.{ℕ, ◌+◌, ◌≤◌, ◌<◌}
 use mathlib.Core.Path.{◌≡◌, refl}
 use mathlib.Core.Bool.{Bool, true, false}
-use Rattle.std.specs.Prelude.{Option}
+use Rattle.std.specs.Prelude.{Option, Some}
 use mathlib.Core.List.{List}
 use lib.ListN.{set}
 use Rattle.definitions.specs.Name.{Name}
@@ -29,7 +29,7 @@ other_form : {code : List ℕ} {p : ℕ} (mades : List ℕ) (c : Connective) →
 other_form {code} {p} mades c stood other x y e = other (binary_head {code = code} {mades = mades} {lo = 0} {hi = 0} c x y (stood_rep stood) e)
 
 -- Against a proposition of another form.
-module _ {code scope : List ℕ} {n p : ℕ} (mades : List ℕ) (stood : Stood code p) where
+module _ {code : List ℕ} {scope : List (Option ℕ)} {n p : ℕ} (mades : List ℕ) (stood : Stood code p) where
   pub pair_other : (a b : ProofTerm ℕ) → (head_of code mades p ≡ connective_byte and → ⊥) → ChecksAs code scope (Pair a b) n p (stops + n)
   unfolding Decides check rename_term ◌>>=◌
   pair_other a b other = fails-as n refl (λ f g d s. rw (sides_else f n and (prop_at name_space code p) (other_form mades and stood other)))
@@ -47,7 +47,7 @@ module _ {code scope : List ℕ} {n p : ℕ} (mades : List ℕ) (stood : Stood c
   inr_other a other = fails-as n refl (λ f g d s. rw (sides_else f n or (prop_at name_space code p) (other_form mades or stood other)))
 
 -- A pair.
-module _ {code scope : List ℕ} {a b : ProofTerm ℕ} {n p end r : ℕ} (hs : Halves code p end and) (c : ChecksAs code scope a (n + 1) (p + 1) r) where
+module _ {code : List ℕ} {scope : List (Option ℕ)} {a b : ProofTerm ℕ} {n p end r : ℕ} (hs : Halves code p end and) (c : ChecksAs code scope a (n + 1) (p + 1) r) where
   pub pair_fails : (r ≡ 0 → ⊥) → ChecksAs code scope (Pair a b) n p r
   unfolding Decides check rename_term ◌>>=◌
   pair_fails other =
@@ -66,7 +66,7 @@ module _ {code scope : List ℕ} {a b : ProofTerm ℕ} {n p end r : ℕ} (hs : H
       }
 
 -- Injections.
-module _ {code scope : List ℕ} {a : ProofTerm ℕ} {n p end r : ℕ} (hs : Halves code p end or) where
+module _ {code : List ℕ} {scope : List (Option ℕ)} {a : ProofTerm ℕ} {n p end r : ℕ} (hs : Halves code p end or) where
   pub inl_part : ChecksAs code scope a (n + 1) (p + 1) r → ChecksAs code scope (OrLeft a) n p r
   unfolding Decides check check_named rename_term ◌>>=◌
   inl_part c = record {
@@ -86,14 +86,14 @@ module _ {code scope : List ℕ} {a : ProofTerm ℕ} {n p end r : ℕ} (hs : Hal
   }
 
 -- A function, by the test of its label.
-module _ {code scope : List ℕ} {a : ProofTerm ℕ} {x n p end : ℕ} {l : Option (Label ℕ)} {test : Bool} (hs : Halves code p end impl)
+module _ {code : List ℕ} {scope : List (Option ℕ)} {a : ProofTerm ℕ} {x n p end : ℕ} {l : Option (Label ℕ)} {test : Bool} (hs : Halves code p end impl)
     (tested : (f : ℕ → Name) → Distinct f → (k : ℕ) → label_is k (rename_parameter_label f l) (rename_prop f (prop_at name_space code (p + 1))) ≡ ensure k test) where
   pub function_label : test ≡ false → ChecksAs code scope (Function x l a) n p (stops + n)
   unfolding Decides check rename_term ensure ◌>>=◌
   function_label e = fails-as n refl (λ f g d s. rw (sides_found f n impl (prop_at name_space code p) _ _ hs.is, tested f d n, e))
 
   pub function_body : {r : ℕ} → x < name_space → Entries code scope → test ≡ true
-      → ChecksAs code (set scope x (p + 1 + 1)) a (n + 1) end r → ChecksAs code scope (Function x l a) n p r
+      → ChecksAs code (set scope x (Some (p + 1))) a (n + 1) end r → ChecksAs code scope (Function x l a) n p r
   unfolding Decides check rename_term ensure ◌>>=◌
   function_body low entries e c = record {
     outcome = c.outcome;
@@ -104,21 +104,21 @@ module _ {code scope : List ℕ} {a : ProofTerm ℕ} {x n p end : ℕ} {l : Opti
   }
 
 -- Abort, sorry, let.
-pub abort_part : {code scope : List ℕ} {a : ProofTerm ℕ} {n p q r : ℕ} → prop_at name_space code q ≡ False → ChecksAs code scope a (n + 1) q r
+pub abort_part : {code : List ℕ} {scope : List (Option ℕ)} {a : ProofTerm ℕ} {n p q r : ℕ} → prop_at name_space code q ≡ False → ChecksAs code scope a (n + 1) q r
     → ChecksAs code scope (Abort a) n p r
 unfolding Decides check check_named rename_term rename_prop
 abort_part is c = record { outcome = c.outcome; shown = c.shown; means = λ f g d s. rw is at (c.means f g d s) }
 
-pub sorry_passes : {code scope : List ℕ} (n p : ℕ) → ChecksAs code scope Sorry n p 0
+pub sorry_passes : {code : List ℕ} {scope : List (Option ℕ)} (n p : ℕ) → ChecksAs code scope Sorry n p 0
 unfolding Decides check rename_term
 sorry_passes n p = passes-as refl (λ f g d s. refl)
 
-pub let_fails : {code scope : List ℕ} (n p x y : ℕ) (a b : ProofTerm ℕ) → ChecksAs code scope (LetIn x y a b) n p (stops + n)
+pub let_fails : {code : List ℕ} {scope : List (Option ℕ)} (n p x y : ℕ) (a b : ProofTerm ℕ) → ChecksAs code scope (LetIn x y a b) n p (stops + n)
 unfolding Decides check rename_term
 let_fails n p x y a b = fails-as n refl (λ f g d s. refl)
 
 -- A case.
-pub case_unopened : {code scope : List ℕ} {t a b : ProofTerm ℕ} {x y n p res : ℕ} → Unopened code scope t (n + 1) or n res
+pub case_unopened : {code : List ℕ} {scope : List (Option ℕ)} {t a b : ProofTerm ℕ} {x y n p res : ℕ} → Unopened code scope t (n + 1) or n res
     → ChecksAs code scope (Case t x a y b) n p res
 unfolding Decides check rename_term
 case_unopened {code} {scope} {t} {a} {b} {x} {y} {n} {p} o = fails-as o.k o.at (λ f g d s.
@@ -126,9 +126,9 @@ case_unopened {code} {scope} {t} {a} {b} {x} {y} {n} {p} o = fails-as o.k o.at (
     (λ s. check (rename_term f a) (bind (f x) s.left g) (n + 1 + nodes (rename_term f t)) (rename_prop f (prop_at name_space code p)) >>= (λ w.
     check (rename_term f b) (bind (f y) s.right g) (n + 1 + nodes (rename_term f t) + nodes (rename_term f a)) (rename_prop f (prop_at name_space code p)))) o.k (o.means f g d s))
 
-module _ {code scope mades : List ℕ} {t a b : ProofTerm ℕ} {x y n p h end r : ℕ} (xl : x < name_space) (entries : Entries code scope)
+module _ {code : List ℕ} {scope : List (Option ℕ)} {mades : List ℕ} {t a b : ProofTerm ℕ} {x y n p h end r : ℕ} (xl : x < name_space) (entries : Entries code scope)
     (o : Opening code scope mades t (n + 1) or h) (hs : Halves code h end or)
-    (c : ChecksAs code (set scope x (h + 1 + 1)) a (n + 1 + nodes t) p r) where
+    (c : ChecksAs code (set scope x (Some (h + 1))) a (n + 1 + nodes t) p r) where
   pub case_fails : (r ≡ 0 → ⊥) → ChecksAs code scope (Case t x a y b) n p r
   unfolding Means Decides check rename_term named ◌>>=◌
   case_fails other =
@@ -136,7 +136,7 @@ module _ {code scope mades : List ℕ} {t a b : ProofTerm ℕ} {x y n p h end r 
       fails-as s.k s.at (λ f g d sc.
       rw (o.derived_as.means f g d sc, head_found o hs n f, nodes_same f t, s.means f (bind (f x) (rename_prop f (prop_at name_space code (h + 1))) g) d (bound_scope code scope x (h + 1) xl hs.left entries f g d sc)))
 
-  pub case_then : {q : ℕ} → y < name_space → r ≡ 0 → ChecksAs code (set scope y (end + 1)) b (n + 1 + nodes t + nodes a) p q
+  pub case_then : {q : ℕ} → y < name_space → r ≡ 0 → ChecksAs code (set scope y (Some end)) b (n + 1 + nodes t + nodes a) p q
       → ChecksAs code scope (Case t x a y b) n p q
   unfolding Means Decides check rename_term named ◌>>=◌
   case_then yl ok e =
@@ -177,7 +177,7 @@ pub unit_falls : Falls Unit
 unfolding Falls check infer rename_term
 unit_falls f g n p = refl
 
-module _ {code scope mades : List ℕ} {t : ProofTerm ℕ} {n p r : ℕ} (falls : Falls t) (i : InfersAs code scope mades t n r) where
+module _ {code : List ℕ} {scope : List (Option ℕ)} {mades : List ℕ} {t : ProofTerm ℕ} {n p r : ℕ} (falls : Falls t) (i : InfersAs code scope mades t n r) where
   pub fall_stops : stops ≤ r → ChecksAs code scope t n p r
   unfolding Falls Means Decides named compared ◌>>=◌
   fall_stops h =

@@ -1,6 +1,7 @@
 -- A record's term by its kind: its form over the terms of its parts, which are earlier records.
 use Prim.Native.Nat.{ℕ, ◌+◌, ◌≤◌, ◌<◌}
 use mathlib.Core.Path.{◌≡◌, refl, sym, ap, ◌∙◌}
+use Rattle.std.specs.Prelude.{Option}
 use mathlib.Core.List.{List}
 use native.Mathlib.Omega.{arith}
 use native.Mathlib.Decide.{dec_lt}
@@ -140,7 +141,7 @@ module _ {records code : List ℕ} {stride m : ℕ} {kind : Kind} (w : Well reco
       (get_or-eq_default (forms props (field_at records m 1) (field_at records m 2) (field_at records m 3) (field_at records m 4) (field_at records m 5)) (leaf Unit) {n = field_at records m 0} (omega arith)))
 
 -- A part, with other nodes.
-pub part : {records code : List ℕ} {stride : ℕ} {scope mades : List ℕ} {m n : ℕ} {scope' mades' : List ℕ} (a n' : ℕ) → Judgeable records code stride scope mades m n → a < m
+pub part : {records code : List ℕ} {stride : ℕ} {scope : List (Option ℕ)} {mades : List ℕ} {m n : ℕ} {scope' : List (Option ℕ)} {mades' : List ℕ} (a n' : ℕ) → Judgeable records code stride scope mades m n → a < m
     → Entries code scope' → length mades' ≡ made_numbers → n' + nodes (term_of code stride records a) ≤ node_limit → Judgeable records code stride scope' mades' a n'
 part a n' j l entries slots room = record {
   held = omega (arith, j.held);

@@ -1,11 +1,10 @@
 -- What a term infers, by what its parts do: one law for each form and each way in which it ends.
-use Prim.Native.Nat.{ℕ, suc, ◌+◌, ◌≤◌, ◌<◌}
+use Prim.Native.Nat.{ℕ, ◌+◌, ◌≤◌, ◌<◌}
 use mathlib.Core.Path.{◌≡◌, refl, sym, ◌∙◌}
 use mathlib.Core.Bool.{Bool, true, false}
-use Rattle.std.specs.Prelude.{None, Some}
+use Rattle.std.specs.Prelude.{Option, None, Some}
 use mathlib.Core.List.{List}
 use native.Mathlib.Omega.{arith}
-use native.Mathlib.Numerals.{add-one}
 use lib.ListN.{length, get_or, set}
 use Rattle.definitions.specs.Name.{Name}
 use Rattle.definitions.specs.Prop.{True, Binary, and, or, impl, connective_byte, rename_prop}
@@ -29,26 +28,26 @@ use Rattle.checker.proofs.Answers.{nodes_same, stopping, derives, stops_as, infe
 use Rattle.checker.proofs.Sides.{through, Unopened, Opening, with_end, some_end}
 
 -- A name.
-pub ident_answer : {code scope mades : List ℕ} {x n r : ℕ} → x < name_space → Entries code scope → Found (get_or scope x 0) n r
+pub ident_answer : {code : List ℕ} {scope : List (Option ℕ)} {mades : List ℕ} {x n r : ℕ} → x < name_space → Entries code scope → Found (get_or scope x None) n r
     → InfersAs code scope mades (Ident x) n r
 unfolding Means infer rename_term named in_scope entry_prop Scoped
-ident_answer {code} {scope} {mades} {x} {n} {r} low entries found = go (get_or scope x 0) refl
+ident_answer {code} {scope} {mades} {x} {n} {r} low entries found = go (get_or scope x None) refl
   where
-    go : (b : ℕ) → get_or scope x 0 ≡ b → InfersAs code scope mades (Ident x) n r
-    go Prim.Native.Nat.zero e = stops_as n (found.none e) (λ f g d s. rw (s x low, e))
-    go (suc p) e =
-        let is : r ≡ p = found.some p (e ∙ sym (add-one p)) in
+    go : (b : Option ℕ) → get_or scope x None ≡ b → InfersAs code scope mades (Ident x) n r
+    go None e = stops_as n (found.none e) (λ f g d s. rw (s x low, e))
+    go (Some p) e =
+        let is : r ≡ p = found.some p e in
         let stood = entries.entry x p low e in
         rw is (infers-as (prop_at name_space code p) (omega (arith, stood.low)) (stood_rep stood) (λ f g d s. rw (s x low, e)))
 
 -- ⊤ stands.
-pub unit_answer : {code scope mades : List ℕ} {n p : ℕ} → Stood code p → prop_at name_space code p ≡ True → InfersAs code scope mades Unit n p
+pub unit_answer : {code : List ℕ} {scope : List (Option ℕ)} {mades : List ℕ} {n p : ℕ} → Stood code p → prop_at name_space code p ≡ True → InfersAs code scope mades Unit n p
 unfolding Means infer rename_term named rename_prop
 unit_answer {code} stood is =
     infers-as (prop_at name_space code _) (omega (arith, stood.low)) (stood_rep stood) (λ f g d s. rw is)
 
 -- What has no inferring rule.
-module _ {code scope mades : List ℕ} (n : ℕ) where
+module _ {code : List ℕ} {scope : List (Option ℕ)} {mades : List ℕ} (n : ℕ) where
   pub let_stops : (x y : ℕ) (a b : ProofTerm ℕ) → InfersAs code scope mades (LetIn x y a b) n (stops + n)
   unfolding Means infer rename_term named
   let_stops x y a b = stops_as n refl (λ f g d s. refl)
@@ -70,7 +69,7 @@ module _ {code scope mades : List ℕ} (n : ℕ) where
   abort_stops a = stops_as n refl (λ f g d s. refl)
 
 -- Projections.
-module _ {code scope mades : List ℕ} {t : ProofTerm ℕ} {n res : ℕ} where
+module _ {code : List ℕ} {scope : List (Option ℕ)} {mades : List ℕ} {t : ProofTerm ℕ} {n res : ℕ} where
   pub fst_stops : Unopened code scope t (n + 1) and n res → InfersAs code scope mades (ProjectFst t) n res
   unfolding Means infer rename_term named infer_named
   fst_stops u = stops_as u.k u.at (λ f g d s.
@@ -97,12 +96,12 @@ module _ {code scope mades : List ℕ} {t : ProofTerm ℕ} {n res : ℕ} where
       rw is.is (infers-as s.right (rep_low s.right_rep room) (rep_wider n (n + (1 + nodes t)) (omega arith) (omega arith) s.right_rep)
       (λ f g d sc. rw (o.derived_as.means f g d sc, sides_found f n and o.derived_as.prop s.left s.right s.is)))
 
-pub argument_stands : {code scope mades : List ℕ} {t : ProofTerm ℕ} {k res left : ℕ} → length code ≤ standing → Opening code scope mades t k impl res
+pub argument_stands : {code : List ℕ} {scope : List (Option ℕ)} {mades : List ℕ} {t : ProofTerm ℕ} {k res left : ℕ} → length code ≤ standing → Opening code scope mades t k impl res
     → left ≡ left_of mades res → Stood code left
 argument_stands space o is = rw is (impl_left space o.derived_as.rep o.head)
 
 -- An application.
-module _ {code scope mades : List ℕ} {t u : ProofTerm ℕ} {n res : ℕ} where
+module _ {code : List ℕ} {scope : List (Option ℕ)} {mades : List ℕ} {t u : ProofTerm ℕ} {n res : ℕ} where
   pub application_stops : Unopened code scope t (n + 1) impl n res → InfersAs code scope mades (Application t u) n res
   unfolding Means infer rename_term named infer_application
   application_stops o = stops_as o.k o.at (λ f g d s.
@@ -135,7 +134,7 @@ module _ {code scope mades : List ℕ} {t u : ProofTerm ℕ} {n res : ℕ} where
       (λ f g d sc. rw (o.derived_as.means f g d sc, sides_found f n impl o.derived_as.prop s.left s.right s.is, nodes_same f t, same, x f g d sc)))
 
 -- An ascription.
-module _ {code scope mades : List ℕ} {t : ProofTerm ℕ} {n : ℕ} where
+module _ {code : List ℕ} {scope : List (Option ℕ)} {mades : List ℕ} {t : ProofTerm ℕ} {n : ℕ} where
   pub ascription_datatype : (x : ℕ) → InfersAs code scope mades (TypeAscription t (datatype x)) n (stops + n)
   unfolding Means infer rename_term rename_label named infer_ascribed labelled ◌>>=◌
   ascription_datatype x = stops_as n refl (λ f g d s. refl)
@@ -153,7 +152,7 @@ module _ {code scope mades : List ℕ} {t : ProofTerm ℕ} {n : ℕ} where
       infers-as (prop_at name_space code p) (omega (arith, stood.low)) (stood_rep stood) (λ f g d s. rw (x f g d s))
 
 -- A function.
-module _ {code scope mades : List ℕ} {t : ProofTerm ℕ} {x n : ℕ} where
+module _ {code : List ℕ} {scope : List (Option ℕ)} {mades : List ℕ} {t : ProofTerm ℕ} {x n : ℕ} where
   pub function_none : InfersAs code scope mades (Function x None t) n (stops + n)
   unfolding Means infer rename_term rename_parameter_label named labelled ◌>>=◌
   function_none = stops_as n refl (λ f g d s. refl)
@@ -162,8 +161,8 @@ module _ {code scope mades : List ℕ} {t : ProofTerm ℕ} {x n : ℕ} where
   unfolding Means infer rename_term rename_parameter_label rename_label named labelled ◌>>=◌
   function_datatype y = stops_as n refl (λ f g d s. refl)
 
-module _ {code scope mades : List ℕ} {t : ProofTerm ℕ} {x n p r : ℕ} (low : x < name_space) (entries : Entries code scope) (stood : Stood code p)
-    (a : InfersAs code (set scope x (p + 1)) mades t (n + 1) r) where
+module _ {code : List ℕ} {scope : List (Option ℕ)} {mades : List ℕ} {t : ProofTerm ℕ} {x n p r : ℕ} (low : x < name_space) (entries : Entries code scope) (stood : Stood code p)
+    (a : InfersAs code (set scope x (Some p)) mades t (n + 1) r) where
   pub function_stops : {last : List ℕ} → stops ≤ r → InfersAs code scope last (Function x (Some (proposition (prop_at name_space code p))) t) n r
   unfolding Means infer rename_term rename_parameter_label rename_label named labelled ◌>>=◌
   function_stops h =
@@ -184,7 +183,7 @@ module _ {code scope mades : List ℕ} {t : ProofTerm ℕ} {x n p r : ℕ} (low 
       (λ f g d sc. rw (v.means f (bind (f x) (rename_prop f (prop_at name_space code p)) g) d (bound_scope code scope x p low stood entries f g d sc)))
 
 -- A pair.
-module _ {code scope first : List ℕ} {t u : ProofTerm ℕ} {n p : ℕ} (a : InfersAs code scope first t (n + 1) p) where
+module _ {code : List ℕ} {scope : List (Option ℕ)} {first : List ℕ} {t u : ProofTerm ℕ} {n p : ℕ} (a : InfersAs code scope first t (n + 1) p) where
   pub pair_first : {last : List ℕ} → stops ≤ p → InfersAs code scope last (Pair t u) n p
   unfolding Means infer rename_term named ◌>>=◌
   pair_first h = let s = stopping a h in stops_as s.k s.at (λ f g d sc. rw (s.means f g d sc))
@@ -216,7 +215,7 @@ module _ {code scope first : List ℕ} {t u : ProofTerm ℕ} {n p : ℕ} (a : In
         (λ f g d sc. rw (v.means f g d sc, nodes_same f t, w.means f g d sc))
 
 -- A case.
-pub case_stops : {code scope last : List ℕ} {t a b : ProofTerm ℕ} {x y n res : ℕ} → Unopened code scope t (n + 1) or n res
+pub case_stops : {code : List ℕ} {scope : List (Option ℕ)} {last : List ℕ} {t a b : ProofTerm ℕ} {x y n res : ℕ} → Unopened code scope t (n + 1) or n res
     → InfersAs code scope last (Case t x a y b) n res
 unfolding Means infer rename_term named
 case_stops {code} {scope} {last} {t} {a} {b} {x} {y} {n} o = stops_as o.k o.at (λ f g d s.
@@ -226,15 +225,15 @@ case_stops {code} {scope} {last} {t} {a} {b} {x} {y} {n} o = stops_as o.k o.at (
     ensure n (eq_prop q r) >>= (λ w. derived q)))) o.k (o.means f g d s))
 
 -- The head is a disjunction that stands.
-pub head_stands_there : {code scope mades : List ℕ} {t : ProofTerm ℕ} {k h : ℕ} → Opening code scope mades t k or h → Stood code h
+pub head_stands_there : {code : List ℕ} {scope : List (Option ℕ)} {mades : List ℕ} {t : ProofTerm ℕ} {k h : ℕ} → Opening code scope mades t k or h → Stood code h
 head_stands_there o = or_stands o.derived_as.rep o.head
 
-pub head_halves : {code scope mades : List ℕ} {t : ProofTerm ℕ} {k h end : ℕ} → length code ≤ standing → Opening code scope mades t k or h
+pub head_halves : {code : List ℕ} {scope : List (Option ℕ)} {mades : List ℕ} {t : ProofTerm ℕ} {k h end : ℕ} → length code ≤ standing → Opening code scope mades t k or h
     → Scanned name_space code (h + 1) end → Halves code h end or
 head_halves {mades = mades} space o scanned = halves mades or space (head_stands_there o) o.head scanned
 
 -- so its sides are the two that stand
-module _ {code scope mades : List ℕ} {t : ProofTerm ℕ} {k h end : ℕ} (o : Opening code scope mades t k or h) (hs : Halves code h end or) where
+module _ {code : List ℕ} {scope : List (Option ℕ)} {mades : List ℕ} {t : ProofTerm ℕ} {k h end : ℕ} (o : Opening code scope mades t k or h) (hs : Halves code h end or) where
   pub head_is : o.derived_as.prop ≡ Binary or (prop_at name_space code (h + 1)) (prop_at name_space code end)
   head_is = rep_is o.derived_as.rep (head_stands_there o).low ∙ hs.is
 
@@ -242,9 +241,9 @@ module _ {code scope mades : List ℕ} {t : ProofTerm ℕ} {k h end : ℕ} (o : 
       ≡ derived (record { connective = or; left = rename_prop f (prop_at name_space code (h + 1)); right = rename_prop f (prop_at name_space code end) })
   head_found n f = sides_found f n or o.derived_as.prop _ _ head_is
 
-module _ {code scope mades : List ℕ} {t a b : ProofTerm ℕ} {x y n h end q : ℕ} {left : List ℕ} (xl : x < name_space) (entries : Entries code scope)
+module _ {code : List ℕ} {scope : List (Option ℕ)} {mades : List ℕ} {t a b : ProofTerm ℕ} {x y n h end q : ℕ} {left : List ℕ} (xl : x < name_space) (entries : Entries code scope)
     (o : Opening code scope mades t (n + 1) or h) (hs : Halves code h end or)
-    (i : InfersAs code (set scope x (h + 1 + 1)) left a (n + 1 + nodes t) q) where
+    (i : InfersAs code (set scope x (Some (h + 1))) left a (n + 1 + nodes t) q) where
   pub case_left : {last : List ℕ} → stops ≤ q → InfersAs code scope last (Case t x a y b) n q
   unfolding Means infer rename_term named ◌>>=◌
   case_left l =
@@ -253,7 +252,7 @@ module _ {code scope mades : List ℕ} {t a b : ProofTerm ℕ} {x y n h end q : 
       rw (o.derived_as.means f g d sc, head_found o hs n f, nodes_same f t, s.means f (bind (f x) (rename_prop f (prop_at name_space code (h + 1))) g) d (bound_scope code scope x (h + 1) xl hs.left entries f g d sc)))
 
   module _ {r : ℕ} {right : List ℕ} (yl : y < name_space) (low : q < stops)
-      (j : InfersAs code (set scope y (end + 1)) right b (n + 1 + nodes t + nodes a) r) where
+      (j : InfersAs code (set scope y (Some end)) right b (n + 1 + nodes t + nodes a) r) where
     pub case_right : {last : List ℕ} → stops ≤ r → InfersAs code scope last (Case t x a y b) n r
     unfolding Means infer rename_term named ◌>>=◌
     case_right l =

@@ -2,6 +2,7 @@
 use Prim.Native.Nat.{ℕ, ◌+◌, ◌≤◌, ◌<◌}
 use mathlib.Core.Path.{◌≡◌, sym, ap, ◌∙◌}
 use mathlib.Core.Logic.{by_cases}
+use Rattle.std.specs.Prelude.{Option}
 use mathlib.Core.List.{List}
 use native.Mathlib.Omega.{arith}
 use native.Mathlib.Decide.{ℕ_discrete, dec_le}
@@ -30,17 +31,17 @@ through (derived a) h k n e = rw e
 through (stopped j) h k n e = let same : j ≡ n = cc in ap stopped same
 
 -- An answer that had to have a connective, and has not:
-pub record Unopened (code scope : List ℕ) (t : ProofTerm ℕ) (n : ℕ) (c : Connective) (node res : ℕ) : Type 0 where
+pub record Unopened (code : List ℕ) (scope : List (Option ℕ)) (t : ProofTerm ℕ) (n : ℕ) (c : Connective) (node res : ℕ) : Type 0 where
   pub k : ℕ
   pub at : res ≡ stops + k
   pub means : (f : ℕ → Name) (g : Context) → Distinct f → Scoped f code scope g → (infer (rename_term f t) g n >>= (λ p. sides node c p)) ≡ stopped k
 
 -- and one that has:
-pub record Opening (code scope mades : List ℕ) (t : ProofTerm ℕ) (n : ℕ) (c : Connective) (res : ℕ) : Type 0 where
+pub record Opening (code : List ℕ) (scope : List (Option ℕ)) (mades : List ℕ) (t : ProofTerm ℕ) (n : ℕ) (c : Connective) (res : ℕ) : Type 0 where
   pub derived_as : Deriving code scope mades t n res
   pub head : head_of code mades res ≡ connective_byte c
 
-module _ {code scope mades : List ℕ} {t : ProofTerm ℕ} {n r byte node res : ℕ} (c : Connective) (is : connective_byte c ≡ byte)
+module _ {code : List ℕ} {scope : List (Option ℕ)} {mades : List ℕ} {t : ProofTerm ℕ} {n r byte node res : ℕ} (c : Connective) (is : connective_byte c ≡ byte)
     (x : InfersAs code scope mades t n r) (e : Expected code mades r byte node res) where
   pub unopened : stops ≤ res → Unopened code scope t n c node res
   unfolding Means named ◌>>=◌
@@ -65,7 +66,7 @@ module _ {code scope mades : List ℕ} {t : ProofTerm ℕ} {n r byte node res : 
       (λ other. let z = e.other (omega arith) other in absurd (omega arith)))
 
 -- Its sides.
-module _ {code scope mades : List ℕ} {t : ProofTerm ℕ} {n res : ℕ} {c : Connective} (space : length code ≤ standing)
+module _ {code : List ℕ} {scope : List (Option ℕ)} {mades : List ℕ} {t : ProofTerm ℕ} {n res : ℕ} {c : Connective} (space : length code ≤ standing)
     (o : Opening code scope mades t n c res) where
   pub with_end : (end : ℕ) → (res < standing → Scanned name_space code (res + 1) end) → Sides code mades n (n + nodes t) res end c o.derived_as.prop
   with_end end scanned = opened end c space o.derived_as.rep o.head scanned

@@ -2,6 +2,7 @@
 use Prim.Native.Nat.{ℕ, ◌+◌, ◌≤◌, ◌<◌}
 use mathlib.Core.Path.{◌≡◌, refl, sym, ap, ◌∙◌}
 use mathlib.Core.Logic.{by_cases}
+use Rattle.std.specs.Prelude.{Option, Some}
 use mathlib.Core.List.{List, []}
 use native.Mathlib.Omega.{arith}
 use native.Mathlib.Decide.{ℕ_discrete}
@@ -22,12 +23,12 @@ use Rattle.checker.proofs.Scopes.{bound_entries, put_back}
 use Rattle.checker.proofs.Answers.{derives}
 
 -- a part is an earlier record, and can be judged
-pub record Call (records code : List ℕ) (stride : ℕ) (scope mades : List ℕ) (m a n : ℕ) : Type 0 where
+pub record Call (records code : List ℕ) (stride : ℕ) (scope : List (Option ℕ)) (mades : List ℕ) (m a n : ℕ) : Type 0 where
   pub less : a < m
   pub ready : Judgeable records code stride scope mades a n
 
-module _ {records code : List ℕ} {stride : ℕ} {scope mades : List ℕ} {m n : ℕ} (j : Judgeable records code stride scope mades m n) where
-  pub call : {scope' mades' : List ℕ} {a n' : ℕ} → a < m → Entries code scope' → length mades' ≡ made_numbers
+module _ {records code : List ℕ} {stride : ℕ} {scope : List (Option ℕ)} {mades : List ℕ} {m n : ℕ} (j : Judgeable records code stride scope mades m n) where
+  pub call : {scope' : List (Option ℕ)} {mades' : List ℕ} {a n' : ℕ} → a < m → Entries code scope' → length mades' ≡ made_numbers
       → n' + nodes (term_of code stride records a) ≤ node_limit → Call records code stride scope' mades' m a n'
   call l entries slots room = record {
     less = l;
@@ -59,11 +60,11 @@ some_node (Rattle.definitions.specs.Term.TypeAscription a l) = omega arith
 some_node Rattle.definitions.specs.Term.Unit = omega arith
 some_node Rattle.definitions.specs.Term.Sorry = omega arith
 
-pub node_low : {records code : List ℕ} {stride : ℕ} {scope mades : List ℕ} {m n : ℕ} → Judgeable records code stride scope mades m n → n < node_limit
+pub node_low : {records code : List ℕ} {stride : ℕ} {scope : List (Option ℕ)} {mades : List ℕ} {m n : ℕ} → Judgeable records code stride scope mades m n → n < node_limit
 node_low {records} {code} {stride} {m = m} j = omega (arith, j.room, some_node (term_of code stride records m))
 
 -- Under a binder.
-module _ {code scope bound : List ℕ} {x p hidden : ℕ} (b : Bound scope x p bound hidden) (low : x < name_space) (s : Entries code scope) where
+module _ {code : List ℕ} {scope bound : List (Option ℕ)} {x p : ℕ} {hidden : Option ℕ} (b : Bound scope x p bound hidden) (low : x < name_space) (s : Entries code scope) where
   pub bound_in : Stood code p → Entries code bound
   bound_in stood = rw b.bound (bound_entries code scope x p low stood s)
 
@@ -71,8 +72,8 @@ module _ {code scope bound : List ℕ} {x p hidden : ℕ} (b : Bound scope x p b
   bound_long = ap length b.bound ∙ simp length-set s.long
 
   -- bound, called, put back
-  pub restored : {called back : List ℕ} → called ≡ bound → back ≡ set called x hidden → back ≡ scope
-  restored same e = e ∙ rw (same, b.bound, b.hidden) (put_back scope x (p + 1) (omega (arith, s.long)))
+  pub restored : {called back : List (Option ℕ)} → called ≡ bound → back ≡ set called x hidden → back ≡ scope
+  restored same e = e ∙ rw (same, b.bound, b.hidden) (put_back scope x (Some p) (omega (arith, s.long)))
 
 -- the sides of what stands, by its byte
 pub halves_at : {code : List ℕ} {p end : ℕ} (c : Connective) → length code ≤ standing → Stood code p → get_or code p 0 ≡ connective_byte c
@@ -103,7 +104,7 @@ unfolding connective_byte
 impl_is = refl
 
 -- Answers.
-module _ {code scope mades : List ℕ} {t : ProofTerm ℕ} {n r : ℕ} (x : InfersAs code scope mades t n r) where
+module _ {code : List ℕ} {scope : List (Option ℕ)} {mades : List ℕ} {t : ProofTerm ℕ} {n r : ℕ} (x : InfersAs code scope mades t n r) where
   pub known_answer : r < stops → n + nodes t ≤ node_limit → Known code mades r
   known_answer h room = record { lo = n; hi = n + nodes t; prop = (derives x h).prop; rep = (derives x h).rep; last = room }
 
@@ -114,17 +115,17 @@ pub known_stood : {code mades : List ℕ} {p : ℕ} → Stood code p → Known c
 known_stood {code} {mades} {p} s = record { lo = 0; hi = 0; prop = prop_at name_space code p; rep = stood_rep s; last = omega arith }
 
 -- an answer of the term that record m holds, in whatever way its node and its scope were found
-module _ {records code : List ℕ} {stride : ℕ} {scope mades : List ℕ} {m n : ℕ} where
-  pub inferred_at : {t : ProofTerm ℕ} {scope' mades' : List ℕ} {r : ℕ} → term_of code stride records m ≡ t → InfersAs code scope mades' t n r → scope' ≡ scope
+module _ {records code : List ℕ} {stride : ℕ} {scope : List (Option ℕ)} {mades : List ℕ} {m n : ℕ} where
+  pub inferred_at : {t : ProofTerm ℕ} {scope' : List (Option ℕ)} {mades' : List ℕ} {r : ℕ} → term_of code stride records m ≡ t → InfersAs code scope mades' t n r → scope' ≡ scope
       → Kept n (n + nodes (term_of code stride records m)) mades mades' → Inferred records code stride scope mades m n scope' mades' r
   inferred_at e x s k = record { answer = rw e x; same = s; kept = k }
 
-  pub checked_at : {t : ProofTerm ℕ} {p : ℕ} {scope' mades' : List ℕ} {r : ℕ} → term_of code stride records m ≡ t → ChecksAs code scope t n p r → scope' ≡ scope
+  pub checked_at : {t : ProofTerm ℕ} {p : ℕ} {scope' : List (Option ℕ)} {mades' : List ℕ} {r : ℕ} → term_of code stride records m ≡ t → ChecksAs code scope t n p r → scope' ≡ scope
       → Kept n (n + nodes (term_of code stride records m)) mades mades' → Checked records code stride scope mades m n p scope' mades' r
   checked_at e x s k = record { answer = rw e x; same = s; kept = k }
 
-pub infers_under : {code scope bound mades : List ℕ} {t : ProofTerm ℕ} {n k r : ℕ} → bound ≡ scope → k ≡ n → InfersAs code bound mades t k r → InfersAs code scope mades t n r
+pub infers_under : {code : List ℕ} {scope bound : List (Option ℕ)} {mades : List ℕ} {t : ProofTerm ℕ} {n k r : ℕ} → bound ≡ scope → k ≡ n → InfersAs code bound mades t k r → InfersAs code scope mades t n r
 infers_under e i x = rw (← e, ← i) x
 
-pub checks_under : {code scope bound : List ℕ} {t : ProofTerm ℕ} {n k p r : ℕ} → bound ≡ scope → k ≡ n → ChecksAs code bound t k p r → ChecksAs code scope t n p r
+pub checks_under : {code : List ℕ} {scope bound : List (Option ℕ)} {t : ProofTerm ℕ} {n k p r : ℕ} → bound ≡ scope → k ≡ n → ChecksAs code bound t k p r → ChecksAs code scope t n p r
 checks_under e i x = rw (← e, ← i) x

@@ -1,5 +1,5 @@
 -- What both functions ask of the records, the code and the scope.
-use Rattle.std.specs.Prelude.{ℕ, ◌+◌, ◌-◌, ◌*◌, ◌≤◌, ◌<◌, ◌≡◌, List, length}
+use Rattle.std.specs.Prelude.{ℕ, ◌+◌, ◌-◌, ◌*◌, ◌≤◌, ◌<◌, ◌≡◌, List, length, Option}
 use Rattle.definitions.specs.Prop.{Prop, True, False}
 use Rattle.definitions.specs.Term.{ProofTerm}
 use Rattle.definitions.specs.TermText.{nodes}
@@ -57,7 +57,7 @@ pub record Ends (code : List ℕ) : Type 0 where
   pub bottom_is : prop_at name_space code (length code - 1) ≡ False
 
 -- what both functions ask: the records up to m are well, the scope's entries stand, and the nodes have slots
-pub record Judgeable (records code : List ℕ) (stride : ℕ) (scope made : List ℕ) (m node : ℕ) : Type 0 where
+pub record Judgeable (records code : List ℕ) (stride : ℕ) (scope : List (Option ℕ)) (made : List ℕ) (m node : ℕ) : Type 0 where
   pub held : record_size * (m + 1) ≤ length records
   pub well : (k : ℕ) → k ≤ m → Well records code stride k
   pub room : node + nodes (term_of code stride records m) ≤ node_limit

@@ -1,5 +1,5 @@
 -- What the helpers of the two functions say.
-use Rattle.std.specs.Prelude.{ℕ, ◌+◌, ◌-◌, ◌*◌, ◌<◌, ◌≡◌, Bool, true, false, List, length, get_or, set}
+use Rattle.std.specs.Prelude.{ℕ, ◌+◌, ◌-◌, ◌*◌, ◌<◌, ◌≡◌, Bool, true, false, List, length, get_or, set, Option, None, Some}
 use Rattle.definitions.specs.Name.{Name}
 use Rattle.definitions.specs.Prop.{rename_prop}
 use Rattle.definitions.specs.Term.{rename_parameter_label}
@@ -30,14 +30,14 @@ pub record BodySide (records code : List ℕ) (stride m p node r : ℕ) : Type 0
   pub other : (get_or code p 0 ≡ 4 → ⊥) → r ≡ stops + node
 
 -- a name bound, and what that hides
-pub record Bound (scope : List ℕ) (name p : ℕ) (after : List ℕ) (r : ℕ) : Type 0 where
-  pub bound : after ≡ set scope name (p + 1)
-  pub hidden : r ≡ get_or scope name 0
+pub record Bound (scope : List (Option ℕ)) (name p : ℕ) (after : List (Option ℕ)) (r : Option ℕ) : Type 0 where
+  pub bound : after ≡ set scope name (Some p)
+  pub hidden : r ≡ get_or scope name None
 
--- what an entry of the scope stands for, or a stop at the node where it is 0
-pub record Found (bound node r : ℕ) : Type 0 where
-  pub none : bound ≡ 0 → r ≡ stops + node
-  pub some : (p : ℕ) → bound ≡ p + 1 → r ≡ p
+-- what an entry of the scope stands for, or a stop at the node where there is none
+pub record Found (bound : Option ℕ) (node r : ℕ) : Type 0 where
+  pub none : bound ≡ None → r ≡ stops + node
+  pub some : (p : ℕ) → bound ≡ Some p → r ≡ p
 
 -- where a label of record m stands, or a stop at the node where it is a datatype
 pub record Ascribed (records : List ℕ) (stride m node r : ℕ) : Type 0 where

@@ -1,5 +1,5 @@
 -- What the two functions answer: 0 or a proposition's number, or past all of these the node at which the rules stop.
-use Rattle.std.specs.Prelude.{ℕ, ◌+◌, ◌<◌, ◌≡◌, List}
+use Rattle.std.specs.Prelude.{ℕ, ◌+◌, ◌<◌, ◌≡◌, List, Option}
 use Rattle.definitions.specs.Name.{Name}
 use Rattle.definitions.specs.Prop.{Prop, rename_prop}
 use Rattle.definitions.specs.Term.{ProofTerm, rename_term}
@@ -27,32 +27,32 @@ pub data Checks : Judged (Unit {0}) → ℕ → Type 0 where
   node : {r : ℕ} (n : ℕ) → r ≡ stops + n → Checks (stopped n) r
 
 -- for every naming by different names and every context that the scope holds, a term infers that
-unfoldable pub Means : List ℕ → List ℕ → ProofTerm ℕ → ℕ → Judged (Prop ℕ) → Type 0
+unfoldable pub Means : List ℕ → List (Option ℕ) → ProofTerm ℕ → ℕ → Judged (Prop ℕ) → Type 0
 Means code scope t n o = (f : ℕ → Name) (g : Context) → Distinct f → Scoped f code scope g → infer (rename_term f t) g n ≡ named f o
 
 -- and checks so against the proposition at p
-unfoldable pub Decides : List ℕ → List ℕ → ProofTerm ℕ → ℕ → ℕ → Judged (Unit {0}) → Type 0
+unfoldable pub Decides : List ℕ → List (Option ℕ) → ProofTerm ℕ → ℕ → ℕ → Judged (Unit {0}) → Type 0
 Decides code scope t n p o =
     (f : ℕ → Name) (g : Context) → Distinct f → Scoped f code scope g
     → check (rename_term f t) g n (rename_prop f (prop_at name_space code p)) ≡ o
 
-pub record InfersAs (code scope made : List ℕ) (t : ProofTerm ℕ) (n r : ℕ) : Type 0 where
+pub record InfersAs (code : List ℕ) (scope : List (Option ℕ)) (made : List ℕ) (t : ProofTerm ℕ) (n r : ℕ) : Type 0 where
   pub outcome : Judged (Prop ℕ)
   pub shown : Shows code made n (n + nodes t) outcome r
   pub means : Means code scope t n outcome
 
-pub record ChecksAs (code scope : List ℕ) (t : ProofTerm ℕ) (n p r : ℕ) : Type 0 where
+pub record ChecksAs (code : List ℕ) (scope : List (Option ℕ)) (t : ProofTerm ℕ) (n p r : ℕ) : Type 0 where
   pub outcome : Judged (Unit {0})
   pub shown : Checks outcome r
   pub means : Decides code scope t n p outcome
 
 -- The contracts of the two functions. The scope is put back, and only the term's own slots change.
-pub record Inferred (records code : List ℕ) (stride : ℕ) (scope made : List ℕ) (m n : ℕ) (scope' made' : List ℕ) (r : ℕ) : Type 0 where
+pub record Inferred (records code : List ℕ) (stride : ℕ) (scope : List (Option ℕ)) (made : List ℕ) (m n : ℕ) (scope' : List (Option ℕ)) (made' : List ℕ) (r : ℕ) : Type 0 where
   pub answer : InfersAs code scope made' (term_of code stride records m) n r
   pub same : scope' ≡ scope
   pub kept : Kept n (n + nodes (term_of code stride records m)) made made'
 
-pub record Checked (records code : List ℕ) (stride : ℕ) (scope made : List ℕ) (m n p : ℕ) (scope' made' : List ℕ) (r : ℕ) : Type 0 where
+pub record Checked (records code : List ℕ) (stride : ℕ) (scope : List (Option ℕ)) (made : List ℕ) (m n p : ℕ) (scope' : List (Option ℕ)) (made' : List ℕ) (r : ℕ) : Type 0 where
   pub answer : ChecksAs code scope (term_of code stride records m) n p r
   pub same : scope' ≡ scope
   pub kept : Kept n (n + nodes (term_of code stride records m)) made made'

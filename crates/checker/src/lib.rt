@@ -3,7 +3,7 @@
 // numbers that are equal where their bytes are.
 #![tactic(auto)]
 
-ghost use Rattle.std.specs.Prelude.{◌≡◌, ℕ, ◌+◌, ◌*◌, ◌≤◌, ◌<◌, length, get_or, set};
+ghost use Rattle.std.specs.Prelude.{◌≡◌, ℕ, ◌+◌, ◌*◌, ◌≤◌, ◌<◌, length, get_or, set, None};
 ghost use Rattle.definitions.specs.Prop.{Prop};
 ghost use Rattle.definitions.specs.TermText.{nodes};
 ghost use Rattle.proof_term.specs.Records.{record_size, field_at, term_at};
@@ -52,18 +52,30 @@ fn body_side(records: &[u16], m: usize, code: &[u8], stride: usize, p: usize, no
 }
 
 // Binds name i of record m to the proposition at p, and gives the entry that this hides.
-fn bind(scope: &mut [u32; NAMES], records: &[u16], m: usize, i: usize, p: usize) -> u32
+fn bind(
+    scope: &mut [Option<u32>; NAMES],
+    records: &[u16],
+    m: usize,
+    i: usize,
+    p: usize,
+) -> Option<u32>
     requires { NameHeld records.now m i × (p < standing) × (length scope.old ≡ name_space) }
     ensures { Bound scope.old (field_at records.now m i) p scope.new result }
 {
     let name = field(records, m, i);
     let hidden = scope[name];
-    scope[name] = (p + 1) as u32;
+    scope[name] = Some(p as u32);
     hidden
 }
 
 // Puts the hidden entry back.
-fn unbind(scope: &mut [u32; NAMES], records: &[u16], m: usize, i: usize, hidden: u32)
+fn unbind(
+    scope: &mut [Option<u32>; NAMES],
+    records: &[u16],
+    m: usize,
+    i: usize,
+    hidden: Option<u32>,
+)
     requires { NameHeld records.now m i × (length scope.old ≡ name_space) }
     ensures { scope.new ≡ set scope.old (field_at records.now m i) hidden }
 {
@@ -72,15 +84,14 @@ fn unbind(scope: &mut [u32; NAMES], records: &[u16], m: usize, i: usize, hidden:
 }
 
 // What a name stands for, or a stop at the node.
-fn entry(scope: &[u32], name: usize, node: usize) -> usize
+fn entry(scope: &[Option<u32>], name: usize, node: usize) -> usize
     requires { (name < name_space) × (node < node_limit) × (length scope.now ≡ name_space) }
-    ensures { Found (get_or scope.now name 0) node result }
+    ensures { Found (get_or scope.now name None) node result }
 {
-    let bound = scope[name] as usize;
-    if bound == 0 {
-        return STOPS + node;
+    match scope[name] {
+        None => STOPS + node,
+        Some(p) => p as usize,
     }
-    bound - 1
 }
 
 // Where the label of record m stands, an ascription's or a function's, if it is a proposition; else a stop at the node.
@@ -128,7 +139,7 @@ pub fn check(
     node: usize,
     code: &[u8],
     stride: usize,
-    scope: &mut [u32; NAMES],
+    scope: &mut [Option<u32>; NAMES],
     made: &mut [u32; MADE_NUMBERS],
     p: usize,
 ) -> usize
@@ -219,7 +230,7 @@ pub fn infer(
     node: usize,
     code: &[u8],
     stride: usize,
-    scope: &mut [u32; NAMES],
+    scope: &mut [Option<u32>; NAMES],
     made: &mut [u32; MADE_NUMBERS],
 ) -> usize
     requires { Judgeable records.now code.now stride scope.old made.old m node }

@@ -2,6 +2,7 @@
 use Prim.Native.Nat.{ℕ, ◌+◌, ◌<◌}
 use mathlib.Core.Path.{◌≡◌, refl, sym, ◌∙◌}
 use mathlib.Core.Bool.{false, true≢false}
+use Rattle.std.specs.Prelude.{Option, Some}
 use mathlib.Core.List.{List, [], ◌∷◌}
 use lib.ListN.{length, get_or, set, length-set}
 use borrow.Author.Tests.{leb-false}
@@ -20,9 +21,9 @@ use Rattle.hypotheses.specs.Entered.{entered, Enterable}
 use Rattle.hypotheses.proofs.Walking.{none_left, Next}
 
 -- One hypothesis after another:
-module _ {numbers pairs hs first : List ℕ} (e : Enterable numbers pairs hs first) where
+module _ {numbers pairs hs : List ℕ} {first : List (Option ℕ)} (e : Enterable numbers pairs hs first) where
   -- those that are left have to be entered yet, and none of them is out
-  pub record Before (left scope : List ℕ) : Type 0 where
+  pub record Before (left : List ℕ) (scope : List (Option ℕ)) : Type 0 where
     pub same : entered numbers pairs hs first ≡ entered numbers pairs left scope
     pub inside : out_of (length numbers) e.count left ≡ false
     pub space : length scope ≡ name_space
@@ -30,12 +31,12 @@ module _ {numbers pairs hs first : List ℕ} (e : Enterable numbers pairs hs fir
   pub none_entered : Before hs first
   none_entered = record { same = refl; inside = e.inside; space = e.space }
 
-  pub one_entered : {rest pair left scope : List ℕ} → Before rest scope → Next (length numbers) e.count rest pair left
-      → {at : ℕ} → at ≡ pair_offset pairs (get_or pair 1 0) → Before left (set scope (get_or numbers (get_or pair 0 0) 0) (at + 1))
+  pub one_entered : {rest pair left : List ℕ} {scope : List (Option ℕ)} → Before rest scope → Next (length numbers) e.count rest pair left
+      → {at : ℕ} → at ≡ pair_offset pairs (get_or pair 1 0) → Before left (set scope (get_or numbers (get_or pair 0 0) 0) (Some at))
   unfolding entered
   one_entered b n is = record { same = b.same ∙ rw (n.ahead, is); inside = n.none; space = rw length-set b.space }
 
-  pub all_entered : {left scope : List ℕ} → Before left scope → length left < 2 → scope ≡ entered numbers pairs hs first
+  pub all_entered : {left : List ℕ} {scope : List (Option ℕ)} → Before left scope → length left < 2 → scope ≡ entered numbers pairs hs first
   unfolding entered
   all_entered {left} b l = sym (b.same ∙ rw (none_left _ _ left l b.inside))
 
@@ -45,12 +46,12 @@ module _ (s numbers pairs code : List ℕ) (count : ℕ) (f : ℕ → Name) (one
     (named : (x : ℕ) → x < length numbers → f (get_or numbers x 0) ≡ name_of s x)
     (stood : (p : ℕ) → p < count → Stood code (pair_offset pairs p))
     (proposition : (p : ℕ) → p < count → rename_prop f (prop_at name_space code (pair_offset pairs p)) ≡ named_prop s p) where
-  pub record Assumed (hs scope : List ℕ) (g : Context) : Type 0 where
+  pub record Assumed (hs : List ℕ) (scope : List (Option ℕ)) (g : Context) : Type 0 where
     pub entries : Entries code scope
     pub scoped : Scoped f code scope g
 
   -- the scope holds what was in it and then the hypotheses
-  pub scope_assumed : (hs scope : List ℕ) (g : Context) → out_of (length numbers) count hs ≡ false → Assumed [] scope g
+  pub scope_assumed : (hs : List ℕ) (scope : List (Option ℕ)) (g : Context) → out_of (length numbers) count hs ≡ false → Assumed [] scope g
       → Assumed hs (entered numbers pairs hs scope) (assumed s hs g)
   unfolding out_of entered assumed
   scope_assumed [] scope g e a = a
@@ -64,6 +65,6 @@ module _ (s numbers pairs code : List ℕ) (count : ℕ) (f : ℕ → Name) (one
       let at = pair_offset pairs p in
       let entries = bound_entries code scope y at (low x x-low) (stood p p-low) a.entries in
       let scoped = bound_scope code scope y at (low x x-low) (stood p p-low) a.entries f g one a.scoped in
-      let there = scope_assumed hs (set scope y (at + 1)) (bind (name_of s x) (named_prop s p) g) rest
+      let there = scope_assumed hs (set scope y (Some at)) (bind (name_of s x) (named_prop s p) g) rest
       (record { entries = entries; scoped = rw (named x x-low, proposition p p-low) at scoped }) in
       record { entries = there.entries; scoped = there.scoped }

@@ -52,9 +52,9 @@ pub fn are_free(s: &[u8], h: Sheet, hypotheses: &[u16]) -> bool
     true
 }
 
-// Enters the hypotheses into the scope, each under the number that the map has for its name: the offset of its proposition plus one.
+// Enters the hypotheses into the scope, each under the number that the map has for its name: the offset of its proposition.
 // A later one takes the entry of an earlier one of its name.
-pub fn assume(hypotheses: &[u16], numbers: &[u16], pairs: &[u8], scope: &mut [u32; NAMES])
+pub fn assume(hypotheses: &[u16], numbers: &[u16], pairs: &[u8], scope: &mut [Option<u32>; NAMES])
     requires { Enterable numbers.now pairs.now hypotheses.now scope.old }
     ensures { scope.new ≡ entered numbers.now pairs.now hypotheses.now
         scope.old }
@@ -62,6 +62,6 @@ pub fn assume(hypotheses: &[u16], numbers: &[u16], pairs: &[u8], scope: &mut [u3
     for pair in hypotheses.chunks_exact(2) {
         let name = numbers[pair[0] as usize] as usize;
         let at = pair_offset(pairs, pair[1] as usize);
-        scope[name] = (at + 1) as u32;
+        scope[name] = Some(at as u32);
     }
 }

@@ -3,7 +3,8 @@ use Prim.Native.Nat.{ℕ, ◌*◌, ◌≤◌, ◌<◌}
 use mathlib.Core.Path.{◌≡◌, sym, ap, ◌∙◌}
 use mathlib.Core.Logic.{by_cases}
 use mathlib.Core.Bool.{false}
-use Rattle.std.specs.Prelude.{None}
+use Rattle.std.specs.Prelude.{Option, None}
+use Rattle.std.proofs.lemmas.Option.{none-some}
 use mathlib.Core.List.{List, []}
 use native.Mathlib.Omega.{arith}
 use native.Mathlib.Decide.{dec_lt}
@@ -53,7 +54,7 @@ unfolding named_term map_outcome held_term
 held_named t = rw t.is_term
 
 -- the scope holds the hypotheses, under a naming
-pub record InScope (s hs code scope : List ℕ) (f : ℕ → Name) : Type 0 where
+pub record InScope (s hs code : List ℕ) (scope : List (Option ℕ)) (f : ℕ → Name) : Type 0 where
   pub entries : Entries code scope
   pub scoped : Scoped f code scope (assumed s hs [])
 
@@ -68,7 +69,7 @@ module _ {s : List ℕ} {h : Sheet} (a : AcceptedSheet s h) (bytes : Bytes s) {n
 
   module _ {code : List ℕ} (c : CodeStands (names s) (proposition_pairs s) (code_bytes s) (propositions s) numbers code) where
     -- they can be entered
-    pub enterable : {pairs scope : List ℕ} → pairs ≡ proposition_pairs s → length scope ≡ name_space → Enterable numbers pairs hs scope
+    pub enterable : {pairs : List ℕ} {scope : List (Option ℕ)} → pairs ≡ proposition_pairs s → length scope ≡ name_space → Enterable numbers pairs hs scope
     enterable is space = rw is (record {
       count = propositions s;
       inside = inside;
@@ -80,22 +81,22 @@ module _ {s : List ℕ} {h : Sheet} (a : AcceptedSheet s h) (bytes : Bytes s) {n
 
     -- and the scope that was empty holds them
     none_yet : Assumed s numbers (proposition_pairs s) code (propositions s) l.naming l.apart low (λ x below. l.named x (omega (arith, l.long)))
-        (prop_stood a bytes l c) (prop_named a bytes l c) [] (replicate name_space 0) []
+        (prop_stood a bytes l c) (prop_named a bytes l c) [] (replicate name_space None) []
     unfolding Scoped lookup entry_prop
     none_yet = record {
       entries = record {
-        long = length-replicate {A = ℕ} name_space 0;
-        entry = λ x p below e. absurd (omega (arith, get_or-replicate {A = ℕ} name_space x 0 0 below));
+        long = length-replicate {A = Option ℕ} name_space None;
+        entry = λ x p below e. absurd (none-some p (sym (get_or-replicate {A = Option ℕ} name_space x None None below) ∙ e));
       };
-      scoped = λ x below. rw (get_or-replicate {A = ℕ} name_space x 0 0 below);
+      scoped = λ x below. rw (get_or-replicate {A = Option ℕ} name_space x None None below);
     }
 
-    pub in_scope : {pairs scope first : List ℕ} → pairs ≡ proposition_pairs s → first ≡ replicate name_space 0 → scope ≡ entered numbers pairs hs first
+    pub in_scope : {pairs : List ℕ} {scope first : List (Option ℕ)} → pairs ≡ proposition_pairs s → first ≡ replicate name_space None → scope ≡ entered numbers pairs hs first
         → InScope s hs code scope l.naming
     in_scope {scope = scope} is empty e =
         let all = scope_assumed s numbers (proposition_pairs s) code (propositions s) l.naming l.apart low (λ x below. l.named x (omega (arith, l.long)))
-        (prop_stood a bytes l c) (prop_named a bytes l c) hs (replicate name_space 0) [] inside none_yet in
-        let so : scope ≡ entered numbers (proposition_pairs s) hs (replicate name_space 0) = cc in
+        (prop_stood a bytes l c) (prop_named a bytes l c) hs (replicate name_space None) [] inside none_yet in
+        let so : scope ≡ entered numbers (proposition_pairs s) hs (replicate name_space None) = cc in
         rw so (record { entries = all.entries; scoped = all.scoped })
 
 -- Of the term that is held, over the numbers:
@@ -175,7 +176,7 @@ module _ {s : List ℕ} {h : Sheet} (a : AcceptedSheet s h) (bytes : Bytes s) {n
           };
         }
 
-    pub judgeable : {scope made : List ℕ} → length after ≡ length terms → Entries code scope → length made ≡ made_numbers
+    pub judgeable : {scope : List (Option ℕ)} {made : List ℕ} → length after ≡ length terms → Entries code scope → length made ≡ made_numbers
         → Judgeable sized code 1 scope made n 0
     judgeable long entries slots = record {
       held = omega (arith, t.held, z.long);
@@ -188,7 +189,7 @@ module _ {s : List ℕ} {h : Sheet} (a : AcceptedSheet s h) (bytes : Bytes s) {n
 
     -- what the checker answers is what the rules say of it
     pub rules_say : {k : ℕ} → k < propositions s → {at : ℕ} → at ≡ pair_offset (proposition_pairs s) k
-        → {hs scope made scope' made' : List ℕ} {x : ℕ} → InScope s hs code scope l.naming
+        → {hs : List ℕ} {scope : List (Option ℕ)} {made : List ℕ} {scope' : List (Option ℕ)} {made' : List ℕ} {x : ℕ} → InScope s hs code scope l.naming
         → Checked sized code 1 scope made n 0 at scope' made' x → Checks (ruled s terms n hs k) x
     unfolding ruled Decides
     rules_say {k} below is {hs} i checked =

@@ -122,7 +122,7 @@ fn decide(
     stand(s, h, numbers, &mut code);
     renumber_records(terms, n, numbers);
     fill_sizes(terms, n);
-    let mut scope = [0u32; NAMES];
+    let mut scope: [Option<u32>; NAMES] = [None; NAMES];
     assume(hypotheses, numbers, pairs, &mut scope);
     let mut made = [0u32; MADE_NUMBERS];
     let at = pair_offset(pairs, k);

@@ -21,8 +21,7 @@ pub const STANDING: usize = 139266;
 // Each node of a term may make one proposition, in three numbers.
 pub const MADE_NUMBERS: usize = 3 * NODE_LIMIT;
 
-// All name numbers are below this: the sheet's, and then those of a term read beside it. In scope stands for each the offset of its
-// proposition plus one, or 0.
+// All name numbers are below this: the sheet's, and then those of a term read beside it.
 pub const NAMES: usize = 1024;
 
 // What stops, stops at this plus the node. That and what a proposition is are one number and no Result or enum: the walk over a term is

@@ -34,9 +34,6 @@ pair_offset-at-requires c = omega (arith, (one (goal.at.pair_offset-at-requires 
 stands : (c : After-pair_offset-at) → c.pair_offset-at.result < 139266
 stands c = omega (arith, c.loop-pair.invariant.1.0.stand _ (one (goal.at.After-pair_offset-at c).In-Some).proposition, c.pair_offset-at.ensures)
 
-pub overflow_add-scope : goal.overflow_add-scope
-overflow_add-scope c = omega (arith, stands c)
-
 pub overflow_cast-scope : goal.overflow_cast-scope
 overflow_cast-scope c = omega (arith, stands c)
 
