@@ -13,7 +13,7 @@ use Rattle.definitions.specs.Term.{proposition, ProofTerm, Pair, Function, Appli
 use Rattle.definitions.specs.TermText.{nodes}
 use Rattle.prefix_code.specs.PropAt.{prop_at}
 use Rattle.prefix_code.specs.Scan.{Scanned}
-use Rattle.proof_term.specs.Views.{kind_of}
+use Rattle.proof_term.specs.Views.{kind_number, kind_of}
 use Rattle.proof_term.specs.declared.nodes.Kind.{Kind}
 use Rattle.proof_term.specs.declared.nodes.Kind.TheVariants as variant
 use Rattle.proof_term.proofs.Views.{number_of_kind}
@@ -375,13 +375,23 @@ module _ {records code : List ℕ} {stride : ℕ} {scope : List (Option ℕ)} {m
       → Leaf code kind n r → At scope mades r
   leaf_done {r} no_ident no_fst no_snd no_application no_ascription no_function no_pair no_case f = go kind refl
     where
+      -- a kind that is unit has its number
+      twelve : {k : Kind} → kind ≡ variant.Unit → kind ≡ k → 12 ≡ kind_number k
+      twelve e d = ap kind_number (sym e ∙ d)
+
       go : (which : Kind) → kind ≡ which → At scope mades r
       go variant.LetIn e = rw (f.let_stops e) (inferred_at (let_is own k e) (let_stops n _ _ _ _) refl kept_all)
       go variant.OrLeft e = rw (f.inl_stops e) (inferred_at (inl_view own k ea e).is (inl_stops n _) refl kept_all)
       go variant.OrRight e = rw (f.inr_stops e) (inferred_at (inr_view own k ea e).is (inr_stops n _) refl kept_all)
       go variant.Abort e = rw (f.abort_stops e) (inferred_at (abort_view own k ea e).is (abort_stops n _) refl kept_all)
       go variant.Sorry e = rw (f.sorry_stops e) (inferred_at (sorry_is own k e) (sorry_stops n) refl kept_all)
-      go variant.Unit e = rw (f.top e) (inferred_at (unit_is own k e) (unit_answer j.ends.top j.ends.top_is) refl kept_all)
+      go variant.Unit e =
+          let no_let : kind ≡ variant.LetIn → ⊥ = λ d. omega (arith, twelve e d) in
+          let no_inl : kind ≡ variant.OrLeft → ⊥ = λ d. omega (arith, twelve e d) in
+          let no_inr : kind ≡ variant.OrRight → ⊥ = λ d. omega (arith, twelve e d) in
+          let no_abort : kind ≡ variant.Abort → ⊥ = λ d. omega (arith, twelve e d) in
+          let no_sorry : kind ≡ variant.Sorry → ⊥ = λ d. omega (arith, twelve e d) in
+          rw (f.top no_let no_inl no_inr no_abort no_sorry) (inferred_at (unit_is own k e) (unit_answer j.ends.top j.ends.top_is) refl kept_all)
       go variant.Ident e = absurd (no_ident e)
       go variant.ProjectFst e = absurd (no_fst e)
       go variant.ProjectSnd e = absurd (no_snd e)
