@@ -121,7 +121,8 @@ fn put_quantifier<S: Sink<u8>>(
     sink.put_all(b". ");
 }
 
-// An atom with its parameters.
+// An atom with its parameters. The place moves by hand: an iterator over the parameters would hold the code, the place, the count and the
+// names with the fact that so many stand there, and the loop would still have to say which are written and whether a comma follows.
 fn put_atom<S: Sink<u8>>(sink: &mut S, bytes: &[u8], v: Vocabulary, at: usize)
     requires { AtomPrintable bytes.now v at }
     ensures { S.puts sink.old (prop_text bytes.now v at) sink.new }
