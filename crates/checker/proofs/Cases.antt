@@ -15,6 +15,7 @@ use Rattle.proof_term.specs.declared.nodes.Kind.{Kind}
 use Rattle.proof_term.specs.declared.nodes.Kind.TheVariants as variant
 use Rattle.proof_term.proofs.Views.{number_of_kind}
 use Rattle.proof_term.specs.Records.{field_at}
+use Rattle.prop_numbers.specs.declared.Slot.{Slot}
 use Rattle.prop_numbers.specs.Standing.{stops, name_space, Stood, Space, Kept}
 use Rattle.prop_numbers.specs.Answering.{Expected}
 use Rattle.prop_numbers.proofs.Reps.{kept_wider, kept_then}
@@ -28,7 +29,7 @@ use Rattle.checker.proofs.Sides.{Unopened, Opening, unopened, opening}
 use Rattle.checker.proofs.Inferring.{head_stands_there, head_halves}
 use Rattle.checker.proofs.Steps.{Call, call, few, bound_in, bound_long, restored, or_is, answer_space}
 
-module _ {records code : List ℕ} {stride : ℕ} {scope : List (Option ℕ)} {mades : List ℕ} {m n : ℕ} (j : Judgeable records code stride scope mades m n)
+module _ {records code : List ℕ} {stride : ℕ} {scope : List (Option ℕ)} {mades : List Slot} {m n : ℕ} (j : Judgeable records code stride scope mades m n)
     {kind : Kind} {a : ℕ} (k : kind ≡ kind_of (field_at records m 0)) (ea : a ≡ field_at records m 1) (e : kind ≡ variant.Case) where
   abbrev own : Well records code stride m
   own = j.well m (omega arith)
@@ -53,7 +54,7 @@ module _ {records code : List ℕ} {stride : ℕ} {scope : List (Option ℕ)} {m
   head_few = few j (n + 1) view.first (omega (arith, j.room, view.size))
 
   -- Of the head's answer:
-  module _ {scope₁ : List (Option ℕ)} {mades₁ : List ℕ} {r : ℕ} (i : Inferred records code stride scope mades a (n + 1) scope₁ mades₁ r) where
+  module _ {scope₁ : List (Option ℕ)} {mades₁ : List Slot} {r : ℕ} (i : Inferred records code stride scope mades a (n + 1) scope₁ mades₁ r) where
     pub head_space : r < stops → Space code mades₁ r
     head_space = answer_space i.answer j.ends.space (i.kept.long ∙ j.slots) (omega (arith, j.room, view.size))
 
@@ -100,7 +101,7 @@ module _ {records code : List ℕ} {stride : ℕ} {scope : List (Option ℕ)} {m
             left_long s = ap length s ∙ bound_long bd left_name.below entries
 
             -- Once its binder is taken off again:
-            module _ {called : List (Option ℕ)} {mades₂ : List ℕ} {back : List (Option ℕ)} (s : called ≡ bound) (kept : Kept next (next + nodes (term b)) mades₁ mades₂)
+            module _ {called : List (Option ℕ)} {mades₂ : List Slot} {back : List (Option ℕ)} (s : called ≡ bound) (kept : Kept next (next + nodes (term b)) mades₁ mades₂)
                 (off : back ≡ set called (field_at records m 4) hidden) where
               pub left_back : back ≡ scope
               left_back = restored bd left_name.below entries s off ∙ i.same
@@ -139,7 +140,7 @@ module _ {records code : List ℕ} {stride : ℕ} {scope : List (Option ℕ)} {m
                   pub right_back : {called₂ back₂ : List (Option ℕ)} → called₂ ≡ bound₂ → back₂ ≡ set called₂ (field_at records m 5) hidden₂ → back₂ ≡ scope
                   right_back s₂ off₂ = restored bd₂ right_name.below entries₂ s₂ off₂ ∙ left_back
 
-                  pub right_kept : {mades₃ : List ℕ} → Kept last (last + nodes (term c)) mades₂ mades₃ → Kept n (n + nodes (term m)) mades mades₃
+                  pub right_kept : {mades₃ : List Slot} → Kept last (last + nodes (term c)) mades₂ mades₃ → Kept n (n + nodes (term m)) mades mades₃
                   right_kept more = kept_then left_kept (kept_wider n (n + nodes (term m)) (rw (el, en) (omega arith)) right_room more)
 
                   -- the nodes of the branches as the rules count them

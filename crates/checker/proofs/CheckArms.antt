@@ -17,6 +17,7 @@ use Rattle.proof_term.specs.declared.nodes.Kind.{Kind}
 use Rattle.proof_term.specs.declared.nodes.Kind.TheVariants as variant
 use Rattle.proof_term.proofs.Views.{number_of_kind}
 use Rattle.proof_term.specs.Records.{field_at, parameter_label}
+use Rattle.prop_numbers.specs.declared.Slot.{Slot}
 use Rattle.prop_numbers.specs.Standing.{stops, name_space, Stood, Known, Kept, head_of}
 use Rattle.prop_numbers.specs.Answering.{SideOf, Expected, Tested, Agreed}
 use Rattle.prop_numbers.proofs.Reps.{kept_all, kept_wider, kept_then}
@@ -29,9 +30,9 @@ use Rattle.checker.proofs.Checking.{pair_other, function_other, inl_other, inr_o
 use Rattle.checker.proofs.Steps.{Call, call, few, bound_in, bound_long, restored, halves_at, side_halves, side_other, and_is, or_is, impl_is, known_answer, checked_at, checks_under}
 use Rattle.checker.proofs.Cases.{head_unopened, head_opening, head_stood, sides, left_name, right_name, left_under, left_back, left_kept, right_under, right_back, right_kept, right_node, term_is, view}
 
-module _ {records code : List ℕ} {stride : ℕ} {scope : List (Option ℕ)} {mades : List ℕ} {m n p : ℕ} (j : Judgeable records code stride scope mades m n) (stood : Stood code p)
+module _ {records code : List ℕ} {stride : ℕ} {scope : List (Option ℕ)} {mades : List Slot} {m n p : ℕ} (j : Judgeable records code stride scope mades m n) (stood : Stood code p)
     {kind : Kind} {a : ℕ} (k : kind ≡ kind_of (field_at records m 0)) (ea : a ≡ field_at records m 1) where
-  abbrev At : List (Option ℕ) → List ℕ → ℕ → Type 0
+  abbrev At : List (Option ℕ) → List Slot → ℕ → Type 0
   At scope' mades' r = Checked records code stride scope mades m n p scope' mades' r
 
   abbrev own : Well records code stride m
@@ -92,7 +93,7 @@ module _ {records code : List ℕ} {stride : ℕ} {scope : List (Option ℕ)} {m
           pub function_long : {called : List (Option ℕ)} → called ≡ bound → length called ≡ name_space
           function_long s = ap length s ∙ bound_long bd function_name.below j.entries
 
-          pub function_done : {called : List (Option ℕ)} {mades' : List ℕ} {back : List (Option ℕ)} {r : ℕ} → Checked records code stride bound mades a (n + 1) side called mades' r
+          pub function_done : {called : List (Option ℕ)} {mades' : List Slot} {back : List (Option ℕ)} {r : ℕ} → Checked records code stride bound mades a (n + 1) side called mades' r
               → back ≡ set called (field_at records m 2) hidden → At back mades' r
           function_done c off =
               checked_at function_is.is
@@ -121,7 +122,7 @@ module _ {records code : List ℕ} {stride : ℕ} {scope : List (Option ℕ)} {m
         pub pair_call : Call records code stride scope mades m a (n + 1)
         pair_call = call j pair_is.first j.entries j.slots (omega (arith, j.room, pair_is.size))
 
-        module _ {scope' : List (Option ℕ)} {mades' : List ℕ} {r : ℕ} (c : Checked records code stride scope mades a (n + 1) (p + 1) scope' mades' r) where
+        module _ {scope' : List (Option ℕ)} {mades' : List Slot} {r : ℕ} (c : Checked records code stride scope mades a (n + 1) (p + 1) scope' mades' r) where
           first_kept : Kept n (n + nodes (term m)) mades mades'
           first_kept = kept_wider n (n + nodes (term m)) (omega arith) (omega (arith, pair_is.size)) c.kept
 
@@ -135,7 +136,7 @@ module _ {records code : List ℕ} {stride : ℕ} {scope : List (Option ℕ)} {m
             pub pair_next : Call records code stride scope' mades' m b next
             pair_next = call j (rw eb pair_is.second) (rw c.same j.entries) (c.kept.long ∙ j.slots) (omega (arith, second_room, j.room))
 
-            pub pair_done : {scope'' : List (Option ℕ)} {mades'' : List ℕ} {q : ℕ} → Checked records code stride scope' mades' b next side scope'' mades'' q → At scope'' mades'' q
+            pub pair_done : {scope'' : List (Option ℕ)} {mades'' : List Slot} {q : ℕ} → Checked records code stride scope' mades' b next side scope'' mades'' q → At scope'' mades'' q
             pair_done d =
                 checked_at (rw eb pair_is.is) (pair_then pair_halves c.answer ok (checks_under c.same en d.answer)) (d.same ∙ c.same)
                 (kept_then first_kept (kept_wider n (n + nodes (term m)) (rw en (omega arith)) second_room d.kept))
@@ -155,12 +156,12 @@ module _ {records code : List ℕ} {stride : ℕ} {scope : List (Option ℕ)} {m
     pub or_halves : side < stops → Halves code p side or
     or_halves l = side_halves or or_is j.ends.space stood s l
 
-    pub inl_done : {scope' : List (Option ℕ)} {mades' : List ℕ} {r : ℕ} → kind ≡ variant.OrLeft → side < stops → Checked records code stride scope mades a (n + 1) (p + 1) scope' mades' r → At scope' mades' r
+    pub inl_done : {scope' : List (Option ℕ)} {mades' : List Slot} {r : ℕ} → kind ≡ variant.OrLeft → side < stops → Checked records code stride scope mades a (n + 1) (p + 1) scope' mades' r → At scope' mades' r
     inl_done e l c =
         let v = inl_view own k ea e in
         checked_at v.is (inl_part (or_halves l) c.answer) c.same (kept_wider n (n + nodes (term m)) (omega arith) (omega (arith, v.size)) c.kept)
 
-    pub inr_done : {scope' : List (Option ℕ)} {mades' : List ℕ} {r : ℕ} → kind ≡ variant.OrRight → side < stops → Checked records code stride scope mades a (n + 1) side scope' mades' r → At scope' mades' r
+    pub inr_done : {scope' : List (Option ℕ)} {mades' : List Slot} {r : ℕ} → kind ≡ variant.OrRight → side < stops → Checked records code stride scope mades a (n + 1) side scope' mades' r → At scope' mades' r
     inr_done e l c =
         let v = inr_view own k ea e in
         checked_at v.is (inr_part (or_halves l) c.answer) c.same (kept_wider n (n + nodes (term m)) (omega arith) (omega (arith, v.size)) c.kept)
@@ -178,7 +179,7 @@ module _ {records code : List ℕ} {stride : ℕ} {scope : List (Option ℕ)} {m
   pub abort_call : kind ≡ variant.Abort → Call records code stride scope mades m a (n + 1)
   abort_call e = only_call (abort_view own k ea e)
 
-  pub abort_done : {scope' : List (Option ℕ)} {mades' : List ℕ} {r : ℕ} → kind ≡ variant.Abort → Checked records code stride scope mades a (n + 1) (length code - 1) scope' mades' r → At scope' mades' r
+  pub abort_done : {scope' : List (Option ℕ)} {mades' : List Slot} {r : ℕ} → kind ≡ variant.Abort → Checked records code stride scope mades a (n + 1) (length code - 1) scope' mades' r → At scope' mades' r
   abort_done e c =
       let v = abort_view own k ea e in
       checked_at v.is (abort_part j.ends.bottom_is c.answer) c.same (kept_wider n (n + nodes (term m)) (omega arith) (omega (arith, v.size)) c.kept)
@@ -190,7 +191,7 @@ module _ {records code : List ℕ} {stride : ℕ} {scope : List (Option ℕ)} {m
   let_done e = checked_at (let_is own k e) (let_fails n p _ _ _ _) refl kept_all
 
   -- What is inferred and compared.
-  module _ {scope' : List (Option ℕ)} {mades' : List ℕ} {r : ℕ} (i : Inferred records code stride scope mades m n scope' mades' r) where
+  module _ {scope' : List (Option ℕ)} {mades' : List Slot} {r : ℕ} (i : Inferred records code stride scope mades m n scope' mades' r) where
     pub fall_known : r < stops → Known code mades' r
     fall_known h = known_answer i.answer h j.room
 
@@ -204,7 +205,7 @@ module _ {records code : List ℕ} {stride : ℕ} {scope : List (Option ℕ)} {m
         go l t false is = rw (t.is ∙ ap (λ (b : Bool). cond b 0 (stops + n)) is) (checked_at refl (fall_differ falls i.answer l stood t.alike is) i.same i.kept)
 
   -- A case, by what its head infers.
-  module _ (e : kind ≡ variant.Case) {scope₁ : List (Option ℕ)} {mades₁ : List ℕ} {r h : ℕ} (i : Inferred records code stride scope mades a (n + 1) scope₁ mades₁ r)
+  module _ (e : kind ≡ variant.Case) {scope₁ : List (Option ℕ)} {mades₁ : List Slot} {r h : ℕ} (i : Inferred records code stride scope mades a (n + 1) scope₁ mades₁ r)
       (x : Expected code mades₁ r 3 n h) where
     pub case_stop : stops ≤ h → At scope₁ mades₁ h
     case_stop l =
@@ -212,7 +213,7 @@ module _ {records code : List ℕ} {stride : ℕ} {scope : List (Option ℕ)} {m
         (kept_wider n (n + nodes (term m)) (omega arith) (omega (arith, (view j k ea e).size)) i.kept)
 
     module _ (l : h < stops) {b next : ℕ} (eb : b ≡ field_at records m 2) (en : next ≡ n + 1 + nodes (term a)) {bound : List (Option ℕ)} {hidden : Option ℕ}
-        (bd : Bound scope₁ (field_at records m 4) (h + 1) bound hidden) {called : List (Option ℕ)} {mades₂ : List ℕ} {back : List (Option ℕ)} {q : ℕ}
+        (bd : Bound scope₁ (field_at records m 4) (h + 1) bound hidden) {called : List (Option ℕ)} {mades₂ : List Slot} {back : List (Option ℕ)} {q : ℕ}
         (c : Checked records code stride bound mades₁ b next p called mades₂ q) (off : back ≡ set called (field_at records m 4) hidden) where
       left_answer : ChecksAs code (set scope (field_at records m 4) (Some (h + 1))) (term b) (n + 1 + nodes (term a)) p q
       left_answer = checks_under (sym c.same ∙ left_under j k ea e i x l eb en bd c.same c.kept off) en c.answer
@@ -224,7 +225,7 @@ module _ {records code : List ℕ} {stride : ℕ} {scope : List (Option ℕ)} {m
           (left_back j k ea e i x l eb en bd c.same c.kept off) (left_kept j k ea e i x l eb en bd c.same c.kept off)
 
       pub case_done : q ≡ 0 → {d last side : ℕ} → (ed : d ≡ field_at records m 3) → (el : last ≡ next + nodes (term b)) → (scanned : Scanned name_space code (h + 1) side)
-          → {bound₂ : List (Option ℕ)} {hidden₂ : Option ℕ} → (bd₂ : Bound back (field_at records m 5) side bound₂ hidden₂) → {called₂ : List (Option ℕ)} {mades₃ : List ℕ} {back₂ : List (Option ℕ)} {q₂ : ℕ}
+          → {bound₂ : List (Option ℕ)} {hidden₂ : Option ℕ} → (bd₂ : Bound back (field_at records m 5) side bound₂ hidden₂) → {called₂ : List (Option ℕ)} {mades₃ : List Slot} {back₂ : List (Option ℕ)} {q₂ : ℕ}
           → Checked records code stride bound₂ mades₂ d last p called₂ mades₃ q₂ → back₂ ≡ set called₂ (field_at records m 5) hidden₂ → At back₂ mades₃ q₂
       case_done ok ed el scanned bd₂ c₂ off₂ =
           let s = c.same in

@@ -12,6 +12,7 @@ use Rattle.definitions.specs.CheckingRules.{Context, bind}
 use Rattle.definitions.specs.TermText.{nodes}
 use Rattle.definitions.specs.Checker.{◌>>=◌, ensure, sides, label_is, compared, check_named, infer, check}
 use Rattle.prefix_code.specs.PropAt.{prop_at}
+use Rattle.prop_numbers.specs.declared.Slot.{Slot}
 use Rattle.prop_numbers.specs.Standing.{Distinct, Stood, head_of, name_space, stops}
 use Rattle.prop_numbers.specs.Answering.{Alike}
 use Rattle.checker.specs.Scope.{Entries}
@@ -24,12 +25,12 @@ use Rattle.checker.proofs.Sides.{through, Unopened, Opening}
 use Rattle.checker.proofs.Inferring.{head_found}
 
 -- another head byte is another form
-other_form : {code : List ℕ} {p : ℕ} (mades : List ℕ) (c : Connective) → Stood code p → (head_of code mades p ≡ connective_byte c → ⊥)
+other_form : {code : List ℕ} {p : ℕ} (mades : List Slot) (c : Connective) → Stood code p → (head_of code mades p ≡ connective_byte c → ⊥)
     → (x y : Prop ℕ) → prop_at name_space code p ≡ Binary c x y → ⊥
 other_form {code} {p} mades c stood other x y e = other (binary_head {code = code} {mades = mades} {lo = 0} {hi = 0} c x y (stood_rep stood) e)
 
 -- Against a proposition of another form.
-module _ {code : List ℕ} {scope : List (Option ℕ)} {n p : ℕ} (mades : List ℕ) (stood : Stood code p) where
+module _ {code : List ℕ} {scope : List (Option ℕ)} {n p : ℕ} (mades : List Slot) (stood : Stood code p) where
   pub pair_other : (a b : ProofTerm ℕ) → (head_of code mades p ≡ connective_byte and → ⊥) → ChecksAs code scope (Pair a b) n p (stops + n)
   unfolding Decides check rename_term ◌>>=◌
   pair_other a b other = fails-as n refl (λ f g d s. rw (sides_else f n and (prop_at name_space code p) (other_form mades and stood other)))
@@ -126,7 +127,7 @@ case_unopened {code} {scope} {t} {a} {b} {x} {y} {n} {p} o = fails-as o.k o.at (
     (λ s. check (rename_term f a) (bind (f x) s.left g) (n + 1 + nodes (rename_term f t)) (rename_prop f (prop_at name_space code p)) >>= (λ w.
     check (rename_term f b) (bind (f y) s.right g) (n + 1 + nodes (rename_term f t) + nodes (rename_term f a)) (rename_prop f (prop_at name_space code p)))) o.k (o.means f g d s))
 
-module _ {code : List ℕ} {scope : List (Option ℕ)} {mades : List ℕ} {t a b : ProofTerm ℕ} {x y n p h end r : ℕ} (xl : x < name_space) (entries : Entries code scope)
+module _ {code : List ℕ} {scope : List (Option ℕ)} {mades : List Slot} {t a b : ProofTerm ℕ} {x y n p h end r : ℕ} (xl : x < name_space) (entries : Entries code scope)
     (o : Opening code scope mades t (n + 1) or h) (hs : Halves code h end or)
     (c : ChecksAs code (set scope x (Some (h + 1))) a (n + 1 + nodes t) p r) where
   pub case_fails : (r ≡ 0 → ⊥) → ChecksAs code scope (Case t x a y b) n p r
@@ -177,7 +178,7 @@ pub unit_falls : Falls Unit
 unfolding Falls check infer rename_term
 unit_falls f g n p = refl
 
-module _ {code : List ℕ} {scope : List (Option ℕ)} {mades : List ℕ} {t : ProofTerm ℕ} {n p r : ℕ} (falls : Falls t) (i : InfersAs code scope mades t n r) where
+module _ {code : List ℕ} {scope : List (Option ℕ)} {mades : List Slot} {t : ProofTerm ℕ} {n p r : ℕ} (falls : Falls t) (i : InfersAs code scope mades t n r) where
   pub fall_stops : stops ≤ r → ChecksAs code scope t n p r
   unfolding Falls Means Decides named compared ◌>>=◌
   fall_stops h =

@@ -16,6 +16,7 @@ use Rattle.definitions.specs.TermText.{nodes}
 use Rattle.definitions.specs.Checker.{Judged, derived, stopped, ◌>>=◌, sides, infer}
 use Rattle.prefix_code.specs.PropAt.{prop_at}
 use Rattle.prefix_code.specs.Scan.{Scanned}
+use Rattle.prop_numbers.specs.declared.Slot.{Slot}
 use Rattle.prop_numbers.specs.Standing.{Distinct, head_of, name_space, standing, stops}
 use Rattle.prop_numbers.specs.Answering.{Expected}
 use Rattle.checker.specs.Scope.{Scoped}
@@ -37,11 +38,11 @@ pub record Unopened (code : List ℕ) (scope : List (Option ℕ)) (t : ProofTerm
   pub means : (f : ℕ → Name) (g : Context) → Distinct f → Scoped f code scope g → (infer (rename_term f t) g n >>= (λ p. sides node c p)) ≡ stopped k
 
 -- and one that has:
-pub record Opening (code : List ℕ) (scope : List (Option ℕ)) (mades : List ℕ) (t : ProofTerm ℕ) (n : ℕ) (c : Connective) (res : ℕ) : Type 0 where
+pub record Opening (code : List ℕ) (scope : List (Option ℕ)) (mades : List Slot) (t : ProofTerm ℕ) (n : ℕ) (c : Connective) (res : ℕ) : Type 0 where
   pub derived_as : Deriving code scope mades t n res
   pub head : head_of code mades res ≡ connective_byte c
 
-module _ {code : List ℕ} {scope : List (Option ℕ)} {mades : List ℕ} {t : ProofTerm ℕ} {n r byte node res : ℕ} (c : Connective) (is : connective_byte c ≡ byte)
+module _ {code : List ℕ} {scope : List (Option ℕ)} {mades : List Slot} {t : ProofTerm ℕ} {n r byte node res : ℕ} (c : Connective) (is : connective_byte c ≡ byte)
     (x : InfersAs code scope mades t n r) (e : Expected code mades r byte node res) where
   pub unopened : stops ≤ res → Unopened code scope t n c node res
   unfolding Means named ◌>>=◌
@@ -66,7 +67,7 @@ module _ {code : List ℕ} {scope : List (Option ℕ)} {mades : List ℕ} {t : P
       (λ other. let z = e.other (omega arith) other in absurd (omega arith)))
 
 -- Its sides.
-module _ {code : List ℕ} {scope : List (Option ℕ)} {mades : List ℕ} {t : ProofTerm ℕ} {n res : ℕ} {c : Connective} (space : length code ≤ standing)
+module _ {code : List ℕ} {scope : List (Option ℕ)} {mades : List Slot} {t : ProofTerm ℕ} {n res : ℕ} {c : Connective} (space : length code ≤ standing)
     (o : Opening code scope mades t n c res) where
   pub with_end : (end : ℕ) → (res < standing → Scanned name_space code (res + 1) end) → Sides code mades n (n + nodes t) res end c o.derived_as.prop
   with_end end scanned = opened end c space o.derived_as.rep o.head scanned

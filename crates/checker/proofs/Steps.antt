@@ -12,7 +12,8 @@ use Rattle.definitions.specs.Term.{ProofTerm}
 use Rattle.definitions.specs.TermText.{nodes}
 use Rattle.prefix_code.specs.PropAt.{prop_at}
 use Rattle.prefix_code.specs.Scan.{Scanned}
-use Rattle.prop_numbers.specs.Standing.{standing, node_limit, stops, made_numbers, name_space, Stood, Known, Space, Kept}
+use Rattle.prop_numbers.specs.declared.Slot.{Slot}
+use Rattle.prop_numbers.specs.Standing.{standing, node_limit, stops, name_space, Stood, Known, Space, Kept}
 use Rattle.prop_numbers.specs.Answering.{SideOf}
 use Rattle.prop_numbers.proofs.Halves.{Halves, halves, head_stands, stood_rep, space_of}
 use Rattle.checker.specs.Scope.{Entries}
@@ -23,12 +24,12 @@ use Rattle.checker.proofs.Scopes.{bound_entries, put_back}
 use Rattle.checker.proofs.Answers.{derives}
 
 -- a part is an earlier record, and can be judged
-pub record Call (records code : List ℕ) (stride : ℕ) (scope : List (Option ℕ)) (mades : List ℕ) (m a n : ℕ) : Type 0 where
+pub record Call (records code : List ℕ) (stride : ℕ) (scope : List (Option ℕ)) (mades : List Slot) (m a n : ℕ) : Type 0 where
   pub less : a < m
   pub ready : Judgeable records code stride scope mades a n
 
-module _ {records code : List ℕ} {stride : ℕ} {scope : List (Option ℕ)} {mades : List ℕ} {m n : ℕ} (j : Judgeable records code stride scope mades m n) where
-  pub call : {scope' : List (Option ℕ)} {mades' : List ℕ} {a n' : ℕ} → a < m → Entries code scope' → length mades' ≡ made_numbers
+module _ {records code : List ℕ} {stride : ℕ} {scope : List (Option ℕ)} {mades : List Slot} {m n : ℕ} (j : Judgeable records code stride scope mades m n) where
+  pub call : {scope' : List (Option ℕ)} {mades' : List Slot} {a n' : ℕ} → a < m → Entries code scope' → length mades' ≡ node_limit
       → n' + nodes (term_of code stride records a) ≤ node_limit → Call records code stride scope' mades' m a n'
   call l entries slots room = record {
     less = l;
@@ -60,7 +61,7 @@ some_node (Rattle.definitions.specs.Term.TypeAscription a l) = omega arith
 some_node Rattle.definitions.specs.Term.Unit = omega arith
 some_node Rattle.definitions.specs.Term.Sorry = omega arith
 
-pub node_low : {records code : List ℕ} {stride : ℕ} {scope : List (Option ℕ)} {mades : List ℕ} {m n : ℕ} → Judgeable records code stride scope mades m n → n < node_limit
+pub node_low : {records code : List ℕ} {stride : ℕ} {scope : List (Option ℕ)} {mades : List Slot} {m n : ℕ} → Judgeable records code stride scope mades m n → n < node_limit
 node_low {records} {code} {stride} {m = m} j = omega (arith, j.room, some_node (term_of code stride records m))
 
 -- Under a binder.
@@ -104,27 +105,27 @@ unfolding connective_byte
 impl_is = refl
 
 -- Answers.
-module _ {code : List ℕ} {scope : List (Option ℕ)} {mades : List ℕ} {t : ProofTerm ℕ} {n r : ℕ} (x : InfersAs code scope mades t n r) where
+module _ {code : List ℕ} {scope : List (Option ℕ)} {mades : List Slot} {t : ProofTerm ℕ} {n r : ℕ} (x : InfersAs code scope mades t n r) where
   pub known_answer : r < stops → n + nodes t ≤ node_limit → Known code mades r
   known_answer h room = record { lo = n; hi = n + nodes t; prop = (derives x h).prop; rep = (derives x h).rep; last = room }
 
-  pub answer_space : length code ≤ standing → length mades ≡ made_numbers → n + nodes t ≤ node_limit → r < stops → Space code mades r
+  pub answer_space : length code ≤ standing → length mades ≡ node_limit → n + nodes t ≤ node_limit → r < stops → Space code mades r
   answer_space few slots room h = space_of few slots (known_answer h room)
 
-pub known_stood : {code mades : List ℕ} {p : ℕ} → Stood code p → Known code mades p
+pub known_stood : {code : List ℕ} {mades : List Slot} {p : ℕ} → Stood code p → Known code mades p
 known_stood {code} {mades} {p} s = record { lo = 0; hi = 0; prop = prop_at name_space code p; rep = stood_rep s; last = omega arith }
 
 -- an answer of the term that record m holds, in whatever way its node and its scope were found
-module _ {records code : List ℕ} {stride : ℕ} {scope : List (Option ℕ)} {mades : List ℕ} {m n : ℕ} where
-  pub inferred_at : {t : ProofTerm ℕ} {scope' : List (Option ℕ)} {mades' : List ℕ} {r : ℕ} → term_of code stride records m ≡ t → InfersAs code scope mades' t n r → scope' ≡ scope
+module _ {records code : List ℕ} {stride : ℕ} {scope : List (Option ℕ)} {mades : List Slot} {m n : ℕ} where
+  pub inferred_at : {t : ProofTerm ℕ} {scope' : List (Option ℕ)} {mades' : List Slot} {r : ℕ} → term_of code stride records m ≡ t → InfersAs code scope mades' t n r → scope' ≡ scope
       → Kept n (n + nodes (term_of code stride records m)) mades mades' → Inferred records code stride scope mades m n scope' mades' r
   inferred_at e x s k = record { answer = rw e x; same = s; kept = k }
 
-  pub checked_at : {t : ProofTerm ℕ} {p : ℕ} {scope' : List (Option ℕ)} {mades' : List ℕ} {r : ℕ} → term_of code stride records m ≡ t → ChecksAs code scope t n p r → scope' ≡ scope
+  pub checked_at : {t : ProofTerm ℕ} {p : ℕ} {scope' : List (Option ℕ)} {mades' : List Slot} {r : ℕ} → term_of code stride records m ≡ t → ChecksAs code scope t n p r → scope' ≡ scope
       → Kept n (n + nodes (term_of code stride records m)) mades mades' → Checked records code stride scope mades m n p scope' mades' r
   checked_at e x s k = record { answer = rw e x; same = s; kept = k }
 
-pub infers_under : {code : List ℕ} {scope bound : List (Option ℕ)} {mades : List ℕ} {t : ProofTerm ℕ} {n k r : ℕ} → bound ≡ scope → k ≡ n → InfersAs code bound mades t k r → InfersAs code scope mades t n r
+pub infers_under : {code : List ℕ} {scope bound : List (Option ℕ)} {mades : List Slot} {t : ProofTerm ℕ} {n k r : ℕ} → bound ≡ scope → k ≡ n → InfersAs code bound mades t k r → InfersAs code scope mades t n r
 infers_under e i x = rw (← e, ← i) x
 
 pub checks_under : {code : List ℕ} {scope bound : List (Option ℕ)} {t : ProofTerm ℕ} {n k p r : ℕ} → bound ≡ scope → k ≡ n → ChecksAs code bound t k p r → ChecksAs code scope t n p r

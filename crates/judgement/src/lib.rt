@@ -23,7 +23,8 @@ use hypotheses::{are_free, assume, is_free, is_out};
 use merged_names::fill_numbers;
 use name_index::{Index, SLOT_COUNT, build};
 use number::pair_offset;
-use prop_numbers::{MADE_NUMBERS, NAMES, STOPS};
+use proof_term::NODE_LIMIT;
+use prop_numbers::{NAMES, STOPS, Slot};
 use sheet::{Sheet, code_bytes, proposition_pairs, vocabulary};
 use sheet_term::{TERM_NUMBERS, sheet_term};
 use standing_code::{CODE_SIZE, put_code};
@@ -124,7 +125,7 @@ fn decide(
     fill_sizes(terms, n);
     let mut scope: [Option<u32>; NAMES] = [None; NAMES];
     assume(hypotheses, numbers, pairs, &mut scope);
-    let mut made = [0u32; MADE_NUMBERS];
+    let mut made = [Slot::default(); NODE_LIMIT];
     let at = pair_offset(pairs, k);
     let r = check(terms, n, 0, &code, 1, &mut scope, &mut made, at);
     stopping_node(r)

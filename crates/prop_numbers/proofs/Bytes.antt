@@ -31,8 +31,8 @@ head_byte_is Or = refl
 head_byte_is Impl = refl
 
 -- a number that is that byte
-pub byte : (c : Connective) {b n : ℕ} → n ≡ b → b ≡ connective_byte (meant c) → n ≡ head_byte c
-byte c is of = is ∙ (of ∙ head_byte_is c)
+pub byte : (c : Connective) {n : ℕ} → n ≡ connective_byte (meant c) → n ≡ head_byte c
+byte c is = is ∙ head_byte_is c
 
 -- its bytes are its code
 pub bytes_of : {code : List ℕ} {i e : ℕ} → Present name_space code i → Scanned name_space code i e

@@ -14,7 +14,8 @@ use Rattle.prefix_code.specs.Scan.{Scanned}
 use Rattle.prefix_code.proofs.Reading.{prop_at_lem, present, inside}
 use Rattle.prefix_code.proofs.Heads.{connective_byte_lem}
 use Rattle.prefix_code.proofs.Forms.{binary_at}
-use Rattle.prop_numbers.specs.Standing.{standing, node_limit, stops, made_numbers, name_space, Stood, Rep, stands, made, Known, Space, head_of, left_of, right_of, Shaped}
+use Rattle.prop_numbers.specs.declared.Slot.{Slot}
+use Rattle.prop_numbers.specs.Standing.{slot, standing, node_limit, stops, name_space, Stood, Rep, stands, made, Known, Space, head_of, left_of, right_of, Shaped}
 use Rattle.prop_numbers.specs.Answering.{Expected}
 use Rattle.prop_numbers.proofs.Opening.{same_connective, standing_sides, Sides, opened}
 
@@ -25,48 +26,48 @@ scanned_of {code} {i} there = record {
   only = λ h. (prop_at name_space code i, there.rest, there.stands, refl);
 }
 
-pub rep_low : {code mades : List ℕ} {lo hi p : ℕ} {a : Prop ℕ} → Rep code mades lo hi p a → hi ≤ node_limit → p < stops
+pub rep_low : {code : List ℕ} {mades : List Slot} {lo hi p : ℕ} {a : Prop ℕ} → Rep code mades lo hi p a → hi ≤ node_limit → p < stops
 rep_low (stands low there) h = omega arith
 rep_low (made k c l u e shape left right) h = omega arith
 
 -- a number below all made ones stands
-pub rep_stands : {code mades : List ℕ} {lo hi p : ℕ} {a : Prop ℕ} → Rep code mades lo hi p a → p < standing → Stood code p
+pub rep_stands : {code : List ℕ} {mades : List Slot} {lo hi p : ℕ} {a : Prop ℕ} → Rep code mades lo hi p a → p < standing → Stood code p
 rep_stands (stands low there) h = record { low = low; there = there }
 rep_stands (made k c l u e shape left right) h = absurd (omega arith)
 
-pub rep_is : {code mades : List ℕ} {lo hi p : ℕ} {a : Prop ℕ} → Rep code mades lo hi p a → p < standing → a ≡ prop_at name_space code p
+pub rep_is : {code : List ℕ} {mades : List Slot} {lo hi p : ℕ} {a : Prop ℕ} → Rep code mades lo hi p a → p < standing → a ≡ prop_at name_space code p
 rep_is (stands low there) h = refl
 rep_is (made k c l u e shape left right) h = absurd (omega arith)
 
-pub stood_rep : {code mades : List ℕ} {lo hi p : ℕ} → Stood code p → Rep code mades lo hi p (prop_at name_space code p)
+pub stood_rep : {code : List ℕ} {mades : List Slot} {lo hi p : ℕ} → Stood code p → Rep code mades lo hi p (prop_at name_space code p)
 stood_rep s = stands s.low s.there
 
-pub head_made : (code mades : List ℕ) (k : ℕ) → head_of code mades (standing + k) ≡ get_or mades (3 * k) 0
+pub head_made : (code : List ℕ) (mades : List Slot) (k : ℕ) → head_of code mades (standing + k) ≡ (slot mades k).head
 unfolding head_of
-head_made code mades k = let slot : standing + k - standing ≡ k = omega arith in rw (le-ltb (standing + k) standing (omega arith), slot)
+head_made code mades k = let that : standing + k - standing ≡ k = omega arith in rw (le-ltb (standing + k) standing (omega arith), that)
 
-pub left_made : (mades : List ℕ) (k : ℕ) → left_of mades (standing + k) ≡ get_or mades (3 * k + 1) 0
+pub left_made : (mades : List Slot) (k : ℕ) → left_of mades (standing + k) ≡ (slot mades k).left
 unfolding left_of
-left_made mades k = let slot : standing + k - standing ≡ k = omega arith in rw (le-ltb (standing + k) standing (omega arith), slot)
+left_made mades k = let that : standing + k - standing ≡ k = omega arith in rw (le-ltb (standing + k) standing (omega arith), that)
 
-pub right_made : (mades : List ℕ) (k end : ℕ) → right_of mades (standing + k) end ≡ get_or mades (3 * k + 2) 0
+pub right_made : (mades : List Slot) (k end : ℕ) → right_of mades (standing + k) end ≡ (slot mades k).right
 unfolding right_of
-right_made mades k end = let slot : standing + k - standing ≡ k = omega arith in rw (le-ltb (standing + k) standing (omega arith), slot)
+right_made mades k end = let that : standing + k - standing ≡ k = omega arith in rw (le-ltb (standing + k) standing (omega arith), that)
 
-pub right_stands : (mades : List ℕ) (p end : ℕ) → p < standing → right_of mades p end ≡ end
+pub right_stands : (mades : List Slot) (p end : ℕ) → p < standing → right_of mades p end ≡ end
 unfolding right_of
 right_stands mades p end l = rw (lt-ltb p standing l)
 
-pub head_stands : (code mades : List ℕ) (p : ℕ) → p < standing → head_of code mades p ≡ get_or code p 0
+pub head_stands : (code : List ℕ) (mades : List Slot) (p : ℕ) → p < standing → head_of code mades p ≡ get_or code p 0
 unfolding head_of
 head_stands code mades p l = rw (lt-ltb p standing l)
 
-pub left_stands : (mades : List ℕ) (p : ℕ) → p < standing → left_of mades p ≡ p + 1
+pub left_stands : (mades : List Slot) (p : ℕ) → p < standing → left_of mades p ≡ p + 1
 unfolding left_of
 left_stands mades p l = rw (lt-ltb p standing l)
 
 -- no rule makes ∨
-pub or_stands : {code mades : List ℕ} {lo hi p : ℕ} {a : Prop ℕ} → Rep code mades lo hi p a → head_of code mades p ≡ connective_byte or → Stood code p
+pub or_stands : {code : List ℕ} {mades : List Slot} {lo hi p : ℕ} {a : Prop ℕ} → Rep code mades lo hi p a → head_of code mades p ≡ connective_byte or → Stood code p
 unfolding Shaped
 or_stands (stands low there) h = record { low = low; there = there }
 or_stands {code} {mades} (made k c l u e shape left right) h =
@@ -87,7 +88,7 @@ pub record Halves (code : List ℕ) (p end : ℕ) (c : Connective) : Type 0 wher
   pub right : Stood code end
   pub later : p < end
 
-pub halves : {code : List ℕ} {p end : ℕ} (mades : List ℕ) (c : Connective) → length code ≤ standing → Stood code p → head_of code mades p ≡ connective_byte c
+pub halves : {code : List ℕ} {p end : ℕ} (mades : List Slot) (c : Connective) → length code ≤ standing → Stood code p → head_of code mades p ≡ connective_byte c
     → Scanned name_space code (p + 1) end → Halves code p end c
 halves {code} {p} {end} mades c space stood head scanned =
     let s = standing_sides code p end c stood.there (sym (head_stands code mades p stood.low) ∙ head) scanned in
@@ -99,13 +100,13 @@ halves {code} {p} {end} mades c space stood head scanned =
     }
 
 -- the same without an end
-pub half : {code : List ℕ} {p : ℕ} (mades : List ℕ) (c : Connective) → length code ≤ standing → Stood code p → head_of code mades p ≡ connective_byte c
+pub half : {code : List ℕ} {p : ℕ} (mades : List Slot) (c : Connective) → length code ≤ standing → Stood code p → head_of code mades p ≡ connective_byte c
     → Halves code p (p + 1 + length (encode (prop_at name_space code (p + 1)))) c
 half {code} {p} mades c space stood head =
     halves mades c space stood head (scanned_of (left_present code p c stood.there (sym (head_stands code mades p stood.low) ∙ head)))
 
 -- the left side of ⊃ stands
-pub impl_left : {code mades : List ℕ} {lo hi p : ℕ} {a : Prop ℕ} → length code ≤ standing → Rep code mades lo hi p a
+pub impl_left : {code : List ℕ} {mades : List Slot} {lo hi p : ℕ} {a : Prop ℕ} → length code ≤ standing → Rep code mades lo hi p a
     → head_of code mades p ≡ connective_byte impl → Stood code (left_of mades p)
 unfolding Shaped
 impl_left {code} {mades} space (stands {p = p} low there) h =
@@ -115,13 +116,13 @@ impl_left {code} {mades} space (made k c l u e shape left right) h =
     rw (left_made mades k) (rw is at shape)
 
 -- the sides of any that has a connective, where the left one ends somewhere
-pub sides_of : {code mades : List ℕ} {lo hi p : ℕ} {a : Prop ℕ} (c : Connective) → length code ≤ standing → Rep code mades lo hi p a
+pub sides_of : {code : List ℕ} {mades : List Slot} {lo hi p : ℕ} {a : Prop ℕ} (c : Connective) → length code ≤ standing → Rep code mades lo hi p a
     → head_of code mades p ≡ connective_byte c → Sides code mades lo hi p (p + 1 + length (encode (prop_at name_space code (p + 1)))) c a
 sides_of {code} {mades} {p = p} c space rep head =
     opened _ c space rep head (λ low. scanned_of (left_present code p c (rep_stands rep low).there (sym (head_stands code mades p low) ∙ head)))
 
 -- what is known can be looked up
-pub space_of : {code mades : List ℕ} {p : ℕ} → length code ≤ standing → length mades ≡ made_numbers → Known code mades p → Space code mades p
+pub space_of : {code : List ℕ} {mades : List Slot} {p : ℕ} → length code ≤ standing → length mades ≡ node_limit → Known code mades p → Space code mades p
 space_of few slots k = record {
   low = rep_low k.rep k.last;
   inside = λ l. (inside (rep_stands k.rep l).there).start;
@@ -130,7 +131,7 @@ space_of few slots k = record {
 }
 
 -- an answer that is as expected is the answer itself
-pub expected_space : {code mades : List ℕ} {r c node p : ℕ} → (r < stops → Space code mades r) → Expected code mades r c node p → p < stops → Space code mades p
+pub expected_space : {code : List ℕ} {mades : List Slot} {r c node p : ℕ} → (r < stops → Space code mades r) → Expected code mades r c node p → p < stops → Space code mades p
 expected_space {code} {mades} {r} {c} space e h = by_cases (dec_le stops r)
     (λ l. absurd (omega (arith, e.stop l)))
     (λ l. by_cases (ℕ_discrete (head_of code mades r) c)

@@ -18,7 +18,8 @@ use Rattle.prefix_code.proofs.Heads.{connective_byte_lem}
 use Rattle.prefix_code.proofs.Forms.{binary_at}
 use Rattle.prefix_code.proofs.Reading.{prop_at_lem, present, inside}
 use Rattle.prop_numbers.proofs.Reps.{rep_wider}
-use Rattle.prop_numbers.specs.Standing.{standing, name_space, Rep, stands, made, head_of, left_of, right_of}
+use Rattle.prop_numbers.specs.declared.Slot.{Slot}
+use Rattle.prop_numbers.specs.Standing.{slot, standing, name_space, Rep, stands, made, head_of, left_of, right_of}
 
 pub same_connective : (c d : Connective) → connective_byte c ≡ connective_byte d → c ≡ d
 unfolding eq_connective
@@ -53,20 +54,20 @@ standing_sides code p end c there byte scanned =
     }
 
 -- the sides of any
-pub record Sides (code mades : List ℕ) (lo hi p end : ℕ) (c : Connective) (a : Prop ℕ) : Type 0 where
+pub record Sides (code : List ℕ) (mades : List Slot) (lo hi p end : ℕ) (c : Connective) (a : Prop ℕ) : Type 0 where
   pub left : Prop ℕ
   pub right : Prop ℕ
   pub is : a ≡ Binary c left right
   pub left_rep : Rep code mades lo hi (left_of mades p) left
   pub right_rep : Rep code mades lo hi (right_of mades p end) right
 
-pub opened : {code mades : List ℕ} {lo hi p : ℕ} {a : Prop ℕ} (end : ℕ) (c : Connective) → length code ≤ standing
+pub opened : {code : List ℕ} {mades : List Slot} {lo hi p : ℕ} {a : Prop ℕ} (end : ℕ) (c : Connective) → length code ≤ standing
     → Rep code mades lo hi p a → head_of code mades p ≡ connective_byte c → (p < standing → Scanned name_space code (p + 1) end)
     → Sides code mades lo hi p end c a
 unfolding head_of left_of right_of
 opened {code} {mades} end c space (stands {lo = lo} {hi = hi} {p = p} low there) head scanned =
     let test = lt-ltb p standing low in
-    let byte : get_or code p 0 ≡ connective_byte c = sym (ap (λ b. cond b (get_or code p 0) (get_or mades (3 * (p - standing)) 0)) test) ∙ head in
+    let byte : get_or code p 0 ≡ connective_byte c = sym (ap (λ b. cond b (get_or code p 0) (slot mades (p - standing)).head) test) ∙ head in
     let s = standing_sides code p end c there byte (scanned low) in
     record {
       left = prop_at name_space code (p + 1);
@@ -77,20 +78,20 @@ opened {code} {mades} end c space (stands {lo = lo} {hi = hi} {p = p} low there)
     }
 opened {code} {mades} end c space (made {lo = lo} {hi = hi} k d {a = x} {b = y} l u e shape left right) head scanned =
     let test = le-ltb (standing + k) standing (omega arith) in
-    let slot : standing + k - standing ≡ k = omega arith in
-    let byte : get_or mades (3 * k) 0 ≡ connective_byte c =
-    sym (ap (λ (i : ℕ). get_or mades (3 * i) 0) slot) ∙ (sym (ap (λ b. cond b (get_or code (standing + k) 0) (get_or mades (3 * (standing + k - standing)) 0)) test) ∙ head) in
+    let that : standing + k - standing ≡ k = omega arith in
+    let byte : (slot mades k).head ≡ connective_byte c =
+    sym (ap (λ (i : ℕ). (slot mades i).head) that) ∙ (sym (ap (λ b. cond b (get_or code (standing + k) 0) (slot mades (standing + k - standing)).head) test) ∙ head) in
     let same = same_connective d c (sym e ∙ byte) in
     record {
       left = x;
       right = y;
       is = ap (λ i. Binary i x y) same;
-      left_rep = rw (test, slot) (rep_wider lo hi (omega arith) (omega arith) left);
-      right_rep = rw (test, slot) (rep_wider lo hi (omega arith) (omega arith) right);
+      left_rep = rw (test, that) (rep_wider lo hi (omega arith) (omega arith) left);
+      right_rep = rw (test, that) (rep_wider lo hi (omega arith) (omega arith) right);
     }
 
 -- a binary proposition has its connective's byte in front
-pub binary_head : {code mades : List ℕ} {lo hi p : ℕ} {a : Prop ℕ} (c : Connective) (x y : Prop ℕ)
+pub binary_head : {code : List ℕ} {mades : List Slot} {lo hi p : ℕ} {a : Prop ℕ} (c : Connective) (x y : Prop ℕ)
     → Rep code mades lo hi p a → a ≡ Binary c x y → head_of code mades p ≡ connective_byte c
 unfolding head_of Stands encode
 binary_head {code} {mades} c x y (stands {p = p} low there) e =
@@ -98,9 +99,9 @@ binary_head {code} {mades} c x y (stands {p = p} low there) e =
     there.stands.1 ∙ ap (λ a. encode a ++ there.rest) e in
     rw (lt-ltb p standing low) (byte_at code p (p + 1) (connective_byte c) _ (omega arith) code-there).value
 binary_head {code} {mades} c x y (made k d l u e shape left right) is =
-    let slot : standing + k - standing ≡ k = omega arith in
+    let that : standing + k - standing ≡ k = omega arith in
     let same : d ≡ c = cc in
-    rw (le-ltb (standing + k) standing (omega arith), slot) (e ∙ ap connective_byte same)
+    rw (le-ltb (standing + k) standing (omega arith), that) (e ∙ ap connective_byte same)
 
 test_else : {A : Type 0} (n : ℕ) (b : Bool) (a : A) → b ≡ false → (ensure n b >>= (λ u. derived a)) ≡ stopped n
 unfolding ensure ◌>>=◌

@@ -7,7 +7,7 @@ ghost use Rattle.definitions.specs.Name.{Name};
 ghost use Rattle.definitions.specs.Prop.{rename_prop};
 ghost use Rattle.definitions.specs.Equal.{eq_prop};
 ghost use Rattle.prefix_code.specs.PropAt.{prop_at, Present};
-ghost use Rattle.prop_numbers.specs.Standing.{standing, node_limit, stops, name_space, made_numbers, Space, head_of, left_of, RightOf};
+ghost use Rattle.prop_numbers.specs.Standing.{standing, node_limit, stops, name_space, Space, head_of, left_of, RightOf};
 ghost use Rattle.prop_numbers.specs.Standing.{Known, Stood, Distinct};
 ghost use Rattle.prop_numbers.specs.Answering.{Alike, Agreed, head_byte, SideOf, Expected, FirstSide, Projected, Made};
 
@@ -18,8 +18,13 @@ use proof_term::NODE_LIMIT;
 // 8,192 bytes of code at most, the labels of a term read beside it 131,072; ⊤ and ⊥ are the last two.
 pub const STANDING: usize = 139266;
 
-// Each node of a term may make one proposition, in three numbers.
-pub const MADE_NUMBERS: usize = 3 * NODE_LIMIT;
+// Each node of a term may make one proposition, in the slot of its number: the head byte of its connective and the numbers of its sides.
+#[derive(Clone, Copy, Default)]
+pub struct Slot {
+    head: u8,
+    left: u32,
+    right: u32,
+}
 
 // All name numbers are below this: the sheet's, and then those of a term read beside it.
 pub const NAMES: usize = 1024;
@@ -28,40 +33,40 @@ pub const NAMES: usize = 1024;
 // 512 levels deep, and an enum takes twice the frame of a number (docs/DECISIONS.md, 135).
 pub const STOPS: usize = STANDING + NODE_LIMIT;
 
-// Code, made numbers and node stand in no struct: `Known`, `Space` and `Rep` name what a clause asks of them, and of a struct each clause
-// would spell its fields out. The length of the made numbers is part of `Space`, since most functions only read them.
+// Code, slots and node stand in no struct: `Known`, `Space` and `Rep` name what a clause asks of them, and of a struct each clause
+// would spell its fields out. The number of the slots is part of `Space`, since most functions only read them.
 
 // The head byte of a proposition.
-fn head(code: &[u8], made: &[u32], p: usize) -> usize
+fn head(code: &[u8], made: &[Slot], p: usize) -> u8
     requires { Space code.now made.now p }
     ensures { result ≡ head_of code.now made.now p }
 {
     if p < STANDING {
-        return code[p] as usize;
+        return code[p];
     }
-    made[3 * (p - STANDING)] as usize
+    made[p - STANDING].head
 }
 
 // The left side of a binary proposition.
-pub fn left(made: &[u32], p: usize) -> usize
-    requires { (p < stops) × (length made.now ≡ made_numbers) }
+pub fn left(made: &[Slot], p: usize) -> usize
+    requires { (p < stops) × (length made.now ≡ node_limit) }
     ensures { result ≡ left_of made.now p }
 {
     if p < STANDING {
         return p + 1;
     }
-    made[3 * (p - STANDING) + 1] as usize
+    made[p - STANDING].left as usize
 }
 
 // The right side.
-pub fn right(code: &[u8], made: &[u32], p: usize) -> usize
+pub fn right(code: &[u8], made: &[Slot], p: usize) -> usize
     requires { Space code.now made.now p }
     ensures { RightOf code.now made.now p result }
 {
     if p < STANDING {
         return scan(code, p + 1, NAMES);
     }
-    made[3 * (p - STANDING) + 2] as usize
+    made[p - STANDING].right as usize
 }
 
 // Whether the codes at i and j are of one proposition.
@@ -76,8 +81,8 @@ pub fn same_code(code: &[u8], i: usize, j: usize) -> bool
 }
 
 // Whether two propositions are equal. Where one of them is made, both are binary or they differ.
-fn same(code: &[u8], made: &[u32], p: usize, q: usize) -> bool
-    requires code_len_bound { (length code.now ≤ standing) × (length made.now ≡ made_numbers) }
+fn same(code: &[u8], made: &[Slot], p: usize, q: usize) -> bool
+    requires code_len_bound { (length code.now ≤ standing) × (length made.now ≡ node_limit) }
     requires known { Known code.now made.now p × Known code.now made.now q }
     ensures { Alike code.now made.now p q result }
 {
@@ -97,8 +102,8 @@ fn same(code: &[u8], made: &[u32], p: usize, q: usize) -> bool
 }
 
 // Where r and p are equal propositions, that answer; else a stop, at the node or where r stops.
-pub fn agree(code: &[u8], made: &[u32], r: usize, p: usize, node: usize, answer: usize) -> usize
-    requires code_len_bound { (length code.now ≤ standing) × (length made.now ≡ made_numbers) × (node < node_limit) }
+pub fn agree(code: &[u8], made: &[Slot], r: usize, p: usize, node: usize, answer: usize) -> usize
+    requires code_len_bound { (length code.now ≤ standing) × (length made.now ≡ node_limit) × (node < node_limit) }
     requires known { (r < stops → Known code.now made.now r) × Known code.now made.now p }
     ensures { Agreed code.now made.now r p node answer result }
 {
@@ -123,21 +128,21 @@ pub fn side_of(code: &[u8], p: usize, connective: Connective, node: usize) -> us
 }
 
 // What an answer of `infer` is, which must have a connective: the answer itself, or a stop at the node.
-pub fn expect(code: &[u8], made: &[u32], r: usize, connective: Connective, node: usize) -> usize
+pub fn expect(code: &[u8], made: &[Slot], r: usize, connective: Connective, node: usize) -> usize
     requires { (r < stops → Space code.now made.now r) × (node < node_limit) }
     ensures { Expected code.now made.now r (head_byte connective) node result }
 {
     if STOPS <= r {
         return r;
     }
-    if head(code, made, r) == usize::from(connective.byte()) {
+    if head(code, made, r) == connective.byte() {
         return r;
     }
     STOPS + node
 }
 
 // The first side of a conjunction that is inferred, or a stop.
-pub fn first_side(code: &[u8], made: &[u32], r: usize, node: usize) -> usize
+pub fn first_side(code: &[u8], made: &[Slot], r: usize, node: usize) -> usize
     requires { (r < stops → Space code.now made.now r) × (node < node_limit) }
     ensures { Projected code.now made.now r (FirstSide made.now) node result }
 {
@@ -149,7 +154,7 @@ pub fn first_side(code: &[u8], made: &[u32], r: usize, node: usize) -> usize
 }
 
 // The second side.
-pub fn second_side(code: &[u8], made: &[u32], r: usize, node: usize) -> usize
+pub fn second_side(code: &[u8], made: &[Slot], r: usize, node: usize) -> usize
     requires { (r < stops → Space code.now made.now r) × (node < node_limit) }
     ensures { Projected code.now made.now r (RightOf code.now made.now) node result }
 {
@@ -162,20 +167,22 @@ pub fn second_side(code: &[u8], made: &[u32], r: usize, node: usize) -> usize
 
 // Makes a proposition of two, unless the second is a stop.
 pub fn make(
-    made: &mut [u32; MADE_NUMBERS],
+    made: &mut [Slot; NODE_LIMIT],
     node: usize,
     connective: Connective,
     left: usize,
     right: usize,
 ) -> usize
-    requires { (node < node_limit) × (left < stops) × (length made.old ≡ made_numbers) }
+    requires { (node < node_limit) × (left < stops) × (length made.old ≡ node_limit) }
     ensures { Made made.old node (head_byte connective) left right made.new result }
 {
     if STOPS <= right {
         return right;
     }
-    made[3 * node] = u32::from(connective.byte());
-    made[3 * node + 1] = left as u32;
-    made[3 * node + 2] = right as u32;
+    made[node] = Slot {
+        head: connective.byte(),
+        left: left as u32,
+        right: right as u32,
+    };
     STANDING + node
 }

@@ -7,13 +7,13 @@ use Rattle.prop_numbers.proofs.expect.Goals as goal
 pub returns-then-r-ge-STOPS : goal.returns-then-r-ge-STOPS
 returns-then-r-ge-STOPS c = record { stop = λ h. refl; found = λ h e. refl; other = λ h e. absurd (omega (arith, c.if-r-ge-STOPS.true)) }
 
-pub returns-then-head-from : goal.returns-then-head-from
-returns-then-head-from c = record { stop = λ h. refl; found = λ h e. refl; other = λ h e. absurd (e (sym c.head.ensures ∙ (c.if-head-from.true ∙ byte _ c.from.ensures c.byte.ensures))) }
+pub returns-then-head-byte : goal.returns-then-head-byte
+returns-then-head-byte c = record { stop = λ h. refl; found = λ h e. refl; other = λ h e. absurd (e (sym c.head.ensures ∙ (c.if-head-byte.true ∙ byte _ c.byte.ensures))) }
 
 pub returns : goal.returns
 returns c = record {
   stop = λ h. absurd (omega (arith, c.if-r-ge-STOPS.false));
-  found = λ h e. absurd (c.if-head-from.false (c.head.ensures ∙ (e ∙ sym (byte _ c.from.ensures c.byte.ensures))));
+  found = λ h e. absurd (c.if-head-byte.false (c.head.ensures ∙ (e ∙ sym (byte _ c.byte.ensures))));
   other = λ h e. refl;
 }
 

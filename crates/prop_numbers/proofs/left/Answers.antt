@@ -1,6 +1,4 @@
 -- A number below all made ones is an offset, any other has a slot.
-use Prim.Native.Nat.{◌+◌, ◌*◌, ◌-◌}
-use native.Mathlib.Omega.{arith}
 use borrow.Author.Tests.{lt-ltb, le-ltb}
 use Rattle.prop_numbers.specs.Standing.{standing, left_of}
 use Rattle.prop_numbers.proofs.left.Goals as goal
@@ -12,6 +10,3 @@ returns-then-p-lt-STANDING c = rw (lt-ltb c.args.p standing c.if-p-lt-STANDING.t
 pub returns : goal.returns
 unfolding left_of
 returns c = rw (le-ltb c.args.p standing c.if-p-lt-STANDING.false)
-
-pub overflow_cast-result : goal.overflow_cast-result
-overflow_cast-result c = omega (arith, c.type_inv.made (3 * (c.args.p - standing) + 1))

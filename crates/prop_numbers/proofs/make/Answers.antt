@@ -1,4 +1,4 @@
--- Three numbers are stored in the node's slot, unless the second part is a stop.
+-- They are stored in the node's slot, unless the second part is a stop.
 use mathlib.Core.Path.{refl}
 use native.Mathlib.Omega.{arith}
 use Rattle.prop_numbers.specs.Standing.{slotted}
@@ -10,4 +10,4 @@ returns-then-right-ge-STOPS c = record { stop = λ h. (refl, refl); made = λ h.
 
 pub returns : goal.returns
 unfolding slotted
-returns c = record { stop = λ h. absurd (omega (arith, c.if-right-ge-STOPS.false)); made = λ h. (refl, rw (byte _ c.from.ensures c.byte.ensures)) }
+returns c = record { stop = λ h. absurd (omega (arith, c.if-right-ge-STOPS.false)); made = λ h. (refl, rw (byte _ c.byte.ensures)) }

@@ -1,5 +1,4 @@
 -- A number below all made ones is an offset, any other has a slot.
-use Prim.Native.Nat.{◌+◌, ◌*◌, ◌-◌}
 use native.Mathlib.Omega.{arith}
 use borrow.Author.Tests.{lt-ltb, le-ltb}
 use Rattle.prop_numbers.specs.Standing.{standing, right_of}
@@ -18,6 +17,3 @@ returns c = record {
 
 pub scan-requires : goal.scan-requires
 scan-requires c = omega (arith, c.requires.inside c.if-p-lt-STANDING.true)
-
-pub overflow_cast-result : goal.overflow_cast-result
-overflow_cast-result c = omega (arith, c.type_inv.made (3 * (c.args.p - standing) + 2))

@@ -12,7 +12,7 @@ pub scan-requires : goal.scan-requires
 scan-requires c = omega (arith, (inside c.requires.0.there).start)
 
 pub returns-then-code-p : goal.returns-then-code-p
-returns-then-code-p c = record { found = λ e. c.scan.ensures; other = λ e. absurd (e (c.if-code-p.true ∙ byte _ refl c.byte.ensures)) }
+returns-then-code-p c = record { found = λ e. c.scan.ensures; other = λ e. absurd (e (c.if-code-p.true ∙ byte _ c.byte.ensures)) }
 
 pub returns : goal.returns
-returns c = record { found = λ e. absurd (c.if-code-p.false (e ∙ sym (byte _ refl c.byte.ensures))); other = λ e. refl }
+returns c = record { found = λ e. absurd (c.if-code-p.false (e ∙ sym (byte _ c.byte.ensures))); other = λ e. refl }
