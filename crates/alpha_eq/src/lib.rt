@@ -93,7 +93,7 @@ fn alpha_eq_parameter(
     }
 }
 
-// So many parameters from i and from j on.
+// So many parameters from i and from j on, gone through by hand, as in prop::put_atom.
 fn alpha_eq_parameters(
     code: &[u8],
     i: usize,

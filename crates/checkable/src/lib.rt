@@ -55,7 +55,8 @@ pub fn is_quantifier_free(code: &[u8], names: usize) -> bool
     ensures { (p : Prop ℕ) → Codable names p → code.now ≡ encode p → result ≡ is_quantifier_free p }
 {
     let mut i = 0;
-    // A head's own bytes say where it ends, so the place moves by no fixed step.
+    // A head's own bytes say where it ends, so the place moves by no fixed step. An iterator over heads would have to promise what
+    // prop_lists::next_entry tells.
     while i < code.len() {
         if !is_plain_head(code, i) {
             return false;

@@ -128,7 +128,7 @@ fn leaf(code: &[u8], kind: Kind, node: usize) -> usize
 }
 
 // Both functions have an arm for each rule and stand whole, since a function for an arm would add its frame to each of the 512 levels.
-// What they work on stands in loose parameters: of a struct that lends the scope and the slots, each clause would say `now`, `old` and
+// An answer is a number, as prop_numbers::STOPS says. What they work on stands in loose parameters: of a struct that lends the scope and the slots, each clause would say `now`, `old` and
 // `new` of every field. A kind is a value, but the numbers of a record are read one by one where an arm needs them.
 
 // Does the term of record m, a node of that number, check against the proposition at p?

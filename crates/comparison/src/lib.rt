@@ -16,7 +16,8 @@ use number::pair_offset;
 use sheet::AdmittedSheet;
 use steps::{Conclusion, Judgement, step_at};
 
-// Whether the names of two numbers have the same bytes: the one place where a name's number becomes one among the pairs.
+// Whether the names of two numbers have the same bytes: equal numbers are answered without a look at these, which two vocabularies
+// could not tell.
 fn same_named(sheet: &AdmittedSheet, a: u16, b: u16) -> bool
     requires { (a < names sheet.now) × (b < names sheet.now) }
     ensures { result ≡ eq_name (name_of sheet.now a) (name_of sheet.now b) }

@@ -29,7 +29,8 @@ fn count_length(count: u16) -> usize
     BRACKETS + 1 + count.ilog10() as usize
 }
 
-// How many bytes the line of an entry of a list has.
+// How many bytes the line of an entry of a list has. The list is a value that is asked for, as prop_lists::has_entry says, and a memory
+// and its vocabulary stand loose, as in vocabulary.
 fn line_length(this: Declaration, list: TermList, bytes: &[u8], v: Vocabulary) -> usize
     requires { Names bytes.now v this.name }
     ensures { LineLength (declaration list (use_in (name_in bytes.now v) this)) result }

@@ -28,7 +28,7 @@ fn third_name(text: &[u8], first: usize, second: usize) -> Option<usize>
     Some(3)
 }
 
-// How many names there are; nowhere, if they are more than three, repeated or malformed.
+// How many names there are; none, if they are more than three, repeated or malformed.
 pub fn count_names(text: &[u8]) -> Option<usize>
     ensures { result ≡ count_of (names_in text.now) }
 {

@@ -111,6 +111,7 @@ fn find(entries: &[u16], len: usize, names: Names, lookup: Lookup) -> Option<usi
 }
 
 // The lookups and the removals, by a name and by a name and an id, are the four operations of the Rust: each is its own function there.
+
 // The index of the latest entry of a name.
 pub fn get_by_name(entries: &[u16], len: usize, names: Names, name: u16) -> Option<usize>
     requires { Holds names.pairs.now names.text.now entries.now len

@@ -93,7 +93,7 @@ fn stand(s: &[u8], h: Sheet, numbers: &[u16], code: &mut [u8])
     );
 }
 
-// The node at which the rules stop, if they do, by the number that the checker gives.
+// The node at which the rules stop, if they do, by the number that the checker gives: prop_numbers::STOPS says why it gives one.
 fn stopping_node(r: usize) -> Option<usize>
     requires { Decided r }
     ensures { (j : Judged (Unit {0})) → Checks j r → Ok result ≡ judgement_of (accepted j) }

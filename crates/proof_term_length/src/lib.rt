@@ -63,7 +63,7 @@ fn make_row(
 }
 
 // The row of each kind of record. The formats of the printing say the same byte by byte, and a measure that went through them would look
-// at each byte that a printing puts.
+// at each byte of a format for each record.
 fn row_of(kind: Kind) -> Row
     ensures { result ≡ row_of kind }
 {

@@ -24,6 +24,9 @@ const QUANTIFIER: usize = 6;
 // A bracket on each side; and what a parameter has beside its name: the bracket or comma before it, and a blank or the bracket after all.
 pub const BRACKETS: usize = 2;
 
+// Memory, vocabulary and ends stand loose, as in prop. The parameters of an atom are gone through by hand for the reason that stands at
+// prop::put_atom.
+
 // How many bytes a name has.
 pub fn name_length(bytes: &[u8], v: Vocabulary, i: usize) -> usize
     requires { Names bytes.now v i }

@@ -1,6 +1,6 @@
 // The parts of a label's text and of its code: signs, connectives and names, and the bytes that stand for them.
-// Where `write` is false nothing is stored, and the answer is the same, as each contract promises. Code may be put in front of code that
-// is stored (prop_frames), so an output's sink, which only goes on, would not serve.
+// Where `write` is false nothing is stored, and the answer is the same. Each reader promises this dry run to whoever calls it, so the
+// flag stays; and code may be put in front of code that is stored (prop_frames), which an output's sink, which only goes on, cannot do.
 #![tactic(auto)]
 
 ghost use Rattle.std.specs.Prelude.{◌≡◌, ◌≤◌, ◌<◌, length, drop, eqb, None, MatchOption};
@@ -49,7 +49,8 @@ pub struct NameRead {
     pub count: usize,
 }
 
-// A sign is expected with its blanks or its bracket at once, as one text; prop puts a sign and what stands around it one by one.
+// Each sign is looked for in turn, with its blanks or its bracket as they stand in a text; in prop a sign's text stands at the arm of
+// the match in which it is put.
 
 // The connective at `at`.
 pub fn connective_at(text: &[u8], at: usize) -> Option<Connective>

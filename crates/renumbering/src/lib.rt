@@ -93,13 +93,14 @@ fn put_head<S: Sink<u8>>(code: &[u8], at: usize, names: usize, numbers: &[u16], 
     }
 }
 
-// The proposition that is all of the code, head by head.
+// The proposition that is all of the code, head by head. The parameters of an atom are gone through by hand, as in prop::put_atom.
 pub fn put_proposition<S: Sink<u8>>(code: &[u8], names: usize, numbers: &[u16], sink: &mut S)
     requires { Whole names code.now × (names ≤ length numbers.now) }
     ensures { PutWhole names code.now numbers.now S.puts sink.old sink.new }
 {
     let mut i = 0;
-    // A head's own bytes say where it ends, so the place moves by no fixed step.
+    // A head's own bytes say where it ends, so the place moves by no fixed step. An iterator over heads would have to promise what
+    // prop_lists::next_entry tells.
     while i < code.len() {
         put_head(code, i, names, numbers, sink);
         i = head_end(code, i, names);

@@ -11,7 +11,8 @@ use proof_term::{DATATYPE, Kind, RECORD_SIZE, field, kind_at};
 // The numbers of a record that may be names: all but its tally.
 const NUMBERS: usize = RECORD_SIZE - 1;
 
-// Whether number `i` of a record of a kind is a name, by the kind of its label: a label's number is one if it is a datatype.
+// Whether number `i` of a record of a kind is a name, by the kind of its label: a label's number is one if it is a datatype. The kind of
+// a label is read as a number here, since it stands among the numbers that are renumbered in place.
 #[tactic(auto, unfolding(crate::specs::Over::is_name))]
 fn is_name(kind: Kind, label: usize, i: usize) -> bool
     ensures { result ≡ is_name kind label i }
