@@ -16,16 +16,16 @@ use proof_term_display::{TermPart, is_bracketed, kind_at};
 use prop_length::{name_length, text_length};
 use vocabulary::Vocabulary;
 
-// Half as many as a sheet's code has bytes, and as many as a term of a sheet has records. The limits of a sheet are constants of `sheet`,
-// which this crate does not build on; the memory is fixed, since a library has no heap.
+// Half as many as a sheet's code has bytes: that limit is a constant of `sheet`, on which this crate does not build. The memory is
+// fixed, since a library has no heap.
 const KNOWN_LIMIT: usize = 4096;
 
-const RECORD_LIMIT: usize = 2048;
+const RECORD_LIMIT: usize = proof_term::NODE_LIMIT;
 
 // The bytes of Unit's text, of a pair of brackets, and of the colon and the blank before a label.
 const UNIT_LENGTH: usize = 2;
 
-const BRACKETS: usize = 2;
+const BRACKETS: usize = prop_length::BRACKETS;
 
 const COLON: usize = 2;
 

@@ -59,10 +59,7 @@ fn or_refusal(label: Option<Label>, reason: Reason, k: usize) -> Result<Option<L
     requires { k < 65536 }
     ensures { result ≡ label_or (number_of reason) k label }
 {
-    match label {
-        Some(label) => Ok(Some(label)),
-        None => Err(reason.at(k)),
-    }
+    Ok(Some(label.ok_or(reason.at(k))?))
 }
 
 // The label of the parameter of a function that step k makes, with that ending and conclusion.
