@@ -40,7 +40,8 @@ fn label_adds(label: Label, list: TermList) -> Option<Added>
     }
 }
 
-// What the label of a record adds to a list, and nothing where it has none.
+// What the label of a record adds to a list, and nothing where it has none. The list is a value that is asked for, as
+// prop_lists::has_entry says.
 #[tactic(auto, unfolding(crate::specs::Labels::record_adds))]
 pub fn record_adds(term_records: &[u16], m: usize, list: TermList) -> Option<Added>
     requires { record_size * (m + 1) ≤ length term_records.now }

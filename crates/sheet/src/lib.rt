@@ -48,8 +48,9 @@ pub fn check_header(s: &[u8]) -> Result<Sheet, Refusal>
     Ok(h)
 }
 
-// The stages behind the header run over bytes that are not admitted yet, so each takes them with their header. Refusals 4 and 5: the
-// names.
+// The stages behind the header run over bytes that are not admitted yet, so each takes them with their header.
+
+// Refusals 4 and 5: the names.
 fn check_names(s: &[u8], h: Sheet) -> Result<(), Refusal>
     requires { HasHeader s.now h }
     ensures { outcome_of result ≡ name_checks s.now }
