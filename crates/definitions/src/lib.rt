@@ -46,7 +46,12 @@ impl Reason {
         requires { place < 65536 }
         ensures { result ≡ record { number = number_of self; place = place } }
     {
-        Refusal::at(self as u8, place)
+        // A TryFrom would have a branch for what cannot come.
+        let place = place as u16;
+        Refusal {
+            number: self as u8,
+            place,
+        }
     }
 }
 
@@ -57,25 +62,23 @@ pub struct Refusal {
     pub place: u16,
 }
 
-impl Refusal {
-    // The refusal of a number at a place. The cast keeps a place below 65,536; a TryFrom would have a branch for what cannot come.
-    pub fn at(number: u8, place: usize) -> Self
-        requires { place < 65536 }
-        ensures { result ≡ record { number = number; place = place } }
-    {
-        Self {
-            number,
-            place: place as u16,
-        }
-    }
-}
-
 // A refusal as it is handed back: with the column of the step that it names, or 0 where it names none. It is no Option, since the C
 // interface hands out a column in every case, and 0 where none is named.
 #[derive(Clone, Copy, PartialEq, Eq)]
 pub struct Located {
     pub refusal: Refusal,
     pub column: u16,
+}
+
+// A refusal that names no step.
+impl From<Refusal> for Located {
+    ghost use Rattle.std.specs.Prelude.{◌≡◌};
+
+    ghost from_gives = { λ refusal located. located ≡ record { refusal = refusal; column = 0 } };
+
+    fn from(refusal: Refusal) -> Self {
+        Self { refusal, column: 0 }
+    }
 }
 
 // How a text is asked for: as the Rust prints it, or with the brackets of strict text too.
