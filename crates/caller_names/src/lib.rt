@@ -7,7 +7,7 @@ ghost use Rattle.definitions.specs.Text.{occurs};
 ghost use Rattle.definitions.specs.CallerNames.{names_in, well_formed};
 ghost use Rattle.caller_names.specs.Pieces.{NameEnd};
 
-use identifier::{is_name, same_name};
+use identifier::{NAME_LENGTH_LIMIT, is_name, same_name};
 
 // The byte between two names.
 const NEWLINE: u8 = 10;
@@ -24,9 +24,6 @@ pub fn name_end(text: &[u8], start: usize) -> usize
     }
     text.len()
 }
-
-// A name has at most so many bytes. A sheet has this limit for itself, above this crate; each is proved to be document 01's.
-const NAME_LENGTH_LIMIT: usize = 32;
 
 // Whether these bytes are a name of document 01.
 #[tactic(auto, unfolding(definitions::specs::CallerNames::well_formed, definitions::specs::Sheet::name_length_limit))]

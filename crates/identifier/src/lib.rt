@@ -15,6 +15,9 @@ use number::marked_bytes;
 use search::lowest;
 use std::cmp::Ordering;
 
+// A name has at most so many bytes.
+pub const NAME_LENGTH_LIMIT: usize = 32;
+
 // Whether each byte is one that its position allows.
 #[tactic(auto, unfolding(definitions::specs::Name::is_name, definitions::specs::Name::all_may_follow))]
 pub fn is_name(name: &[u8]) -> bool

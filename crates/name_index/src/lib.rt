@@ -13,9 +13,6 @@ use identifier::same_name;
 use number::{pair_length, pair_offset};
 use vocabulary::{Vocabulary, pairs_of, text_of};
 
-// At most so many names enter an index.
-pub const NAME_LIMIT: usize = 512;
-
 // How many slots there are.
 pub const SLOT_COUNT: usize = 1024;
 

@@ -15,6 +15,12 @@ ghost use Rattle.prefix_code.specs.Shape.{SomeProposition, connective_at, kind_b
 // An atom has at most so many parameters.
 pub const PARAMETER_LIMIT: u8 = 8;
 
+// A proposition nests at most so deep.
+pub const NESTING_LIMIT: usize = 64;
+
+// All propositions of a sheet, and one of a label, take at most so many bytes.
+pub const CODE_LIMIT: usize = 8192;
+
 // The bytes in front, as they are written. Each names one form of proposition for every crate, and is read as a `Head`.
 pub const TRUE: u8 = 0;
 

@@ -14,16 +14,11 @@ ghost use Rattle.prop_reader.specs.Answer.{LoneLacks, LoneEnds, DatatypeGiven, P
 
 use atom_reader::{Place, PropRead, read_atom};
 use caller_names::is_listed;
+use prefix_code::{CODE_LIMIT, NESTING_LIMIT};
 use proof_term::{DATATYPE, PROPOSITION};
 use prop_frames::{close_prop, goes_on, join, open_front, part_least, read_constant};
 use prop_parts::{CONNECTIVE_SIZE, Sign, connective_at, sign_at};
 use words::{expect, name_end, number_of_name};
-
-// The limits of a label's proposition: those of a sheet's, which stand in a crate that is not below this one. Both are proved to be the
-// definitions' code_limit and proposition_nesting_limit.
-const CODE_LIMIT: usize = 8192;
-
-const NESTING_LIMIT: usize = 64;
 
 // Twice as many levels as a proposition may nest: brackets take one.
 const LEVELS: usize = 2 * NESTING_LIMIT;

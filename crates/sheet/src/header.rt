@@ -45,19 +45,19 @@ impl Sheet {
     // nesting of a proposition and of a tree; and the last column of a step.
     pub const TEXT_LIMIT: usize = 8192;
 
-    pub const NAME_LIMIT: usize = 512;
+    pub const NAME_LIMIT: usize = vocabulary::NAME_LIMIT;
 
-    pub const CODE_LIMIT: usize = 8192;
+    pub const CODE_LIMIT: usize = prefix_code::CODE_LIMIT;
 
     pub const PROPOSITION_LIMIT: usize = 512;
 
     pub const STEP_LIMIT: usize = 1024;
 
-    pub const NAME_LENGTH_LIMIT: usize = 32;
+    pub const NAME_LENGTH_LIMIT: usize = identifier::NAME_LENGTH_LIMIT;
 
     pub const PARAMETER_LIMIT: usize = prefix_code::PARAMETER_LIMIT as usize;
 
-    pub const PROPOSITION_NESTING_LIMIT: usize = 64;
+    pub const PROPOSITION_NESTING_LIMIT: usize = prefix_code::NESTING_LIMIT;
 
     pub const TREE_NESTING_LIMIT: u16 = 256;
 

@@ -6,9 +6,8 @@ ghost use Rattle.standing_code.specs.Over.{Codes, CodeOver, CodeStands};
 use number::{marked_bytes, pair_offset};
 use renumbering::put_renumbered;
 
-// Behind the most bytes of code that a sheet has stand ⊤ and ⊥. The limit of a sheet has its constant in `sheet`, which is no part of
-// what this crate builds on: it reads propositions by pairs alone.
-const TOP: usize = 8192;
+// Behind the most bytes of code that a sheet has stand ⊤ and ⊥.
+const TOP: usize = prefix_code::CODE_LIMIT;
 
 const BOTTOM: usize = TOP + 1;
 

@@ -14,6 +14,9 @@ use std::cmp::Ordering;
 // `name_in bytes.now v i` where one on a struct of them would say `name_in m.now.bytes.now m.now.vocabulary i`. That the parts lie within
 // the memory is a field of `Names` and of `SomeProposition`, which the functions that read through a vocabulary ask for.
 
+// A memory has at most so many names.
+pub const NAME_LIMIT: usize = 512;
+
 // The count of names, and where their pairs, their text and the code begin; how long the last two are.
 #[derive(Clone, Copy)]
 pub struct Vocabulary {

@@ -16,8 +16,9 @@ ghost use Rattle.words.specs.Table.{table_size, searched, with_number, with_pair
 
 use caller_names::{is_listed, well_formed};
 use identifier::{CLASSES, Class, same_name};
-use name_index::{NAME_LIMIT, SLOT_COUNT, Slot, probe_by};
+use name_index::{SLOT_COUNT, Slot, probe_by};
 use number::{PAIR_SIZE, marked_bytes, number_at};
+use vocabulary::NAME_LIMIT;
 
 // Where the name bytes from `at` on end.
 pub fn word_end(text: &[u8], at: usize) -> usize
