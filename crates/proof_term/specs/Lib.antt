@@ -1,5 +1,6 @@
 pub mod Records
 pub mod Views
+pub mod Forms
 pub mod Labels
 pub mod Tally
 pub mod Making

@@ -2,6 +2,7 @@
 // before the term.
 #![tactic(auto)]
 
+mod forms;
 mod nodes;
 
 ghost use Rattle.std.specs.Prelude.{◌≡◌, ℕ, ◌+◌, ◌*◌, ◌≤◌, ◌<◌, length, get_or};
@@ -13,6 +14,7 @@ ghost use Rattle.proof_term.specs.Views.{kind_number, node_term, PartsBelow};
 ghost use Rattle.proof_term.specs.Tally.{tally_limit, sum_over, tally_over, NodesTallied};
 ghost use Rattle.proof_term.specs.Making.{Room, Pushed, Made};
 
+pub use forms::Form;
 use nodes::{label_of_numbers, parameter_of_numbers};
 pub use nodes::{Kind, Label, Node, kind_at, label_at, node_at, parameter_at, parts_at};
 

@@ -19,7 +19,8 @@ use Rattle.proof_term.proofs.Views.{kind_known, kind_unknown}
 use Rattle.proof_term.proofs.Records.{term_at_kind}
 use Rattle.proof_term.proofs.Labels.{no_label}
 use Rattle.proof_term_display.specs.declared.PartPosition.{PartPosition}
-use Rattle.proof_term_display.specs.Brackets.{position_of, columns, column, is_bracketed, bracket_row}
+use Rattle.proof_term.specs.Forms.{as_form, rank}
+use Rattle.proof_term_display.specs.Brackets.{position_of, columns, is_bracketed, bracket_row}
 use Rattle.proof_term_display.specs.Format.{part_field}
 use Rattle.proof_term_display.specs.Item.{KindAt}
 
@@ -34,9 +35,9 @@ mapped rule (x ∷ xs) d e (suc k) h = mapped rule xs d e k (omega arith)
 pub part_field_below : (k : ℕ) → part_field k < record_size
 part_field_below k = omega (arith, entry_below (1 ∷ 2 ∷ 3 ∷ 1 ∷ 1 ∷ 1 ∷ 2 ∷ 1 ∷ 2 ∷ []) k)
 
--- The forms, by their numbers:
-pub column_form : (f : Form) → (column f < 5) × (get_or columns (column f) closed ≡ f)
-unfolding column
+-- Each form stands in the column of its place.
+pub column_form : (f : Form) → (rank (as_form f) < 5) × (get_or columns (rank (as_form f)) closed ≡ f)
+unfolding as_form rank
 column_form closed = (omega arith, refl)
 column_form call = (omega arith, refl)
 column_form function = (omega arith, refl)
@@ -44,7 +45,7 @@ column_form block = (omega arith, refl)
 column_form ascription = (omega arith, refl)
 
 -- a row of the table of brackets
-pub bracket_rule : (p : PartPosition) (k : ℕ) (s : Style) (f : Form) → k ≡ column f → get_or (bracket_row p s) k false ≡ is_bracketed (position_of p) s f
+pub bracket_rule : (p : PartPosition) (k : ℕ) (s : Style) (f : Form) → k ≡ rank (as_form f) → get_or (bracket_row p s) k false ≡ is_bracketed (position_of p) s f
 bracket_rule p k s f formed =
     mapped (is_bracketed (position_of p) s) columns closed false k (rw formed (column_form f).0)
     ∙ ap (is_bracketed (position_of p) s) (ap (λ i. get_or columns i closed) formed ∙ (column_form f).1)

@@ -6,8 +6,6 @@ use Rattle.definitions.specs.Prop.{Prop}
 use Rattle.definitions.specs.Term.{rename_term}
 use Rattle.definitions.specs.Display.{Form, closed, call, function, block, ascription, form, Position, function_of, argument_of, body_of, ascribed_by, part_of, within, brackets, bracketed}
 use Rattle.proof_term.specs.Records.{term_at}
-use Rattle.proof_term_display.specs.declared.Form as declared
-use Rattle.proof_term_display.specs.declared.Form.TheVariants.{Closed, Call, Function, Block, Ascription}
 use Rattle.proof_term_display.specs.declared.PartPosition.{PartPosition}
 use Rattle.proof_term_display.specs.declared.PartPosition.TheVariants.{FunctionOf, ArgumentOf, BodyOf, AscribedBy, PartOf, Within}
 
@@ -20,24 +18,9 @@ position_of AscribedBy = ascribed_by
 position_of PartOf = part_of
 position_of Within = within
 
--- the forms by their numbers
+-- the forms in their order, that of the columns
 abbrev pub columns : List Form
 columns = closed ∷ call ∷ function ∷ block ∷ ascription ∷ []
-
-unfoldable pub column : Form → ℕ
-column closed = 0
-column call = 1
-column function = 2
-column block = 3
-column ascription = 4
-
--- the column of a form as the program names it
-abbrev pub form_column : declared.Form → ℕ
-form_column Closed = 0
-form_column Call = 1
-form_column Function = 2
-form_column Block = 3
-form_column Ascription = 4
 
 -- whether a part of a form is bracketed in its position
 unfoldable pub is_bracketed : Position → Style → Form → Bool

@@ -8,37 +8,19 @@ ghost use Rattle.definitions.specs.Term.{ProofTerm, rename_term};
 ghost use Rattle.definitions.specs.Display.{form};
 ghost use Rattle.output.specs.Wrote.{Wrote};
 ghost use Rattle.proof_term.specs.Records.{record_size, field_at, record_term};
+ghost use Rattle.proof_term.specs.Forms.{as_form};
 ghost use Rattle.proof_term.specs.Views.{kind_number};
 ghost use Rattle.proof_term_display.specs.Ascriptions.{bracket, Unascribed, body_bracketed, after_body};
-ghost use Rattle.proof_term_display.specs.Brackets.{position_of, column, form_column, is_bracketed, bracket_row, form_at};
+ghost use Rattle.proof_term_display.specs.Brackets.{position_of, is_bracketed, bracket_row, form_at};
 ghost use Rattle.proof_term_display.specs.Format.{part_field, part_number, part_position, item_of, part, FormatTable};
 ghost use Rattle.proof_term_display.specs.Printable.{PrintableTerm, term_text};
-ghost use Rattle.proof_term_display.specs.Item.{KindAt, LabelReady, ItemReady, record_item, label_text, parameter_label_text};
+ghost use Rattle.proof_term_display.specs.Item.{LabelReady, ItemReady, record_item, label_text, parameter_label_text};
 
 use definitions::Style;
 use output::{Counter, Sink, Writer};
-use proof_term::{KINDS, Kind, Label, field, label_at, parameter_at};
+use proof_term::{Form, KINDS, Kind, Label, field, kind_at, label_at, parameter_at};
 use prop::put_proposition;
 use vocabulary::{Vocabulary, name};
-
-// The forms of terms, as far as brackets go, in the order of the columns of their table.
-#[derive(Clone, Copy, PartialEq, Eq)]
-enum Form {
-    Closed,
-    Call,
-    Function,
-    Block,
-    Ascription,
-}
-
-impl Form {
-    // Its column.
-    fn column(self) -> usize
-        ensures { result ≡ form_column self }
-    {
-        self as usize
-    }
-}
 
 // The positions of parts.
 #[derive(Clone, Copy, PartialEq, Eq)]
@@ -113,19 +95,11 @@ impl TermPart {
     }
 }
 
-// The kind of record `n`; an unknown one counts as Unit.
-pub fn kind_at(records: &[u16], n: usize) -> Kind
-    requires { record_size * (n + 1) ≤ length records.now }
-    ensures { KindAt records.now n (kind_number result) }
-{
-    proof_term::kind_at(records, n)
-}
-
 // The form of a term by its record's kind.
-#[tactic(auto, unfolding(crate::specs::Brackets::column, definitions::specs::Display::form, definitions::specs::Term::rename_term))]
+#[tactic(auto, unfolding(proof_term::specs::Forms::as_form, definitions::specs::Display::form, definitions::specs::Term::rename_term))]
 fn form_of(kind: Kind) -> Form
     ensures { (f : ℕ → Name) (props : ℕ → Prop ℕ) (term : ℕ → ProofTerm ℕ) (a b c d e : ℕ) →
-        form_column result ≡ column (form (rename_term f (record_term props term (kind_number kind) a b c d e))) }
+        result ≡ as_form (form (rename_term f (record_term props term (kind_number kind) a b c d e))) }
 {
     match kind {
         Kind::Ident | Kind::Pair | Kind::Unit | Kind::Sorry => Form::Closed,
@@ -171,7 +145,7 @@ pub fn is_bracketed(records: &[u16], n: usize, position: PartPosition, style: St
         result ≡ is_bracketed (position_of position) style (form_at f props records.now n) }
 {
     let brackets = brackets_of(position, style);
-    brackets[form_of(kind_at(records, n)).column()]
+    brackets[form_of(kind_at(records, n)).rank()]
 }
 
 // The format of each kind, in the order of the kinds, up to the full stop. A digit stands for the name in that number of the
@@ -258,7 +232,7 @@ fn unascribed(records: &[u16], n: usize) -> usize
     requires { record_size * (n + 1) ≤ length records.now }
     ensures { Unascribed records.now n result }
 {
-    let Kind::TypeAscription = proof_term::kind_at(records, n) else {
+    let Kind::TypeAscription = kind_at(records, n) else {
         return n;
     };
     let body = field(records, n, 1);

@@ -11,8 +11,8 @@ use TermPart::{
     Argument, AscribedBody, First, Function, NamedBody, PairFirst, PairSecond, Second, Third,
 };
 use definitions::Style;
-use proof_term::{Kind, Label, field, has_label, label_at};
-use proof_term_display::{TermPart, is_bracketed, kind_at};
+use proof_term::{Kind, Label, field, has_label, kind_at, label_at};
+use proof_term_display::{TermPart, is_bracketed};
 use prop_length::{name_length, text_length};
 use vocabulary::Vocabulary;
 

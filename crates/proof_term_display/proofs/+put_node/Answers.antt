@@ -10,7 +10,7 @@ use Rattle.prop.proofs.Shown.{below_as, put_as}
 use Rattle.proof_term_display.specs.Format.{part_field, part_number, item_text}
 use Rattle.proof_term_display.specs.Printable.{PrintableTerm}
 use Rattle.proof_term_display.specs.Item.{KindAt, ItemReady}
-use Rattle.proof_term_display.proofs.Tables.{part_field_below, at_position}
+use Rattle.proof_term_display.proofs.Tables.{part_field_below, at_position, kind_seen}
 use Rattle.proof_term_display.proofs.Items.{between, item_outside, item_name, item_part, item_fixed}
 use Rattle.proof_term_display.proofs.Items.{item_of_parameter, item_of_ascription}
 use Rattle.proof_term_display.proofs.Progress.{start, ends_here, ends_past, item_ready, goes_on}
@@ -86,7 +86,7 @@ put_node-kind_at-requires g t c = c.requires.printable_term.held
 
 -- the kind is one that is known
 kind_is : (g : _) (t : ℕ) → (c : put_node-After-from-kind g t) → let s = c.args in KindAt s.records.now s.n c.from-kind.result
-kind_is g t c = rw (c.from-kind.ensures, c.number.ensures) c.kind_at.ensures
+kind_is g t c = rw (c.from-kind.ensures, c.number.ensures) (kind_seen c.args.records.now c.args.n c.kind_at.ensures)
 
 pub put_node-loop-b-init : goal.put_node-loop-b-init
 put_node-loop-b-init g t c =

@@ -4,6 +4,7 @@ use native.Mathlib.Omega.{arith}
 use Rattle.proof_term_length.specs.Measure.{row_of}
 use Rattle.proof_term_length.specs.declared.Row.{Row}
 use Rattle.proof_term.specs.declared.nodes.Kind.{Kind}
+use Rattle.proof_term_display.proofs.Tables.{kind_seen}
 use Rattle.proof_term_length.proofs.Sums.{agree_exactly, agree_sum, agree_more}
 use Rattle.proof_term_length.proofs.Counting.{RowFits, row_fits, term_counted}
 use Rattle.proof_term_length.proofs.bare_length.Goals as goal
@@ -24,7 +25,8 @@ returns c =
     let third = c.part_in-third.ensures _ _ measured in
     let both = agree_sum first second c.sum-both.ensures in
     let all = agree_sum both third c.sum.ensures in
-    let whole = rw (← c.row_of-row.ensures) at (term_counted c.args.bytes.now c.args.v c.args.records.now c.args.n c.args.style _ c.kind_at.ensures) in
+    let kind = kind_seen c.args.records.now c.args.n c.kind_at.ensures in
+    let whole = rw (← c.row_of-row.ensures) at (term_counted c.args.bytes.now c.args.v c.args.records.now c.args.n c.args.style _ kind) in
     rw (whole, ← c.name_in-name.ensures.0, ← c.name_in-other_name.ensures.0)
     (agree_more _ (agree_sum (agree_exactly refl) all c.sum-2.ensures))
 
