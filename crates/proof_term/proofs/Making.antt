@@ -2,7 +2,7 @@
 use Prim.Native.Nat.{ℕ, ◌+◌, ◌*◌, ◌≤◌, ◌<◌, min}
 use mathlib.Core.Path.{◌≡◌, refl, sym, ap, ◌∙◌}
 use mathlib.Core.Logic.{by_cases}
-use mathlib.Core.List.{List, [], ◌∷◌, ◌++◌, append_assoc}
+use mathlib.Core.List.{List, ◌++◌, append_assoc}
 use native.Mathlib.Omega.{arith}
 use native.Mathlib.Decide.{dec_lt}
 use borrow.Rule.Slice.PartMut.{put_mid}
@@ -14,7 +14,7 @@ use Rattle.definitions.specs.Term.{ProofTerm, Unit, annotation_count}
 use Rattle.proof_term.specs.Records.{record_size, field_at, leaf, forms, record_term, record_term_at, part_count, Each, term_at, part_at}
 use Rattle.proof_term.specs.Labels.{single, term_labels}
 use Rattle.proof_term.specs.Tally.{tally_limit, tally_at, tally_over, Tallied}
-use Rattle.proof_term.specs.Making.{Pushed, Kept, Made}
+use Rattle.proof_term.specs.Making.{row, Pushed, Kept, Made}
 use Rattle.proof_term.proofs.Records.{part_count_lem, form_same, fewer, same_field, frame_below, parts_same, part_below, term_at_is}
 use Rattle.proof_term.proofs.Labels.{own_labels_lem}
 use Rattle.proof_term.proofs.Tally.{over_counted}
@@ -53,42 +53,50 @@ module _ (l vs : List ℕ) (i : ℕ) (fits : i + length vs ≤ length l) where
   stored_beyond = rw (sets-eq vs l i fits) (drop_at (take i l ++ vs) _ (i + length vs) (rw (length-append, front)))
 
 module _
-    {kind a b c d e tally used next : ℕ}
-    {before after : List ℕ}
+    {kind tally used next : ℕ}
+    {numbers before after : List ℕ}
     (room : record_size * (used + 1) ≤ length before)
-    (p : Pushed kind a b c d e tally before used after next)
+    (p : Pushed kind numbers tally before used after next)
   where
+    -- number i of those behind the kind
+    abbrev nth : ℕ → ℕ
+    nth i = get_or numbers i 0
+
+    -- the term of the record that is stored, over the terms of its parts
+    abbrev term_of : (ℕ → Prop ℕ) → (ℕ → ProofTerm ℕ) → ProofTerm ℕ
+    term_of props part = record_term props part kind (nth 0) (nth 1) (nth 2) (nth 3) (nth 4)
+
     below : take (record_size * used) after ≡ take (record_size * used) before
-    below = rw p.stored (stored_below before (kind ∷ a ∷ b ∷ c ∷ d ∷ e ∷ tally ∷ []) (record_size * used) (omega arith))
+    below = rw p.stored (stored_below before (row kind numbers tally) (record_size * used) (omega arith))
 
     beyond : drop (record_size * (used + 1)) after ≡ drop (record_size * (used + 1)) before
     beyond =
         let end : record_size * used + 7 ≡ record_size * (used + 1) = omega arith in
-        rw p.stored (rw end at (stored_beyond before (kind ∷ a ∷ b ∷ c ∷ d ∷ e ∷ tally ∷ []) (record_size * used) (omega arith)))
+        rw p.stored (rw end at (stored_beyond before (row kind numbers tally) (record_size * used) (omega arith)))
 
-    field : (i : ℕ) → i < record_size → field_at after used i ≡ get_or (kind ∷ a ∷ b ∷ c ∷ d ∷ e ∷ tally ∷ []) i 0
+    field : (i : ℕ) → i < record_size → field_at after used i ≡ get_or (row kind numbers tally) i 0
     unfolding field_at
-    field i h = rw p.stored (stored_number before (kind ∷ a ∷ b ∷ c ∷ d ∷ e ∷ tally ∷ []) (record_size * used) (omega arith) i h)
+    field i h = rw p.stored (stored_number before (row kind numbers tally) (record_size * used) (omega arith) i h)
 
     -- the term of the record that was stored, over the terms of its parts
-    formed : (props : ℕ → Prop ℕ) (part : ℕ → ProofTerm ℕ) → record_term_at props part after used ≡ record_term props part kind a b c d e
+    formed : (props : ℕ → Prop ℕ) (part : ℕ → ProofTerm ℕ) → record_term_at props part after used ≡ term_of props part
     unfolding record_term_at
     formed props part =
         cc (field 0 (omega arith), field 1 (omega arith), field 2 (omega arith), field 3 (omega arith), field 4 (omega arith), field 5 (omega arith))
 
     -- the record that was stored holds the term of its kind, over the terms that its parts had before
-    holds : Each (λ part. part < used) (part_count kind) a b c → (props : ℕ → Prop ℕ)
-        → term_at props after used ≡ record_term props (term_at props before) kind a b c d e
+    holds : Each (λ part. part < used) (part_count kind) (nth 0) (nth 1) (nth 2) → (props : ℕ → Prop ℕ)
+        → term_at props after used ≡ term_of props (term_at props before)
     holds h props =
-        let form = get_or (forms props a b c d e) kind (leaf Unit) in
-        let below_used = rw (part_count_lem props kind a b c d e) at h in
+        let form = get_or (forms props (nth 0) (nth 1) (nth 2) (nth 3) (nth 4)) kind (leaf Unit) in
+        let below_used = rw (part_count_lem props kind (nth 0) (nth 1) (nth 2) (nth 3) (nth 4)) at h in
         term_at_is props after used
         ∙ formed props (part_at props after used)
-        ∙ ap (λ part. record_term props part kind a b c d e) (parts_same props after before used below)
-        ∙ form_same used (part_at props before used) (term_at props before) (part_below props before used) form a b c below_used
+        ∙ ap (λ part. term_of props part) (parts_same props after before used below)
+        ∙ form_same used (part_at props before used) (term_at props before) (part_below props before used) form (nth 0) (nth 1) (nth 2) below_used
 
     -- it keeps its tally, and so does each record before it
-    tallied : Each (λ part. part < used) (part_count kind) a b c → tally ≡ tally_over before kind (a ∷ b ∷ c ∷ []) → Tallied before used → Tallied after next
+    tallied : Each (λ part. part < used) (part_count kind) (nth 0) (nth 1) (nth 2) → tally ≡ tally_over before kind numbers → Tallied before used → Tallied after next
     unfolding tally_at
     tallied h is t = record {
       parts = λ m l. by_cases (dec_lt m used)
@@ -108,17 +116,17 @@ module _
           rw newest
           (field 6 (omega arith)
           ∙ (is
-          ∙ (over_counted props before used kind a b c d e t h
+          ∙ (over_counted props kind numbers before used t h
           ∙ ap (λ u. min (annotation_count u) tally_limit) (sym (holds h props))))));
     }
 
     -- the law of every maker
-    pub made : Each (λ part. part < used) (part_count kind) a b c → tally ≡ tally_over before kind (a ∷ b ∷ c ∷ [])
-        → Made (λ props part. record_term props part kind a b c d e) before used after next
+    pub made : Each (λ part. part < used) (part_count kind) (nth 0) (nth 1) (nth 2) → tally ≡ tally_over before kind numbers
+        → Made (λ props part. term_of props part) before used after next
     made h is = record {
       holds = holds h;
       label = λ props.
-          cc (field 0 (omega arith), field 3 (omega arith), field 4 (omega arith), own_labels_lem single props kind a b c d e);
+          cc (field 0 (omega arith), field 3 (omega arith), field 4 (omega arith), own_labels_lem single props kind (nth 0) (nth 1) (nth 2) (nth 3) (nth 4));
       kept = kept used before after below;
       tallied = tallied h is;
       beyond = beyond;

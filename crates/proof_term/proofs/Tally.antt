@@ -87,42 +87,48 @@ sum_over_first own count numbers value few =
 same_at : {A : Type 0} (m w : A → ℕ) (l : List A) (d : A) → m d ≡ w d → map m l ≡ map w l → (i : ℕ) → m (get_or l i d) ≡ w (get_or l i d)
 same_at m w l d p q i = cc (get_or-map m l i d, get_or-map w l i d)
 
--- A record's term by its numbers.
-module _ (props : ℕ → Prop ℕ) (kind a b c d e : ℕ) where
-  own_counted : annotation_count (record_term props (λ i. Unit) kind a b c d e) ≡ own_count kind c
+-- A record's term by its kind and the numbers behind it.
+module _ (props : ℕ → Prop ℕ) (kind : ℕ) (numbers : List ℕ) where
+  abbrev nth : ℕ → ℕ
+  nth i = get_or numbers i 0
+
+  abbrev term_of : (ℕ → ProofTerm ℕ) → ProofTerm ℕ
+  term_of part = record_term props part kind (nth 0) (nth 1) (nth 2) (nth 3) (nth 4)
+
+  own_counted : annotation_count (term_of (λ i. Unit)) ≡ own_count kind (nth 2)
   unfolding own_count of_own_label
   own_counted =
-      sym (count_labels (record_term props (λ i. Unit) kind a b c d e))
-      ∙ (ap length (own_labels_lem single props kind a b c d e) ∙ go (has_label kind c))
+      sym (count_labels (term_of (λ i. Unit)))
+      ∙ (ap length (own_labels_lem single props kind (nth 0) (nth 1) (nth 2) (nth 3) (nth 4)) ∙ go (has_label kind (nth 2)))
     where
-      go : (b : Bool) → length (cond b (single (label_of props c d)) []) ≡ cond b 1 0
+      go : (b : Bool) → length (cond b (single (label_of props (nth 2) (nth 3))) []) ≡ cond b 1 0
       go true = refl
       go false = refl
 
   -- its labels are its own and those of its parts: one test over the table of forms
-  counted : (part : ℕ → ProofTerm ℕ) → annotation_count (record_term props part kind a b c d e)
-      ≡ own_count kind c + sum_of (part_count kind) (λ i. annotation_count (part (get_or (a ∷ b ∷ c ∷ []) i 0)))
+  counted : (part : ℕ → ProofTerm ℕ) → annotation_count (term_of part) ≡ own_count kind (nth 2) + sum_of (part_count kind) (λ i. annotation_count (part (nth i)))
   unfolding annotation_count sum_of
   counted part =
-      rw (← own_counted, part_count_lem props kind a b c d e)
-      (same_at (λ form. annotation_count (form_term part form a b c))
-      (λ form. annotation_count (form_term (λ i. Unit) form a b c) + sum_of (arity form) (λ i. annotation_count (part (get_or (a ∷ b ∷ c ∷ []) i 0))))
-      (forms props a b c d e) (leaf Unit) refl (simp (zero-add, add-zero)) kind)
+      rw (← own_counted, part_count_lem props kind (nth 0) (nth 1) (nth 2) (nth 3) (nth 4))
+      (same_at (λ form. annotation_count (form_term part form (nth 0) (nth 1) (nth 2)))
+      (λ form. annotation_count (form_term (λ i. Unit) form (nth 0) (nth 1) (nth 2)) + sum_of (arity form) (λ i. annotation_count (part (nth i))))
+      (forms props (nth 0) (nth 1) (nth 2) (nth 3) (nth 4)) (leaf Unit) refl (simp (zero-add, add-zero)) kind)
 
--- over parts that keep their tallies, a record of these numbers has the label count of its term, as far as the limit
-pub over_counted :
-    (props : ℕ → Prop ℕ) (records : List ℕ) (used kind a b c d e : ℕ) → Tallied records used → Each (λ part. part < used) (part_count kind) a b c →
-    tally_over records kind (a ∷ b ∷ c ∷ []) ≡ min (annotation_count (record_term props (term_at props records) kind a b c d e)) tally_limit
-unfolding tally_over
-over_counted props records used kind a b c d e t earlier =
-    let part : ℕ → ℕ = λ i. get_or (a ∷ b ∷ c ∷ []) i 0 in
-    let counts : ℕ → ℕ = λ i. annotation_count (term_at props records (part i)) in
-    let kept = sum_same (part_count kind) (λ i. tally_at records (part i)) (λ i. min (counts i) tally_limit)
-    (λ i l. t.cut_counts (part i) (each_at (λ part. part < used) (a ∷ b ∷ c ∷ []) (part_count kind) i (few_parts kind) l earlier) props) in
-    rw (counted props kind a b c d e (term_at props records), kept) (cut_sum (own_count kind c) (part_count kind) counts)
+  -- over parts that keep their tallies, a record of these numbers has the label count of its term, as far as the limit
+  pub over_counted : (records : List ℕ) (used : ℕ) → Tallied records used → Each (λ part. part < used) (part_count kind) (nth 0) (nth 1) (nth 2)
+      → tally_over records kind numbers ≡ min (annotation_count (term_of (term_at props records))) tally_limit
+  unfolding tally_over
+  over_counted records used t earlier =
+      let counts : ℕ → ℕ = λ i. annotation_count (term_at props records (nth i)) in
+      let kept = sum_same (part_count kind) (λ i. tally_at records (nth i)) (λ i. min (counts i) tally_limit)
+      (λ i l. t.cut_counts (nth i) (each_at (λ part. part < used) numbers (part_count kind) i (few_parts kind) l earlier) props) in
+      rw (counted (term_at props records), kept) (cut_sum (own_count kind (nth 2)) (part_count kind) counts)
 
--- numbers 1 to 3 of a record in a row
-in_a_row : (f : ℕ → ℕ) (i : ℕ) → i < 3 → get_or (f 1 ∷ f 2 ∷ f 3 ∷ []) i 0 ≡ f (1 + i)
+-- numbers 1 to 5 of a record in a row
+abbrev behind_kind : (ℕ → ℕ) → List ℕ
+behind_kind f = f 1 ∷ f 2 ∷ f 3 ∷ f 4 ∷ f 5 ∷ []
+
+in_a_row : (f : ℕ → ℕ) (i : ℕ) → i < 3 → get_or (behind_kind f) i 0 ≡ f (1 + i)
 in_a_row f zero h = refl
 in_a_row f (suc zero) h = refl
 in_a_row f (suc (suc zero)) h = refl
@@ -135,8 +141,8 @@ module _ (props : ℕ → Prop ℕ) (records : List ℕ) where
   unfolding record_term_at sum_of
   part_few m i h l =
       let f = field_at records m in
-      let count : ℕ → ℕ = λ j. annotation_count (part_at props records m (get_or (f 1 ∷ f 2 ∷ f 3 ∷ []) j 0)) in
-      let whole = ap annotation_count (term_at_is props records m) ∙ counted props (f 0) (f 1) (f 2) (f 3) (f 4) (f 5) (part_at props records m) in
+      let count : ℕ → ℕ = λ j. annotation_count (part_at props records m (get_or (behind_kind f) j 0)) in
+      let whole = ap annotation_count (term_at_is props records m) ∙ counted props (f 0) (behind_kind f) (part_at props records m) in
       let here : count i ≡ annotation_count (term_at props records (f (1 + i))) =
       rw (in_a_row f i (omega (arith, few_parts (f 0))), part_below props records m (f (1 + i)) l) in
       omega (arith, whole, here, sum_le count (suc i) (part_count (f 0)) h)

@@ -175,16 +175,16 @@ parts_stored used Unit h = h
 parts_stored used Sorry h = h
 
 -- the part of a memory that starts behind a record's kind
-pub parts_there : {records : List ℕ} {n count kind : ℕ} → record_size * (n + 1) ≤ length records → count ≡ part_count kind → kind ≡ field_at records n 0
+pub parts_there : {records : List ℕ} {n count : ℕ} → record_size * (n + 1) ≤ length records → count ≡ part_count (field_at records n 0)
     → PartsOf records n (take (record_size * n + 1 + count - (record_size * n + 1)) (drop (record_size * n + 1) records))
 unfolding field_at
-parts_there {records} {n} {count} {kind} held counted is =
+parts_there {records} {n} {count} held counted =
     let first = record_size * n + 1 in
     let width : first + count - first ≡ count = omega arith in
-    let few : count ≤ 3 = omega (arith, counted, few_parts kind) in
+    let few : count ≤ 3 = omega (arith, counted, few_parts (field_at records n 0)) in
     let long : length (take count (drop first records)) ≡ count = length-take-le count (drop first records) (omega (arith, length-drop first records)) in
     rw width (record {
-      count = long ∙ counted ∙ ap part_count is;
+      count = long ∙ counted;
       part = λ i l.
           get_or-take count (drop first records) i 0 (omega (arith, l, long))
           ∙ (get_or-drop first records i 0 ∙ ap (λ at. get_or records at 0) (add_assoc (record_size * n) 1 i));

@@ -1,5 +1,5 @@
 -- What it is to make a record in lent memory: what becomes of every number, and the term that the record holds.
-use Rattle.std.specs.Prelude.{ℕ, ◌+◌, ◌*◌, ◌≤◌, ◌<◌, ◌≡◌, List, [], ◌∷◌, length, take, drop}
+use Rattle.std.specs.Prelude.{ℕ, ◌+◌, ◌*◌, ◌≤◌, ◌<◌, ◌≡◌, List, [], ◌∷◌, length, get_or, take, drop}
 use Rattle.std.proofs.lemmas.List.Edits.{sets}
 use Rattle.definitions.specs.Prop.{Prop}
 use Rattle.definitions.specs.Term.{ProofTerm, Unit}
@@ -12,9 +12,14 @@ pub record Room (records : List ℕ) (used : ℕ) : Type 0 where
   pub room : record_size * (used + 1) ≤ length records
   pub few : used ≤ 65536
 
+-- the seven numbers of a record: its kind, five more, and its tally
+abbrev pub row : ℕ → List ℕ → ℕ → List ℕ
+row kind numbers tally =
+    kind ∷ get_or numbers 0 0 ∷ get_or numbers 1 0 ∷ get_or numbers 2 0 ∷ get_or numbers 3 0 ∷ get_or numbers 4 0 ∷ tally ∷ []
+
 -- `after` is the memory `before` with the seven numbers stored as record `used`, and `next` the number of the record that comes next
-pub record Pushed (kind a b c d e tally : ℕ) (before : List ℕ) (used : ℕ) (after : List ℕ) (next : ℕ) : Type 0 where
-  pub stored : after ≡ sets before (record_size * used) (kind ∷ a ∷ b ∷ c ∷ d ∷ e ∷ tally ∷ [])
+pub record Pushed (kind : ℕ) (numbers : List ℕ) (tally : ℕ) (before : List ℕ) (used : ℕ) (after : List ℕ) (next : ℕ) : Type 0 where
+  pub stored : after ≡ sets before (record_size * used) (row kind numbers tally)
   pub counted : next ≡ used + 1
 
 -- the records below `used` keep their numbers and so their terms

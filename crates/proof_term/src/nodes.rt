@@ -4,7 +4,7 @@ ghost use Rattle.proof_term.specs.Records.{record_size, field_at, part_count};
 ghost use Rattle.proof_term.specs.Labels.{has_label};
 ghost use Rattle.proof_term.specs.Views.{label_numbers, node_kind, node_label, node_numbers, kind_number, kind_of, label_of_numbers, parameter_of_numbers, node_of, node_at, PartsOf};
 
-use crate::{DATATYPE, NO_LABEL, PROPOSITION, RECORD_SIZE, field, part_count};
+use crate::{DATATYPE, NO_LABEL, PROPOSITION, RECORD_SIZE, field};
 
 // The kinds of records, in the Rust's order: a record keeps the number of its own.
 #[derive(Debug, Clone, Copy, PartialEq, Eq)]
@@ -237,7 +237,7 @@ impl Node {
 
 // The label of two numbers of a record, the kind of a label and its number.
 #[tactic(auto, unfolding(crate::specs::Views::label_of_numbers))]
-pub fn label_of_numbers(kind: u16, number: u16) -> Label
+fn label_of_numbers(kind: u16, number: u16) -> Label
     ensures { result ≡ label_of_numbers kind number }
 {
     if usize::from(kind) == DATATYPE {
@@ -248,7 +248,7 @@ pub fn label_of_numbers(kind: u16, number: u16) -> Label
 
 // The same of a parameter, which may have none.
 #[tactic(auto, unfolding(crate::specs::Views::parameter_of_numbers))]
-pub fn parameter_of_numbers(kind: u16, number: u16) -> Option<Label>
+fn parameter_of_numbers(kind: u16, number: u16) -> Option<Label>
     ensures { result ≡ parameter_of_numbers kind number }
 {
     if usize::from(kind) == NO_LABEL {
@@ -350,5 +350,5 @@ pub fn parts_at(records: &[u16], n: usize) -> &[u16]
     ensures { PartsOf records.now n result.now }
 {
     let first = RECORD_SIZE * n + 1;
-    &records[first..first + part_count(field(records, n, 0))]
+    &records[first..first + kind_at(records, n).part_count()]
 }

@@ -180,19 +180,8 @@ pub fn make(
     if NODE_LIMIT <= s.used || NESTING_LIMIT < hand.nest {
         return None;
     }
-    let [a, b, c, d, e] = numbers;
     let tally = hand.tally as u16;
-    let used = push(
-        &mut work.records,
-        s.used,
-        kind.number(),
-        a,
-        b,
-        c,
-        d,
-        e,
-        tally,
-    );
+    let used = push(&mut work.records, s.used, kind.number(), numbers, tally);
     Some(Progress { used, ..s })
 }
 
