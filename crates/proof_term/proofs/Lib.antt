@@ -5,3 +5,4 @@ pub mod Fitting
 pub mod Counting
 pub mod Tally
 pub mod Making
+pub mod NodeLabels
