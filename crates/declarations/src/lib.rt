@@ -19,7 +19,8 @@ use name_index::{SLOT_COUNT, start_slot};
 use output::Sink;
 use output::sink::put_decimal;
 use prefix_code::{PARAMETER_LIMIT, scan};
-use proof_term_lists::{Added, record_adds};
+use proof_term::Label;
+use proof_term_lists::record_adds;
 use prop_lists::next_entry;
 use vocabulary::{Vocabulary, code_of};
 
@@ -147,16 +148,16 @@ impl<const N: usize> Declarations<N> {
         }
     }
 
-    // Notes what a label adds to a list.
-    fn note_added(&mut self, added: Option<Added>, list: TermList, bytes: &[u8], v: Vocabulary)
+    // Notes what a record adds to a list.
+    fn note_added(&mut self, added: Option<Label>, list: TermList, bytes: &[u8], v: Vocabulary)
         requires added_stands { AddedStands bytes.now v added }
         requires held { Held bytes.now v self.old }
         ensures { Notes bytes.now v (added_uses bytes.now v list added) self.old self.new }
     {
         match added {
             None => {}
-            Some(Added::Datatype(name)) => self.note(name, 0, bytes, v),
-            Some(Added::Proposition(at)) => self.note_entries(bytes, v, at, list),
+            Some(Label::Datatype(name)) => self.note(usize::from(name), 0, bytes, v),
+            Some(Label::Proposition(at)) => self.note_entries(bytes, v, usize::from(at), list),
         }
     }
 
@@ -174,7 +175,7 @@ impl<const N: usize> Declarations<N> {
         ensures { Notes bytes.now v
             (term_uses list (term_in bytes.now v term_records.now n)) self.old self.new }
     {
-        for m in 0..n + 1 {
+        for m in 0..=n {
             self.note_added(record_adds(term_records, m, list), list, bytes, v);
         }
     }

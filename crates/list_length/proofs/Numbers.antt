@@ -22,8 +22,8 @@ use Rattle.prefix_code.specs.Scan.{Stands}
 use Rattle.prop_lists.specs.Entries.{use_of, entries, entry_numbers}
 use Rattle.vocabulary.specs.declared.Vocabulary.{Vocabulary}
 use Rattle.vocabulary.specs.Vocabulary.{code_in, prop_in, SomeProposition}
-use Rattle.proof_term_lists.specs.declared.Added.{Added}
-use Rattle.proof_term_lists.specs.declared.Added.TheVariants.{Datatype, Proposition}
+use Rattle.proof_term.specs.declared.nodes.Label.{Label}
+use Rattle.proof_term.specs.declared.nodes.Label.TheVariants.{Datatype, Proposition}
 use Rattle.proof_term_lists.specs.Labels.{term_uses, record_adds, added_uses, AddedStands, Listable, term_in}
 use Rattle.proof_term_lists.specs.Numbers.{list_numbers}
 use Rattle.proof_term_lists.proofs.Labels.{uses_below, uses_none, uses_more, uses_all, added_stands}
@@ -84,7 +84,7 @@ module _ (bytes : List ℕ) (v : Vocabulary) (short : length (code_in bytes v) �
         length-drop at (code_in bytes v),
       )
 
-  added_few : (added : Option Added) → AddedStands bytes v added → length (added_uses bytes v list added) ≤ 8192
+  added_few : (added : Option Label) → AddedStands bytes v added → length (added_uses bytes v list added) ≤ 8192
   added_few None stands = omega arith
   added_few (Some (Datatype name)) stands = omega arith
   added_few (Some (Proposition at)) stands = proposition_few stands

@@ -16,37 +16,38 @@ use Rattle.vocabulary.specs.declared.Vocabulary.{Vocabulary}
 use Rattle.vocabulary.specs.Vocabulary.{code_in, prop_in, Within, SomeProposition}
 use Rattle.proof_term.specs.Records.{field_at, label_of}
 use Rattle.proof_term.specs.Labels.{has_label, of_own_label, of_record, of_records, LabelFits}
-use Rattle.proof_term.specs.Views.{label_of_numbers, label_meant}
+use Rattle.proof_term.specs.Views.{label_of_numbers, label_meant, node_label, node_at}
 use Rattle.proof_term.specs.declared.nodes.Label as read
 use Rattle.proof_term.specs.declared.nodes.Label.TheVariants as label
 use Rattle.proof_term.proofs.Labels.{in_order, records_more}
-use Rattle.proof_term.proofs.Views.{label_same, datatype_read, proposition_read}
+use Rattle.proof_term.proofs.Views.{label_same, datatype_read, proposition_read, label_read}
+use Rattle.proof_term.proofs.NodeLabels.{label_is}
 use Rattle.prop_lists.specs.Entries.{use_of, datatype_uses}
-use Rattle.proof_term_lists.specs.declared.Added.{Added}
-use Rattle.proof_term_lists.specs.Labels.{label_uses, term_uses, label_adds, record_adds, added_uses, AddedStands, Listable, term_in}
+use Rattle.proof_term_lists.specs.Labels.{label_uses, term_uses, is_listed, listed, record_adds, added_uses, AddedStands, Listable, term_in}
 
 module _ (bytes : List ℕ) (v : Vocabulary) where
   -- what a label adds, as the definitions say
-  label_adds_lem : (list : TermList) (l : read.Label) → added_uses bytes v list (label_adds list l) ≡ label_uses list (label_meant (prop_in bytes v) l)
-  unfolding label_adds label_uses label_atoms label_datatypes proposition_datatypes
-  label_adds_lem Atoms (label.Datatype name) = refl
-  label_adds_lem Atoms (label.Proposition number) = refl
-  label_adds_lem (Datatypes First) (label.Datatype name) = refl
-  label_adds_lem (Datatypes First) (label.Proposition number) = refl
-  label_adds_lem (Datatypes Second) (label.Datatype name) = refl
-  label_adds_lem (Datatypes Second) (label.Proposition number) = refl
-  label_adds_lem (Datatypes Third) (label.Datatype name) = refl
-  label_adds_lem (Datatypes Third) (label.Proposition number) = refl
+  listed_label : (list : TermList) (l : read.Label) → added_uses bytes v list (listed list (Some l)) ≡ label_uses list (label_meant (prop_in bytes v) l)
+  unfolding is_listed label_uses label_atoms label_datatypes proposition_datatypes
+  listed_label Atoms (label.Datatype name) = refl
+  listed_label Atoms (label.Proposition number) = refl
+  listed_label (Datatypes First) (label.Datatype name) = refl
+  listed_label (Datatypes First) (label.Proposition number) = refl
+  listed_label (Datatypes Second) (label.Datatype name) = refl
+  listed_label (Datatypes Second) (label.Proposition number) = refl
+  listed_label (Datatypes Third) (label.Datatype name) = refl
+  listed_label (Datatypes Third) (label.Proposition number) = refl
 
   record_adds_lem : (list : TermList) (records : List ℕ) (m : ℕ)
       → added_uses bytes v list (record_adds list records m) ≡ of_record (label_uses list) (prop_in bytes v) records m
   unfolding record_adds of_own_label
-  record_adds_lem list records m = go (has_label (field_at records m 0) (field_at records m 3))
+  record_adds_lem list records m =
+      ap (λ l. added_uses bytes v list (listed list l)) (label_is records m) ∙ go (has_label (field_at records m 0) (field_at records m 3))
     where
-      go : (b : Bool) → added_uses bytes v list (cond b (label_adds list (label_of_numbers (field_at records m 3) (field_at records m 4))) None)
+      go : (b : Bool) → added_uses bytes v list (listed list (cond b (Some (label_of_numbers (field_at records m 3) (field_at records m 4))) None))
           ≡ cond b (label_uses list (label_of (prop_in bytes v) (field_at records m 3) (field_at records m 4))) []
       go true =
-          label_adds_lem list (label_of_numbers (field_at records m 3) (field_at records m 4))
+          listed_label list (label_of_numbers (field_at records m 3) (field_at records m 4))
           ∙ ap (label_uses list) (label_same (prop_in bytes v) (field_at records m 3) (field_at records m 4))
       go false = refl
 
@@ -58,7 +59,7 @@ module _ (bytes : List ℕ) (v : Vocabulary) where
   unfolding of_records
   uses_none list records = refl
 
-  pub uses_more : (list : TermList) (records : List ℕ) (m : ℕ) {added : Option Added} → added ≡ record_adds list records m
+  pub uses_more : (list : TermList) (records : List ℕ) (m : ℕ) {added : Option read.Label} → added ≡ record_adds list records m
       → uses_below list records (m + 1) ≡ uses_below list records m ++ added_uses bytes v list added
   uses_more list records m is =
       records_more (label_uses list) (prop_in bytes v) records m
@@ -67,8 +68,8 @@ module _ (bytes : List ℕ) (v : Vocabulary) where
   -- what a label adds stands in the memory
   module _ (within : Within bytes v) (few : v.name_count ≤ 65536) (kind number : ℕ)
       (fits : LabelFits v.name_count (Present v.name_count (code_in bytes v)) kind number) where
-    label_stands : (list : TermList) (l : read.Label) → label_of_numbers kind number ≡ l → AddedStands bytes v (label_adds list l)
-    unfolding label_adds
+    label_stands : (list : TermList) (l : read.Label) → label_of_numbers kind number ≡ l → AddedStands bytes v (listed list (Some l))
+    unfolding is_listed
     label_stands list (label.Datatype name) is = go list
       where
         read_as : (kind ≡ 2) × (name ≡ number)
@@ -77,7 +78,7 @@ module _ (bytes : List ℕ) (v : Vocabulary) where
         stands : (name < v.name_count) × (name < 65536)
         stands = let below = fits.datatype read_as.0 in (omega (arith, read_as.1, below), omega (arith, read_as.1, below))
 
-        go : (list : TermList) → AddedStands bytes v (label_adds list (label.Datatype name))
+        go : (list : TermList) → AddedStands bytes v (listed list (Some (label.Datatype name)))
         go Atoms = tt
         go (Datatypes w) = stands
     label_stands list (label.Proposition at) is = go list
@@ -88,21 +89,22 @@ module _ (bytes : List ℕ) (v : Vocabulary) where
         stands : SomeProposition bytes v at
         stands = record { within = within; present = rw read_as.1 (fits.proposition read_as.0) }
 
-        go : (list : TermList) → AddedStands bytes v (label_adds list (label.Proposition at))
+        go : (list : TermList) → AddedStands bytes v (listed list (Some (label.Proposition at)))
         go Atoms = stands
         go (Datatypes First) = tt
         go (Datatypes Second) = stands
         go (Datatypes Third) = stands
 
 module _ {bytes : List ℕ} {v : Vocabulary} {records : List ℕ} {n : ℕ} (here : Listable bytes v records n) (list : TermList) where
-  pub added_stands : (m : ℕ) {added : Option Added} → m ≤ n → added ≡ record_adds list records m → AddedStands bytes v added
+  pub added_stands : (m : ℕ) {added : Option read.Label} → m ≤ n → added ≡ record_adds list records m → AddedStands bytes v added
   unfolding record_adds
-  added_stands m h is = rw is (go (has_label (field_at records m 0) (field_at records m 3)) refl)
+  added_stands m h is = rw is (go (node_label (node_at records m)) refl)
     where
-      go : (b : Bool) → has_label (field_at records m 0) (field_at records m 3) ≡ b
-          → AddedStands bytes v (cond b (label_adds list (label_of_numbers (field_at records m 3) (field_at records m 4))) None)
-      go true has = label_stands bytes v here.within here.few (field_at records m 3) (field_at records m 4) (here.labels m h has) list _ refl
-      go false has = tt
+      go : (l : Option read.Label) → node_label (node_at records m) ≡ l → AddedStands bytes v (listed list l)
+      go None none = tt
+      go (Some l) some =
+          let its = label_read some in
+          label_stands bytes v here.within here.few (field_at records m 3) (field_at records m 4) (here.labels m h its.labelled) list l its.is
 
   -- once all records are passed
   pub uses_all : (m : ℕ) → m ≡ n + 1 → uses_below bytes v list records m ≡ term_uses list (term_in bytes v records n)

@@ -1,5 +1,5 @@
 -- What the labels of a term in records add to a list, and what is asked of the labels.
-use Rattle.std.specs.Prelude.{ℕ, ◌+◌, ◌*◌, ◌≤◌, ◌<◌, cond, List, [], ◌∷◌, length, Option, None, Some}
+use Rattle.std.specs.Prelude.{ℕ, Bool, true, false, ◌+◌, ◌*◌, ◌≤◌, ◌<◌, cond, List, [], ◌∷◌, length, Option, None, Some}
 use Rattle.definitions.specs.declared.Version.TheVariants.{First, Second, Third}
 use Rattle.definitions.specs.declared.TermList.{TermList}
 use Rattle.definitions.specs.declared.TermList.TheVariants.{Atoms, Datatypes}
@@ -8,14 +8,12 @@ use Rattle.definitions.specs.Term.{Label, ProofTerm, of_labels, label_atoms, lab
 use Rattle.prefix_code.specs.PropAt.{Present}
 use Rattle.vocabulary.specs.declared.Vocabulary.{Vocabulary}
 use Rattle.vocabulary.specs.Vocabulary.{code_in, prop_in, Within, SomeProposition}
-use Rattle.proof_term.specs.Records.{record_size, field_at, term_at}
-use Rattle.proof_term.specs.Labels.{has_label, InOrder, LabelsFit}
-use Rattle.proof_term.specs.Views.{label_of_numbers}
+use Rattle.proof_term.specs.Records.{record_size, term_at}
+use Rattle.proof_term.specs.Labels.{InOrder, LabelsFit}
+use Rattle.proof_term.specs.Views.{node_label, node_at}
 use Rattle.proof_term.specs.declared.nodes.Label as read
-use Rattle.proof_term.specs.declared.nodes.Label.TheVariants as label
+use Rattle.proof_term.specs.declared.nodes.Label.TheVariants.{Proposition, Datatype}
 use Rattle.prop_lists.specs.Entries.{use_of, datatype_uses, entries}
-use Rattle.proof_term_lists.specs.declared.Added.{Added}
-use Rattle.proof_term_lists.specs.declared.Added.TheVariants.{Datatype, Proposition}
 
 -- what a label adds to a list
 unfoldable pub label_uses : TermList → Label ℕ → List (AtomUse ℕ)
@@ -26,30 +24,34 @@ label_uses (Datatypes v) l = datatype_uses (label_datatypes v l)
 abbrev pub term_uses : TermList → ProofTerm ℕ → List (AtomUse ℕ)
 term_uses list t = of_labels (label_uses list) t
 
--- what a label adds: a datatype is no atom, and the datatypes of a proposition are listed in versions 2 and 3 only
-unfoldable pub label_adds : TermList → read.Label → Option Added
-label_adds Atoms (label.Datatype name) = None
-label_adds (Datatypes v) (label.Datatype name) = Some (Datatype name)
-label_adds Atoms (label.Proposition number) = Some (Proposition number)
-label_adds (Datatypes First) (label.Proposition number) = None
-label_adds (Datatypes Second) (label.Proposition number) = Some (Proposition number)
-label_adds (Datatypes Third) (label.Proposition number) = Some (Proposition number)
+-- whether a list takes up a label: a datatype is no atom, and the datatypes of a proposition are listed in versions 2 and 3 only
+unfoldable pub is_listed : TermList → read.Label → Bool
+is_listed Atoms (Datatype name) = false
+is_listed (Datatypes v) (Datatype name) = true
+is_listed Atoms (Proposition number) = true
+is_listed (Datatypes First) (Proposition number) = false
+is_listed (Datatypes Second) (Proposition number) = true
+is_listed (Datatypes Third) (Proposition number) = true
 
--- what the label of record m adds, if it has one
-unfoldable pub record_adds : TermList → List ℕ → ℕ → Option Added
-record_adds list records m =
-    cond (has_label (field_at records m 0) (field_at records m 3)) (label_adds list (label_of_numbers (field_at records m 3) (field_at records m 4))) None
+-- a label, if there is one that a list takes up
+abbrev pub listed : TermList → Option read.Label → Option read.Label
+listed list None = None
+listed list (Some l) = cond (is_listed list l) (Some l) None
+
+-- what record m adds
+unfoldable pub record_adds : TermList → List ℕ → ℕ → Option read.Label
+record_adds list records m = listed list (node_label (node_at records m))
 
 -- In a memory with a vocabulary:
 module _ (bytes : List ℕ) (v : Vocabulary) where
   -- the entries of what is added
-  abbrev pub added_uses : TermList → Option Added → List (AtomUse ℕ)
+  abbrev pub added_uses : TermList → Option read.Label → List (AtomUse ℕ)
   added_uses list None = []
   added_uses list (Some (Datatype name)) = use_of name 0 ∷ []
   added_uses list (Some (Proposition at)) = entries list (prop_in bytes v at)
 
   -- it has a name there, or a proposition
-  abbrev pub AddedStands : Option Added → Type 0
+  abbrev pub AddedStands : Option read.Label → Type 0
   AddedStands None = Unit {0}
   AddedStands (Some (Datatype name)) = (name < v.name_count) × (name < 65536)
   AddedStands (Some (Proposition at)) = SomeProposition bytes v at

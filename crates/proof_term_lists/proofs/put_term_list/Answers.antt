@@ -1,8 +1,9 @@
 -- The loop's invariant: what the labels of the records below m add is written.
+use Prim.Native.Nat.{◌+◌}
 use native.Mathlib.Omega.{arith}
-use Rattle.prop_lists.proofs.Writes.{no_numbers, numbers_join}
-use Rattle.proof_term_lists.proofs.Labels.{uses_none, uses_more, uses_all, added_stands}
-use Rattle.proof_term_lists.proofs.Numbers.{numbers_are}
+use Rattle.prop_lists.proofs.Writes.{no_numbers}
+use Rattle.proof_term_lists.proofs.Labels.{uses_none, added_stands}
+use Rattle.proof_term_lists.proofs.Numbers.{numbers_more, numbers_all}
 use Rattle.proof_term_lists.proofs.put_term_list.Goals as goal
 
 pub loop-m-init : goal.loop-m-init
@@ -14,10 +15,14 @@ put_added-requires g c =
 
 pub loop-m-preserved : goal.loop-m-preserved
 loop-m-preserved g c =
-    rw (uses_more _ _ c.args.list _ _ c.record_adds-added.ensures, numbers_join)
+    rw (numbers_more _ _ c.args.list _ _ c.record_adds-added.ensures)
     (g.met.S.Sink.laws.then c.loop-m.invariant c.put_added.ensures)
 
 pub returns : goal.returns
-returns g c =
-    let all = uses_all c.requires c.args.list c.loop-m.m (omega arith) in
-    rw (numbers_are, ← all) c.loop-m.invariant
+returns g c = rw (numbers_all c.requires c.args.list c.loop-m.m (omega arith)) c.loop-m.invariant
+
+-- the last turn
+pub returns-2 : goal.returns-2
+returns-2 g c =
+    rw (numbers_all c.requires c.args.list (c.loop-m.m + 1) (omega arith), numbers_more _ _ c.args.list _ _ c.record_adds-added.ensures)
+    (g.met.S.Sink.laws.then c.loop-m.invariant c.put_added.ensures)
