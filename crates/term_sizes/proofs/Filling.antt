@@ -39,9 +39,6 @@ pub record Filled (before : List ℕ) (m : ℕ) (after : List ℕ) : Type 0 wher
   pub kept : SameNumbers after before
   pub long : length after ≡ length before
 
-pub filled_none : (before : List ℕ) → Filled before 0 before
-filled_none before = record { sized = λ k l. absurd (omega arith); kept = λ k i l. refl; long = refl }
-
 pub filled_all : {before after : List ℕ} {n m : ℕ} → n < m → Filled before m after → SizesFilled before n after
 filled_all l f = record { sized = λ k h. f.sized k (omega arith); kept = f.kept; long = f.long }
 

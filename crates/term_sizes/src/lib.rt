@@ -39,7 +39,7 @@ pub fn fill_sizes(records: &mut [u16], n: usize)
     requires { record_size * (n + 1) ≤ length records.old }
     ensures { SizesFilled records.old n records.new }
 {
-    for m in 0..n + 1 {
+    for m in 0..=n {
         let count = count_nodes(records, m);
         records[RECORD_SIZE * m + SIZE] = count as u16;
     }
