@@ -24,7 +24,10 @@ use Rattle.proof_term_display.proofs.Parts.{unit_text, part_text_lem}
 use Rattle.proof_term_display.proofs.Formats.{rendered, format_text}
 use Rattle.proof_term.specs.declared.nodes.Kind.{Kind}
 use Rattle.proof_term.specs.declared.nodes.Kind.TheVariants as kind
-use Rattle.proof_term.specs.Views.{kind_number}
+use Rattle.proof_term.specs.Views.{kind_number, label_of_numbers, node_label, node_at}
+use Rattle.proof_term.specs.declared.nodes.Label.{Label}
+use Rattle.proof_term.proofs.Views.{LabelRead}
+use Rattle.proof_term.proofs.NodeLabels.{label_is}
 use Rattle.proof_term_display.specs.declared.TermPart.{TermPart}
 use Rattle.proof_term_length.specs.declared.Row.{Row}
 use Rattle.proof_term_length.specs.Measure.{row_of, Numbered, term_length, name_size, part_size, own_label_length}
@@ -149,12 +152,16 @@ module _ (bytes : List ℕ) (v : Vocabulary) (records : List ℕ) (n : ℕ) (s :
       omega (arith, ap length (is ∙ sym shown), texts_length (get_or formats (kind_number k) []), rows_count k, same)
 
 -- by whether the record has a label
-pub label_there : (bytes : List ℕ) (v : Vocabulary) (records : List ℕ) (n : ℕ) → has_label (field_at records n 0) (field_at records n 3) ≡ true
+pub label_there : (bytes : List ℕ) (v : Vocabulary) (records : List ℕ) (n : ℕ) {l : Label} → LabelRead records n l
     → {r : ℕ} → r ≡ length (label_text bytes v records n) → 2 + r ≡ own_label_length bytes v records n
 unfolding own_label_length
-label_there bytes v records n h e = rw h (omega arith)
+label_there bytes v records n read e = rw read.labelled (omega arith)
 
-pub label_absent : (bytes : List ℕ) (v : Vocabulary) (records : List ℕ) (n : ℕ) → has_label (field_at records n 0) (field_at records n 3) ≡ false
-    → 0 ≡ own_label_length bytes v records n
+pub label_absent : (bytes : List ℕ) (v : Vocabulary) (records : List ℕ) (n : ℕ) → node_label (node_at records n) ≡ None → 0 ≡ own_label_length bytes v records n
 unfolding own_label_length
-label_absent bytes v records n h = rw h
+label_absent bytes v records n none = go (has_label (field_at records n 0) (field_at records n 3)) (sym (label_is records n) ∙ none)
+  where
+    go : (b : Bool) → cond b (Some (label_of_numbers (field_at records n 3) (field_at records n 4))) None ≡ None
+        → 0 ≡ cond b (2 + length (label_text bytes v records n)) 0
+    go true is = cc
+    go false is = refl

@@ -1,6 +1,6 @@
 -- What the tables hold while the records are measured.
 use Prim.Native.Nat.{ℕ, ◌+◌, ◌*◌, ◌/◌, ◌%◌, ◌≤◌, ◌<◌, min}
-use mathlib.Core.Path.{◌≡◌, ◌∙◌}
+use mathlib.Core.Path.{◌≡◌, ap, ◌∙◌}
 use mathlib.Core.Logic.{by_cases}
 use mathlib.Core.List.{List}
 use native.Mathlib.Omega.{arith}
@@ -10,7 +10,7 @@ use lib.Seq.{get_or-set_same, get_or-set_other}
 use Rattle.definitions.specs.declared.Style.{Style}
 use Rattle.vocabulary.specs.declared.Vocabulary.{Vocabulary}
 use Rattle.prop.specs.Printing.{prop_text}
-use Rattle.proof_term_length.specs.Measure.{term_length, Measurable, MeasuredBelow, Known}
+use Rattle.proof_term_length.specs.Measure.{term_length, own_label_length, Agrees, Measurable, MeasuredBelow, Known}
 
 -- an entry of a table of zeros
 zero_at : (n i : ℕ) → ◌≡◌ {A = ℕ} (get_or (replicate n 0) i 0) 0
@@ -32,12 +32,13 @@ module _ (bytes : List ℕ) (v : Vocabulary) where
       (λ other. let same = get_or-set_other known slot i x 0 other in rw same (k i (λ z. h (same ∙ z))))
 
   module _ (records : List ℕ) (s : Style) (cap : ℕ) where
-    -- one more record is measured
-    pub one_measured : (lengths : List ℕ) {m : ℕ} → MeasuredBelow bytes v records s cap lengths m → m < length lengths →
-        {r : ℕ} → r ≡ min (term_length bytes v records s m) cap → MeasuredBelow bytes v records s cap (set lengths m r) (m + 1)
-    one_measured lengths {m} below inside {r} is k h = by_cases (ℕ_discrete k m)
-        (λ e. rw e (get_or-set_same lengths m r 0 inside ∙ is))
-        (λ other. get_or-set_other lengths m k r 0 other ∙ below k (omega arith))
+    -- one more record is measured, by its text without the label and by its label
+    pub one_measured : (lengths : List ℕ) {m : ℕ} → MeasuredBelow bytes v records s cap lengths m → m < length lengths → (bare : ℕ) {label r : ℕ}
+        → Agrees cap (bare + own_label_length bytes v records m) (term_length bytes v records s m) → label ≡ own_label_length bytes v records m
+        → r ≡ min (bare + label) cap → MeasuredBelow bytes v records s cap (set lengths m r) (m + 1)
+    one_measured lengths {m} below inside bare whole own is k h = by_cases (ℕ_discrete k m)
+        (λ e. rw e (get_or-set_same lengths m _ 0 inside ∙ (is ∙ (ap (λ l. min (bare + l) cap) own ∙ whole.same))))
+        (λ other. get_or-set_other lengths m k _ 0 other ∙ below k (omega arith))
 
 -- what can be measured can be measured of the records before
 pub measurable_below : {records : List ℕ} {n : ℕ} {bytes : List ℕ} {v : Vocabulary} {ends : List ℕ} {m : ℕ}

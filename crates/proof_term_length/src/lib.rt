@@ -11,7 +11,7 @@ use TermPart::{
     Argument, AscribedBody, First, Function, NamedBody, PairFirst, PairSecond, Second, Third,
 };
 use definitions::Style;
-use proof_term::{Kind, Label, field, has_label, kind_at, label_at};
+use proof_term::{Kind, Label, field, kind_at, node_at};
 use proof_term_display::{TermPart, is_bracketed};
 use prop_length::{name_length, text_length};
 use vocabulary::Vocabulary;
@@ -202,12 +202,12 @@ fn label_length(
     ensures { (result ≡ own_label_length bytes.now v records.now n)
         × Known bytes.now v known.new }
 {
-    if !has_label(field(records, n, 0), field(records, n, 3)) {
-        return 0;
-    }
-    match label_at(records, n) {
-        Label::Datatype(name) => COLON + name_length(bytes, v, usize::from(name)),
-        Label::Proposition(at) => COLON + known_length(bytes, v, ends, usize::from(at), known),
+    match node_at(records, n).label() {
+        None => 0,
+        Some(Label::Datatype(name)) => COLON + name_length(bytes, v, usize::from(name)),
+        Some(Label::Proposition(at)) => {
+            COLON + known_length(bytes, v, ends, usize::from(at), known)
+        }
     }
 }
 
@@ -226,7 +226,7 @@ pub fn term_length(
 {
     let mut known = [0u32; KNOWN_LIMIT];
     let mut lengths = [0usize; RECORD_LIMIT];
-    for m in 0..n + 1 {
+    for m in 0..=n {
         let bare = bare_length(records, m, bytes, v, &lengths, style, cap);
         let label = label_length(records, m, bytes, v, ends, &mut known);
         lengths[m] = sum(bare, label, cap);
