@@ -1,7 +1,7 @@
 -- The bytes that are written are those of the new record and of the new sheet.
 use Prim.Native.Nat.{ℕ, ◌+◌, ◌-◌, ◌*◌, ◌≤◌, ◌<◌}
 use mathlib.Core.Path.{◌≡◌, refl, sym, ap, ap₂, ◌∙◌}
-use mathlib.Core.Bool.{Bool, true, false}
+use mathlib.Core.Bool.{true, false}
 use mathlib.Core.List.{List, [], ◌∷◌, ◌++◌, append_assoc, append-nil}
 use native.Mathlib.Omega.{arith}
 use lib.ListN.{length, take, drop, length-take, length-drop}
@@ -154,9 +154,8 @@ module _ {s : List ℕ} {h : Sheet} (a : AcceptedSheet s h) where
         let parts = simp (length-append, length-take, length-drop) at (ap length sheet_bytes) in
         omega (arith, parts, after_header, within)
 
-    -- so they are written
-    pub sheet_wrote : {l : Layout} {write : Bool} {before after : List ℕ} {next : ℕ} → l ≡ layout_of h
-        → Wrote (u16s (header_numbers (one_more h)) ++ (take (l.text - header_size) (drop header_size s) ++ (step ++ take (length s - l.text) (drop l.text s))))
-        write before 0 after next
-        → Wrote (sheet_with s step) write before 0 after next
-    sheet_wrote e w = rw (e, sheet_bytes) at w
+    -- so its parts, from where they lie, are the sheet
+    pub sheet_parts : {l : Layout} → l ≡ layout_of h
+        → u16s (header_numbers (one_more h)) ++ (take (l.text - header_size) (drop header_size s) ++ (step ++ take (length s - l.text) (drop l.text s)))
+        ≡ sheet_with s step
+    sheet_parts e = rw e sheet_bytes

@@ -4,7 +4,7 @@
 
 ghost use Rattle.std.specs.Prelude.{◌≡◌, false, true, ℕ, ◌<◌, length, take, Ok};
 ghost use Rattle.definitions.specs.Outcome.{accepted};
-ghost use Rattle.definitions.specs.Sheet.{step_size, step_limit, names, propositions, steps, step_records};
+ghost use Rattle.definitions.specs.Sheet.{step_limit, names, propositions, steps, step_records};
 ghost use Rattle.definitions.specs.Tree.{root_of};
 ghost use Rattle.definitions.specs.Admission.{bad_step};
 ghost use Rattle.definitions.specs.Answers.{is_in_room};
@@ -12,7 +12,6 @@ ghost use Rattle.definitions.specs.NameIndex.{slot_count};
 ghost use Rattle.definitions.specs.Restate.{new_record, no_step_left, restate_answer};
 ghost use Rattle.writer_laws.specs.Restates.{Restates};
 ghost use Rattle.output.specs.Numbers.{u16s};
-ghost use Rattle.output.specs.Wrote.{Wrote};
 ghost use Rattle.output.specs.Written.{Fills};
 ghost use Rattle.steps.specs.Records.{HasStep};
 ghost use Rattle.steps.specs.Tables.{SizeTable};
@@ -25,7 +24,8 @@ ghost use Rattle.restating.specs.Slots.{slots_after};
 use comparison::compare_conclusions;
 use definitions::{Reason, Refusal};
 use name_index::{SLOT_COUNT, build};
-use output::{put_all, put_u16s};
+use output::sink::put_u16s;
+use output::{Sink, Writer};
 use sheet::{AdmittedSheet, Sheet};
 use steps::{Rule, bad_step, first_deep_tree, step_at};
 
@@ -41,8 +41,7 @@ pub struct Given {
 
 // The new step's record: AlphaEquivalent over one premiss, without identifiers, and what is given. What is given may be no conclusion,
 // so it is written number by number, into an array of the size of a record.
-fn put_record(out: &mut [u8], given: Given)
-    requires { length out.old ≡ step_size }
+fn put_record(out: &mut [u8; Sheet::STEP_SIZE], given: Given)
     ensures { out.new ≡ new_record (given_of given) }
 {
     let rule = [Rule::AlphaEquivalent as u8, 1, 0, 0, 0, 0, 0, 0, 0, 0];
@@ -53,14 +52,16 @@ fn put_record(out: &mut [u8], given: Given)
         given.third,
         given.column,
     ];
-    let after_rule = put_all(out, 0, &rule, true);
-    put_u16s(out, after_rule, &conclusion, true);
+    let mut writer = Writer { out, to: 0 };
+    writer.put_all(&rule);
+    put_u16s(&mut writer, &conclusion);
 }
 
-// The header of a sheet, which is put here alone.
-pub fn put_header(out: &mut [u8], h: Sheet, write: bool) -> usize
+// The header of a sheet.
+#[tactic(auto, unfolding(definitions::specs::Sheet::text_limit, definitions::specs::Sheet::name_limit, definitions::specs::Sheet::code_limit, definitions::specs::Sheet::proposition_limit, definitions::specs::Sheet::step_limit, crate::specs::Step::header_numbers))]
+pub fn put_header<S: Sink<u8>>(sink: &mut S, h: Sheet)
     requires { InRange h }
-    ensures { Wrote (u16s (header_numbers h)) write out.old 0 out.new result }
+    ensures { S.puts sink.old (u16s (header_numbers h)) sink.new }
 {
     let numbers = [
         h.text_length as u16,
@@ -70,13 +71,13 @@ pub fn put_header(out: &mut [u8], h: Sheet, write: bool) -> usize
         h.steps as u16,
         h.goal as u16,
     ];
-    put_u16s(out, 0, &numbers, write)
+    put_u16s(sink, &numbers);
 }
 
-// Writes the sheet with one more step, each part where the last one ended: its header, all up to the text, the step, and the rest.
-fn put_sheet(out: &mut [u8], sheet: &AdmittedSheet, step: &[u8]) -> usize
+// The sheet with one more step: its header, all up to the text, the step, and the rest.
+fn put_sheet<S: Sink<u8>>(sink: &mut S, sheet: &AdmittedSheet, step: &[u8])
     requires { steps sheet.now < step_limit }
-    ensures { Wrote (sheet_with sheet.now step.now) true out.old 0 out.new result }
+    ensures { S.puts sink.old (sheet_with sheet.now step.now) sink.new }
 {
     let s = sheet.bytes();
     let h = sheet.header();
@@ -87,10 +88,10 @@ fn put_sheet(out: &mut [u8], sheet: &AdmittedSheet, step: &[u8]) -> usize
     let text = h.layout().text;
     let pairs_and_steps = &s[Sheet::HEADER_SIZE..text];
     let text_and_code = &s[text..];
-    let after_header = put_header(out, new, true);
-    let after_steps = put_all(out, after_header, pairs_and_steps, true);
-    let after_step = put_all(out, after_steps, step, true);
-    put_all(out, after_step, text_and_code, true)
+    put_header(sink, new);
+    sink.put_all(pairs_and_steps);
+    sink.put_all(step);
+    sink.put_all(text_and_code);
 }
 
 // 24: there are already 1,024 steps or 256 levels. The sizes stand beside the sheet, since few functions over a sheet read a table of
@@ -161,7 +162,7 @@ fn write_sheet(
     if out.len() < end {
         return Err(Reason::Room.at(0));
     }
-    put_sheet(out, sheet, step);
+    put_sheet(&mut Writer { out, to: 0 }, sheet, step);
     Ok(end)
 }
 

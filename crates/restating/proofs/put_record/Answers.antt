@@ -1,8 +1,11 @@
 -- The rule's bytes and then the given numbers fill the record.
-use Rattle.output.proofs.Writing.{then}
+use borrow.Author.Rules.{rules}
+use Rattle.definitions.specs.Sheet.{step_size}
+use Rattle.output.specs.Laws.{writer_laws}
 use Rattle.restating.proofs.Bytes.{record_filled}
 use Rattle.restating.proofs.put_record.Goals as goal
 
 pub returns : goal.returns
+unfolding step_size
 returns c =
-    record_filled c.args.given (then c.put_all-after_rule.ensures c.put_u16s.ensures) c.requires
+    record_filled c.args.given (writer_laws.then c.put_all.ensures c.put_u16s.ensures).wrote (search rules)

@@ -1,15 +1,9 @@
 -- The new record is tested, and the sheet with it is written where the tests answer yes.
-use mathlib.Core.Path.{refl}
 use borrow.Author.Rules.{rules}
-use Rattle.definitions.specs.Sheet.{step_size}
 use Rattle.restating.proofs.Answers.{told}
 use Rattle.restating.proofs.Bytes.{has_record}
 use Rattle.restating.proofs.Tests.{tests_refused, tests_no, tests_yes, steps_left}
 use Rattle.restating.proofs.restate_accepted.Goals as goal
-
-pub put_record-requires : goal.put_record-requires
-unfolding step_size
-put_record-requires c = refl
 
 pub judge-requires : goal.judge-requires
 judge-requires c = record { has_step = has_record _ c.put_record.ensures; size_table = c.requires }

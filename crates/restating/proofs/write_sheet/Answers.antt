@@ -2,6 +2,7 @@
 use Prim.Native.Nat.{◌+◌}
 use mathlib.Core.Path.{◌≡◌, ap}
 use native.Mathlib.Omega.{arith}
+use borrow.Author.Rules.{rules}
 use lib.ListN.{length}
 use Rattle.output.proofs.Filling.{too_long, fills}
 use Rattle.sheet.proofs.Admitted.{with_header}
@@ -21,4 +22,4 @@ returns-then-out-end c =
 pub returns : goal.returns
 returns c =
     let long = end_is (goal.at.returns c).After-bytes in
-    rw long at (fills (measured _ _) (omega (arith, long)) c.put_sheet.ensures)
+    rw (← long) (fills (measured _ _) {next = c.put_sheet.new.sink.to} (omega (arith, long)) (search rules))
