@@ -7,14 +7,14 @@ use mathlib.Core.List.{List, [], ◌∷◌, ◌++◌, append_assoc}
 use native.Mathlib.Omega.{arith}
 use native.Mathlib.Decide.{dec_lt}
 use lib.ListN.{length, take, drop, set, length-set, length-drop, length-append, take-append-drop}
-use lib.Seq.{sets, sets-eq, length-take-le, take_at, drop_at, take-append-le, drop-append-le, drop-drop, get_or-set_same, get_or-set_other}
+use lib.Seq.{sets, sets-eq, length-sets, length-take-le, take_at, drop_at, take-append-le, drop-append-le, drop-drop, get_or-set_same, get_or-set_other}
 use Rattle.definitions.specs.Prop.{Prop, rename_prop}
 use Rattle.definitions.specs.Code.{encode, Codable}
 use Rattle.definitions.specs.Sheet.{marked, pair_offset, pair_length, pair_end}
 use Rattle.definitions.proofs.PrefixCode.{encode_injective}
 use Rattle.output.specs.Wrote.{puts}
-use Rattle.renumbering.specs.Renumbered.{mapped, RenumbersWhole}
-use Rattle.standing_code.specs.Over.{code_space, Codes, CodeOver, CodeStands}
+use Rattle.renumbering.specs.Renumbered.{mapped}
+use Rattle.standing_code.specs.Over.{code_space, Codes, CodeStands}
 use Rattle.standing_code.proofs.Sizes.{same_long}
 
 -- A text stored within a memory.
@@ -63,20 +63,20 @@ module _ {names : ℕ} {pairs code : List ℕ} {count : ℕ} {numbers first : Li
     marked_long p e = sym (ap length e) ∙ length-take-le (pair_length pairs k) (drop (pair_offset pairs k) code)
         (rw length-drop (omega (arith, c.ends k l)))
 
-    pub one_more : {after : List ℕ} {at r : ℕ} {piece : List ℕ} → at ≡ pair_offset pairs k → piece ≡ marked pairs code k
-        → RenumbersWhole names piece numbers true out at after r → length after ≡ length out → Below (k + 1) after
+    pub one_more : {after : List ℕ} {at : ℕ} {piece : List ℕ} → at ≡ pair_offset pairs k → piece ≡ marked pairs code k
+        → ((p : Prop ℕ) → Codable names p → piece ≡ encode p → after ≡ puts true out at (encode (rename_prop (mapped numbers) p)))
+        → Below (k + 1) after
     unfolding puts pair_end
-    one_more {after} {at} {r} {piece} is cut w same =
+    one_more {after} {at} {piece} is cut put =
         let v = c.whole k l in
         let text = encode (rename_prop (mapped numbers) v.value) in
-        let put = w.wrote v.value v.codable (cut ∙ v.coded) in
         let size : length text ≡ pair_length pairs k = same_long (mapped numbers) v.value ∙ marked_long v.value v.coded in
-        let stored-so : after ≡ sets out (pair_offset pairs k) text = put.stored ∙ ap (λ (i : ℕ). sets out i text) is in
+        let stored-so : after ≡ sets out (pair_offset pairs k) text = put v.value v.codable (cut ∙ v.coded) ∙ ap (λ (i : ℕ). sets out i text) is in
         let room : pair_offset pairs k + length text ≤ code_space = omega (arith, c.ends k l, c.low, size) in
         let fits : pair_offset pairs k + length text ≤ length out = omega (arith, room, b.long, c.room) in
         record {
           reached = omega arith;
-          long = same ∙ b.long;
+          long = ap length stored-so ∙ length-sets out (pair_offset pairs k) text ∙ b.long;
           over = λ i h p g e. by_cases (dec_lt i k)
               (λ earlier.
               ap (λ (m : List ℕ). take (pair_length pairs i) (drop (pair_offset pairs i) m)) stored-so
@@ -98,20 +98,19 @@ module _ {names : ℕ} {pairs code : List ℕ} {count : ℕ} {numbers first : Li
             let whole : encode p ++ [] ≡ encode v.value ++ [] = ap (λ (m : List ℕ). m ++ []) (sym e ∙ v.coded) in
             ap (λ (q : Prop ℕ). encode (rename_prop (mapped numbers) q)) (encode_injective names p v.value [] [] g v.codable whole).0
 
-  pub all_over : {k : ℕ} {out : List ℕ} → Below k out → count ≤ k → CodeOver names pairs code count numbers first out
-  all_over {k} b h = record { over = λ i l. b.over i (omega arith); beyond = b.beyond }
-
-  -- ⊤ and ⊥ are stored behind them
-  pub ends_stored : {out : List ℕ} → CodeOver names pairs code count numbers first out → length out ≡ length first
+  -- once all do, ⊤ and ⊥ are stored behind them
+  pub ends_stored : {k : ℕ} {out : List ℕ} → Below k out → count ≤ k
       → CodeStands names pairs code count numbers (set (set out code_space 0) (code_space + 1) 1)
   unfolding pair_end
-  ends_stored {out} o same = record {
-    long = simp length-set (same ∙ c.room);
-    over = λ k l p g e.
-        let low : pair_offset pairs k + pair_length pairs k ≤ code_space = omega (arith, c.ends k l, c.low) in
-        before (set out code_space 0) (1 ∷ []) (code_space + 1) (simp length-set (omega (arith, same, c.room))) (pair_offset pairs k) (pair_length pairs k) (omega arith)
-        ∙ before out (0 ∷ []) code_space (omega (arith, same, c.room)) (pair_offset pairs k) (pair_length pairs k) low
-        ∙ o.over k l p g e;
-    top = get_or-set_other (set out code_space 0) (code_space + 1) code_space 1 0 (λ e. omega arith) ∙ get_or-set_same out code_space 0 0 (omega (arith, same, c.room));
-    bottom = get_or-set_same (set out code_space 0) (code_space + 1) 1 0 (simp length-set (omega (arith, same, c.room)));
-  }
+  ends_stored {out = out} b h =
+      let same = b.long in
+      record {
+        long = simp length-set (same ∙ c.room);
+        over = λ k l p g e.
+            let low : pair_offset pairs k + pair_length pairs k ≤ code_space = omega (arith, c.ends k l, c.low) in
+            before (set out code_space 0) (1 ∷ []) (code_space + 1) (simp length-set (omega (arith, same, c.room))) (pair_offset pairs k) (pair_length pairs k) (omega arith)
+            ∙ before out (0 ∷ []) code_space (omega (arith, same, c.room)) (pair_offset pairs k) (pair_length pairs k) low
+            ∙ b.over k (omega arith) p g e;
+        top = get_or-set_other (set out code_space 0) (code_space + 1) code_space 1 0 (λ e. omega arith) ∙ get_or-set_same out code_space 0 0 (omega (arith, same, c.room));
+        bottom = get_or-set_same (set out code_space 0) (code_space + 1) 1 0 (simp length-set (omega (arith, same, c.room)));
+      }

@@ -2,7 +2,7 @@
 use Prim.Native.Nat.{ℕ, ◌+◌, ◌<◌}
 use mathlib.Core.Path.{◌≡◌, sym, ap, ◌∙◌, subst}
 use mathlib.Core.List.{List, [], ◌∷◌, ◌++◌, append_assoc}
-use lib.ListN.{length, take, drop, take-append-drop}
+use lib.ListN.{drop, take-append-drop}
 use Rattle.definitions.specs.Prop.{Prop, Binary, Connective, connective_byte, rename_prop}
 use Rattle.definitions.specs.Code.{encode, Codable}
 use Rattle.definitions.specs.Sheet.{marked, pair_offset, pair_length}

@@ -20,13 +20,7 @@ pub record Codes (names : ℕ) (pairs code : List ℕ) (count : ℕ) (numbers ou
   pub mapped_all : names ≤ length numbers
   pub room : length out ≡ code_space + 2
 
--- each stands over other names where it stood, and nothing past the code has changed
-pub record CodeOver (names : ℕ) (pairs code : List ℕ) (count : ℕ) (numbers before after : List ℕ) : Type 0 where
-  pub over : (k : ℕ) → k < count → (p : Prop ℕ) → Codable names p → marked pairs code k ≡ encode p
-      → take (pair_length pairs k) (drop (pair_offset pairs k) after) ≡ encode (rename_prop (mapped numbers) p)
-  pub beyond : drop code_space after ≡ drop code_space before
-
--- the same, with ⊤ and ⊥ behind all code
+-- each stands over other names where it stood, and ⊤ and ⊥ behind all code
 pub record CodeStands (names : ℕ) (pairs code : List ℕ) (count : ℕ) (numbers after : List ℕ) : Type 0 where
   pub long : length after ≡ code_space + 2
   pub over : (k : ℕ) → k < count → (p : Prop ℕ) → Codable names p → marked pairs code k ≡ encode p

@@ -1,18 +1,12 @@
--- Two bytes more, behind all that the propositions take.
-use native.Mathlib.Omega.{arith}
-use lib.ListN.{length-set}
-use borrow.Author.Rules.{rules}
-use Rattle.standing_code.proofs.Places.{ends_stored}
+-- The invariant: the propositions before k stand over other names. Two bytes more stand behind all that they take.
+use Rattle.std.proofs.Common.{rules}
+use Rattle.standing_code.proofs.Places.{one_more, ends_stored}
 use Rattle.standing_code.proofs.put_code.Goals as goal
 
-pub put_propositions-requires : goal.put_propositions-requires
-put_propositions-requires c = c.requires
-
-pub bounds-out-8192 : goal.bounds-out-8192
-bounds-out-8192 c = omega (arith, c.requires.room)
-
-pub bounds-out-8193 : goal.bounds-out-8193
-bounds-out-8193 c = simp length-set (omega (arith, c.requires.room))
+pub loop-k-preserved : goal.loop-k-preserved
+loop-k-preserved c = λ asked.
+    one_more asked (c.loop-k.invariant asked) c.loop-k-test.true c.pair_offset-to.ensures c.marked_bytes.ensures
+    (λ p codable coded. let put = (c.put_proposition.ensures.put p codable coded).wrote.stored in search rules)
 
 pub returns : goal.returns
-returns c = ends_stored c.requires c.put_propositions.ensures (omega arith)
+returns c = ends_stored c.requires (c.loop-k.invariant c.requires) c.loop-k-test.false
