@@ -1,7 +1,6 @@
 -- The code of a proposition of an accepted sheet, as it stands and over other name numbers; and two propositions by their codes.
 use Prim.Native.Nat.{ℕ, ◌+◌, ◌≤◌, ◌<◌}
 use mathlib.Core.Path.{◌≡◌, sym, ap, ap₂, ◌∙◌}
-use mathlib.Core.Bool.{true}
 use mathlib.Core.List.{List}
 use native.Mathlib.Omega.{arith}
 use lib.ListN.{length, take, drop, length-take, length-drop}
@@ -19,9 +18,11 @@ use Rattle.graft_laws.proofs.MergedSheet.{rename_same, coded}
 use Rattle.graft_laws.proofs.Lengths.{length_renamed}
 use Rattle.graft_laws.proofs.ByNumbers.{equal_by_numbers, host_renumbered}
 use Rattle.number.specs.Pairs.{NameWithin}
-use Rattle.output.specs.Wrote.{Wrote, puts}
+use Rattle.output.specs.Wrote.{puts}
+use Rattle.output.specs.Sinks.{WriterPuts}
+use Rattle.output.specs.declared.writer.Writer.{Writer}
 use Rattle.merged_names.specs.Numbered.{Numbered}
-use Rattle.renumbering.specs.Renumbered.{mapped, Whole, RenumbersWhole}
+use Rattle.renumbering.specs.Renumbered.{mapped, Whole, PutWhole}
 use Rattle.sheet.specs.declared.header.Sheet.{Sheet}
 use Rattle.sheet.specs.Header.{header_of}
 use Rattle.sheet.proofs.Given.{pair_within}
@@ -70,25 +71,25 @@ module _ {s : List ℕ} {h : Sheet} (a : AcceptedSheet s h) where
         rw a.header (record { value = prop_of s i; codable = codable; coded = e ∙ sym (coded s checks bytes i l).0 })
 
     -- what is written of it, whatever the numbers
-    pub code_written : {code numbers before after : List ℕ} {to r : ℕ} → code ≡ marked (proposition_pairs s) (code_bytes s) i
-        → RenumbersWhole h.names code numbers true before to after r → Wrote (code_over s numbers i) true before to after r
+    pub code_written : {code numbers : List ℕ} {before after : Writer ℕ} → code ≡ marked (proposition_pairs s) (code_bytes s) i
+        → PutWhole h.names code numbers WriterPuts before after → WriterPuts before (code_over s numbers i) after
     unfolding header_of code_over
-    code_written e w = w.wrote (prop_of s i) (rw a.header codable) (e ∙ sym (coded s checks bytes i l).0)
+    code_written e w = w.put (prop_of s i) (rw a.header codable) (e ∙ sym (coded s checks bytes i l).0)
 
     pub code_length_lem : (numbers : List ℕ) → length (code_over s numbers i) ≡ length (marked (proposition_pairs s) (code_bytes s) i)
     unfolding code_over
     code_length_lem numbers = length_renamed (mapped numbers) (prop_of s i) ∙ ap length (coded s checks bytes i l).0
 
-    -- it fills the start of the memory
-    pub code_stored : {code numbers before after : List ℕ} {r : ℕ} → code ≡ marked (proposition_pairs s) (code_bytes s) i → length before ≡ code_limit
-        → RenumbersWhole h.names code numbers true before 0 after r → (take r after ≡ code_over s numbers i) × (r ≤ code_limit)
+    -- it fits into a memory for the longest code, and fills its start
+    pub code_stored : (numbers : List ℕ) {before after : Writer ℕ} → length before.out.now ≡ code_limit → before.to ≡ 0
+        → WriterPuts before (code_over s numbers i) after → (take after.to after.out.now ≡ code_over s numbers i) × (after.to ≤ code_limit)
     unfolding puts
-    code_stored {code} {numbers} {before} {after} {r} e room w =
-        let wrote = code_written e w in
+    code_stored numbers {before} {after} room start put =
+        let wrote = rw start at put.wrote in
         let short : length (code_over s numbers i) ≤ code_limit = omega (arith, code_length_lem numbers, short_code i) in
-        let end : r ≡ 0 + length (code_over s numbers i) = wrote.within (omega arith) in
-        let stored = wrote.stored ∙ sets-eq (code_over s numbers i) before 0 (omega arith) in
-        (ap (take r) stored ∙ take_at (code_over s numbers i) _ r (omega arith), omega arith)
+        let end : after.to ≡ 0 + length (code_over s numbers i) = wrote.within (omega arith) in
+        let stored = wrote.stored ∙ sets-eq (code_over s numbers i) before.out.now 0 (omega arith) in
+        (ap (take after.to) stored ∙ take_at (code_over s numbers i) _ after.to (omega arith), omega arith)
 
 -- Of two accepted sheets and the merged numbers of their names:
 module _ {s t : List ℕ} {h g : Sheet} (a : AcceptedSheet s h) (b : AcceptedSheet t g) (s-bytes : Bytes s) (t-bytes : Bytes t)

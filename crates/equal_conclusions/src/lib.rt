@@ -2,9 +2,9 @@
 // codes over the merged numbers, by which names have equal bytes just where their numbers are equal.
 #![tactic(auto)]
 
-ghost use Rattle.std.specs.Prelude.{◌≡◌, ◌-◌, ◌<◌, ◌≤◌, length, take};
+ghost use Rattle.std.specs.Prelude.{◌≡◌, ◌-◌, ◌<◌, ◌≤◌, length};
 ghost use Rattle.definitions.specs.Equal.{eq_conclusion};
-ghost use Rattle.definitions.specs.Sheet.{code_limit, name_limit, names, propositions, steps, proposition_pairs, code_bytes, marked};
+ghost use Rattle.definitions.specs.Sheet.{name_limit, names, propositions, steps, proposition_pairs, code_bytes, marked};
 ghost use Rattle.definitions.specs.Answers.{named_conclusion};
 ghost use Rattle.merged_names.specs.Numbered.{Numbered};
 ghost use Rattle.sheet.specs.Admitted.{Accepted};
@@ -13,7 +13,8 @@ ghost use Rattle.equal_conclusions.specs.Equality.{code_over, same_proposition, 
 
 use identifier::same_name;
 use number::marked_bytes;
-use renumbering::put_renumbered;
+use output::Writer;
+use renumbering::put_proposition;
 use sheet::{AdmittedSheet, Sheet};
 use steps::{Conclusion, Judgement, step_at};
 
@@ -26,16 +27,23 @@ pub fn proposition_code<'a>(sheet: &AdmittedSheet<'a>, i: usize) -> &'a [u8]
     marked_bytes(sheet.proposition_pairs(), sheet.code_bytes(), i)
 }
 
-// Stores the code of a proposition over other name numbers, and answers how long it is.
-fn renumber_proposition(sheet: &AdmittedSheet, i: usize, numbers: &[u16], code: &mut [u8]) -> usize
+// The code of a proposition over other name numbers, in lent memory.
+fn renumber_proposition<'a>(
+    sheet: &AdmittedSheet,
+    i: usize,
+    numbers: &[u16],
+    memory: &'a mut [u8; Sheet::CODE_LIMIT],
+) -> &'a [u8]
     requires i_bound { i < propositions sheet.now }
-    requires room { (name_limit ≤ length numbers.now) × (length code.old ≡ code_limit) }
-    ensures code_after { take result code.new ≡ code_over sheet.now numbers.now i }
-    ensures upper_bound { result ≤ code_limit }
+    requires room { name_limit ≤ length numbers.now }
+    ensures is { result.now ≡ code_over sheet.now numbers.now i }
     ensures accepted { Accepted sheet.now }
 {
     let names = sheet.header().names;
-    put_renumbered(proposition_code(sheet, i), names, numbers, code, 0, true)
+    let mut writer = Writer { out: memory, to: 0 };
+    put_proposition(proposition_code(sheet, i), names, numbers, &mut writer);
+    let end = writer.to;
+    &memory[..end]
 }
 
 // Whether a proposition of the host and one of the donor are equal.
@@ -54,9 +62,9 @@ fn same_propositions(
 {
     let mut left = [0u8; Sheet::CODE_LIMIT];
     let mut right = [0u8; Sheet::CODE_LIMIT];
-    let left_length = renumber_proposition(host, p, host_numbers, &mut left);
-    let right_length = renumber_proposition(donor, q, donor_numbers, &mut right);
-    same_name(&left[..left_length], &right[..right_length])
+    let ours = renumber_proposition(host, p, host_numbers, &mut left);
+    let theirs = renumber_proposition(donor, q, donor_numbers, &mut right);
+    same_name(ours, theirs)
 }
 
 // Whether a type judgement of the host and one of the donor are equal: names are equal where their bytes are, so that no derived
@@ -96,25 +104,14 @@ pub fn same_conclusion(
     let ours = step_at(host.step_records(), k).conclusion;
     let root = donor.header().steps - 1;
     let theirs = step_at(donor.step_records(), root).conclusion;
-    match ours {
-        Conclusion::PropIsTrue(p) => {
-            let Conclusion::PropIsTrue(q) = theirs else {
-                return false;
-            };
-            same_propositions(
-                host,
-                host_numbers,
-                p as usize,
-                donor,
-                donor_numbers,
-                q as usize,
-            )
+    match (ours, theirs) {
+        (Conclusion::PropIsTrue(p), Conclusion::PropIsTrue(q)) => {
+            let (p, q) = (p as usize, q as usize);
+            same_propositions(host, host_numbers, p, donor, donor_numbers, q)
         }
-        Conclusion::TypeJudgement(x) => {
-            let Conclusion::TypeJudgement(y) = theirs else {
-                return false;
-            };
+        (Conclusion::TypeJudgement(x), Conclusion::TypeJudgement(y)) => {
             same_judgements(host, x, donor, y)
         }
+        _ => false,
     }
 }

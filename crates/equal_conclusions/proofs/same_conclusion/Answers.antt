@@ -34,41 +34,44 @@ theirs : (c : After-step_at-theirs) → c.step_at-theirs.result.conclusion
     ≡ (step_at (step_records c.args.donor.now) (steps c.args.donor.now - 1)).conclusion
 theirs c = root_concluded (donor_at (goal.at.After-step_at-theirs c).After-header-root) c.step_at-theirs.ensures c.step_records-2.ensures.is
 
-pub returns-in_default : goal.returns-in_default
-returns-in_default c =
-    proposition_and_judgement _ _ _ _ (ours (goal.at.returns-in_default c).After-step_at-theirs) (theirs (goal.at.returns-in_default c).After-step_at-theirs) c.in-PropIsTrue.is c.in_default.is
-
-pub same_propositions-requires : goal.same_propositions-requires
-same_propositions-requires c =
-    let here = goal.at.same_propositions-requires c in
+pub same_propositions-requires-clause-p_bound : goal.same_propositions-requires-clause-p_bound
+same_propositions-requires-clause-p_bound c =
+    let here = goal.at.same_propositions-requires-clause-p_bound c in
     let host = with_header c.step_records.ensures.accepted in
     let donor = donor_at here.After-header-root in
-    let record { k_bound = below; numbered = numbered; numbered_2 = merged } = c.requires in record {
-      numbered = numbered;
-      numbered_2 = merged;
-      p_bound = (
-        (known host _ below).proposition _ (sym (ours here.After-step_at-theirs) ∙ c.in-PropIsTrue.is),
-        (known donor _ (rw (root_is donor) at (root_below donor))).proposition _ (sym (theirs here.After-step_at-theirs) ∙ c.in-PropIsTrue-theirs.is),
-      );
-    }
-
-pub returns-in-PropIsTrue-theirs : goal.returns-in-PropIsTrue-theirs
-returns-in-PropIsTrue-theirs c =
-    two_propositions _ _ _ _ (ours (goal.at.returns-in-PropIsTrue-theirs c).After-step_at-theirs) (theirs (goal.at.returns-in-PropIsTrue-theirs c).After-step_at-theirs) c.in-PropIsTrue.is c.in-PropIsTrue-theirs.is c.same_propositions.ensures
-
-pub returns-in_default-theirs : goal.returns-in_default-theirs
-returns-in_default-theirs c =
-    judgement_and_proposition _ _ _ _ (ours (goal.at.returns-in_default-theirs c).After-step_at-theirs) (theirs (goal.at.returns-in_default-theirs c).After-step_at-theirs) c.in-TypeJudgement.is c.in_default-theirs.is
+    let both = c.in-PropIsTrue-PropIsTrue in (
+      (known host _ c.requires.k_bound).proposition _ (sym (ours here.After-step_at-theirs) ∙ both.is-0),
+      (known donor _ (rw (root_is donor) at (root_below donor))).proposition _ (sym (theirs here.After-step_at-theirs) ∙ both.is-1),
+    )
 
 pub same_judgements-requires : goal.same_judgements-requires
 same_judgements-requires c =
     let here = goal.at.same_judgements-requires c in
     let host = with_header c.step_records.ensures.accepted in
-    let donor = donor_at here.After-header-root in (
-      (known host _ c.requires.k_bound).judgement _ (sym (ours here.After-step_at-theirs) ∙ c.in-TypeJudgement.is),
-      (known donor _ (rw (root_is donor) at (root_below donor))).judgement _ (sym (theirs here.After-step_at-theirs) ∙ c.in-TypeJudgement-theirs.is),
+    let donor = donor_at here.After-header-root in
+    let both = c.in-TypeJudgement-TypeJudgement in (
+      (known host _ c.requires.k_bound).judgement _ (sym (ours here.After-step_at-theirs) ∙ both.is-0),
+      (known donor _ (rw (root_is donor) at (root_below donor))).judgement _ (sym (theirs here.After-step_at-theirs) ∙ both.is-1),
     )
 
-pub returns-in-TypeJudgement-theirs : goal.returns-in-TypeJudgement-theirs
-returns-in-TypeJudgement-theirs c =
-    two_judgements _ _ _ _ (ours (goal.at.returns-in-TypeJudgement-theirs c).After-step_at-theirs) (theirs (goal.at.returns-in-TypeJudgement-theirs c).After-step_at-theirs) c.in-TypeJudgement.is c.in-TypeJudgement-theirs.is c.same_judgements.ensures
+pub returns-in-PropIsTrue-PropIsTrue : goal.returns-in-PropIsTrue-PropIsTrue
+returns-in-PropIsTrue-PropIsTrue c =
+    let here = (goal.at.returns-in-PropIsTrue-PropIsTrue c).After-step_at-theirs in
+    let both = c.in-PropIsTrue-PropIsTrue in
+    two_propositions _ _ _ _ (ours here) (theirs here) both.is-0 both.is-1 c.same_propositions.ensures
+
+pub returns-in-TypeJudgement-TypeJudgement : goal.returns-in-TypeJudgement-TypeJudgement
+returns-in-TypeJudgement-TypeJudgement c =
+    let here = (goal.at.returns-in-TypeJudgement-TypeJudgement c).After-step_at-theirs in
+    let both = c.in-TypeJudgement-TypeJudgement in
+    two_judgements _ _ _ _ (ours here) (theirs here) both.is-0 both.is-1 c.same_judgements.ensures
+
+pub returns-in_default : goal.returns-in_default
+returns-in_default c =
+    let here = (goal.at.returns-in_default c).After-step_at-theirs in
+    proposition_and_judgement _ _ _ _ (ours here) (theirs here) c.in_default.is-0 c.in_default.is-1
+
+pub returns-in_default-2 : goal.returns-in_default-2
+returns-in_default-2 c =
+    let here = (goal.at.returns-in_default-2 c).After-step_at-theirs in
+    judgement_and_proposition _ _ _ _ (ours here) (theirs here) c.in_default.is-0 c.in_default.is-1
