@@ -6,3 +6,4 @@ pub mod Reps
 pub mod Opening
 pub mod Halves
 pub mod Comparing
+pub mod Projecting

@@ -158,11 +158,11 @@ pub fn second_side(code: &[u8], made: &[Slot], r: usize, node: usize) -> usize
     requires { (r < stops → Space code.now made.now r) × (node < node_limit) }
     ensures { Projected code.now made.now r (RightOf code.now made.now) node result }
 {
-    let p = expect(code, made, r, Connective::And, node);
-    if STOPS <= p {
-        return p;
+    let conjunction = expect(code, made, r, Connective::And, node);
+    if STOPS <= conjunction {
+        return conjunction;
     }
-    right(code, made, p)
+    right(code, made, conjunction)
 }
 
 // Makes a proposition of two, unless the second is a stop.
