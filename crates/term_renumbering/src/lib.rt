@@ -2,14 +2,11 @@
 #![tactic(auto)]
 
 ghost use Rattle.std.specs.Prelude.{◌≡◌, ◌+◌, ◌*◌, ◌≤◌, ◌<◌, length, set};
-ghost use Rattle.proof_term.specs.Records.{record_size, field_at};
+ghost use Rattle.proof_term.specs.Records.{record_size};
 ghost use Rattle.renumbering.specs.Renumbered.{mapped};
-ghost use Rattle.term_renumbering.specs.Over.{is_name, number_over, RecordOver, RecordsOver};
+ghost use Rattle.term_renumbering.specs.Over.{is_name, number_over, Over, RecordsOver};
 
 use proof_term::{DATATYPE, Kind, RECORD_SIZE, field, kind_at};
-
-// The numbers of a record that may be names: all but its tally.
-const NUMBERS: usize = RECORD_SIZE - 1;
 
 // Whether number `i` of a record of a kind is a name, by the kind of its label: a label's number is one if it is a datatype. The kind of
 // a label is read as a number here, since it stands among the numbers that are renumbered in place.
@@ -38,27 +35,26 @@ fn number_over(numbers: &[u16], kind: Kind, label: usize, i: usize, number: u16)
     number
 }
 
-// The names of record `m`. The numbers are read and stored by place: once the parts that `chunks_exact_mut` or `iter_mut` lends out of a
-// memory are given back, no proof knows what they hold.
-fn renumber_record(records: &mut [u16], m: usize, numbers: &[u16])
-    requires { record_size * (m + 1) ≤ length records.old }
-    ensures { RecordOver (mapped numbers.now) records.old m records.new }
+// The names of a record, a memory of one.
+fn renumber_record(row: &mut [u16], numbers: &[u16])
+    requires { length row.old ≡ record_size }
+    ensures { Over (mapped numbers.now) row.old 0 row.new }
 {
-    let kind = kind_at(records, m);
-    let label = field(records, m, 3);
-    for i in 0..NUMBERS {
-        let at = RECORD_SIZE * m + i;
-        let number = records[at];
-        records[at] = number_over(numbers, kind, label, i, number);
+    let kind = kind_at(row, 0);
+    let label = field(row, 0, 3);
+    for (i, number) in row.iter_mut().enumerate() {
+        *number = number_over(numbers, kind, label, i, *number);
     }
 }
 
-// The names of the records up to `n`.
+// The names of the records up to `n`. Each is lent by its place: of a memory that `chunks_exact_mut` has lent out, a proof knows the
+// length alone.
 pub fn renumber_records(records: &mut [u16], n: usize, numbers: &[u16])
     requires { record_size * (n + 1) ≤ length records.old }
     ensures { RecordsOver (mapped numbers.now) records.old n records.new }
 {
-    for m in 0..n + 1 {
-        renumber_record(records, m, numbers);
+    for m in 0..=n {
+        let at = RECORD_SIZE * m;
+        renumber_record(&mut records[at..at + RECORD_SIZE], numbers);
     }
 }

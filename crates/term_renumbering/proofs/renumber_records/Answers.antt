@@ -1,20 +1,18 @@
--- One record after the other is changed in place.
-use mathlib.Core.Path.{refl}
+-- Each turn of the loop puts one record more over other names.
+use mathlib.Core.Path.{◌∙◌}
 use native.Mathlib.Omega.{arith}
-use Rattle.term_renumbering.proofs.Numbers.{none_over, one_over, all_over}
+use Rattle.term_renumbering.proofs.Numbers.{lent_size, row_over, all_over}
 use Rattle.term_renumbering.proofs.renumber_records.Goals as goal
 
-pub loop-m-init : goal.loop-m-init
-loop-m-init c = (none_over _ _, omega arith, refl)
-
 pub renumber_record-requires : goal.renumber_record-requires
-renumber_record-requires c = omega (arith, c.loop-m.invariant.0.long)
+renumber_record-requires c = lent_size _ _ c.loop-m.records (omega (arith, c.requires, c.loop-m.auto.records)) ∙ omega arith
 
 pub loop-m-preserved : goal.loop-m-preserved
-loop-m-preserved c = (one_over _ _ c.loop-m.invariant.0 c.renumber_record.ensures (omega arith), omega arith, c.loop-m.invariant.2)
+loop-m-preserved c =
+    row_over _ _ (omega arith) (omega (arith, c.requires, c.loop-m.auto.records)) c.renumber_record.auto.row c.loop-m.invariant c.renumber_record.ensures
 
-pub shape_of-records : goal.shape_of-records
-shape_of-records c = c.loop-m.invariant.0.long
-
-pub returns : goal.returns
-returns c = all_over _ _ c.loop-m.invariant.0 (omega arith)
+-- the last turn
+pub returns-2 : goal.returns-2
+returns-2 c =
+    let last = row_over _ _ (omega arith) (omega (arith, c.requires, c.loop-m.auto.records)) c.renumber_record.auto.row c.loop-m.invariant c.renumber_record.ensures in
+    all_over _ _ last (omega arith)
