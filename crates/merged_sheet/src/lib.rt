@@ -17,7 +17,7 @@ ghost use Rattle.merged_sheet.specs.Merging.{limited, Merging};
 use appended_parts::{Appended, append_names, append_propositions};
 use definitions::{Reason, Refusal};
 use number::PAIR_SIZE;
-use output::put_all;
+use output::{Sink, Writer, put_all};
 use renumbering::put_steps;
 use restating::put_header;
 use sheet::{AdmittedSheet, Sheet};
@@ -43,11 +43,13 @@ fn put_pairs(
     let h = host.header();
     let names = &new_names[..PAIR_SIZE * (m.names - h.names)];
     let propositions = &new_propositions[..PAIR_SIZE * (m.propositions - h.propositions)];
-    let after_header = put_header(out, m, true);
-    let after_names = put_all(out, after_header, host.name_pairs(), true);
-    let after_new_names = put_all(out, after_names, names, true);
-    let after_propositions = put_all(out, after_new_names, host.proposition_pairs(), true);
-    put_all(out, after_propositions, propositions, true)
+    let mut writer = Writer { out, to: 0 };
+    put_header(&mut writer, m);
+    writer.put_all(host.name_pairs());
+    writer.put_all(names);
+    writer.put_all(host.proposition_pairs());
+    writer.put_all(propositions);
+    writer.to
 }
 
 // The host's steps, with the donor's in place of step k.
