@@ -10,7 +10,7 @@ use Rattle.definitions.specs.Term.{ProofTerm, Ident, Pair, Named, Function, Appl
 use Rattle.definitions.specs.TermText.{nodes}
 use Rattle.definitions.specs.Checker.{Judged, derived, stopped}
 use Rattle.checker.specs.Judging as judging
-use Rattle.prop_numbers.specs.declared.Slot.{Slot}
+use Rattle.prop_numbers.specs.declared.Made.{Made}
 use Rattle.prop_numbers.specs.Standing.{Rep, stops}
 use Rattle.checker.specs.Judging.{Checks, ChecksAs, Decides, InfersAs, Means, Shows, node, proposition, yes}
 
@@ -35,13 +35,13 @@ pub record Stopping (code : List ℕ) (scope : List (Option ℕ)) (t : ProofTerm
   pub means : Means code scope t n (stopped k)
 
 -- and one that does not
-pub record Deriving (code : List ℕ) (scope : List (Option ℕ)) (mades : List Slot) (t : ProofTerm ℕ) (n r : ℕ) : Type 0 where
+pub record Deriving (code : List ℕ) (scope : List (Option ℕ)) (mades : List Made) (t : ProofTerm ℕ) (n r : ℕ) : Type 0 where
   pub prop : Prop ℕ
   pub low : r < stops
   pub rep : Rep code mades n (n + nodes t) r prop
   pub means : Means code scope t n (derived prop)
 
-module _ {code : List ℕ} {scope : List (Option ℕ)} {mades : List Slot} {t : ProofTerm ℕ} {n r : ℕ} where
+module _ {code : List ℕ} {scope : List (Option ℕ)} {mades : List Made} {t : ProofTerm ℕ} {n r : ℕ} where
   pub stopping : InfersAs code scope mades t n r → stops ≤ r → Stopping code scope t n r
   stopping x h = go x.outcome x.shown x.means
     where

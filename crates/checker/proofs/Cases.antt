@@ -5,20 +5,23 @@ use Rattle.std.specs.Prelude.{Option, Some}
 use mathlib.Core.List.{List}
 use native.Mathlib.Omega.{arith}
 use lib.ListN.{length, set}
-use Rattle.definitions.specs.Prop.{or}
 use Rattle.definitions.specs.Term.{ProofTerm, Case}
 use Rattle.definitions.specs.TermText.{nodes}
+use Rattle.definitions.specs.Code.{encode}
+use Rattle.prefix_code.specs.PropAt.{prop_at}
 use Rattle.prefix_code.specs.Scan.{Scanned}
+use Rattle.prefix_code.specs.declared.Connective.TheVariants.{Or}
 use Rattle.prefix_code.proofs.Reading.{inside}
 use Rattle.proof_term.specs.Views.{kind_of}
 use Rattle.proof_term.specs.declared.nodes.Kind.{Kind}
 use Rattle.proof_term.specs.declared.nodes.Kind.TheVariants as variant
 use Rattle.proof_term.proofs.Views.{number_of_kind}
 use Rattle.proof_term.specs.Records.{field_at}
-use Rattle.prop_numbers.specs.declared.Slot.{Slot}
+use Rattle.prop_numbers.specs.declared.Made.{Made}
 use Rattle.prop_numbers.specs.Standing.{stops, name_space, Stood, Space, Kept}
 use Rattle.prop_numbers.specs.Answering.{Expected}
 use Rattle.prop_numbers.proofs.Reps.{kept_wider, kept_then}
+use Rattle.prop_numbers.proofs.Fronts.{byte_of}
 use Rattle.prop_numbers.proofs.Halves.{Halves, half}
 use Rattle.checker.specs.Scope.{Entries}
 use Rattle.checker.specs.Asking.{term_of, Few, NameHeld, Well, Judgeable}
@@ -27,9 +30,9 @@ use Rattle.checker.specs.Helping.{Bound}
 use Rattle.checker.proofs.Forms.{Three, case_view}
 use Rattle.checker.proofs.Sides.{Unopened, Opening, unopened, opening}
 use Rattle.checker.proofs.Inferring.{head_stands_there, head_halves}
-use Rattle.checker.proofs.Steps.{Call, call, few, bound_in, bound_long, restored, or_is, answer_space}
+use Rattle.checker.proofs.Steps.{Call, call, few, bound_in, bound_long, restored, answer_space}
 
-module _ {records code : List ℕ} {stride : ℕ} {scope : List (Option ℕ)} {mades : List Slot} {m n : ℕ} (j : Judgeable records code stride scope mades m n)
+module _ {records code : List ℕ} {stride : ℕ} {scope : List (Option ℕ)} {mades : List Made} {m n : ℕ} (j : Judgeable records code stride scope mades m n)
     {kind : Kind} {a : ℕ} (k : kind ≡ kind_of (field_at records m 0)) (ea : a ≡ field_at records m 1) (e : kind ≡ variant.Case) where
   abbrev own : Well records code stride m
   own = j.well m (omega arith)
@@ -54,29 +57,32 @@ module _ {records code : List ℕ} {stride : ℕ} {scope : List (Option ℕ)} {m
   head_few = few j (n + 1) view.first (omega (arith, j.room, view.size))
 
   -- Of the head's answer:
-  module _ {scope₁ : List (Option ℕ)} {mades₁ : List Slot} {r : ℕ} (i : Inferred records code stride scope mades a (n + 1) scope₁ mades₁ r) where
+  module _ {scope₁ : List (Option ℕ)} {mades₁ : List Made} {r : ℕ} (i : Inferred records code stride scope mades a (n + 1) scope₁ mades₁ r) where
     pub head_space : r < stops → Space code mades₁ r
     head_space = answer_space i.answer j.ends.space (i.kept.long ∙ j.slots) (omega (arith, j.room, view.size))
 
     pub entries : Entries code scope₁
     entries = rw i.same j.entries
 
-    module _ {h : ℕ} (x : Expected code mades₁ r 3 n h) where
-      pub head_unopened : stops ≤ h → Unopened code scope (term a) (n + 1) or n h
-      head_unopened l = unopened or or_is i.answer x l
+    module _ {h : ℕ} (x : Expected code mades₁ r Or n h) where
+      pub head_unopened : stops ≤ h → Unopened code scope (term a) (n + 1) Or n h
+      head_unopened l = unopened i.answer x l
 
       -- it is a disjunction that stands
       module _ (l : h < stops) where
-        pub head_opening : Opening code scope mades₁ (term a) (n + 1) or h
-        head_opening = opening or or_is i.answer x l
+        pub head_opening : Opening code scope mades₁ (term a) (n + 1) Or h
+        head_opening = opening i.answer x l
 
         pub head_stood : Stood code h
         head_stood = head_stands_there head_opening
 
-        pub left_stood : Stood code (h + 1)
-        left_stood = (half mades₁ or j.ends.space head_stood head_opening.head).left
+        pub head_half : Halves code h (h + 1 + length (encode (prop_at name_space code (h + 1)))) Or
+        head_half = half Or j.ends.space head_stood (byte_of code mades₁ Or head_stood.low head_opening.head)
 
-        pub sides : {side : ℕ} → Scanned name_space code (h + 1) side → Halves code h side or
+        pub left_stood : Stood code (h + 1)
+        left_stood = head_half.left
+
+        pub sides : {side : ℕ} → Scanned name_space code (h + 1) side → Halves code h side Or
         sides scanned = head_halves j.ends.space head_opening scanned
 
         pub inside_code : h + 1 ≤ length code
@@ -101,7 +107,7 @@ module _ {records code : List ℕ} {stride : ℕ} {scope : List (Option ℕ)} {m
             left_long s = ap length s ∙ bound_long bd left_name.below entries
 
             -- Once its binder is taken off again:
-            module _ {called : List (Option ℕ)} {mades₂ : List Slot} {back : List (Option ℕ)} (s : called ≡ bound) (kept : Kept next (next + nodes (term b)) mades₁ mades₂)
+            module _ {called : List (Option ℕ)} {mades₂ : List Made} {back : List (Option ℕ)} (s : called ≡ bound) (kept : Kept next (next + nodes (term b)) mades₁ mades₂)
                 (off : back ≡ set called (field_at records m 4) hidden) where
               pub left_back : back ≡ scope
               left_back = restored bd left_name.below entries s off ∙ i.same
@@ -140,7 +146,7 @@ module _ {records code : List ℕ} {stride : ℕ} {scope : List (Option ℕ)} {m
                   pub right_back : {called₂ back₂ : List (Option ℕ)} → called₂ ≡ bound₂ → back₂ ≡ set called₂ (field_at records m 5) hidden₂ → back₂ ≡ scope
                   right_back s₂ off₂ = restored bd₂ right_name.below entries₂ s₂ off₂ ∙ left_back
 
-                  pub right_kept : {mades₃ : List Slot} → Kept last (last + nodes (term c)) mades₂ mades₃ → Kept n (n + nodes (term m)) mades mades₃
+                  pub right_kept : {mades₃ : List Made} → Kept last (last + nodes (term c)) mades₂ mades₃ → Kept n (n + nodes (term m)) mades mades₃
                   right_kept more = kept_then left_kept (kept_wider n (n + nodes (term m)) (rw (el, en) (omega arith)) right_room more)
 
                   -- the nodes of the branches as the rules count them

@@ -4,35 +4,36 @@ use mathlib.Core.Path.{◌≡◌, refl, sym, ap, ◌∙◌}
 use mathlib.Core.Logic.{by_cases}
 use mathlib.Core.Bool.{Bool, true, false, cond}
 use Rattle.std.specs.Prelude.{Option, Some}
-use mathlib.Core.List.{List, []}
+use mathlib.Core.List.{List}
 use native.Mathlib.Omega.{arith}
 use native.Mathlib.Decide.{ℕ_discrete, dec_le}
 use lib.ListN.{length, get_or, set}
-use Rattle.definitions.specs.Prop.{and, or, impl}
+use Rattle.definitions.specs.Prop.{impl, connective_byte}
 use Rattle.definitions.specs.Term.{ProofTerm, Pair, Function}
 use Rattle.definitions.specs.TermText.{nodes}
 use Rattle.prefix_code.specs.Scan.{Scanned}
+use Rattle.prefix_code.specs.declared.Connective.TheVariants.{And, Or, Impl}
 use Rattle.proof_term.specs.Views.{kind_of}
 use Rattle.proof_term.specs.declared.nodes.Kind.{Kind}
 use Rattle.proof_term.specs.declared.nodes.Kind.TheVariants as variant
 use Rattle.proof_term.proofs.Views.{number_of_kind}
 use Rattle.proof_term.specs.Records.{field_at, parameter_label}
-use Rattle.prop_numbers.specs.declared.Slot.{Slot}
-use Rattle.prop_numbers.specs.Standing.{stops, name_space, Stood, Known, Kept, head_of}
+use Rattle.prop_numbers.specs.declared.Made.{Made}
+use Rattle.prop_numbers.specs.Standing.{stops, name_space, Stood, Known, Kept}
 use Rattle.prop_numbers.specs.Answering.{SideOf, Expected, Tested, Agreed}
 use Rattle.prop_numbers.proofs.Reps.{kept_all, kept_wider, kept_then}
-use Rattle.prop_numbers.proofs.Halves.{Halves, half, head_stands}
+use Rattle.prop_numbers.proofs.Halves.{Halves, halves, half}
 use Rattle.checker.specs.Asking.{label_prop, term_of, Few, NameHeld, Well, Judgeable}
 use Rattle.checker.specs.Judging.{ChecksAs, Inferred, Checked}
 use Rattle.checker.specs.Helping.{LabelTested, Bound, BodySide, BodyTested}
 use Rattle.checker.proofs.Forms.{One, Two, function_view, pair_view, inl_view, inr_view, abort_view, sorry_is, let_is}
 use Rattle.checker.proofs.Checking.{pair_other, function_other, inl_other, inr_other, pair_fails, pair_then, inl_part, inr_part, function_label, function_body, abort_part, sorry_passes, let_fails, case_unopened, case_fails, case_then, Falls, fall_stops, fall_same, fall_differ}
-use Rattle.checker.proofs.Steps.{Call, call, few, bound_in, bound_long, restored, halves_at, side_halves, side_other, and_is, or_is, impl_is, known_answer, checked_at, checks_under}
-use Rattle.checker.proofs.Cases.{head_unopened, head_opening, head_stood, sides, left_name, right_name, left_under, left_back, left_kept, right_under, right_back, right_kept, right_node, term_is, view}
+use Rattle.checker.proofs.Steps.{Call, call, few, bound_in, bound_long, restored, side_halves, side_other, known_answer, checked_at, checks_under}
+use Rattle.checker.proofs.Cases.{head_unopened, head_opening, head_half, sides, left_name, right_name, left_under, left_back, left_kept, right_under, right_back, right_kept, right_node, term_is, view}
 
-module _ {records code : List ℕ} {stride : ℕ} {scope : List (Option ℕ)} {mades : List Slot} {m n p : ℕ} (j : Judgeable records code stride scope mades m n) (stood : Stood code p)
+module _ {records code : List ℕ} {stride : ℕ} {scope : List (Option ℕ)} {mades : List Made} {m n p : ℕ} (j : Judgeable records code stride scope mades m n) (stood : Stood code p)
     {kind : Kind} {a : ℕ} (k : kind ≡ kind_of (field_at records m 0)) (ea : a ≡ field_at records m 1) where
-  abbrev At : List (Option ℕ) → List Slot → ℕ → Type 0
+  abbrev At : List (Option ℕ) → List Made → ℕ → Type 0
   At scope' mades' r = Checked records code stride scope mades m n p scope' mades' r
 
   abbrev own : Well records code stride m
@@ -40,10 +41,6 @@ module _ {records code : List ℕ} {stride : ℕ} {scope : List (Option ℕ)} {m
 
   abbrev term : ℕ → ProofTerm ℕ
   term i = term_of code stride records i
-
-  -- another byte is another connective's
-  byte_other : {b c : ℕ} → c ≡ b → (get_or code p 0 ≡ b → ⊥) → head_of code [] p ≡ c → ⊥
-  byte_other is other e = other (sym (head_stands code [] p stood.low) ∙ e ∙ is)
 
   -- A function.
   module _ (e : kind ≡ variant.Function) where
@@ -55,29 +52,29 @@ module _ {records code : List ℕ} {stride : ℕ} {scope : List (Option ℕ)} {m
 
     module _ {side : ℕ} (b : BodySide records code stride m p n side) where
       pub function_stop : stops ≤ side → At scope mades side
-      function_stop h = by_cases (ℕ_discrete (get_or code p 0) 4)
+      function_stop h = by_cases (ℕ_discrete (get_or code p 0) (connective_byte impl))
           (λ same. fits same (b.tested same) (b.tested same).test refl)
-          (λ other. rw (b.other other) (checked_at function_is.is (function_other [] stood _ _ _ (byte_other impl_is other)) refl kept_all))
+          (λ other. rw (b.other other) (checked_at function_is.is (function_other stood _ _ _ other) refl kept_all))
         where
-          fits : get_or code p 0 ≡ 4 → (t : BodyTested records code stride m p n side) (test : Bool) → t.test ≡ test → At scope mades side
-          fits same t true is = absurd (omega (arith, (halves_at impl j.ends.space stood (same ∙ sym impl_is) (t.is is)).right.low))
+          fits : get_or code p 0 ≡ connective_byte impl → (t : BodyTested records code stride m p n side) (test : Bool) → t.test ≡ test → At scope mades side
+          fits same t true is = absurd (omega (arith, (halves Impl j.ends.space stood same (t.is is)).right.low))
           fits same t false is =
               rw (t.other is) (checked_at function_is.is
-              (function_label (half [] impl j.ends.space stood (head_stands code [] p stood.low ∙ same ∙ sym impl_is)) t.label.is is) refl kept_all)
+              (function_label (half Impl j.ends.space stood same) t.label.is is) refl kept_all)
 
       module _ (l : side < stops) where
         -- it is an implication, and the label fits
         record Fits : Type 0 where
-          halved : Halves code p side impl
+          halved : Halves code p side Impl
           label : LabelTested records code stride m (p + 1) true
 
         fits_so : Fits
-        fits_so = by_cases (ℕ_discrete (get_or code p 0) 4)
+        fits_so = by_cases (ℕ_discrete (get_or code p 0) (connective_byte impl))
             (λ same. go same (b.tested same) (b.tested same).test refl)
             (λ other. absurd (omega (arith, b.other other)))
           where
-            go : get_or code p 0 ≡ 4 → (t : BodyTested records code stride m p n side) (test : Bool) → t.test ≡ test → Fits
-            go same t true is = record { halved = halves_at impl j.ends.space stood (same ∙ sym impl_is) (t.is is); label = rw is at t.label }
+            go : get_or code p 0 ≡ connective_byte impl → (t : BodyTested records code stride m p n side) (test : Bool) → t.test ≡ test → Fits
+            go same t true is = record { halved = halves Impl j.ends.space stood same (t.is is); label = rw is at t.label }
             go same t false is = absurd (omega (arith, t.other is))
 
         pub function_left : Stood code (p + 1)
@@ -93,7 +90,7 @@ module _ {records code : List ℕ} {stride : ℕ} {scope : List (Option ℕ)} {m
           pub function_long : {called : List (Option ℕ)} → called ≡ bound → length called ≡ name_space
           function_long s = ap length s ∙ bound_long bd function_name.below j.entries
 
-          pub function_done : {called : List (Option ℕ)} {mades' : List Slot} {back : List (Option ℕ)} {r : ℕ} → Checked records code stride bound mades a (n + 1) side called mades' r
+          pub function_done : {called : List (Option ℕ)} {mades' : List Made} {back : List (Option ℕ)} {r : ℕ} → Checked records code stride bound mades a (n + 1) side called mades' r
               → back ≡ set called (field_at records m 2) hidden → At back mades' r
           function_done c off =
               checked_at function_is.is
@@ -109,20 +106,20 @@ module _ {records code : List ℕ} {stride : ℕ} {scope : List (Option ℕ)} {m
     pub pair_few : Few records a (n + 1)
     pair_few = few j (n + 1) pair_is.first (omega (arith, j.room, pair_is.size))
 
-    module _ {side : ℕ} (s : SideOf code p 2 n side) where
+    module _ {side : ℕ} (s : SideOf code p And n side) where
       pub pair_stop : stops ≤ side → At scope mades side
       pair_stop h =
-          let other = side_other and and_is j.ends.space stood s h in
-          rw (s.other other) (checked_at pair_is.is (pair_other [] stood _ _ (byte_other and_is other)) refl kept_all)
+          let other = side_other j.ends.space stood s h in
+          rw (s.other other) (checked_at pair_is.is (pair_other stood _ _ other) refl kept_all)
 
       module _ (l : side < stops) where
-        pub pair_halves : Halves code p side and
-        pair_halves = side_halves and and_is j.ends.space stood s l
+        pub pair_halves : Halves code p side And
+        pair_halves = side_halves j.ends.space stood s l
 
         pub pair_call : Call records code stride scope mades m a (n + 1)
         pair_call = call j pair_is.first j.entries j.slots (omega (arith, j.room, pair_is.size))
 
-        module _ {scope' : List (Option ℕ)} {mades' : List Slot} {r : ℕ} (c : Checked records code stride scope mades a (n + 1) (p + 1) scope' mades' r) where
+        module _ {scope' : List (Option ℕ)} {mades' : List Made} {r : ℕ} (c : Checked records code stride scope mades a (n + 1) (p + 1) scope' mades' r) where
           first_kept : Kept n (n + nodes (term m)) mades mades'
           first_kept = kept_wider n (n + nodes (term m)) (omega arith) (omega (arith, pair_is.size)) c.kept
 
@@ -136,32 +133,32 @@ module _ {records code : List ℕ} {stride : ℕ} {scope : List (Option ℕ)} {m
             pub pair_next : Call records code stride scope' mades' m b next
             pair_next = call j (rw eb pair_is.second) (rw c.same j.entries) (c.kept.long ∙ j.slots) (omega (arith, second_room, j.room))
 
-            pub pair_done : {scope'' : List (Option ℕ)} {mades'' : List Slot} {q : ℕ} → Checked records code stride scope' mades' b next side scope'' mades'' q → At scope'' mades'' q
+            pub pair_done : {scope'' : List (Option ℕ)} {mades'' : List Made} {q : ℕ} → Checked records code stride scope' mades' b next side scope'' mades'' q → At scope'' mades'' q
             pair_done d =
                 checked_at (rw eb pair_is.is) (pair_then pair_halves c.answer ok (checks_under c.same en d.answer)) (d.same ∙ c.same)
                 (kept_then first_kept (kept_wider n (n + nodes (term m)) (rw en (omega arith)) second_room d.kept))
 
   -- Injections.
-  module _ {side : ℕ} (s : SideOf code p 3 n side) where
+  module _ {side : ℕ} (s : SideOf code p Or n side) where
     pub inl_stop : kind ≡ variant.OrLeft → stops ≤ side → At scope mades side
     inl_stop e h =
-        let other = side_other or or_is j.ends.space stood s h in
-        rw (s.other other) (checked_at (inl_view own k ea e).is (inl_other [] stood _ (byte_other or_is other)) refl kept_all)
+        let other = side_other j.ends.space stood s h in
+        rw (s.other other) (checked_at (inl_view own k ea e).is (inl_other stood _ other) refl kept_all)
 
     pub inr_stop : kind ≡ variant.OrRight → stops ≤ side → At scope mades side
     inr_stop e h =
-        let other = side_other or or_is j.ends.space stood s h in
-        rw (s.other other) (checked_at (inr_view own k ea e).is (inr_other [] stood _ (byte_other or_is other)) refl kept_all)
+        let other = side_other j.ends.space stood s h in
+        rw (s.other other) (checked_at (inr_view own k ea e).is (inr_other stood _ other) refl kept_all)
 
-    pub or_halves : side < stops → Halves code p side or
-    or_halves l = side_halves or or_is j.ends.space stood s l
+    pub or_halves : side < stops → Halves code p side Or
+    or_halves l = side_halves j.ends.space stood s l
 
-    pub inl_done : {scope' : List (Option ℕ)} {mades' : List Slot} {r : ℕ} → kind ≡ variant.OrLeft → side < stops → Checked records code stride scope mades a (n + 1) (p + 1) scope' mades' r → At scope' mades' r
+    pub inl_done : {scope' : List (Option ℕ)} {mades' : List Made} {r : ℕ} → kind ≡ variant.OrLeft → side < stops → Checked records code stride scope mades a (n + 1) (p + 1) scope' mades' r → At scope' mades' r
     inl_done e l c =
         let v = inl_view own k ea e in
         checked_at v.is (inl_part (or_halves l) c.answer) c.same (kept_wider n (n + nodes (term m)) (omega arith) (omega (arith, v.size)) c.kept)
 
-    pub inr_done : {scope' : List (Option ℕ)} {mades' : List Slot} {r : ℕ} → kind ≡ variant.OrRight → side < stops → Checked records code stride scope mades a (n + 1) side scope' mades' r → At scope' mades' r
+    pub inr_done : {scope' : List (Option ℕ)} {mades' : List Made} {r : ℕ} → kind ≡ variant.OrRight → side < stops → Checked records code stride scope mades a (n + 1) side scope' mades' r → At scope' mades' r
     inr_done e l c =
         let v = inr_view own k ea e in
         checked_at v.is (inr_part (or_halves l) c.answer) c.same (kept_wider n (n + nodes (term m)) (omega arith) (omega (arith, v.size)) c.kept)
@@ -179,7 +176,7 @@ module _ {records code : List ℕ} {stride : ℕ} {scope : List (Option ℕ)} {m
   pub abort_call : kind ≡ variant.Abort → Call records code stride scope mades m a (n + 1)
   abort_call e = only_call (abort_view own k ea e)
 
-  pub abort_done : {scope' : List (Option ℕ)} {mades' : List Slot} {r : ℕ} → kind ≡ variant.Abort → Checked records code stride scope mades a (n + 1) (length code - 1) scope' mades' r → At scope' mades' r
+  pub abort_done : {scope' : List (Option ℕ)} {mades' : List Made} {r : ℕ} → kind ≡ variant.Abort → Checked records code stride scope mades a (n + 1) (length code - 1) scope' mades' r → At scope' mades' r
   abort_done e c =
       let v = abort_view own k ea e in
       checked_at v.is (abort_part j.ends.bottom_is c.answer) c.same (kept_wider n (n + nodes (term m)) (omega arith) (omega (arith, v.size)) c.kept)
@@ -191,7 +188,7 @@ module _ {records code : List ℕ} {stride : ℕ} {scope : List (Option ℕ)} {m
   let_done e = checked_at (let_is own k e) (let_fails n p _ _ _ _) refl kept_all
 
   -- What is inferred and compared.
-  module _ {scope' : List (Option ℕ)} {mades' : List Slot} {r : ℕ} (i : Inferred records code stride scope mades m n scope' mades' r) where
+  module _ {scope' : List (Option ℕ)} {mades' : List Made} {r : ℕ} (i : Inferred records code stride scope mades m n scope' mades' r) where
     pub fall_known : r < stops → Known code mades' r
     fall_known h = known_answer i.answer h j.room
 
@@ -205,15 +202,15 @@ module _ {records code : List ℕ} {stride : ℕ} {scope : List (Option ℕ)} {m
         go l t false is = rw (t.is ∙ ap (λ (b : Bool). cond b 0 (stops + n)) is) (checked_at refl (fall_differ falls i.answer l stood t.alike is) i.same i.kept)
 
   -- A case, by what its head infers.
-  module _ (e : kind ≡ variant.Case) {scope₁ : List (Option ℕ)} {mades₁ : List Slot} {r h : ℕ} (i : Inferred records code stride scope mades a (n + 1) scope₁ mades₁ r)
-      (x : Expected code mades₁ r 3 n h) where
+  module _ (e : kind ≡ variant.Case) {scope₁ : List (Option ℕ)} {mades₁ : List Made} {r h : ℕ} (i : Inferred records code stride scope mades a (n + 1) scope₁ mades₁ r)
+      (x : Expected code mades₁ r Or n h) where
     pub case_stop : stops ≤ h → At scope₁ mades₁ h
     case_stop l =
         checked_at (view j k ea e).is (case_unopened (head_unopened j k ea e i x l)) i.same
         (kept_wider n (n + nodes (term m)) (omega arith) (omega (arith, (view j k ea e).size)) i.kept)
 
     module _ (l : h < stops) {b next : ℕ} (eb : b ≡ field_at records m 2) (en : next ≡ n + 1 + nodes (term a)) {bound : List (Option ℕ)} {hidden : Option ℕ}
-        (bd : Bound scope₁ (field_at records m 4) (h + 1) bound hidden) {called : List (Option ℕ)} {mades₂ : List Slot} {back : List (Option ℕ)} {q : ℕ}
+        (bd : Bound scope₁ (field_at records m 4) (h + 1) bound hidden) {called : List (Option ℕ)} {mades₂ : List Made} {back : List (Option ℕ)} {q : ℕ}
         (c : Checked records code stride bound mades₁ b next p called mades₂ q) (off : back ≡ set called (field_at records m 4) hidden) where
       left_answer : ChecksAs code (set scope (field_at records m 4) (Some (h + 1))) (term b) (n + 1 + nodes (term a)) p q
       left_answer = checks_under (sym c.same ∙ left_under j k ea e i x l eb en bd c.same c.kept off) en c.answer
@@ -221,11 +218,11 @@ module _ {records code : List ℕ} {stride : ℕ} {scope : List (Option ℕ)} {m
       pub case_fail : (q ≡ 0 → ⊥) → At back mades₂ q
       case_fail other =
           checked_at (rw eb (view j k ea e).is)
-          (case_fails {b = term (field_at records m 3)} {y = field_at records m 5} (left_name j k ea e).below j.entries (head_opening j k ea e i x l) (half mades₁ or j.ends.space (head_stood j k ea e i x l) (head_opening j k ea e i x l).head) left_answer other)
+          (case_fails {b = term (field_at records m 3)} {y = field_at records m 5} (left_name j k ea e).below j.entries (head_opening j k ea e i x l) (head_half j k ea e i x l) left_answer other)
           (left_back j k ea e i x l eb en bd c.same c.kept off) (left_kept j k ea e i x l eb en bd c.same c.kept off)
 
       pub case_done : q ≡ 0 → {d last side : ℕ} → (ed : d ≡ field_at records m 3) → (el : last ≡ next + nodes (term b)) → (scanned : Scanned name_space code (h + 1) side)
-          → {bound₂ : List (Option ℕ)} {hidden₂ : Option ℕ} → (bd₂ : Bound back (field_at records m 5) side bound₂ hidden₂) → {called₂ : List (Option ℕ)} {mades₃ : List Slot} {back₂ : List (Option ℕ)} {q₂ : ℕ}
+          → {bound₂ : List (Option ℕ)} {hidden₂ : Option ℕ} → (bd₂ : Bound back (field_at records m 5) side bound₂ hidden₂) → {called₂ : List (Option ℕ)} {mades₃ : List Made} {back₂ : List (Option ℕ)} {q₂ : ℕ}
           → Checked records code stride bound₂ mades₂ d last p called₂ mades₃ q₂ → back₂ ≡ set called₂ (field_at records m 5) hidden₂ → At back₂ mades₃ q₂
       case_done ok ed el scanned bd₂ c₂ off₂ =
           let s = c.same in

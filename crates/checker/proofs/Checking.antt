@@ -3,52 +3,57 @@ use Prim.Native.Nat.{ℕ, ◌+◌, ◌≤◌, ◌<◌}
 use mathlib.Core.Path.{◌≡◌, refl}
 use mathlib.Core.Bool.{Bool, true, false}
 use Rattle.std.specs.Prelude.{Option, Some}
-use mathlib.Core.List.{List}
-use lib.ListN.{set}
+use mathlib.Core.List.{List, []}
+use lib.ListN.{get_or, set}
 use Rattle.definitions.specs.Name.{Name}
-use Rattle.definitions.specs.Prop.{Prop, False, Binary, Connective, and, or, impl, connective_byte, rename_prop}
+use Rattle.definitions.specs.Prop.{Prop, False, Binary, and, or, impl, connective_byte, rename_prop}
 use Rattle.definitions.specs.Term.{Label, ProofTerm, Ident, Pair, ProjectFst, ProjectSnd, Function, Application, LetIn, OrLeft, OrRight, Case, Abort, TypeAscription, Unit, Sorry, rename_parameter_label, rename_term}
 use Rattle.definitions.specs.CheckingRules.{Context, bind}
 use Rattle.definitions.specs.TermText.{nodes}
 use Rattle.definitions.specs.Checker.{◌>>=◌, ensure, sides, label_is, compared, check_named, infer, check}
 use Rattle.prefix_code.specs.PropAt.{prop_at}
-use Rattle.prop_numbers.specs.declared.Slot.{Slot}
-use Rattle.prop_numbers.specs.Standing.{Distinct, Stood, head_of, name_space, stops}
+use Rattle.prefix_code.specs.Shape.{meant}
+use Rattle.prefix_code.specs.declared.Connective.{Connective}
+use Rattle.prefix_code.specs.declared.Connective.TheVariants.{And, Or, Impl}
+use Rattle.prop_numbers.specs.declared.Made.{Made}
+use Rattle.prop_numbers.specs.Standing.{Distinct, Stood, name_space, stops}
 use Rattle.prop_numbers.specs.Answering.{Alike}
 use Rattle.checker.specs.Scope.{Entries}
 use Rattle.checker.specs.Judging.{ChecksAs, Decides, InfersAs, Means, named}
-use Rattle.prop_numbers.proofs.Opening.{binary_head, sides_else, sides_found}
+use Rattle.prop_numbers.proofs.Fronts.{byte_of}
+use Rattle.prop_numbers.proofs.Opening.{binary_connective, sides_else, sides_found}
 use Rattle.prop_numbers.proofs.Halves.{Halves, stood_rep}
 use Rattle.checker.proofs.Scopes.{bound_scope}
 use Rattle.checker.proofs.Answers.{nodes_same, stopping, derives, failing, passing, fails-as, passes-as}
 use Rattle.checker.proofs.Sides.{through, Unopened, Opening}
 use Rattle.checker.proofs.Inferring.{head_found}
 
--- another head byte is another form
-other_form : {code : List ℕ} {p : ℕ} (mades : List Slot) (c : Connective) → Stood code p → (head_of code mades p ≡ connective_byte c → ⊥)
-    → (x y : Prop ℕ) → prop_at name_space code p ≡ Binary c x y → ⊥
-other_form {code} {p} mades c stood other x y e = other (binary_head {code = code} {mades = mades} {lo = 0} {hi = 0} c x y (stood_rep stood) e)
+-- another byte in front is another form
+other_form : {code : List ℕ} {p : ℕ} (c : Connective) → Stood code p → (get_or code p 0 ≡ connective_byte (meant c) → ⊥)
+    → (x y : Prop ℕ) → prop_at name_space code p ≡ Binary (meant c) x y → ⊥
+other_form {code} {p} c stood other x y e =
+    other (byte_of code [] c stood.low (binary_connective {code = code} {mades = []} {lo = 0} {hi = 0} c x y (stood_rep stood) e))
 
 -- Against a proposition of another form.
-module _ {code : List ℕ} {scope : List (Option ℕ)} {n p : ℕ} (mades : List Slot) (stood : Stood code p) where
-  pub pair_other : (a b : ProofTerm ℕ) → (head_of code mades p ≡ connective_byte and → ⊥) → ChecksAs code scope (Pair a b) n p (stops + n)
+module _ {code : List ℕ} {scope : List (Option ℕ)} {n p : ℕ} (stood : Stood code p) where
+  pub pair_other : (a b : ProofTerm ℕ) → (get_or code p 0 ≡ connective_byte and → ⊥) → ChecksAs code scope (Pair a b) n p (stops + n)
   unfolding Decides check rename_term ◌>>=◌
-  pair_other a b other = fails-as n refl (λ f g d s. rw (sides_else f n and (prop_at name_space code p) (other_form mades and stood other)))
+  pair_other a b other = fails-as n refl (λ f g d s. rw (sides_else f n and (prop_at name_space code p) (other_form And stood other)))
 
-  pub function_other : (x : ℕ) (l : Option (Label ℕ)) (a : ProofTerm ℕ) → (head_of code mades p ≡ connective_byte impl → ⊥) → ChecksAs code scope (Function x l a) n p (stops + n)
+  pub function_other : (x : ℕ) (l : Option (Label ℕ)) (a : ProofTerm ℕ) → (get_or code p 0 ≡ connective_byte impl → ⊥) → ChecksAs code scope (Function x l a) n p (stops + n)
   unfolding Decides check rename_term ◌>>=◌
-  function_other x l a other = fails-as n refl (λ f g d s. rw (sides_else f n impl (prop_at name_space code p) (other_form mades impl stood other)))
+  function_other x l a other = fails-as n refl (λ f g d s. rw (sides_else f n impl (prop_at name_space code p) (other_form Impl stood other)))
 
-  pub inl_other : (a : ProofTerm ℕ) → (head_of code mades p ≡ connective_byte or → ⊥) → ChecksAs code scope (OrLeft a) n p (stops + n)
+  pub inl_other : (a : ProofTerm ℕ) → (get_or code p 0 ≡ connective_byte or → ⊥) → ChecksAs code scope (OrLeft a) n p (stops + n)
   unfolding Decides check check_named rename_term ◌>>=◌
-  inl_other a other = fails-as n refl (λ f g d s. rw (sides_else f n or (prop_at name_space code p) (other_form mades or stood other)))
+  inl_other a other = fails-as n refl (λ f g d s. rw (sides_else f n or (prop_at name_space code p) (other_form Or stood other)))
 
-  pub inr_other : (a : ProofTerm ℕ) → (head_of code mades p ≡ connective_byte or → ⊥) → ChecksAs code scope (OrRight a) n p (stops + n)
+  pub inr_other : (a : ProofTerm ℕ) → (get_or code p 0 ≡ connective_byte or → ⊥) → ChecksAs code scope (OrRight a) n p (stops + n)
   unfolding Decides check check_named rename_term ◌>>=◌
-  inr_other a other = fails-as n refl (λ f g d s. rw (sides_else f n or (prop_at name_space code p) (other_form mades or stood other)))
+  inr_other a other = fails-as n refl (λ f g d s. rw (sides_else f n or (prop_at name_space code p) (other_form Or stood other)))
 
 -- A pair.
-module _ {code : List ℕ} {scope : List (Option ℕ)} {a b : ProofTerm ℕ} {n p end r : ℕ} (hs : Halves code p end and) (c : ChecksAs code scope a (n + 1) (p + 1) r) where
+module _ {code : List ℕ} {scope : List (Option ℕ)} {a b : ProofTerm ℕ} {n p end r : ℕ} (hs : Halves code p end And) (c : ChecksAs code scope a (n + 1) (p + 1) r) where
   pub pair_fails : (r ≡ 0 → ⊥) → ChecksAs code scope (Pair a b) n p r
   unfolding Decides check rename_term ◌>>=◌
   pair_fails other =
@@ -67,7 +72,7 @@ module _ {code : List ℕ} {scope : List (Option ℕ)} {a b : ProofTerm ℕ} {n 
       }
 
 -- Injections.
-module _ {code : List ℕ} {scope : List (Option ℕ)} {a : ProofTerm ℕ} {n p end r : ℕ} (hs : Halves code p end or) where
+module _ {code : List ℕ} {scope : List (Option ℕ)} {a : ProofTerm ℕ} {n p end r : ℕ} (hs : Halves code p end Or) where
   pub inl_part : ChecksAs code scope a (n + 1) (p + 1) r → ChecksAs code scope (OrLeft a) n p r
   unfolding Decides check check_named rename_term ◌>>=◌
   inl_part c = record {
@@ -87,7 +92,7 @@ module _ {code : List ℕ} {scope : List (Option ℕ)} {a : ProofTerm ℕ} {n p 
   }
 
 -- A function, by the test of its label.
-module _ {code : List ℕ} {scope : List (Option ℕ)} {a : ProofTerm ℕ} {x n p end : ℕ} {l : Option (Label ℕ)} {test : Bool} (hs : Halves code p end impl)
+module _ {code : List ℕ} {scope : List (Option ℕ)} {a : ProofTerm ℕ} {x n p end : ℕ} {l : Option (Label ℕ)} {test : Bool} (hs : Halves code p end Impl)
     (tested : (f : ℕ → Name) → Distinct f → (k : ℕ) → label_is k (rename_parameter_label f l) (rename_prop f (prop_at name_space code (p + 1))) ≡ ensure k test) where
   pub function_label : test ≡ false → ChecksAs code scope (Function x l a) n p (stops + n)
   unfolding Decides check rename_term ensure ◌>>=◌
@@ -119,7 +124,7 @@ unfolding Decides check rename_term
 let_fails n p x y a b = fails-as n refl (λ f g d s. refl)
 
 -- A case.
-pub case_unopened : {code : List ℕ} {scope : List (Option ℕ)} {t a b : ProofTerm ℕ} {x y n p res : ℕ} → Unopened code scope t (n + 1) or n res
+pub case_unopened : {code : List ℕ} {scope : List (Option ℕ)} {t a b : ProofTerm ℕ} {x y n p res : ℕ} → Unopened code scope t (n + 1) Or n res
     → ChecksAs code scope (Case t x a y b) n p res
 unfolding Decides check rename_term
 case_unopened {code} {scope} {t} {a} {b} {x} {y} {n} {p} o = fails-as o.k o.at (λ f g d s.
@@ -127,8 +132,8 @@ case_unopened {code} {scope} {t} {a} {b} {x} {y} {n} {p} o = fails-as o.k o.at (
     (λ s. check (rename_term f a) (bind (f x) s.left g) (n + 1 + nodes (rename_term f t)) (rename_prop f (prop_at name_space code p)) >>= (λ w.
     check (rename_term f b) (bind (f y) s.right g) (n + 1 + nodes (rename_term f t) + nodes (rename_term f a)) (rename_prop f (prop_at name_space code p)))) o.k (o.means f g d s))
 
-module _ {code : List ℕ} {scope : List (Option ℕ)} {mades : List Slot} {t a b : ProofTerm ℕ} {x y n p h end r : ℕ} (xl : x < name_space) (entries : Entries code scope)
-    (o : Opening code scope mades t (n + 1) or h) (hs : Halves code h end or)
+module _ {code : List ℕ} {scope : List (Option ℕ)} {mades : List Made} {t a b : ProofTerm ℕ} {x y n p h end r : ℕ} (xl : x < name_space) (entries : Entries code scope)
+    (o : Opening code scope mades t (n + 1) Or h) (hs : Halves code h end Or)
     (c : ChecksAs code (set scope x (Some (h + 1))) a (n + 1 + nodes t) p r) where
   pub case_fails : (r ≡ 0 → ⊥) → ChecksAs code scope (Case t x a y b) n p r
   unfolding Means Decides check rename_term named ◌>>=◌
@@ -178,7 +183,7 @@ pub unit_falls : Falls Unit
 unfolding Falls check infer rename_term
 unit_falls f g n p = refl
 
-module _ {code : List ℕ} {scope : List (Option ℕ)} {mades : List Slot} {t : ProofTerm ℕ} {n p r : ℕ} (falls : Falls t) (i : InfersAs code scope mades t n r) where
+module _ {code : List ℕ} {scope : List (Option ℕ)} {mades : List Made} {t : ProofTerm ℕ} {n p r : ℕ} (falls : Falls t) (i : InfersAs code scope mades t n r) where
   pub fall_stops : stops ≤ r → ChecksAs code scope t n p r
   unfolding Falls Means Decides named compared ◌>>=◌
   fall_stops h =

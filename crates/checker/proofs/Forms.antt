@@ -16,7 +16,7 @@ use Rattle.proof_term.specs.declared.nodes.Kind.TheVariants as variant
 use Rattle.proof_term.proofs.Views.{number_of_kind, kind_known}
 use Rattle.proof_term.specs.Records.{field_at, leaf, form_term, forms, record_term_at, label_of, parameter_label, part_at}
 use Rattle.proof_term.proofs.Records.{term_at_is, term_at_kind, part_below}
-use Rattle.prop_numbers.specs.declared.Slot.{Slot}
+use Rattle.prop_numbers.specs.declared.Made.{Made}
 use Rattle.prop_numbers.specs.Standing.{node_limit}
 use Rattle.checker.specs.Scope.{Entries}
 use Rattle.checker.specs.Asking.{label_prop, term_of, Well, Judgeable}
@@ -142,7 +142,7 @@ module _ {records code : List ℕ} {stride m : ℕ} {kind : Kind} (w : Well reco
       (get_or-eq_default (forms props (field_at records m 1) (field_at records m 2) (field_at records m 3) (field_at records m 4) (field_at records m 5)) (leaf Unit) {n = field_at records m 0} (omega arith)))
 
 -- A part, with other nodes.
-pub part : {records code : List ℕ} {stride : ℕ} {scope : List (Option ℕ)} {mades : List Slot} {m n : ℕ} {scope' : List (Option ℕ)} {mades' : List Slot} (a n' : ℕ) → Judgeable records code stride scope mades m n → a < m
+pub part : {records code : List ℕ} {stride : ℕ} {scope : List (Option ℕ)} {mades : List Made} {m n : ℕ} {scope' : List (Option ℕ)} {mades' : List Made} (a n' : ℕ) → Judgeable records code stride scope mades m n → a < m
     → Entries code scope' → length mades' ≡ node_limit → n' + nodes (term_of code stride records a) ≤ node_limit → Judgeable records code stride scope' mades' a n'
 part a n' j l entries slots room = record {
   held = omega (arith, j.held);

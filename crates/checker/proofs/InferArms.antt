@@ -8,21 +8,20 @@ use mathlib.Core.List.{List}
 use native.Mathlib.Omega.{arith}
 use native.Mathlib.Decide.{ℕ_discrete, dec_le}
 use lib.ListN.{length, get_or, set}
-use Rattle.definitions.specs.Prop.{and, or, impl}
 use Rattle.definitions.specs.Term.{proposition, ProofTerm, Pair, Function, Application, Case, TypeAscription}
 use Rattle.definitions.specs.TermText.{nodes}
 use Rattle.prefix_code.specs.PropAt.{prop_at}
 use Rattle.prefix_code.specs.Scan.{Scanned}
+use Rattle.prefix_code.specs.declared.Connective.TheVariants.{And, Or, Impl}
 use Rattle.proof_term.specs.Views.{kind_number, kind_of}
 use Rattle.proof_term.specs.declared.nodes.Kind.{Kind}
 use Rattle.proof_term.specs.declared.nodes.Kind.TheVariants as variant
 use Rattle.proof_term.proofs.Views.{number_of_kind}
 use Rattle.proof_term.specs.Records.{field_at, label_of, parameter_label}
-use Rattle.prop_numbers.specs.declared.Slot.{Slot}
+use Rattle.prop_numbers.specs.declared.Made.{Made}
 use Rattle.prop_numbers.specs.Standing.{node_limit, stops, name_space, Stood, Known, Space, Kept, left_of, RightOf}
-use Rattle.prop_numbers.specs.Answering.{Expected, FirstSide, Projected, Made, Tested, Agreed}
+use Rattle.prop_numbers.specs.Answering.{Expected, FirstSide, Projected, Makes, Tested, Agreed}
 use Rattle.prop_numbers.proofs.Reps.{rep_kept, kept_all, kept_wider, kept_then, slot_kept}
-use Rattle.prop_numbers.proofs.Halves.{half}
 use Rattle.prop_numbers.proofs.Comparing.{alike_sym}
 use Rattle.checker.specs.Asking.{label_prop, term_of, Few, NameHeld, Well, Judgeable}
 use Rattle.checker.specs.Judging.{InfersAs, ChecksAs, Inferred, Checked}
@@ -32,12 +31,12 @@ use Rattle.checker.proofs.Answers.{derives}
 use Rattle.checker.proofs.Sides.{Opening, unopened, opening}
 use Rattle.checker.proofs.Labels.{no_label, a_datatype, a_proposition, some_label}
 use Rattle.checker.proofs.Inferring.{ident_answer, unit_answer, let_stops, sorry_stops, inl_stops, inr_stops, abort_stops, fst_stops, snd_stops, fst_gives, snd_gives, argument_stands, application_stops, application_fails, application_gives, ascription_datatype, ascription_fails, ascription_gives, function_none, function_datatype, function_stops, function_gives, pair_first, pair_second, pair_gives, case_stops, case_left, case_right, case_gives, case_differ}
-use Rattle.checker.proofs.Steps.{Call, call, few, node_low, bound_in, bound_long, restored, and_is, impl_is, known_answer, answer_space, inferred_at, infers_under, checks_under}
-use Rattle.checker.proofs.Cases.{head_unopened, head_opening, head_stood, sides, left_name, right_name, left_under, left_back, left_kept, left_room, right_room, right_under, right_back, right_kept, right_node, term_is, view}
+use Rattle.checker.proofs.Steps.{Call, call, few, node_low, bound_in, bound_long, restored, known_answer, answer_space, inferred_at, infers_under, checks_under}
+use Rattle.checker.proofs.Cases.{head_unopened, head_opening, head_half, sides, left_name, right_name, left_under, left_back, left_kept, left_room, right_room, right_under, right_back, right_kept, right_node, term_is, view}
 
-module _ {records code : List ℕ} {stride : ℕ} {scope : List (Option ℕ)} {mades : List Slot} {m n : ℕ} (j : Judgeable records code stride scope mades m n)
+module _ {records code : List ℕ} {stride : ℕ} {scope : List (Option ℕ)} {mades : List Made} {m n : ℕ} (j : Judgeable records code stride scope mades m n)
     {kind : Kind} {a : ℕ} (k : kind ≡ kind_of (field_at records m 0)) (ea : a ≡ field_at records m 1) where
-  abbrev At : List (Option ℕ) → List Slot → ℕ → Type 0
+  abbrev At : List (Option ℕ) → List Made → ℕ → Type 0
   At scope' mades' r = Inferred records code stride scope mades m n scope' mades' r
 
   abbrev own : Well records code stride m
@@ -64,7 +63,7 @@ module _ {records code : List ℕ} {stride : ℕ} {scope : List (Option ℕ)} {m
   pub snd_call : kind ≡ variant.ProjectSnd → Call records code stride scope mades m a (n + 1)
   snd_call e = only_call (snd_view own k ea e)
 
-  module _ {scope' : List (Option ℕ)} {mades' : List Slot} {r : ℕ} (i : Inferred records code stride scope mades a (n + 1) scope' mades' r) where
+  module _ {scope' : List (Option ℕ)} {mades' : List Made} {r : ℕ} (i : Inferred records code stride scope mades a (n + 1) scope' mades' r) where
     pub part_space : {F : ProofTerm ℕ → ProofTerm ℕ} → One records code stride m a F → r < stops → Space code mades' r
     part_space v h = answer_space i.answer j.ends.space (i.kept.long ∙ j.slots) (omega (arith, j.room, v.size)) h
 
@@ -81,19 +80,19 @@ module _ {records code : List ℕ} {stride : ℕ} {scope : List (Option ℕ)} {m
     fst_done {x} e p =
         let v = fst_view own k ea e in
         by_cases (dec_le stops p.p)
-        (λ l. rw (p.stop l) (inferred_at v.is (fst_stops (unopened and and_is i.answer p.expected l)) i.same (part_kept v)))
+        (λ l. rw (p.stop l) (inferred_at v.is (fst_stops (unopened i.answer p.expected l)) i.same (part_kept v)))
         (λ l.
         inferred_at v.is
-        (fst_gives j.ends.space (omega (arith, j.room, v.size)) (opening and and_is i.answer p.expected (omega arith)) (p.side (omega arith))) i.same (part_kept v))
+        (fst_gives j.ends.space (omega (arith, j.room, v.size)) (opening i.answer p.expected (omega arith)) (p.side (omega arith))) i.same (part_kept v))
 
     pub snd_done : {x : ℕ} → kind ≡ variant.ProjectSnd → Projected code mades' r (RightOf code mades') n x → At scope' mades' x
     snd_done {x} e p =
         let v = snd_view own k ea e in
         by_cases (dec_le stops p.p)
-        (λ l. rw (p.stop l) (inferred_at v.is (snd_stops (unopened and and_is i.answer p.expected l)) i.same (part_kept v)))
+        (λ l. rw (p.stop l) (inferred_at v.is (snd_stops (unopened i.answer p.expected l)) i.same (part_kept v)))
         (λ l.
         inferred_at v.is
-        (snd_gives j.ends.space (omega (arith, j.room, v.size)) (opening and and_is i.answer p.expected (omega arith)) (p.side (omega arith))) i.same (part_kept v))
+        (snd_gives j.ends.space (omega (arith, j.room, v.size)) (opening i.answer p.expected (omega arith)) (p.side (omega arith))) i.same (part_kept v))
 
   -- An application.
   module _ (e : kind ≡ variant.Application) where
@@ -106,20 +105,20 @@ module _ {records code : List ℕ} {stride : ℕ} {scope : List (Option ℕ)} {m
     pub application_few : Few records a (n + 1)
     application_few = few j (n + 1) application_is.first (omega (arith, j.room, application_is.size))
 
-    module _ {scope' : List (Option ℕ)} {mades' : List Slot} {r : ℕ} (i : Inferred records code stride scope mades a (n + 1) scope' mades' r) where
+    module _ {scope' : List (Option ℕ)} {mades' : List Made} {r : ℕ} (i : Inferred records code stride scope mades a (n + 1) scope' mades' r) where
       pub application_space : r < stops → Space code mades' r
       application_space = answer_space i.answer j.ends.space (i.kept.long ∙ j.slots) (omega (arith, j.room, application_is.size))
 
       function_kept : Kept n (n + nodes (term m)) mades mades'
       function_kept = kept_wider n (n + nodes (term m)) (omega arith) (omega (arith, application_is.size)) i.kept
 
-      module _ {p : ℕ} (x : Expected code mades' r 4 n p) where
+      module _ {p : ℕ} (x : Expected code mades' r Impl n p) where
         pub application_stop : stops ≤ p → At scope' mades' p
-        application_stop l = inferred_at application_is.is (application_stops (unopened impl impl_is i.answer x l)) i.same function_kept
+        application_stop l = inferred_at application_is.is (application_stops (unopened i.answer x l)) i.same function_kept
 
         module _ (l : p < stops) where
-          opened : Opening code scope mades' (term a) (n + 1) impl p
-          opened = opening impl impl_is i.answer x l
+          opened : Opening code scope mades' (term a) (n + 1) Impl p
+          opened = opening i.answer x l
 
           module _ {argument side : ℕ} (al : argument ≡ left_of mades' p) (sl : RightOf code mades' p side) where
             pub application_argument : Stood code argument
@@ -132,7 +131,7 @@ module _ {records code : List ℕ} {stride : ℕ} {scope : List (Option ℕ)} {m
               pub application_next : Call records code stride scope' mades' m b next
               application_next = call j (rw eb application_is.second) (rw i.same j.entries) (i.kept.long ∙ j.slots) (omega (arith, argument_room, j.room))
 
-              pub application_done : {scope'' : List (Option ℕ)} {mades'' : List Slot} {q y : ℕ} → Checked records code stride scope' mades' b next argument scope'' mades'' q → ((q ≡ 0 → ⊥) → y ≡ q) → (q ≡ 0 → y ≡ side) → At scope'' mades'' y
+              pub application_done : {scope'' : List (Option ℕ)} {mades'' : List Made} {q y : ℕ} → Checked records code stride scope' mades' b next argument scope'' mades'' q → ((q ≡ 0 → ⊥) → y ≡ q) → (q ≡ 0 → y ≡ side) → At scope'' mades'' y
               application_done {scope''} {mades''} {q} {y} c stop go =
                   by_cases (ℕ_discrete q 0)
                   (λ ok. rw (go ok) (inferred_at is (application_gives j.ends.space (omega (arith, j.room, application_is.size)) opened al sl answer ok (rw en at c.kept)) same kept))
@@ -177,7 +176,7 @@ module _ {records code : List ℕ} {stride : ℕ} {scope : List (Option ℕ)} {m
         labelled = rw (x.offset no_datatype).0
             (ascription_is.is ∙ ap (λ l. TypeAscription (term a) l) (a_proposition (label_prop code stride) (field_at records m 3) (field_at records m 4) no_datatype))
 
-        pub ascription_done : {scope' : List (Option ℕ)} {mades' : List Slot} {r y : ℕ} → Checked records code stride scope mades a (n + 1) label scope' mades' r → ((r ≡ 0 → ⊥) → y ≡ r) → (r ≡ 0 → y ≡ label) → At scope' mades' y
+        pub ascription_done : {scope' : List (Option ℕ)} {mades' : List Made} {r y : ℕ} → Checked records code stride scope mades a (n + 1) label scope' mades' r → ((r ≡ 0 → ⊥) → y ≡ r) → (r ≡ 0 → y ≡ label) → At scope' mades' y
         ascription_done {mades' = mades'} {r} c stop go =
             let kept : Kept n (n + nodes (term m)) mades mades' = kept_wider n (n + nodes (term m)) (omega arith) (omega (arith, ascription_is.size)) c.kept in
             by_cases (ℕ_discrete r 0)
@@ -229,15 +228,15 @@ module _ {records code : List ℕ} {stride : ℕ} {scope : List (Option ℕ)} {m
           pub function_long : {called : List (Option ℕ)} → called ≡ bound → length called ≡ name_space
           function_long s = ap length s ∙ bound_long bd function_name.below j.entries
 
-          pub function_done : {called : List (Option ℕ)} {mades' : List Slot} {back : List (Option ℕ)} {last : List Slot} {r y : ℕ} → Inferred records code stride bound mades a (n + 1) called mades' r
-              → back ≡ set called (field_at records m 2) hidden → Made mades' n 4 label r last y → At back last y
+          pub function_done : {called : List (Option ℕ)} {mades' : List Made} {back : List (Option ℕ)} {last : List Made} {r y : ℕ} → Inferred records code stride bound mades a (n + 1) called mades' r
+              → back ≡ set called (field_at records m 2) hidden → Makes mades' n Impl label r last y → At back last y
           function_done {called} {mades'} {back} {last} {r} {y} i off made = by_cases (dec_le stops r)
               (λ h. rw ((made.stop h).0, (made.stop h).1) (inferred_at function_labelled (function_stops function_name.below j.entries function_stood answer h) same kept))
               (λ h.
               let low : r < stops = omega arith in
               rw ((made.made low).0, (made.made low).1)
               (inferred_at function_labelled (function_gives function_name.below j.entries function_stood answer slots (omega (arith, j.room, function_is.size)) low) same
-              (kept_then kept (kept_wider n (n + nodes (term m)) (omega arith) (omega (arith, function_is.size)) (slot_kept mades' n 4 label r slots (node_low j) (n + 1) (omega arith))))))
+              (kept_then kept (kept_wider n (n + nodes (term m)) (omega arith) (omega (arith, function_is.size)) (slot_kept mades' n Impl label r slots (node_low j) (n + 1) (omega arith))))))
             where
               slots : length mades' ≡ node_limit
               slots = i.kept.long ∙ j.slots
@@ -262,7 +261,7 @@ module _ {records code : List ℕ} {stride : ℕ} {scope : List (Option ℕ)} {m
     pub pair_few : Few records a (n + 1)
     pair_few = few j (n + 1) pair_is.first (omega (arith, j.room, pair_is.size))
 
-    module _ {scope' : List (Option ℕ)} {mades' : List Slot} {p : ℕ} (i : Inferred records code stride scope mades a (n + 1) scope' mades' p) where
+    module _ {scope' : List (Option ℕ)} {mades' : List Made} {p : ℕ} (i : Inferred records code stride scope mades a (n + 1) scope' mades' p) where
       first_kept : Kept n (n + nodes (term m)) mades mades'
       first_kept = kept_wider n (n + nodes (term m)) (omega arith) (omega (arith, pair_is.size)) i.kept
 
@@ -276,14 +275,14 @@ module _ {records code : List ℕ} {stride : ℕ} {scope : List (Option ℕ)} {m
         pub pair_next : Call records code stride scope' mades' m b next
         pair_next = call j (rw eb pair_is.second) (rw i.same j.entries) (i.kept.long ∙ j.slots) (omega (arith, second_room, j.room))
 
-        pub pair_done : {scope'' : List (Option ℕ)} {mades'' last : List Slot} {q y : ℕ} → Inferred records code stride scope' mades' b next scope'' mades'' q → Made mades'' n 2 p q last y → At scope'' last y
+        pub pair_done : {scope'' : List (Option ℕ)} {mades'' last : List Made} {q y : ℕ} → Inferred records code stride scope' mades' b next scope'' mades'' q → Makes mades'' n And p q last y → At scope'' last y
         pair_done {scope''} {mades''} {last} {q} {y} d made = by_cases (dec_le stops q)
             (λ h. rw ((made.stop h).0, (made.stop h).1) (inferred_at is (pair_second i.answer l answer h) same kept))
             (λ h.
             let low : q < stops = omega arith in
             rw ((made.made low).0, (made.made low).1)
             (inferred_at is (pair_gives i.answer l answer slots (omega (arith, en, second_room, j.room)) (rw en at d.kept) low) same
-            (kept_then kept (kept_wider n (n + nodes (term m)) (omega arith) (omega (arith, pair_is.size)) (slot_kept mades'' n 2 p q slots (node_low j) (n + 1) (omega arith))))))
+            (kept_then kept (kept_wider n (n + nodes (term m)) (omega arith) (omega (arith, pair_is.size)) (slot_kept mades'' n And p q slots (node_low j) (n + 1) (omega arith))))))
           where
             is : term m ≡ Pair (term a) (term b)
             is = rw eb pair_is.is
@@ -301,15 +300,15 @@ module _ {records code : List ℕ} {stride : ℕ} {scope : List (Option ℕ)} {m
             kept = kept_then first_kept (kept_wider n (n + nodes (term m)) (rw en (omega arith)) second_room d.kept)
 
   -- A case, by what its head infers.
-  module _ (e : kind ≡ variant.Case) {scope₁ : List (Option ℕ)} {mades₁ : List Slot} {r h : ℕ} (i : Inferred records code stride scope mades a (n + 1) scope₁ mades₁ r)
-      (x : Expected code mades₁ r 3 n h) where
+  module _ (e : kind ≡ variant.Case) {scope₁ : List (Option ℕ)} {mades₁ : List Made} {r h : ℕ} (i : Inferred records code stride scope mades a (n + 1) scope₁ mades₁ r)
+      (x : Expected code mades₁ r Or n h) where
     pub case_stop : stops ≤ h → At scope₁ mades₁ h
     case_stop l =
         inferred_at (view j k ea e).is (case_stops (head_unopened j k ea e i x l)) i.same
         (kept_wider n (n + nodes (term m)) (omega arith) (omega (arith, (view j k ea e).size)) i.kept)
 
     module _ (l : h < stops) {b next : ℕ} (eb : b ≡ field_at records m 2) (en : next ≡ n + 1 + nodes (term a)) {bound : List (Option ℕ)} {hidden : Option ℕ}
-        (bd : Bound scope₁ (field_at records m 4) (h + 1) bound hidden) {called : List (Option ℕ)} {mades₂ : List Slot} {back : List (Option ℕ)} {q : ℕ}
+        (bd : Bound scope₁ (field_at records m 4) (h + 1) bound hidden) {called : List (Option ℕ)} {mades₂ : List Made} {back : List (Option ℕ)} {q : ℕ}
         (c : Inferred records code stride bound mades₁ b next called mades₂ q) (off : back ≡ set called (field_at records m 4) hidden) where
       left_answer : InfersAs code (set scope (field_at records m 4) (Some (h + 1))) mades₂ (term b) (n + 1 + nodes (term a)) q
       left_answer = infers_under (sym c.same ∙ left_under j k ea e i x l eb en bd c.same c.kept off) en c.answer
@@ -317,11 +316,11 @@ module _ {records code : List ℕ} {stride : ℕ} {scope : List (Option ℕ)} {m
       pub case_left_stop : stops ≤ q → At back mades₂ q
       case_left_stop s =
           inferred_at (rw eb (view j k ea e).is)
-          (case_left {b = term (field_at records m 3)} {y = field_at records m 5} (left_name j k ea e).below j.entries (head_opening j k ea e i x l) (half mades₁ or j.ends.space (head_stood j k ea e i x l) (head_opening j k ea e i x l).head) left_answer s)
+          (case_left {b = term (field_at records m 3)} {y = field_at records m 5} (left_name j k ea e).below j.entries (head_opening j k ea e i x l) (head_half j k ea e i x l) left_answer s)
           (left_back j k ea e i x l eb en bd c.same c.kept off) (left_kept j k ea e i x l eb en bd c.same c.kept off)
 
       module _ (low : q < stops) {d last side : ℕ} (ed : d ≡ field_at records m 3) (el : last ≡ next + nodes (term b)) (scanned : Scanned name_space code (h + 1) side)
-          {bound₂ : List (Option ℕ)} {hidden₂ : Option ℕ} (bd₂ : Bound back (field_at records m 5) side bound₂ hidden₂) {called₂ : List (Option ℕ)} {mades₃ : List Slot} {back₂ : List (Option ℕ)} {q₂ : ℕ}
+          {bound₂ : List (Option ℕ)} {hidden₂ : Option ℕ} (bd₂ : Bound back (field_at records m 5) side bound₂ hidden₂) {called₂ : List (Option ℕ)} {mades₃ : List Made} {back₂ : List (Option ℕ)} {q₂ : ℕ}
           (c₂ : Inferred records code stride bound₂ mades₂ d last called₂ mades₃ q₂) (off₂ : back₂ ≡ set called₂ (field_at records m 5) hidden₂) where
         right_answer : InfersAs code (set scope (field_at records m 5) (Some side)) mades₃ (term d) (n + 1 + nodes (term a) + nodes (term b)) q₂
         right_answer = infers_under (sym c₂.same ∙ right_under j k ea e i x l eb en bd c.same c.kept off ed el scanned bd₂ c₂.same)

@@ -1,27 +1,29 @@
 -- What a term infers, by what its parts do: one law for each form and each way in which it ends.
 use Prim.Native.Nat.{ℕ, ◌+◌, ◌≤◌, ◌<◌}
-use mathlib.Core.Path.{◌≡◌, refl, sym, ap, ◌∙◌}
+use mathlib.Core.Path.{◌≡◌, refl, ap, ◌∙◌}
 use mathlib.Core.Bool.{Bool, true, false}
 use Rattle.std.specs.Prelude.{Option, None, Some}
 use mathlib.Core.List.{List}
 use native.Mathlib.Omega.{arith}
 use lib.ListN.{length, get_or, set}
 use Rattle.definitions.specs.Name.{Name}
-use Rattle.definitions.specs.Prop.{True, Binary, and, or, impl, connective_byte, rename_prop}
+use Rattle.definitions.specs.Prop.{True, Binary, and, or, impl, rename_prop}
 use Rattle.definitions.specs.Equal.{eq_prop}
 use Rattle.definitions.specs.Term.{proposition, datatype, ProofTerm, Ident, Pair, ProjectFst, ProjectSnd, Function, Application, LetIn, OrLeft, OrRight, Case, Abort, TypeAscription, Unit, Sorry, rename_label, rename_parameter_label, rename_term}
 use Rattle.definitions.specs.CheckingRules.{bind}
 use Rattle.definitions.specs.TermText.{nodes}
 use Rattle.definitions.specs.Checker.{derived, ◌>>=◌, ensure, in_scope, sides, labelled, infer_named, infer_application, infer_ascribed, infer, check}
 use Rattle.prefix_code.specs.PropAt.{prop_at}
+use Rattle.prefix_code.specs.declared.Connective.TheVariants.{And, Or, Impl}
 use Rattle.prefix_code.specs.Scan.{Scanned}
-use Rattle.prop_numbers.specs.declared.Slot.{Slot}
+use Rattle.prop_numbers.specs.declared.Made.{Made}
 use Rattle.prop_numbers.specs.Standing.{Kept, RightOf, Shaped, Stood, left_of, made, name_space, node_limit, slotted, standing, stops}
 use Rattle.prop_numbers.specs.Answering.{Alike}
 use Rattle.checker.specs.Scope.{Entries, Scoped, entry_prop}
 use Rattle.checker.specs.Judging.{ChecksAs, Decides, InfersAs, Means, named}
 use Rattle.checker.specs.Helping.{Found}
 use Rattle.prop_numbers.proofs.Reps.{rep_after, rep_kept, rep_wider, slot_is, slot_kept}
+use Rattle.prop_numbers.proofs.Fronts.{byte_of}
 use Rattle.prop_numbers.proofs.Opening.{sides_found}
 use Rattle.prop_numbers.proofs.Halves.{Halves, halves, impl_left, or_stands, rep_is, rep_low, stood_rep}
 use Rattle.checker.proofs.Scopes.{bound_scope}
@@ -29,7 +31,7 @@ use Rattle.checker.proofs.Answers.{nodes_same, stopping, derives, stops_as, infe
 use Rattle.checker.proofs.Sides.{through, Unopened, Opening, with_end, some_end}
 
 -- A name.
-pub ident_answer : {code : List ℕ} {scope : List (Option ℕ)} {mades : List Slot} {x n r : ℕ} → x < name_space → Entries code scope → Found (get_or scope x None) n r
+pub ident_answer : {code : List ℕ} {scope : List (Option ℕ)} {mades : List Made} {x n r : ℕ} → x < name_space → Entries code scope → Found (get_or scope x None) n r
     → InfersAs code scope mades (Ident x) n r
 unfolding Means infer rename_term named in_scope entry_prop Scoped
 ident_answer {code} {scope} {mades} {x} {n} {r} low entries found = go (get_or scope x None) refl
@@ -42,13 +44,13 @@ ident_answer {code} {scope} {mades} {x} {n} {r} low entries found = go (get_or s
         rw is (infers-as (prop_at name_space code p) (omega (arith, stood.low)) (stood_rep stood) (λ f g d s. rw (s x low, e)))
 
 -- ⊤ stands.
-pub unit_answer : {code : List ℕ} {scope : List (Option ℕ)} {mades : List Slot} {n p : ℕ} → Stood code p → prop_at name_space code p ≡ True → InfersAs code scope mades Unit n p
+pub unit_answer : {code : List ℕ} {scope : List (Option ℕ)} {mades : List Made} {n p : ℕ} → Stood code p → prop_at name_space code p ≡ True → InfersAs code scope mades Unit n p
 unfolding Means infer rename_term named rename_prop
 unit_answer {code} stood is =
     infers-as (prop_at name_space code _) (omega (arith, stood.low)) (stood_rep stood) (λ f g d s. rw is)
 
 -- What has no inferring rule.
-module _ {code : List ℕ} {scope : List (Option ℕ)} {mades : List Slot} (n : ℕ) where
+module _ {code : List ℕ} {scope : List (Option ℕ)} {mades : List Made} (n : ℕ) where
   pub let_stops : (x y : ℕ) (a b : ProofTerm ℕ) → InfersAs code scope mades (LetIn x y a b) n (stops + n)
   unfolding Means infer rename_term named
   let_stops x y a b = stops_as n refl (λ f g d s. refl)
@@ -70,18 +72,18 @@ module _ {code : List ℕ} {scope : List (Option ℕ)} {mades : List Slot} (n : 
   abort_stops a = stops_as n refl (λ f g d s. refl)
 
 -- Projections.
-module _ {code : List ℕ} {scope : List (Option ℕ)} {mades : List Slot} {t : ProofTerm ℕ} {n res : ℕ} where
-  pub fst_stops : Unopened code scope t (n + 1) and n res → InfersAs code scope mades (ProjectFst t) n res
+module _ {code : List ℕ} {scope : List (Option ℕ)} {mades : List Made} {t : ProofTerm ℕ} {n res : ℕ} where
+  pub fst_stops : Unopened code scope t (n + 1) And n res → InfersAs code scope mades (ProjectFst t) n res
   unfolding Means infer rename_term named infer_named
   fst_stops u = stops_as u.k u.at (λ f g d s.
       through (infer (rename_term f t) g (n + 1)) (λ p. sides n and p) (λ s. derived s.left) u.k (u.means f g d s))
 
-  pub snd_stops : Unopened code scope t (n + 1) and n res → InfersAs code scope mades (ProjectSnd t) n res
+  pub snd_stops : Unopened code scope t (n + 1) And n res → InfersAs code scope mades (ProjectSnd t) n res
   unfolding Means infer rename_term named infer_named
   snd_stops u = stops_as u.k u.at (λ f g d s.
       through (infer (rename_term f t) g (n + 1)) (λ p. sides n and p) (λ s. derived s.right) u.k (u.means f g d s))
 
-  pub fst_gives : {left : ℕ} → length code ≤ standing → n + 1 + nodes t ≤ node_limit → Opening code scope mades t (n + 1) and res
+  pub fst_gives : {left : ℕ} → length code ≤ standing → n + 1 + nodes t ≤ node_limit → Opening code scope mades t (n + 1) And res
       → left ≡ left_of mades res → InfersAs code scope mades (ProjectFst t) n left
   unfolding Means infer rename_term named infer_named nodes ◌>>=◌
   fst_gives space room o is =
@@ -89,7 +91,7 @@ module _ {code : List ℕ} {scope : List (Option ℕ)} {mades : List Slot} {t : 
       rw is (infers-as s.left (rep_low s.left_rep room) (rep_wider n (n + (1 + nodes t)) (omega arith) (omega arith) s.left_rep)
       (λ f g d sc. rw (o.derived_as.means f g d sc, sides_found f n and o.derived_as.prop s.left s.right s.is)))
 
-  pub snd_gives : {right : ℕ} → length code ≤ standing → n + 1 + nodes t ≤ node_limit → Opening code scope mades t (n + 1) and res
+  pub snd_gives : {right : ℕ} → length code ≤ standing → n + 1 + nodes t ≤ node_limit → Opening code scope mades t (n + 1) And res
       → RightOf code mades res right → InfersAs code scope mades (ProjectSnd t) n right
   unfolding Means infer rename_term named infer_named nodes ◌>>=◌
   snd_gives {right} space room o is =
@@ -97,19 +99,19 @@ module _ {code : List ℕ} {scope : List (Option ℕ)} {mades : List Slot} {t : 
       rw is.is (infers-as s.right (rep_low s.right_rep room) (rep_wider n (n + (1 + nodes t)) (omega arith) (omega arith) s.right_rep)
       (λ f g d sc. rw (o.derived_as.means f g d sc, sides_found f n and o.derived_as.prop s.left s.right s.is)))
 
-pub argument_stands : {code : List ℕ} {scope : List (Option ℕ)} {mades : List Slot} {t : ProofTerm ℕ} {k res left : ℕ} → length code ≤ standing → Opening code scope mades t k impl res
+pub argument_stands : {code : List ℕ} {scope : List (Option ℕ)} {mades : List Made} {t : ProofTerm ℕ} {k res left : ℕ} → length code ≤ standing → Opening code scope mades t k Impl res
     → left ≡ left_of mades res → Stood code left
 argument_stands space o is = rw is (impl_left space o.derived_as.rep o.head)
 
 -- An application.
-module _ {code : List ℕ} {scope : List (Option ℕ)} {mades : List Slot} {t u : ProofTerm ℕ} {n res : ℕ} where
-  pub application_stops : Unopened code scope t (n + 1) impl n res → InfersAs code scope mades (Application t u) n res
+module _ {code : List ℕ} {scope : List (Option ℕ)} {mades : List Made} {t u : ProofTerm ℕ} {n res : ℕ} where
+  pub application_stops : Unopened code scope t (n + 1) Impl n res → InfersAs code scope mades (Application t u) n res
   unfolding Means infer rename_term named infer_application
   application_stops o = stops_as o.k o.at (λ f g d s.
       through (infer (rename_term f t) g (n + 1)) (λ p. sides n impl p)
       (λ s. check (rename_term f u) g (n + 1 + nodes (rename_term f t)) s.left >>= (λ w. derived s.right)) o.k (o.means f g d s))
 
-  pub application_fails : {left r : ℕ} {last : List Slot} → length code ≤ standing → Opening code scope mades t (n + 1) impl res → left ≡ left_of mades res
+  pub application_fails : {left r : ℕ} {last : List Made} → length code ≤ standing → Opening code scope mades t (n + 1) Impl res → left ≡ left_of mades res
       → ChecksAs code scope u (n + 1 + nodes t) left r → (r ≡ 0 → ⊥) → InfersAs code scope last (Application t u) n r
   unfolding Means Decides infer rename_term named infer_application ◌>>=◌
   application_fails {left} space o is c other =
@@ -120,7 +122,7 @@ module _ {code : List ℕ} {scope : List (Option ℕ)} {mades : List Slot} {t u 
       stops_as x.k x.at
       (λ f g d sc. rw (o.derived_as.means f g d sc, sides_found f n impl o.derived_as.prop s.left s.right s.is, nodes_same f t, same, x.means f g d sc))
 
-  pub application_gives : {left right r : ℕ} {last : List Slot} → length code ≤ standing → n + 1 + nodes t ≤ node_limit → Opening code scope mades t (n + 1) impl res
+  pub application_gives : {left right r : ℕ} {last : List Made} → length code ≤ standing → n + 1 + nodes t ≤ node_limit → Opening code scope mades t (n + 1) Impl res
       → left ≡ left_of mades res → RightOf code mades res right
       → ChecksAs code scope u (n + 1 + nodes t) left r → r ≡ 0 → Kept (n + 1 + nodes t) (n + 1 + nodes t + nodes u) mades last
       → InfersAs code scope last (Application t u) n right
@@ -135,7 +137,7 @@ module _ {code : List ℕ} {scope : List (Option ℕ)} {mades : List Slot} {t u 
       (λ f g d sc. rw (o.derived_as.means f g d sc, sides_found f n impl o.derived_as.prop s.left s.right s.is, nodes_same f t, same, x f g d sc)))
 
 -- An ascription.
-module _ {code : List ℕ} {scope : List (Option ℕ)} {mades : List Slot} {t : ProofTerm ℕ} {n : ℕ} where
+module _ {code : List ℕ} {scope : List (Option ℕ)} {mades : List Made} {t : ProofTerm ℕ} {n : ℕ} where
   pub ascription_datatype : (x : ℕ) → InfersAs code scope mades (TypeAscription t (datatype x)) n (stops + n)
   unfolding Means infer rename_term rename_label named infer_ascribed labelled ◌>>=◌
   ascription_datatype x = stops_as n refl (λ f g d s. refl)
@@ -153,7 +155,7 @@ module _ {code : List ℕ} {scope : List (Option ℕ)} {mades : List Slot} {t : 
       infers-as (prop_at name_space code p) (omega (arith, stood.low)) (stood_rep stood) (λ f g d s. rw (x f g d s))
 
 -- A function.
-module _ {code : List ℕ} {scope : List (Option ℕ)} {mades : List Slot} {t : ProofTerm ℕ} {x n : ℕ} where
+module _ {code : List ℕ} {scope : List (Option ℕ)} {mades : List Made} {t : ProofTerm ℕ} {x n : ℕ} where
   pub function_none : InfersAs code scope mades (Function x None t) n (stops + n)
   unfolding Means infer rename_term rename_parameter_label named labelled ◌>>=◌
   function_none = stops_as n refl (λ f g d s. refl)
@@ -162,34 +164,34 @@ module _ {code : List ℕ} {scope : List (Option ℕ)} {mades : List Slot} {t : 
   unfolding Means infer rename_term rename_parameter_label rename_label named labelled ◌>>=◌
   function_datatype y = stops_as n refl (λ f g d s. refl)
 
-module _ {code : List ℕ} {scope : List (Option ℕ)} {mades : List Slot} {t : ProofTerm ℕ} {x n p r : ℕ} (low : x < name_space) (entries : Entries code scope) (stood : Stood code p)
+module _ {code : List ℕ} {scope : List (Option ℕ)} {mades : List Made} {t : ProofTerm ℕ} {x n p r : ℕ} (low : x < name_space) (entries : Entries code scope) (stood : Stood code p)
     (a : InfersAs code (set scope x (Some p)) mades t (n + 1) r) where
-  pub function_stops : {last : List Slot} → stops ≤ r → InfersAs code scope last (Function x (Some (proposition (prop_at name_space code p))) t) n r
+  pub function_stops : {last : List Made} → stops ≤ r → InfersAs code scope last (Function x (Some (proposition (prop_at name_space code p))) t) n r
   unfolding Means infer rename_term rename_parameter_label rename_label named labelled ◌>>=◌
   function_stops h =
       let s = stopping a h in
       stops_as s.k s.at (λ f g d sc. rw (s.means f (bind (f x) (rename_prop f (prop_at name_space code p)) g) d (bound_scope code scope x p low stood entries f g d sc)))
 
   pub function_gives : length mades ≡ node_limit → n + 1 + nodes t ≤ node_limit → r < stops
-      → InfersAs code scope (slotted mades n 4 p r) (Function x (Some (proposition (prop_at name_space code p))) t) n (standing + n)
-  unfolding Means infer rename_term rename_parameter_label rename_label rename_prop named labelled nodes connective_byte Shaped ◌>>=◌
+      → InfersAs code scope (slotted mades n Impl p r) (Function x (Some (proposition (prop_at name_space code p))) t) n (standing + n)
+  unfolding Means infer rename_term rename_parameter_label rename_label rename_prop named labelled nodes Shaped ◌>>=◌
   function_gives long room h =
       let v = derives a h in
-      let is = slot_is mades n 4 p r long (omega arith) in
-      let kept = slot_kept mades n 4 p r long (omega arith) (n + 1) (omega arith) in
+      let is = slot_is mades n Impl p r long (omega arith) in
+      let kept = slot_kept mades n Impl p r long (omega arith) (n + 1) (omega arith) in
       infers-as (Binary impl (prop_at name_space code p) v.prop) (omega arith)
-      (made n impl (omega arith) (omega arith) (ap (λ (s : Slot). s.head) is) (rw is stood)
-      (rw is (stood_rep stood)) (rw is (rep_after n (n + 1) (slotted mades n 4 p r) (omega arith) kept (rep_wider (n + 1) (n + (1 + nodes t)) (omega arith) (omega arith) v.rep))))
+      (made n Impl (omega arith) (omega arith) (ap (λ (s : Made). s.connective) is) (rw is stood)
+      (rw is (stood_rep stood)) (rw is (rep_after n (n + 1) (slotted mades n Impl p r) (omega arith) kept (rep_wider (n + 1) (n + (1 + nodes t)) (omega arith) (omega arith) v.rep))))
       (λ f g d sc. rw (v.means f (bind (f x) (rename_prop f (prop_at name_space code p)) g) d (bound_scope code scope x p low stood entries f g d sc)))
 
 -- A pair.
-module _ {code : List ℕ} {scope : List (Option ℕ)} {first : List Slot} {t u : ProofTerm ℕ} {n p : ℕ} (a : InfersAs code scope first t (n + 1) p) where
-  pub pair_first : {last : List Slot} → stops ≤ p → InfersAs code scope last (Pair t u) n p
+module _ {code : List ℕ} {scope : List (Option ℕ)} {first : List Made} {t u : ProofTerm ℕ} {n p : ℕ} (a : InfersAs code scope first t (n + 1) p) where
+  pub pair_first : {last : List Made} → stops ≤ p → InfersAs code scope last (Pair t u) n p
   unfolding Means infer rename_term named ◌>>=◌
   pair_first h = let s = stopping a h in stops_as s.k s.at (λ f g d sc. rw (s.means f g d sc))
 
-  module _ {mades : List Slot} {q : ℕ} (low : p < stops) (b : InfersAs code scope mades u (n + 1 + nodes t) q) where
-    pub pair_second : {last : List Slot} → stops ≤ q → InfersAs code scope last (Pair t u) n q
+  module _ {mades : List Made} {q : ℕ} (low : p < stops) (b : InfersAs code scope mades u (n + 1 + nodes t) q) where
+    pub pair_second : {last : List Made} → stops ≤ q → InfersAs code scope last (Pair t u) n q
     unfolding Means infer rename_term named ◌>>=◌
     pair_second h =
         let s = stopping b h in
@@ -197,24 +199,24 @@ module _ {code : List ℕ} {scope : List (Option ℕ)} {first : List Slot} {t u 
         stops_as s.k s.at (λ f g d sc. rw (v.means f g d sc, nodes_same f t, s.means f g d sc))
 
     pub pair_gives : length mades ≡ node_limit → n + 1 + nodes t + nodes u ≤ node_limit → Kept (n + 1 + nodes t) (n + 1 + nodes t + nodes u) first mades → q < stops
-        → InfersAs code scope (slotted mades n 2 p q) (Pair t u) n (standing + n)
-    unfolding Means infer rename_term rename_prop named nodes connective_byte Shaped ◌>>=◌
+        → InfersAs code scope (slotted mades n And p q) (Pair t u) n (standing + n)
+    unfolding Means infer rename_term rename_prop named nodes Shaped ◌>>=◌
     pair_gives long room kept h =
         let v = derives a low in
         let w = derives b h in
-        let is = slot_is mades n 2 p q long (omega arith) in
-        let slot = slot_kept mades n 2 p q long (omega arith) (n + 1) (omega arith) in
+        let is = slot_is mades n And p q long (omega arith) in
+        let slot = slot_kept mades n And p q long (omega arith) (n + 1) (omega arith) in
         let whole = n + (1 + (nodes t + nodes u)) in
         let first-rep = rep_wider (n + 1) whole (omega arith) (omega arith) (rep_kept (n + 1 + nodes t) (n + 1 + nodes t + nodes u) mades (omega arith) kept v.rep) in
         let second-rep = rep_wider (n + 1) whole (omega arith) (omega arith) w.rep in
         infers-as (Binary and v.prop w.prop) (omega arith)
-        (made n and (omega arith) (omega arith) (ap (λ (s : Slot). s.head) is) tt
-        (rw is (rep_after n (n + 1) (slotted mades n 2 p q) (omega arith) slot first-rep))
-        (rw is (rep_after n (n + 1) (slotted mades n 2 p q) (omega arith) slot second-rep)))
+        (made n And (omega arith) (omega arith) (ap (λ (s : Made). s.connective) is) tt
+        (rw is (rep_after n (n + 1) (slotted mades n And p q) (omega arith) slot first-rep))
+        (rw is (rep_after n (n + 1) (slotted mades n And p q) (omega arith) slot second-rep)))
         (λ f g d sc. rw (v.means f g d sc, nodes_same f t, w.means f g d sc))
 
 -- A case.
-pub case_stops : {code : List ℕ} {scope : List (Option ℕ)} {last : List Slot} {t a b : ProofTerm ℕ} {x y n res : ℕ} → Unopened code scope t (n + 1) or n res
+pub case_stops : {code : List ℕ} {scope : List (Option ℕ)} {last : List Made} {t a b : ProofTerm ℕ} {x y n res : ℕ} → Unopened code scope t (n + 1) Or n res
     → InfersAs code scope last (Case t x a y b) n res
 unfolding Means infer rename_term named
 case_stops {code} {scope} {last} {t} {a} {b} {x} {y} {n} o = stops_as o.k o.at (λ f g d s.
@@ -224,15 +226,17 @@ case_stops {code} {scope} {last} {t} {a} {b} {x} {y} {n} o = stops_as o.k o.at (
     ensure n (eq_prop q r) >>= (λ w. derived q)))) o.k (o.means f g d s))
 
 -- The head is a disjunction that stands.
-pub head_stands_there : {code : List ℕ} {scope : List (Option ℕ)} {mades : List Slot} {t : ProofTerm ℕ} {k h : ℕ} → Opening code scope mades t k or h → Stood code h
+pub head_stands_there : {code : List ℕ} {scope : List (Option ℕ)} {mades : List Made} {t : ProofTerm ℕ} {k h : ℕ} → Opening code scope mades t k Or h → Stood code h
 head_stands_there o = or_stands o.derived_as.rep o.head
 
-pub head_halves : {code : List ℕ} {scope : List (Option ℕ)} {mades : List Slot} {t : ProofTerm ℕ} {k h end : ℕ} → length code ≤ standing → Opening code scope mades t k or h
-    → Scanned name_space code (h + 1) end → Halves code h end or
-head_halves {mades = mades} space o scanned = halves mades or space (head_stands_there o) o.head scanned
+pub head_halves : {code : List ℕ} {scope : List (Option ℕ)} {mades : List Made} {t : ProofTerm ℕ} {k h end : ℕ} → length code ≤ standing → Opening code scope mades t k Or h
+    → Scanned name_space code (h + 1) end → Halves code h end Or
+head_halves {code} {mades = mades} space o scanned =
+    let stood = head_stands_there o in
+    halves Or space stood (byte_of code mades Or stood.low o.head) scanned
 
 -- so its sides are the two that stand
-module _ {code : List ℕ} {scope : List (Option ℕ)} {mades : List Slot} {t : ProofTerm ℕ} {k h end : ℕ} (o : Opening code scope mades t k or h) (hs : Halves code h end or) where
+module _ {code : List ℕ} {scope : List (Option ℕ)} {mades : List Made} {t : ProofTerm ℕ} {k h end : ℕ} (o : Opening code scope mades t k Or h) (hs : Halves code h end Or) where
   pub head_is : o.derived_as.prop ≡ Binary or (prop_at name_space code (h + 1)) (prop_at name_space code end)
   head_is = rep_is o.derived_as.rep (head_stands_there o).low ∙ hs.is
 
@@ -240,19 +244,19 @@ module _ {code : List ℕ} {scope : List (Option ℕ)} {mades : List Slot} {t : 
       ≡ derived (record { connective = or; left = rename_prop f (prop_at name_space code (h + 1)); right = rename_prop f (prop_at name_space code end) })
   head_found n f = sides_found f n or o.derived_as.prop _ _ head_is
 
-module _ {code : List ℕ} {scope : List (Option ℕ)} {mades : List Slot} {t a b : ProofTerm ℕ} {x y n h end q : ℕ} {left : List Slot} (xl : x < name_space) (entries : Entries code scope)
-    (o : Opening code scope mades t (n + 1) or h) (hs : Halves code h end or)
+module _ {code : List ℕ} {scope : List (Option ℕ)} {mades : List Made} {t a b : ProofTerm ℕ} {x y n h end q : ℕ} {left : List Made} (xl : x < name_space) (entries : Entries code scope)
+    (o : Opening code scope mades t (n + 1) Or h) (hs : Halves code h end Or)
     (i : InfersAs code (set scope x (Some (h + 1))) left a (n + 1 + nodes t) q) where
-  pub case_left : {last : List Slot} → stops ≤ q → InfersAs code scope last (Case t x a y b) n q
+  pub case_left : {last : List Made} → stops ≤ q → InfersAs code scope last (Case t x a y b) n q
   unfolding Means infer rename_term named ◌>>=◌
   case_left l =
       let s = stopping i l in
       stops_as s.k s.at (λ f g d sc.
       rw (o.derived_as.means f g d sc, head_found o hs n f, nodes_same f t, s.means f (bind (f x) (rename_prop f (prop_at name_space code (h + 1))) g) d (bound_scope code scope x (h + 1) xl hs.left entries f g d sc)))
 
-  module _ {r : ℕ} {right : List Slot} (yl : y < name_space) (low : q < stops)
+  module _ {r : ℕ} {right : List Made} (yl : y < name_space) (low : q < stops)
       (j : InfersAs code (set scope y (Some end)) right b (n + 1 + nodes t + nodes a) r) where
-    pub case_right : {last : List Slot} → stops ≤ r → InfersAs code scope last (Case t x a y b) n r
+    pub case_right : {last : List Made} → stops ≤ r → InfersAs code scope last (Case t x a y b) n r
     unfolding Means infer rename_term named ◌>>=◌
     case_right l =
         let s = stopping j l in

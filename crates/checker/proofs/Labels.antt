@@ -15,12 +15,15 @@ use Rattle.definitions.specs.Equal.{eq_prop}
 use Rattle.definitions.specs.Term.{proposition, datatype, rename_label, rename_parameter_label}
 use Rattle.definitions.specs.Checker.{ensure, label_is}
 use Rattle.prefix_code.specs.PropAt.{prop_at}
+use Rattle.prefix_code.specs.Shape.{meant}
+use Rattle.prefix_code.specs.declared.Connective.{Connective}
+use Rattle.prefix_code.specs.declared.Connective.TheVariants.{Impl}
 use Rattle.proof_term.specs.Records.{field_at, label_of, parameter_label}
 use Rattle.prop_numbers.specs.Standing.{standing, stops, name_space, Stood, Distinct}
 use Rattle.prop_numbers.specs.Answering.{SideOf}
 use Rattle.checker.specs.Asking.{label_prop}
 use Rattle.checker.specs.Helping.{LabelTested, BodySide, Ascribed}
-use Rattle.checker.proofs.Steps.{halves_at}
+use Rattle.prop_numbers.proofs.Halves.{halves}
 
 module _ (props : ℕ → Prop ℕ) (kind number : ℕ) where
   pub no_label : kind ≡ 0 → parameter_label props kind number ≡ None
@@ -71,28 +74,27 @@ short_stride {stride} {number} s n = by_cases (ℕ_discrete stride 0)
 
 -- The side of a function's body, by whether an implication stands there and by the test of the label.
 module _ {records code : List ℕ} {stride m p node r : ℕ} where
-  pub body_stop : length code ≤ standing → Stood code p → SideOf code p 4 node r → stops ≤ r → BodySide records code stride m p node r
-  unfolding connective_byte
+  pub body_stop : length code ≤ standing → Stood code p → SideOf code p Impl node r → stops ≤ r → BodySide records code stride m p node r
   body_stop few stood s h = record {
-    tested = λ same. absurd (omega (arith, (halves_at impl few stood same (s.found same)).right.low));
+    tested = λ same. absurd (omega (arith, (halves Impl few stood same (s.found same)).right.low));
     other = s.other;
   }
 
-  pub body_side : LabelTested records code stride m (p + 1) true → SideOf code p 4 node r → get_or code p 0 ≡ 4 → BodySide records code stride m p node r
+  pub body_side : LabelTested records code stride m (p + 1) true → SideOf code p Impl node r → get_or code p 0 ≡ connective_byte impl → BodySide records code stride m p node r
   body_side t s e = record {
     tested = λ same. record { test = true; label = t; is = λ y. s.found same; other = λ x. absurd (true≢false x) };
     other = λ x. absurd (x e);
   }
 
-pub not_side : {records code : List ℕ} {stride m p node : ℕ} → LabelTested records code stride m (p + 1) false → get_or code p 0 ≡ 4 → BodySide records code stride m p node (stops + node)
+pub not_side : {records code : List ℕ} {stride m p node : ℕ} → LabelTested records code stride m (p + 1) false → get_or code p 0 ≡ connective_byte impl → BodySide records code stride m p node (stops + node)
 not_side t e = record {
   tested = λ same. record { test = false; label = t; is = λ y. absurd (true≢false (sym y)); other = λ x. refl };
   other = λ x. absurd (x e);
 }
 
 -- what is no stop has the connective
-pub has_connective : {code : List ℕ} {p c node r : ℕ} → SideOf code p c node r → r < stops → get_or code p 0 ≡ c
-has_connective {code} {p} {c} s h = by_cases (ℕ_discrete (get_or code p 0) c) (λ e. e) (λ e. absurd (omega (arith, s.other e)))
+pub has_connective : {code : List ℕ} {p : ℕ} {c : Connective} {node r : ℕ} → SideOf code p c node r → r < stops → get_or code p 0 ≡ connective_byte (meant c)
+has_connective {code} {p} {c} s h = by_cases (ℕ_discrete (get_or code p 0) (connective_byte (meant c))) (λ e. e) (λ e. absurd (omega (arith, s.other e)))
 
 -- A label by its kind.
 module _ {records : List ℕ} {stride m node : ℕ} where

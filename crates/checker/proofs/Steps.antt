@@ -1,21 +1,22 @@
 -- The small steps between the calls of the two functions: what is asked of a part, and what stays.
 use Prim.Native.Nat.{ℕ, ◌+◌, ◌≤◌, ◌<◌}
-use mathlib.Core.Path.{◌≡◌, refl, sym, ap, ◌∙◌}
+use mathlib.Core.Path.{◌≡◌, ap, ◌∙◌}
 use mathlib.Core.Logic.{by_cases}
 use Rattle.std.specs.Prelude.{Option, Some}
-use mathlib.Core.List.{List, []}
+use mathlib.Core.List.{List}
 use native.Mathlib.Omega.{arith}
 use native.Mathlib.Decide.{ℕ_discrete}
 use lib.ListN.{length, get_or, set, length-set}
-use Rattle.definitions.specs.Prop.{Connective, and, or, impl, connective_byte}
+use Rattle.definitions.specs.Prop.{connective_byte}
 use Rattle.definitions.specs.Term.{ProofTerm}
 use Rattle.definitions.specs.TermText.{nodes}
 use Rattle.prefix_code.specs.PropAt.{prop_at}
-use Rattle.prefix_code.specs.Scan.{Scanned}
-use Rattle.prop_numbers.specs.declared.Slot.{Slot}
+use Rattle.prefix_code.specs.Shape.{meant}
+use Rattle.prefix_code.specs.declared.Connective.{Connective}
+use Rattle.prop_numbers.specs.declared.Made.{Made}
 use Rattle.prop_numbers.specs.Standing.{standing, node_limit, stops, name_space, Stood, Known, Space, Kept}
 use Rattle.prop_numbers.specs.Answering.{SideOf}
-use Rattle.prop_numbers.proofs.Halves.{Halves, halves, head_stands, stood_rep, space_of}
+use Rattle.prop_numbers.proofs.Halves.{Halves, halves, stood_rep, space_of}
 use Rattle.checker.specs.Scope.{Entries}
 use Rattle.checker.specs.Asking.{label_prop, term_of, Few, Judgeable}
 use Rattle.checker.specs.Judging.{InfersAs, ChecksAs, Inferred, Checked}
@@ -24,12 +25,12 @@ use Rattle.checker.proofs.Scopes.{bound_entries, put_back}
 use Rattle.checker.proofs.Answers.{derives}
 
 -- a part is an earlier record, and can be judged
-pub record Call (records code : List ℕ) (stride : ℕ) (scope : List (Option ℕ)) (mades : List Slot) (m a n : ℕ) : Type 0 where
+pub record Call (records code : List ℕ) (stride : ℕ) (scope : List (Option ℕ)) (mades : List Made) (m a n : ℕ) : Type 0 where
   pub less : a < m
   pub ready : Judgeable records code stride scope mades a n
 
-module _ {records code : List ℕ} {stride : ℕ} {scope : List (Option ℕ)} {mades : List Slot} {m n : ℕ} (j : Judgeable records code stride scope mades m n) where
-  pub call : {scope' : List (Option ℕ)} {mades' : List Slot} {a n' : ℕ} → a < m → Entries code scope' → length mades' ≡ node_limit
+module _ {records code : List ℕ} {stride : ℕ} {scope : List (Option ℕ)} {mades : List Made} {m n : ℕ} (j : Judgeable records code stride scope mades m n) where
+  pub call : {scope' : List (Option ℕ)} {mades' : List Made} {a n' : ℕ} → a < m → Entries code scope' → length mades' ≡ node_limit
       → n' + nodes (term_of code stride records a) ≤ node_limit → Call records code stride scope' mades' m a n'
   call l entries slots room = record {
     less = l;
@@ -61,7 +62,7 @@ some_node (Rattle.definitions.specs.Term.TypeAscription a l) = omega arith
 some_node Rattle.definitions.specs.Term.Unit = omega arith
 some_node Rattle.definitions.specs.Term.Sorry = omega arith
 
-pub node_low : {records code : List ℕ} {stride : ℕ} {scope : List (Option ℕ)} {mades : List Slot} {m n : ℕ} → Judgeable records code stride scope mades m n → n < node_limit
+pub node_low : {records code : List ℕ} {stride : ℕ} {scope : List (Option ℕ)} {mades : List Made} {m n : ℕ} → Judgeable records code stride scope mades m n → n < node_limit
 node_low {records} {code} {stride} {m = m} j = omega (arith, j.room, some_node (term_of code stride records m))
 
 -- Under a binder.
@@ -76,56 +77,38 @@ module _ {code : List ℕ} {scope bound : List (Option ℕ)} {x p : ℕ} {hidden
   pub restored : {called back : List (Option ℕ)} → called ≡ bound → back ≡ set called x hidden → back ≡ scope
   restored same e = e ∙ rw (same, b.bound, b.hidden) (put_back scope x (Some p) (omega (arith, s.long)))
 
--- the sides of what stands, by its byte
-pub halves_at : {code : List ℕ} {p end : ℕ} (c : Connective) → length code ≤ standing → Stood code p → get_or code p 0 ≡ connective_byte c
-    → Scanned name_space code (p + 1) end → Halves code p end c
-halves_at {code} {p} c few stood e scanned = halves [] c few stood (head_stands code [] p stood.low ∙ e) scanned
-
 -- A side by its number: a stop, or where the left side's code ends.
-module _ {code : List ℕ} {p byte node r : ℕ} (c : Connective) (is : connective_byte c ≡ byte) (few : length code ≤ standing) (stood : Stood code p)
-    (s : SideOf code p byte node r) where
+module _ {code : List ℕ} {p node r : ℕ} {c : Connective} (few : length code ≤ standing) (stood : Stood code p) (s : SideOf code p c node r) where
   pub side_halves : r < stops → Halves code p r c
-  side_halves h = by_cases (ℕ_discrete (get_or code p 0) byte)
-      (λ e. halves_at c few stood (e ∙ sym is) (s.found e))
+  side_halves h = by_cases (ℕ_discrete (get_or code p 0) (connective_byte (meant c)))
+      (λ e. halves c few stood e (s.found e))
       (λ e. absurd (omega (arith, s.other e)))
 
-  pub side_other : stops ≤ r → (get_or code p 0 ≡ byte → ⊥)
-  side_other h e = omega (arith, (halves_at c few stood (e ∙ sym is) (s.found e)).right.low)
-
-pub and_is : connective_byte and ≡ 2
-unfolding connective_byte
-and_is = refl
-
-pub or_is : connective_byte or ≡ 3
-unfolding connective_byte
-or_is = refl
-
-pub impl_is : connective_byte impl ≡ 4
-unfolding connective_byte
-impl_is = refl
+  pub side_other : stops ≤ r → (get_or code p 0 ≡ connective_byte (meant c) → ⊥)
+  side_other h e = omega (arith, (halves c few stood e (s.found e)).right.low)
 
 -- Answers.
-module _ {code : List ℕ} {scope : List (Option ℕ)} {mades : List Slot} {t : ProofTerm ℕ} {n r : ℕ} (x : InfersAs code scope mades t n r) where
+module _ {code : List ℕ} {scope : List (Option ℕ)} {mades : List Made} {t : ProofTerm ℕ} {n r : ℕ} (x : InfersAs code scope mades t n r) where
   pub known_answer : r < stops → n + nodes t ≤ node_limit → Known code mades r
   known_answer h room = record { lo = n; hi = n + nodes t; prop = (derives x h).prop; rep = (derives x h).rep; last = room }
 
   pub answer_space : length code ≤ standing → length mades ≡ node_limit → n + nodes t ≤ node_limit → r < stops → Space code mades r
   answer_space few slots room h = space_of few slots (known_answer h room)
 
-pub known_stood : {code : List ℕ} {mades : List Slot} {p : ℕ} → Stood code p → Known code mades p
+pub known_stood : {code : List ℕ} {mades : List Made} {p : ℕ} → Stood code p → Known code mades p
 known_stood {code} {mades} {p} s = record { lo = 0; hi = 0; prop = prop_at name_space code p; rep = stood_rep s; last = omega arith }
 
 -- an answer of the term that record m holds, in whatever way its node and its scope were found
-module _ {records code : List ℕ} {stride : ℕ} {scope : List (Option ℕ)} {mades : List Slot} {m n : ℕ} where
-  pub inferred_at : {t : ProofTerm ℕ} {scope' : List (Option ℕ)} {mades' : List Slot} {r : ℕ} → term_of code stride records m ≡ t → InfersAs code scope mades' t n r → scope' ≡ scope
+module _ {records code : List ℕ} {stride : ℕ} {scope : List (Option ℕ)} {mades : List Made} {m n : ℕ} where
+  pub inferred_at : {t : ProofTerm ℕ} {scope' : List (Option ℕ)} {mades' : List Made} {r : ℕ} → term_of code stride records m ≡ t → InfersAs code scope mades' t n r → scope' ≡ scope
       → Kept n (n + nodes (term_of code stride records m)) mades mades' → Inferred records code stride scope mades m n scope' mades' r
   inferred_at e x s k = record { answer = rw e x; same = s; kept = k }
 
-  pub checked_at : {t : ProofTerm ℕ} {p : ℕ} {scope' : List (Option ℕ)} {mades' : List Slot} {r : ℕ} → term_of code stride records m ≡ t → ChecksAs code scope t n p r → scope' ≡ scope
+  pub checked_at : {t : ProofTerm ℕ} {p : ℕ} {scope' : List (Option ℕ)} {mades' : List Made} {r : ℕ} → term_of code stride records m ≡ t → ChecksAs code scope t n p r → scope' ≡ scope
       → Kept n (n + nodes (term_of code stride records m)) mades mades' → Checked records code stride scope mades m n p scope' mades' r
   checked_at e x s k = record { answer = rw e x; same = s; kept = k }
 
-pub infers_under : {code : List ℕ} {scope bound : List (Option ℕ)} {mades : List Slot} {t : ProofTerm ℕ} {n k r : ℕ} → bound ≡ scope → k ≡ n → InfersAs code bound mades t k r → InfersAs code scope mades t n r
+pub infers_under : {code : List ℕ} {scope bound : List (Option ℕ)} {mades : List Made} {t : ProofTerm ℕ} {n k r : ℕ} → bound ≡ scope → k ≡ n → InfersAs code bound mades t k r → InfersAs code scope mades t n r
 infers_under e i x = rw (← e, ← i) x
 
 pub checks_under : {code : List ℕ} {scope bound : List (Option ℕ)} {t : ProofTerm ℕ} {n k p r : ℕ} → bound ≡ scope → k ≡ n → ChecksAs code bound t k p r → ChecksAs code scope t n p r

@@ -7,7 +7,7 @@ use Rattle.prefix_code.specs.PropAt.{prop_at}
 use Rattle.proof_term.specs.Records.{record_size, field_at, term_at}
 use Rattle.proof_term.specs.Tally.{PartsEarlier}
 use Rattle.term_sizes.specs.Sizes.{Sized}
-use Rattle.prop_numbers.specs.declared.Slot.{Slot}
+use Rattle.prop_numbers.specs.declared.Made.{Made}
 use Rattle.prop_numbers.specs.Standing.{standing, node_limit, name_space, Stood}
 use Rattle.checker.specs.Scope.{Entries}
 
@@ -58,7 +58,7 @@ pub record Ends (code : List ℕ) : Type 0 where
   pub bottom_is : prop_at name_space code (length code - 1) ≡ False
 
 -- what both functions ask: the records up to m are well, the scope's entries stand, and the nodes have slots
-pub record Judgeable (records code : List ℕ) (stride : ℕ) (scope : List (Option ℕ)) (made : List Slot) (m node : ℕ) : Type 0 where
+pub record Judgeable (records code : List ℕ) (stride : ℕ) (scope : List (Option ℕ)) (made : List Made) (m node : ℕ) : Type 0 where
   pub held : record_size * (m + 1) ≤ length records
   pub well : (k : ℕ) → k ≤ m → Well records code stride k
   pub room : node + nodes (term_of code stride records m) ≤ node_limit

@@ -1,7 +1,7 @@
 -- What the helpers of the two functions say.
 use Rattle.std.specs.Prelude.{ℕ, ◌+◌, ◌-◌, ◌*◌, ◌<◌, ◌≡◌, Bool, true, false, List, length, get_or, set, Option, None, Some}
 use Rattle.definitions.specs.Name.{Name}
-use Rattle.definitions.specs.Prop.{rename_prop}
+use Rattle.definitions.specs.Prop.{impl, connective_byte, rename_prop}
 use Rattle.definitions.specs.Term.{rename_parameter_label}
 use Rattle.definitions.specs.Checker.{ensure, label_is}
 use Rattle.prefix_code.specs.PropAt.{prop_at}
@@ -26,8 +26,8 @@ pub record BodyTested (records code : List ℕ) (stride m p node r : ℕ) : Type
   pub other : test ≡ false → r ≡ stops + node
 
 pub record BodySide (records code : List ℕ) (stride m p node r : ℕ) : Type 0 where
-  pub tested : get_or code p 0 ≡ 4 → BodyTested records code stride m p node r
-  pub other : (get_or code p 0 ≡ 4 → ⊥) → r ≡ stops + node
+  pub tested : get_or code p 0 ≡ connective_byte impl → BodyTested records code stride m p node r
+  pub other : (get_or code p 0 ≡ connective_byte impl → ⊥) → r ≡ stops + node
 
 -- a name bound, and what that hides
 pub record Bound (scope : List (Option ℕ)) (name p : ℕ) (after : List (Option ℕ)) (r : Option ℕ) : Type 0 where

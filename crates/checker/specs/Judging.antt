@@ -7,7 +7,7 @@ use Rattle.definitions.specs.TermText.{nodes}
 use Rattle.definitions.specs.CheckingRules.{Context}
 use Rattle.definitions.specs.Checker.{Judged, derived, stopped, infer, check}
 use Rattle.prefix_code.specs.PropAt.{prop_at}
-use Rattle.prop_numbers.specs.declared.Slot.{Slot}
+use Rattle.prop_numbers.specs.declared.Made.{Made}
 use Rattle.prop_numbers.specs.Standing.{stops, name_space, Rep, Kept, Distinct}
 use Rattle.checker.specs.Scope.{Scoped}
 use Rattle.checker.specs.Asking.{term_of}
@@ -18,7 +18,7 @@ named f (derived a) = derived (rename_prop f a)
 named f (stopped n) = stopped n
 
 -- an answer of `infer`
-pub data Shows (code : List ℕ) (made : List Slot) (lo hi : ℕ) : Judged (Prop ℕ) → ℕ → Type 0 where
+pub data Shows (code : List ℕ) (made : List Made) (lo hi : ℕ) : Judged (Prop ℕ) → ℕ → Type 0 where
   proposition : {r : ℕ} {a : Prop ℕ} → r < stops → Rep code made lo hi r a → Shows code made lo hi (derived a) r
   node : {r : ℕ} (n : ℕ) → r ≡ stops + n → Shows code made lo hi (stopped n) r
 
@@ -37,7 +37,7 @@ Decides code scope t n p o =
     (f : ℕ → Name) (g : Context) → Distinct f → Scoped f code scope g
     → check (rename_term f t) g n (rename_prop f (prop_at name_space code p)) ≡ o
 
-pub record InfersAs (code : List ℕ) (scope : List (Option ℕ)) (made : List Slot) (t : ProofTerm ℕ) (n r : ℕ) : Type 0 where
+pub record InfersAs (code : List ℕ) (scope : List (Option ℕ)) (made : List Made) (t : ProofTerm ℕ) (n r : ℕ) : Type 0 where
   pub outcome : Judged (Prop ℕ)
   pub shown : Shows code made n (n + nodes t) outcome r
   pub means : Means code scope t n outcome
@@ -48,12 +48,12 @@ pub record ChecksAs (code : List ℕ) (scope : List (Option ℕ)) (t : ProofTerm
   pub means : Decides code scope t n p outcome
 
 -- The contracts of the two functions. The scope is put back, and only the term's own slots change.
-pub record Inferred (records code : List ℕ) (stride : ℕ) (scope : List (Option ℕ)) (made : List Slot) (m n : ℕ) (scope' : List (Option ℕ)) (made' : List Slot) (r : ℕ) : Type 0 where
+pub record Inferred (records code : List ℕ) (stride : ℕ) (scope : List (Option ℕ)) (made : List Made) (m n : ℕ) (scope' : List (Option ℕ)) (made' : List Made) (r : ℕ) : Type 0 where
   pub answer : InfersAs code scope made' (term_of code stride records m) n r
   pub same : scope' ≡ scope
   pub kept : Kept n (n + nodes (term_of code stride records m)) made made'
 
-pub record Checked (records code : List ℕ) (stride : ℕ) (scope : List (Option ℕ)) (made : List Slot) (m n p : ℕ) (scope' : List (Option ℕ)) (made' : List Slot) (r : ℕ) : Type 0 where
+pub record Checked (records code : List ℕ) (stride : ℕ) (scope : List (Option ℕ)) (made : List Made) (m n p : ℕ) (scope' : List (Option ℕ)) (made' : List Made) (r : ℕ) : Type 0 where
   pub answer : ChecksAs code scope (term_of code stride records m) n p r
   pub same : scope' ≡ scope
   pub kept : Kept n (n + nodes (term_of code stride records m)) made made'

@@ -15,7 +15,7 @@ ghost use Rattle.checker.specs.Helping.{Found, Bound, Ascribed, Annotated, BodyS
 use prefix_code::{Connective, scan};
 use proof_term::{Kind, Label, NODE_LIMIT, field, kind_at, label_at, parameter_at};
 use prop_numbers::{
-    NAMES, STOPS, Slot, agree, expect, first_side, left, make, right, same_code, second_side,
+    Made, NAMES, STOPS, agree, expect, first_side, left, make, right, same_code, second_side,
     side_of,
 };
 use term_sizes::SIZE;
@@ -140,7 +140,7 @@ pub fn check(
     code: &[u8],
     stride: usize,
     scope: &mut [Option<u32>; NAMES],
-    made: &mut [Slot; NODE_LIMIT],
+    made: &mut [Made; NODE_LIMIT],
     p: usize,
 ) -> usize
     requires { Judgeable records.now code.now stride scope.old made.old m node × Stood code.now p }
@@ -231,7 +231,7 @@ pub fn infer(
     code: &[u8],
     stride: usize,
     scope: &mut [Option<u32>; NAMES],
-    made: &mut [Slot; NODE_LIMIT],
+    made: &mut [Made; NODE_LIMIT],
 ) -> usize
     requires { Judgeable records.now code.now stride scope.old made.old m node }
     ensures { Inferred records.now code.now stride scope.old made.old m node

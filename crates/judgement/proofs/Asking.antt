@@ -32,7 +32,7 @@ use Rattle.term_renumbering.proofs.Terms.{same_parts, ident_over, function_over,
 use Rattle.term_sizes.specs.Sizes.{SizesFilled}
 use Rattle.term_sizes.proofs.Kept.{terms_same}
 use Rattle.standing_code.specs.Over.{CodeStands}
-use Rattle.prop_numbers.specs.declared.Slot.{Slot}
+use Rattle.prop_numbers.specs.declared.Made.{Made}
 use Rattle.prop_numbers.specs.Standing.{node_limit, name_space, Stood}
 use Rattle.checker.specs.Scope.{Entries, Scoped, entry_prop}
 use Rattle.checker.specs.Asking.{label_prop, term_of, Well, Judgeable}
@@ -177,7 +177,7 @@ module _ {s : List ℕ} {h : Sheet} (a : AcceptedSheet s h) (bytes : Bytes s) {n
           };
         }
 
-    pub judgeable : {scope : List (Option ℕ)} {made : List Slot} → length after ≡ length terms → Entries code scope → length made ≡ node_limit
+    pub judgeable : {scope : List (Option ℕ)} {made : List Made} → length after ≡ length terms → Entries code scope → length made ≡ node_limit
         → Judgeable sized code 1 scope made n 0
     judgeable long entries slots = record {
       held = omega (arith, t.held, z.long);
@@ -190,7 +190,7 @@ module _ {s : List ℕ} {h : Sheet} (a : AcceptedSheet s h) (bytes : Bytes s) {n
 
     -- what the checker answers is what the rules say of it
     pub rules_say : {k : ℕ} → k < propositions s → {at : ℕ} → at ≡ pair_offset (proposition_pairs s) k
-        → {hs : List ℕ} {scope : List (Option ℕ)} {made : List Slot} {scope' : List (Option ℕ)} {made' : List Slot} {x : ℕ} → InScope s hs code scope l.naming
+        → {hs : List ℕ} {scope : List (Option ℕ)} {made : List Made} {scope' : List (Option ℕ)} {made' : List Made} {x : ℕ} → InScope s hs code scope l.naming
         → Checked sized code 1 scope made n 0 at scope' made' x → Checks (ruled s terms n hs k) x
     unfolding ruled Decides
     rules_say {k} below is {hs} i checked =

@@ -24,7 +24,7 @@ use merged_names::fill_numbers;
 use name_index::{Index, SLOT_COUNT, build};
 use number::pair_offset;
 use proof_term::NODE_LIMIT;
-use prop_numbers::{NAMES, STOPS, Slot};
+use prop_numbers::{Made, NAMES, STOPS};
 use sheet::{Sheet, code_bytes, proposition_pairs, vocabulary};
 use sheet_term::{TERM_NUMBERS, sheet_term};
 use standing_code::{CODE_SIZE, put_code};
@@ -125,7 +125,7 @@ fn decide(
     fill_sizes(terms, n);
     let mut scope: [Option<u32>; NAMES] = [None; NAMES];
     assume(hypotheses, numbers, pairs, &mut scope);
-    let mut made = [Slot::default(); NODE_LIMIT];
+    let mut made = [Made::default(); NODE_LIMIT];
     let at = pair_offset(pairs, k);
     let r = check(terms, n, 0, &code, 1, &mut scope, &mut made, at);
     stopping_node(r)

@@ -1,20 +1,16 @@
 -- The bytes of a proposition that stands, from its offset to where it ends.
 use Prim.Native.Nat.{ℕ, ◌+◌, ◌-◌}
-use mathlib.Core.Path.{◌≡◌, refl, sym, ◌∙◌}
+use mathlib.Core.Path.{◌≡◌, sym, ◌∙◌}
 use mathlib.Core.Bool.{Bool}
 use mathlib.Core.List.{List}
 use native.Mathlib.Omega.{arith}
 use lib.ListN.{length, take, drop}
 use lib.Seq.{take_at}
 use Rattle.definitions.specs.Name.{Name, eq_name}
-use Rattle.definitions.specs.Prop.{rename_prop, connective_byte}
+use Rattle.definitions.specs.Prop.{rename_prop}
 use Rattle.definitions.specs.Code.{encode}
 use Rattle.definitions.specs.Equal.{eq_prop}
 use Rattle.prefix_code.specs.Scan.{Stands, Scanned}
-use Rattle.prefix_code.specs.Shape.{meant}
-use Rattle.prefix_code.specs.declared.Connective.{Connective}
-use Rattle.prefix_code.specs.declared.Connective.TheVariants.{And, Or, Impl}
-use Rattle.prop_numbers.specs.Answering.{head_byte}
 use Rattle.prefix_code.specs.PropAt.{prop_at, Present}
 use Rattle.prop_numbers.specs.Standing.{name_space, Distinct}
 use Rattle.prop_numbers.proofs.Equality.{same_bytes}
@@ -22,17 +18,6 @@ use Rattle.prop_numbers.proofs.Equality.{same_bytes}
 pub ended : {code : List ℕ} {i e : ℕ} → Present name_space code i → Scanned name_space code i e
     → e ≡ i + length (encode (prop_at name_space code i))
 ended {code} {i} there scanned = scanned.found (prop_at name_space code i) there.rest there.stands
-
--- the byte in front of a connective
-pub head_byte_is : (c : Connective) → connective_byte (meant c) ≡ head_byte c
-unfolding connective_byte
-head_byte_is And = refl
-head_byte_is Or = refl
-head_byte_is Impl = refl
-
--- a number that is that byte
-pub byte : (c : Connective) {n : ℕ} → n ≡ connective_byte (meant c) → n ≡ head_byte c
-byte c is = is ∙ head_byte_is c
 
 -- its bytes are its code
 pub bytes_of : {code : List ℕ} {i e : ℕ} → Present name_space code i → Scanned name_space code i e

@@ -1,23 +1,29 @@
 -- What has a connective has sides: of a number, and of a proposition that stands.
-use Prim.Native.Nat.{ℕ, ◌+◌, ◌*◌, ◌-◌, ◌≤◌, ◌<◌}
+use Prim.Native.Nat.{ℕ, ◌+◌, ◌-◌, ◌≤◌, ◌<◌}
 use mathlib.Core.Path.{◌≡◌, refl, sym, ap, ◌∙◌}
 use mathlib.Core.Logic.{by_cases}
 use mathlib.Core.List.{List, ◌++◌}
 use native.Mathlib.Omega.{arith}
-use native.Mathlib.Decide.{ℕ_discrete, dec_le}
+use native.Mathlib.Decide.{dec_le}
 use lib.ListN.{length, get_or}
 use borrow.Author.Tests.{lt-ltb, le-ltb}
-use Rattle.definitions.specs.Prop.{Prop, Binary, Connective, or, impl, connective_byte}
+use Rattle.std.specs.Prelude.{Some}
+use Rattle.std.proofs.lemmas.Option.{same_Some}
+use Rattle.definitions.specs.Prop.{Prop, Binary, connective_byte}
 use Rattle.definitions.specs.Code.{encode}
 use Rattle.prefix_code.specs.PropAt.{prop_at, Present}
+use Rattle.prefix_code.specs.Shape.{meant}
+use Rattle.prefix_code.specs.declared.Connective.{Connective}
+use Rattle.prefix_code.specs.declared.Connective.TheVariants.{Or, Impl}
 use Rattle.prefix_code.specs.Scan.{Scanned}
 use Rattle.prefix_code.proofs.Reading.{prop_at_lem, present, inside}
 use Rattle.prefix_code.proofs.Heads.{connective_byte_lem}
 use Rattle.prefix_code.proofs.Forms.{binary_at}
-use Rattle.prop_numbers.specs.declared.Slot.{Slot}
-use Rattle.prop_numbers.specs.Standing.{slot, standing, node_limit, stops, name_space, Stood, Rep, stands, made, Known, Space, head_of, left_of, right_of, Shaped}
+use Rattle.prop_numbers.specs.declared.Made.{Made}
+use Rattle.prop_numbers.specs.Standing.{slot, standing, node_limit, stops, name_space, Stood, Rep, stands, made, Known, Space, connective_of, left_of, right_of, Shaped}
 use Rattle.prop_numbers.specs.Answering.{Expected}
-use Rattle.prop_numbers.proofs.Opening.{same_connective, standing_sides, Sides, opened}
+use Rattle.prop_numbers.proofs.Fronts.{connective_made, byte_of, dec_connective}
+use Rattle.prop_numbers.proofs.Opening.{standing_sides, Sides, opened}
 
 -- where a code that is there ends
 pub scanned_of : {code : List ℕ} {i : ℕ} → Present name_space code i → Scanned name_space code i (i + length (encode (prop_at name_space code i)))
@@ -26,72 +32,64 @@ scanned_of {code} {i} there = record {
   only = λ h. (prop_at name_space code i, there.rest, there.stands, refl);
 }
 
-pub rep_low : {code : List ℕ} {mades : List Slot} {lo hi p : ℕ} {a : Prop ℕ} → Rep code mades lo hi p a → hi ≤ node_limit → p < stops
+pub rep_low : {code : List ℕ} {mades : List Made} {lo hi p : ℕ} {a : Prop ℕ} → Rep code mades lo hi p a → hi ≤ node_limit → p < stops
 rep_low (stands low there) h = omega arith
 rep_low (made k c l u e shape left right) h = omega arith
 
 -- a number below all made ones stands
-pub rep_stands : {code : List ℕ} {mades : List Slot} {lo hi p : ℕ} {a : Prop ℕ} → Rep code mades lo hi p a → p < standing → Stood code p
+pub rep_stands : {code : List ℕ} {mades : List Made} {lo hi p : ℕ} {a : Prop ℕ} → Rep code mades lo hi p a → p < standing → Stood code p
 rep_stands (stands low there) h = record { low = low; there = there }
 rep_stands (made k c l u e shape left right) h = absurd (omega arith)
 
-pub rep_is : {code : List ℕ} {mades : List Slot} {lo hi p : ℕ} {a : Prop ℕ} → Rep code mades lo hi p a → p < standing → a ≡ prop_at name_space code p
+pub rep_is : {code : List ℕ} {mades : List Made} {lo hi p : ℕ} {a : Prop ℕ} → Rep code mades lo hi p a → p < standing → a ≡ prop_at name_space code p
 rep_is (stands low there) h = refl
 rep_is (made k c l u e shape left right) h = absurd (omega arith)
 
-pub stood_rep : {code : List ℕ} {mades : List Slot} {lo hi p : ℕ} → Stood code p → Rep code mades lo hi p (prop_at name_space code p)
+pub stood_rep : {code : List ℕ} {mades : List Made} {lo hi p : ℕ} → Stood code p → Rep code mades lo hi p (prop_at name_space code p)
 stood_rep s = stands s.low s.there
 
-pub head_made : (code : List ℕ) (mades : List Slot) (k : ℕ) → head_of code mades (standing + k) ≡ (slot mades k).head
-unfolding head_of
-head_made code mades k = let that : standing + k - standing ≡ k = omega arith in rw (le-ltb (standing + k) standing (omega arith), that)
-
-pub left_made : (mades : List Slot) (k : ℕ) → left_of mades (standing + k) ≡ (slot mades k).left
+pub left_made : (mades : List Made) (k : ℕ) → left_of mades (standing + k) ≡ (slot mades k).left
 unfolding left_of
 left_made mades k = let that : standing + k - standing ≡ k = omega arith in rw (le-ltb (standing + k) standing (omega arith), that)
 
-pub right_made : (mades : List Slot) (k end : ℕ) → right_of mades (standing + k) end ≡ (slot mades k).right
+pub right_made : (mades : List Made) (k end : ℕ) → right_of mades (standing + k) end ≡ (slot mades k).right
 unfolding right_of
 right_made mades k end = let that : standing + k - standing ≡ k = omega arith in rw (le-ltb (standing + k) standing (omega arith), that)
 
-pub right_stands : (mades : List Slot) (p end : ℕ) → p < standing → right_of mades p end ≡ end
+pub right_stands : (mades : List Made) (p end : ℕ) → p < standing → right_of mades p end ≡ end
 unfolding right_of
 right_stands mades p end l = rw (lt-ltb p standing l)
 
-pub head_stands : (code : List ℕ) (mades : List Slot) (p : ℕ) → p < standing → head_of code mades p ≡ get_or code p 0
-unfolding head_of
-head_stands code mades p l = rw (lt-ltb p standing l)
-
-pub left_stands : (mades : List Slot) (p : ℕ) → p < standing → left_of mades p ≡ p + 1
+pub left_stands : (mades : List Made) (p : ℕ) → p < standing → left_of mades p ≡ p + 1
 unfolding left_of
 left_stands mades p l = rw (lt-ltb p standing l)
 
 -- no rule makes ∨
-pub or_stands : {code : List ℕ} {mades : List Slot} {lo hi p : ℕ} {a : Prop ℕ} → Rep code mades lo hi p a → head_of code mades p ≡ connective_byte or → Stood code p
+pub or_stands : {code : List ℕ} {mades : List Made} {lo hi p : ℕ} {a : Prop ℕ} → Rep code mades lo hi p a → connective_of code mades p ≡ Some Or → Stood code p
 unfolding Shaped
 or_stands (stands low there) h = record { low = low; there = there }
 or_stands {code} {mades} (made k c l u e shape left right) h =
-    let is : c ≡ or = same_connective c or (sym e ∙ sym (head_made code mades k) ∙ h) in
+    let is : c ≡ Or = same_Some c Or (sym e ∙ sym (connective_made code mades k) ∙ h) in
     absurd (rw is at shape)
 
 -- the left side of one that stands
-pub left_present : (code : List ℕ) (p : ℕ) (c : Connective) → Present name_space code p → get_or code p 0 ≡ connective_byte c → Present name_space code (p + 1)
+pub left_present : (code : List ℕ) (p : ℕ) (c : Connective) → Present name_space code p → get_or code p 0 ≡ connective_byte (meant c) → Present name_space code (p + 1)
 left_present code p c there byte =
-    let (low, high, _) = connective_byte_lem c in
+    let (low, high, _) = connective_byte_lem (meant c) in
     let b = binary_at name_space code p there.rest (prop_at name_space code p) there.stands (omega arith) (omega arith) in
     present name_space code (p + 1) b.left (encode b.right ++ there.rest) b.left_at
 
 -- Both sides of one that stands, by where the left one ends.
 pub record Halves (code : List ℕ) (p end : ℕ) (c : Connective) : Type 0 where
-  pub is : prop_at name_space code p ≡ Binary c (prop_at name_space code (p + 1)) (prop_at name_space code end)
+  pub is : prop_at name_space code p ≡ Binary (meant c) (prop_at name_space code (p + 1)) (prop_at name_space code end)
   pub left : Stood code (p + 1)
   pub right : Stood code end
   pub later : p < end
 
-pub halves : {code : List ℕ} {p end : ℕ} (mades : List Slot) (c : Connective) → length code ≤ standing → Stood code p → head_of code mades p ≡ connective_byte c
+pub halves : {code : List ℕ} {p end : ℕ} (c : Connective) → length code ≤ standing → Stood code p → get_or code p 0 ≡ connective_byte (meant c)
     → Scanned name_space code (p + 1) end → Halves code p end c
-halves {code} {p} {end} mades c space stood head scanned =
-    let s = standing_sides code p end c stood.there (sym (head_stands code mades p stood.low) ∙ head) scanned in
+halves {code} {p} {end} c space stood byte scanned =
+    let s = standing_sides code p end c stood.there byte scanned in
     record {
       is = s.is;
       left = record { low = omega (arith, s.low); there = s.left };
@@ -100,29 +98,28 @@ halves {code} {p} {end} mades c space stood head scanned =
     }
 
 -- the same without an end
-pub half : {code : List ℕ} {p : ℕ} (mades : List Slot) (c : Connective) → length code ≤ standing → Stood code p → head_of code mades p ≡ connective_byte c
+pub half : {code : List ℕ} {p : ℕ} (c : Connective) → length code ≤ standing → Stood code p → get_or code p 0 ≡ connective_byte (meant c)
     → Halves code p (p + 1 + length (encode (prop_at name_space code (p + 1)))) c
-half {code} {p} mades c space stood head =
-    halves mades c space stood head (scanned_of (left_present code p c stood.there (sym (head_stands code mades p stood.low) ∙ head)))
+half {code} {p} c space stood byte = halves c space stood byte (scanned_of (left_present code p c stood.there byte))
 
 -- the left side of ⊃ stands
-pub impl_left : {code : List ℕ} {mades : List Slot} {lo hi p : ℕ} {a : Prop ℕ} → length code ≤ standing → Rep code mades lo hi p a
-    → head_of code mades p ≡ connective_byte impl → Stood code (left_of mades p)
+pub impl_left : {code : List ℕ} {mades : List Made} {lo hi p : ℕ} {a : Prop ℕ} → length code ≤ standing → Rep code mades lo hi p a
+    → connective_of code mades p ≡ Some Impl → Stood code (left_of mades p)
 unfolding Shaped
 impl_left {code} {mades} space (stands {p = p} low there) h =
-    rw (left_stands mades p low) (half mades impl space (record { low = low; there = there }) h).left
+    rw (left_stands mades p low) (half Impl space (record { low = low; there = there }) (byte_of code mades Impl low h)).left
 impl_left {code} {mades} space (made k c l u e shape left right) h =
-    let is : c ≡ impl = same_connective c impl (sym e ∙ sym (head_made code mades k) ∙ h) in
+    let is : c ≡ Impl = same_Some c Impl (sym e ∙ sym (connective_made code mades k) ∙ h) in
     rw (left_made mades k) (rw is at shape)
 
 -- the sides of any that has a connective, where the left one ends somewhere
-pub sides_of : {code : List ℕ} {mades : List Slot} {lo hi p : ℕ} {a : Prop ℕ} (c : Connective) → length code ≤ standing → Rep code mades lo hi p a
-    → head_of code mades p ≡ connective_byte c → Sides code mades lo hi p (p + 1 + length (encode (prop_at name_space code (p + 1)))) c a
+pub sides_of : {code : List ℕ} {mades : List Made} {lo hi p : ℕ} {a : Prop ℕ} (c : Connective) → length code ≤ standing → Rep code mades lo hi p a
+    → connective_of code mades p ≡ Some c → Sides code mades lo hi p (p + 1 + length (encode (prop_at name_space code (p + 1)))) c a
 sides_of {code} {mades} {p = p} c space rep head =
-    opened _ c space rep head (λ low. scanned_of (left_present code p c (rep_stands rep low).there (sym (head_stands code mades p low) ∙ head)))
+    opened _ c space rep head (λ low. scanned_of (left_present code p c (rep_stands rep low).there (byte_of code mades c low head)))
 
 -- what is known can be looked up
-pub space_of : {code : List ℕ} {mades : List Slot} {p : ℕ} → length code ≤ standing → length mades ≡ node_limit → Known code mades p → Space code mades p
+pub space_of : {code : List ℕ} {mades : List Made} {p : ℕ} → length code ≤ standing → length mades ≡ node_limit → Known code mades p → Space code mades p
 space_of few slots k = record {
   low = rep_low k.rep k.last;
   inside = λ l. (inside (rep_stands k.rep l).there).start;
@@ -131,9 +128,9 @@ space_of few slots k = record {
 }
 
 -- an answer that is as expected is the answer itself
-pub expected_space : {code : List ℕ} {mades : List Slot} {r c node p : ℕ} → (r < stops → Space code mades r) → Expected code mades r c node p → p < stops → Space code mades p
+pub expected_space : {code : List ℕ} {mades : List Made} {r : ℕ} {c : Connective} {node p : ℕ} → (r < stops → Space code mades r) → Expected code mades r c node p → p < stops → Space code mades p
 expected_space {code} {mades} {r} {c} space e h = by_cases (dec_le stops r)
     (λ l. absurd (omega (arith, e.stop l)))
-    (λ l. by_cases (ℕ_discrete (head_of code mades r) c)
+    (λ l. by_cases (dec_connective (connective_of code mades r) c)
     (λ same. rw (e.found (omega arith) same) (space (omega arith)))
     (λ other. absurd (omega (arith, e.other (omega arith) other))))

@@ -2,6 +2,7 @@
 pub mod Equality
 pub mod Alike
 pub mod Bytes
+pub mod Fronts
 pub mod Reps
 pub mod Opening
 pub mod Halves

@@ -1,58 +1,53 @@
 -- What the functions over propositions as numbers say.
-use Rattle.std.specs.Prelude.{ℕ, ◌+◌, ◌≤◌, ◌<◌, ◌≡◌, Bool, cond, List, get_or}
+use Rattle.std.specs.Prelude.{ℕ, ◌+◌, ◌≤◌, ◌<◌, ◌≡◌, Bool, cond, List, get_or, Some}
 use Rattle.definitions.specs.Name.{Name}
-use Rattle.definitions.specs.Prop.{Prop, rename_prop}
+use Rattle.definitions.specs.Prop.{Prop, rename_prop, connective_byte}
 use Rattle.definitions.specs.Equal.{eq_prop}
 use Rattle.prefix_code.specs.Scan.{Scanned}
 use Rattle.prefix_code.specs.declared.Connective.{Connective}
-use Rattle.prefix_code.specs.declared.Connective.TheVariants.{And, Or, Impl}
-use Rattle.prop_numbers.specs.declared.Slot.{Slot}
-use Rattle.prop_numbers.specs.Standing.{standing, stops, name_space, Rep, Distinct, head_of, left_of, slotted}
+use Rattle.prefix_code.specs.declared.Connective.TheVariants.{And}
+use Rattle.prefix_code.specs.Shape.{meant}
+use Rattle.prop_numbers.specs.declared.Made.{Made}
+use Rattle.prop_numbers.specs.Standing.{standing, stops, name_space, Rep, Distinct, connective_of, left_of, slotted}
 
 -- the test whether two numbers have equal propositions, by every naming by different names
-pub record Alike (code : List ℕ) (made : List Slot) (p q : ℕ) (r : Bool) : Type 0 where
+pub record Alike (code : List ℕ) (made : List Made) (p q : ℕ) (r : Bool) : Type 0 where
   pub is : {lo hi lo' hi' : ℕ} {a b : Prop ℕ} → Rep code made lo hi p a → Rep code made lo' hi' q b
       → (f : ℕ → Name) → Distinct f → r ≡ eq_prop (rename_prop f a) (rename_prop f b)
 
 -- the answer where they are equal; else a stop, at the node or where the first stops
-pub record Tested (code : List ℕ) (made : List Slot) (r p node answer x : ℕ) : Type 0 where
+pub record Tested (code : List ℕ) (made : List Made) (r p node answer x : ℕ) : Type 0 where
   pub test : Bool
   pub alike : Alike code made r p test
   pub is : x ≡ cond test answer (stops + node)
 
-pub record Agreed (code : List ℕ) (made : List Slot) (r p node answer x : ℕ) : Type 0 where
+pub record Agreed (code : List ℕ) (made : List Made) (r p node answer x : ℕ) : Type 0 where
   pub stop : stops ≤ r → x ≡ r
   pub tested : r < stops → Tested code made r p node answer x
 
--- the byte in front of a connective, as `connective_byte` has it
-abbrev pub head_byte : Connective → ℕ
-head_byte And = 2
-head_byte Or = 3
-head_byte Impl = 4
-
 -- where the left side of what stands at p ends, if it has that connective; else a stop at the node
-pub record SideOf (code : List ℕ) (p c node r : ℕ) : Type 0 where
-  pub found : get_or code p 0 ≡ c → Scanned name_space code (p + 1) r
-  pub other : (get_or code p 0 ≡ c → ⊥) → r ≡ stops + node
+pub record SideOf (code : List ℕ) (p : ℕ) (c : Connective) (node r : ℕ) : Type 0 where
+  pub found : get_or code p 0 ≡ connective_byte (meant c) → Scanned name_space code (p + 1) r
+  pub other : (get_or code p 0 ≡ connective_byte (meant c) → ⊥) → r ≡ stops + node
 
 -- what is inferred must have a connective: the answer itself, or a stop at the node
-pub record Expected (code : List ℕ) (made : List Slot) (r c node res : ℕ) : Type 0 where
+pub record Expected (code : List ℕ) (made : List Made) (r : ℕ) (c : Connective) (node res : ℕ) : Type 0 where
   pub stop : stops ≤ r → res ≡ r
-  pub found : r < stops → head_of code made r ≡ c → res ≡ r
-  pub other : r < stops → (head_of code made r ≡ c → ⊥) → res ≡ stops + node
+  pub found : r < stops → connective_of code made r ≡ Some c → res ≡ r
+  pub other : r < stops → (connective_of code made r ≡ Some c → ⊥) → res ≡ stops + node
 
 -- the left side of a number
-abbrev pub FirstSide : List Slot → ℕ → ℕ → Type 0
+abbrev pub FirstSide : List Made → ℕ → ℕ → Type 0
 FirstSide made p x = x ≡ left_of made p
 
 -- a side of what is inferred, which must be ∧
-pub record Projected (code : List ℕ) (made : List Slot) (r : ℕ) (Side : ℕ → ℕ → Type 0) (node x : ℕ) : Type 0 where
+pub record Projected (code : List ℕ) (made : List Made) (r : ℕ) (Side : ℕ → ℕ → Type 0) (node x : ℕ) : Type 0 where
   pub p : ℕ
-  pub expected : Expected code made r 2 node p
+  pub expected : Expected code made r And node p
   pub stop : stops ≤ p → x ≡ p
   pub side : p < stops → Side p x
 
 -- a proposition made of two, unless the second is a stop
-pub record Made (before : List Slot) (node c left right : ℕ) (after : List Slot) (r : ℕ) : Type 0 where
+pub record Makes (before : List Made) (node : ℕ) (c : Connective) (left right : ℕ) (after : List Made) (r : ℕ) : Type 0 where
   pub stop : stops ≤ right → (r ≡ right) × (after ≡ before)
   pub made : right < stops → (r ≡ standing + node) × (after ≡ slotted before node c left right)

@@ -7,27 +7,36 @@ ghost use Rattle.definitions.specs.Name.{Name};
 ghost use Rattle.definitions.specs.Prop.{rename_prop};
 ghost use Rattle.definitions.specs.Equal.{eq_prop};
 ghost use Rattle.prefix_code.specs.PropAt.{prop_at, Present};
-ghost use Rattle.prop_numbers.specs.Standing.{standing, node_limit, stops, name_space, Space, head_of, left_of, RightOf};
+ghost use Rattle.prop_numbers.specs.Standing.{standing, node_limit, stops, name_space, Space, connective_of, left_of, RightOf};
 ghost use Rattle.prop_numbers.specs.Standing.{Known, Stood, Distinct};
-ghost use Rattle.prop_numbers.specs.Answering.{Alike, Agreed, head_byte, SideOf, Expected, FirstSide, Projected, Made};
+ghost use Rattle.prop_numbers.specs.Answering.{Alike, Agreed, SideOf, Expected, FirstSide, Projected, Makes};
 
-use prefix_code::{Connective, scan};
+use prefix_code::{CODE_LIMIT, Connective, Head, scan};
 use proof_term::NODE_LIMIT;
+use vocabulary::NAME_LIMIT;
 
-// A proposition is the offset of its code, or past all code the number of a made one, a connective and two propositions. A sheet has
-// 8,192 bytes of code at most, the labels of a term read beside it 131,072; ⊤ and ⊥ are the last two.
-pub const STANDING: usize = 139266;
+// The labels of a term that is read beside a sheet have so many bytes of code at most: a label's number has 16 bits and counts pairs of
+// bytes.
+const LABEL_CODE_LIMIT: usize = 2 * (u16::MAX as usize + 1);
 
-// Each node of a term may make one proposition, in the slot of its number: the head byte of its connective and the numbers of its sides.
+// ⊤ and ⊥ have a byte of code each.
+const CONSTANTS: usize = 2;
+
+// A proposition is the offset of its code, or past all code the number of a made one, a connective and two propositions. The code is a
+// sheet's, the labels of a term read beside it, and last ⊤ and ⊥.
+pub const STANDING: usize = CODE_LIMIT + LABEL_CODE_LIMIT + CONSTANTS;
+
+// Each node of a term may make one proposition, in the slot of its number: its connective, none where nothing is made, and the numbers
+// of its sides. The connective alone is an Option, since an Option of the whole takes 16 bytes for these 12.
 #[derive(Clone, Copy, Default)]
-pub struct Slot {
-    head: u8,
+pub struct Made {
+    connective: Option<Connective>,
     left: u32,
     right: u32,
 }
 
-// All name numbers are below this: the sheet's, and then those of a term read beside it.
-pub const NAMES: usize = 1024;
+// All name numbers are below this: a sheet's, and then as many of a term read beside it.
+pub const NAMES: usize = 2 * NAME_LIMIT;
 
 // What stops, stops at this plus the node. That and what a proposition is are one number and no Result or enum: the walk over a term is
 // 512 levels deep, and an enum takes twice the frame of a number (docs/DECISIONS.md, 135).
@@ -36,19 +45,22 @@ pub const STOPS: usize = STANDING + NODE_LIMIT;
 // Code, slots and node stand in no struct: `Known`, `Space` and `Rep` name what a clause asks of them, and of a struct each clause
 // would spell its fields out. The number of the slots is part of `Space`, since most functions only read them.
 
-// The head byte of a proposition.
-fn head(code: &[u8], made: &[Slot], p: usize) -> u8
+// The connective of a proposition, if it is binary.
+fn connective_of(code: &[u8], made: &[Made], p: usize) -> Option<Connective>
     requires { Space code.now made.now p }
-    ensures { result ≡ head_of code.now made.now p }
+    ensures { result ≡ connective_of code.now made.now p }
 {
     if p < STANDING {
-        return code[p];
+        return match Head::of_byte(code[p])? {
+            Head::Binary(connective) => Some(connective),
+            _ => None,
+        };
     }
-    made[p - STANDING].head
+    made[p - STANDING].connective
 }
 
 // The left side of a binary proposition.
-pub fn left(made: &[Slot], p: usize) -> usize
+pub fn left(made: &[Made], p: usize) -> usize
     requires { (p < stops) × (length made.now ≡ node_limit) }
     ensures { result ≡ left_of made.now p }
 {
@@ -59,7 +71,7 @@ pub fn left(made: &[Slot], p: usize) -> usize
 }
 
 // The right side.
-pub fn right(code: &[u8], made: &[Slot], p: usize) -> usize
+pub fn right(code: &[u8], made: &[Made], p: usize) -> usize
     requires { Space code.now made.now p }
     ensures { RightOf code.now made.now p result }
 {
@@ -81,7 +93,7 @@ pub fn same_code(code: &[u8], i: usize, j: usize) -> bool
 }
 
 // Whether two propositions are equal. Where one of them is made, both are binary or they differ.
-fn same(code: &[u8], made: &[Slot], p: usize, q: usize) -> bool
+fn same(code: &[u8], made: &[Made], p: usize, q: usize) -> bool
     requires code_len_bound { (length code.now ≤ standing) × (length made.now ≡ node_limit) }
     requires known { Known code.now made.now p × Known code.now made.now q }
     ensures { Alike code.now made.now p q result }
@@ -91,7 +103,7 @@ fn same(code: &[u8], made: &[Slot], p: usize, q: usize) -> bool
             return same_code(code, p, q);
         }
     }
-    if head(code, made, p) != head(code, made, q) {
+    if connective_of(code, made, p) != connective_of(code, made, q) {
         return false;
     }
     let left_same = same(code, made, left(made, p), left(made, q));
@@ -102,7 +114,7 @@ fn same(code: &[u8], made: &[Slot], p: usize, q: usize) -> bool
 }
 
 // Where r and p are equal propositions, that answer; else a stop, at the node or where r stops.
-pub fn agree(code: &[u8], made: &[Slot], r: usize, p: usize, node: usize, answer: usize) -> usize
+pub fn agree(code: &[u8], made: &[Made], r: usize, p: usize, node: usize, answer: usize) -> usize
     requires code_len_bound { (length code.now ≤ standing) × (length made.now ≡ node_limit) × (node < node_limit) }
     requires known { (r < stops → Known code.now made.now r) × Known code.now made.now p }
     ensures { Agreed code.now made.now r p node answer result }
@@ -119,7 +131,7 @@ pub fn agree(code: &[u8], made: &[Slot], r: usize, p: usize, node: usize, answer
 // The right side of the proposition that stands at p, if it has that connective; else a stop at the node.
 pub fn side_of(code: &[u8], p: usize, connective: Connective, node: usize) -> usize
     requires { Stood code.now p × (length code.now ≤ standing) × (node < node_limit) }
-    ensures { SideOf code.now p (head_byte connective) node result }
+    ensures { SideOf code.now p connective node result }
 {
     if code[p] == connective.byte() {
         return scan(code, p + 1, NAMES);
@@ -128,21 +140,21 @@ pub fn side_of(code: &[u8], p: usize, connective: Connective, node: usize) -> us
 }
 
 // What an answer of `infer` is, which must have a connective: the answer itself, or a stop at the node.
-pub fn expect(code: &[u8], made: &[Slot], r: usize, connective: Connective, node: usize) -> usize
+pub fn expect(code: &[u8], made: &[Made], r: usize, connective: Connective, node: usize) -> usize
     requires { (r < stops → Space code.now made.now r) × (node < node_limit) }
-    ensures { Expected code.now made.now r (head_byte connective) node result }
+    ensures { Expected code.now made.now r connective node result }
 {
     if STOPS <= r {
         return r;
     }
-    if head(code, made, r) == connective.byte() {
+    if connective_of(code, made, r) == Some(connective) {
         return r;
     }
     STOPS + node
 }
 
 // The first side of a conjunction that is inferred, or a stop.
-pub fn first_side(code: &[u8], made: &[Slot], r: usize, node: usize) -> usize
+pub fn first_side(code: &[u8], made: &[Made], r: usize, node: usize) -> usize
     requires { (r < stops → Space code.now made.now r) × (node < node_limit) }
     ensures { Projected code.now made.now r (FirstSide made.now) node result }
 {
@@ -154,7 +166,7 @@ pub fn first_side(code: &[u8], made: &[Slot], r: usize, node: usize) -> usize
 }
 
 // The second side.
-pub fn second_side(code: &[u8], made: &[Slot], r: usize, node: usize) -> usize
+pub fn second_side(code: &[u8], made: &[Made], r: usize, node: usize) -> usize
     requires { (r < stops → Space code.now made.now r) × (node < node_limit) }
     ensures { Projected code.now made.now r (RightOf code.now made.now) node result }
 {
@@ -167,20 +179,20 @@ pub fn second_side(code: &[u8], made: &[Slot], r: usize, node: usize) -> usize
 
 // Makes a proposition of two, unless the second is a stop.
 pub fn make(
-    made: &mut [Slot; NODE_LIMIT],
+    made: &mut [Made; NODE_LIMIT],
     node: usize,
     connective: Connective,
     left: usize,
     right: usize,
 ) -> usize
     requires { (node < node_limit) × (left < stops) × (length made.old ≡ node_limit) }
-    ensures { Made made.old node (head_byte connective) left right made.new result }
+    ensures { Makes made.old node connective left right made.new result }
 {
     if STOPS <= right {
         return right;
     }
-    made[node] = Slot {
-        head: connective.byte(),
+    made[node] = Made {
+        connective: Some(connective),
         left: left as u32,
         right: right as u32,
     };

@@ -6,17 +6,18 @@ use native.Mathlib.Omega.{arith}
 use lib.ListN.{get_or}
 use borrow.Author.Tests.{eqb-false}
 use Rattle.std.specs.Prelude.{Some}
-use Rattle.definitions.specs.Prop.{impl}
+use Rattle.definitions.specs.Prop.{impl, connective_byte}
 use Rattle.proof_term.specs.Records.{field_at}
 use Rattle.proof_term.proofs.Views.{no_parameter, parameter_read, datatype_read, proposition_read}
+use Rattle.prefix_code.specs.declared.Connective.TheVariants.{Impl}
 use Rattle.prop_numbers.specs.Standing.{Stood}
+use Rattle.prop_numbers.proofs.Halves.{halves}
 use Rattle.checker.proofs.Labels.{tested_none, tested_datatype, tested_prop, body_stop, body_side, not_side, has_connective}
-use Rattle.checker.proofs.Steps.{halves_at, impl_is}
 use Rattle.checker.proofs.body_side.Goals as goal
 use Rattle.checker.proofs.body_side.Goals.{Else-side-ge-STOPS, After-from}
 
 -- it is an implication
-implication : (c : Else-side-ge-STOPS) → get_or c.args.code.now c.args.p 0 ≡ 4
+implication : (c : Else-side-ge-STOPS) → get_or c.args.code.now c.args.p 0 ≡ connective_byte impl
 implication c = has_connective c.side_of-side.ensures c.if-side-ge-STOPS.false
 
 -- the label is a proposition, and stands
@@ -62,7 +63,7 @@ overflow_mul-stride c = omega (arith, (label_stands c).stood.low)
 pub same_code-requires : goal.same_code-requires
 same_code-requires c =
     let here = implication (goal.at.same_code-requires c).Else-side-ge-STOPS in
-    ((label_stands (goal.at.same_code-requires c).After-from).stood.there, (halves_at impl c.requires.m_value.2 c.requires.m_value.1 (here ∙ sym impl_is) (c.side_of-side.ensures.found here)).left.there)
+    ((label_stands (goal.at.same_code-requires c).After-from).stood.there, (halves Impl c.requires.m_value.2 c.requires.m_value.1 here (c.side_of-side.ensures.found here)).left.there)
 
 pub returns-then-same_code : goal.returns-then-same_code
 returns-then-same_code c =

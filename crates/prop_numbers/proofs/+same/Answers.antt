@@ -1,14 +1,15 @@
 -- A side weighs less than the whole, so the sum of both weights falls.
 use Prim.Native.Nat.{ℕ, ◌≤◌}
 use mathlib.Core.Path.{◌≡◌, sym, ◌∙◌}
+use Rattle.std.proofs.Common.{rules}
 use mathlib.Core.Logic.{◌⊎◌, inl, inr}
 use native.Mathlib.Omega.{arith}
-use Rattle.definitions.specs.Prop.{connective_byte}
-use Rattle.prop_numbers.specs.Standing.{standing, Known, Space, head_of}
+use Rattle.std.specs.Prelude.{Some}
+use Rattle.prop_numbers.specs.Standing.{standing, Known, Space, connective_of}
 use Rattle.prop_numbers.proofs.Halves.{rep_stands, space_of}
 use Rattle.prop_numbers.proofs.Comparing.{left_lighter, right_lighter, Joined, joined, left_known, right_known, alike_other, alike_standing, alike_left, alike_both}
 use Rattle.prop_numbers.proofs.+same.Goals as goal
-use Rattle.prop_numbers.proofs.+same.Goals.{Else-head, Joined-p-lt-STANDING, Start, then-p-lt-STANDING+else-q-lt-STANDING, else-p-lt-STANDING}
+use Rattle.prop_numbers.proofs.+same.Goals.{Else-ne, Joined-p-lt-STANDING, Start, then-p-lt-STANDING+else-q-lt-STANDING, else-p-lt-STANDING}
 
 first : (t : ℕ) → (c : Start t) → Known c.args.code.now c.args.made.now c.args.p
 first t c = c.requires.known.0
@@ -30,14 +31,17 @@ one_made t c =
       | else-p-lt-STANDING w ↦ inr w.if-p-lt-STANDING.false
     ]
 
--- and both have one head
-heads : (t : ℕ) → (c : Else-head t) → let s = c.args in Joined s.code.now s.made.now s.p
+-- and both have one connective
+same_heads : (t : ℕ) → (c : Else-ne t) → let s = c.args in connective_of s.code.now s.made.now s.p ≡ connective_of s.code.now s.made.now s.q
+same_heads t c = let same : c.connective_of.result ≡ c.connective_of-2.result = search rules in sym c.connective_of.ensures ∙ same ∙ c.connective_of-2.ensures
+
+heads : (t : ℕ) → (c : Else-ne t) → let s = c.args in Joined s.code.now s.made.now s.p
 heads t c =
-    joined (first t (goal.at.Else-head t c).Start) (second t (goal.at.Else-head t c).Start) (sym c.head.ensures ∙ c.if-head.false ∙ c.head-2.ensures) (one_made t (goal.at.Else-head t c).Joined-p-lt-STANDING)
+    joined (first t (goal.at.Else-ne t c).Start) (second t (goal.at.Else-ne t c).Start) (same_heads t c) (one_made t (goal.at.Else-ne t c).Joined-p-lt-STANDING)
 
 -- the second too
-other_head : (t : ℕ) → (c : Else-head t) → let s = c.args in head_of s.code.now s.made.now s.q ≡ connective_byte (heads t c).connective
-other_head t c = sym c.head-2.ensures ∙ sym c.if-head.false ∙ c.head.ensures ∙ (heads t c).head
+other_head : (t : ℕ) → (c : Else-ne t) → let s = c.args in connective_of s.code.now s.made.now s.q ≡ Some (heads t c).connective
+other_head t c = sym (same_heads t c) ∙ (heads t c).head
 
 pub same_code-requires : goal.same_code-requires
 same_code-requires t c =
@@ -46,45 +50,45 @@ same_code-requires t c =
 pub returns-then-q-lt-STANDING : goal.returns-then-q-lt-STANDING
 returns-then-q-lt-STANDING t c = alike_standing c.if-p-lt-STANDING.true c.if-q-lt-STANDING.true c.same_code.ensures
 
-pub returns-then-head : goal.returns-then-head
-returns-then-head t c = alike_other (λ e. c.if-head.true (c.head.ensures ∙ e ∙ sym c.head-2.ensures)) (one_made t (goal.at.returns-then-head t c).Joined-p-lt-STANDING)
+pub returns-then-ne : goal.returns-then-ne
+returns-then-ne t c = alike_other (λ e. let other : c.connective_of.result ≡ c.connective_of-2.result → ⊥ = search rules in other (c.connective_of.ensures ∙ e ∙ sym c.connective_of-2.ensures)) (one_made t (goal.at.returns-then-ne t c).Joined-p-lt-STANDING)
 
 pub same-left_same-requires : goal.same-left_same-requires
 same-left_same-requires t c =
     let few = c.requires.code_len_bound.0 in
-    let j = heads t (goal.at.same-left_same-requires t c).Else-head in
+    let j = heads t (goal.at.same-left_same-requires t c).Else-ne in
     let l = left_lighter j.connective few (first t (goal.at.same-left_same-requires t c).Start).last (first t (goal.at.same-left_same-requires t c).Start).rep j.head in
-    let r = left_lighter j.connective few (second t (goal.at.same-left_same-requires t c).Start).last (second t (goal.at.same-left_same-requires t c).Start).rep (other_head t (goal.at.same-left_same-requires t c).Else-head) in (
+    let r = left_lighter j.connective few (second t (goal.at.same-left_same-requires t c).Start).last (second t (goal.at.same-left_same-requires t c).Start).rep (other_head t (goal.at.same-left_same-requires t c).Else-ne) in (
       rw (c.left.ensures, c.left-2.ensures) (omega (arith, c.decreases, l, r)),
-      (c.requires.code_len_bound, (left_known j.connective few (first t (goal.at.same-left_same-requires t c).Start) j.head c.left.ensures, left_known j.connective few (second t (goal.at.same-left_same-requires t c).Start) (other_head t (goal.at.same-left_same-requires t c).Else-head) c.left-2.ensures)),
+      (c.requires.code_len_bound, (left_known j.connective few (first t (goal.at.same-left_same-requires t c).Start) j.head c.left.ensures, left_known j.connective few (second t (goal.at.same-left_same-requires t c).Start) (other_head t (goal.at.same-left_same-requires t c).Else-ne) c.left-2.ensures)),
     )
 
 pub returns-then-not-left_same : goal.returns-then-not-left_same
 returns-then-not-left_same t c =
-    alike_left (heads t (goal.at.returns-then-not-left_same t c).Else-head).connective c.requires.code_len_bound.0 (heads t (goal.at.returns-then-not-left_same t c).Else-head).head (other_head t (goal.at.returns-then-not-left_same t c).Else-head) c.left.ensures c.left-2.ensures
+    alike_left (heads t (goal.at.returns-then-not-left_same t c).Else-ne).connective c.requires.code_len_bound.0 (heads t (goal.at.returns-then-not-left_same t c).Else-ne).head (other_head t (goal.at.returns-then-not-left_same t c).Else-ne) c.left.ensures c.left-2.ensures
     (rw c.if-not-left_same.true at c.same-left_same.ensures)
 
 pub same-requires : goal.same-requires
 same-requires t c =
     let few = c.requires.code_len_bound.0 in
-    let j = heads t (goal.at.same-requires t c).Else-head in
+    let j = heads t (goal.at.same-requires t c).Else-ne in
     let l = right_lighter j.connective few (first t (goal.at.same-requires t c).Start).last (first t (goal.at.same-requires t c).Start).rep j.head c.right.ensures in
-    let r = right_lighter j.connective few (second t (goal.at.same-requires t c).Start).last (second t (goal.at.same-requires t c).Start).rep (other_head t (goal.at.same-requires t c).Else-head) c.right-2.ensures in (
+    let r = right_lighter j.connective few (second t (goal.at.same-requires t c).Start).last (second t (goal.at.same-requires t c).Start).rep (other_head t (goal.at.same-requires t c).Else-ne) c.right-2.ensures in (
       omega (arith, c.decreases, l, r),
-      (c.requires.code_len_bound, (right_known j.connective few (first t (goal.at.same-requires t c).Start) j.head c.right.ensures, right_known j.connective few (second t (goal.at.same-requires t c).Start) (other_head t (goal.at.same-requires t c).Else-head) c.right-2.ensures)),
+      (c.requires.code_len_bound, (right_known j.connective few (first t (goal.at.same-requires t c).Start) j.head c.right.ensures, right_known j.connective few (second t (goal.at.same-requires t c).Start) (other_head t (goal.at.same-requires t c).Else-ne) c.right-2.ensures)),
     )
 
 pub returns : goal.returns
 returns t c =
-    alike_both (heads t (goal.at.returns t c).Else-head).connective c.requires.code_len_bound.0 (heads t (goal.at.returns t c).Else-head).head (other_head t (goal.at.returns t c).Else-head) c.left.ensures c.left-2.ensures
+    alike_both (heads t (goal.at.returns t c).Else-ne).connective c.requires.code_len_bound.0 (heads t (goal.at.returns t c).Else-ne).head (other_head t (goal.at.returns t c).Else-ne) c.left.ensures c.left-2.ensures
     c.right.ensures c.right-2.ensures
     (rw c.if-not-left_same.false at c.same-left_same.ensures) c.same.ensures
 
-pub head-requires : goal.head-requires
-head-requires t c = first_space t (goal.at.head-requires t c).Start
+pub connective_of-requires : goal.connective_of-requires
+connective_of-requires t c = first_space t (goal.at.connective_of-requires t c).Start
 
-pub head-requires-2 : goal.head-requires-2
-head-requires-2 t c = second_space t (goal.at.head-requires-2 t c).Start
+pub connective_of-requires-2 : goal.connective_of-requires-2
+connective_of-requires-2 t c = second_space t (goal.at.connective_of-requires-2 t c).Start
 
 pub left-requires : goal.left-requires
 left-requires t c = let s = first_space t (goal.at.left-requires t c).Start in (s.low, s.slots)

@@ -2,7 +2,6 @@
 use mathlib.Core.Path.{refl}
 use native.Mathlib.Omega.{arith}
 use Rattle.prop_numbers.specs.Standing.{slotted}
-use Rattle.prop_numbers.proofs.Bytes.{byte}
 use Rattle.prop_numbers.proofs.make.Goals as goal
 
 pub returns-then-right-ge-STOPS : goal.returns-then-right-ge-STOPS
@@ -10,4 +9,4 @@ returns-then-right-ge-STOPS c = record { stop = λ h. (refl, refl); made = λ h.
 
 pub returns : goal.returns
 unfolding slotted
-returns c = record { stop = λ h. absurd (omega (arith, c.if-right-ge-STOPS.false)); made = λ h. (refl, rw (byte _ c.byte.ensures)) }
+returns c = record { stop = λ h. absurd (omega (arith, c.if-right-ge-STOPS.false)); made = λ h. (refl, refl) }
