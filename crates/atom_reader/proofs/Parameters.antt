@@ -22,7 +22,7 @@ use Rattle.words.specs.Table.{added, number_in, table_names}
 use Rattle.words.proofs.Added.{noted_then}
 use Rattle.prop_parts.specs.declared.NameRead.{NameRead}
 use Rattle.prop_parts.specs.Found.{NameLacks, NameGiven, bound_numbers, kind_of, parameter_of, ParameterPut}
-use Rattle.prop_parts.specs.declared.ParameterKind.{ParameterKind}
+use Rattle.prefix_code.specs.declared.ParameterKind.{ParameterKind}
 use Rattle.atom_reader.specs.declared.Place.{Place}
 use Rattle.atom_reader.specs.declared.ParametersRead.{ParametersRead}
 use Rattle.atom_reader.specs.Scope.{Met, Binds}

@@ -2,7 +2,7 @@
 #![tactic(auto)]
 
 ghost use Rattle.std.specs.Prelude.{◌≡◌, ℕ, ◌≤◌, ◌<◌, false, not, length, ltb, get_or, MatchOption, unwrap_or};
-ghost use Rattle.definitions.specs.Prop.{False, nesting, connective_byte};
+ghost use Rattle.definitions.specs.Prop.{False, nesting, connective_byte, quantifier_byte};
 ghost use Rattle.definitions.specs.Display.{connective_precedence, wraps_left, wraps_right};
 ghost use Rattle.definitions.specs.TermReader.{right_least};
 ghost use Rattle.definitions.specs.Code.{decode};
@@ -10,7 +10,7 @@ ghost use Rattle.definitions.specs.Admission.{is_none};
 ghost use Rattle.prefix_code.specs.Scan.{Ends, Scanned, parameter_coding, parameters_coding, shallow_coding};
 ghost use Rattle.prefix_code.specs.Head.{head_coding, parts_after};
 ghost use Rattle.prefix_code.specs.PropAt.{Present};
-ghost use Rattle.prefix_code.specs.Shape.{SomeProposition, connective_at, kind_byte, meant, head_byte, ShapeOf};
+ghost use Rattle.prefix_code.specs.Shape.{SomeProposition, kind_byte, meant, quantifier_meant, head_byte, ShapeOf};
 
 // An atom has at most so many parameters.
 pub const PARAMETER_LIMIT: u8 = 8;
@@ -47,8 +47,8 @@ pub const EXISTS: u8 = 7;
 // A parameter that a quantifier binds, and one with an id, each by the byte in front of its name.
 #[derive(Debug, Clone, Copy, PartialEq, Eq)]
 pub enum ParameterKind {
-    Uninstantiated,
-    Instantiated,
+    Uninstantiated = 0,
+    Instantiated = 1,
 }
 
 impl ParameterKind {
@@ -61,6 +61,13 @@ impl ParameterKind {
             1 => Some(ParameterKind::Instantiated),
             _ => None,
         }
+    }
+
+    // Its byte in front.
+    pub fn byte(self) -> u8
+        ensures { result ≡ kind_byte self }
+    {
+        self as u8
     }
 }
 
@@ -160,15 +167,17 @@ pub fn head_end(code: &[u8], at: usize, names: usize) -> usize
 }
 
 // How many propositions follow a head byte.
-#[tactic(auto, unfolding(crate::specs::Head::parts_after))]
 pub fn parts_after(head: u8) -> usize
     requires { head < 8 }
     ensures { result ≡ parts_after head }
 {
+    let Some(head) = Head::of_byte(head) else {
+        unreachable!();
+    };
     match head {
-        AND | OR | IMPL => 2,
-        FOR_ALL | EXISTS => 1,
-        _ => 0,
+        Head::Binary(_) => 2,
+        Head::Quantified(_) => 1,
+        Head::True | Head::False | Head::Atom => 0,
     }
 }
 
@@ -244,17 +253,6 @@ pub enum Connective {
 }
 
 impl Connective {
-    // The connective that a byte in front stands for.
-    pub fn of_byte(head: u8) -> Connective
-        ensures { result ≡ connective_at head }
-    {
-        match head {
-            AND => Connective::And,
-            OR => Connective::Or,
-            _ => Connective::Impl,
-        }
-    }
-
     // Its byte in front.
     #[tactic(auto, unfolding(definitions::specs::Prop::connective_byte))]
     pub fn byte(self) -> u8
@@ -314,11 +312,21 @@ impl Connective {
     }
 }
 
-// ∀ and ∃.
+// ∀ and ∃, each with its byte in front.
 #[derive(Debug, Clone, Copy, PartialEq, Eq)]
 pub enum Quantifier {
-    ForAll,
-    Exists,
+    ForAll = 6,
+    Exists = 7,
+}
+
+impl Quantifier {
+    // Its byte in front.
+    #[tactic(auto, unfolding(definitions::specs::Prop::quantifier_byte))]
+    pub fn byte(self) -> u8
+        ensures { result ≡ quantifier_byte (quantifier_meant self) }
+    {
+        self as u8
+    }
 }
 
 // What stands in front of a proposition's code.

@@ -10,8 +10,8 @@ ghost use Rattle.definitions.specs.TermReader.{standing, same, signed, goes_on};
 ghost use Rattle.definitions.specs.TermText.{term_text_limit};
 ghost use Rattle.output.specs.Wrote.{puts};
 ghost use Rattle.words.specs.Table.{table_names, Table};
-ghost use Rattle.prefix_code.specs.Shape.{meant};
-ghost use Rattle.prop_parts.specs.Found.{quantifier_sign, constant_sign, opening_sign};
+ghost use Rattle.prefix_code.specs.Shape.{meant, quantifier_meant};
+ghost use Rattle.prop_parts.specs.Found.{constant_sign, opening_sign};
 ghost use Rattle.atom_reader.specs.Scope.{Binds};
 ghost use Rattle.atom_reader.specs.Reading.{Measured, PropAnswer};
 ghost use Rattle.prop_frames.specs.Fronts.{Part, Front, front_sign, part_least, BinderLacks, Binder, BinderGiven, binder_code, FrontBegins, FrontAnswer, Closable, enclosed, Closes};
@@ -19,7 +19,7 @@ ghost use Rattle.prop_frames.specs.Sides.{GoesOnAt, sides_agree, inserted, Joina
 
 use atom_reader::{Place, PropRead};
 use output::put;
-use prefix_code::{Connective, EXISTS, FALSE, FOR_ALL, IMPL, Quantifier, STRONGEST};
+use prefix_code::{Connective, FALSE, IMPL, Quantifier, STRONGEST};
 use prop_parts::{CONSTANT_SIZE, Constant, Opening, connective_at, put_u16, read_name};
 use words::expect;
 
@@ -62,17 +62,6 @@ fn binder_names(text: &[u8], at: usize, names: &mut [u8], count: usize) -> Optio
     })
 }
 
-// The head byte of a quantifier's code.
-#[tactic(auto, unfolding(definitions::specs::Prop::quantifier_byte))]
-fn quantifier_byte(quantifier: Quantifier) -> u8
-    ensures { result ≡ quantifier_byte (quantifier_sign quantifier) }
-{
-    match quantifier {
-        Quantifier::ForAll => FOR_ALL,
-        Quantifier::Exists => EXISTS,
-    }
-}
-
 // What stands in the code of a quantifier before its part.
 fn put_binder(
     code: &mut [u8],
@@ -84,9 +73,9 @@ fn put_binder(
 )
     requires { (to < 200000) × (object < 65536) × (datatype < 65536) }
     ensures { code.new ≡ puts write code.old to
-        (binder_code (quantifier_byte (quantifier_sign quantifier)) object datatype) }
+        (binder_code (quantifier_byte (quantifier_meant quantifier)) object datatype) }
 {
-    put(code, to, quantifier_byte(quantifier), write);
+    put(code, to, quantifier.byte(), write);
     put_u16(code, to + 1, object, write);
     put_u16(code, to + 3, datatype, write);
 }

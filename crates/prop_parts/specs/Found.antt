@@ -1,7 +1,6 @@
 -- What stands at a place of the text, as the reader of propositions finds it.
 use Rattle.std.specs.Prelude.{ℕ, zero, suc, ◌+◌, ◌<◌, ◌≤◌, ◌≡◌, Bool, true, false, List, [], ◌∷◌, length, get_or, drop, Some}
 use Rattle.definitions.specs.Name.{Name}
-use Rattle.definitions.specs.Prop as prop
 use Rattle.definitions.specs.Prop.{PropParameter, Uninstantiated, Instantiated}
 use Rattle.definitions.specs.Sheet.{marked}
 use Rattle.definitions.specs.Code.{Read, encode_parameter}
@@ -13,28 +12,22 @@ use Rattle.words.specs.Places.{between}
 use Rattle.words.specs.Table.{add_name, number_in, table_names, TooMany, Noted}
 use Rattle.prop_parts.specs.declared.NameRead.{NameRead}
 use Rattle.prefix_code.specs.declared.Connective.{Connective}
-use Rattle.prefix_code.specs.Shape.{meant}
-use Rattle.prefix_code.specs.declared.Quantifier.{Quantifier}
-use Rattle.prefix_code.specs.declared.Quantifier.TheVariants.{ForAll, Exists}
+use Rattle.prefix_code.specs.Shape.{meant, quantifier_meant}
+use Rattle.prefix_code.specs.declared.ParameterKind.{ParameterKind}
+use Rattle.prefix_code.specs.declared.ParameterKind.TheVariants as kinds
 use Rattle.prop_parts.specs.declared.Constant.{Constant}
 use Rattle.prop_parts.specs.declared.Constant.TheVariants.{Top, Bottom}
 use Rattle.prop_parts.specs.declared.Opening.{Opening}
 use Rattle.prop_parts.specs.declared.Opening.TheVariants.{Negation, Bracket, Binder}
 use Rattle.prop_parts.specs.declared.Sign.{Sign}
 use Rattle.prop_parts.specs.declared.Sign.TheVariants as read
-use Rattle.prop_parts.specs.declared.ParameterKind.{ParameterKind}
-use Rattle.prop_parts.specs.declared.ParameterKind.TheVariants as kinds
 
 -- the connective at a place
 pub record ConnectiveAt (text : List ℕ) (at : ℕ) (c : Connective) : Type 0 where
   pub within : at + 5 ≤ length text
   pub reads : connective (drop at text) ≡ given (meant c) (drop (at + 5) text)
 
--- a quantifier and a sign as the program names them
-abbrev pub quantifier_sign : Quantifier → prop.Quantifier
-quantifier_sign ForAll = prop.for_all
-quantifier_sign Exists = prop.exists
-
+-- a sign as the program names it
 abbrev pub constant_sign : Constant → reader.Sign
 constant_sign Top = top
 constant_sign Bottom = bottom
@@ -47,7 +40,7 @@ constant_byte Bottom = 1
 abbrev pub opening_sign : Opening → reader.Sign
 opening_sign Negation = negation
 opening_sign Bracket = bracket
-opening_sign (Binder q) = binder (quantifier_sign q)
+opening_sign (Binder q) = binder (quantifier_meant q)
 
 abbrev pub found_sign : Sign → reader.Sign
 found_sign (read.Constant c) = constant_sign c

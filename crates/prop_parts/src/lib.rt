@@ -13,7 +13,7 @@ ghost use Rattle.words.specs.Table.{Table};
 ghost use Rattle.prop_parts.specs.Found.{ConnectiveAt, constant_byte, opening_sign, sign_size, SignAt, NameLacks, NameGiven, bound_numbers, kind_of, ParameterPut};
 
 use output::put;
-use prefix_code::{Connective, Quantifier};
+use prefix_code::{Connective, ParameterKind, Quantifier};
 use words::{expect, name_end, number_of_name};
 
 // ⊤ or ⊥, by the head byte of its code.
@@ -146,13 +146,6 @@ pub fn put_u16(code: &mut [u8], to: usize, n: usize, write: bool)
     output::put_u16(code, to, n as u16, write);
 }
 
-// A parameter by its kind's byte: a name that a quantifier binds, or one with an id.
-#[derive(Clone, Copy, PartialEq, Eq)]
-pub enum ParameterKind {
-    Uninstantiated = 0,
-    Instantiated = 1,
-}
-
 // The kind of a parameter whose name has this number, where quantifiers bind names of these numbers.
 pub fn parameter_kind(bound: &[u16], number: usize) -> ParameterKind
     ensures { result ≡ kind_of (occurs eqb number (bound_numbers bound.now (length bound.now))) }
@@ -174,7 +167,7 @@ pub fn put_parameter(
     requires { (to < 200000) × (number < 65536) }
     ensures { ParameterPut kind number write code.old to code.new result }
 {
-    put(code, to, kind as u8, write);
+    put(code, to, kind.byte(), write);
     put_u16(code, to + 1, number, write);
     match kind {
         ParameterKind::Uninstantiated => 3,
