@@ -8,7 +8,8 @@ ghost use Rattle.definitions.specs.Code.{encode, Codable};
 ghost use Rattle.definitions.specs.Sound.{all_instantiated, is_quantifier_free};
 ghost use Rattle.definitions.specs.CheckAnswers.{is_checkable};
 ghost use Rattle.prefix_code.specs.Scan.{Stands, parameters_coding};
-ghost use Rattle.prefix_code.specs.Head.{Head, head_coding};
+ghost use Rattle.prefix_code.specs.Head as heads;
+ghost use Rattle.prefix_code.specs.Head.{head_coding};
 ghost use Rattle.prefix_code.specs.PropAt.{prop_at, Present};
 ghost use Rattle.proof_term.specs.Records.{record_size, term_at};
 ghost use Rattle.proof_term.specs.Views.{node_at};
@@ -16,7 +17,7 @@ ghost use Rattle.renumbering.specs.Renumbered.{Whole};
 ghost use Rattle.checkable.specs.Plain.{is_plain_head, SomeParameters, SomeHead};
 ghost use Rattle.checkable.specs.Terms.{own_checkable, LabelsPresent};
 
-use prefix_code::{AND, ATOM, FALSE, IMPL, OR, TRUE, head_end, scan};
+use prefix_code::{Head, ParameterKind, head_end, scan};
 use proof_term::{Kind, Label, node_at, parts_at};
 
 // The code and the number of its names stand beside each other, in no struct: a clause says `prop_at names code.now`, and of a struct it
@@ -29,7 +30,7 @@ fn are_instantiated(code: &[u8], at: usize, count: usize) -> bool
         → Stands (parameters_coding names count) code.now at ps rest → result ≡ all_instantiated ps }
 {
     for k in 0..count {
-        if code[at + 5 * k] == 0 {
+        if ParameterKind::of_byte(code[at + 5 * k]) != Some(ParameterKind::Instantiated) {
             return false;
         }
     }
@@ -39,13 +40,16 @@ fn are_instantiated(code: &[u8], at: usize, count: usize) -> bool
 // Whether the head at `at` is no quantifier and has no uninstantiated parameter.
 fn is_plain_head(code: &[u8], at: usize) -> bool
     requires { SomeHead code.now at }
-    ensures { (names : ℕ) (h : Head) (rest : List ℕ)
+    ensures { (names : ℕ) (h : heads.Head) (rest : List ℕ)
         → Stands (head_coding names) code.now at h rest → result ≡ is_plain_head h }
 {
-    match code[at] {
-        TRUE | FALSE | AND | OR | IMPL => true,
-        ATOM => are_instantiated(code, at + 4, usize::from(code[at + 3])),
-        _ => false,
+    let Some(head) = Head::of_byte(code[at]) else {
+        unreachable!();
+    };
+    match head {
+        Head::True | Head::False | Head::Binary(_) => true,
+        Head::Atom => are_instantiated(code, at + 4, usize::from(code[at + 3])),
+        Head::Quantified(_) => false,
     }
 }
 

@@ -13,13 +13,12 @@ use Rattle.definitions.specs.Display.{display_prop}
 use Rattle.prefix_code.proofs.Heads.{connective_byte_lem, quantifier_byte_lem}
 use Rattle.prefix_code.proofs.Shapes.{meant_at}
 use Rattle.prefix_code.specs.PropAt.{prop_at}
-use Rattle.prefix_code.specs.Shape.{connective_at, meant, quantifier_at, ShapeOf, is_true, is_false, is_binary, is_atom, is_quantified}
+use Rattle.prefix_code.specs.Shape.{connective_at, meant, quantifier_at, quantifier_meant, ShapeOf, is_true, is_false, is_binary, is_atom, is_quantified}
 use Rattle.prefix_code.specs.declared.Connective.{Connective}
 use Rattle.prefix_code.specs.declared.Quantifier.{Quantifier}
 use Rattle.prefix_code.specs.declared.Shape.TheVariants.{True, False, Binary, Atom, Quantified}
 use Rattle.definitions.specs.Prop as proposition
 use Rattle.prop.specs.Ends.{Known}
-use Rattle.prop.specs.Printing.{quantifier_meant}
 use Rattle.prop.proofs.Parts.{head_byte, head_byte_lem, BinaryParts, binary_parts, QuantifiedParts, quantified_parts}
 
 meant_quantifier : (q : proposition.Quantifier) → quantifier_meant (quantifier_at (quantifier_byte q)) ≡ q

@@ -31,7 +31,7 @@ pub put_as : {S : Type 0} (puts : S → List ℕ → S → Type 0) {before after
 put_as puts {before = before} {after = after} e w = let P : List ℕ → Type 0 = λ text. puts before text after in subst P e w
 
 -- the strength of each byte in front
-abbrev strengths : List ℕ
+abbrev pub strengths : List ℕ
 strengths = 999 ∷ 999 ∷ 4 ∷ 3 ∷ 2 ∷ 999 ∷ 1 ∷ 1 ∷ []
 
 -- a binary proposition is a negation if it binds as strongly as an atom

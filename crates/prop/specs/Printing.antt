@@ -2,11 +2,9 @@
 use Rattle.std.specs.Prelude.{ℕ, ◌<◌, ◌≡◌, List, ◌++◌, get_or, ltb}
 use Rattle.definitions.specs.Utf8.{utf8}
 use Rattle.definitions.specs.Name.{Name}
-use Rattle.definitions.specs.Prop.{Prop, Quantifier, for_all, exists, rename_prop}
+use Rattle.definitions.specs.Prop.{Prop, Quantifier, rename_prop}
 use Rattle.definitions.specs.Display.{wrap, precedence, quantifier_text, display_prop}
 use Rattle.prefix_code.specs.PropAt.{Present}
-use Rattle.prefix_code.specs.declared.Quantifier as shape
-use Rattle.prefix_code.specs.declared.Quantifier.TheVariants.{ForAll, Exists}
 use Rattle.vocabulary.specs.declared.Vocabulary.{Vocabulary}
 use Rattle.vocabulary.specs.Vocabulary.{code_in, name_in, prop_in, Within, Names}
 use Rattle.prop.specs.Ends.{Known}
@@ -44,11 +42,6 @@ module _ (bytes : List ℕ) (v : Vocabulary) where
 pub record Legible (code ends : List ℕ) (at : ℕ) : Type 0 where
   pub names : ℕ
   pub known : Known names code ends at
-
--- the quantifier as document 01 names it
-abbrev pub quantifier_meant : shape.Quantifier → Quantifier
-quantifier_meant ForAll = for_all
-quantifier_meant Exists = exists
 
 -- what stands before the body of a quantified proposition
 abbrev pub quantifier_head : (ℕ → Name) → Quantifier → ℕ → ℕ → List ℕ

@@ -8,23 +8,20 @@ ghost use Rattle.definitions.specs.Sheet.{pair_offset};
 ghost use Rattle.definitions.specs.Display.{connective_text, quantifier_text};
 ghost use Rattle.output.specs.Wrote.{Wrote};
 ghost use Rattle.prefix_code.specs.PropAt.{prop_at};
-ghost use Rattle.prefix_code.specs.Shape.{meant};
+ghost use Rattle.prefix_code.specs.Shape.{meant, quantifier_meant};
 ghost use Rattle.vocabulary.specs.Vocabulary.{name_in, Names};
 ghost use Rattle.prop.specs.Ends.{Known, Fillable, Filled, AllFillable};
-ghost use Rattle.prop.specs.Printing.{quantifier_meant, quantifier_head, prop_text, part_text, AtomPrintable, Printable, Legible};
+ghost use Rattle.prop.specs.Printing.{quantifier_head, prop_text, part_text, AtomPrintable, Printable, Legible};
 
 use number::{number_at, pair_offset};
 use output::{Counter, Sink, Writer};
-use prefix_code::{
-    AND, ATOM, Connective, FALSE, IMPL, OR, Quantifier, Shape, TRUE, head_end, parameter_end,
-    parts_after,
-};
+use prefix_code::{Connective, Head, Quantifier, Shape, head_end, parameter_end, parts_after};
 use vocabulary::{Vocabulary, code_of, name, shape};
 
-// How strongly an atom binds, and an implication. An implication of ⊥ is printed as a negation, and binds as strongly as an atom.
+// How strongly an atom binds, and a quantifier.
 pub const ATOM_STRENGTH: usize = prefix_code::STRONGEST;
 
-const IMPL_STRENGTH: usize = 2;
+const QUANTIFIER_STRENGTH: usize = 1;
 
 // Fills in where the proposition at `at` ends, and where each of its parts does, each at its start. The table lies beside the code, an
 // entry for each byte: it is filled in once and read in one look, where a scan of the left part at each level would take the square.
@@ -51,28 +48,27 @@ pub fn fill_all_ends(pairs: &[u8], code: &[u8], count: usize, names: usize, ends
     }
 }
 
-// How strongly the proposition at `at` binds, whatever its names are.
-// The byte in front is all that this and the printing ask for at each part; a Shape would also read the numbers behind it.
+// How strongly the proposition at `at` binds, whatever its names are. An implication of ⊥ is printed as a negation, and binds as strongly
+// as an atom. The head is all that this and the printing ask for at each part; a Shape would also read the numbers behind it.
 pub fn precedence(code: &[u8], ends: &[u16], at: usize) -> usize
     requires { Legible code.now ends.now at }
     ensures { (names : ℕ) (f : ℕ → Name) → Known names code.now ends.now at →
         result ≡ Rattle.definitions.specs.Display.precedence (rename_prop f (prop_at names code.now at)) }
 {
-    let head = code[at];
-    if head == IMPL {
+    let Some(head) = Head::of_byte(code[at]) else {
+        unreachable!();
+    };
+    if head == Head::Binary(Connective::Impl) {
         let right = ends[at + 1] as usize;
-        if code[right] == FALSE {
+        if Head::of_byte(code[right]) == Some(Head::False) {
             return ATOM_STRENGTH;
         }
-        return IMPL_STRENGTH;
+        return Connective::Impl.strength();
     }
     match head {
-        TRUE => ATOM_STRENGTH,
-        FALSE => ATOM_STRENGTH,
-        AND => 4,
-        OR => 3,
-        ATOM => ATOM_STRENGTH,
-        _ => 1, // the quantifiers
+        Head::Binary(connective) => connective.strength(),
+        Head::Quantified(_) => QUANTIFIER_STRENGTH,
+        Head::True | Head::False | Head::Atom => ATOM_STRENGTH,
     }
 }
 

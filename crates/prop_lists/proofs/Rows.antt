@@ -3,7 +3,7 @@ use Prim.Native.Nat.{ℕ, zero, suc, ◌+◌, ◌-◌, ◌≤◌, ◌<◌}
 use mathlib.Core.Path.{◌≡◌, refl, ap, ◌∙◌}
 use mathlib.Core.List.{List, [], ◌∷◌, ◌++◌, append_assoc, append-nil, map-append, flat_map}
 use native.Mathlib.Omega.{arith}
-use lib.ListN.{length, drop, length-append, length-drop}
+use lib.ListN.{length, drop, get_or, length-append, length-drop}
 use lib.Seq.{take_at}
 use Rattle.definitions.specs.declared.TermList.{TermList}
 use Rattle.definitions.specs.declared.TermList.TheVariants.{Atoms, Datatypes}
@@ -14,7 +14,7 @@ use Rattle.prefix_code.specs.Scan.{Stands, At, Scanned}
 use Rattle.prefix_code.specs.PropAt.{prop_at}
 use Rattle.prefix_code.specs.Head.{Head, TrueHead, FalseHead, BinaryHead, AtomHead, QuantifiedHead, encode_head, CodableHead}
 use Rattle.prefix_code.proofs.Positions.{after, extent}
-use Rattle.prefix_code.proofs.Heads.{HeadAt}
+use Rattle.prefix_code.proofs.Heads.{HeadAt, head_bytes}
 use Rattle.prefix_code.proofs.Forms.{inside_at}
 use Rattle.prefix_code.proofs.Reading.{inside}
 use Rattle.vocabulary.specs.declared.Vocabulary.{Vocabulary}
@@ -192,6 +192,17 @@ module _ (p : Prop ℕ) (ps : List (Prop ℕ)) where
       ((head_codable names p g.0).0, cc (row_code, append_assoc (encode_head (head_of p)) (encode_row (parts p ++ ps)) rest))
 
 module _ (names : ℕ) (code : List ℕ) (at end : ℕ) (row : Row names code at end) (before : at < end) where
+  -- a head stands in front, and its byte says which
+  pub known : get_or code at 0 < 8
+  unfolding Stands CodableRow flat_map
+  known = go row.propositions refl
+    where
+      go : (ps : List (Prop ℕ)) → row.propositions ≡ ps → get_or code at 0 < 8
+      go [] e = absurd (omega (arith, row_length names code at end row, ap (λ qs. length (encode_row qs)) e))
+      go (p ∷ ps) e =
+          let whole : Stands (row_coding names) code at (p ∷ ps) (drop end code) = rw e at row.stands in
+          (head_bytes names code at (head_of p) _ (head_stands p ps names code at (drop end code) whole)).known
+
   pub first : (next : ℕ) → HeadEnds names code at next → First names code at end next
   unfolding Stands CodableRow flat_map
   first next ends = go row.propositions refl

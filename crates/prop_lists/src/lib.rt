@@ -3,6 +3,7 @@
 #![tactic(auto)]
 
 ghost use Rattle.std.specs.Prelude.{◌≡◌, [], ◌∷◌, ◌<◌};
+ghost use Rattle.prefix_code.specs.Shape.{head_byte};
 ghost use Rattle.vocabulary.specs.Vocabulary.{prop_in, SomeProposition};
 ghost use Rattle.prop_lists.specs.Row.{Row};
 ghost use Rattle.prop_lists.specs.Entries.{use_of, entries, entry_numbers, has_entry, NextHead, GivesEntry};
@@ -10,7 +11,7 @@ ghost use Rattle.prop_lists.specs.Entries.{use_of, entries, entry_numbers, has_e
 use definitions::TermList;
 use number::number_at;
 use output::Sink;
-use prefix_code::{ATOM, head_end, scan};
+use prefix_code::{Head, head_end, scan};
 use vocabulary::{Vocabulary, code_of};
 
 // An entry of a list: the number of a name, an atom's parameter count or 0 for a datatype, and the position after its head.
@@ -21,15 +22,14 @@ pub struct Entry {
     pub next: usize,
 }
 
-// Has a head with this byte an entry in the list? The byte is all that the walk asks for at most heads; a Shape would also read the
-// numbers behind it. Which list is asked for is the caller's value, so the lists differ here, in an entry and in its numbers.
-#[tactic(auto, unfolding(crate::specs::Entries::has_entry))]
-fn has_entry(list: TermList, head: u8) -> bool
-    ensures { result ≡ has_entry list head }
+// Has this head an entry in the list? The head is all that the walk asks for at most places; a Shape would also read the numbers
+// behind it. Which list is asked for is the caller's value, so the lists differ here, in an entry and in its numbers.
+fn has_entry(list: TermList, head: Head) -> bool
+    ensures { result ≡ has_entry list (head_byte head) }
 {
     match list {
-        TermList::Atoms => head == ATOM,
-        TermList::Datatypes(_) => ATOM < head,
+        TermList::Atoms => matches!(head, Head::Atom),
+        TermList::Datatypes(_) => matches!(head, Head::Quantified(_)),
     }
 }
 
@@ -41,7 +41,10 @@ fn next_head(code: &[u8], at: usize, end: usize, names: usize, list: TermList) -
 {
     let mut i = at;
     while i < end {
-        if has_entry(list, code[i]) {
+        let Some(head) = Head::of_byte(code[i]) else {
+            unreachable!();
+        };
+        if has_entry(list, head) {
             return i;
         }
         i = head_end(code, i, names);

@@ -1,22 +1,26 @@
--- By the byte in front: a head of one byte, an atom's parameters, or a quantifier.
+-- By the head: one of a single byte, an atom's parameters, or a quantifier.
 use native.Mathlib.Omega.{arith}
-use Rattle.checkable.proofs.Plain.{some_inside, plain_bare, no_plain_quantifier, atom_inside, plain_atom}
+use Rattle.prefix_code.proofs.Fronts.{front_byte, bare_front, quantified_front}
+use Rattle.checkable.proofs.Plain.{some_inside, some_known, plain_bare, no_plain_quantifier, atom_inside, plain_atom}
 use Rattle.checkable.proofs.is_plain_head.Goals as goal
 
 pub bounds-code-at : goal.bounds-code-at
 bounds-code-at c = some_inside _ _ c.requires
 
-pub bounds-code-at-in-5 : goal.bounds-code-at-in-5
-bounds-code-at-in-5 c = omega (arith, (atom_inside _ _ c.requires c.in-5.is).0)
+pub unreachable-requires : goal.unreachable-requires
+unreachable-requires c = omega (arith, some_known _ _ c.requires, c.in_default.ensures)
+
+pub bounds-code-at-in-Atom : goal.bounds-code-at-in-Atom
+bounds-code-at-in-Atom c = omega (arith, (atom_inside _ _ c.requires (front_byte c.in-Some.ensures c.in-Atom.is)).0)
 
 pub are_instantiated-requires : goal.are_instantiated-requires
-are_instantiated-requires c = rw c.from.ensures (atom_inside _ _ c.requires c.in-5.is).1
+are_instantiated-requires c = rw c.from.ensures (atom_inside _ _ c.requires (front_byte c.in-Some.ensures c.in-Atom.is)).1
 
-pub returns-in-0 : goal.returns-in-0
-returns-in-0 c = plain_bare _ _ (omega arith)
+pub returns-in-True : goal.returns-in-True
+returns-in-True c = plain_bare _ _ (bare_front c.in-Some.ensures c.in-True.is)
 
-pub returns-in-5 : goal.returns-in-5
-returns-in-5 c = plain_atom _ _ c.in-5.is _ (rw c.from.ensures at c.are_instantiated.ensures)
+pub returns-in-Atom : goal.returns-in-Atom
+returns-in-Atom c = plain_atom _ _ (front_byte c.in-Some.ensures c.in-Atom.is) _ (rw c.from.ensures at c.are_instantiated.ensures)
 
-pub returns-in_default : goal.returns-in_default
-returns-in_default c = no_plain_quantifier _ _ (omega arith)
+pub returns-in-Quantified : goal.returns-in-Quantified
+returns-in-Quantified c = no_plain_quantifier _ _ (quantified_front c.in-Some.ensures c.in-Quantified.is).0

@@ -1,21 +1,34 @@
--- What is no implication binds as its byte in front says, and an implication as the byte in front of its right side.
+-- What is no implication binds as its head says, and an implication as the head of its right side.
 use Prim.Native.Nat.{◌+◌}
+use mathlib.Core.Path.{◌≡◌, sym, ◌∙◌}
 use native.Mathlib.Omega.{arith}
-use borrow.Author.Tests.{eq-eqb, ne_eqb}
+use lib.Dec.{eqb}
+use lib.ListN.{get_or}
+use Rattle.definitions.specs.Display.{connective_precedence}
+use Rattle.prefix_code.proofs.Fronts.{quantified_front}
 use Rattle.prefix_code.proofs.Reading.{inside}
 use Rattle.prop.proofs.Parts.{BinaryParts, binary_parts}
-use Rattle.prop.proofs.Shown.{strength_elsewhere, strength_of_quantified, strength_of_implication}
+use Rattle.prop.proofs.Shown.{strength_of_quantified, strength_of_implication}
+use Rattle.prop.proofs.Strengths.{is_bottom, is_implication, strength_of_leaf, strength_of_connective}
 use Rattle.prop.proofs.precedence.Goals as goal
-use Rattle.prop.proofs.precedence.Goals.{Then-head-eq-IMPL}
+use Rattle.prop.proofs.precedence.Goals.{Then-eq, After-eq-then-eq}
 
 -- an implication has two parts
-parts : (c : Then-head-eq-IMPL) → BinaryParts c.requires.names c.args.code.now c.args.ends.now c.args.at
-parts c =
-    let head = c.if-head-eq-IMPL.true in
-    binary_parts _ _ _ _ c.requires.known (omega (arith, head)) (omega (arith, head))
+implication : (c : Then-eq) → get_or c.args.code.now c.args.at 0 ≡ 4
+implication c = c.in-Some.ensures ∙ is_implication _ (sym c.eq.ensures ∙ c.if-eq.true)
+
+parts : (c : Then-eq) → BinaryParts c.requires.names c.args.code.now c.args.ends.now c.args.at
+parts c = binary_parts _ _ _ _ c.requires.known (omega (arith, implication c)) (omega (arith, implication c))
+
+-- whether its right side is ⊥, by the byte in front
+bottom : (c : After-eq-then-eq) → c.eq-then-eq.result ≡ eqb (get_or c.args.code.now (get_or c.args.ends.now (c.args.at + 1) 0) 0) 1
+bottom c = c.eq-then-eq.ensures ∙ is_bottom _ _ c.of_byte-then-eq.ensures
 
 pub bounds-code-at : goal.bounds-code-at
 bounds-code-at c = (inside c.requires.known.present).start
+
+pub unreachable-requires : goal.unreachable-requires
+unreachable-requires c = omega (arith, (inside c.requires.known.present).known, c.in_default.ensures)
 
 pub overflow_add-right : goal.overflow_add-right
 overflow_add-right c = omega (arith, inside c.requires.known.present)
@@ -24,38 +37,30 @@ pub offset_bounds-ends-at : goal.offset_bounds-ends-at
 offset_bounds-ends-at c = omega (arith, inside c.requires.known.present)
 
 pub bounds-ends-at : goal.bounds-ends-at
-bounds-ends-at c = (parts (goal.at.bounds-ends-at c).Then-head-eq-IMPL).table
-
-pub overflow_cast-right : goal.overflow_cast-right
-overflow_cast-right c = omega (arith, c.type_inv.ends (c.args.at + 1))
+bounds-ends-at c = (parts (goal.at.bounds-ends-at c).Then-eq).table
 
 pub bounds-code-right : goal.bounds-code-right
-bounds-code-right c = (inside (parts (goal.at.bounds-code-right c).Then-head-eq-IMPL).right.present).start
+bounds-code-right c = (inside (parts (goal.at.bounds-code-right c).Then-eq).right.present).start
 
-pub returns-then-code-right-eq-FALSE : goal.returns-then-code-right-eq-FALSE
-returns-then-code-right-eq-FALSE c names f k =
-    rw (eq-eqb _ _ c.if-code-right-eq-FALSE.true) at
-    (strength_of_implication f _ _ _ _ k c.if-head-eq-IMPL.true)
+pub returns-then-eq-2 : goal.returns-then-eq-2
+returns-then-eq-2 c names f k =
+    rw (sym (bottom (goal.at.returns-then-eq-2 c).After-eq-then-eq) ∙ c.if-eq-2.true) at
+    (strength_of_implication f _ _ _ _ k (implication (goal.at.returns-then-eq-2 c).Then-eq))
 
-pub returns-then-head-eq-IMPL : goal.returns-then-head-eq-IMPL
-returns-then-head-eq-IMPL c names f k =
-    rw (ne_eqb _ _ c.if-code-right-eq-FALSE.false) at
-    (strength_of_implication f _ _ _ _ k c.if-head-eq-IMPL.true)
+pub returns-then-eq : goal.returns-then-eq
+unfolding connective_precedence
+returns-then-eq c names f k =
+    c.strength.ensures
+    ∙ rw (sym (bottom (goal.at.returns-then-eq c).After-eq-then-eq) ∙ c.if-eq-2.false) at
+    (strength_of_implication f _ _ _ _ k (implication (goal.at.returns-then-eq c).Then-eq))
 
-pub returns-in-0 : goal.returns-in-0
-returns-in-0 c names f k = rw c.in-0.is at (strength_elsewhere f _ _ _ _ k c.if-head-eq-IMPL.false)
+pub returns-in-Binary : goal.returns-in-Binary
+returns-in-Binary c names f k =
+    c.strength-in-Binary.ensures
+    ∙ strength_of_connective f _ _ _ _ k c.in-Some.ensures _ c.in-Binary.is (sym c.eq.ensures ∙ c.if-eq.false)
 
-pub returns-in-1 : goal.returns-in-1
-returns-in-1 c names f k = rw c.in-1.is at (strength_elsewhere f _ _ _ _ k c.if-head-eq-IMPL.false)
+pub returns-in-Quantified : goal.returns-in-Quantified
+returns-in-Quantified c names f k = strength_of_quantified f _ _ _ _ k (quantified_front c.in-Some.ensures c.in-Quantified.is).0
 
-pub returns-in-2 : goal.returns-in-2
-returns-in-2 c names f k = rw c.in-2.is at (strength_elsewhere f _ _ _ _ k c.if-head-eq-IMPL.false)
-
-pub returns-in-3 : goal.returns-in-3
-returns-in-3 c names f k = rw c.in-3.is at (strength_elsewhere f _ _ _ _ k c.if-head-eq-IMPL.false)
-
-pub returns-in-5 : goal.returns-in-5
-returns-in-5 c names f k = rw c.in-5.is at (strength_elsewhere f _ _ _ _ k c.if-head-eq-IMPL.false)
-
-pub returns-in_default : goal.returns-in_default
-returns-in_default c names f k = strength_of_quantified f _ _ _ _ k (omega (arith, c.in_default, c.if-head-eq-IMPL.false))
+pub returns-in-True : goal.returns-in-True
+returns-in-True c names f k = strength_of_leaf f _ _ _ _ k c.in-Some.ensures c.in-True.is

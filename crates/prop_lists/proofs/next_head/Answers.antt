@@ -3,13 +3,14 @@ use Prim.Native.Nat.{◌<◌}
 use mathlib.Core.Path.{sym, ◌∙◌}
 use native.Mathlib.Omega.{arith}
 use Rattle.prop_lists.specs.Entries.{Passed}
+use Rattle.prop_lists.proofs.Rows.{known}
 use Rattle.prop_lists.proofs.Walks.{walk_start, walk_on}
 use Rattle.prop_lists.proofs.next_head.Goals as goal
 use Rattle.prop_lists.proofs.next_head.Goals.{After-head_end-i}
 
 pub returns-then-has_entry : goal.returns-then-has_entry
 returns-then-has_entry c =
-    let has = sym c.has_entry.ensures ∙ c.if-has_entry.true in
+    let has = rw (← c.in-Some.ensures) at (sym c.has_entry.ensures ∙ c.if-has_entry.true) in
     record { passed = c.loop-i.invariant; has_entry = λ h. has }
 
 passed : (c : After-head_end-i) → let s = c.args in
@@ -17,7 +18,10 @@ passed : (c : After-head_end-i) → let s = c.args in
     × Passed s.names s.list s.code.now s.at s.end c.head_end-i.result
 passed c =
     walk_on _ _ _ _ _ _ _ c.loop-i.invariant c.loop-i-test.true
-    (sym c.has_entry.ensures ∙ c.if-has_entry.false) c.head_end-i.ensures
+    (rw (← c.in-Some.ensures) at (sym c.has_entry.ensures ∙ c.if-has_entry.false)) c.head_end-i.ensures
+
+pub unreachable-requires : goal.unreachable-requires
+unreachable-requires c = omega (arith, known _ _ _ _ c.loop-i.invariant.row c.loop-i-test.true, c.in_default.ensures)
 
 pub loop-i-init : goal.loop-i-init
 loop-i-init c = walk_start _ _ _ _ _ c.requires
