@@ -32,7 +32,7 @@ fn third_name(text: &[u8], first: usize, second: usize) -> Option<usize>
 pub fn count_names(text: &[u8]) -> Option<usize>
     ensures { result ≡ count_of (names_in text.now) }
 {
-    if text.len() == 0 {
+    if text.is_empty() {
         return Some(0);
     }
     let first = name_end(text, 0);
