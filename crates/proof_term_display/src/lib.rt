@@ -1,7 +1,7 @@
 // The text of a term from its records (`Display` of source document 001), plain and strict.
 #![tactic(auto)]
 
-ghost use Rattle.std.specs.Prelude.{◌≡◌, ◌&&◌, false, ℕ, ◌+◌, ◌*◌, ◌≤◌, length, leb, MatchOption};
+ghost use Rattle.std.specs.Prelude.{◌≡◌, ◌&&◌, false, ℕ, ◌+◌, ◌*◌, ◌≤◌, length, leb, MatchOption, IfSome};
 ghost use Rattle.definitions.specs.Name.{Name};
 ghost use Rattle.definitions.specs.Prop.{Prop};
 ghost use Rattle.definitions.specs.Term.{ProofTerm, rename_term};
@@ -13,8 +13,8 @@ ghost use Rattle.proof_term.specs.Views.{kind_number};
 ghost use Rattle.proof_term_display.specs.Ascriptions.{bracket, Unascribed, body_bracketed, after_body};
 ghost use Rattle.proof_term_display.specs.Brackets.{position_of, is_bracketed, bracket_row, form_at};
 ghost use Rattle.proof_term_display.specs.Format.{part_field, part_number, part_position, item_of, part, FormatTable};
-ghost use Rattle.proof_term_display.specs.Printable.{PrintableTerm, term_text};
-ghost use Rattle.proof_term_display.specs.Item.{LabelReady, ItemReady, record_item, label_text, parameter_label_text};
+ghost use Rattle.proof_term_display.specs.Printable.{PrintableTerm, PrintableLabel, term_text, shown_label, shown_parameter_label};
+ghost use Rattle.proof_term_display.specs.Item.{LabelReady, ItemReady, record_item};
 
 use definitions::Style;
 use output::{Counter, Sink, Writer};
@@ -179,43 +179,33 @@ pub struct Printer {
     pub style: Style,
 }
 
-// The label of record `n`: a proposition or a datatype.
-fn put_label<S: Sink<u8>>(
-    sink: &mut S,
-    records: &[u16],
-    n: usize,
-    bytes: &[u8],
-    v: Vocabulary,
-    ends: &[u16],
-)
-    requires printable_term { PrintableTerm records.now n bytes.now v ends.now }
-    requires label_ready { LabelReady bytes.now v ends.now records.now n }
-    ensures { S.puts sink.old (label_text bytes.now v records.now n) sink.new }
+// A label: a proposition or a datatype.
+fn put_label<S: Sink<u8>>(sink: &mut S, label: Label, bytes: &[u8], v: Vocabulary, ends: &[u16])
+    requires { PrintableLabel bytes.now v ends.now label }
+    ensures { S.puts sink.old (shown_label bytes.now v label) sink.new }
 {
-    match label_at(records, n) {
+    match label {
         Label::Datatype(datatype) => sink.put_all(name(bytes, v, usize::from(datatype))),
         Label::Proposition(at) => put_proposition(sink, bytes, v, ends, usize::from(at)),
     }
 }
 
-// The label of the parameter of record `n`, if it has one, after a colon.
+// The label of a parameter, if it has one, after a colon.
 fn put_parameter_label<S: Sink<u8>>(
     sink: &mut S,
-    records: &[u16],
-    n: usize,
+    label: Option<Label>,
     bytes: &[u8],
     v: Vocabulary,
     ends: &[u16],
 )
-    requires printable_term { PrintableTerm records.now n bytes.now v ends.now }
-    requires label_ready { (field_at records.now n 3 ≡ 0 → ⊥) → LabelReady bytes.now v ends.now records.now n }
-    ensures { S.puts sink.old (parameter_label_text bytes.now v records.now n) sink.new }
+    requires { IfSome label (PrintableLabel bytes.now v ends.now) }
+    ensures { S.puts sink.old (shown_parameter_label bytes.now v label) sink.new }
 {
-    let Some(_) = parameter_at(records, n) else {
+    let Some(label) = label else {
         return;
     };
     sink.put_all(b": ");
-    put_label(sink, records, n, bytes, v, ends);
+    put_label(sink, label, bytes, v, ends);
 }
 
 // A bracket, if there is one. A closure that puts what stands between two of them would have to state the whole walk in its contract.
@@ -272,7 +262,7 @@ fn put_ascription<S: Sink<u8>>(
         return;
     }
     sink.put_all(b": ");
-    put_label(sink, records, n, bytes, v, ends);
+    put_label(sink, label_at(records, n), bytes, v, ends);
 }
 
 // A part of record `n`, in brackets where its position asks for them.
@@ -349,11 +339,11 @@ fn put_item<S: Sink<u8>>(
         return;
     }
     if b == b'L' {
-        put_parameter_label(sink, records, n, bytes, p.vocabulary, ends);
+        put_parameter_label(sink, parameter_at(records, n), bytes, p.vocabulary, ends);
         return;
     }
     if b == b'M' {
-        put_label(sink, records, n, bytes, p.vocabulary, ends);
+        put_label(sink, label_at(records, n), bytes, p.vocabulary, ends);
         return;
     }
     sink.put(b);

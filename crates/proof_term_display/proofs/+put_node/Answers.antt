@@ -13,6 +13,7 @@ use Rattle.proof_term_display.specs.Item.{KindAt, ItemReady}
 use Rattle.proof_term_display.proofs.Tables.{part_field_below, at_position, kind_seen}
 use Rattle.proof_term_display.proofs.Items.{between, item_outside, item_name, item_part, item_fixed}
 use Rattle.proof_term_display.proofs.Items.{item_of_parameter, item_of_ascription}
+use Rattle.proof_term_display.proofs.Labels.{printable_label, printable_parameter, label_shown, parameter_label_shown}
 use Rattle.proof_term_display.proofs.Progress.{start, ends_here, ends_past, item_ready, goes_on}
 use Rattle.proof_term_display.proofs.Parts.{unit_text, printable_part}
 use Rattle.proof_term_display.proofs.Ascriptions.{not_after, body_printable, label_printable, part_written}
@@ -140,22 +141,24 @@ put_item-returns-in-Some g t c =
 pub put_item-put_parameter_label-requires : goal.put_item-put_parameter_label-requires
 unfolding ItemReady
 put_item-put_parameter_label-requires g t c =
-    record { printable_term = c.requires.printable_term; label_ready = rw (item_of_parameter c.args.b c.if-b-eq76.true) at c.requires.item_ready }
+    printable_parameter c.requires.printable_term (rw (item_of_parameter c.args.b c.if-b-eq76.true) at c.requires.item_ready) _ c.parameter_at.ensures
 
 pub put_item-returns-then-b-eq76 : goal.put_item-returns-then-b-eq76
 unfolding item_text
 put_item-returns-then-b-eq76 g t c =
-    rw (item_of_parameter _ c.if-b-eq76.true) c.put_parameter_label.ensures
+    rw (item_of_parameter _ c.if-b-eq76.true, ← (parameter_label_shown c.args.bytes.now c.args.p.vocabulary c.args.records.now c.args.n c.parameter_at.ensures))
+    c.put_parameter_label.ensures
 
 pub put_item-put_label-requires : goal.put_item-put_label-requires
 unfolding ItemReady
 put_item-put_label-requires g t c =
-    record { printable_term = c.requires.printable_term; label_ready = rw (item_of_ascription c.args.b c.if-b-eq77.true) at c.requires.item_ready }
+    printable_label c.requires.printable_term (rw (item_of_ascription c.args.b c.if-b-eq77.true) at c.requires.item_ready) (sym c.label_at.ensures)
 
 pub put_item-returns-then-b-eq77 : goal.put_item-returns-then-b-eq77
 unfolding item_text
 put_item-returns-then-b-eq77 g t c =
-    rw (item_of_ascription _ c.if-b-eq77.true) c.put_label.ensures
+    rw (item_of_ascription _ c.if-b-eq77.true, ← (label_shown c.args.bytes.now c.args.p.vocabulary c.args.records.now c.args.n c.label_at.ensures))
+    c.put_label.ensures
 
 pub put_item-returns : goal.put_item-returns
 unfolding item_text
