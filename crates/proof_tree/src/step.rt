@@ -16,7 +16,8 @@ fn later_premisses(count: usize, position: usize) -> usize
 }
 
 // The step that finishes the premiss of a position, earliest first: back from step k over the premisses after it. Each step back is
-// as long as the size says where the last one ended, so the walk is a loop.
+// as long as the size says where the last one ended. The closure of a `fold` would have to say in clauses of its own which step has a
+// tree before it and where that tree starts; the loop needs none beside its invariant.
 pub fn premiss(step_records: &[u8], k: usize, position: usize, sizes: &[u16]) -> usize
     requires has_step { (HasStep step_records.now k) × (position < premiss_count step_records.now k) }
     requires k_in_bounds { (k ≤ length sizes.now) × SizeTable step_records.now (k + 1) sizes.now }
