@@ -1,7 +1,7 @@
 -- The arms of `infer`, call by call: what each call may ask, and what its answer comes to.
-use Prim.Native.Nat.{ℕ, ◌+◌, ◌≤◌, ◌<◌}
+use Prim.Native.Nat.{ℕ, ◌+◌, ◌-◌, ◌≤◌, ◌<◌}
 use mathlib.Core.Path.{◌≡◌, refl, sym, ap, ◌∙◌}
-use mathlib.Core.Logic.{by_cases}
+use mathlib.Core.Logic.{◌⊎◌, inl, inr, by_cases}
 use mathlib.Core.Bool.{Bool, true, false, cond}
 use Rattle.std.specs.Prelude.{Option, None, Some}
 use mathlib.Core.List.{List}
@@ -13,7 +13,7 @@ use Rattle.definitions.specs.TermText.{nodes}
 use Rattle.prefix_code.specs.PropAt.{prop_at}
 use Rattle.prefix_code.specs.Scan.{Scanned}
 use Rattle.prefix_code.specs.declared.Connective.TheVariants.{And, Or, Impl}
-use Rattle.proof_term.specs.Views.{kind_number, kind_of}
+use Rattle.proof_term.specs.Views.{kind_of}
 use Rattle.proof_term.specs.declared.nodes.Kind.{Kind}
 use Rattle.proof_term.specs.declared.nodes.Kind.TheVariants as variant
 use Rattle.proof_term.proofs.Views.{number_of_kind}
@@ -25,7 +25,7 @@ use Rattle.prop_numbers.proofs.Reps.{rep_kept, kept_all, kept_wider, kept_then, 
 use Rattle.prop_numbers.proofs.Comparing.{alike_sym}
 use Rattle.checker.specs.Asking.{label_prop, term_of, Few, NameHeld, Well, Judgeable}
 use Rattle.checker.specs.Judging.{InfersAs, ChecksAs, Inferred, Checked}
-use Rattle.checker.specs.Helping.{Bound, Found, Ascribed, Annotated, Leaf}
+use Rattle.checker.specs.Helping.{Bound, Found, Ascribed, Annotated}
 use Rattle.checker.proofs.Forms.{One, Two, fst_view, snd_view, function_view, application_view, ascription_view, pair_view, ident_is, unit_is, inl_view, inr_view, abort_view, let_is, sorry_is}
 use Rattle.checker.proofs.Answers.{derives}
 use Rattle.checker.proofs.Sides.{Opening, unopened, opening}
@@ -369,34 +369,13 @@ module _ {records code : List ℕ} {stride : ℕ} {scope : List (Option ℕ)} {m
                 (inferred_at case_is (case_differ (left_name j k ea e).below j.entries (head_opening j k ea e i x l) (sides j k ea e i x l scanned) left_answer (right_name j k ea e).below low right_answer
                 (alike_sym t.alike) s right_slots whole_room is) same kept)
 
-  -- What no arm names.
-  pub leaf_done : {r : ℕ} → (kind ≡ variant.Ident → ⊥) → (kind ≡ variant.ProjectFst → ⊥) → (kind ≡ variant.ProjectSnd → ⊥) → (kind ≡ variant.Application → ⊥)
-      → (kind ≡ variant.TypeAscription → ⊥) → (kind ≡ variant.Function → ⊥) → (kind ≡ variant.Pair → ⊥) → (kind ≡ variant.Case → ⊥)
-      → Leaf code kind n r → At scope mades r
-  leaf_done {r} no_ident no_fst no_snd no_application no_ascription no_function no_pair no_case f = go kind refl
-    where
-      -- a kind that is unit has its number
-      twelve : {k : Kind} → kind ≡ variant.Unit → kind ≡ k → 12 ≡ kind_number k
-      twelve e d = ap kind_number (sym e ∙ d)
+  -- Unit, and what has no inferring rule.
+  pub unit_done : kind ≡ variant.Unit → At scope mades (length code - 2)
+  unit_done e = inferred_at (unit_is own k e) (unit_answer j.ends.top j.ends.top_is) refl kept_all
 
-      go : (which : Kind) → kind ≡ which → At scope mades r
-      go variant.LetIn e = rw (f.let_stops e) (inferred_at (let_is own k e) (let_stops n _ _ _ _) refl kept_all)
-      go variant.OrLeft e = rw (f.inl_stops e) (inferred_at (inl_view own k ea e).is (inl_stops n _) refl kept_all)
-      go variant.OrRight e = rw (f.inr_stops e) (inferred_at (inr_view own k ea e).is (inr_stops n _) refl kept_all)
-      go variant.Abort e = rw (f.abort_stops e) (inferred_at (abort_view own k ea e).is (abort_stops n _) refl kept_all)
-      go variant.Sorry e = rw (f.sorry_stops e) (inferred_at (sorry_is own k e) (sorry_stops n) refl kept_all)
-      go variant.Unit e =
-          let no_let : kind ≡ variant.LetIn → ⊥ = λ d. omega (arith, twelve e d) in
-          let no_inl : kind ≡ variant.OrLeft → ⊥ = λ d. omega (arith, twelve e d) in
-          let no_inr : kind ≡ variant.OrRight → ⊥ = λ d. omega (arith, twelve e d) in
-          let no_abort : kind ≡ variant.Abort → ⊥ = λ d. omega (arith, twelve e d) in
-          let no_sorry : kind ≡ variant.Sorry → ⊥ = λ d. omega (arith, twelve e d) in
-          rw (f.top no_let no_inl no_inr no_abort no_sorry) (inferred_at (unit_is own k e) (unit_answer j.ends.top j.ends.top_is) refl kept_all)
-      go variant.Ident e = absurd (no_ident e)
-      go variant.ProjectFst e = absurd (no_fst e)
-      go variant.ProjectSnd e = absurd (no_snd e)
-      go variant.Application e = absurd (no_application e)
-      go variant.TypeAscription e = absurd (no_ascription e)
-      go variant.Function e = absurd (no_function e)
-      go variant.Pair e = absurd (no_pair e)
-      go variant.Case e = absurd (no_case e)
+  pub no_rule : (kind ≡ variant.LetIn) ⊎ ((kind ≡ variant.OrLeft) ⊎ ((kind ≡ variant.OrRight) ⊎ ((kind ≡ variant.Abort) ⊎ (kind ≡ variant.Sorry)))) → At scope mades (stops + n)
+  no_rule (inl e) = inferred_at (let_is own k e) (let_stops n _ _ _ _) refl kept_all
+  no_rule (inr (inl e)) = inferred_at (inl_view own k ea e).is (inl_stops n _) refl kept_all
+  no_rule (inr (inr (inl e))) = inferred_at (inr_view own k ea e).is (inr_stops n _) refl kept_all
+  no_rule (inr (inr (inr (inl e)))) = inferred_at (abort_view own k ea e).is (abort_stops n _) refl kept_all
+  no_rule (inr (inr (inr (inr e)))) = inferred_at (sorry_is own k e) (sorry_stops n) refl kept_all

@@ -1,5 +1,5 @@
 -- What the helpers of the two functions say.
-use Rattle.std.specs.Prelude.{ℕ, ◌+◌, ◌-◌, ◌*◌, ◌<◌, ◌≡◌, Bool, true, false, List, length, get_or, set, Option, None, Some}
+use Rattle.std.specs.Prelude.{ℕ, ◌+◌, ◌*◌, ◌<◌, ◌≡◌, Bool, true, false, List, get_or, set, Option, None, Some}
 use Rattle.definitions.specs.Name.{Name}
 use Rattle.definitions.specs.Prop.{impl, connective_byte, rename_prop}
 use Rattle.definitions.specs.Term.{rename_parameter_label}
@@ -7,8 +7,6 @@ use Rattle.definitions.specs.Checker.{ensure, label_is}
 use Rattle.prefix_code.specs.PropAt.{prop_at}
 use Rattle.prefix_code.specs.Scan.{Scanned}
 use Rattle.proof_term.specs.Records.{field_at, parameter_label}
-use Rattle.proof_term.specs.declared.nodes.Kind.{Kind}
-use Rattle.proof_term.specs.declared.nodes.Kind.TheVariants.{LetIn, OrLeft, OrRight, Abort, Sorry}
 use Rattle.prop_numbers.specs.Standing.{stops, name_space, Distinct}
 use Rattle.checker.specs.Asking.{label_prop}
 
@@ -48,12 +46,3 @@ pub record Ascribed (records : List ℕ) (stride m node r : ℕ) : Type 0 where
 pub record Annotated (records : List ℕ) (stride m node r : ℕ) : Type 0 where
   pub none : field_at records m 3 ≡ 0 → r ≡ stops + node
   pub some : (field_at records m 3 ≡ 0 → ⊥) → Ascribed records stride m node r
-
--- the kinds that have no inferring rule stop at the node; each other has ⊤, of which unit alone comes
-pub record Leaf (code : List ℕ) (kind : Kind) (node r : ℕ) : Type 0 where
-  pub let_stops : kind ≡ LetIn → r ≡ stops + node
-  pub inl_stops : kind ≡ OrLeft → r ≡ stops + node
-  pub inr_stops : kind ≡ OrRight → r ≡ stops + node
-  pub abort_stops : kind ≡ Abort → r ≡ stops + node
-  pub sorry_stops : kind ≡ Sorry → r ≡ stops + node
-  pub top : (kind ≡ LetIn → ⊥) → (kind ≡ OrLeft → ⊥) → (kind ≡ OrRight → ⊥) → (kind ≡ Abort → ⊥) → (kind ≡ Sorry → ⊥) → r ≡ length code - 2

@@ -7,10 +7,12 @@ ghost use Rattle.std.specs.Prelude.{◌≡◌, ℕ, ◌+◌, ◌*◌, ◌≤◌,
 ghost use Rattle.definitions.specs.Prop.{Prop};
 ghost use Rattle.definitions.specs.TermText.{nodes};
 ghost use Rattle.proof_term.specs.Records.{record_size, field_at, term_at};
+ghost use Rattle.proof_term.specs.Views.{kind_of};
+ghost use Rattle.proof_term.specs.declared.nodes.Kind.TheVariants.{Function, Pair, Application, Case};
 ghost use Rattle.prop_numbers.specs.Standing.{standing, node_limit, name_space, Stood};
 ghost use Rattle.checker.specs.Asking.{Few, NameHeld, LabelHeld, Judgeable};
 ghost use Rattle.checker.specs.Judging.{Inferred, Checked};
-ghost use Rattle.checker.specs.Helping.{Found, Bound, Ascribed, Annotated, BodySide, Leaf};
+ghost use Rattle.checker.specs.Helping.{Found, Bound, Ascribed, Annotated, BodySide};
 
 use prefix_code::{Connective, scan};
 use proof_term::{Kind, Label, NODE_LIMIT, field, kind_at, label_at, parameter_at};
@@ -116,20 +118,10 @@ fn annotated(records: &[u16], m: usize, stride: usize, node: usize) -> usize
     }
 }
 
-// What a term without parts that matter infers: ⊤ where it is unit, and else there is no rule.
-fn leaf(code: &[u8], kind: Kind, node: usize) -> usize
-    requires { (2 ≤ length code.now) × (node < node_limit) }
-    ensures { Leaf code.now kind node result }
-{
-    match kind {
-        Kind::LetIn | Kind::OrLeft | Kind::OrRight | Kind::Abort | Kind::Sorry => STOPS + node,
-        _ => code.len() - 2,
-    }
-}
-
-// Both functions have an arm for each rule and stand whole, since a function for an arm would add its frame to each of the 512 levels.
-// An answer is a number, as prop_numbers::STOPS says. What they work on stands in loose parameters: of a struct that lends the scope and the slots, each clause would say `now`, `old` and
-// `new` of every field. A kind is a value, but the numbers of a record are read one by one where an arm needs them.
+// Both functions have an arm for each rule. An arm that binds a name or asks of two parts is a function of its own, which its caller
+// gives all that it has and calls last. An answer is a number, as prop_numbers::STOPS says. What they work on stands in loose
+// parameters: of a struct that lends the scope and the slots, each clause would say `now`, `old` and `new` of every field. A kind is a
+// value, but the numbers of a record are read one by one where an arm needs them.
 
 // Does the term of record m, a node of that number, check against the proposition at p?
 #[cycle(check_infer)]
@@ -150,29 +142,8 @@ pub fn check(
     let kind = kind_at(records, m);
     let first = field(records, m, 1);
     match kind {
-        Kind::Function => {
-            let side = body_side(records, m, code, stride, p, node);
-            if STOPS <= side {
-                return side;
-            }
-            let hidden = bind(scope, records, m, 2, p + 1);
-            let r = check(records, first, node + 1, code, stride, scope, made, side);
-            unbind(scope, records, m, 2, hidden);
-            r
-        }
-        Kind::Pair => {
-            let side = side_of(code, p, Connective::And, node);
-            if STOPS <= side {
-                return side;
-            }
-            let r = check(records, first, node + 1, code, stride, scope, made, p + 1);
-            if r != 0 {
-                return r;
-            }
-            let second = field(records, m, 2);
-            let next = after(records, first, node + 1);
-            check(records, second, next, code, stride, scope, made, side)
-        }
+        Kind::Function => check_function(records, m, node, code, stride, scope, made, p),
+        Kind::Pair => check_pair(records, m, node, code, stride, scope, made, p),
         Kind::OrLeft => {
             let side = side_of(code, p, Connective::Or, node);
             if STOPS <= side {
@@ -187,39 +158,122 @@ pub fn check(
             }
             check(records, first, node + 1, code, stride, scope, made, side)
         }
-        Kind::Case => {
-            let inferred = infer(records, first, node + 1, code, stride, scope, made);
-            let h = expect(code, made, inferred, Connective::Or, node);
-            if STOPS <= h {
-                return h;
-            }
-            let second = field(records, m, 2);
-            let next = after(records, first, node + 1);
-            let hidden = bind(scope, records, m, 4, h + 1);
-            let r = check(records, second, next, code, stride, scope, made, p);
-            unbind(scope, records, m, 4, hidden);
-            if r != 0 {
-                return r;
-            }
-            let third = field(records, m, 3);
-            let last = after(records, second, next);
-            let side = scan(code, h + 1, NAMES);
-            let hidden = bind(scope, records, m, 5, side);
-            let r = check(records, third, last, code, stride, scope, made, p);
-            unbind(scope, records, m, 5, hidden);
-            r
-        }
+        Kind::Case => check_case(records, m, node, code, stride, scope, made, p),
         Kind::Abort => {
             let bottom = code.len() - 1;
             check(records, first, node + 1, code, stride, scope, made, bottom)
         }
         Kind::Sorry => 0,
         Kind::LetIn => STOPS + node,
-        _ => {
+        Kind::Ident
+        | Kind::ProjectFst
+        | Kind::ProjectSnd
+        | Kind::Application
+        | Kind::TypeAscription
+        | Kind::Unit => {
             let r = infer(records, m, node, code, stride, scope, made);
             agree(code, made, r, p, node, 0)
         }
     }
+}
+
+// A function: its body against the right side of an implication, under its name for the left side.
+#[cycle(check_infer)]
+fn check_function(
+    records: &[u16],
+    m: usize,
+    node: usize,
+    code: &[u8],
+    stride: usize,
+    scope: &mut [Option<u32>; NAMES],
+    made: &mut [Made; NODE_LIMIT],
+    p: usize,
+) -> usize
+    requires ready { Judgeable records.now code.now stride scope.old made.old m node × Stood code.now p }
+    requires kind { kind_of (field_at records.now m 0) ≡ Function }
+    ensures { Checked records.now code.now stride scope.old made.old m node p
+        scope.new made.new result }
+{
+    let first = field(records, m, 1);
+    let side = body_side(records, m, code, stride, p, node);
+    if STOPS <= side {
+        return side;
+    }
+    let hidden = bind(scope, records, m, 2, p + 1);
+    let r = check(records, first, node + 1, code, stride, scope, made, side);
+    unbind(scope, records, m, 2, hidden);
+    r
+}
+
+// A pair: each part against a side of a conjunction.
+#[cycle(check_infer)]
+fn check_pair(
+    records: &[u16],
+    m: usize,
+    node: usize,
+    code: &[u8],
+    stride: usize,
+    scope: &mut [Option<u32>; NAMES],
+    made: &mut [Made; NODE_LIMIT],
+    p: usize,
+) -> usize
+    requires ready { Judgeable records.now code.now stride scope.old made.old m node × Stood code.now p }
+    requires kind { kind_of (field_at records.now m 0) ≡ Pair }
+    ensures { Checked records.now code.now stride scope.old made.old m node p
+        scope.new made.new result }
+{
+    let first = field(records, m, 1);
+    let side = side_of(code, p, Connective::And, node);
+    if STOPS <= side {
+        return side;
+    }
+    let r = check(records, first, node + 1, code, stride, scope, made, p + 1);
+    if r != 0 {
+        return r;
+    }
+    let second = field(records, m, 2);
+    let next = after(records, first, node + 1);
+    check(records, second, next, code, stride, scope, made, side)
+}
+
+// A case: each branch against p, under its name for a side of the disjunction that the head infers.
+#[cycle(check_infer)]
+fn check_case(
+    records: &[u16],
+    m: usize,
+    node: usize,
+    code: &[u8],
+    stride: usize,
+    scope: &mut [Option<u32>; NAMES],
+    made: &mut [Made; NODE_LIMIT],
+    p: usize,
+) -> usize
+    requires ready { Judgeable records.now code.now stride scope.old made.old m node × Stood code.now p }
+    requires kind { kind_of (field_at records.now m 0) ≡ Case }
+    ensures { Checked records.now code.now stride scope.old made.old m node p
+        scope.new made.new result }
+{
+    let first = field(records, m, 1);
+    let inferred = infer(records, first, node + 1, code, stride, scope, made);
+    let h = expect(code, made, inferred, Connective::Or, node);
+    if STOPS <= h {
+        return h;
+    }
+    let second = field(records, m, 2);
+    let next = after(records, first, node + 1);
+    let hidden = bind(scope, records, m, 4, h + 1);
+    let r = check(records, second, next, code, stride, scope, made, p);
+    unbind(scope, records, m, 4, hidden);
+    if r != 0 {
+        return r;
+    }
+    let third = field(records, m, 3);
+    let last = after(records, second, next);
+    let side = scan(code, h + 1, NAMES);
+    let hidden = bind(scope, records, m, 5, side);
+    let r = check(records, third, last, code, stride, scope, made, p);
+    unbind(scope, records, m, 5, hidden);
+    r
 }
 
 // What does the term of record m, a node of that number, infer?
@@ -249,22 +303,7 @@ pub fn infer(
             let r = infer(records, first, node + 1, code, stride, scope, made);
             second_side(code, made, r, node)
         }
-        Kind::Application => {
-            let inferred = infer(records, first, node + 1, code, stride, scope, made);
-            let p = expect(code, made, inferred, Connective::Impl, node);
-            if STOPS <= p {
-                return p;
-            }
-            let second = field(records, m, 2);
-            let next = after(records, first, node + 1);
-            let argument = left(made, p);
-            let side = right(code, made, p);
-            let r = check(records, second, next, code, stride, scope, made, argument);
-            if r != 0 {
-                return r;
-            }
-            side
-        }
+        Kind::Application => infer_application(records, m, node, code, stride, scope, made),
         Kind::TypeAscription => {
             let label = ascribed(records, m, stride, node);
             if STOPS <= label {
@@ -276,48 +315,136 @@ pub fn infer(
             }
             label
         }
-        Kind::Function => {
-            let label = annotated(records, m, stride, node);
-            if STOPS <= label {
-                return label;
-            }
-            let hidden = bind(scope, records, m, 2, label);
-            let r = infer(records, first, node + 1, code, stride, scope, made);
-            unbind(scope, records, m, 2, hidden);
-            make(made, node, Connective::Impl, label, r)
-        }
-        Kind::Pair => {
-            let p = infer(records, first, node + 1, code, stride, scope, made);
-            if STOPS <= p {
-                return p;
-            }
-            let second = field(records, m, 2);
-            let next = after(records, first, node + 1);
-            let q = infer(records, second, next, code, stride, scope, made);
-            make(made, node, Connective::And, p, q)
-        }
-        Kind::Case => {
-            let inferred = infer(records, first, node + 1, code, stride, scope, made);
-            let h = expect(code, made, inferred, Connective::Or, node);
-            if STOPS <= h {
-                return h;
-            }
-            let second = field(records, m, 2);
-            let next = after(records, first, node + 1);
-            let hidden = bind(scope, records, m, 4, h + 1);
-            let q = infer(records, second, next, code, stride, scope, made);
-            unbind(scope, records, m, 4, hidden);
-            if STOPS <= q {
-                return q;
-            }
-            let third = field(records, m, 3);
-            let last = after(records, second, next);
-            let side = scan(code, h + 1, NAMES);
-            let hidden = bind(scope, records, m, 5, side);
-            let r = infer(records, third, last, code, stride, scope, made);
-            unbind(scope, records, m, 5, hidden);
-            agree(code, made, r, q, node, q)
-        }
-        _ => leaf(code, kind, node),
+        Kind::Function => infer_function(records, m, node, code, stride, scope, made),
+        Kind::Pair => infer_pair(records, m, node, code, stride, scope, made),
+        Kind::Case => infer_case(records, m, node, code, stride, scope, made),
+        Kind::Unit => code.len() - 2,
+        Kind::LetIn | Kind::OrLeft | Kind::OrRight | Kind::Abort | Kind::Sorry => STOPS + node,
     }
+}
+
+// An application: the right side of the implication that its function infers, if the argument checks against the left side.
+#[cycle(check_infer)]
+fn infer_application(
+    records: &[u16],
+    m: usize,
+    node: usize,
+    code: &[u8],
+    stride: usize,
+    scope: &mut [Option<u32>; NAMES],
+    made: &mut [Made; NODE_LIMIT],
+) -> usize
+    requires ready { Judgeable records.now code.now stride scope.old made.old m node }
+    requires kind { kind_of (field_at records.now m 0) ≡ Application }
+    ensures { Inferred records.now code.now stride scope.old made.old m node
+        scope.new made.new result }
+{
+    let first = field(records, m, 1);
+    let inferred = infer(records, first, node + 1, code, stride, scope, made);
+    let p = expect(code, made, inferred, Connective::Impl, node);
+    if STOPS <= p {
+        return p;
+    }
+    let second = field(records, m, 2);
+    let next = after(records, first, node + 1);
+    let argument = left(made, p);
+    let side = right(code, made, p);
+    let r = check(records, second, next, code, stride, scope, made, argument);
+    if r != 0 {
+        return r;
+    }
+    side
+}
+
+// A function with a proposition for its label: the implication from that to what its body infers.
+#[cycle(check_infer)]
+fn infer_function(
+    records: &[u16],
+    m: usize,
+    node: usize,
+    code: &[u8],
+    stride: usize,
+    scope: &mut [Option<u32>; NAMES],
+    made: &mut [Made; NODE_LIMIT],
+) -> usize
+    requires ready { Judgeable records.now code.now stride scope.old made.old m node }
+    requires kind { kind_of (field_at records.now m 0) ≡ Function }
+    ensures { Inferred records.now code.now stride scope.old made.old m node
+        scope.new made.new result }
+{
+    let first = field(records, m, 1);
+    let label = annotated(records, m, stride, node);
+    if STOPS <= label {
+        return label;
+    }
+    let hidden = bind(scope, records, m, 2, label);
+    let r = infer(records, first, node + 1, code, stride, scope, made);
+    unbind(scope, records, m, 2, hidden);
+    make(made, node, Connective::Impl, label, r)
+}
+
+// A pair: the conjunction of what its parts infer.
+#[cycle(check_infer)]
+fn infer_pair(
+    records: &[u16],
+    m: usize,
+    node: usize,
+    code: &[u8],
+    stride: usize,
+    scope: &mut [Option<u32>; NAMES],
+    made: &mut [Made; NODE_LIMIT],
+) -> usize
+    requires ready { Judgeable records.now code.now stride scope.old made.old m node }
+    requires kind { kind_of (field_at records.now m 0) ≡ Pair }
+    ensures { Inferred records.now code.now stride scope.old made.old m node
+        scope.new made.new result }
+{
+    let first = field(records, m, 1);
+    let p = infer(records, first, node + 1, code, stride, scope, made);
+    if STOPS <= p {
+        return p;
+    }
+    let second = field(records, m, 2);
+    let next = after(records, first, node + 1);
+    let q = infer(records, second, next, code, stride, scope, made);
+    make(made, node, Connective::And, p, q)
+}
+
+// A case: what both branches infer, each under its name for a side of the disjunction that the head infers.
+#[cycle(check_infer)]
+fn infer_case(
+    records: &[u16],
+    m: usize,
+    node: usize,
+    code: &[u8],
+    stride: usize,
+    scope: &mut [Option<u32>; NAMES],
+    made: &mut [Made; NODE_LIMIT],
+) -> usize
+    requires ready { Judgeable records.now code.now stride scope.old made.old m node }
+    requires kind { kind_of (field_at records.now m 0) ≡ Case }
+    ensures { Inferred records.now code.now stride scope.old made.old m node
+        scope.new made.new result }
+{
+    let first = field(records, m, 1);
+    let inferred = infer(records, first, node + 1, code, stride, scope, made);
+    let h = expect(code, made, inferred, Connective::Or, node);
+    if STOPS <= h {
+        return h;
+    }
+    let second = field(records, m, 2);
+    let next = after(records, first, node + 1);
+    let hidden = bind(scope, records, m, 4, h + 1);
+    let q = infer(records, second, next, code, stride, scope, made);
+    unbind(scope, records, m, 4, hidden);
+    if STOPS <= q {
+        return q;
+    }
+    let third = field(records, m, 3);
+    let last = after(records, second, next);
+    let side = scan(code, h + 1, NAMES);
+    let hidden = bind(scope, records, m, 5, side);
+    let r = infer(records, third, last, code, stride, scope, made);
+    unbind(scope, records, m, 5, hidden);
+    agree(code, made, r, q, node, q)
 }
