@@ -27,6 +27,8 @@ use Rattle.words.proofs.Numbers.{names_length}
 use Rattle.prefix_code.specs.declared.Connective as read
 use Rattle.prop_parts.specs.Found.{ConnectiveAt, bound_numbers}
 use Rattle.atom_reader.specs.declared.PropRead.{PropRead}
+use Rattle.proof_term.specs.declared.nodes.Label as numbered
+use Rattle.proof_term.specs.declared.nodes.Label.TheVariants.{Proposition, Datatype}
 use Rattle.prop_reader.specs.declared.LabelRead.{LabelRead}
 use Rattle.prop_reader.specs.Limits.{fits_label}
 use Rattle.atom_reader.specs.Scope.{Met, Crowded, Binds}
@@ -68,12 +70,11 @@ module _ {text : List ℕ} {at end : ℕ} (ends : NameEnds text at end) where
 
 -- The number of a datatype.
 pub datatype_given : {text pairs after : List ℕ} {at end count to : ℕ} {found : Numbered} → NumberOf (between at end text) text pairs count after found
-    → DatatypeGiven text at end pairs count to after (record { end = end; kind = 2; number = found.number; count = found.count; to = to })
+    → DatatypeGiven text at end pairs count to after (record { end = end; label = Datatype found.number; count = found.count; to = to })
 unfolding added
 datatype_given {text} {at = at} {end = end} number = record {
   end_is = refl;
-  kind_is = refl;
-  number_is = number.number_is ∙ ap (λ seen. number_in seen (between at end text)) (sym number.noted.names);
+  label_is = ap Datatype (number.number_is ∙ ap (λ seen. number_in seen (between at end text)) (sym number.noted.names));
   to_is = refl;
   noted = number.noted;
 }
@@ -177,7 +178,7 @@ module _ {text pairs code after bound bound' code' : List ℕ} {at count to : �
 
   pub proposition_given : LabelBegins text at pairs count to → read.own ≡ false → read.nesting ≤ proposition_nesting_limit → read.size ≤ code_limit
       → PropositionAnswer text at pairs count code to write after code'
-      (Some (record { end = read.end; kind = 1; number = to / 2; count = read.count; to = to + read.size + read.size % 2 }))
+      (Some (record { end = read.end; label = Proposition (to / 2); count = read.count; to = to + read.size + read.size % 2 }))
   unfolding prop_levels
   proposition_given pre own shallow small =
       let (q, reads, given) = found.answer in
@@ -190,8 +191,7 @@ module _ {text pairs code after bound bound' code' : List ℕ} {at count to : �
             reads = rw own at reads;
             fits = fits_prop (table_names pairs text count) q (omega (arith, m.nesting_is)) (omega (arith, m.size_is)) (few_noted given.noted);
             noted = given.noted;
-            kind_is = refl;
-            number_is = refl;
+            label_is = refl;
             stored = given.stored;
             to_is = rw m.size_is (omega arith);
             from = given.from;
@@ -219,7 +219,7 @@ labelled types levels s x e = gives_holds (label types levels s) _ x.value x.res
 -- the text of a proposition that is no lone listed name
 module _ (types : List Name) {text pairs code after code' : List ℕ} {at count to : ℕ} {write : Bool}
     (unlisted : (p : Prop Name) (s : List ℕ) → read_prop prop_levels 0 [] (drop at text) ≡ given (standing false p) s → label_for types p ≡ proposition p) where
-  pub proposition_label : (r : Option LabelRead) → PropositionAnswer text at pairs count code to write after code' r
+  pub proposition_label : (r : Option (LabelRead numbered.Label)) → PropositionAnswer text at pairs count code to write after code' r
       → LabelAnswer text at types pairs count code to write after code' r
   unfolding label ◌>>=◌ followed_by due same yield standing label_names
   proposition_label None answer = record {
@@ -238,7 +238,7 @@ module _ (types : List Name) {text pairs code after code' : List ℕ} {at count 
             reads = rw given.reads (ap (λ x. Some (record { value = x; rest = drop r.end text })) (unlisted p (drop r.end text) given.reads));
             fits = given.fits;
             noted = given.noted;
-            kept = of_proposition given.kind_is given.number_is given.stored given.to_is;
+            kept = of_proposition given.label_is given.stored given.to_is;
             from = given.from;
             even = given.even;
             near = given.near;
@@ -286,7 +286,7 @@ module _ {text : List ℕ} {at r : ℕ} (ends : LoneEnds text at r) where
         rw (← is, sym tested ∙ e) refl
 
     -- which is listed
-    pub lone_listed : {pairs code after : List ℕ} {count to : ℕ} {write : Bool} (w : Option LabelRead) → t ≡ true → to % 2 ≡ 0
+    pub lone_listed : {pairs code after : List ℕ} {count to : ℕ} {write : Bool} (w : Option (LabelRead numbered.Label)) → t ≡ true → to % 2 ≡ 0
         → MatchOption w (TooMany (between at r text) text pairs count) (DatatypeGiven text at r pairs count to after)
         → LabelAnswer text at types pairs count code to write after code w
     unfolding label ◌>>=◌ followed_by due same yield standing label_names
@@ -295,7 +295,7 @@ module _ {text : List ℕ} {at r : ℕ} (ends : LoneEnds text at r) where
         reads : label types prop_levels (drop at text) ≡ given (datatype (between at r text)) (drop r text)
         reads = rw lone_prop (ap (λ x. Some (record { value = x; rest = drop r text })) (listed_label types (between at r text) (sym tested ∙ e)))
 
-        go : (w : Option LabelRead) → MatchOption w (TooMany (between at r text) text pairs count) (DatatypeGiven text at r pairs count to after)
+        go : (w : Option (LabelRead numbered.Label)) → MatchOption w (TooMany (between at r text) text pairs count) (DatatypeGiven text at r pairs count to after)
             → LabelAnswer text at types pairs count code to write after code w
         go None many = record {
           answer = λ x f.
@@ -312,7 +312,7 @@ module _ {text : List ℕ} {at r : ℕ} (ends : LoneEnds text at r) where
               reads = rw named.end_is reads;
               fits = fits_datatype (table_names pairs text count) (between at r text) (few_noted named.noted);
               noted = named.noted;
-              kept = of_datatype named.kind_is named.number_is refl named.to_is;
+              kept = of_datatype named.label_is refl named.to_is;
               from = omega (arith, ends.from, named.end_is);
               even = rw named.to_is even;
               near = omega (arith, ends.from, named.end_is, named.to_is);

@@ -12,6 +12,8 @@ use Rattle.definitions.proofs.Readings.{given}
 use Rattle.output.specs.Wrote.{puts}
 use Rattle.words.specs.Places.{between}
 use Rattle.words.specs.Table.{number_in, table_names, Table, Noted}
+use Rattle.proof_term.specs.declared.nodes.Label as numbered
+use Rattle.proof_term.specs.declared.nodes.Label.TheVariants.{Proposition, Datatype}
 use Rattle.prop_reader.specs.declared.LabelRead.{LabelRead}
 use Rattle.prop_reader.specs.Limits.{fits_label}
 -- the code of a proposition over the names that were met
@@ -39,23 +41,21 @@ pub record LoneEnds (text : List ℕ) (at r : ℕ) : Type 0 where
   pub short : r ≤ at + name_length_limit
 
 -- the datatype between two places
-pub record DatatypeGiven (text : List ℕ) (at end : ℕ) (pairs : List ℕ) (count to : ℕ) (after : List ℕ) (r : LabelRead) : Type 0 where
+pub record DatatypeGiven (text : List ℕ) (at end : ℕ) (pairs : List ℕ) (count to : ℕ) (after : List ℕ) (r : LabelRead numbered.Label) : Type 0 where
   pub end_is : r.end ≡ end
-  pub kind_is : r.kind ≡ 2
-  pub number_is : r.number ≡ number_in (table_names after text r.count) (between at end text)
+  pub label_is : r.label ≡ Datatype (number_in (table_names after text r.count) (between at end text))
   pub to_is : r.to ≡ to
   pub noted : Noted (between at end text ∷ []) text pairs count after r.count
 
 -- the proposition that was read, within the limits and in no brackets of its own
 pub record PropositionGiven
-    (text : List ℕ) (at : ℕ) (pairs : List ℕ) (count : ℕ) (code : List ℕ) (to : ℕ) (write : Bool) (after code' : List ℕ) (r : LabelRead) (p : Prop Name)
+    (text : List ℕ) (at : ℕ) (pairs : List ℕ) (count : ℕ) (code : List ℕ) (to : ℕ) (write : Bool) (after code' : List ℕ) (r : LabelRead numbered.Label) (p : Prop Name)
     : Type 0 where
   pub within : r.end ≤ length text
   pub reads : read_prop prop_levels 0 [] (drop at text) ≡ given (standing false p) (drop r.end text)
   pub fits : fits_label (table_names pairs text count) (proposition p) ≡ true
   pub noted : Noted (prop_names p) text pairs count after r.count
-  pub kind_is : r.kind ≡ 1
-  pub number_is : r.number ≡ to / 2
+  pub label_is : r.label ≡ Proposition (to / 2)
   pub stored : code' ≡ puts write code to (code_over (table_names after text r.count) p)
   pub to_is : r.to ≡ to + (code_bytes p + code_bytes p % 2)
   pub from : at < r.end
@@ -63,23 +63,23 @@ pub record PropositionGiven
   pub near : r.to + 2 * at ≤ to + 2 * r.end + 3
 
 pub record PropositionAnswer
-    (text : List ℕ) (at : ℕ) (pairs : List ℕ) (count : ℕ) (code : List ℕ) (to : ℕ) (write : Bool) (after code' : List ℕ) (r : Option LabelRead) : Type 0 where
+    (text : List ℕ) (at : ℕ) (pairs : List ℕ) (count : ℕ) (code : List ℕ) (to : ℕ) (write : Bool) (after code' : List ℕ) (r : Option (LabelRead numbered.Label)) : Type 0 where
   pub answer : MatchOption r ((p : Prop Name) (s : List ℕ) → read_prop prop_levels 0 [] (drop at text) ≡ given (standing false p) s
       → fits_label (table_names pairs text count) (proposition p) ≡ false)
       (λ r. (p : Prop Name) × PropositionGiven text at pairs count code to write after code' r p)
   pub dry : write ≡ false → code' ≡ code
 
 -- what is kept of a label: the code of a proposition at an even offset, or the number of a datatype
-pub data LabelKept (seen : List Name) (code : List ℕ) (to : ℕ) (write : Bool) (code' : List ℕ) (r : LabelRead) : Label Name → Type 0 where
-  of_proposition : {p : Prop Name} → r.kind ≡ 1 → r.number ≡ to / 2 → code' ≡ puts write code to (code_over seen p)
+pub data LabelKept (seen : List Name) (code : List ℕ) (to : ℕ) (write : Bool) (code' : List ℕ) (r : LabelRead numbered.Label) : Label Name → Type 0 where
+  of_proposition : {p : Prop Name} → r.label ≡ Proposition (to / 2) → code' ≡ puts write code to (code_over seen p)
       → r.to ≡ to + (code_bytes p + code_bytes p % 2) → LabelKept seen code to write code' r (proposition p)
-  of_datatype : {t : Name} → r.kind ≡ 2 → r.number ≡ number_in seen t → code' ≡ code → r.to ≡ to
+  of_datatype : {t : Name} → r.label ≡ Datatype (number_in seen t) → code' ≡ code → r.to ≡ to
       → LabelKept seen code to write code' r (datatype t)
 
 -- the label that was read, and what became of the names and the code
 pub record LabelGiven
     (text : List ℕ) (at : ℕ) (types : List Name) (pairs : List ℕ) (count : ℕ) (code : List ℕ) (to : ℕ) (write : Bool)
-    (after code' : List ℕ) (r : LabelRead) (l : Label Name) : Type 0 where
+    (after code' : List ℕ) (r : LabelRead numbered.Label) (l : Label Name) : Type 0 where
   pub within : r.end ≤ length text
   pub reads : label types prop_levels (drop at text) ≡ given l (drop r.end text)
   pub fits : fits_label (table_names pairs text count) l ≡ true
@@ -92,7 +92,7 @@ pub record LabelGiven
 -- the answer of `read_label`; none where there is no label, or one past the limits
 pub record LabelAnswer
     (text : List ℕ) (at : ℕ) (types : List Name) (pairs : List ℕ) (count : ℕ) (code : List ℕ) (to : ℕ) (write : Bool)
-    (after code' : List ℕ) (r : Option LabelRead) : Type 0 where
+    (after code' : List ℕ) (r : Option (LabelRead numbered.Label)) : Type 0 where
   pub answer : MatchOption r ((x : Read (Label Name)) → label types prop_levels (drop at text) ≡ Some x
       → fits_label (table_names pairs text count) x.value ≡ false)
       (λ r. (l : Label Name) × LabelGiven text at types pairs count code to write after code' r l)

@@ -15,7 +15,7 @@ ghost use Rattle.prop_reader.specs.Answer.{LoneLacks, LoneEnds, DatatypeGiven, P
 use atom_reader::{Place, PropRead, read_atom};
 use caller_names::is_listed;
 use prefix_code::{CODE_LIMIT, NESTING_LIMIT};
-use proof_term::{DATATYPE, PROPOSITION};
+use proof_term::Label;
 use prop_frames::{close_prop, goes_on, join, open_front, part_least, read_constant};
 use prop_parts::{CONNECTIVE_SIZE, Sign, connective_at, sign_at};
 use words::{expect, name_end, number_of_name};
@@ -99,13 +99,12 @@ fn read_prop(
     Some(left)
 }
 
-// A label that was read: where it ends, its kind and number, how many names there are now, and where the next code begins. The reader of
-// terms stores kind and number as they are, among the numbers of an entry, where kind 0 stands for no label.
+// A label that was read: where it ends, what it is, how many names there are now, and where the next code begins. Where a label may be
+// missing, `L` is an option of one.
 #[derive(Clone, Copy)]
-pub struct LabelRead {
+pub struct LabelRead<L> {
     pub end: usize,
-    pub kind: usize,
-    pub number: usize,
+    pub label: L,
     pub count: usize,
     pub to: usize,
 }
@@ -133,7 +132,7 @@ fn read_datatype(
     names: &mut [u8],
     count: usize,
     to: usize,
-) -> Option<LabelRead>
+) -> Option<LabelRead<Label>>
     requires { Table names.old text.now count × NamePlace text.now at end }
     ensures { MatchOption result (TooMany (between at end text.now) text.now names.old count)
         (DatatypeGiven text.now at end names.old count to names.new) }
@@ -141,8 +140,7 @@ fn read_datatype(
     let name = number_of_name(text, at, end, names, count)?;
     Some(LabelRead {
         end,
-        kind: DATATYPE,
-        number: name.number,
+        label: Label::Datatype(name.number as u16),
         count: name.count,
         to,
     })
@@ -157,7 +155,7 @@ fn read_proposition(
     code: &mut [u8],
     to: usize,
     write: bool,
-) -> Option<LabelRead>
+) -> Option<LabelRead<Label>>
     requires { LabelBegins text.now at names.old count to }
     ensures { PropositionAnswer text.now at names.old count code.old to write
         names.new code.new result }
@@ -182,8 +180,7 @@ fn read_proposition(
     }
     Some(LabelRead {
         end: read.end,
-        kind: PROPOSITION,
-        number: to / 2,
+        label: Label::Proposition((to / 2) as u16),
         count: read.count,
         to: to + size + size % 2,
     })
@@ -199,7 +196,7 @@ pub fn read_label(
     code: &mut [u8],
     to: usize,
     write: bool,
-) -> Option<LabelRead>
+) -> Option<LabelRead<Label>>
     requires { LabelBegins text.now at names.old count to }
     ensures { LabelAnswer text.now at (names_in types.now) names.old count
         code.old to write names.new code.new result }

@@ -10,7 +10,7 @@ use lib.Dec.{leb}
 use Rattle.definitions.specs.declared.Style.TheVariants.{Strict}
 use Rattle.definitions.specs.Utf8.{utf8}
 use Rattle.definitions.specs.Name.{Name}
-use Rattle.definitions.specs.Term.{Label, proposition, datatype, ProofTerm, TypeAscription, annotation_count}
+use Rattle.definitions.specs.Term.{Label, ProofTerm, TypeAscription, annotation_count}
 use Rattle.definitions.specs.Display.{form, ascribed_by, wraps}
 use Rattle.definitions.specs.TermText.{term_nesting, label_names}
 use Rattle.definitions.specs.TermReader.{Shown, standing, same, expect, if_read, argument_follows, label, prop_levels}
@@ -23,26 +23,29 @@ use Rattle.reading_laws.proofs.Turns.{Next, next_then}
 use Rattle.words.specs.Places.{Expected}
 use Rattle.words.specs.Table.{table_names}
 use Rattle.atom_reader.proofs.Readings.{gives_from}
+use Rattle.proof_term.specs.declared.nodes.Label as numbered
+use Rattle.proof_term.specs.declared.nodes.Node.TheVariants as made
 use Rattle.prop_reader.specs.declared.LabelRead.{LabelRead}
 use Rattle.prop_reader.specs.Limits.{fits_label}
 use Rattle.prop_reader.specs.Answer.{LabelBegins, LabelGiven, LabelAnswer}
 use Rattle.term_stack.specs.declared.Progress.{Progress}
-use Rattle.term_stack.specs.declared.Form.TheVariants.{Function, Ascription}
+use Rattle.proof_term.specs.declared.forms.Form.TheVariants.{Function, Ascription}
 use Rattle.term_stack.specs.declared.Hand.{Hand}
 use Rattle.term_stack.specs.declared.State.TheVariants.{Giving}
 use Rattle.term_stack.specs.declared.Work.{Work}
-use Rattle.term_stack.specs.Forms.{as_form, rank, least_form}
-use Rattle.term_stack.specs.Growing.{row_numbers, Unmade, MadeOf}
+use Rattle.proof_term.specs.Forms.{as_form, rank}
+use Rattle.term_stack.specs.Forms.{least_form}
+use Rattle.term_stack.specs.Growing.{node_row, Unmade, MadeOf}
 use Rattle.term_stack.specs.Numbers.{labels_met, code_met, root_after, records_after, stack_records, term_records}
 use Rattle.term_stack.specs.Standing.{Scene, StateOf, AtTerm, AtState, left_at, left_of}
 use Rattle.term_stack.specs.Using.{Comes, Refuses, Turned}
 use Rattle.term_stack.proofs.Marked.{even_labels}
 use Rattle.term_stack.proofs.Coming.{comes_as, goes_on, reads_on, as_due, not_due, unfit}
-use Rattle.term_stack.proofs.Grown.{due_at, Grows, grown_not, grown_to}
+use Rattle.term_stack.proofs.LabelNumbers.{label_kind_is, label_number_is}
+use Rattle.term_stack.proofs.Grown.{due_at, Grows, grown_not, grown_to, over}
 use Rattle.term_stack.proofs.Used.{hand_small}
-use Rattle.term_stack.proofs.Closes.{over}
 use Rattle.term_openings.proofs.Noting.{noting, stored_met}
-use Rattle.term_openings.proofs.StoredLabels.{label_limited, label_kind_lem, label_to, label_small, label_number_lem, label_stored, label_unfit}
+use Rattle.term_openings.proofs.StoredLabels.{label_limited, label_to, label_is, label_stored, label_unfit}
 use Rattle.term_openings.proofs.ClosedTerms.{further}
 
 -- the term in hand is small
@@ -55,12 +58,6 @@ pub comes_chain : {z : Scene} {work : Work} {s : Progress} {h : Hand} (at : AtTe
     → Comes z.types z.text (chain z.types at.entries at.term (drop s.at z.text))
 unfolding turn
 comes_chain at = record { from = _; reached = at.behind.reached; turns = refl }
-
--- a label's kind is small
-kind_small : (l : Label Name) → label_kind l < 3
-unfolding label_kind
-kind_small (proposition p) = omega arith
-kind_small (datatype t) = omega arith
 
 -- what the machine does with the label
 abbrev ascription : List Entry → Shown (ProofTerm Name) → Label Name → List ℕ → Option State
@@ -116,71 +113,62 @@ module _ {z : Scene} {work : Work} {s : Progress} {h : Hand} (held : AtTerm hold
         label_unfit held.behind.stored l unfit-label (giving held.entries (standing false (TypeAscription held.term.shown l)) v)
         (record { more = node ∷ []; is = simp append_assoc }))
 
-    module _ {after code' : List ℕ} {r : LabelRead} (answer : LabelAnswer z.text at z.types z.names s.count z.code s.to true after code' (Some r)) where
-      -- the kind and the number of the label are small
-      pub label_numbers : (r.kind < 3) × (r.number < 65536)
-      label_numbers =
+    module _ {after code' : List ℕ} {r : LabelRead numbered.Label} (answer : LabelAnswer z.text at z.types z.names s.count z.code s.to true after code' (Some r)) where
+      label_grows : {l : Label Name} → LabelGiven z.text at z.types z.names s.count z.code s.to true after code' r l
+          → Grows held.entries (TypeAscription held.term.shown l) (noting z after code') work (further s r.end r.count r.to)
+          (node_row (made.TypeAscription (s.used - 1) r.label) (1 + h.tally)) (over Ascription 0 1 h)
+      unfolding noting names_met nodes_met limited_met code_met labels_met term_records records_after marks form as_form term_nesting annotation_count node_row root_after seven
+      label_grows {l} given =
+          let b = held.behind in
+          let k = held.entries in
+          let a = held.term.shown in
+          let ms = entries_marks k ++ marks a in
+          let near = given.near in
+          let before = b.placed.near in
+          let on = colon.after in
+          let nest = b.hand.nest in
+          let tally = b.hand.tally in
+          let counted : 1 + h.tally ≡ 1 + annotation_count a = omega (arith, tally) in
+          record {
+            placed = record { within = given.within; near = omega (arith, near, before, on) };
+            deep = b.deep;
+            met = ms ++ (labelled l ∷ []);
+            records = λ number. term_records number k a;
+            stored =
+                stored_met (labelled l ∷ []) b.stored (rw (append-nil (label_names l)) given.noted) refl (rw (label_limited given) refl) (label_to given) (label_stored given);
+            marks_are = simp append_assoc;
+            last = λ number. seven 11 (root_after (entries_marks k) a) 0 (label_kind l) (label_number number (code_met ms) l) 0 (1 + annotation_count a);
+            row_is = λ number extends.
+                let u = b.stored.used_is in
+                let kind_is = label_kind_is number s.to l (label_is given number extends) in
+                let number_is = label_number_is number s.to l (label_is given number extends) in
+                let to_is = b.stored.to_is in
+                cc;
+            long = refl;
+            records_are = λ number. append_assoc (stack_records number k) (records_after number (entries_marks k) a) _;
+            form_is = refl;
+            bare = refl;
+            nest_is = omega (arith, nest);
+            tally_is = counted;
+          }
+
+      -- the record passes a limit
+      pub ascription_not : Unmade s.used (max 0 h.nest + 1) → Refuses (noting z after code')
+      unfolding noting met hand_nesting standing
+      ascription_not why =
           let (l, given) = answer.answer in
-          let kind = label_kind_lem given in
-          let small = kind_small l in
-          (omega (arith, kind, small), label_small given label_begins given.within)
+          grown_not (label_grows given) giving (goes_on (label z.types prop_levels (drop at z.text)) _ l _ comes_due given.reads) refl refl why
 
-      module _ (last : ℕ) (is : last ≡ s.used - 1) where
-        label_grows : {l : Label Name} → LabelGiven z.text at z.types z.names s.count z.code s.to true after code' r l
-            → Grows held.entries (TypeAscription held.term.shown l) (noting z after code') work (further s r.end r.count r.to)
-            (row_numbers 11 (last ∷ 0 ∷ r.kind ∷ r.number ∷ 0 ∷ []) (1 + h.tally)) (over Ascription 0 1 h)
-        unfolding noting names_met nodes_met limited_met code_met labels_met term_records records_after marks form as_form term_nesting annotation_count row_numbers root_after seven
-        label_grows {l} given =
-            let b = held.behind in
-            let k = held.entries in
-            let a = held.term.shown in
-            let ms = entries_marks k ++ marks a in
-            let near = given.near in
-            let before = b.placed.near in
-            let on = colon.after in
-            let nest = b.hand.nest in
-            let tally = b.hand.tally in
-            let counted : 1 + h.tally ≡ 1 + annotation_count a = omega (arith, tally) in
-            record {
-              placed = record { within = given.within; near = omega (arith, near, before, on) };
-              deep = b.deep;
-              met = ms ++ (labelled l ∷ []);
-              records = λ number. term_records number k a;
-              stored =
-                  stored_met (labelled l ∷ []) b.stored (rw (append-nil (label_names l)) given.noted) refl (rw (label_limited given) refl) (label_to given) (label_stored given);
-              marks_are = simp append_assoc;
-              last = λ number. seven 11 (root_after (entries_marks k) a) 0 (label_kind l) (label_number number (code_met ms) l) 0 (1 + annotation_count a);
-              row_is = λ number extends.
-                  let u = b.stored.used_is in
-                  let number_is = label_number_lem given number extends in
-                  let to_is = b.stored.to_is in
-                  let kind = label_kind_lem given in
-                  cc (is);
-              long = refl;
-              records_are = λ number. append_assoc (stack_records number k) (records_after number (entries_marks k) a) _;
-              form_is = refl;
-              bare = refl;
-              nest_is = omega (arith, nest);
-              tally_is = counted;
-            }
-
-        -- the record passes a limit
-        pub ascription_not : Unmade s.used (max 0 h.nest + 1) → Refuses (noting z after code')
-        unfolding noting met hand_nesting standing
-        ascription_not why =
-            let (l, given) = answer.answer in
-            grown_not (label_grows given) giving (goes_on (label z.types prop_levels (drop at z.text)) _ l _ comes_due given.reads) refl refl why
-
-        -- the term and its label are whole
-        pub ascription_turned : {work' : Work} {t : Progress}
-            → MadeOf (further s r.end r.count r.to) (row_numbers 11 (last ∷ 0 ∷ r.kind ∷ r.number ∷ 0 ∷ []) (1 + h.tally)) (over Ascription 0 1 h) work work' t
-            → Turned (noting z after code') work' (left_at z.text s 1) (Giving t (over Ascription 0 1 h))
-        unfolding noting met hand_nesting standing AtState left_of left_at
-        ascription_turned m =
-            let (l, given) = answer.answer in
-            let from = given.from in
-            let on = colon.after in
-            record {
-              there = grown_to (label_grows given) giving (goes_on (label z.types prop_levels (drop at z.text)) _ l _ comes_due given.reads) refl refl m;
-              less = rw m.is (omega (arith, from, on, given.within));
-            }
+      -- the term and its label are whole
+      pub ascription_turned : {work' : Work} {t : Progress}
+          → MadeOf (further s r.end r.count r.to) (node_row (made.TypeAscription (s.used - 1) r.label) (1 + h.tally)) (over Ascription 0 1 h) work work' t
+          → Turned (noting z after code') work' (left_at z.text s 1) (Giving t (over Ascription 0 1 h))
+      unfolding noting met hand_nesting standing AtState left_of left_at
+      ascription_turned m =
+          let (l, given) = answer.answer in
+          let from = given.from in
+          let on = colon.after in
+          record {
+            there = grown_to (label_grows given) giving (goes_on (label z.types prop_levels (drop at z.text)) _ l _ comes_due given.reads) refl refl m;
+            less = rw m.is (omega (arith, from, on, given.within));
+          }

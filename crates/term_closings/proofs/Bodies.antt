@@ -17,13 +17,14 @@ use Rattle.reading_laws.specs.Marks.{called, marks, entry_marks, entries_marks}
 use Rattle.words.specs.Places.{Expected}
 use Rattle.words.specs.Table.{table_names}
 use Rattle.term_stack.specs.declared.Progress.{Progress}
-use Rattle.term_stack.specs.declared.Form.TheVariants.{Ascription}
+use Rattle.proof_term.specs.declared.forms.Form.TheVariants.{Ascription}
 use Rattle.term_stack.specs.declared.Hand.{Hand}
 use Rattle.term_stack.specs.declared.Part.{Part}
 use Rattle.term_stack.specs.declared.Entry.TheVariants.{LetHead, LetBody}
 use Rattle.term_stack.specs.declared.State.{State}
 use Rattle.term_stack.specs.declared.Work.{Work}
-use Rattle.term_stack.specs.Forms.{rank, least_form}
+use Rattle.proof_term.specs.Forms.{rank}
+use Rattle.term_stack.specs.Forms.{least_form}
 use Rattle.term_stack.specs.Growing.{Entered}
 use Rattle.term_stack.specs.Numbers.{records_after, entry_after, entry_records, stack_records}
 use Rattle.term_stack.specs.Standing.{Scene, Extends, left_at}

@@ -28,14 +28,15 @@ use Rattle.prop_parts.specs.Found.{NameLacks, NameGiven}
 use Rattle.atom_reader.specs.Scope.{Crowded}
 use Rattle.atom_reader.proofs.Readings.{gives_from, gives_any}
 use Rattle.term_stack.specs.declared.Progress.{Progress}
-use Rattle.term_stack.specs.declared.Form.TheVariants.{Ascription}
+use Rattle.proof_term.specs.declared.forms.Form.TheVariants.{Ascription}
 use Rattle.term_stack.specs.declared.Hand.{Hand}
 use Rattle.term_stack.specs.declared.Part.{Part}
 use Rattle.term_stack.specs.declared.Entry as stacked
 use Rattle.term_stack.specs.declared.Entry.TheVariants.{CaseHead, CaseFirst, CaseSecond}
 use Rattle.term_stack.specs.declared.State as reader_state
 use Rattle.term_stack.specs.declared.Work.{Work}
-use Rattle.term_stack.specs.Forms.{rank, least_form}
+use Rattle.proof_term.specs.Forms.{rank}
+use Rattle.term_stack.specs.Forms.{least_form}
 use Rattle.term_stack.specs.Growing.{Entered}
 use Rattle.term_stack.specs.Numbers.{part_after, records_after, entry_after, entry_records, stack_records}
 use Rattle.term_stack.specs.Standing.{Scene, Extends, left_at}

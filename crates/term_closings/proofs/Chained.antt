@@ -14,13 +14,14 @@ use Rattle.reading_laws.specs.TermMachine.{as_argument, holding, and_then, if_du
 use Rattle.reading_laws.specs.Marks.{purpose_marks, entries_marks}
 use Rattle.words.specs.Places.{Expected}
 use Rattle.term_stack.specs.declared.Progress.{Progress}
-use Rattle.term_stack.specs.declared.Form.TheVariants.{Function}
+use Rattle.proof_term.specs.declared.forms.Form.TheVariants.{Function}
 use Rattle.term_stack.specs.declared.Hand.{Hand}
 use Rattle.term_stack.specs.declared.Part.{Part}
 use Rattle.term_stack.specs.declared.Purpose.TheVariants.{Argument}
 use Rattle.term_stack.specs.declared.State.TheVariants.{Giving}
 use Rattle.term_stack.specs.declared.Work.{Work}
-use Rattle.term_stack.specs.Forms.{rank, least_form}
+use Rattle.proof_term.specs.Forms.{rank}
+use Rattle.term_stack.specs.Forms.{least_form}
 use Rattle.term_stack.specs.Numbers.{purpose_after, purpose_records, term_records}
 use Rattle.term_stack.specs.Standing.{Scene, AtTerm, AtState, left_at, left_of}
 use Rattle.term_stack.specs.Using.{Comes, Refuses, Turned}

@@ -22,15 +22,16 @@ use Rattle.reading_laws.proofs.OnTheWay.{Fits, nodes_both, nodes_met_lem}
 use Rattle.reading_laws.proofs.Turns.{Next, next_due}
 use Rattle.words.specs.Places.{Expected}
 use Rattle.words.specs.Table.{number_in, table_names}
+use Rattle.proof_term.specs.declared.nodes.Node.TheVariants as made
 use Rattle.term_stack.specs.declared.Progress.{Progress}
-use Rattle.term_stack.specs.declared.Form.TheVariants.{Closed}
+use Rattle.proof_term.specs.declared.forms.Form.TheVariants.{Closed}
 use Rattle.term_stack.specs.declared.Hand.{Hand}
 use Rattle.term_stack.specs.declared.Part.{Part}
 use Rattle.term_stack.specs.declared.Purpose as reader
 use Rattle.term_stack.specs.declared.Entry.TheVariants.{Second}
 use Rattle.term_stack.specs.declared.Work.{Work}
-use Rattle.term_stack.specs.Forms.{as_form}
-use Rattle.term_stack.specs.Growing.{row_numbers, Unmade, nodes, nesting, MadeOf}
+use Rattle.proof_term.specs.Forms.{as_form}
+use Rattle.term_stack.specs.Growing.{node_row, Unmade, nodes, nesting, MadeOf}
 use Rattle.term_stack.specs.Numbers.{part_after, purpose_after, root_after, records_after, entry_after, entry_records}
 use Rattle.term_stack.specs.Standing.{Scene, left_at}
 use Rattle.term_stack.specs.Using.{Comes, Refuses, Using, left_after, GivesTo, Gives}
@@ -39,7 +40,7 @@ use Rattle.term_stack.proofs.Marked.{extends_itself, few_labels}
 use Rattle.term_stack.proofs.Stores.{stored_record, stored_as}
 use Rattle.term_stack.proofs.Coming.{goes_on, ends_here, as_due, not_due, unfit}
 use Rattle.term_stack.proofs.Leaves.{many_nodes}
-use Rattle.term_stack.proofs.Closes.{over}
+use Rattle.term_stack.proofs.Grown.{over}
 use Rattle.term_openings.proofs.ClosedTerms.{further}
 use Rattle.term_closings.proofs.Enclosed.{own_due, bare_due}
 
@@ -158,39 +159,38 @@ module _ {z : Scene} {work : Work} {s : Progress} {h : Hand} {q : reader.Purpose
           unmade : {k : List Entry} {entry : Entry} {a : Shown (ProofTerm Name)} → StandsFor (Second q f) entry → GivesTo k entry a z work s h (Second q f) → Refuses z
           unmade for_second g = unfit (comes_pair g) (pair_large g why)
 
-      module _ (last : ℕ) (is : last ≡ s.used - 1) where
-        pair_row : {k : List Entry} {p : Purpose} {b : ProofTerm Name} {a : Shown (ProofTerm Name)} (g : GivesTo k (second p b) a z work s h (Second q f))
-            → row_numbers 1 (f.root ∷ last ∷ 0 ∷ 0 ∷ 0 ∷ []) (f.tally + h.tally)
-            ≡ seven 1 (root_after (entries_marks k ++ purpose_marks p) b) (root_after ((entries_marks k ++ purpose_marks p) ++ marks b) a.shown) 0 0 0 (annotation_count (Pair b a.shown))
-        unfolding row_numbers part_after root_after entry_marks seven
-        pair_row {k} {p} {b} g =
-            let r = ap (λ (x : Part). x.root) (first_is g) in
-            rw (is, g.stored.used_is, r, pair_tally g, append_assoc (entries_marks k) (purpose_marks p) (marks b)) refl
+      pair_row : {k : List Entry} {p : Purpose} {b : ProofTerm Name} {a : Shown (ProofTerm Name)} (g : GivesTo k (second p b) a z work s h (Second q f))
+          → node_row (made.Pair f.root (s.used - 1)) (f.tally + h.tally)
+          ≡ seven 1 (root_after (entries_marks k ++ purpose_marks p) b) (root_after ((entries_marks k ++ purpose_marks p) ++ marks b) a.shown) 0 0 0 (annotation_count (Pair b a.shown))
+      unfolding node_row part_after root_after entry_marks seven
+      pair_row {k} {p} {b} g =
+          let r = ap (λ (x : Part). x.root) (first_is g) in
+          rw (g.stored.used_is, r, pair_tally g, append_assoc (entries_marks k) (purpose_marks p) (marks b)) refl
 
-        pub pair_using : {after : Work} {r : Progress} → Gives z work s h (Second q f)
-            → MadeOf (further s end s.count s.to) (row_numbers 1 (f.root ∷ last ∷ 0 ∷ 0 ∷ 0 ∷ []) (f.tally + h.tally)) (over Closed f.nest f.tally h) work after r
-            → Using z after r (over Closed f.nest f.tally h) q
-        unfolding entry_marks entry_records records_after marks form as_form annotation_count row_numbers seven standing
-        pair_using {after} {r} g m = using (entry_for g) g.to
-          where
-            using : {k : List Entry} {entry : Entry} {a : Shown (ProofTerm Name)} → StandsFor (Second q f) entry → GivesTo k entry a z work s h (Second q f)
-                → Using z after r (over Closed f.nest f.tally h) q
-            using {k} {a = a} (for_second {p = p} {b = b}) g =
-                let K = entries_marks k in
-                let P = purpose_marks p in
-                let on = found.after in
-                let st = stored_record (λ number. seven 1 (root_after (K ++ P) b) (root_after ((K ++ P) ++ marks b) a.shown) 0 0 0 (annotation_count b + annotation_count a.shown))
-                (row_numbers 1 (f.root ∷ last ∷ 0 ∷ 0 ∷ 0 ∷ []) (f.tally + h.tally)) g.stored m.few refl (λ number i. pair_row g) in
-                record {
-                  entries = k;
-                  purpose = p;
-                  term = standing false (Pair b a.shown);
-                  for = rw (m.is, m.stored) (record {
-                    comes = comes_pair g;
-                    placed = record { within = found.within; near = let n = g.placed.near in omega (arith, n, on) };
-                    deep = g.deep;
-                    hand = record { form_is = refl; own = refl; nest = pair_nesting g; tally = pair_tally g; shallow = m.shallow };
-                    purpose_is = purpose_is g;
-                    stored = stored_as st (simp append_assoc) (λ number. simp append_assoc);
-                  });
-                }
+      pub pair_using : {after : Work} {r : Progress} → Gives z work s h (Second q f)
+          → MadeOf (further s end s.count s.to) (node_row (made.Pair f.root (s.used - 1)) (f.tally + h.tally)) (over Closed f.nest f.tally h) work after r
+          → Using z after r (over Closed f.nest f.tally h) q
+      unfolding entry_marks entry_records records_after marks form as_form annotation_count node_row seven standing
+      pair_using {after} {r} g m = using (entry_for g) g.to
+        where
+          using : {k : List Entry} {entry : Entry} {a : Shown (ProofTerm Name)} → StandsFor (Second q f) entry → GivesTo k entry a z work s h (Second q f)
+              → Using z after r (over Closed f.nest f.tally h) q
+          using {k} {a = a} (for_second {p = p} {b = b}) g =
+              let K = entries_marks k in
+              let P = purpose_marks p in
+              let on = found.after in
+              let st = stored_record (λ number. seven 1 (root_after (K ++ P) b) (root_after ((K ++ P) ++ marks b) a.shown) 0 0 0 (annotation_count b + annotation_count a.shown))
+              (node_row (made.Pair f.root (s.used - 1)) (f.tally + h.tally)) g.stored m.few refl (λ number i. pair_row g) in
+              record {
+                entries = k;
+                purpose = p;
+                term = standing false (Pair b a.shown);
+                for = rw (m.is, m.stored) (record {
+                  comes = comes_pair g;
+                  placed = record { within = found.within; near = let n = g.placed.near in omega (arith, n, on) };
+                  deep = g.deep;
+                  hand = record { form_is = refl; own = refl; nest = pair_nesting g; tally = pair_tally g; shallow = m.shallow };
+                  purpose_is = purpose_is g;
+                  stored = stored_as st (simp append_assoc) (λ number. simp append_assoc);
+                });
+              }

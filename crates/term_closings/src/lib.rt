@@ -15,12 +15,12 @@ ghost use Rattle.term_openings.specs.Beginning.{TextBegins, TextEnds, NamesBegin
 ghost use Rattle.term_closings.specs.Branching.{BranchLacks, BranchGiven};
 ghost use Rattle.term_closings.specs.Giving.{AtEntry};
 
-use proof_term::Kind;
+use proof_term::{Form, Node};
 use prop_parts::{NameRead, read_name};
 use prop_reader::read_label;
 use term_openings::closed_for;
 use term_stack::{
-    Entry, Form, Hand, NO_ASCRIPTION, NO_FUNCTION, Part, Progress, Purpose, State, Work,
+    Entry, Hand, NO_ASCRIPTION, NO_FUNCTION, Part, Progress, Purpose, State, Work,
     close_case, close_function, close_let, due, enter, make, over, use_for, waiting,
 };
 use words::{argument_follows, expect};
@@ -61,14 +61,17 @@ fn give_second(
     }
     let end = expect(text, s.at, b")")?;
     let behind = Progress { at: end, ..s };
-    let numbers = [first.root, waiting(s, hand).root, 0, 0, 0];
+    let node = Node::Pair {
+        first: first.root,
+        second: waiting(s, hand).root,
+    };
     let pair = over(
         Form::Closed,
         usize::from(first.nest),
         usize::from(first.tally),
         hand,
     );
-    let made = make(work, behind, Kind::Pair, numbers, pair)?;
+    let made = make(work, behind, node, pair)?;
     use_for(work, made, pair, p)
 }
 
@@ -171,9 +174,7 @@ pub fn give(
     match entry {
         Entry::Bracket(p) => give_bracket(text, work, below, hand, p),
         Entry::Second(p, first) => give_second(text, work, below, hand, p, first),
-        Entry::FunctionBody { name, kind, label } => {
-            close_function(work, below, hand, name, kind, label)
-        }
+        Entry::FunctionBody { name, label } => close_function(work, below, hand, name, label),
         Entry::CaseHead => give_head(text, names, work, below, hand),
         Entry::CaseFirst(head, x) => give_first(text, names, work, below, hand, head, x),
         Entry::CaseSecond(head, x, left, y) => close_case(work, below, hand, head, x, left, y),
@@ -201,17 +202,19 @@ fn ascribe(
         names.new code.new work.new result }
 {
     due(hand, NO_FUNCTION)?;
-    let label = read_label(text, at, types, names, s.count, code, s.to, true)?;
+    let read = read_label(text, at, types, names, s.count, code, s.to, true)?;
     let behind = Progress {
-        at: label.end,
-        count: label.count,
-        to: label.to,
+        at: read.end,
+        count: read.count,
+        to: read.to,
         ..s
     };
-    let root = waiting(s, hand).root;
-    let numbers = [root, 0, label.kind as u16, label.number as u16, 0];
+    let node = Node::TypeAscription {
+        body: waiting(s, hand).root,
+        label: read.label,
+    };
     let whole = over(Form::Ascription, 0, 1, hand);
-    let made = make(work, behind, Kind::TypeAscription, numbers, whole)?;
+    let made = make(work, behind, node, whole)?;
     Some(State::Giving(made, whole))
 }
 

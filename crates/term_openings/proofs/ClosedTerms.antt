@@ -27,13 +27,13 @@ use Rattle.words.proofs.Words.{between_length, sorry_word_lem, other_word}
 use Rattle.atom_reader.proofs.Scopes.{added_one_meets}
 use Rattle.atom_reader.proofs.Atoms.{number_later}
 use Rattle.term_stack.specs.declared.Work.{Work}
-use Rattle.proof_term.specs.declared.nodes.Kind.{Kind}
-use Rattle.proof_term.specs.declared.nodes.Kind.TheVariants as kinds
-use Rattle.proof_term.specs.Views.{kind_number}
+use Rattle.proof_term.specs.declared.nodes.Node.{Node}
+use Rattle.proof_term.specs.declared.nodes.Node.TheVariants as made
 use Rattle.term_stack.specs.declared.Progress.{Progress}
 use Rattle.term_stack.specs.declared.Purpose.{Purpose}
 use Rattle.term_stack.specs.declared.Entry.TheVariants.{Bracket}
 use Rattle.term_stack.specs.declared.State as reader_state
+use Rattle.term_stack.specs.Growing.{node_row}
 use Rattle.term_stack.specs.Numbers.{records_after, entry_after, entry_records, purpose_records, stack_records}
 use Rattle.term_stack.specs.Standing.{Scene, Extends, Placed, left_at}
 use Rattle.term_stack.specs.Using.{Comes, Refuses, Turned, left_after, Leaf}
@@ -115,8 +115,8 @@ module _ {z : Scene} {work : Work} {s : Progress} {q : Purpose} (c : Closed z wo
         (begins_by ms (node ∷ []) (begins_all ms) (simp append_assoc))))
 
     pub name_leaf : {after : List ℕ} {n : Numbered} → NumberOf (between s.at end z.text) z.text z.names s.count after n
-        → Leaf (noting z after z.code) work (further s end n.count s.to) kinds.Ident n.number q
-    unfolding noting standing marks records_after added form term_nesting annotation_count seven
+        → Leaf (noting z after z.code) work (further s end n.count s.to) (made.Ident n.number) q
+    unfolding noting standing marks records_after added form term_nesting annotation_count node_row seven
     name_leaf {n = n} number =
         let x = between s.at end z.text in
         record {
@@ -137,10 +137,10 @@ module _ {z : Scene} {work : Work} {s : Progress} {q : Purpose} (c : Closed z wo
         }
 
   -- a leaf without a name
-  bare_leaf : (t : ProofTerm Name) (kind : Kind) (end : ℕ) → Comes z.types z.text (used c.entries c.purpose (standing false t) (drop end z.text))
-      → s.at ≤ end → end ≤ length z.text → marks t ≡ node ∷ [] → ((number : Name → ℕ) → seven (kind_number kind) 0 0 0 0 0 0 ≡ records_after number before t)
-      → form t ≡ closed → term_nesting t ≡ 1 → annotation_count t ≡ 0 → Leaf z work (further s end s.count s.to) kind 0 q
-  bare_leaf t kind end comes from within marks_are row_is form_is nest_is tally_is = record {
+  bare_leaf : (t : ProofTerm Name) (leaf : Node) (end : ℕ) → Comes z.types z.text (used c.entries c.purpose (standing false t) (drop end z.text))
+      → s.at ≤ end → end ≤ length z.text → marks t ≡ node ∷ [] → ((number : Name → ℕ) → node_row leaf 0 ≡ records_after number before t)
+      → form t ≡ closed → term_nesting t ≡ 1 → annotation_count t ≡ 0 → Leaf z work (further s end s.count s.to) leaf q
+  bare_leaf t leaf end comes from within marks_are row_is form_is nest_is tally_is = record {
     entries = c.entries;
     purpose = c.purpose;
     term = t;
@@ -158,11 +158,11 @@ module _ {z : Scene} {work : Work} {s : Progress} {q : Purpose} (c : Closed z wo
   }
 
   pub sorry_leaf : {end : ℕ} → name (drop s.at z.text) ≡ None → is_sorry (start_of (word (drop s.at z.text)).value) ≡ true
-      → WordEnds z.text s.at end → Leaf z work (further s end s.count s.to) kinds.Sorry 0 q
-  unfolding closed_for marks records_after form term_nesting annotation_count
+      → WordEnds z.text s.at end → Leaf z work (further s end s.count s.to) made.Sorry q
+  unfolding closed_for marks records_after form term_nesting annotation_count node_row
   sorry_leaf {end} no_name is ends =
       let rest : (word (drop s.at z.text)).rest ≡ drop end z.text = ap (λ w. w.rest) ends.is in
-      bare_leaf Sorry kinds.Sorry end (comes_as (reads_else (name (drop s.at z.text)) _ _ c.for.comes no_name) (rw (is, rest))) ends.from ends.within
+      bare_leaf Sorry made.Sorry end (comes_as (reads_else (name (drop s.at z.text)) _ _ c.for.comes no_name) (rw (is, rest))) ends.from ends.within
       refl (λ number. refl) refl refl refl
 
   -- a bracket
@@ -178,10 +178,10 @@ module _ {z : Scene} {work : Work} {s : Progress} {q : Purpose} (c : Closed z wo
       opened_comes : Comes z.types z.text (opening c.entries c.purpose tt (drop inside z.text))
       opened_comes = goes_on (expect (utf8 "(") (drop s.at z.text)) (opening c.entries c.purpose) tt (drop inside z.text) bracket_comes bracket.reads
 
-      pub unit_leaf : {end : ℕ} → Expected (utf8 ")") z.text inside end → Leaf z work (further s end s.count s.to) kinds.Unit 0 q
-      unfolding opening marks records_after form term_nesting annotation_count
+      pub unit_leaf : {end : ℕ} → Expected (utf8 ")") z.text inside end → Leaf z work (further s end s.count s.to) made.Unit q
+      unfolding opening marks records_after form term_nesting annotation_count node_row
       unit_leaf {end} close =
-          bare_leaf Unit kinds.Unit end (reads_on (expect (utf8 ")") (drop inside z.text)) _ _ tt (drop end z.text) opened_comes close.reads)
+          bare_leaf Unit made.Unit end (reads_on (expect (utf8 ")") (drop inside z.text)) _ _ tt (drop end z.text) opened_comes close.reads)
           (let a = bracket.after in let b = close.after in omega (arith, a, b)) close.within refl (λ number. refl) refl refl refl
 
       pub bracket_opens : Opens c.entries (in_bracket c.purpose) z work (further s inside s.count s.to)

@@ -13,35 +13,48 @@ use Rattle.definitions.specs.TermReader as reader
 use Rattle.reading_laws.specs.TermMachine.{Entry, as_head, reading, closed_for, onward, start, turn}
 use Rattle.reading_laws.specs.Marks.{purpose_marks, entries_marks}
 use Rattle.words.specs.declared.Start.{Start}
-use Rattle.words.specs.declared.Start.TheVariants.{Function, Case, Let, Fst, Snd, Inl, Inr, Abort, Sorry, Other}
+use Rattle.words.specs.declared.Start.TheVariants.{Function, Case, Let, Call, Sorry, Other}
+use Rattle.words.specs.declared.NamedFunction as program
+use Rattle.words.specs.declared.NamedFunction.TheVariants.{Fst, Snd, Inl, Inr, Abort}
 use Rattle.words.specs.Places.{between, WordEnds}
-use Rattle.words.specs.Starts.{as_call, as_start}
+use Rattle.words.specs.Starts.{as_named, as_start}
 use Rattle.term_stack.specs.declared.Work.{Work}
 use Rattle.term_stack.specs.declared.Progress.{Progress}
 use Rattle.term_stack.specs.declared.Purpose.TheVariants.{Head}
 use Rattle.term_stack.specs.declared.State as reader_state
 use Rattle.term_stack.specs.Numbers.{purpose_after, purpose_records, stack_records}
-use Rattle.term_stack.specs.Standing.{Scene, ThereIs, AtReading, left_at}
+use Rattle.term_stack.specs.Standing.{Scene, AtReading, left_at}
 use Rattle.term_stack.specs.Using.{Refuses, Turned}
 use Rattle.term_stack.proofs.Stores.{stored_as}
 use Rattle.term_openings.specs.Beginning.{Closed, Started}
 use Rattle.term_openings.proofs.ClosedTerms.{further, ends_within}
 
--- what the program's name for a start means
+-- what the program's names for a function and for a start mean
+unfoldable pub function_meant : program.NamedFunction → NamedFunction
+function_meant Fst = fst
+function_meant Snd = snd
+function_meant Inl = inl
+function_meant Inr = inr
+function_meant Abort = abort
+
 unfoldable pub meant : Start → reader.Start
 meant Function = fn_word
 meant Case = case_word
 meant Let = let_word
-meant Fst = call_word fst
-meant Snd = call_word snd
-meant Inl = call_word inl
-meant Inr = call_word inr
-meant Abort = call_word abort
+meant (Call f) = call_word (function_meant f)
 meant Sorry = sorry_word
 meant Other = no_word
 
+pub function_is : (f : program.NamedFunction) → f ≡ as_named (function_meant f)
+unfolding function_meant as_named
+function_is Fst = refl
+function_is Snd = refl
+function_is Inl = refl
+function_is Inr = refl
+function_is Abort = refl
+
 meant_back : (w : reader.Start) → meant (as_start w) ≡ w
-unfolding meant as_start as_call
+unfolding meant function_meant as_start as_named
 meant_back fn_word = refl
 meant_back case_word = refl
 meant_back let_word = refl
@@ -61,25 +74,6 @@ head_word : (types : List Name) (k : List Entry) (whole rest : List ℕ) (r : St
     → start types k (meant r) whole rest ≡ closed_for k as_head whole
 unfolding meant start
 head_word types k whole rest r h = ⊎_elim (λ e. rw e refl) (λ e. rw e refl) h
-
--- a start that calls a named function
-pub record Calls (r : Start) (f : NamedFunction) : Type 0 where
-  pub means : meant r ≡ call_word f
-  pub is : r ≡ as_call f
-
--- each does but for these five
-pub call_word_lem : (r : Start) → (r ≡ Function → ⊥) → (r ≡ Case → ⊥) → (r ≡ Let → ⊥) → (r ≡ Sorry → ⊥) → (r ≡ Other → ⊥) → ThereIs (Calls r)
-unfolding meant as_call
-call_word_lem Fst _ _ _ _ _ = record { value = fst; holds = record { means = refl; is = refl } }
-call_word_lem Snd _ _ _ _ _ = record { value = snd; holds = record { means = refl; is = refl } }
-call_word_lem Inl _ _ _ _ _ = record { value = inl; holds = record { means = refl; is = refl } }
-call_word_lem Inr _ _ _ _ _ = record { value = inr; holds = record { means = refl; is = refl } }
-call_word_lem Abort _ _ _ _ _ = record { value = abort; holds = record { means = refl; is = refl } }
-call_word_lem Function h _ _ _ _ = absurd (h refl)
-call_word_lem Case _ h _ _ _ = absurd (h refl)
-call_word_lem Let _ _ h _ _ = absurd (h refl)
-call_word_lem Sorry _ _ _ h _ = absurd (h refl)
-call_word_lem Other _ _ _ _ h = absurd (h refl)
 
 module _ {z : Scene} {work : Work} {s : Progress} {end : ℕ} {r : Start} (at : AtReading z work s) (ends : WordEnds z.text s.at end)
     (is : r ≡ as_start (start_of (between s.at end z.text))) where

@@ -23,7 +23,7 @@ use Rattle.atom_reader.specs.Scope.{Crowded}
 use Rattle.atom_reader.proofs.Readings.{gives_any, gives_from}
 use Rattle.term_stack.specs.declared.Entry as stacked
 use Rattle.term_stack.specs.declared.Work.{Work}
-use Rattle.proof_term.specs.declared.nodes.Kind.{Kind}
+use Rattle.words.specs.declared.NamedFunction as program
 use Rattle.term_stack.specs.declared.Progress.{Progress}
 use Rattle.term_stack.specs.declared.Purpose.TheVariants.{Body}
 use Rattle.term_stack.specs.declared.Entry.TheVariants.{CaseHead, LetHead}
@@ -64,22 +64,22 @@ module _ {z : Scene} {work : Work} {s : Progress} (c : Started case_word z work 
     }
 
 -- The body of a named function.
-module _ {z : Scene} {work : Work} {s : Progress} {kind : Kind} (c : AtCall kind z work s) where
+module _ {z : Scene} {work : Work} {s : Progress} {function : program.NamedFunction} (c : AtCall function z work s) where
   pub body_not : expect (utf8 " ") (drop s.at z.text) ≡ None → Refuses z
   unfolding start
   body_not e = ends_here (expect (utf8 " ") (drop s.at z.text)) _ c.started.comes e
 
   pub body_closed : {body : ℕ} → Expected (utf8 " ") z.text s.at body
-      → Closed z work (further s body s.count s.to) (Body kind)
+      → Closed z work (further s body s.count s.to) (Body function)
   unfolding start purpose_marks purpose_records purpose_after
   body_closed {body} blank = let t = c.started in record {
     entries = t.entries;
-    purpose = as_body c.function;
+    purpose = as_body c.meant;
     for = record {
       comes = goes_on (expect (utf8 " ") (drop s.at z.text)) _ tt (drop body z.text) t.comes blank.reads;
       placed = record { within = blank.within; near = let n = t.placed.near in let a = blank.after in omega (arith, n, a) };
       deep = t.deep;
-      purpose_is = ap Body c.kind_is;
+      purpose_is = ap Body c.is;
       stored = stored_as t.stored (sym (append-nil (entries_marks t.entries))) (λ number. sym (append-nil (stack_records number t.entries)));
     };
   }

@@ -1,5 +1,5 @@
 -- A function: its parameter, the label of it, and then an entry for the body.
-use Prim.Native.Nat.{ℕ, ◌<◌, ◌≤◌}
+use Prim.Native.Nat.{ℕ, ◌<◌}
 use mathlib.Core.Path.{◌≡◌, refl, sym, ap, ◌∙◌}
 use mathlib.Core.Bool.{true, false, true≢false}
 use Rattle.std.specs.Prelude.{Option, None, Some}
@@ -8,10 +8,10 @@ use native.Mathlib.Omega.{arith}
 use lib.ListN.{drop}
 use Rattle.definitions.specs.Utf8.{utf8}
 use Rattle.definitions.specs.Name.{Name}
-use Rattle.definitions.specs.Term.{Label, proposition, datatype}
+use Rattle.definitions.specs.Term.{Label}
 use Rattle.definitions.specs.TermText.{label_names, parameter_label_names}
 use Rattle.definitions.specs.TermReader.{fn_word, name, expect, parameter_label, prop_levels, is_limited_parameter_label}
-use Rattle.definitions.specs.TermMemory.{parameter_labels, label_kind, parameter_label_kind, parameter_label_number}
+use Rattle.definitions.specs.TermMemory.{parameter_labels}
 use Rattle.definitions.proofs.Readings.{given}
 use Rattle.reading_laws.specs.TermMachine.{Entry, function_body, State, reading, and_then, start}
 use Rattle.reading_laws.specs.Marks.{Mark, called, labelled, label_marks, entry_marks, entries_marks, met, nodes_met, names_met, limited_met}
@@ -22,13 +22,14 @@ use Rattle.words.specs.Places.{Expected}
 use Rattle.words.specs.Table.{added, table_names}
 use Rattle.prop_parts.specs.declared.NameRead.{NameRead}
 use Rattle.atom_reader.proofs.Readings.{gives_any, gives_from}
+use Rattle.proof_term.specs.declared.nodes.Label as numbered
 use Rattle.prop_reader.specs.declared.LabelRead.{LabelRead}
 use Rattle.prop_reader.specs.Answer.{LabelBegins}
 use Rattle.term_stack.specs.declared.Entry as stacked
 use Rattle.term_stack.specs.declared.Work.{Work}
 use Rattle.term_stack.specs.declared.Progress.{Progress}
 use Rattle.term_stack.specs.declared.Entry.TheVariants.{FunctionBody}
-use Rattle.term_stack.specs.Numbers.{labels_met, code_met, entry_after, entry_records, stack_of, stack_records}
+use Rattle.term_stack.specs.Numbers.{labels_met, code_met, entry_after, entry_records, numbered_parameter, stack_of, stack_records}
 use Rattle.term_stack.specs.Standing.{Scene, ThereIs, Stored}
 use Rattle.term_stack.specs.Using.{Comes, Refuses}
 use Rattle.term_stack.proofs.Coming.{unfit, goes_on, ends_here}
@@ -63,15 +64,9 @@ unfolding label_marks limited_met is_limited_parameter_label
 marks_limited None h = refl
 marks_limited (Some l) h = both h refl
 
-pub label_kinds : (l : Option (Label Name)) → parameter_label_kind l ≤ 2
-unfolding parameter_label_kind label_kind
-label_kinds None = omega arith
-label_kinds (Some (proposition p)) = omega arith
-label_kinds (Some (datatype t)) = omega arith
-
 -- what is stored with it
 stored_label : {ms : List Mark} {records : (Name → ℕ) → List ℕ} {stack : (Name → ℕ) → List stacked.Entry} {z : Scene} {work : Work} {used depth count to at : ℕ} {types : List Name}
-    {after code : List ℕ} {r : LabelRead} {l : Option (Label Name)} → Stored ms records stack z work used depth count to
+    {after code : List ℕ} {r : LabelRead (Option numbered.Label)} {l : Option (Label Name)} → Stored ms records stack z work used depth count to
     → ParameterGiven z.text at types z.names count z.code to after code r l
     → Stored (ms ++ label_marks l) records stack (noting z after code) work used depth r.count r.to
 unfolding code_met
@@ -140,7 +135,7 @@ module _ {z : Scene} {work : Work} {s : Progress} (c : Started fn_word z work s)
         unfit_parameter with_name l (lacks l rest there) c.entries (function_body x l) s₁
         (sym (append_assoc (entries_marks c.entries) (called x ∷ []) (label_marks l))))
 
-    module _ {after' code' : List ℕ} {label : LabelRead}
+    module _ {after' code' : List ℕ} {label : LabelRead (Option numbered.Label)}
         (two : ThereIs (ParameterGiven z.text named.end z.types after named.count z.code s.to after' code' label)) where
       abbrev l : Option (Label Name)
       l = two.value
@@ -165,7 +160,7 @@ module _ {z : Scene} {work : Work} {s : Progress} (c : Started fn_word z work s)
             let f = one.holds.from in let g = two.holds.from in let a = arrow.after in omega (arith, f, g, a)
 
         pub function_opens : Opens c.entries (function_body x l) (noting z after' code') work (further s body label.count label.to)
-            (FunctionBody named.number label.kind label.number)
+            (FunctionBody named.number label.label)
         unfolding noting entry_marks entry_records entry_after
         function_opens =
             let k = entries_marks c.entries in
@@ -186,7 +181,7 @@ module _ {z : Scene} {work : Work} {s : Progress} (c : Started fn_word z work s)
                   let a = number_noted x (table_names z.names z.text s.count) (parameter_label_names l) _ number
                   (twice.noted.names ∙ ap (λ seen. added seen (parameter_label_names l)) once.noted.names) once.number_is e in
                   let to_is : s.to ≡ code_met (k ++ (called x ∷ [])) = c.stored.to_is ∙ sym (code_called k x) in
-                  let b : label.number ≡ parameter_label_number number (code_met (k ++ (called x ∷ []))) l =
-                  twice.number_is number e ∙ ap (λ to. parameter_label_number number to l) to_is in
-                  cc (a, b, twice.kind_is);
+                  let b : label.label ≡ numbered_parameter number (code_met (k ++ (called x ∷ []))) l =
+                  twice.label_is number e ∙ ap (λ to. numbered_parameter number to l) to_is in
+                  cc (a, b);
             }

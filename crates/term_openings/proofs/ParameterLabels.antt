@@ -2,7 +2,7 @@
 use Prim.Native.Nat.{ℕ}
 use mathlib.Core.Path.{◌≡◌, refl, ap}
 use mathlib.Core.Bool.{true, false}
-use Rattle.std.specs.Prelude.{Option, None, Some, MatchOption}
+use Rattle.std.specs.Prelude.{Option, None, Some}
 use mathlib.Core.List.{List}
 use native.Mathlib.Omega.{arith}
 use lib.ListN.{drop}
@@ -12,16 +12,18 @@ use Rattle.definitions.specs.Code.{Read, yield, followed_by, ◌>>=◌}
 use Rattle.definitions.specs.Term.{Label}
 use Rattle.definitions.specs.TermText.{parameter_label_names}
 use Rattle.definitions.specs.TermReader.{expect, if_read, label, parameter_label, prop_levels, is_limited_parameter_label}
-use Rattle.definitions.specs.TermMemory.{parameter_labels, labels_size, parameter_label_kind, parameter_label_number, store_labels}
+use Rattle.definitions.specs.TermMemory.{parameter_labels, labels_size, store_labels}
 use Rattle.definitions.proofs.Readings.{given}
 use Rattle.words.specs.Places.{Expected}
 use Rattle.words.specs.Table.{table_names}
 use Rattle.atom_reader.proofs.Atoms.{noted_none}
+use Rattle.proof_term.specs.declared.nodes.Label as numbered
 use Rattle.prop_reader.specs.declared.LabelRead.{LabelRead}
 use Rattle.prop_reader.specs.Answer.{LabelBegins, LabelAnswer}
+use Rattle.term_stack.specs.Numbers.{numbered_parameter}
 use Rattle.term_stack.specs.Standing.{ThereIs}
 use Rattle.term_openings.specs.Parameters.{fits_parameter, ParameterLacks, ParameterGiven}
-use Rattle.term_openings.proofs.StoredLabels.{label_limited, label_kind_lem, label_to, label_small, label_number_lem, label_stored}
+use Rattle.term_openings.proofs.StoredLabels.{label_limited, label_to, label_is, label_stored}
 use Rattle.std.proofs.lemmas.Option.{same_Some}
 use Rattle.std.proofs.lemmas.Option.{none-some}
 
@@ -47,8 +49,8 @@ label_begins colon begins = record {
 
 module _ {text : List ℕ} {at : ℕ} {types : List Name} {pairs : List ℕ} {count : ℕ} {code : List ℕ} {to : ℕ} (begins : LabelBegins text at pairs count to) where
   pub no_label : expect (utf8 ": ") (drop at text) ≡ None
-      → ThereIs (ParameterGiven text at types pairs count code to pairs code (record { end = at; kind = 0; number = 0; count = count; to = to }))
-  unfolding parameter_label if_read yield is_limited_parameter_label parameter_label_names parameter_labels parameter_label_kind parameter_label_number labels_size store_labels
+      → ThereIs (ParameterGiven text at types pairs count code to pairs code (record { end = at; label = None; count = count; to = to }))
+  unfolding parameter_label if_read yield is_limited_parameter_label parameter_label_names parameter_labels numbered_parameter labels_size store_labels
   no_label e = record {
     value = None;
     holds = record {
@@ -56,41 +58,40 @@ module _ {text : List ℕ} {at : ℕ} {types : List Name} {pairs : List ℕ} {co
       reads = rw e;
       limited = refl;
       noted = noted_none begins.table;
-      kind_is = refl;
-      number_is = λ number e. refl;
+      label_is = λ number e. refl;
       stored = λ number e. refl;
       to_is = omega arith;
-      small = omega arith;
       from = omega arith;
       near = omega arith;
     };
   }
 
-  pub some_label : {place : ℕ} {after code' : List ℕ} (r : Option LabelRead) → Expected (utf8 ": ") text at place
-      → LabelAnswer text place types pairs count code to true after code' r
-      → MatchOption r (ParameterLacks text at types pairs count) (λ r. ThereIs (ParameterGiven text at types pairs count code to after code' r))
-  unfolding parameter_label if_read ◌>>=◌ followed_by yield is_limited_parameter_label parameter_label_names parameter_labels parameter_label_kind parameter_label_number fits_parameter
-  some_label {place} None colon answer = λ l rest e.
-      behind_colon (label types prop_levels (drop place text)) l rest (λ m. fits_parameter (table_names pairs text count) m ≡ false) answer.answer
-      (rw colon.reads at e)
-  some_label (Some r) colon answer =
-      let (l, g) = answer.answer in
-      let a = colon.after in
-      let f = g.from in
-      let n = g.near in
-      record {
-        value = Some l;
-        holds = record {
-          within = g.within;
-          reads = rw colon.reads (ap (λ m. followed_by m (λ l. yield (Some l))) g.reads);
-          limited = label_limited g;
-          noted = g.noted;
-          kind_is = label_kind_lem g;
-          number_is = λ number e. label_number_lem g number e;
-          stored = λ number e. label_stored g number e;
-          to_is = label_to g;
-          small = label_small g (label_begins colon begins) g.within;
-          from = omega (arith, a, f);
-          near = omega (arith, a, n);
-        };
-      }
+  module _ {place : ℕ} {after code' : List ℕ} (colon : Expected (utf8 ": ") text at place) where
+    pub label_lacks : LabelAnswer text place types pairs count code to true after code' None → ParameterLacks text at types pairs count
+    unfolding parameter_label if_read ◌>>=◌ fits_parameter
+    label_lacks answer = λ l rest e.
+        behind_colon (label types prop_levels (drop place text)) l rest (λ m. fits_parameter (table_names pairs text count) m ≡ false) answer.answer
+        (rw colon.reads at e)
+
+    pub some_label : {r : LabelRead numbered.Label} → LabelAnswer text place types pairs count code to true after code' (Some r)
+        → ThereIs (ParameterGiven text at types pairs count code to after code' (record { end = r.end; label = Some r.label; count = r.count; to = r.to }))
+    unfolding parameter_label if_read ◌>>=◌ followed_by yield is_limited_parameter_label parameter_label_names parameter_labels numbered_parameter
+    some_label answer =
+        let (l, g) = answer.answer in
+        let a = colon.after in
+        let f = g.from in
+        let n = g.near in
+        record {
+          value = Some l;
+          holds = record {
+            within = g.within;
+            reads = rw colon.reads (ap (λ m. followed_by m (λ l. yield (Some l))) g.reads);
+            limited = label_limited g;
+            noted = g.noted;
+            label_is = λ number e. ap Some (label_is g number e);
+            stored = λ number e. label_stored g number e;
+            to_is = label_to g;
+            from = omega (arith, a, f);
+            near = omega (arith, a, n);
+          };
+        }

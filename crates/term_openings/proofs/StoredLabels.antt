@@ -1,7 +1,7 @@
 -- A label that was read is stored as the memory asks; and with a label past the limits there is no term.
-use Prim.Native.Nat.{ℕ, suc, ◌+◌, ◌<◌, ◌≤◌}
+use Prim.Native.Nat.{ℕ, ◌+◌}
 use mathlib.Core.Path.{◌≡◌, refl, sym, ap, ◌∙◌}
-use mathlib.Core.Bool.{Bool, true, false, ◌&&◌, cond, true≢false, and-eq-true_iff}
+use mathlib.Core.Bool.{Bool, true, false, ◌&&◌, true≢false, and-eq-true_iff}
 use mathlib.Core.List.{List, [], ◌∷◌, ◌++◌, map, append-nil}
 use native.Mathlib.Omega.{arith}
 use lib.ListN.{length}
@@ -14,24 +14,26 @@ use Rattle.definitions.specs.Code.{encode}
 use Rattle.definitions.specs.Sheet.{name_limit}
 use Rattle.definitions.specs.Text.{occurs}
 use Rattle.definitions.specs.Term.{Label, proposition, datatype}
-use Rattle.definitions.specs.TermText.{term_text_limit, prop_names, label_names}
+use Rattle.definitions.specs.TermText.{prop_names, label_names}
 use Rattle.definitions.specs.TermReader.{is_limited_label}
-use Rattle.definitions.specs.TermMemory.{label_size, labels_size, label_kind, label_number, store_label, store_labels}
+use Rattle.definitions.specs.TermMemory.{label_size, labels_size, store_label, store_labels}
 use Rattle.reading_laws.specs.TermMachine.{State}
 use Rattle.reading_laws.specs.Marks.{Mark, called, labelled, node, names_met, limited_met}
 use Rattle.reading_laws.proofs.MarksMet.{After}
 use Rattle.reading_laws.proofs.OnTheWay.{Fits, limited_first}
 use Rattle.output.specs.Wrote.{puts}
 use Rattle.words.specs.Table.{added, number_in, table_names}
-use Rattle.words.proofs.Numbers.{names_length}
 use Rattle.atom_reader.specs.Scope.{Met}
 use Rattle.atom_reader.specs.Reading.{code_over}
 use Rattle.atom_reader.proofs.Scopes.{met_append, added_meets}
+use Rattle.proof_term.specs.declared.nodes.Label as numbered
+use Rattle.proof_term.specs.declared.nodes.Label.TheVariants.{Datatype}
 use Rattle.prop_reader.specs.declared.LabelRead.{LabelRead}
 use Rattle.prop_reader.specs.Limits.{fits_label}
-use Rattle.prop_reader.specs.Answer.{LabelBegins, LabelKept, of_proposition, of_datatype, LabelGiven}
+use Rattle.prop_reader.specs.Answer.{LabelKept, of_proposition, of_datatype, LabelGiven}
 use Rattle.term_stack.specs.declared.Entry as stacked
 use Rattle.term_stack.specs.declared.Work.{Work}
+use Rattle.term_stack.specs.Numbers.{numbered_label}
 use Rattle.term_stack.specs.Standing.{Scene, Extends, Stored}
 use Rattle.term_openings.proofs.Noting.{crowded_met, too_many_names}
 
@@ -57,70 +59,41 @@ module _ (f g : Name → ℕ) (seen : List Name) (agree : (x : Name) → occurs 
   same_prop (Atom a ps) h = rw (agree a h.0, same_parameters ps h.1)
   same_prop (Quantified q x t p) h = rw (agree x h.0, agree t h.1.0, same_prop p h.1.1)
 
--- no number passes the count of the names
-number_within : (seen : List Name) (x : Name) → number_in seen x ≤ length seen
-unfolding number_in
-number_within [] x = omega arith
-number_within (y ∷ seen) x = go (occurs eq_name x seen) (number_within seen x)
-  where
-    go : (t : Bool) → number_in seen x ≤ length seen → cond t (number_in seen x) (length seen) ≤ suc (length seen)
-    go true h = omega (arith, h)
-    go false h = omega arith
-
 -- What is kept of a label is what the memory asks.
-module _ {seen : List Name} {code : List ℕ} {to : ℕ} {code' : List ℕ} {r : LabelRead} where
-  kept_kind : (l : Label Name) → LabelKept seen code to true code' r l → r.kind ≡ label_kind l
-  unfolding label_kind
-  kept_kind (proposition p) (of_proposition kind number stored next) = kind
-  kept_kind (datatype t) (of_datatype kind number stored next) = kind
-
+module _ {seen : List Name} {code : List ℕ} {to : ℕ} {code' : List ℕ} {r : LabelRead numbered.Label} where
   kept_to : (l : Label Name) → LabelKept seen code to true code' r l → r.to ≡ to + labels_size (l ∷ [])
   unfolding label_size labels_size
-  kept_to (proposition p) (of_proposition kind number stored next) = omega (arith, next)
-  kept_to (datatype t) (of_datatype kind number stored next) = omega (arith, next)
-
-  kept_small : (l : Label Name) → LabelKept seen code to true code' r l → to < 131072 → length seen ≤ name_limit → r.number < 65536
-  unfolding name_limit
-  kept_small (proposition p) (of_proposition kind number stored next) h few = omega (arith, number, h)
-  kept_small (datatype t) (of_datatype kind number stored next) h few = omega (arith, number, number_within seen t, few)
+  kept_to (proposition p) (of_proposition is stored next) = omega (arith, next)
+  kept_to (datatype t) (of_datatype is stored next) = omega (arith, next)
 
   module _ (number : Name → ℕ) (extends : Extends number seen) where
-    kept_number : (l : Label Name) → LabelKept seen code to true code' r l → Met seen (label_names l) → r.number ≡ label_number number to l
-    unfolding label_number label_names Met
-    kept_number (proposition p) (of_proposition kind is stored next) known = is
-    kept_number (datatype t) (of_datatype kind is stored next) known = is ∙ sym (extends t known.0)
+    kept_label : (l : Label Name) → LabelKept seen code to true code' r l → Met seen (label_names l) → r.label ≡ numbered_label number to l
+    unfolding numbered_label label_names Met
+    kept_label (proposition p) (of_proposition is stored next) known = is
+    kept_label (datatype t) (of_datatype is stored next) known = is ∙ ap Datatype (sym (extends t known.0))
 
     kept_code : (l : Label Name) → LabelKept seen code to true code' r l → Met seen (label_names l) → code' ≡ store_labels number to (l ∷ []) code
     unfolding store_label store_labels label_names puts code_over
-    kept_code (proposition p) (of_proposition kind is stored next) known =
+    kept_code (proposition p) (of_proposition is stored next) known =
         stored ∙ ap (λ q. sets code to (encode q)) (sym (same_prop number (number_in seen) seen extends p known))
-    kept_code (datatype t) (of_datatype kind is stored next) known = stored
+    kept_code (datatype t) (of_datatype is stored next) known = stored
 
-module _ {text : List ℕ} {at : ℕ} {types : List Name} {pairs : List ℕ} {count : ℕ} {code : List ℕ} {to : ℕ} {after code' : List ℕ} {r : LabelRead}
+module _ {text : List ℕ} {at : ℕ} {types : List Name} {pairs : List ℕ} {count : ℕ} {code : List ℕ} {to : ℕ} {after code' : List ℕ} {r : LabelRead numbered.Label}
     {l : Label Name} (g : LabelGiven text at types pairs count code to true after code' r l) where
   pub label_limited : is_limited_label l ≡ true
   unfolding fits_label
   label_limited = ((and-eq-true_iff (is_limited_label l) (leb (length (added (table_names pairs text count) (label_names l))) name_limit)).0 g.fits).0
 
-  pub label_kind_lem : r.kind ≡ label_kind l
-  label_kind_lem = kept_kind l g.kept
-
   pub label_to : r.to ≡ to + labels_size (l ∷ [])
   label_to = kept_to l g.kept
-
-  pub label_small : LabelBegins text at pairs count to → r.end ≤ length text → r.number < 65536
-  unfolding term_text_limit
-  label_small begins h =
-      let long = names_length after text r.count in
-      kept_small l g.kept (let f = g.from in let s = begins.short in let n = begins.near in omega (arith, f, s, n, h)) (let few = g.noted.table.few in omega (arith, long, few))
 
   -- each of its names was met
   label_met : Met (table_names after text r.count) (label_names l)
   label_met = rw g.noted.names (added_meets (table_names pairs text count) (label_names l))
 
   module _ (number : Name → ℕ) (extends : Extends number (table_names after text r.count)) where
-    pub label_number_lem : r.number ≡ label_number number to l
-    label_number_lem = kept_number number extends l g.kept label_met
+    pub label_is : r.label ≡ numbered_label number to l
+    label_is = kept_label number extends l g.kept label_met
 
     pub label_stored : code' ≡ store_labels number to (l ∷ []) code
     label_stored = kept_code number extends l g.kept label_met

@@ -9,12 +9,13 @@ use Rattle.reading_laws.specs.TermMachine.{Entry, closed_for, start}
 use Rattle.reading_laws.specs.Marks.{purpose_marks, entries_marks}
 use Rattle.words.specs.Table.{add_name, number_in, table_names, TooMany, Noted}
 use Rattle.prop_parts.specs.declared.NameRead as reader
-use Rattle.proof_term.specs.declared.nodes.Kind.{Kind}
+use Rattle.words.specs.declared.NamedFunction as program
+use Rattle.words.specs.Starts.{as_named}
 use Rattle.term_stack.specs.declared.Progress.{Progress}
 use Rattle.term_stack.specs.declared.Purpose.{Purpose}
 use Rattle.term_stack.specs.declared.State.{State}
 use Rattle.term_stack.specs.declared.Work.{Work}
-use Rattle.term_stack.specs.Numbers.{as_kind, purpose_after, purpose_records, stack_of, stack_records}
+use Rattle.term_stack.specs.Numbers.{purpose_after, purpose_records, stack_of, stack_records}
 use Rattle.term_stack.specs.Standing.{Scene, ThereIs, Stored, Placed, left_at}
 use Rattle.term_stack.specs.Turning.{Standpoint}
 use Rattle.term_stack.specs.Using.{Comes, Refuses, Turned}
@@ -52,11 +53,11 @@ pub record Started (first : Start) (z : Scene) (work : Work) (s : Progress) : Ty
   pub stored :
       Stored (entries_marks entries) (λ number. stack_records number entries) (λ number. stack_of number entries) z work s.used s.depth s.count s.to
 
--- the first word is that of a named function, whose records are of this kind
-pub record AtCall (kind : Kind) (z : Scene) (work : Work) (s : Progress) : Type 0 where
-  pub function : NamedFunction
-  pub kind_is : kind ≡ as_kind function
-  pub started : Started (call_word function) z work s
+-- the first word is that of a named function
+pub record AtCall (function : program.NamedFunction) (z : Scene) (work : Work) (s : Progress) : Type 0 where
+  pub meant : NamedFunction
+  pub is : function ≡ as_named meant
+  pub started : Started (call_word meant) z work s
 
 -- the name after these bytes, with its number
 pub record NameThere (what text : List ℕ) (at : ℕ) (pairs : List ℕ) (count : ℕ) (after : List ℕ) (r : reader.NameRead) (x : Name) : Type 0 where

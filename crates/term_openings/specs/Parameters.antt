@@ -1,14 +1,16 @@
 -- The label of a function's parameter, if one follows its name.
-use Rattle.std.specs.Prelude.{ℕ, ◌+◌, ◌*◌, ◌<◌, ◌≤◌, ◌≡◌, Bool, true, false, List, length, drop, Option, None, Some}
+use Rattle.std.specs.Prelude.{ℕ, ◌+◌, ◌*◌, ◌≤◌, ◌≡◌, Bool, true, false, List, length, drop, Option, None, Some}
 use Rattle.definitions.specs.Name.{Name}
 use Rattle.definitions.specs.Term.{Label}
 use Rattle.definitions.specs.TermText.{parameter_label_names}
 use Rattle.definitions.specs.TermReader.{parameter_label, prop_levels, is_limited_parameter_label}
-use Rattle.definitions.specs.TermMemory.{parameter_labels, labels_size, parameter_label_kind, parameter_label_number, store_labels}
+use Rattle.definitions.specs.TermMemory.{parameter_labels, labels_size, store_labels}
 use Rattle.definitions.proofs.Readings.{given}
 use Rattle.words.specs.Table.{table_names, Noted}
+use Rattle.proof_term.specs.declared.nodes.Label as numbered
 use Rattle.prop_reader.specs.declared.LabelRead.{LabelRead}
 use Rattle.prop_reader.specs.Limits.{fits_label}
+use Rattle.term_stack.specs.Numbers.{numbered_parameter}
 use Rattle.term_stack.specs.Standing.{Extends}
 
 unfoldable pub fits_parameter : List Name → Option (Label Name) → Bool
@@ -17,17 +19,15 @@ fits_parameter seen (Some l) = fits_label seen l
 
 -- the label that was read, or none, and what became of the names and the code
 pub record ParameterGiven
-    (text : List ℕ) (at : ℕ) (types : List Name) (pairs : List ℕ) (count : ℕ) (code : List ℕ) (to : ℕ) (after code' : List ℕ) (r : LabelRead)
-    (l : Option (Label Name)) : Type 0 where
+    (text : List ℕ) (at : ℕ) (types : List Name) (pairs : List ℕ) (count : ℕ) (code : List ℕ) (to : ℕ) (after code' : List ℕ)
+    (r : LabelRead (Option numbered.Label)) (l : Option (Label Name)) : Type 0 where
   pub within : r.end ≤ length text
   pub reads : parameter_label types prop_levels (drop at text) ≡ given l (drop r.end text)
   pub limited : is_limited_parameter_label l ≡ true
   pub noted : Noted (parameter_label_names l) text pairs count after r.count
-  pub kind_is : r.kind ≡ parameter_label_kind l
-  pub number_is : (number : Name → ℕ) → Extends number (table_names after text r.count) → r.number ≡ parameter_label_number number to l
+  pub label_is : (number : Name → ℕ) → Extends number (table_names after text r.count) → r.label ≡ numbered_parameter number to l
   pub stored : (number : Name → ℕ) → Extends number (table_names after text r.count) → code' ≡ store_labels number to (parameter_labels l) code
   pub to_is : r.to ≡ to + labels_size (parameter_labels l)
-  pub small : r.number < 65536
   pub from : at ≤ r.end
   pub near : r.to + 2 * at ≤ to + 2 * r.end
 

@@ -1,26 +1,23 @@
 // What a turn of the reader of terms does before a term: a word, a name, a bracket that opens.
 #![tactic(auto)]
 
-ghost use Rattle.std.specs.Prelude.{◌≡◌, ◌≤◌, length, Option, MatchOption};
+ghost use Rattle.std.specs.Prelude.{◌≤◌, length, MatchOption};
 ghost use Rattle.definitions.specs.CallerNames.{names_in};
-ghost use Rattle.definitions.specs.Term.{NamedFunction};
 ghost use Rattle.definitions.specs.TermReader.{fn_word, case_word, let_word};
 ghost use Rattle.definitions.specs.TermText.{term_text_limit};
 ghost use Rattle.words.specs.Places.{NameEnds};
-ghost use Rattle.words.specs.Starts.{as_call};
 ghost use Rattle.words.specs.Table.{Table};
 ghost use Rattle.prop_reader.specs.Answer.{LabelBegins};
-ghost use Rattle.term_stack.specs.Numbers.{as_kind};
 ghost use Rattle.term_stack.specs.Standing.{ThereIs, AtReading};
 ghost use Rattle.term_stack.specs.Turning.{TurnBegins, TurnEnds};
 ghost use Rattle.term_openings.specs.Beginning.{AtClosed, Wordless, Started, AtCall, NameLacksAfter, NameThere, TextBegins, TextEnds, NamesBegin, NamesEnd};
 ghost use Rattle.term_openings.specs.Parameters.{ParameterLacks, ParameterGiven};
 
-use proof_term::{Kind, NO_LABEL};
+use proof_term::{Label, Node};
 use prop_parts::{NameRead, read_name};
 use prop_reader::{LabelRead, read_label};
 use term_stack::{Entry, Progress, Purpose, State, Work, enter, use_leaf};
-use words::{Start, expect, name_end, number_of_name, start_of, word_end};
+use words::{NamedFunction, Start, expect, name_end, number_of_name, start_of, word_end};
 
 // Each function is lent the memories that it reads or writes and no others, so that its contract says of the others that they stay: over
 // a struct of text, list, names, code and work every clause would speak of all five. What a function asks of them together, as
@@ -46,7 +43,10 @@ fn name_for(
         count: name.count,
         ..s
     };
-    use_leaf(work, behind, Kind::Ident, name.number as u16, p)
+    let leaf = Node::Ident {
+        name: name.number as u16,
+    };
+    use_leaf(work, behind, leaf, p)
 }
 
 // A bracket that opens, read for a purpose: unit where it closes at once, or else an entry for what stands in it.
@@ -57,7 +57,7 @@ fn open_for(text: &[u8], work: &mut Work, s: Progress, p: Purpose) -> Option<Sta
     let inside = expect(text, s.at, b"(")?;
     if let Some(end) = expect(text, inside, b")") {
         let behind = Progress { at: end, ..s };
-        return use_leaf(work, behind, Kind::Unit, 0, p);
+        return use_leaf(work, behind, Node::Unit, p);
     }
     let behind = Progress { at: inside, ..s };
     enter(work, behind, Entry::Bracket(p))
@@ -81,7 +81,7 @@ pub fn closed_for(
     let end = word_end(text, s.at);
     if &text[s.at..end] == b"sorry".as_slice() {
         let behind = Progress { at: end, ..s };
-        return use_leaf(work, behind, Kind::Sorry, 0, p);
+        return use_leaf(work, behind, Node::Sorry, p);
     }
     open_for(text, work, s, p)
 }
@@ -95,16 +95,22 @@ fn start_case(text: &[u8], work: &mut Work, s: Progress) -> Option<State>
     enter(work, Progress { at: head, ..s }, Entry::CaseHead)
 }
 
-// After the word of a named function, whose records are of this kind: a blank, and then the body, a closed term. It shares with
-// `start_case` the line for the blank alone.
-fn call(text: &[u8], names: &mut [u8], work: &mut Work, s: Progress, kind: Kind) -> Option<State>
-    requires { NamesBegin (AtCall kind) text.now names.old work.old s }
-    ensures { NamesEnd (AtCall kind) 0 text.now names.old work.old s
+// After the word of a named function: a blank, and then the body, a closed term. It shares with `start_case` the line for the blank
+// alone.
+fn call(
+    text: &[u8],
+    names: &mut [u8],
+    work: &mut Work,
+    s: Progress,
+    function: NamedFunction,
+) -> Option<State>
+    requires { NamesBegin (AtCall function) text.now names.old work.old s }
+    ensures { NamesEnd (AtCall function) 0 text.now names.old work.old s
         names.new work.new result }
 {
     let body = expect(text, s.at, b" ")?;
     let behind = Progress { at: body, ..s };
-    closed_for(text, names, work, behind, Purpose::Body(kind))
+    closed_for(text, names, work, behind, Purpose::Body(function))
 }
 
 // The name after these bytes at `at`, with its number. The names and their count are two parameters, as in `words`, whose fact `Table`
@@ -152,22 +158,27 @@ fn parameter_label(
     count: usize,
     code: &mut [u8],
     to: usize,
-) -> Option<LabelRead>
+) -> Option<LabelRead<Option<Label>>>
     requires { LabelBegins text.now at names.old count to }
     ensures { MatchOption result (ParameterLacks text.now at (names_in types.now) names.old count)
         (λ r. ThereIs (ParameterGiven text.now at (names_in types.now) names.old count
         code.old to names.new code.new r)) }
 {
-    let Some(label) = expect(text, at, b": ") else {
+    let Some(start) = expect(text, at, b": ") else {
         return Some(LabelRead {
             end: at,
-            kind: NO_LABEL,
-            number: 0,
+            label: None,
             count,
             to,
         });
     };
-    read_label(text, label, types, names, count, code, to, true)
+    let read = read_label(text, start, types, names, count, code, to, true)?;
+    Some(LabelRead {
+        end: read.end,
+        label: Some(read.label),
+        count: read.count,
+        to: read.to,
+    })
 }
 
 // After `fn`: the parameter with its label, if it has one, and then the body.
@@ -184,33 +195,19 @@ fn start_function(
         code.old work.old s names.new code.new work.new result }
 {
     let name = name_after(text, s.at, b" ", names, s.count)?;
-    let label = parameter_label(text, name.end, types, names, name.count, code, s.to)?;
-    let body = expect(text, label.end, b" => ")?;
+    let read = parameter_label(text, name.end, types, names, name.count, code, s.to)?;
+    let body = expect(text, read.end, b" => ")?;
     let behind = Progress {
         at: body,
-        count: label.count,
-        to: label.to,
+        count: read.count,
+        to: read.to,
         ..s
     };
     let entry = Entry::FunctionBody {
         name: name.number as u16,
-        kind: label.kind as u16,
-        label: label.number as u16,
+        label: read.label,
     };
     enter(work, behind, entry)
-}
-
-// The kind of the records of the named function that this word calls; of a word that calls none nothing is said.
-fn called(first: Start) -> Kind
-    ensures { (f : NamedFunction) → first ≡ as_call f → result ≡ as_kind f }
-{
-    match first {
-        Start::Fst => Kind::ProjectFst,
-        Start::Snd => Kind::ProjectSnd,
-        Start::Inl => Kind::OrLeft,
-        Start::Inr => Kind::OrRight,
-        _ => Kind::Abort,
-    }
 }
 
 // A term begins at `s.at`: goes on by its first word.
@@ -233,7 +230,7 @@ pub fn start(
         Start::Function => start_function(text, types, names, code, work, behind),
         Start::Case => start_case(text, work, behind),
         Start::Let => start_let(text, names, work, behind),
+        Start::Call(function) => call(text, names, work, behind, function),
         Start::Sorry | Start::Other => closed_for(text, names, work, s, Purpose::Head),
-        _ => call(text, names, work, behind, called(first)),
     }
 }

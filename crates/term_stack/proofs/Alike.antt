@@ -7,7 +7,8 @@ use Rattle.definitions.specs.Term.{Label, NamedFunction, ProofTerm}
 use Rattle.reading_laws.specs.TermMachine.{Purpose, as_head, as_argument, as_body, Entry, in_bracket, second, function_body, case_head, case_first, case_second, let_head, let_body}
 use Rattle.reading_laws.specs.Marks.{Mark, entries_marks}
 use Rattle.words.specs.Table.{number_in, table_names}
-use Rattle.proof_term.specs.declared.nodes.Kind.{Kind}
+use Rattle.words.specs.declared.NamedFunction as called
+use Rattle.proof_term.specs.declared.nodes.Label as numbered
 use Rattle.term_stack.specs.declared.Progress.{Progress}
 use Rattle.term_stack.specs.declared.Hand.{Hand}
 use Rattle.term_stack.specs.declared.Part.{Part}
@@ -24,12 +25,12 @@ use Rattle.term_stack.proofs.Marked.{extends_itself}
 pub data ReadFor : reader.Purpose → Purpose → Type 0 where
   for_head : ReadFor Head as_head
   for_argument : {f : Part} {t : ProofTerm Name} → ReadFor (Argument f) (as_argument t)
-  for_body : {kind : Kind} {g : NamedFunction} → ReadFor (Body kind) (as_body g)
+  for_body : {f : called.NamedFunction} {g : NamedFunction} → ReadFor (Body f) (as_body g)
 
 pub data StandsFor : stacked.Entry → Entry → Type 0 where
   for_bracket : {q : reader.Purpose} {p : Purpose} → StandsFor (Bracket q) (in_bracket p)
   for_second : {q : reader.Purpose} {f : Part} {p : Purpose} {b : ProofTerm Name} → StandsFor (Second q f) (second p b)
-  for_function : {name kind label : ℕ} {x : Name} {l : Option (Label Name)} → StandsFor (FunctionBody name kind label) (function_body x l)
+  for_function : {name : ℕ} {label : Option numbered.Label} {x : Name} {l : Option (Label Name)} → StandsFor (FunctionBody name label) (function_body x l)
   for_case : StandsFor CaseHead case_head
   for_first : {f : Part} {m : ℕ} {b : ProofTerm Name} {x : Name} → StandsFor (CaseFirst f m) (case_first b x)
   for_branches : {f g : Part} {m n : ℕ} {b c : ProofTerm Name} {x y : Name} → StandsFor (CaseSecond f m g n) (case_second b x c y)

@@ -7,7 +7,8 @@ use Rattle.definitions.specs.Name.{Name}
 use Rattle.definitions.specs.Term.{ProofTerm}
 use Rattle.definitions.specs.Display.{Form, closed, call, function, block, ascription, form, Position, function_of, argument_of, body_of, ascribed_by, part_of, within, brackets_of, is_strict, brackets, bracketed, wraps}
 use Rattle.definitions.specs.TermReader.{same}
-use Rattle.term_stack.specs.Forms.{as_form, rank, least_form}
+use Rattle.proof_term.specs.Forms.{as_form, rank}
+use Rattle.term_stack.specs.Forms.{least_form}
 
 -- for every position and form
 due_form : (p : Position) (f : Form) → bracketed (brackets p Strict) f ≡ leb (least_form p) (rank (as_form f))

@@ -1,5 +1,5 @@
 -- The record of a leaf is made, and the leaf is used for its purpose.
-use Prim.Native.Nat.{ℕ, ◌<◌}
+use Prim.Native.Nat.{◌<◌}
 use mathlib.Core.Path.{◌≡◌, refl, sym, ap, ◌∙◌}
 use mathlib.Core.Bool.{false}
 use Rattle.std.specs.Prelude.{Option, None, Some}
@@ -14,15 +14,14 @@ use Rattle.reading_laws.specs.Marks.{Mark, node, marks, purpose_marks, entries_m
 use Rattle.reading_laws.proofs.MarksMet.{begins_all, After, after_used}
 use Rattle.reading_laws.proofs.OnTheWay.{Fits, nodes_both}
 use Rattle.reading_laws.proofs.Turns.{Next}
-use Rattle.proof_term.specs.declared.nodes.Kind.{Kind}
-use Rattle.proof_term.specs.Views.{kind_number}
+use Rattle.proof_term.specs.declared.nodes.Node.{Node}
 use Rattle.term_stack.specs.declared.Progress.{Progress}
-use Rattle.term_stack.specs.declared.Form.TheVariants.{Closed}
+use Rattle.proof_term.specs.declared.forms.Form.TheVariants.{Closed}
 use Rattle.term_stack.specs.declared.Hand.{Hand}
 use Rattle.term_stack.specs.declared.Purpose.{Purpose}
 use Rattle.term_stack.specs.declared.Work.{Work}
-use Rattle.term_stack.specs.Forms.{as_form}
-use Rattle.term_stack.specs.Growing.{row_numbers, Unmade, nodes, nesting, MadeOf}
+use Rattle.proof_term.specs.Forms.{as_form}
+use Rattle.term_stack.specs.Growing.{node_row, Unmade, nodes, nesting, MadeOf}
 use Rattle.term_stack.specs.Numbers.{records_after}
 use Rattle.term_stack.specs.Standing.{Scene, left_at}
 use Rattle.term_stack.specs.Using.{Refuses, Leaf, Using, left_after}
@@ -38,7 +37,7 @@ many_nodes ms (Some τ) h b = λ f. let n = ap nodes_met b.is ∙ nodes_both ms 
 abbrev pub leaf_hand : Hand
 leaf_hand = record { form = Closed; own = false; nest = 1; tally = 0 }
 
-module _ {z : Scene} {work : Work} {s : Progress} {kind : Kind} {a : ℕ} {q : Purpose} (l : Leaf z work s kind a q) where
+module _ {z : Scene} {work : Work} {s : Progress} {leaf : Node} {q : Purpose} (l : Leaf z work s leaf q) where
   too_many : Unmade s.used 1 → node_limit < nodes_met (entries_marks l.entries ++ (purpose_marks l.purpose ++ marks l.term))
   unfolding node_limit nodes_met
   too_many (nodes h) =
@@ -62,13 +61,13 @@ module _ {z : Scene} {work : Work} {s : Progress} {kind : Kind} {a : ℕ} {q : P
       unfit l.comes (many_nodes ms (used l.entries l.purpose (standing false l.term) rest) (too_many why)
       (after_used ms l.entries l.purpose (standing false l.term) rest (begins_all ms)))
 
-  module _ {after : Work} {r : Progress} (m : MadeOf s (row_numbers (kind_number kind) (a ∷ 0 ∷ 0 ∷ 0 ∷ 0 ∷ []) 0) leaf_hand work after r) where
+  module _ {after : Work} {r : Progress} (m : MadeOf s (node_row leaf 0) leaf_hand work after r) where
     pub leaf_using : Using z after r leaf_hand q
-    unfolding standing row_numbers seven as_form
+    unfolding standing node_row seven as_form
     leaf_using =
         let k = entries_marks l.entries in
         let p = purpose_marks l.purpose in
-        let st = stored_record (λ number. records_after number (k ++ p) l.term) (seven (kind_number kind) a 0 0 0 0 0) l.stored m.few refl l.row_is in
+        let st = stored_record (λ number. records_after number (k ++ p) l.term) (node_row leaf 0) l.stored m.few refl l.row_is in
         record {
           entries = l.entries;
           purpose = l.purpose;

@@ -1,4 +1,5 @@
 pub mod FormNumbers
+pub mod LabelNumbers
 pub mod Marked
 pub mod Alike
 pub mod Stores

@@ -1,12 +1,13 @@
 -- The numbers of the records and the stack of entries at each state of the machine, as functions of what was met.
-use Rattle.std.specs.Prelude.{ℕ, ◌+◌, ◌-◌, List, [], ◌∷◌, ◌++◌}
+use Rattle.std.specs.Prelude.{ℕ, ◌+◌, ◌-◌, ◌/◌, List, [], ◌∷◌, ◌++◌, Option, None, Some}
 use Rattle.definitions.specs.Name.{Name}
-use Rattle.definitions.specs.Term.{Label, NamedFunction, fst, snd, inl, inr, abort, ProofTerm, Ident, Pair, Named, Function, Application, LetIn, Case, TypeAscription, Unit, Sorry, annotation_count, is_labelled}
+use Rattle.definitions.specs.Term.{Label, proposition, datatype, ProofTerm, Ident, Pair, Named, Function, Application, LetIn, Case, TypeAscription, Unit, Sorry, annotation_count, is_labelled}
 use Rattle.definitions.specs.TermText.{term_nesting}
 use Rattle.definitions.specs.TermMemory.{labels_size, function_kind, label_kind, parameter_label_kind, seven, label_number, parameter_label_number}
 use Rattle.reading_laws.specs.TermMachine.{Purpose, as_head, as_argument, as_body, Entry, in_bracket, second, function_body, case_head, case_first, case_second, let_head, let_body}
-use Rattle.proof_term.specs.declared.nodes.Kind.{Kind}
-use Rattle.proof_term.specs.declared.nodes.Kind.TheVariants.{ProjectFst, ProjectSnd, OrLeft, OrRight, Abort}
+use Rattle.words.specs.Starts.{as_named}
+use Rattle.proof_term.specs.declared.nodes.Label as numbered
+use Rattle.proof_term.specs.declared.nodes.Label.TheVariants.{Proposition, Datatype}
 use Rattle.term_stack.specs.declared.Part.{Part}
 use Rattle.term_stack.specs.declared.Purpose as reader
 use Rattle.term_stack.specs.declared.Purpose.TheVariants.{Head, Argument, Body}
@@ -32,21 +33,22 @@ root_after ms a = nodes_met (ms ++ marks a) - 1
 unfoldable pub part_after : List Mark → ProofTerm Name → Part
 part_after ms a = record { root = root_after ms a; nest = term_nesting a; tally = annotation_count a }
 
--- the kind of the records of a named function
-unfoldable pub as_kind : NamedFunction → Kind
-as_kind fst = ProjectFst
-as_kind snd = ProjectSnd
-as_kind inl = OrLeft
-as_kind inr = OrRight
-as_kind abort = Abort
-
 unfoldable pub purpose_after : List Mark → Purpose → reader.Purpose
 purpose_after ms as_head = Head
 purpose_after ms (as_argument f) = Argument (part_after ms f)
-purpose_after ms (as_body f) = Body (as_kind f)
+purpose_after ms (as_body f) = Body (as_named f)
 
 -- With the numbers of the names:
 module _ (number : Name → ℕ) where
+  -- a label whose code begins at an offset: a proposition has half of it, and a datatype the number of its name
+  unfoldable pub numbered_label : ℕ → Label Name → numbered.Label
+  numbered_label to (proposition p) = Proposition (to / 2)
+  numbered_label to (datatype t) = Datatype (number t)
+
+  unfoldable pub numbered_parameter : ℕ → Option (Label Name) → Option numbered.Label
+  numbered_parameter to None = None
+  numbered_parameter to (Some l) = Some (numbered_label to l)
+
   -- the records of a term, read after these marks
   unfoldable pub records_after : List Mark → ProofTerm Name → List ℕ
   records_after ms (Ident x) = seven 0 (number x) 0 0 0 0 0
@@ -83,7 +85,7 @@ module _ (number : Name → ℕ) where
   unfoldable pub entry_after : List Mark → Entry → entries.Entry
   entry_after ms (in_bracket p) = Bracket (purpose_after ms p)
   entry_after ms (second p a) = Second (purpose_after ms p) (part_after (ms ++ purpose_marks p) a)
-  entry_after ms (function_body x l) = FunctionBody (number x) (parameter_label_kind l) (parameter_label_number number (code_met (ms ++ (called x ∷ []))) l)
+  entry_after ms (function_body x l) = FunctionBody (number x) (numbered_parameter (code_met (ms ++ (called x ∷ []))) l)
   entry_after ms case_head = CaseHead
   entry_after ms (case_first a x) = CaseFirst (part_after ms a) (number x)
   entry_after ms (case_second a x b y) = CaseSecond (part_after ms a) (number x) (part_after (ms ++ (marks a ++ (called x ∷ []))) b) (number y)

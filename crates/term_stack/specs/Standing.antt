@@ -17,7 +17,7 @@ use Rattle.term_stack.specs.declared.Entry as reader
 use Rattle.term_stack.specs.declared.State as reader_state
 use Rattle.term_stack.specs.declared.State.TheVariants.{Reading, Holding, Giving}
 use Rattle.term_stack.specs.declared.Work.{Work}
-use Rattle.term_stack.specs.Forms.{as_form}
+use Rattle.proof_term.specs.Forms.{as_form}
 use Rattle.term_stack.specs.Numbers.{labels_met, code_met, stack_of, stack_records, term_records}
 
 -- what is read, with the caller's list of datatype names, and the memory beside the records: the names' pairs, and the labels' code, as

@@ -5,20 +5,19 @@ use Rattle.definitions.specs.Name.{Name}
 use Rattle.definitions.specs.Term.{ProofTerm, annotation_count}
 use Rattle.definitions.specs.TermText.{term_nesting}
 use Rattle.definitions.specs.TermReader.{Shown, standing, read_answer}
-use Rattle.definitions.specs.TermMemory.{seven}
 use Rattle.definitions.specs.Display.{closed, form}
 use Rattle.reading_laws.specs.TermMachine.{Purpose, Entry, State, onward, turn, used, give}
 use Rattle.reading_laws.specs.Marks.{Mark, node, marks, purpose_marks, entry_marks, entries_marks}
 use Rattle.reading_laws.proofs.OnTheWay.{Reached}
 use Rattle.words.specs.Table.{table_names}
-use Rattle.proof_term.specs.declared.nodes.Kind.{Kind}
-use Rattle.proof_term.specs.Views.{kind_number}
+use Rattle.proof_term.specs.declared.nodes.Node.{Node}
 use Rattle.term_stack.specs.declared.Progress.{Progress}
 use Rattle.term_stack.specs.declared.Hand.{Hand}
 use Rattle.term_stack.specs.declared.Purpose as reader
 use Rattle.term_stack.specs.declared.Entry as entries
 use Rattle.term_stack.specs.declared.State as reader_state
 use Rattle.term_stack.specs.declared.Work.{Work}
+use Rattle.term_stack.specs.Growing.{node_row}
 use Rattle.term_stack.specs.Numbers.{purpose_after, records_after, entry_after, entry_records, purpose_records, stack_of, stack_records}
 use Rattle.term_stack.specs.Standing.{Scene, Extends, Stored, HandOf, Placed, AtState, left_at, left_of}
 
@@ -59,8 +58,8 @@ pub record Using (z : Scene) (work : Work) (s : Progress) (h : Hand) (q : reader
   pub term : Shown (ProofTerm Name)
   pub for : UsedFor entries purpose term z work s h q
 
--- a leaf is to be made, of this kind and with this number, and used for a purpose; its names are met
-pub record Leaf (z : Scene) (work : Work) (s : Progress) (kind : Kind) (a : ℕ) (q : reader.Purpose) : Type 0 where
+-- a leaf is to be made, of this node, and used for a purpose; its names are met
+pub record Leaf (z : Scene) (work : Work) (s : Progress) (leaf : Node) (q : reader.Purpose) : Type 0 where
   pub entries : List Entry
   pub purpose : Purpose
   pub term : ProofTerm Name
@@ -74,7 +73,7 @@ pub record Leaf (z : Scene) (work : Work) (s : Progress) (kind : Kind) (a : ℕ)
       (λ number. stack_of number entries) z work s.used s.depth s.count s.to
   pub marks_are : marks term ≡ names ++ (node ∷ [])
   pub row_is : (number : Name → ℕ) → Extends number (table_names z.names z.text s.count)
-      → seven (kind_number kind) a 0 0 0 0 0 ≡ records_after number (entries_marks entries ++ purpose_marks purpose) term
+      → node_row leaf 0 ≡ records_after number (entries_marks entries ++ purpose_marks purpose) term
   pub form_is : form term ≡ closed
   pub nest_is : term_nesting term ≡ 1
   pub tally_is : annotation_count term ≡ 0

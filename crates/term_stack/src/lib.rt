@@ -2,18 +2,15 @@
 // whose record is the last.
 #![tactic(auto)]
 
-ghost use Rattle.std.specs.Prelude.{◌≡◌, true, false, ◌+◌, ◌-◌, ◌<◌, ◌≤◌, max, leb, Option, MatchOption};
-ghost use Rattle.definitions.specs.Name.{Name};
-ghost use Rattle.definitions.specs.Term.{Label, is_labelled};
-ghost use Rattle.definitions.specs.TermMemory.{parameter_label_kind};
+ghost use Rattle.std.specs.Prelude.{◌≡◌, true, false, ◌+◌, ◌-◌, ◌<◌, ◌≤◌, max, leb, MatchOption};
 ghost use Rattle.definitions.specs.TermReader.{same};
-ghost use Rattle.proof_term.specs.Views.{kind_number};
-ghost use Rattle.term_stack.specs.Forms.{rank};
-ghost use Rattle.term_stack.specs.Growing.{row_numbers, Unmade, MadeOf, Entered};
+ghost use Rattle.proof_term.specs.Forms.{rank};
+ghost use Rattle.term_stack.specs.Growing.{named_node, node_row, Unmade, MadeOf, Entered};
 ghost use Rattle.term_stack.specs.Standing.{Scene, ThereIs, Roomy};
 ghost use Rattle.term_stack.specs.Using.{Using, Leaf, Gives, Refuses, Turned, left_after};
 
-use proof_term::{Kind, NO_LABEL, RECORD_SIZE, push};
+use proof_term::{Form, Label, Node, RECORD_SIZE, push};
+use words::NamedFunction;
 
 // How far the reading is: in the text, in the entries, the records, the names and the labels' code.
 #[derive(Clone, Copy)]
@@ -23,26 +20,6 @@ pub struct Progress {
     pub used: usize,
     pub count: usize,
     pub to: usize,
-}
-
-// A term's outermost form, as far as brackets go, in the order of the brackets that it needs.
-#[derive(Clone, Copy)]
-pub enum Form {
-    Closed,
-    Call,
-    Function,
-    Block,
-    Ascription,
-}
-
-impl Form {
-    // The place of a form in the order.
-    #[tactic(auto, unfolding(crate::specs::Forms::rank))]
-    fn rank(self) -> u8
-        ensures { result ≡ rank self }
-    {
-        self as u8
-    }
 }
 
 // The term in hand: its form, whether it stands in brackets of its own, how deep it nests and how many labels it has.
@@ -70,22 +47,21 @@ pub struct Part {
     pub tally: u16,
 }
 
-// What a closed term is read for: the head of a term, an argument of a function, or the body of a named function, whose records are
-// of this kind.
+// What a closed term is read for: the head of a term, an argument of a function, or the body of a named function.
 #[derive(Clone, Copy)]
 pub enum Purpose {
     Head,
     Argument(Part),
-    Body(Kind),
+    Body(NamedFunction),
 }
 
 // What waits for a term: the first term after a bracket, the second part of a pair, and the parts of a function, a case and a let,
-// with the terms and the numbers of the names that were read before.
+// with the terms, the labels and the numbers of the names that were read before.
 #[derive(Clone, Copy)]
 pub enum Entry {
     Bracket(Purpose),
     Second(Purpose, Part),
-    FunctionBody { name: u16, kind: u16, label: u16 },
+    FunctionBody { name: u16, label: Option<Label> },
     CaseHead,
     CaseFirst(Part, u16),
     CaseSecond(Part, u16, Part, u16),
@@ -127,11 +103,12 @@ impl Work {
 }
 
 // Goes on where the brackets of the term in hand are those that are due where forms are bracketed from `least` on.
+#[tactic(auto, using(crate::proofs::FormNumbers::same_is), unfolding(proof_term::specs::Forms::rank))]
 pub fn due(hand: Hand, least: Form) -> Option<()>
     ensures { MatchOption result (same hand.own (leb (rank least) (rank hand.form)) ≡ false)
         (λ u. same hand.own (leb (rank least) (rank hand.form)) ≡ true) }
 {
-    if hand.own == (least.rank() <= hand.form.rank()) {
+    if hand.own == (least <= hand.form) {
         return Some(());
     }
     None
@@ -165,23 +142,18 @@ pub fn over(form: Form, nest: usize, tally: usize, hand: Hand) -> Hand
 // The memory is changed in place, and the progress is a value that each step hands on changed: so they are two parameters and no
 // struct.
 
-// Makes the record of a term, which is in hand then, if no limit is passed.
-pub fn make(
-    work: &mut Work,
-    s: Progress,
-    kind: Kind,
-    numbers: [u16; 5],
-    hand: Hand,
-) -> Option<Progress>
+// Makes the record of a node, whose term is in hand then, if no limit is passed.
+pub fn make(work: &mut Work, s: Progress, node: Node, hand: Hand) -> Option<Progress>
     requires { hand.tally < 65536 }
     ensures { MatchOption result (Unmade s.used hand.nest)
-        (MadeOf s (row_numbers (kind_number kind) numbers hand.tally) hand work.old work.new) }
+        (MadeOf s (node_row node hand.tally) hand work.old work.new) }
 {
     if NODE_LIMIT <= s.used || NESTING_LIMIT < hand.nest {
         return None;
     }
     let tally = hand.tally as u16;
-    let used = push(&mut work.records, s.used, kind.number(), numbers, tally);
+    let kind = node.kind().number();
+    let used = push(&mut work.records, s.used, kind, node.numbers(), tally);
     Some(Progress { used, ..s })
 }
 
@@ -199,6 +171,20 @@ pub fn enter(work: &mut Work, s: Progress, entry: Entry) -> Option<State>
     }))
 }
 
+// The node of a named function over the record of its body.
+#[tactic(auto, unfolding(crate::specs::Growing::named_node))]
+fn named(function: NamedFunction, body: u16) -> Node
+    ensures { result ≡ named_node function body }
+{
+    match function {
+        NamedFunction::Fst => Node::ProjectFst { body },
+        NamedFunction::Snd => Node::ProjectSnd { body },
+        NamedFunction::Inl => Node::OrLeft { body },
+        NamedFunction::Inr => Node::OrRight { body },
+        NamedFunction::Abort => Node::Abort { body },
+    }
+}
+
 // A closed term is in hand: makes of it what it was read for.
 pub fn use_for(work: &mut Work, s: Progress, hand: Hand, p: Purpose) -> Option<State>
     requires { ThereIs (λ (z : Scene). Using z work.old s hand p) }
@@ -208,29 +194,33 @@ pub fn use_for(work: &mut Work, s: Progress, hand: Hand, p: Purpose) -> Option<S
         Purpose::Head => Some(State::Holding(s, hand)),
         Purpose::Argument(function) => {
             due(hand, CLOSED_ONLY)?;
-            let numbers = [function.root, waiting(s, hand).root, 0, 0, 0];
+            let node = Node::Application {
+                function: function.root,
+                argument: waiting(s, hand).root,
+            };
             let whole = over(
                 Form::Call,
                 usize::from(function.nest),
                 usize::from(function.tally),
                 hand,
             );
-            let made = make(work, s, Kind::Application, numbers, whole)?;
+            let made = make(work, s, node, whole)?;
             Some(State::Holding(made, whole))
         }
-        Purpose::Body(kind) => {
+        Purpose::Body(function) => {
             due(hand, CLOSED_ONLY)?;
+            let node = named(function, waiting(s, hand).root);
             let whole = over(Form::Call, 0, 0, hand);
-            let made = make(work, s, kind, [waiting(s, hand).root, 0, 0, 0, 0], whole)?;
+            let made = make(work, s, node, whole)?;
             Some(State::Holding(made, whole))
         }
     }
 }
 
 // Makes a leaf, and of it what it was read for.
-pub fn use_leaf(work: &mut Work, s: Progress, kind: Kind, a: u16, p: Purpose) -> Option<State>
-    requires { ThereIs (λ (z : Scene). Leaf z work.old s kind a p) }
-    ensures { (z : Scene) → Leaf z work.old s kind a p → MatchOption result (Refuses z) (Turned z work.new (left_after z s)) }
+pub fn use_leaf(work: &mut Work, s: Progress, node: Node, p: Purpose) -> Option<State>
+    requires { ThereIs (λ (z : Scene). Leaf z work.old s node p) }
+    ensures { (z : Scene) → Leaf z work.old s node p → MatchOption result (Refuses z) (Turned z work.new (left_after z s)) }
 {
     let leaf = Hand {
         form: Form::Closed,
@@ -238,15 +228,8 @@ pub fn use_leaf(work: &mut Work, s: Progress, kind: Kind, a: u16, p: Purpose) ->
         nest: 1,
         tally: 0,
     };
-    let made = make(work, s, kind, [a, 0, 0, 0, 0], leaf)?;
+    let made = make(work, s, node, leaf)?;
     use_for(work, made, leaf, p)
-}
-
-// How many labels a parameter has whose label is of this kind.
-fn label_count(kind: u16) -> usize
-    ensures { (l : Option (Label Name)) → kind ≡ parameter_label_kind l → result ≡ is_labelled l }
-{
-    usize::from(usize::from(kind) != NO_LABEL)
 }
 
 // The body of a function is in hand, and with it the function.
@@ -255,17 +238,20 @@ pub fn close_function(
     s: Progress,
     hand: Hand,
     name: u16,
-    kind: u16,
-    label: u16,
+    label: Option<Label>,
 ) -> Option<State>
-    requires { ThereIs (λ (z : Scene). Gives z work.old s hand (Entry.FunctionBody name kind label)) }
-    ensures { (z : Scene) → Gives z work.old s hand (Entry.FunctionBody name kind label)
+    requires { ThereIs (λ (z : Scene). Gives z work.old s hand (Entry.FunctionBody name label)) }
+    ensures { (z : Scene) → Gives z work.old s hand (Entry.FunctionBody name label)
         → MatchOption result (Refuses z) (Turned z work.new (left_after z s)) }
 {
     due(hand, NO_ASCRIPTION)?;
-    let whole = over(Form::Function, 0, label_count(kind), hand);
-    let numbers = [waiting(s, hand).root, name, kind, label, 0];
-    let made = make(work, s, Kind::Function, numbers, whole)?;
+    let node = Node::Function {
+        parameter: name,
+        label,
+        body: waiting(s, hand).root,
+    };
+    let whole = over(Form::Function, 0, usize::from(label.is_some()), hand);
+    let made = make(work, s, node, whole)?;
     Some(State::Holding(made, whole))
 }
 
@@ -287,8 +273,14 @@ pub fn close_case(
     let nest = usize::from(head.nest.max(left.nest));
     let tally = usize::from(head.tally) + usize::from(left.tally);
     let whole = over(Form::Block, nest, tally, hand);
-    let numbers = [head.root, left.root, waiting(s, hand).root, x, y];
-    let made = make(work, s, Kind::Case, numbers, whole)?;
+    let node = Node::Case {
+        head: head.root,
+        first: x,
+        left: left.root,
+        second: y,
+        right: waiting(s, hand).root,
+    };
+    let made = make(work, s, node, whole)?;
     Some(State::Holding(made, whole))
 }
 
@@ -312,7 +304,12 @@ pub fn close_let(
         usize::from(head.tally),
         hand,
     );
-    let numbers = [head.root, waiting(s, hand).root, x, y, 0];
-    let made = make(work, s, Kind::LetIn, numbers, whole)?;
+    let node = Node::LetIn {
+        first: x,
+        second: y,
+        head: head.root,
+        body: waiting(s, hand).root,
+    };
+    let made = make(work, s, node, whole)?;
     Some(State::Holding(made, whole))
 }

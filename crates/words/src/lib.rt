@@ -76,24 +76,30 @@ pub fn expect(text: &[u8], at: usize, what: &[u8]) -> Option<usize>
     None
 }
 
+// The functions that a term calls by a word of their own.
+#[derive(Clone, Copy)]
+pub enum NamedFunction {
+    Fst,
+    Snd,
+    Inl,
+    Inr,
+    Abort,
+}
+
 // How a term begins, by its first word.
 #[derive(Clone, Copy)]
 pub enum Start {
     Function,
     Case,
     Let,
-    Fst,
-    Snd,
-    Inl,
-    Inr,
-    Abort,
+    Call(NamedFunction),
     Sorry,
     Other,
 }
 
 // The start of a term whose first word these bytes are.
 // Tried: a `match` on byte strings leaves more than thirty goals that are not found, and these tests leave none.
-#[tactic(auto, unfolding(definitions::specs::TermReader::start_of, crate::specs::Starts::as_start, crate::specs::Starts::as_call))]
+#[tactic(auto, unfolding(definitions::specs::TermReader::start_of, crate::specs::Starts::as_start, crate::specs::Starts::as_named))]
 pub fn start_of(word: &[u8]) -> Start
     ensures { result ≡ as_start (start_of word.now) }
 {
@@ -107,19 +113,19 @@ pub fn start_of(word: &[u8]) -> Start
         return Start::Let;
     }
     if same_name(word, b"fst") {
-        return Start::Fst;
+        return Start::Call(NamedFunction::Fst);
     }
     if same_name(word, b"snd") {
-        return Start::Snd;
+        return Start::Call(NamedFunction::Snd);
     }
     if same_name(word, b"inl") {
-        return Start::Inl;
+        return Start::Call(NamedFunction::Inl);
     }
     if same_name(word, b"inr") {
-        return Start::Inr;
+        return Start::Call(NamedFunction::Inr);
     }
     if same_name(word, b"abort") {
-        return Start::Abort;
+        return Start::Call(NamedFunction::Abort);
     }
     if same_name(word, b"sorry") {
         return Start::Sorry;

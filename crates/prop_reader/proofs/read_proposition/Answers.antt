@@ -32,6 +32,13 @@ unfolding code_limit proposition_nesting_limit
 returns-then-size-gt-CODE_LIMIT c =
     proposition_large (c.in_ok-read.ensures [] (binds_nothing _ _)) c.if-size-gt-CODE_LIMIT.true
 
+pub overflow_cast-result : goal.overflow_cast-result
+unfolding term_text_limit
+overflow_cast-result c =
+    let pre = c.requires in
+    let (p, reads, given) = (c.in_ok-read.ensures [] (binds_nothing _ _)).answer in
+    omega (arith, pre.near, pre.short, given.from, given.within)
+
 pub overflow_add-result : goal.overflow_add-result
 unfolding term_text_limit
 overflow_add-result c =

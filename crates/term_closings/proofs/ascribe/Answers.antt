@@ -1,12 +1,11 @@
 -- Behind the colon the label; the record of the ascription is made, and its term is whole.
-use mathlib.Core.Path.{◌≡◌, ap}
+use mathlib.Core.Path.{◌≡◌}
 use native.Mathlib.Omega.{arith}
 use borrow.Author.Rules.{rules}
 use Rattle.std.specs.Prelude.{None}
-use Rattle.term_stack.specs.declared.Part.{Part}
 use Rattle.term_stack.specs.Turning.{scene_of, TurnBegins, TurnEnds}
 use Rattle.term_openings.proofs.Noting.{noting}
-use Rattle.term_closings.proofs.Ascribed.{held_small, label_begins, label_not_due, no_label, label_numbers, ascription_not, ascription_turned}
+use Rattle.term_closings.proofs.Ascribed.{held_small, label_begins, label_not_due, no_label, ascription_not, ascription_turned}
 use Rattle.term_closings.proofs.ascribe.Goals as goal
 
 pub returns-in_err-due : goal.returns-in_err-due
@@ -22,28 +21,16 @@ read_label-requires c =
     let (begins, bare, colon) = c.requires in
     label_begins begins.holds bare colon
 
-pub returns-in_err-label : goal.returns-in_err-label
+pub returns-in_err-read : goal.returns-in_err-read
 unfolding TurnBegins TurnEnds scene_of
-returns-in_err-label c before held =
+returns-in_err-read c before held =
     let (begins, bare, colon) = c.requires in
-    let none : c.from_residual-in_err-label.result ≡ None = search rules in
-    rw none (no_label held bare colon c.in_ok-due.ensures c.in_err-label.ensures)
+    let none : c.from_residual-in_err-read.result ≡ None = search rules in
+    rw none (no_label held bare colon c.in_ok-due.ensures c.in_err-read.ensures)
 
-pub waiting-root-requires : goal.waiting-root-requires
+pub waiting-requires : goal.waiting-requires
 unfolding TurnBegins scene_of
-waiting-root-requires c = held_small c.requires.0.holds
-
-pub overflow_cast-numbers : goal.overflow_cast-numbers
-unfolding TurnBegins scene_of
-overflow_cast-numbers c =
-    let (begins, bare, colon) = c.requires in
-    omega (arith, (label_numbers begins.holds bare colon c.in_ok-due.ensures c.in_ok-label.ensures).0)
-
-pub overflow_cast-numbers-2 : goal.overflow_cast-numbers-2
-unfolding TurnBegins scene_of
-overflow_cast-numbers-2 c =
-    let (begins, bare, colon) = c.requires in
-    omega (arith, (label_numbers begins.holds bare colon c.in_ok-due.ensures c.in_ok-label.ensures).1)
+waiting-requires c = held_small c.requires.0.holds
 
 pub over-whole-requires : goal.over-whole-requires
 unfolding TurnBegins scene_of
@@ -58,13 +45,11 @@ unfolding TurnBegins TurnEnds scene_of noting
 returns-in_err-made c before held =
     let (begins, bare, colon) = c.requires in
     let none : c.from_residual-in_err-made.result ≡ None = search rules in
-    let last = ap (λ (p : Part). p.root) c.waiting-root.ensures in
-    rw none (ascription_not held bare colon c.in_ok-due.ensures c.in_ok-label.ensures _ last (rw c.over-whole.ensures at c.in_err-made.ensures))
+    rw none (ascription_not held bare colon c.in_ok-due.ensures c.in_ok-read.ensures (rw c.over-whole.ensures at c.in_err-made.ensures))
 
 pub returns : goal.returns
 unfolding TurnBegins TurnEnds scene_of noting
 returns c before held =
     let (begins, bare, colon) = c.requires in
-    let last = ap (λ (p : Part). p.root) c.waiting-root.ensures in
     rw c.over-whole.ensures
-    (ascription_turned held bare colon c.in_ok-due.ensures c.in_ok-label.ensures _ last (rw c.over-whole.ensures at c.in_ok-made.ensures))
+    (ascription_turned held bare colon c.in_ok-due.ensures c.in_ok-read.ensures (rw (c.over-whole.ensures, c.waiting.ensures) at c.in_ok-made.ensures))

@@ -1,9 +1,8 @@
 -- The bracket closes, and the record of the pair is made over both parts.
-use mathlib.Core.Path.{◌≡◌, ap}
+use mathlib.Core.Path.{◌≡◌}
 use native.Mathlib.Omega.{arith}
 use borrow.Author.Rules.{rules}
 use Rattle.std.specs.Prelude.{None}
-use Rattle.term_stack.specs.declared.Part.{Part}
 use Rattle.term_stack.proofs.Closes.{given_small}
 use Rattle.term_openings.specs.Beginning.{with_text, TextBegins, TextEnds}
 use Rattle.term_openings.proofs.ClosedTerms.{ends_within}
@@ -47,22 +46,20 @@ returns-in_err-made c z g =
 pub use_for-requires : goal.use_for-requires
 unfolding TextBegins with_text
 use_for-requires c =
-    let last = ap (λ (p : Part). p.root) c.waiting.ensures in
-    let made = rw (c.over-pair.ensures, c.from.ensures, c.from-2.ensures) at c.in_ok-made.ensures in
+    let made = rw (c.over-pair.ensures, c.waiting.ensures, c.from.ensures, c.from-2.ensures) at c.in_ok-made.ensures in
     record {
       value = with_text c.requires.value c.args.text.now;
       holds =
           rw (c.over-pair.ensures, c.from.ensures, c.from-2.ensures)
-          (pair_using c.if-hand.false c.in_ok-end.ensures _ last c.requires.holds made);
+          (pair_using c.if-hand.false c.in_ok-end.ensures c.requires.holds made);
     }
 
 pub returns : goal.returns
 unfolding TextEnds with_text
 returns c z g =
-    let last = ap (λ (p : Part). p.root) c.waiting.ensures in
-    let made = rw (c.over-pair.ensures, c.from.ensures, c.from-2.ensures) at c.in_ok-made.ensures in
+    let made = rw (c.over-pair.ensures, c.waiting.ensures, c.from.ensures, c.from-2.ensures) at c.in_ok-made.ensures in
     let bare = c.if-hand.false in
     let found = c.in_ok-end.ensures in
     ends_within _ _ _ _ _
-    (c.use_for.ensures _ (rw (c.over-pair.ensures, c.from.ensures, c.from-2.ensures) (pair_using bare found _ last g made)))
+    (c.use_for.ensures _ (rw (c.over-pair.ensures, c.from.ensures, c.from-2.ensures) (pair_using bare found g made)))
     (pair_left _ found made)

@@ -21,9 +21,9 @@ returns-in_err-name c z closed =
     let none : c.from_residual.result ≡ None = search rules in
     rw none (name_full closed c.requires.1 c.in_err-name.ensures)
 
-pub overflow_cast-name : goal.overflow_cast-name
+pub overflow_cast-leaf : goal.overflow_cast-leaf
 unfolding name_limit
-overflow_cast-name c =
+overflow_cast-leaf c =
     let number = c.in_ok-name.ensures in
     omega (arith, number.below, number.noted.table.few)
 

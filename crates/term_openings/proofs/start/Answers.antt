@@ -7,7 +7,7 @@ use Rattle.words.specs.Places.{between}
 use Rattle.term_stack.specs.Standing.{Scene}
 use Rattle.term_stack.specs.Turning.{scene_of, TurnBegins, TurnEnds}
 use Rattle.term_openings.specs.Beginning.{with_text, with_names, TextBegins, TextEnds, NamesBegin, NamesEnd}
-use Rattle.term_openings.proofs.Dispatch.{meant, call_word_lem, started_by, closed_head, ends_from}
+use Rattle.term_openings.proofs.Dispatch.{meant, function_meant, function_is, started_by, closed_head, ends_from}
 use Rattle.term_openings.proofs.start.Goals as goal
 use Rattle.term_openings.proofs.start.Goals.{After-start_of-first}
 
@@ -69,30 +69,26 @@ returns-in-Sorry c before at =
     c.closed_for.ensures (scene (goal.at.returns-in-Sorry c).After-start_of-first before) (closed_head at c.word_end-end.ensures c.start_of-first.ensures c.in-Sorry.is)
 
 pub call-requires : goal.call-requires
-unfolding TurnBegins NamesBegin scene_of with_names between
+unfolding TurnBegins NamesBegin scene_of with_names between meant
 call-requires c =
     let pre = c.requires in
-    let other = c.in_default in
-    let calls = call_word_lem _ other.not-Function other.not-Case other.not-Let other.not-Sorry other.not-Other in
     record {
       value = scene (goal.at.call-requires c).After-start_of-first pre.value;
       holds = record {
-        function = calls.value;
-        kind_is = c.called.ensures calls.value calls.holds.is;
-        started = started_by pre.holds c.word_end-end.ensures c.start_of-first.ensures (call_word calls.value) calls.holds.means;
+        meant = function_meant c.in-Call.function;
+        is = function_is c.in-Call.function;
+        started = started_by pre.holds c.word_end-end.ensures c.start_of-first.ensures (call_word (function_meant c.in-Call.function)) (ap meant c.in-Call.is);
       };
     }
 
-pub returns-in_default : goal.returns-in_default
-unfolding TurnEnds NamesEnd scene_of with_names between
-returns-in_default c before at =
+pub returns-in-Call : goal.returns-in-Call
+unfolding TurnEnds NamesEnd scene_of with_names between meant
+returns-in-Call c before at =
     let ends = c.word_end-end.ensures in
-    let other = c.in_default in
-    let calls = call_word_lem _ other.not-Function other.not-Case other.not-Let other.not-Sorry other.not-Other in
     ends_from _ _ _ _ _
-    (c.call.ensures (scene (goal.at.returns-in_default c).After-start_of-first before) (record {
-      function = calls.value;
-      kind_is = c.called.ensures calls.value calls.holds.is;
-      started = started_by at ends c.start_of-first.ensures (call_word calls.value) calls.holds.means;
+    (c.call.ensures (scene (goal.at.returns-in-Call c).After-start_of-first before) (record {
+      meant = function_meant c.in-Call.function;
+      is = function_is c.in-Call.function;
+      started = started_by at ends c.start_of-first.ensures (call_word (function_meant c.in-Call.function)) (ap meant c.in-Call.is);
     }))
     ends.from

@@ -8,7 +8,7 @@ use Rattle.term_stack.specs.Standing.{left_at}
 use Rattle.term_stack.specs.Turning.{scene_of, TurnBegins, TurnEnds}
 use Rattle.term_stack.proofs.Opened.{opens}
 use Rattle.term_openings.proofs.Noting.{noting}
-use Rattle.term_openings.proofs.Functions.{label_kinds, parameter_not, label_place, label_not, arrow_not, function_comes, function_long, function_opens}
+use Rattle.term_openings.proofs.Functions.{parameter_not, label_place, label_not, arrow_not, function_comes, function_long, function_opens}
 use Rattle.term_openings.proofs.start_function.Goals as goal
 
 pub name_after-requires : goal.name_after-requires
@@ -25,34 +25,28 @@ pub parameter_label-requires : goal.parameter_label-requires
 unfolding TurnBegins scene_of
 parameter_label-requires c = label_place c.requires.holds c.in_ok-name.ensures
 
-pub returns-in_err-label : goal.returns-in_err-label
+pub returns-in_err-read : goal.returns-in_err-read
 unfolding TurnEnds scene_of
-returns-in_err-label c before started =
-    let none : c.from_residual-in_err-label.result ≡ None = search rules in
-    rw none (label_not started c.in_ok-name.ensures c.in_err-label.ensures)
+returns-in_err-read c before started =
+    let none : c.from_residual-in_err-read.result ≡ None = search rules in
+    rw none (label_not started c.in_ok-name.ensures c.in_err-read.ensures)
 
 pub returns-in_err-body : goal.returns-in_err-body
 unfolding TurnEnds scene_of
 returns-in_err-body c before started =
     let none : c.from_residual-in_err-body.result ≡ None = search rules in
-    rw none (arrow_not started c.in_ok-name.ensures c.in_ok-label.ensures c.in_err-body.ensures)
+    rw none (arrow_not started c.in_ok-name.ensures c.in_ok-read.ensures c.in_err-body.ensures)
 
--- the numbers are small
+-- the number is small
 pub overflow_cast-entry : goal.overflow_cast-entry
 unfolding name_limit
 overflow_cast-entry c = let there = c.in_ok-name.ensures.holds in omega (arith, there.below, there.noted.table.few)
-
-pub overflow_cast-entry-2 : goal.overflow_cast-entry-2
-overflow_cast-entry-2 c = let given = c.in_ok-label.ensures in omega (arith, given.holds.kind_is, label_kinds given.value)
-
-pub overflow_cast-entry-3 : goal.overflow_cast-entry-3
-overflow_cast-entry-3 c = omega (arith, c.in_ok-label.ensures.holds.small)
 
 pub returns : goal.returns
 unfolding TurnEnds scene_of noting left_at
 returns c before started =
     let there = c.in_ok-name.ensures in
-    let given = c.in_ok-label.ensures in
+    let given = c.in_ok-read.ensures in
     let arrow = c.in_ok-body.ensures in
     let long = function_long started there given arrow in
     opens (function_opens started there given arrow) (function_comes started there given arrow) _ _ c.enter.ensures _ (omega (arith, long))

@@ -1,34 +1,36 @@
 -- The entry holds the names and the head, and the record is made over the body.
-use mathlib.Core.Path.{◌≡◌, ap}
+use mathlib.Core.Path.{◌≡◌}
 use native.Mathlib.Omega.{arith}
 use borrow.Author.Rules.{rules}
 use Rattle.std.specs.Prelude.{None}
-use Rattle.term_stack.specs.declared.Part.{Part}
-use Rattle.term_stack.proofs.Closes.{given_small, let_not_due, let_labels, let_not, let_held}
+use Rattle.term_stack.proofs.Grown.{build_not_due, not_built, built, built_few}
+use Rattle.term_stack.proofs.Closes.{given_small, let_builds}
 use Rattle.term_stack.proofs.close_let.Goals as goal
 
 pub returns-in_err-due : goal.returns-in_err-due
-returns-in_err-due c z g = let none : c.from_residual.result ≡ None = search rules in rw none (let_not_due g c.in_err-due.ensures)
+returns-in_err-due c z g = let none : c.from_residual.result ≡ None = search rules in rw none (build_not_due (let_builds g) c.in_err-due.ensures)
 
 pub over-whole-requires : goal.over-whole-requires
 over-whole-requires c =
     let small = given_small c.requires.holds in
-    (search rules, rw c.from-2.ensures (omega (arith, let_labels c.requires.holds)), small.2, small.3)
+    let few = built_few (let_builds c.requires.holds) in
+    (search rules, rw c.from-2.ensures (omega (arith, few)), small.2, small.3)
 
 pub waiting-requires : goal.waiting-requires
 waiting-requires c = given_small c.requires.holds
 
 pub make-requires : goal.make-requires
-make-requires c = rw (c.over-whole.ensures, c.from-2.ensures) (let_labels c.requires.holds)
+make-requires c =
+    let few = built_few (let_builds c.requires.holds) in
+    rw (c.over-whole.ensures, c.from-2.ensures) (omega (arith, few))
 
 pub returns-in_err-made : goal.returns-in_err-made
 returns-in_err-made c z g =
     let none : c.from_residual-in_err-made.result ≡ None = search rules in
-    let last = ap (λ (p : Part). p.root) c.waiting.ensures in
-    rw none (let_not _ last c.in_ok-due.ensures g (rw (c.over-whole.ensures, c.from.ensures) at c.in_err-made.ensures))
+    rw none (not_built (let_builds g) c.in_ok-due.ensures (rw (c.over-whole.ensures, c.from.ensures) at c.in_err-made.ensures))
 
 pub returns : goal.returns
 returns c z g =
-    let last = ap (λ (p : Part). p.root) c.waiting.ensures in
     rw (c.over-whole.ensures, c.from.ensures, c.from-2.ensures)
-    (let_held _ last c.in_ok-due.ensures g (rw (c.over-whole.ensures, c.from.ensures, c.from-2.ensures) at c.in_ok-made.ensures))
+    (built (let_builds g) c.in_ok-due.ensures
+    (rw (c.over-whole.ensures, c.waiting.ensures, c.from.ensures, c.from-2.ensures) at c.in_ok-made.ensures))

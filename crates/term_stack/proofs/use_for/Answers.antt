@@ -1,10 +1,10 @@
 -- The purpose says which record is made over a closed term.
-use mathlib.Core.Path.{◌≡◌, ap}
+use mathlib.Core.Path.{◌≡◌}
 use native.Mathlib.Omega.{arith}
 use borrow.Author.Rules.{rules}
 use Rattle.std.specs.Prelude.{None}
-use Rattle.term_stack.specs.declared.Part.{Part}
-use Rattle.term_stack.proofs.Used.{used_small, used_head, few_in_argument, argument_not_due, argument_not, argument_held, body_not_due, body_not, body_held}
+use Rattle.term_stack.proofs.Grown.{build_not_due, not_built, built, built_few}
+use Rattle.term_stack.proofs.Used.{used_small, used_head, argument_builds, body_builds}
 use Rattle.term_stack.proofs.use_for.Goals as goal
 
 pub returns-in-Head : goal.returns-in-Head
@@ -14,7 +14,7 @@ returns-in-Head c z u = used_head (rw c.in-Head.is at u)
 pub returns-in_err-due-in-Argument : goal.returns-in_err-due-in-Argument
 returns-in_err-due-in-Argument c z u =
     let none : c.from_residual.result ≡ None = search rules in
-    rw none (argument_not_due (rw c.in-Argument.is at u) c.in_err-due-in-Argument.ensures)
+    rw none (build_not_due (argument_builds (rw c.in-Argument.is at u)) c.in_err-due-in-Argument.ensures)
 
 pub waiting-requires : goal.waiting-requires
 waiting-requires c = used_small c.requires.holds
@@ -23,28 +23,30 @@ pub over-whole-requires : goal.over-whole-requires
 over-whole-requires c =
     let u = rw c.in-Argument.is at c.requires.holds in
     let small = used_small u in
-    (search rules, rw c.from-in-Argument.ensures (omega (arith, few_in_argument u)), small.2, small.3)
+    let few = built_few (argument_builds u) in
+    (search rules, rw c.from-in-Argument.ensures (omega (arith, few)), small.2, small.3)
 
 pub make-requires : goal.make-requires
-make-requires c = rw (c.over-whole.ensures, c.from-in-Argument.ensures) (few_in_argument (rw c.in-Argument.is at c.requires.holds))
+make-requires c =
+    let few = built_few (argument_builds (rw c.in-Argument.is at c.requires.holds)) in
+    rw (c.over-whole.ensures, c.from-in-Argument.ensures) (omega (arith, few))
 
 pub returns-in_err-made-in-Argument : goal.returns-in_err-made-in-Argument
 returns-in_err-made-in-Argument c z u =
     let none : c.from_residual-in_err-made-in-Argument.result ≡ None = search rules in
-    let last = ap (λ (p : Part). p.root) c.waiting.ensures in
-    rw none (argument_not _ last c.in_ok-due-in-Argument.ensures (rw c.in-Argument.is at u) (rw (c.over-whole.ensures, c.from.ensures) at c.in_err-made-in-Argument.ensures))
+    rw none (not_built (argument_builds (rw c.in-Argument.is at u)) c.in_ok-due-in-Argument.ensures (rw (c.over-whole.ensures, c.from.ensures) at c.in_err-made-in-Argument.ensures))
 
 pub returns-in_ok-made-in-Argument : goal.returns-in_ok-made-in-Argument
 returns-in_ok-made-in-Argument c z u =
-    let last = ap (λ (p : Part). p.root) c.waiting.ensures in
     rw (c.over-whole.ensures, c.from.ensures, c.from-in-Argument.ensures)
-    (argument_held _ last c.in_ok-due-in-Argument.ensures (rw c.in-Argument.is at u) (rw (c.over-whole.ensures, c.from.ensures, c.from-in-Argument.ensures) at c.in_ok-made-in-Argument.ensures))
+    (built (argument_builds (rw c.in-Argument.is at u)) c.in_ok-due-in-Argument.ensures
+    (rw (c.over-whole.ensures, c.waiting.ensures, c.from.ensures, c.from-in-Argument.ensures) at c.in_ok-made-in-Argument.ensures))
 
 -- the body of a named function
 pub returns-in_err-due-in-Body : goal.returns-in_err-due-in-Body
 returns-in_err-due-in-Body c z u =
     let none : c.from_residual-in_err-due-in-Body.result ≡ None = search rules in
-    rw none (body_not_due (rw c.in-Body.is at u) c.in_err-due-in-Body.ensures)
+    rw none (build_not_due (body_builds (rw c.in-Body.is at u)) c.in_err-due-in-Body.ensures)
 
 pub over-whole-requires-in-Body : goal.over-whole-requires-in-Body
 over-whole-requires-in-Body c =
@@ -57,11 +59,10 @@ waiting-requires-in-Body c = used_small c.requires.holds
 pub returns-in_err-made-in-Body : goal.returns-in_err-made-in-Body
 returns-in_err-made-in-Body c z u =
     let none : c.from_residual-in_err-made-in-Body.result ≡ None = search rules in
-    let last = ap (λ (p : Part). p.root) c.waiting-in-Body.ensures in
-    rw none (body_not _ last c.in_ok-due-in-Body.ensures (rw c.in-Body.is at u) (rw c.over-whole-in-Body.ensures at c.in_err-made-in-Body.ensures))
+    rw none (not_built (body_builds (rw c.in-Body.is at u)) c.in_ok-due-in-Body.ensures (rw c.over-whole-in-Body.ensures at c.in_err-made-in-Body.ensures))
 
 pub returns-in_ok-made-in-Body : goal.returns-in_ok-made-in-Body
 returns-in_ok-made-in-Body c z u =
-    let last = ap (λ (p : Part). p.root) c.waiting-in-Body.ensures in
     rw c.over-whole-in-Body.ensures
-    (body_held _ last c.in_ok-due-in-Body.ensures (rw c.in-Body.is at u) (rw c.over-whole-in-Body.ensures at c.in_ok-made-in-Body.ensures))
+    (built (body_builds (rw c.in-Body.is at u)) c.in_ok-due-in-Body.ensures
+    (rw (c.over-whole-in-Body.ensures, c.named-node.ensures, c.waiting-in-Body.ensures) at c.in_ok-made-in-Body.ensures))
