@@ -48,7 +48,7 @@ use Rattle.term_stack.proofs.Opened.{Opens, opens}
 use Rattle.term_stack.proofs.Alike.{StandsFor, for_case, for_first}
 use Rattle.term_openings.proofs.Noting.{noting, stored_name, crowded_met, too_many_names}
 use Rattle.term_openings.proofs.ClosedTerms.{further, number_noted}
-use Rattle.term_closings.specs.Branching.{branch, BranchGiven, BranchLacks}
+use Rattle.term_closings.specs.Branching.{branch, BranchGiven, BranchLacks, branch_entry}
 use Rattle.term_closings.proofs.Tops.{waiting_is}
 use Rattle.term_closings.proofs.Enclosed.{placed_on}
 
@@ -128,7 +128,7 @@ pub record BranchOf (what : List ℕ) (next : Part → ℕ → stacked.Entry) (e
   is : Branches what next e waits k entry a
 
 -- the first branch follows the head
-pub first_branch : (k : List Entry) (entry : Entry) (a : Shown (ProofTerm Name)) → StandsFor CaseHead entry
+first_branch : (k : List Entry) (entry : Entry) (a : Shown (ProofTerm Name)) → StandsFor CaseHead entry
     → BranchOf (utf8 " of inl ") (λ w n. CaseFirst w n) CaseHead k entry a
 unfolding give branch_turn entry_marks entry_records entry_after
 first_branch k entry a for_case = record {
@@ -142,7 +142,7 @@ first_branch k entry a for_case = record {
 }
 
 -- and the second the first
-pub second_branch : {f : Part} {m : ℕ} (k : List Entry) (entry : Entry) (a : Shown (ProofTerm Name)) → StandsFor (CaseFirst f m) entry
+second_branch : {f : Part} {m : ℕ} (k : List Entry) (entry : Entry) (a : Shown (ProofTerm Name)) → StandsFor (CaseFirst f m) entry
     → BranchOf (utf8 ", inr ") (λ w n. CaseSecond f m w n) (CaseFirst f m) k entry a
 unfolding give branch_turn entry_marks entry_records entry_after
 second_branch {f} {m} k entry a (for_first {b = b} {x = x}) = record {
@@ -157,6 +157,20 @@ second_branch {f} {m} k entry a (for_first {b = b} {x = x}) = record {
         rw (head, name) refl;
   };
 }
+
+-- what stands before a branch, and what then waits for it
+abbrev pub branch_word : Option (Part × ℕ) → List ℕ
+branch_word None = utf8 " of inl "
+branch_word (Some before) = utf8 ", inr "
+
+abbrev pub branch_next : Option (Part × ℕ) → Part → ℕ → stacked.Entry
+branch_next None w n = CaseFirst w n
+branch_next (Some before) w n = CaseSecond before.0 before.1 w n
+
+pub next_branch : (before : Option (Part × ℕ)) (k : List Entry) (entry : Entry) (a : Shown (ProofTerm Name)) → StandsFor (branch_entry before) entry
+    → BranchOf (branch_word before) (branch_next before) (branch_entry before) k entry a
+next_branch None k entry a stands = first_branch k entry a stands
+next_branch (Some before) k entry a stands = second_branch k entry a stands
 
 module _ {z : Scene} {work : Work} {s : Progress} {h : Hand} {what : List ℕ} {next : Part → ℕ → stacked.Entry} {e : stacked.Entry} {k : List Entry} {entry : Entry} {a : Shown (ProofTerm Name)}
     (b : BranchOf what next e k entry a) (g : GivesTo k entry a z work s h e) where

@@ -1,5 +1,5 @@
 -- What stands before the branch of a case.
-use Rattle.std.specs.Prelude.{ℕ, ◌≤◌, ◌<◌, ◌≡◌, List, [], ◌∷◌, length, drop}
+use Rattle.std.specs.Prelude.{ℕ, ◌≤◌, ◌<◌, ◌≡◌, List, [], ◌∷◌, length, drop, Option, None, Some}
 use Rattle.definitions.specs.Utf8.{utf8}
 use Rattle.definitions.specs.Name.{Name}
 use Rattle.definitions.specs.Code.{Reading, yield, ◌>>=◌}
@@ -9,6 +9,9 @@ use Rattle.reading_laws.proofs.TermConventions.{Gives}
 use Rattle.words.specs.Table.{add_name, number_in, table_names, Noted}
 use Rattle.prop_parts.specs.declared.NameRead.{NameRead}
 use Rattle.atom_reader.specs.Scope.{Crowded}
+use Rattle.term_stack.specs.declared.Part.{Part}
+use Rattle.term_stack.specs.declared.Entry.{Entry}
+use Rattle.term_stack.specs.declared.Entry.TheVariants.{CaseHead, CaseFirst}
 
 -- a word, a name and an arrow
 unfoldable pub branch : List ℕ → Reading Name
@@ -30,3 +33,8 @@ pub record BranchGiven (what text : List ℕ) (at : ℕ) (pairs : List ℕ) (cou
 -- there is none, or one name too many
 abbrev pub BranchLacks : List ℕ → List ℕ → ℕ → List ℕ → ℕ → Type 0
 BranchLacks what text at pairs count = Gives (branch what (drop at text)) (λ x rest. Crowded (table_names pairs text count) (x ∷ []))
+
+-- what waits before a branch: the case for its head or, with the head and a name, for its first branch
+abbrev pub branch_entry : Option (Part × ℕ) → Entry
+branch_entry None = CaseHead
+branch_entry (Some before) = CaseFirst before.0 before.1

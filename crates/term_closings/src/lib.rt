@@ -12,7 +12,7 @@ ghost use Rattle.words.specs.Table.{Table};
 ghost use Rattle.term_stack.specs.Standing.{AtTerm};
 ghost use Rattle.term_stack.specs.Turning.{TurnBegins, TurnEnds};
 ghost use Rattle.term_openings.specs.Beginning.{TextBegins, TextEnds, NamesBegin, NamesEnd};
-ghost use Rattle.term_closings.specs.Branching.{BranchLacks, BranchGiven};
+ghost use Rattle.term_closings.specs.Branching.{BranchLacks, BranchGiven, branch_entry};
 ghost use Rattle.term_closings.specs.Giving.{AtEntry};
 
 use proof_term::{Form, Node};
@@ -106,51 +106,36 @@ fn read_branch(
     Some(NameRead { end, ..name })
 }
 
-// The head of a case is in hand, and then its first branch.
-fn give_head(
+// The head of a case is in hand or, where the head and the name behind it wait, its first branch: then the branch that follows.
+fn give_branch(
     text: &[u8],
     names: &mut [u8],
     work: &mut Work,
     s: Progress,
     hand: Hand,
+    before: Option<(Part, u16)>,
 ) -> Option<State>
-    requires { NamesBegin (AtEntry hand Entry.CaseHead) text.now names.old work.old s }
-    ensures { NamesEnd (AtEntry hand Entry.CaseHead) 2 text.now names.old work.old s
+    requires { NamesBegin (AtEntry hand (branch_entry before)) text.now names.old work.old s }
+    ensures { NamesEnd (AtEntry hand (branch_entry before)) 2 text.now names.old work.old s
         names.new work.new result }
 {
     due(hand, NO_ASCRIPTION)?;
-    let branch = read_branch(text, s.at, b" of inl ", names, s.count)?;
+    let word = match before {
+        None => b" of inl ".as_slice(),
+        Some(_) => b", inr ".as_slice(),
+    };
+    let branch = read_branch(text, s.at, word, names, s.count)?;
     let behind = Progress {
         at: branch.end,
         count: branch.count,
         ..s
     };
-    let entry = Entry::CaseFirst(waiting(s, hand), branch.number as u16);
-    enter(work, behind, entry)
-}
-
-// The first branch of a case with this head is in hand, and then the second.
-fn give_first(
-    text: &[u8],
-    names: &mut [u8],
-    work: &mut Work,
-    s: Progress,
-    hand: Hand,
-    head: Part,
-    x: u16,
-) -> Option<State>
-    requires { NamesBegin (AtEntry hand (Entry.CaseFirst head x)) text.now names.old work.old s }
-    ensures { NamesEnd (AtEntry hand (Entry.CaseFirst head x)) 2 text.now names.old work.old s
-        names.new work.new result }
-{
-    due(hand, NO_ASCRIPTION)?;
-    let branch = read_branch(text, s.at, b", inr ", names, s.count)?;
-    let behind = Progress {
-        at: branch.end,
-        count: branch.count,
-        ..s
+    let part = waiting(s, hand);
+    let name = branch.number as u16;
+    let entry = match before {
+        None => Entry::CaseFirst(part, name),
+        Some((head, x)) => Entry::CaseSecond(head, x, part, name),
     };
-    let entry = Entry::CaseSecond(head, x, waiting(s, hand), branch.number as u16);
     enter(work, behind, entry)
 }
 
@@ -175,8 +160,8 @@ pub fn give(
         Entry::Bracket(p) => give_bracket(text, work, below, hand, p),
         Entry::Second(p, first) => give_second(text, work, below, hand, p, first),
         Entry::FunctionBody { name, label } => close_function(work, below, hand, name, label),
-        Entry::CaseHead => give_head(text, names, work, below, hand),
-        Entry::CaseFirst(head, x) => give_first(text, names, work, below, hand, head, x),
+        Entry::CaseHead => give_branch(text, names, work, below, hand, None),
+        Entry::CaseFirst(head, x) => give_branch(text, names, work, below, hand, Some((head, x))),
         Entry::CaseSecond(head, x, left, y) => close_case(work, below, hand, head, x, left, y),
         Entry::LetHead(x, y) => give_let(text, work, below, hand, x, y),
         Entry::LetBody(x, y, head) => close_let(work, below, hand, x, y, head),

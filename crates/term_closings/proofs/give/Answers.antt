@@ -40,21 +40,21 @@ pub returns-in-FunctionBody : goal.returns-in-FunctionBody
 unfolding NamesBegin NamesEnd with_names left_at left_after
 returns-in-FunctionBody c z at = ends_within _ _ _ _ _ (c.close_function.ensures _ (gives_top _ at c.requires.1 c.in-FunctionBody.is)) (omega (arith, c.requires.1))
 
-pub give_head-requires : goal.give_head-requires
+pub give_branch-requires : goal.give_branch-requires
 unfolding NamesBegin with_names
-give_head-requires c = let pre = c.requires in record { value = pre.0.value; holds = gives_top _ pre.0.holds pre.1 c.in-CaseHead.is }
+give_branch-requires c = let pre = c.requires in record { value = pre.0.value; holds = gives_top _ pre.0.holds pre.1 c.in-CaseHead.is }
 
 pub returns-in-CaseHead : goal.returns-in-CaseHead
 unfolding NamesBegin NamesEnd with_names left_at
-returns-in-CaseHead c z at = ends_within _ _ _ _ _ (c.give_head.ensures z (gives_top _ at c.requires.1 c.in-CaseHead.is)) (omega (arith, c.requires.1))
+returns-in-CaseHead c z at = ends_within _ _ _ _ _ (c.give_branch.ensures z (gives_top _ at c.requires.1 c.in-CaseHead.is)) (omega (arith, c.requires.1))
 
-pub give_first-requires : goal.give_first-requires
+pub give_branch-requires-in-CaseFirst : goal.give_branch-requires-in-CaseFirst
 unfolding NamesBegin with_names
-give_first-requires c = let pre = c.requires in record { value = pre.0.value; holds = gives_top _ pre.0.holds pre.1 c.in-CaseFirst.is }
+give_branch-requires-in-CaseFirst c = let pre = c.requires in record { value = pre.0.value; holds = gives_top _ pre.0.holds pre.1 c.in-CaseFirst.is }
 
 pub returns-in-CaseFirst : goal.returns-in-CaseFirst
 unfolding NamesBegin NamesEnd with_names left_at
-returns-in-CaseFirst c z at = ends_within _ _ _ _ _ (c.give_first.ensures z (gives_top _ at c.requires.1 c.in-CaseFirst.is)) (omega (arith, c.requires.1))
+returns-in-CaseFirst c z at = ends_within _ _ _ _ _ (c.give_branch-in-CaseFirst.ensures z (gives_top _ at c.requires.1 c.in-CaseFirst.is)) (omega (arith, c.requires.1))
 
 pub close_case-requires : goal.close_case-requires
 unfolding NamesBegin with_names
