@@ -10,7 +10,7 @@ use Rattle.definitions.specs.Code.{u16}
 use Rattle.definitions.specs.Sheet.{pair_size, name_limit, text_limit}
 use Rattle.definitions.specs.Encode.{concat, encode_pairs}
 use Rattle.output.specs.Numbers.{u16s}
-use Rattle.output.specs.Wrote.{Wrote, puts}
+use Rattle.output.specs.Wrote.{puts}
 use Rattle.appended_parts.specs.declared.Appended.{Appended}
 use Rattle.appended_parts.specs.Appended.{Room, WrotePair, Addable, Appends}
 
@@ -42,13 +42,13 @@ unfolding encode_pairs concat pair_size
 none_appended from room = record { room = room; count = refl; size = refl; pairs_are = refl; bytes_are = refl }
 
 -- one piece more
-pub one_appended : {from : ℕ} {ls : List (List ℕ)} {pairs bytes pairs' bytes' : List ℕ} {a : Appended} {next size : ℕ} (l : List ℕ)
+pub one_appended : {from : ℕ} {ls : List (List ℕ)} {pairs bytes pairs' bytes' : List ℕ} {a : Appended} {size : ℕ} (l : List ℕ)
     → length l ≡ size → Addable from a size → Appends from ls pairs bytes a
     → WrotePair (from + a.length) size pairs (pair_size * a.count) pairs'
-    → Wrote l true bytes a.length bytes' next
+    → bytes' ≡ puts true bytes a.length l
     → Appends from (ls ++ (l ∷ [])) pairs' bytes' (record { count = a.count + 1; length = a.length + size })
 unfolding pair_size puts u16s u16
-one_appended {from} {ls} {pairs} {bytes} {pairs'} {bytes'} {a} {next} {size} l is fits so pair wrote =
+one_appended {from} {ls} {pairs} {bytes} {pairs'} {bytes'} {a} {size} l is fits so pair stored =
     let few : length ls < name_limit = omega (arith, fits.few, so.count) in
     let short : length (concat ls) + length l ≤ text_limit = omega (arith, fits.short, so.size) in
     let more = length-append ls (l ∷ []) in
@@ -56,7 +56,7 @@ one_appended {from} {ls} {pairs} {bytes} {pairs'} {bytes'} {a} {next} {size} l i
     let p : List ℕ = u16s ((from + length (concat ls)) ∷ length l ∷ []) in
     let four : length p ≡ 4 = refl in
     let pair-stored : pairs' ≡ sets pairs (4 * length ls) p = rw (so.count, so.size, ← is) at pair in
-    let bytes-stored : bytes' ≡ sets bytes (length (concat ls)) l = rw so.size at wrote.stored in
+    let bytes-stored : bytes' ≡ sets bytes (length (concat ls)) l = rw so.size at stored in
     let end : 4 * length (ls ++ (l ∷ [])) ≡ 4 * length ls + length p = omega arith in
     record {
       room =

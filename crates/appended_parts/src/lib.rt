@@ -6,15 +6,13 @@ ghost use Rattle.std.specs.Prelude.{◌≡◌, ◌+◌, ◌*◌, ◌<◌, ◌≤
 ghost use Rattle.definitions.specs.Sheet.{pair_size, code_limit, names, propositions, text_length};
 ghost use Rattle.definitions.specs.Graft.{missing};
 ghost use Rattle.graft_laws.specs.Missing.{missing_below};
-ghost use Rattle.merged_names.specs.Numbered.{Numbered};
-ghost use Rattle.equal_conclusions.specs.Equality.{Numbers};
 ghost use Rattle.appended_parts.specs.Appended.{codes_below, Room, WrotePair, Addable, Appends};
 
-use equal_conclusions::proposition_code;
+use equal_conclusions::{NumberedSheets, proposition_code};
 use number::PAIR_SIZE;
-use output::{put_all, put_u16s};
-use renumbering::put_renumbered;
-use sheet::AdmittedSheet;
+use output::sink::put_u16s;
+use output::{Sink, Writer};
+use renumbering::put_proposition;
 use vocabulary::name;
 
 // How many pieces were appended, and how long they are together. The memories for pairs and bytes stand beside it: a struct that
@@ -32,8 +30,9 @@ fn append_pair(pairs: &mut [u8], from: usize, before: Appended, length: usize) -
     ensures more { result ≡ record { count = before.«count» + 1; length = before.«length» + length } }
 {
     let offset = from + before.length;
+    let to = PAIR_SIZE * before.count;
     let pair = [offset as u16, length as u16];
-    put_u16s(pairs, PAIR_SIZE * before.count, &pair, true);
+    put_u16s(&mut Writer { out: pairs, to }, &pair);
     Appended {
         count: before.count + 1,
         length: before.length + length,
@@ -42,94 +41,92 @@ fn append_pair(pairs: &mut [u8], from: usize, before: Appended, length: usize) -
 
 // Name n of the donor after those before it, if it is new: then its number is the next.
 fn append_name(
-    host: &AdmittedSheet,
-    donor: &AdmittedSheet,
-    numbers: &[u16],
+    sheets: &NumberedSheets,
     n: usize,
     before: Appended,
     pairs: &mut [u8],
     text: &mut [u8],
 ) -> Appended
-    requires n_bound { (n < names donor.now) × Numbered host.now donor.now (names donor.now) numbers.now }
-    requires appends { Appends (text_length host.now) (missing_below host.now donor.now n) pairs.old text.old before }
-    ensures { Appends (text_length host.now) (missing_below host.now donor.now (n + 1))
-        pairs.new text.new result }
+    requires n_bound { n < names sheets.now.donor.now }
+    requires appends { Appends (text_length sheets.now.host.now)
+        (missing_below sheets.now.host.now sheets.now.donor.now n) pairs.old text.old before }
+    ensures { Appends (text_length sheets.now.host.now)
+        (missing_below sheets.now.host.now sheets.now.donor.now (n + 1)) pairs.new text.new result }
 {
-    let h = host.header();
-    let v = donor.vocabulary();
-    if numbers[n] as usize != h.names + before.count {
+    let h = sheets.host.header();
+    let v = sheets.donor.vocabulary();
+    if sheets.donor_numbers[n] as usize != h.names + before.count {
         return before;
     }
-    let piece = name(donor.bytes(), v, n);
-    put_all(text, before.length, piece, true);
+    let piece = name(sheets.donor.bytes(), v, n);
+    let mut behind = Writer {
+        out: text,
+        to: before.length,
+    };
+    behind.put_all(piece);
     append_pair(pairs, h.text_length, before, piece.len())
 }
 
 // The donor's names that are missing in the host.
-pub fn append_names(
-    host: &AdmittedSheet,
-    donor: &AdmittedSheet,
-    numbers: &[u16],
-    pairs: &mut [u8],
-    text: &mut [u8],
-) -> Appended
-    requires numbered { Numbered host.now donor.now (names donor.now) numbers.now }
-    requires room { Room pairs.old text.old }
-    ensures { Appends (text_length host.now) (missing host.now donor.now)
+pub fn append_names(sheets: &NumberedSheets, pairs: &mut [u8], text: &mut [u8]) -> Appended
+    requires { Room pairs.old text.old }
+    ensures { Appends (text_length sheets.now.host.now) (missing sheets.now.host.now sheets.now.donor.now)
         pairs.new text.new result }
 {
     let mut appended = Appended {
         count: 0,
         length: 0,
     };
-    for n in 0..donor.header().names {
-        appended = append_name(host, donor, numbers, n, appended, pairs, text);
+    for n in 0..sheets.donor.header().names {
+        appended = append_name(sheets, n, appended, pairs, text);
     }
     appended
 }
 
 // Proposition i of the donor, over the merged numbers, after those before it.
 fn append_proposition(
-    donor: &AdmittedSheet,
-    numbers: &[u16],
+    sheets: &NumberedSheets,
     i: usize,
     from: usize,
     before: Appended,
     pairs: &mut [u8],
     code: &mut [u8],
 ) -> Appended
-    requires i_bound { (i < propositions donor.now) × (from ≤ code_limit) }
-    requires numbers { Numbers donor.now numbers.now }
-    requires appends { Appends from (codes_below donor.now numbers.now i) pairs.old code.old before }
-    ensures { Appends from (codes_below donor.now numbers.now (i + 1))
-        pairs.new code.new result }
+    requires i_bound { (i < propositions sheets.now.donor.now) × (from ≤ code_limit) }
+    requires appends { Appends from
+        (codes_below sheets.now.donor.now sheets.now.donor_numbers.now i) pairs.old code.old before }
+    ensures { Appends from
+        (codes_below sheets.now.donor.now sheets.now.donor_numbers.now (i + 1)) pairs.new code.new result }
 {
-    let g = donor.header();
-    let source = proposition_code(donor, i);
-    put_renumbered(source, g.names, numbers, code, before.length, true);
+    let g = sheets.donor.header();
+    let source = proposition_code(sheets.donor, i);
+    let mut behind = Writer {
+        out: code,
+        to: before.length,
+    };
+    put_proposition(source, g.names, sheets.donor_numbers, &mut behind);
     append_pair(pairs, from, before, source.len())
 }
 
 // All propositions of the donor, over the merged numbers, counted on from an offset.
 pub fn append_propositions(
-    donor: &AdmittedSheet,
-    numbers: &[u16],
+    sheets: &NumberedSheets,
     from: usize,
     pairs: &mut [u8],
     code: &mut [u8],
 ) -> Appended
     requires from_bound { from ≤ code_limit }
-    requires numbers { Numbers donor.now numbers.now }
     requires room { Room pairs.old code.old }
-    ensures { Appends from (codes_below donor.now numbers.now (propositions donor.now))
+    ensures { Appends from
+        (codes_below sheets.now.donor.now sheets.now.donor_numbers.now (propositions sheets.now.donor.now))
         pairs.new code.new result }
 {
     let mut appended = Appended {
         count: 0,
         length: 0,
     };
-    for i in 0..donor.header().propositions {
-        appended = append_proposition(donor, numbers, i, from, appended, pairs, code);
+    for i in 0..sheets.donor.header().propositions {
+        appended = append_proposition(sheets, i, from, appended, pairs, code);
     }
     appended
 }

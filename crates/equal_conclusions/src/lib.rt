@@ -2,17 +2,19 @@
 // codes over the merged numbers, by which names have equal bytes just where their numbers are equal.
 #![tactic(auto)]
 
+mod numbered_sheets;
+
 ghost use Rattle.std.specs.Prelude.{◌≡◌, ◌-◌, ◌<◌, ◌≤◌, length};
 ghost use Rattle.definitions.specs.Equal.{eq_conclusion};
 ghost use Rattle.definitions.specs.Sheet.{name_limit, names, propositions, steps, proposition_pairs, code_bytes, marked};
 ghost use Rattle.definitions.specs.Answers.{named_conclusion};
-ghost use Rattle.merged_names.specs.Numbered.{Numbered};
 ghost use Rattle.sheet.specs.Admitted.{Accepted};
 ghost use Rattle.steps.specs.StepAt.{KnownJudgement};
 ghost use Rattle.equal_conclusions.specs.Equality.{code_over, same_proposition, same_judgement};
 
 use identifier::same_name;
 use number::marked_bytes;
+pub use numbered_sheets::NumberedSheets;
 use output::Writer;
 use renumbering::put_proposition;
 use sheet::{AdmittedSheet, Sheet};
@@ -47,36 +49,27 @@ fn renumber_proposition<'a>(
 }
 
 // Whether a proposition of the host and one of the donor are equal.
-fn same_propositions(
-    host: &AdmittedSheet,
-    host_numbers: &[u16],
-    p: usize,
-    donor: &AdmittedSheet,
-    donor_numbers: &[u16],
-    q: usize,
-) -> bool
-    requires numbered { Numbered host.now host.now (names host.now) host_numbers.now }
-    requires numbered_2 { Numbered host.now donor.now (names donor.now) donor_numbers.now }
-    requires p_bound { (p < propositions host.now) × (q < propositions donor.now) }
-    ensures { result ≡ same_proposition host.now p donor.now q }
+fn same_propositions(sheets: &NumberedSheets, p: usize, q: usize) -> bool
+    requires { (p < propositions sheets.now.host.now) × (q < propositions sheets.now.donor.now) }
+    ensures { result ≡ same_proposition sheets.now.host.now p sheets.now.donor.now q }
 {
     let mut left = [0u8; Sheet::CODE_LIMIT];
     let mut right = [0u8; Sheet::CODE_LIMIT];
-    let ours = renumber_proposition(host, p, host_numbers, &mut left);
-    let theirs = renumber_proposition(donor, q, donor_numbers, &mut right);
+    let ours = renumber_proposition(sheets.host, p, sheets.host_numbers, &mut left);
+    let theirs = renumber_proposition(sheets.donor, q, sheets.donor_numbers, &mut right);
     same_name(ours, theirs)
 }
 
 // Whether a type judgement of the host and one of the donor are equal: names are equal where their bytes are, so that no derived
 // equality of judgements says it, and each part is tested by itself.
-fn same_judgements(host: &AdmittedSheet, x: Judgement, donor: &AdmittedSheet, y: Judgement) -> bool
-    requires { KnownJudgement (names host.now) x × KnownJudgement (names donor.now) y }
-    ensures { result ≡ same_judgement host.now x donor.now y }
+fn same_judgements(sheets: &NumberedSheets, x: Judgement, y: Judgement) -> bool
+    requires { KnownJudgement (names sheets.now.host.now) x × KnownJudgement (names sheets.now.donor.now) y }
+    ensures { result ≡ same_judgement sheets.now.host.now x sheets.now.donor.now y }
 {
-    let s = host.bytes();
-    let v = host.vocabulary();
-    let t = donor.bytes();
-    let w = donor.vocabulary();
+    let s = sheets.host.bytes();
+    let v = sheets.host.vocabulary();
+    let t = sheets.donor.bytes();
+    let w = sheets.donor.vocabulary();
     if !vocabulary::same_name(s, v, x.name as usize, t, w, y.name as usize) {
         return false;
     }
@@ -88,29 +81,20 @@ fn same_judgements(host: &AdmittedSheet, x: Judgement, donor: &AdmittedSheet, y:
 
 // Whether the conclusion of step k of the host and that of the donor's root are equal. One sheet's propositions are compared up to
 // their bound names; here names are of two sheets, and equal propositions have equal codes.
-pub fn same_conclusion(
-    host: &AdmittedSheet,
-    host_numbers: &[u16],
-    k: usize,
-    donor: &AdmittedSheet,
-    donor_numbers: &[u16],
-) -> bool
-    requires k_bound { k < steps host.now }
-    requires numbered { Numbered host.now host.now (names host.now) host_numbers.now }
-    requires numbered_2 { Numbered host.now donor.now (names donor.now) donor_numbers.now }
-    ensures { result ≡ eq_conclusion (named_conclusion host.now k)
-        (named_conclusion donor.now (steps donor.now - 1)) }
+pub fn same_conclusion(sheets: &NumberedSheets, k: usize) -> bool
+    requires { k < steps sheets.now.host.now }
+    ensures { result ≡ eq_conclusion (named_conclusion sheets.now.host.now k)
+        (named_conclusion sheets.now.donor.now (steps sheets.now.donor.now - 1)) }
 {
-    let ours = step_at(host.step_records(), k).conclusion;
-    let root = donor.header().steps - 1;
-    let theirs = step_at(donor.step_records(), root).conclusion;
+    let ours = step_at(sheets.host.step_records(), k).conclusion;
+    let root = sheets.donor.header().steps - 1;
+    let theirs = step_at(sheets.donor.step_records(), root).conclusion;
     match (ours, theirs) {
         (Conclusion::PropIsTrue(p), Conclusion::PropIsTrue(q)) => {
-            let (p, q) = (p as usize, q as usize);
-            same_propositions(host, host_numbers, p, donor, donor_numbers, q)
+            same_propositions(sheets, p as usize, q as usize)
         }
         (Conclusion::TypeJudgement(x), Conclusion::TypeJudgement(y)) => {
-            same_judgements(host, x, donor, y)
+            same_judgements(sheets, x, y)
         }
         _ => false,
     }

@@ -18,7 +18,7 @@ ghost use Rattle.merged_sheet.specs.Merging.{Merging};
 ghost use Rattle.grafting.specs.Answered.{equal_and_limited, FillsBy, slots_by};
 
 use definitions::{Reason, Refusal, Whose};
-use equal_conclusions::same_conclusion;
+use equal_conclusions::{NumberedSheets, same_conclusion};
 use merged_names::fill_numbers;
 use merged_sheet::merge;
 use name_index::{Index, SLOT_COUNT, build};
@@ -147,10 +147,16 @@ fn merge_equal(
     let mut host_numbers = [0u16; Sheet::NAME_LIMIT];
     let mut donor_numbers = [0u16; Sheet::NAME_LIMIT];
     number_names(host, donor, &mut host_numbers, &mut donor_numbers);
-    if !same_conclusion(host, &host_numbers, k, donor, &donor_numbers) {
+    let sheets = NumberedSheets {
+        host,
+        host_numbers: &host_numbers,
+        donor,
+        donor_numbers: &donor_numbers,
+    };
+    if !same_conclusion(&sheets, k) {
         return Err(Reason::ConclusionsDiffer.at(0));
     }
-    merge(host, k, donor, &donor_numbers, deep, out)
+    merge(&sheets, k, deep, out)
 }
 
 // 26 and then these.

@@ -11,7 +11,7 @@ use Rattle.definitions.specs.Outcome.{refuse, refuse_if, ◌>>=◌}
 use Rattle.definitions.specs.Sheet.{header_out_of_range}
 use Rattle.definitions.specs.Answers.{is_in_room}
 use Rattle.definitions.specs.Graft.{merged_sheet}
-use Rattle.output.specs.Wrote.{Wrote, puts}
+use Rattle.output.specs.Wrote.{puts}
 use Rattle.output.specs.Written.{filled}
 use Rattle.sheet.specs.declared.header.Sheet.{Sheet}
 use Rattle.std.specs.Prelude.{Ok, Err}
@@ -41,11 +41,11 @@ module _ (s t : List ℕ) (k : ℕ) (deep : Bool) where
     unfolding limited is_in_room refuse_if ◌>>=◌ refuse headed filled
     no_room l = rw (inside, lt-ltb (length before) (length M) l) (record { answer = refl; memory = refl })
 
-    pub written : {m : Sheet} {after text : List ℕ} {next : ℕ} → length M ≤ length before → m ≡ header_of M → text ≡ M → Wrote text true before 0 after next
+    pub written : {m : Sheet} {after text : List ℕ} → length M ≤ length before → m ≡ header_of M → text ≡ M → after ≡ puts true before 0 text
         → Merging (limited s t k deep (length before)) before after (Ok m)
     unfolding limited is_in_room refuse_if ◌>>=◌ headed filled puts
     written {m} {after} l e f w =
-        let stored : Wrote M true before 0 after _ = rw f at w in
+        let stored : after ≡ puts true before 0 M = rw f at w in
         let start : 0 + length M ≡ length M = omega arith in
         rw (inside, le-ltb (length before) (length M) l, e)
-        (record { answer = refl; memory = stored.stored ∙ rw start at (sets-eq M before 0 (omega arith)) })
+        (record { answer = refl; memory = stored ∙ rw start at (sets-eq M before 0 (omega arith)) })

@@ -1,7 +1,7 @@
 -- The bytes that are written are those of the merged sheet, and the header is its own.
 use Prim.Native.Nat.{ℕ, ◌+◌, ◌*◌, ◌-◌, ◌≤◌}
 use mathlib.Core.Path.{◌≡◌, refl, sym, ap, ◌∙◌}
-use mathlib.Core.Bool.{Bool, false}
+use mathlib.Core.Bool.{false}
 use mathlib.Core.List.{List, ◌++◌, append_assoc}
 use native.Mathlib.Omega.{arith}
 use lib.ListN.{length, take, drop, length-append, length-drop}
@@ -20,7 +20,6 @@ use Rattle.graft_laws.proofs.MergedNames.{row_length}
 use Rattle.graft_laws.proofs.MergedChecks.{merged_whole}
 use Rattle.graft_laws.proofs.MergedNumbers.{few_missing, all_missing}
 use Rattle.output.specs.Numbers.{u16s}
-use Rattle.output.specs.Wrote.{Wrote}
 use Rattle.merged_names.specs.Numbered.{Numbered}
 use Rattle.renumbering.specs.Renumbered.{mapped}
 use Rattle.renumbering.specs.StepOver.{steps_over, StepsMapped}
@@ -59,10 +58,6 @@ codes_count s t = row_length _ (sheet.propositions t)
 -- a slice up to the end
 up_to_end : (l : List ℕ) (n : ℕ) → take (length l - n) (drop n l) ≡ drop n l
 up_to_end l n = rw (← (length-drop n l)) (take-length (drop n l))
-
-pub wrote_as : {text text' before after : List ℕ} {write : Bool} {to next : ℕ} → text ≡ text' → Wrote text write before to after next
-    → Wrote text' write before to after next
-wrote_as e w = rw e at w
 
 -- the steps of an accepted sheet
 module _ {s : List ℕ} {h : Sheet} (a : AcceptedSheet s h) where

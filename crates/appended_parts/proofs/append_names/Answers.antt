@@ -8,16 +8,16 @@ use Rattle.appended_parts.proofs.Turns.{turned, name_count, no_names, all_names}
 use Rattle.appended_parts.proofs.append_names.Goals as goal
 use Rattle.appended_parts.proofs.append_names.Goals.{After-header-n-end}
 
-all : (c : After-header-n-end) → c.header-n-end.result.names ≡ names c.args.donor.now
+all : (c : After-header-n-end) → c.header-n-end.result.names ≡ names c.args.sheets.now.donor.now
 all c = name_count (beside_header c.header-n-end.ensures.is c.header-n-end.ensures.accepted)
 
 pub loop-n-init : goal.loop-n-init
-loop-n-init c = record { reached = omega arith; so = no_names _ _ _ c.requires.room; pair_size = refl; byte_size = refl }
+loop-n-init c = record { reached = omega arith; so = no_names _ _ _ c.requires; pair_size = refl; byte_size = refl }
 
 pub append_name-appended-requires : goal.append_name-appended-requires
 append_name-appended-requires c =
     record {
-      n_bound = (omega (arith, all (goal.at.append_name-appended-requires c).After-header-n-end, c.loop-n-test.true), c.requires.numbered);
+      n_bound = omega (arith, all (goal.at.append_name-appended-requires c).After-header-n-end, c.loop-n-test.true);
       appends = c.loop-n.invariant.so;
     }
 

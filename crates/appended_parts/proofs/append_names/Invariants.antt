@@ -6,4 +6,4 @@ use Rattle.appended_parts.proofs.append_names.Given as goal
 
 abbrev pub invariant-loop-n : goal.invariant-loop-n
 invariant-loop-n l =
-    Turning (names l.donor) l.n (text_length l.host) (missing_below l.host l.donor) l.initial.pairs l.initial.text l.pairs l.text l.appended
+    Turning (names l.sheets.donor.now) l.n (text_length l.sheets.host.now) (missing_below l.sheets.host.now l.sheets.donor.now) l.initial.pairs l.initial.text l.pairs l.text l.appended

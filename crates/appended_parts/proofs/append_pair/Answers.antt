@@ -1,6 +1,7 @@
 -- The two numbers of the pair, which fit.
 use mathlib.Core.Path.{refl}
 use native.Mathlib.Omega.{arith}
+use Rattle.std.proofs.Common.{rules}
 use Rattle.definitions.specs.Sheet.{pair_size, name_limit, text_limit}
 use Rattle.output.specs.Wrote.{puts}
 use Rattle.appended_parts.proofs.append_pair.Goals as goal
@@ -17,9 +18,9 @@ pub overflow_cast-pair-2 : goal.overflow_cast-pair-2
 unfolding text_limit
 overflow_cast-pair-2 c = omega (arith, c.requires.short)
 
-pub overflow_mul-before : goal.overflow_mul-before
+pub overflow_mul-to : goal.overflow_mul-to
 unfolding name_limit
-overflow_mul-before c = omega (arith, c.requires.few)
+overflow_mul-to c = omega (arith, c.requires.few)
 
 pub overflow_add-result : goal.overflow_add-result
 unfolding name_limit
@@ -31,4 +32,4 @@ overflow_add-result-2 c = omega (arith, c.requires.short)
 
 pub returns : goal.returns
 unfolding puts pair_size
-returns c = record { pair = c.put_u16s.ensures.stored; more = refl }
+returns c = record { pair = (let put = c.put_u16s.ensures.wrote.stored in search rules); more = refl }

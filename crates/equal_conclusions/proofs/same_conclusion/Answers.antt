@@ -9,13 +9,13 @@ use Rattle.equal_conclusions.proofs.same_conclusion.Goals as goal
 use Rattle.equal_conclusions.proofs.same_conclusion.Goals.{After-header-root, After-step_at-theirs}
 
 -- the donor beside its header
-donor_at : (c : After-header-root) → AcceptedSheet c.args.donor.now c.header-root.result
+donor_at : (c : After-header-root) → AcceptedSheet c.args.sheets.now.donor.now c.header-root.result
 donor_at c = beside_header c.header-root.ensures.is c.header-root.ensures.accepted
 
 pub step_at-ours-requires : goal.step_at-ours-requires
 step_at-ours-requires c =
     let record { is = is; accepted = accepted } = c.step_records.ensures in
-    has_step (with_header accepted) _ c.requires.k_bound is
+    has_step (with_header accepted) _ c.requires is
 
 pub overflow_sub-root : goal.overflow_sub-root
 overflow_sub-root c = some_step (donor_at (goal.at.overflow_sub-root c).After-header-root)
@@ -27,20 +27,20 @@ step_at-theirs-requires c =
 
 -- the conclusion of the host's step, and that of the donor's root
 ours : (c : After-step_at-theirs) → c.step_at-ours.result.conclusion
-    ≡ (step_at (step_records c.args.host.now) c.args.k).conclusion
+    ≡ (step_at (step_records c.args.sheets.now.host.now) c.args.k).conclusion
 ours c = concluded (with_header c.step_records.ensures.accepted) _ c.step_at-ours.ensures c.step_records.ensures.is
 
 theirs : (c : After-step_at-theirs) → c.step_at-theirs.result.conclusion
-    ≡ (step_at (step_records c.args.donor.now) (steps c.args.donor.now - 1)).conclusion
+    ≡ (step_at (step_records c.args.sheets.now.donor.now) (steps c.args.sheets.now.donor.now - 1)).conclusion
 theirs c = root_concluded (donor_at (goal.at.After-step_at-theirs c).After-header-root) c.step_at-theirs.ensures c.step_records-2.ensures.is
 
-pub same_propositions-requires-clause-p_bound : goal.same_propositions-requires-clause-p_bound
-same_propositions-requires-clause-p_bound c =
-    let here = goal.at.same_propositions-requires-clause-p_bound c in
+pub same_propositions-requires : goal.same_propositions-requires
+same_propositions-requires c =
+    let here = goal.at.same_propositions-requires c in
     let host = with_header c.step_records.ensures.accepted in
     let donor = donor_at here.After-header-root in
     let both = c.in-PropIsTrue-PropIsTrue in (
-      (known host _ c.requires.k_bound).proposition _ (sym (ours here.After-step_at-theirs) ∙ both.is-0),
+      (known host _ c.requires).proposition _ (sym (ours here.After-step_at-theirs) ∙ both.is-0),
       (known donor _ (rw (root_is donor) at (root_below donor))).proposition _ (sym (theirs here.After-step_at-theirs) ∙ both.is-1),
     )
 
@@ -50,7 +50,7 @@ same_judgements-requires c =
     let host = with_header c.step_records.ensures.accepted in
     let donor = donor_at here.After-header-root in
     let both = c.in-TypeJudgement-TypeJudgement in (
-      (known host _ c.requires.k_bound).judgement _ (sym (ours here.After-step_at-theirs) ∙ both.is-0),
+      (known host _ c.requires).judgement _ (sym (ours here.After-step_at-theirs) ∙ both.is-0),
       (known donor _ (rw (root_is donor) at (root_below donor))).judgement _ (sym (theirs here.After-step_at-theirs) ∙ both.is-1),
     )
 

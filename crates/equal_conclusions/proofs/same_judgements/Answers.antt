@@ -15,7 +15,7 @@ same_name-requires c =
     rw (c.bytes-s.ensures.is, c.bytes-t.ensures.is) (name_here (with_header v.accepted) v.is x.object, name_here (with_header w.accepted) w.is y.object)
 
 -- what the first question says
-objects : (c : After-same_name) → c.same_name.result ≡ eq_name (name_of c.args.host.now c.args.x.name) (name_of c.args.donor.now c.args.y.name)
+objects : (c : After-same_name) → c.same_name.result ≡ eq_name (name_of c.args.sheets.now.host.now c.args.x.name) (name_of c.args.sheets.now.donor.now c.args.y.name)
 objects c =
     let v = c.vocabulary-v.ensures in
     let w = c.vocabulary-w.ensures in

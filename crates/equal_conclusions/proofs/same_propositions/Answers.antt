@@ -8,6 +8,7 @@ pub returns : goal.returns
 returns c =
     let ours = c.renumber_proposition-ours.ensures in
     let theirs = c.renumber_proposition-theirs.ensures in
-    let record { numbered = numbered; numbered_2 = merged; p_bound = (p, q) } = c.requires in
+    let sheets = c.args.sheets.now in
+    let (p, q) = c.requires in
     c.same_name.ensures
-    ∙ by_codes (with_header ours.accepted) (with_header theirs.accepted) ours.accepted.bytes theirs.accepted.bytes numbered merged _ _ p q ours.is theirs.is
+    ∙ by_codes (with_header ours.accepted) (with_header theirs.accepted) ours.accepted.bytes theirs.accepted.bytes sheets.host_numbered sheets.donor_numbered _ _ p q ours.is theirs.is

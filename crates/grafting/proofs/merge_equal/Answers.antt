@@ -9,16 +9,11 @@ unfolding name_limit
 number_names-requires c = (omega arith, omega arith)
 
 pub same_conclusion-requires : goal.same_conclusion-requires
-same_conclusion-requires c =
-    let names = c.number_names.ensures in
-    record { k_bound = open_step _ _ c.requires; numbered = names.numbered; numbered_2 = names.numbered_2 }
+same_conclusion-requires c = open_step _ _ c.requires
 
 pub returns-then-not-same_conclusion : goal.returns-then-not-same_conclusion
 returns-then-not-same_conclusion c =
     rw c.at.ensures (other_conclusions _ _ _ _ _ c.same_conclusion.ensures c.if-not-same_conclusion.true _)
-
-pub merge-requires : goal.merge-requires
-merge-requires c = record { is_open = c.requires; numbered = c.number_names.ensures.numbered_2 }
 
 pub returns : goal.returns
 returns c =

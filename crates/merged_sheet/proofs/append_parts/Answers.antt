@@ -1,26 +1,24 @@
 -- What is appended gives the header.
 use Rattle.sheet.proofs.Admitted.{AcceptedSheet, its_header, beside_header}
-use Rattle.equal_conclusions.proofs.Codes.{has_numbers}
 use Rattle.merged_sheet.proofs.Bytes.{code_within, few_appended, few_codes, new_parts}
 use Rattle.merged_sheet.proofs.append_parts.Goals as goal
 use Rattle.merged_sheet.proofs.append_parts.Goals.{After-header-g}
 
-host : (c : After-header-g) → AcceptedSheet c.args.host.now c.header-h.result
+host : (c : After-header-g) → AcceptedSheet c.args.sheets.now.host.now c.header-h.result
 host c = beside_header c.header-h.ensures.is c.header-h.ensures.accepted
 
-donor : (c : After-header-g) → AcceptedSheet c.args.donor.now c.header-g.result
+donor : (c : After-header-g) → AcceptedSheet c.args.sheets.now.donor.now c.header-g.result
 donor c = beside_header c.header-g.ensures.is c.header-g.ensures.accepted
 
 pub append_names-names-requires : goal.append_names-names-requires
-append_names-names-requires c = record { numbered = c.requires.numbered; room = c.requires.room.0 }
+append_names-names-requires c = c.requires.0
 
 pub append_propositions-propositions-requires : goal.append_propositions-propositions-requires
 append_propositions-propositions-requires c =
     let here = (goal.at.append_propositions-propositions-requires c).After-header-g in
     record {
       from_bound = code_within (host here);
-      numbers = has_numbers (donor here) _ c.requires.numbered.room;
-      room = c.requires.room.1;
+      room = c.requires.1;
     }
 
 pub merged_header-requires : goal.merged_header-requires
@@ -28,8 +26,8 @@ merged_header-requires c =
     let here = (goal.at.merged_header-requires c).After-header-g in (
       (its_header (host here)).in_range,
       (its_header (donor here)).in_range,
-      few_appended (donor here) c.args.host.now c.append_names-names.ensures,
-      few_codes (donor here) c.header-g.ensures.accepted.bytes c.args.numbers.now c.append_propositions-propositions.ensures,
+      few_appended (donor here) c.args.sheets.now.host.now c.append_names-names.ensures,
+      few_codes (donor here) c.header-g.ensures.accepted.bytes c.args.sheets.now.donor_numbers.now c.append_propositions-propositions.ensures,
     )
 
 pub returns : goal.returns
@@ -38,7 +36,7 @@ returns c =
     let bytes = c.header-g.ensures.accepted.bytes in
     record {
       new_parts =
-          new_parts (host here) (donor here) bytes c.requires.numbered c.append_names-names.ensures c.append_propositions-propositions.ensures
+          new_parts (host here) (donor here) bytes c.args.sheets.now.donor_numbered c.append_names-names.ensures c.append_propositions-propositions.ensures
           c.merged_header.ensures;
       accepted = (c.header-h.ensures.accepted, c.header-g.ensures.accepted);
     }

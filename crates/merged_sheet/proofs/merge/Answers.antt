@@ -9,24 +9,24 @@ use lib.ListN.{length}
 use Rattle.definitions.specs.Sheet.{pair_size, name_limit, text_limit, header_out_of_range}
 use Rattle.definitions.specs.Graft.{merged_sheet}
 use Rattle.graft_laws.proofs.MergedSheet.{Grafts, here}
-use Rattle.output.proofs.Writing.{then}
+use Rattle.std.proofs.Common.{rules}
+use Rattle.output.specs.Laws.{writer_then}
 use Rattle.sheet.specs.Header.{header_of}
 use Rattle.sheet.proofs.Admitted.{with_header}
-use Rattle.equal_conclusions.proofs.Codes.{has_numbers}
 use Rattle.merged_sheet.proofs.Bytes.{grafts, longer, merged_bytes, header_is, end_is, range}
 use Rattle.merged_sheet.proofs.Answers.{over-by-header, over-by-levels, inside_both, passes-limit, no_room, written}
 use Rattle.merged_sheet.proofs.merge.Goals as goal
 use Rattle.merged_sheet.proofs.merge.Goals.{After-append_parts-m, After-layout, After-out_of_range, Else-deep}
 
 -- the two sheets and the open step
-graft_here : (c : After-append_parts-m) → Grafts c.args.host.now c.args.donor.now c.args.k
+graft_here : (c : After-append_parts-m) → Grafts c.args.sheets.now.host.now c.args.sheets.now.donor.now c.args.k
 graft_here c =
     let (host, donor) = c.append_parts-m.ensures.accepted in
-    grafts (with_header host) (with_header donor) host.bytes donor.bytes c.requires.is_open
+    grafts (with_header host) (with_header donor) host.bytes donor.bytes c.requires
 
 -- the header is the merged sheet's
 abbrev merged_here : After-append_parts-m → List ℕ
-merged_here c = merged_sheet c.args.host.now c.args.donor.now c.args.k
+merged_here c = merged_sheet c.args.sheets.now.host.now c.args.sheets.now.donor.now c.args.k
 
 its_header : (c : After-append_parts-m) → c.append_parts-m.result ≡ header_of (merged_here c)
 its_header c = header_is (with_header c.append_parts-m.ensures.accepted.0) c.append_parts-m.ensures.new_parts (graft_here c)
@@ -45,10 +45,7 @@ end c =
 pub append_parts-m-requires : goal.append_parts-m-requires
 unfolding pair_size name_limit text_limit
 append_parts-m-requires c =
-    record {
-      numbered = c.requires.numbered;
-      room = (record { for_pairs = omega arith; for_bytes = omega arith }, record { for_pairs = omega arith; for_bytes = omega arith });
-    }
+    (record { for_pairs = omega arith; for_bytes = omega arith }, record { for_pairs = omega arith; for_bytes = omega arith })
 
 pub returns-then-out_of_range : goal.returns-then-out_of_range
 returns-then-out_of_range c =
@@ -68,22 +65,18 @@ returns-then-out-layout c =
     rw c.at-then-out-layout.ensures
     (no_room _ _ _ _ (inside_both _ _ _ _ (within (goal.at.returns-then-out-layout c).Else-deep) c.if-deep.false) _ (omega (arith, c.if-out-layout.true, end (goal.at.returns-then-out-layout c).After-layout)))
 
-pub put_pairs-after_pairs-requires : goal.put_pairs-after_pairs-requires
+pub put_pairs-requires : goal.put_pairs-requires
 unfolding pair_size name_limit
-put_pairs-after_pairs-requires c =
-    let here = goal.at.put_pairs-after_pairs-requires c in
+put_pairs-requires c =
+    let here = goal.at.put_pairs-requires c in
     let record { new_parts = new; accepted = (host, _) } = c.append_parts-m.ensures in
     record {
       longer = (range (with_header host) new (graft_here here.After-append_parts-m) (within here.Else-deep), longer (with_header host) new);
       pair_room = (omega arith, omega arith);
     }
 
-pub put_records-after_records-requires : goal.put_records-after_records-requires
-put_records-after_records-requires c =
-    record {
-      k_bound = here (graft_here (goal.at.put_records-after_records-requires c).After-append_parts-m);
-      numbers = has_numbers (with_header c.append_parts-m.ensures.accepted.1) _ c.requires.numbered.room;
-    }
+pub put_records-requires : goal.put_records-requires
+put_records-requires c = here (graft_here (goal.at.put_records-requires c).After-append_parts-m)
 
 pub put_text_and_code-requires : goal.put_text_and_code-requires
 unfolding text_limit
@@ -98,6 +91,7 @@ put_text_and_code-requires c =
 pub returns : goal.returns
 returns c =
     let record { new_parts = new; accepted = (host, donor) } = c.append_parts-m.ensures in
+    let put = writer_then c.put_pairs.ensures (writer_then c.put_records.ensures c.put_text_and_code.ensures) in
     written _ _ _ _ (inside_both _ _ _ _ (within (goal.at.returns c).Else-deep) c.if-deep.false) _ (omega (arith, c.if-out-layout.false, end (goal.at.returns c).After-layout)) (its_header (goal.at.returns c).After-append_parts-m)
-    (merged_bytes (with_header host) new (with_header donor) c.requires.numbered c.args.k)
-    (then c.put_pairs-after_pairs.ensures (then c.put_records-after_records.ensures c.put_text_and_code.ensures))
+    (merged_bytes (with_header host) new (with_header donor) c.args.sheets.now.donor_numbered c.args.k)
+    (let stored = put.wrote.stored in let same = put.same_memory in search rules)
