@@ -1,8 +1,7 @@
 -- Codes over other name numbers: each name goes through a map in memory.
-use Rattle.std.specs.Prelude.{ℕ, ◌≤◌, ◌≡◌, Bool, List, map, length, get_or}
+use Rattle.std.specs.Prelude.{ℕ, ◌≤◌, ◌≡◌, List, map, length, get_or}
 use Rattle.definitions.specs.Prop.{Prop, PropParameter, rename_parameter, rename_prop}
 use Rattle.definitions.specs.Code.{encode, Codable}
-use Rattle.output.specs.Wrote.{Wrote}
 use Rattle.prefix_code.specs.Scan.{Coding, Stands}
 use Rattle.prefix_code.specs.Head.{Head, TrueHead, FalseHead, BinaryHead, AtomHead, QuantifiedHead}
 
@@ -42,7 +41,3 @@ pub record Whole (names : ℕ) (code : List ℕ) : Type 0 where
 -- whatever proposition it is, it is put over the map's numbers
 pub record PutWhole {S : Type 0} (names : ℕ) (code numbers : List ℕ) (puts : S → List ℕ → S → Type 0) (before after : S) : Type 0 where
   pub put : (p : Prop ℕ) → Codable names p → code ≡ encode p → puts before (encode (rename_prop (mapped numbers) p)) after
-
--- the same, in lent memory by a position and a flag
-pub record RenumbersWhole (names : ℕ) (code numbers : List ℕ) (write : Bool) (before : List ℕ) (to : ℕ) (after : List ℕ) (r : ℕ) : Type 0 where
-  pub wrote : (p : Prop ℕ) → Codable names p → code ≡ encode p → Wrote (encode (rename_prop (mapped numbers) p)) write before to after r

@@ -2,23 +2,25 @@
 // from another sheet's, and all else stays as it is.
 #![tactic(auto)]
 
-ghost use Rattle.std.specs.Prelude.{◌≡◌, ◌+◌, ◌<◌, ◌≤◌, leb, length};
+ghost use Rattle.std.specs.Prelude.{◌≡◌, ℕ, ◌+◌, ◌<◌, ◌≤◌, leb, length};
 ghost use Rattle.definitions.specs.Sheet.{number_at};
 ghost use Rattle.definitions.specs.Code.{u16};
-ghost use Rattle.output.specs.Wrote.{Wrote};
 ghost use Rattle.prefix_code.specs.Scan.{proposition_coding, parameter_coding, parameters_coding};
 ghost use Rattle.prefix_code.specs.Head.{head_coding};
-ghost use Rattle.renumbering.specs.Renumbered.{Standing, Renumbers, rename_head, rename_parameters, Whole, PutWhole, RenumbersWhole};
+ghost use Rattle.renumbering.specs.Renumbered.{Standing, Renumbers, rename_head, rename_parameters, Whole, PutWhole};
 ghost use Rattle.definitions.specs.Prop.{rename_parameter};
 ghost use Rattle.renumbering.specs.Renumbered.{mapped};
 ghost use Rattle.renumbering.specs.StepOver.{identifiers_of, name_over, conclusion_over, step_over, conclusion_bytes, step_bytes, steps_over};
 ghost use Rattle.renumbering.specs.StepOver.{ConclusionMapped, IdentifiersMapped, StepMapped, StepsMapped};
 
 use number::number_at;
+use output::Sink;
 use output::sink::{put_u16, put_u16s};
-use output::{Counter, Sink, Writer};
 use prefix_code::{Head, ParameterKind, head_end, parameter_end};
-use steps::{Conclusion, Identifier, Judgement, Step, identifier_count, step_at};
+use steps::{
+    Conclusion, Identifier, Judgement, PROP_IS_TRUE, Step, TYPE_JUDGEMENT, identifier_count,
+    step_at,
+};
 
 // Code, place and map stand loose in what follows: the place moves from call to call, and what is asked and promised is one relation of a
 // coding, `Standing` or `Renumbers`, in which each function names its own.
@@ -33,9 +35,10 @@ fn put_name<S: Sink<u8>>(code: &[u8], at: usize, numbers: &[u16], sink: &mut S)
 }
 
 // The parameter at a position: its kind, its name through the map, and its id if it has one.
-fn put_parameter<S: Sink<u8>>(code: &[u8], at: usize, names: usize, numbers: &[u16], sink: &mut S)
-    requires { Standing (parameter_coding names) code.now at × (names ≤ length numbers.now) }
-    ensures { Renumbers (parameter_coding names) rename_parameter code.now at numbers.now S.puts sink.old sink.new }
+fn put_parameter<S: Sink<u8>>(code: &[u8], at: usize, numbers: &[u16], sink: &mut S)
+    requires { (names : ℕ) × Standing (parameter_coding names) code.now at × (names ≤ length numbers.now) }
+    ensures { (names : ℕ) →
+        Renumbers (parameter_coding names) rename_parameter code.now at numbers.now S.puts sink.old sink.new }
 {
     let byte = code[at];
     let Some(kind) = ParameterKind::of_byte(byte) else {
@@ -63,7 +66,7 @@ fn put_parameters<S: Sink<u8>>(
 {
     let mut i = at;
     for _ in 0..count {
-        put_parameter(code, i, names, numbers, sink);
+        put_parameter(code, i, numbers, sink);
         i = parameter_end(code, i, names);
     }
 }
@@ -105,29 +108,6 @@ pub fn put_proposition<S: Sink<u8>>(code: &[u8], names: usize, numbers: &[u16], 
         put_head(code, i, names, numbers, sink);
         i = head_end(code, i, names);
     }
-}
-
-// The same in lent memory, by a position and a flag.
-pub fn put_renumbered(
-    code: &[u8],
-    names: usize,
-    numbers: &[u16],
-    out: &mut [u8],
-    to: usize,
-    write: bool,
-) -> usize
-    requires { Whole names code.now × (names ≤ length numbers.now) }
-    ensures { RenumbersWhole names code.now numbers.now write
-        out.old to out.new result }
-{
-    if write {
-        let mut writer = Writer { out, to };
-        put_proposition(code, names, numbers, &mut writer);
-        return writer.to;
-    }
-    let mut counter = Counter { count: to };
-    put_proposition(code, names, numbers, &mut counter);
-    counter.count
 }
 
 // The numbers of a step's identifiers: the map's for those that its rule has, and the others as they stand.
@@ -183,15 +163,15 @@ fn renumber_step(numbers: &[u16], step: Step, shift: usize) -> Step
     }
 }
 
-// A conclusion and the column after it: kind 0, a proposition and two zeros, or kind 1, an object and its datatype. The
-// kinds are numbers of document 01's format, and each stands in the one line that puts it.
+// A conclusion and the column after it: its kind, and then a proposition and two zeros, or an object and its datatype.
 fn put_conclusion<S: Sink<u8>>(sink: &mut S, conclusion: Conclusion, column: u16)
     ensures { S.puts sink.old (conclusion_bytes conclusion column) sink.new }
 {
     match conclusion {
-        Conclusion::PropIsTrue(p) => put_u16s(sink, &[0, p, 0, 0, column]),
+        Conclusion::PropIsTrue(p) => put_u16s(sink, &[PROP_IS_TRUE as u16, p, 0, 0, column]),
         Conclusion::TypeJudgement(x) => {
-            put_u16s(sink, &[1, x.name, x.unique_id, x.datatype, column]);
+            let kind = TYPE_JUDGEMENT as u16;
+            put_u16s(sink, &[kind, x.name, x.unique_id, x.datatype, column]);
         }
     }
 }
@@ -227,28 +207,4 @@ pub fn put_renumbered_steps<S: Sink<u8>>(
     for k in 0..steps {
         put_step(sink, renumber_step(numbers, step_at(records, k), shift));
     }
-}
-
-// The same in lent memory, by a position and a flag.
-pub fn put_steps(
-    records: &[u8],
-    steps: usize,
-    shift: usize,
-    numbers: &[u16],
-    out: &mut [u8],
-    to: usize,
-    write: bool,
-) -> usize
-    requires { StepsMapped records.now steps shift numbers.now }
-    ensures { Wrote (steps_over (mapped numbers.now) shift records.now steps) write
-        out.old to out.new result }
-{
-    if write {
-        let mut writer = Writer { out, to };
-        put_renumbered_steps(records, steps, shift, numbers, &mut writer);
-        return writer.to;
-    }
-    let mut counter = Counter { count: to };
-    put_renumbered_steps(records, steps, shift, numbers, &mut counter);
-    counter.count
 }

@@ -14,6 +14,7 @@ ghost use Rattle.steps.specs.StepAt.{step_at};
 ghost use Rattle.steps.specs.Tables.{TreeStart, SizeTable, FilledSizes, HeightTable, FilledHeights};
 
 use record::StepRecord;
+pub use record::{PROP_IS_TRUE, TYPE_JUDGEMENT};
 pub use rule::Rule;
 use search::lowest;
 

@@ -27,9 +27,9 @@ const DATATYPE: usize = 16;
 const COLUMN: usize = 18;
 
 // The kinds of conclusions: the number of a proposition, or an object with its id and its datatype.
-const PROP_IS_TRUE: usize = 0;
+pub const PROP_IS_TRUE: usize = 0;
 
-const TYPE_JUDGEMENT: usize = 1;
+pub const TYPE_JUDGEMENT: usize = 1;
 
 // Step k of records that have it.
 #[derive(Clone, Copy)]

@@ -11,30 +11,30 @@ free : (g : _) → (c : In-Instantiated g) → get_or c.args.code.now c.args.at 
 free g c = c.in-Some.ensures ∙ ap kind_byte c.in-Instantiated.is
 
 pub bounds-code-at : goal.bounds-code-at
-bounds-code-at g c = omega (arith, (parameter_at _ c.requires.0).inside)
+bounds-code-at g c = omega (arith, (parameter_at _ c.requires.1).inside)
 
 pub unreachable-requires : goal.unreachable-requires
-unreachable-requires g c = omega (arith, (parameter_at _ c.requires.0).kind, c.in_default.ensures)
+unreachable-requires g c = omega (arith, (parameter_at _ c.requires.1).kind, c.in_default.ensures)
 
 pub overflow_add-at : goal.overflow_add-at
-overflow_add-at g c = omega (arith, (parameter_at _ c.requires.0).inside)
+overflow_add-at g c = omega (arith, (parameter_at _ c.requires.1).inside)
 
 pub put_name-requires : goal.put_name-requires
 put_name-requires g c =
-    let there = parameter_at _ c.requires.0 in
-    (omega (arith, there.inside), omega (arith, there.name, there.below, c.requires.1))
+    let there = parameter_at _ c.requires.1 in
+    (omega (arith, there.inside), omega (arith, there.name, there.below, c.requires.2))
 
 pub overflow_add-at-in-Instantiated : goal.overflow_add-at-in-Instantiated
-overflow_add-at-in-Instantiated g c = omega (arith, ((parameter_at _ c.requires.0).instantiated (free g (goal.at.overflow_add-at-in-Instantiated g c).In-Instantiated)).1)
+overflow_add-at-in-Instantiated g c = omega (arith, ((parameter_at _ c.requires.1).instantiated (free g (goal.at.overflow_add-at-in-Instantiated g c).In-Instantiated)).1)
 
 pub number_at-requires : goal.number_at-requires
-number_at-requires g c = omega (arith, ((parameter_at _ c.requires.0).instantiated (free g (goal.at.number_at-requires g c).In-Instantiated)).1)
+number_at-requires g c = omega (arith, ((parameter_at _ c.requires.1).instantiated (free g (goal.at.number_at-requires g c).In-Instantiated)).1)
 
 pub returns-in-Uninstantiated : goal.returns-in-Uninstantiated
 returns-in-Uninstantiated g c =
-    uninstantiated_written _ _ g.met.S.Sink.laws c.put.ensures c.put_name.ensures (c.in-Some.ensures ∙ ap kind_byte c.in-Uninstantiated.is)
+    λ names. uninstantiated_written names _ g.met.S.Sink.laws c.put.ensures c.put_name.ensures (c.in-Some.ensures ∙ ap kind_byte c.in-Uninstantiated.is)
 
 pub returns-in-Instantiated : goal.returns-in-Instantiated
 returns-in-Instantiated g c =
-    instantiated_written _ _ g.met.S.Sink.laws c.put.ensures c.put_name.ensures (free g (goal.at.returns-in-Instantiated g c).In-Instantiated)
+    λ names. instantiated_written names _ g.met.S.Sink.laws c.put.ensures c.put_name.ensures (free g (goal.at.returns-in-Instantiated g c).In-Instantiated)
     c.number_at.ensures.0 c.put_u16.ensures
