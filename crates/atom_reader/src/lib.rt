@@ -13,9 +13,8 @@ ghost use Rattle.words.specs.Table.{table_names, NamePlace};
 ghost use Rattle.atom_reader.specs.Scope.{Binds};
 ghost use Rattle.atom_reader.specs.Reading.{Begins, parameters_from, ParameterAnswer, ParametersAnswer, atom_head, atom_from, PropAnswer};
 
-use output::put;
 use prefix_code::{ATOM, PARAMETER_LIMIT, STRONGEST};
-use prop_parts::{parameter_kind, put_parameter, put_u16, read_name};
+use prop_parts::{parameter_kind, put, put_parameter, put_u16, read_name};
 use words::{expect, number_of_name};
 
 // Where the reading stands: in the text, in the names, under how many quantifiers, and in the code. The reader of terms has three of

@@ -18,9 +18,8 @@ ghost use Rattle.prop_frames.specs.Fronts.{Part, Front, front_sign, part_least, 
 ghost use Rattle.prop_frames.specs.Sides.{GoesOnAt, sides_agree, inserted, Joinable, Joins};
 
 use atom_reader::{Place, PropRead};
-use output::put;
 use prefix_code::{Connective, FALSE, IMPL, Quantifier, STRONGEST};
-use prop_parts::{CONSTANT_SIZE, Constant, Opening, connective_at, put_u16, read_name};
+use prop_parts::{CONSTANT_SIZE, Constant, Opening, connective_at, put, put_u16, read_name};
 use words::expect;
 
 // The names of a quantifier: where they end, their numbers, and how many names there are now.

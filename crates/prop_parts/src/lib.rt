@@ -3,7 +3,7 @@
 // flag stays; and code may be put in front of code that is stored (prop_frames), which an output's sink, which only goes on, cannot do.
 #![tactic(auto)]
 
-ghost use Rattle.std.specs.Prelude.{◌≡◌, ◌≤◌, ◌<◌, length, drop, eqb, None, MatchOption};
+ghost use Rattle.std.specs.Prelude.{◌≡◌, ◌≤◌, ◌<◌, [], ◌∷◌, length, drop, eqb, None, MatchOption};
 ghost use Rattle.definitions.specs.Code.{u16};
 ghost use Rattle.definitions.specs.Text.{occurs};
 ghost use Rattle.definitions.specs.TermReader.{sign, connective};
@@ -12,7 +12,7 @@ ghost use Rattle.output.specs.Wrote.{puts};
 ghost use Rattle.words.specs.Table.{Table};
 ghost use Rattle.prop_parts.specs.Found.{ConnectiveAt, constant_byte, opening_sign, sign_size, SignAt, NameLacks, NameGiven, bound_numbers, kind_of, ParameterPut};
 
-use output::put;
+use output::{Sink, Writer};
 use prefix_code::{Connective, ParameterKind, Quantifier};
 use words::{expect, name_end, number_of_name};
 
@@ -138,12 +138,31 @@ pub fn read_name(text: &[u8], at: usize, names: &mut [u8], count: usize) -> Opti
     })
 }
 
+// Bytes of code from `to` on.
+#[tactic(auto, unfolding(output::specs::Wrote::puts))]
+fn store(code: &mut [u8], to: usize, bytes: &[u8], write: bool)
+    ensures { code.new ≡ puts write code.old to bytes.now }
+{
+    if write {
+        let mut writer = Writer { out: code, to };
+        writer.put_all(bytes);
+    }
+}
+
+// One byte.
+pub fn put(code: &mut [u8], to: usize, b: u8, write: bool)
+    ensures { code.new ≡ puts write code.old to (b ∷ []) }
+{
+    store(code, to, &[b], write);
+}
+
 // A number of two bytes, low byte first.
+#[tactic(auto, unfolding(definitions::specs::Code::u16))]
 pub fn put_u16(code: &mut [u8], to: usize, n: usize, write: bool)
-    requires { (to < 300000) × (n < 65536) }
+    requires { n < 65536 }
     ensures { code.new ≡ puts write code.old to (u16 n) }
 {
-    output::put_u16(code, to, n as u16, write);
+    store(code, to, &(n as u16).to_le_bytes(), write);
 }
 
 // The kind of a parameter whose name has this number, where quantifiers bind names of these numbers.

@@ -4,4 +4,4 @@ use Rattle.atom_reader.proofs.put_atom.Goals as goal
 
 pub returns : goal.returns
 returns c =
-    head_stored _ _ _ _ _ c.put.ensures.stored c.put_u16.ensures c.put-2.ensures.stored
+    head_stored _ _ _ _ _ c.put.ensures c.put_u16.ensures c.put-2.ensures

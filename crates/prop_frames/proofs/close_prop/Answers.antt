@@ -24,7 +24,7 @@ returns-then-not-agree c f q e m =
 pub returns-else-not-agree : goal.returns-else-not-agree
 returns-else-not-agree c f q e m =
     rw (is_negated f (rw c.in-Negation.is at e), c.enclosing.ensures)
-    (closes_negation m c.agree.ensures c.if-not-agree.false (search rules) c.put.ensures.stored)
+    (closes_negation m c.agree.ensures c.if-not-agree.false (search rules) c.put.ensures)
 
 pub returns-then-part-2 : goal.returns-then-part-2
 returns-then-part-2 c f q e m = closes_quantifier_not m _ f (rw c.in-Binder.is at e) c.if-part-2.true

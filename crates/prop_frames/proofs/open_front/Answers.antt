@@ -27,7 +27,7 @@ returns-in-Bracket c ns b =
 pub returns-in-Negation : goal.returns-in-Negation
 returns-in-Negation c ns b =
     rw c.in-Negation.is
-    (opens_negation b c.requires.begins (rw c.in-Negation.is at (ap (λ n. c.args.p.at + n) c.size.ensures)) (after_within (goal.at.returns-in-Negation c).After-size) c.put.ensures.stored)
+    (opens_negation b c.requires.begins (rw c.in-Negation.is at (ap (λ n. c.args.p.at + n) c.size.ensures)) (after_within (goal.at.returns-in-Negation c).After-size) c.put.ensures)
 
 pub binder_names-requires : goal.binder_names-requires
 binder_names-requires c =

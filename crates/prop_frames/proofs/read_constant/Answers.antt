@@ -5,4 +5,4 @@ use Rattle.prop_frames.proofs.read_constant.Goals as goal
 
 pub returns : goal.returns
 returns c = λ part ns pairs bound table.
-    constant part ns c.args.sign c.byte.ensures (c.eq.ensures ∙ same_bottom c.args.sign) table c.requires.0 c.put.ensures.stored
+    constant part ns c.args.sign c.byte.ensures (c.eq.ensures ∙ same_bottom c.args.sign) table c.requires.0 c.put.ensures

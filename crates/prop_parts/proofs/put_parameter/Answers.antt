@@ -9,13 +9,13 @@ pub returns-in-Uninstantiated : goal.returns-in-Uninstantiated
 unfolding parameter_of encode_parameter u16
 returns-in-Uninstantiated c =
     rw c.in-Uninstantiated.is
-    (record { stored = bound_stored _ _ _ _ (rw (c.byte.ensures, c.in-Uninstantiated.is) at c.put.ensures.stored) c.put_u16.ensures; size_is = refl })
+    (record { stored = bound_stored _ _ _ _ (rw (c.byte.ensures, c.in-Uninstantiated.is) at c.put.ensures) c.put_u16.ensures; size_is = refl })
 
 pub returns-in-Instantiated : goal.returns-in-Instantiated
 unfolding parameter_of encode_parameter u16
 returns-in-Instantiated c =
     rw c.in-Instantiated.is
     (record {
-      stored = free_stored _ _ _ _ (rw (c.byte.ensures, c.in-Instantiated.is) at c.put.ensures.stored) c.put_u16.ensures c.put_u16-in-Instantiated.ensures;
+      stored = free_stored _ _ _ _ (rw (c.byte.ensures, c.in-Instantiated.is) at c.put.ensures) c.put_u16.ensures c.put_u16-in-Instantiated.ensures;
       size_is = refl;
     })
