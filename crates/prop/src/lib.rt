@@ -6,7 +6,6 @@ ghost use Rattle.definitions.specs.Name.{Name};
 ghost use Rattle.definitions.specs.Prop.{rename_prop};
 ghost use Rattle.definitions.specs.Sheet.{pair_offset};
 ghost use Rattle.definitions.specs.Display.{connective_text, quantifier_text};
-ghost use Rattle.output.specs.Wrote.{Wrote};
 ghost use Rattle.prefix_code.specs.PropAt.{prop_at};
 ghost use Rattle.prefix_code.specs.Shape.{meant, quantifier_meant};
 ghost use Rattle.vocabulary.specs.Vocabulary.{name_in, Names};
@@ -14,7 +13,7 @@ ghost use Rattle.prop.specs.Ends.{Known, Fillable, Filled, AllFillable};
 ghost use Rattle.prop.specs.Printing.{quantifier_head, prop_text, part_text, AtomPrintable, Printable, Legible};
 
 use number::{number_at, pair_offset};
-use output::{Counter, Sink, Writer};
+use output::Sink;
 use prefix_code::{Connective, Head, Quantifier, Shape, head_end, parameter_end, parts_after};
 use vocabulary::{Vocabulary, code_of, name, shape};
 
@@ -200,27 +199,4 @@ pub fn put_proposition<S: Sink<u8>>(
             put_part(sink, bytes, v, ends, right, connective.right_least());
         }
     }
-}
-
-// The text of the proposition at `at`, in lent memory by a position and a flag.
-pub fn print(
-    out: &mut [u8],
-    to: usize,
-    bytes: &[u8],
-    v: Vocabulary,
-    ends: &[u16],
-    at: usize,
-    write: bool,
-) -> usize
-    requires { Printable bytes.now v ends.now at }
-    ensures { Wrote (prop_text bytes.now v at) write out.old to out.new result }
-{
-    if write {
-        let mut writer = Writer { out, to };
-        put_proposition(&mut writer, bytes, v, ends, at);
-        return writer.to;
-    }
-    let mut counter = Counter { count: to };
-    put_proposition(&mut counter, bytes, v, ends, at);
-    counter.count
 }
