@@ -9,6 +9,9 @@ use native.Mathlib.Nat.{div-add-mod', div-lt_iff_lt-mul, mod-lt, mul-le-mul}
 use lib.ListN.{length, get_or, length-append}
 use Rattle.definitions.specs.Prop.{Prop, True, Binary, Connective, connective_byte}
 use Rattle.definitions.specs.Code.{encode}
+use Rattle.prefix_code.specs.declared.Connective as program
+use Rattle.prefix_code.specs.declared.Connective.TheVariants.{And, Or, Impl}
+use Rattle.prefix_code.specs.Shape.{meant}
 use Rattle.definitions.specs.Exercises.{of_root, of_roots, sizes, of_size, exercises}
 use Rattle.exercise_laws.specs.Counts.{before, each}
 use Rattle.exercise_laws.proofs.Counts as counts
@@ -77,13 +80,13 @@ module _ (names : ℕ) where
         let here = at.at_root c f k l k r.left r.right d.few (rw left-list d.left_below) (rw right-list d.right_below) in
         rw d.together (rw (left-list, right-list, same_before l (omega (arith, d.few))) at here)
 
--- any root but the first two
-pub root_byte : (q : ℕ) → q < 3 → get_or (2 ∷ 3 ∷ 4 ∷ []) q 0 ≡ connective_byte (root_of q)
+-- the byte of each root
+pub root_byte : (q : ℕ) (d : program.Connective) → q < 3 → connective_byte (meant (get_or (And ∷ Or ∷ Impl ∷ []) q d)) ≡ connective_byte (root_of q)
 unfolding connective_byte root_of
-root_byte zero h = refl
-root_byte (suc zero) h = refl
-root_byte (suc (suc zero)) h = refl
-root_byte (suc (suc (suc q))) h = absurd (omega arith)
+root_byte zero d h = refl
+root_byte (suc zero) d h = refl
+root_byte (suc (suc zero)) d h = refl
+root_byte (suc (suc (suc q))) d h = absurd (omega arith)
 
 -- what stands at an index among those of k + 1 connectives, by its root
 by_root : (f : ℕ → List (Prop ℕ)) (k q j : ℕ) → q < 3 → j < each (counts.lengths f) k → get_or (of_roots f k) (q * each (counts.lengths f) k + j) True ≡ get_or (of_root (root_of q) f k k) j True

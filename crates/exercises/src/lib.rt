@@ -12,7 +12,7 @@ ghost use Rattle.exercises.specs.Sizes.{Few, size, CountOf, Located, Divided, co
 use definitions::{Reason, Refusal};
 use names::count_names;
 use output::{Counter, Sink, Writer};
-use prefix_code::{AND, ATOM, IMPL, OR};
+use prefix_code::{ATOM, Connective};
 
 // At most so many connectives.
 const CONNECTIVE_LIMIT: usize = 3;
@@ -25,8 +25,8 @@ const COUNTS: [[usize; 4]; 4] = [
     [5, 75, 2250, 84375],
 ];
 
-// The bytes of the roots: ∧ before ∨ before ⊃.
-const ROOTS: [u8; 3] = [AND, OR, IMPL];
+// The roots: ∧ before ∨ before ⊃.
+const ROOTS: [Connective; 3] = [Connective::And, Connective::Or, Connective::Impl];
 
 // How many propositions have exactly k connectives. That names and connectives are few is asked as a fact, since the connectives are
 // others at each call: a struct of both numbers would be made anew for each.
@@ -112,7 +112,7 @@ fn put_sized<S: Sink<u8>>(sink: &mut S, names: usize, k: usize, i: usize)
     }
     let each = count(names, k) / 3;
     let parts = divide(names, k - 1, i % each);
-    sink.put(ROOTS[i / each]);
+    sink.put(ROOTS[i / each].byte());
     put_sized(sink, names, parts.size, parts.left);
     put_sized(sink, names, k - 1 - parts.size, parts.right);
 }

@@ -244,6 +244,9 @@ pub fn is_deep(code: &[u8], names: usize, limit: usize) -> bool
 // How strongly ⊤, ⊥, atoms and negations bind.
 pub const STRONGEST: usize = 999;
 
+// How strongly quantified propositions bind.
+pub const WEAKEST: usize = 1;
+
 // ∧, ∨ and ⊃, each with its byte in front.
 #[derive(Debug, Clone, Copy, PartialEq, Eq)]
 pub enum Connective {

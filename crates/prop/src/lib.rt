@@ -14,13 +14,13 @@ ghost use Rattle.prop.specs.Printing.{quantifier_head, prop_text, part_text, Ato
 
 use number::{number_at, pair_offset};
 use output::Sink;
-use prefix_code::{Connective, Head, Quantifier, Shape, head_end, parameter_end, parts_after};
+use prefix_code::{
+    Connective, Head, Quantifier, Shape, WEAKEST, head_end, parameter_end, parts_after,
+};
 use vocabulary::{Vocabulary, code_of, name, shape};
 
-// How strongly an atom binds, and a quantifier.
+// How strongly an atom binds.
 pub const ATOM_STRENGTH: usize = prefix_code::STRONGEST;
-
-const QUANTIFIER_STRENGTH: usize = 1;
 
 // Fills in where the proposition at `at` ends, and where each of its parts does, each at its start. The table lies beside the code, an
 // entry for each byte: it is filled in once and read in one look, where a scan of the left part at each level would take the square.
@@ -66,7 +66,7 @@ pub fn precedence(code: &[u8], ends: &[u16], at: usize) -> usize
     }
     match head {
         Head::Binary(connective) => connective.strength(),
-        Head::Quantified(_) => QUANTIFIER_STRENGTH,
+        Head::Quantified(_) => WEAKEST,
         Head::True | Head::False | Head::Atom => ATOM_STRENGTH,
     }
 }

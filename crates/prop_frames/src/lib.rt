@@ -18,7 +18,7 @@ ghost use Rattle.prop_frames.specs.Fronts.{Part, Front, front_sign, part_least, 
 ghost use Rattle.prop_frames.specs.Sides.{GoesOnAt, sides_agree, inserted, Joinable, Joins};
 
 use atom_reader::{Place, PropRead};
-use prefix_code::{Connective, FALSE, IMPL, Quantifier, STRONGEST};
+use prefix_code::{Connective, FALSE, IMPL, Quantifier, STRONGEST, WEAKEST};
 use prop_parts::{CONSTANT_SIZE, Constant, Opening, connective_at, put, put_u16, read_name};
 use words::expect;
 
@@ -184,7 +184,7 @@ pub fn close_prop(
             if part.own {
                 return None;
             }
-            Some(enclosing(part, 5, 1))
+            Some(enclosing(part, 5, WEAKEST))
         }
     }
 }

@@ -14,6 +14,10 @@ use output::Sink;
 use prefix_code::{Head, head_end, scan};
 use vocabulary::{Vocabulary, code_of};
 
+// Code, a place in it, the end of a row, the count of names and the list stand loose, as in prefix_code: the place moves from call to call,
+// and in a struct of the other four each clause would read `Row walk.names walk.code.now at walk.end` for `Row names code.now at end`. A
+// memory and its vocabulary stand loose for the reason that vocabulary gives.
+
 // An entry of a list: the number of a name, an atom's parameter count or 0 for a datatype, and the position after its head.
 #[derive(Clone, Copy)]
 pub struct Entry {

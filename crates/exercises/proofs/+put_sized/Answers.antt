@@ -1,5 +1,6 @@
 -- The root's byte, and then the code of each part, which has fewer connectives.
 use Prim.Native.Nat.{ℕ, ◌/◌}
+use mathlib.Core.Path.{◌∙◌}
 use native.Mathlib.Omega.{arith}
 use Rattle.exercises.proofs.Unranked.{fewer, Root, root_of_lem, each_some, root_below, root_byte, rest_below, coded}
 use Rattle.exercises.proofs.+put_sized.Goals as goal
@@ -51,12 +52,12 @@ put_sized-requires-2 g t c =
     let found = c.divide-parts.ensures in
     λ κs lives. (omega (arith, c.decreases, found.few, (root g t (goal.at.put_sized-requires-2 g t c).After-count-each).part), (lives, (fewer few (omega arith), found.right_below)))
 
-pub bounds-i : goal.bounds-i
-bounds-i g t c = root_below (root g t (goal.at.bounds-i g t c).After-count-each)
+pub bounds-i-i : goal.bounds-i-i
+bounds-i-i g t c = root_below (root g t (goal.at.bounds-i-i g t c).After-count-each)
 
 pub returns : goal.returns
 returns g t c =
     let laws = g.met.S.Sink.laws in
     let root = root g t (goal.at.returns g t c).After-count-each in
-    rw (coded root c.divide-parts.result c.divide-parts.ensures, ← (root_byte _ (root_below root)))
+    rw (coded root c.divide-parts.result c.divide-parts.ensures, ← (c.byte.ensures ∙ root_byte _ _ (root_below root)))
     (laws.then c.put.ensures (laws.then c.put_sized.ensures c.put_sized-2.ensures))
