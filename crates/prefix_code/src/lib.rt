@@ -26,17 +26,17 @@ pub const TRUE: u8 = 0;
 
 pub const FALSE: u8 = 1;
 
-pub const AND: u8 = 2;
+pub const AND: u8 = Connective::And as u8;
 
-pub const OR: u8 = 3;
+pub const OR: u8 = Connective::Or as u8;
 
-pub const IMPL: u8 = 4;
+pub const IMPL: u8 = Connective::Impl as u8;
 
 pub const ATOM: u8 = 5;
 
-pub const FOR_ALL: u8 = 6;
+pub const FOR_ALL: u8 = Quantifier::ForAll as u8;
 
-pub const EXISTS: u8 = 7;
+pub const EXISTS: u8 = Quantifier::Exists as u8;
 
 // Code, a place in it and the count of its names stand loose: the place moves from call to call, and in a struct of the other two each
 // clause would read `code.bytes.now` and `code.names`. What a function promises of an end is one relation, `Ends`, of its own coding.
