@@ -16,25 +16,14 @@ use Rattle.definitions.specs.Admission.{too_few_trees}
 use Rattle.definitions.specs.Export.{Place, admits_count, places, placed_term, export, export_all}
 use Rattle.steps.specs.Size.{size, sizes}
 use Rattle.steps.proofs.Premisses.{seam, tree_steps, premisses_counted}
-use Rattle.steps.proofs.Tables.{size_table_shorter}
 use Rattle.proof_tree.specs.declared.table.Row.{Row}
 use Rattle.std.specs.Prelude.{Result, Ok, Err, ℕ}
 use Rattle.proof_tree.specs.Table.{TableRow}
 use Rattle.proof_tree.specs.Premisses.{premisses_from}
 use Rattle.proof_tree.specs.Terms.{first_three}
-use Rattle.proof_tree.specs.Exportable.{Exportable}
 use Rattle.proof_tree.specs.Exporting.{ExportedTerm, Answered, gives, refuses, StepPlaced, StepExported}
 use Rattle.proof_tree.proofs.Ordering.{whole_ordered}
 use Rattle.proof_tree.proofs.ReadPremisses.{PremissesRead, three_parts, grown_then, read_all}
-
--- fewer steps can be exported too
-pub exportable_shorter : {names : ℕ} {pairs code records sizes : List ℕ} {m n : ℕ} → m ≤ n → Exportable names pairs code records sizes n → Exportable names pairs code records sizes m
-exportable_shorter {records = records} {sizes} {m} {n} h e =
-    record {
-      good = λ k l. e.good k (omega arith);
-      table = size_table_shorter records sizes m n h e.table;
-      sized = omega (arith, e.sized);
-    }
 
 -- what an answer says, by its variant
 pub term_of : {names : ℕ} {pairs code records : List ℕ} {k : ℕ} {outcome : Outcome (ProofTerm ℕ)} {before : List ℕ} {used : ℕ} {parts : (ℕ → Prop ℕ) → List (ProofTerm ℕ)} {least most : ℕ} {after : List ℕ} {r : Result ℕ Refusal} {next : ℕ}

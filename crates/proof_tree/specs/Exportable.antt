@@ -8,6 +8,7 @@ use Rattle.steps.specs.Records.{HasStep}
 use Rattle.steps.specs.Tables.{SizeTable}
 use Rattle.steps.specs.declared.Conclusion.TheVariants.{PropIsTrue}
 use Rattle.steps.specs.StepAt.{step_at}
+use Rattle.proof_tree.specs.declared.sized_steps.SizedSteps.{SizedSteps}
 
 -- the pair of a proposition is there, and marks the code of one proposition
 pub record Coded (names : ℕ) (pairs code : List ℕ) (i : ℕ) : Type 0 where
@@ -23,13 +24,17 @@ pub record GoodStep (names : ℕ) (pairs code records : List ℕ) (k : ℕ) : Ty
   pub few : k < 65536
   pub short : length code < 65536
 
--- so it is with some count of names
-pub record SomeGoodStep (pairs code records : List ℕ) (k : ℕ) : Type 0 where
-  pub names : ℕ
-  pub good : GoodStep names pairs code records k
-
 -- so many steps are good, each finds its premisses, and the table has the sizes of their trees
 pub record Exportable (names : ℕ) (pairs code records sizes : List ℕ) (steps : ℕ) : Type 0 where
   pub good : (k : ℕ) → k < steps → GoodStep names pairs code records k
   pub table : SizeTable records steps sizes
   pub sized : steps ≤ length sizes
+
+-- so it is of all the steps that the walk has, with a count of names
+abbrev pub ExportableWith : ℕ → SizedSteps → Type 0
+ExportableWith names s = Exportable names s.pairs.now s.code.now s.records.now s.sizes.now s.count
+
+-- and with some count of names
+pub record SomeExportable (s : SizedSteps) : Type 0 where
+  pub names : ℕ
+  pub exportable : ExportableWith names s

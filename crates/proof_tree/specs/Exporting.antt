@@ -15,7 +15,8 @@ use Rattle.proof_term.specs.Tally.{Tallied}
 use Rattle.proof_term.specs.Making.{Kept}
 use Rattle.prefix_code.specs.PropAt.{prop_at}
 use Rattle.prefix_code.specs.Shape.{ImplicationAt}
-use Rattle.proof_tree.specs.Exportable.{GoodStep}
+use Rattle.proof_tree.specs.declared.sized_steps.SizedSteps.{SizedSteps}
+use Rattle.proof_tree.specs.Exportable.{ExportableWith}
 use Rattle.proof_tree.specs.Terms.{HasProposition, part_terms, Ordered}
 
 -- the offset of the proposition that a step concludes, or of the left side of such an implication
@@ -65,7 +66,12 @@ StepPlaced names pairs code records k mode reads parts before used after r =
     Answered names pairs code records k (placed_term mode (step_in names pairs code records k) (ts (prop_at names code))) before used ts
     (used + 1 - reads) (used + 2) after r
 
--- the same with whatever count of names the step is good
-abbrev pub GoodStepPlaced : List ℕ → List ℕ → List ℕ → ℕ → Place → ℕ → List ℕ → List ℕ → ℕ → List ℕ → Result ℕ Refusal → Type 0
-GoodStepPlaced pairs code records k mode reads parts before used after r =
-    (names : ℕ) → GoodStep names pairs code records k → StepPlaced names pairs code records k mode reads parts before used after r
+-- Of steps that can be exported, with whatever count of names they can be:
+module _ (s : SizedSteps) where
+  abbrev pub Exported : ℕ → Place → List ℕ → ℕ → List ℕ → Result ℕ Refusal → Type 0
+  Exported k mode before used after r =
+      (names : ℕ) → ExportableWith names s → StepExported names s.pairs.now s.code.now s.records.now k mode before used after r
+
+  abbrev pub Placed : ℕ → Place → ℕ → List ℕ → List ℕ → ℕ → List ℕ → Result ℕ Refusal → Type 0
+  Placed k mode reads parts before used after r =
+      (names : ℕ) → ExportableWith names s → StepPlaced names s.pairs.now s.code.now s.records.now k mode reads parts before used after r

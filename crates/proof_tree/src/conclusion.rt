@@ -1,5 +1,4 @@
-// A step's conclusion, as it is taken apart for a label. The walk stands on the steps and below the sheet, so it takes the pairs and
-// the code, of which `Readable` says once what is asked.
+// A step's conclusion, as it is taken apart for a label: by the pairs and the code alone, of which `Readable` says once what is asked.
 ghost use Rattle.std.specs.Prelude.{ℕ, ◌<◌, ◌≡◌};
 ghost use Rattle.definitions.specs.Reason.{number_of};
 ghost use Rattle.proof_tree.specs.Table.{ending_of};

@@ -1,31 +1,30 @@
 // From the steps of a sheet to the records of its term (source document 000).
-// The count of names, by which propositions are read from their code, is passed on for the contracts alone. The slices that the walk
-// reads travel one by one: in a struct each clause below would name them field by field, as `steps.now.records.now`. So do the records
-// that it makes and the count of those made: each call hands the memory on and gives the count back.
+// The records that the walk makes travel beside the count of those made: each call hands the memory on and gives the count back.
 #![tactic(auto)]
 
 mod conclusion;
+mod sized_steps;
 mod step;
 mod table;
 mod term;
 
-ghost use Rattle.std.specs.Prelude.{ℕ, ◌+◌, ◌*◌, ◌-◌, ◌<◌, ◌≡◌, get_or};
-ghost use Rattle.definitions.specs.Tree.{rule_in, tree_in};
+ghost use Rattle.std.specs.Prelude.{◌+◌, ◌*◌, ◌-◌, ◌<◌, ◌≡◌, get_or};
+ghost use Rattle.definitions.specs.Tree.{rule_in};
 ghost use Rattle.definitions.specs.Export.{checking};
-ghost use Rattle.steps.specs.Size.{size};
 ghost use Rattle.proof_term.specs.Making.{Room};
 ghost use Rattle.proof_tree.specs.Table.{mode_of, ending_of, TableRow};
 ghost use Rattle.proof_tree.specs.Opening.{Paired};
 ghost use Rattle.proof_tree.specs.Labelling.{ending_at};
 ghost use Rattle.proof_tree.specs.Terms.{Parts, first_three};
-ghost use Rattle.proof_tree.specs.Exportable.{SomeGoodStep, Exportable};
-ghost use Rattle.proof_tree.specs.Exporting.{RoomFor, GoodStepPlaced, StepExported};
+ghost use Rattle.proof_tree.specs.Exportable.{SomeExportable};
+ghost use Rattle.proof_tree.specs.Exporting.{RoomFor, Placed, Exported};
 ghost use Rattle.proof_tree.specs.Wrapping.{Wrapped};
 
 use conclusion::annotation_of;
 use definitions::{Reason, Refusal};
 use number::pair_offset;
 use proof_term::{Label, Node, make};
+pub use sized_steps::SizedSteps;
 use step::premiss;
 use steps::{Conclusion, premiss_count, rule_byte, step_at};
 pub use table::ReasoningMode;
@@ -68,9 +67,7 @@ fn ending_in(mode: ReasoningMode, ending: Ending) -> Ending
 // The term of step k in its mode, over the records of its premisses' terms: its ending says which label it has, and whether an
 // ascription follows.
 fn placed_term(
-    pairs: &[u8],
-    code: &[u8],
-    step_records: &[u8],
+    steps: &SizedSteps,
     k: usize,
     mode: ReasoningMode,
     row: Row,
@@ -78,15 +75,21 @@ fn placed_term(
     term_records: &mut [u16],
     used: usize,
 ) -> Result<usize, Refusal>
-    requires some_good_step { SomeGoodStep pairs.now code.now step_records.now k
-        × TableRow (rule_in step_records.now k) row }
+    requires exportable { SomeExportable steps.now × (k < steps.now.count) }
+    requires row { TableRow (rule_in steps.now.records.now k) row }
     requires parts { Parts row.term (get_or parts 0 0) (get_or parts 1 0) (get_or parts 2 0) term_records.old used
         × Room term_records.old (used + 1) }
-    ensures { GoodStepPlaced pairs.now code.now step_records.now k
-        (mode_of mode) row.fewest (first_three parts) term_records.old used term_records.new result }
+    ensures { Placed steps.now k (mode_of mode) row.fewest (first_three parts)
+        term_records.old used term_records.new result }
 {
+    let SizedSteps {
+        pairs,
+        code,
+        records,
+        ..
+    } = *steps;
     let ending = ending_in(mode, row.ending);
-    let step = step_at(step_records, k);
+    let step = step_at(records, k);
     let conclusion = step.conclusion;
     let label = annotation_of(pairs, code, ending, conclusion, k)?;
     let first = step.first.name;
@@ -100,24 +103,18 @@ fn placed_term(
 
 // The term of step k in its mode: its premisses are counted on entering it and come next, in order; its conclusion comes last.
 fn do_export_as_proof_term(
-    names: usize,
-    pairs: &[u8],
-    code: &[u8],
-    step_records: &[u8],
-    sizes: &[u16],
+    steps: &SizedSteps,
     k: usize,
     mode: ReasoningMode,
     term_records: &mut [u16],
     used: usize,
 ) -> Result<usize, Refusal>
-    requires exportable { Exportable names pairs.now code.now step_records.now sizes.now (k + 1) }
-    requires room_for { RoomFor term_records.old
-        (used + 2 * size (tree_in names pairs.now code.now step_records.now k)) }
-    ensures { StepExported names pairs.now code.now step_records.now k
-        (mode_of mode) term_records.old used term_records.new result }
+    requires exportable { SomeExportable steps.now × (k < steps.now.count) }
+    requires room_for { RoomFor term_records.old (used + 2 * get_or steps.now.sizes.now k 0) }
+    ensures { Exported steps.now k (mode_of mode) term_records.old used term_records.new result }
 {
-    let row = row_of(rule_byte(step_records, k));
-    if !row.admits_count(premiss_count(step_records, k)) {
+    let row = row_of(rule_byte(steps.records, k));
+    if !row.admits_count(premiss_count(steps.records, k)) {
         return Err(Reason::PremissCount.at(k));
     }
     let reads = row.fewest as usize;
@@ -126,12 +123,8 @@ fn do_export_as_proof_term(
     let mut next = used;
     for (i, &premiss_mode) in modes[..reads].iter().enumerate() {
         let after = do_export_as_proof_term(
-            names,
-            pairs,
-            code,
-            step_records,
-            sizes,
-            premiss(step_records, k, i, sizes),
+            steps,
+            premiss(steps, k, i),
             premiss_mode.below(mode),
             term_records,
             next,
@@ -139,41 +132,18 @@ fn do_export_as_proof_term(
         parts[i] = (after - 1) as u16;
         next = after;
     }
-    placed_term(
-        pairs,
-        code,
-        step_records,
-        k,
-        mode,
-        row,
-        parts,
-        term_records,
-        next,
-    )
+    placed_term(steps, k, mode, row, parts, term_records, next)
 }
 
 // The sheet's term: what the last step gives in checking mode.
-pub fn export_as_proof_term(
-    names: usize,
-    pairs: &[u8],
-    code: &[u8],
-    step_records: &[u8],
-    sizes: &[u16],
-    steps: usize,
-    term_records: &mut [u16],
-) -> Result<usize, Refusal>
-    requires exportable { Exportable names pairs.now code.now step_records.now sizes.now steps × (0 < steps) }
-    requires room_for { RoomFor term_records.old (2 * steps) }
-    ensures { StepExported names pairs.now code.now step_records.now
-        (steps - 1) checking term_records.old 0 term_records.new result }
+pub fn export_as_proof_term(steps: &SizedSteps, term_records: &mut [u16]) -> Result<usize, Refusal>
+    requires exportable { SomeExportable steps.now × (0 < steps.now.count) }
+    requires room_for { RoomFor term_records.old (2 * steps.now.count) }
+    ensures { Exported steps.now (steps.now.count - 1) checking term_records.old 0 term_records.new result }
 {
     do_export_as_proof_term(
-        names,
-        pairs,
-        code,
-        step_records,
-        sizes,
-        steps - 1,
+        steps,
+        steps.count - 1,
         ReasoningMode::Checking,
         term_records,
         0,

@@ -1,10 +1,10 @@
 // Which steps finish a step's premisses.
-ghost use Rattle.std.specs.Prelude.{◌+◌, ◌<◌, ◌≤◌, ◌≡◌, length};
+ghost use Rattle.std.specs.Prelude.{◌+◌, ◌<◌, ◌≡◌};
 ghost use Rattle.definitions.specs.Sheet.{premiss_count};
-ghost use Rattle.steps.specs.Records.{HasStep};
-ghost use Rattle.steps.specs.Tables.{SizeTable};
+ghost use Rattle.proof_tree.specs.Exportable.{SomeExportable};
 ghost use Rattle.proof_tree.specs.Premisses.{PremissStep};
 
+use crate::sized_steps::SizedSteps;
 use steps::premiss_count;
 
 // How many of the premisses come after the one of a position.
@@ -18,12 +18,13 @@ fn later_premisses(count: usize, position: usize) -> usize
 // The step that finishes the premiss of a position, earliest first: back from step k over the premisses after it. Each step back is
 // as long as the size says where the last one ended. The closure of a `fold` would have to say in clauses of its own which step has a
 // tree before it and where that tree starts; the loop needs none beside its invariant.
-pub fn premiss(step_records: &[u8], k: usize, position: usize, sizes: &[u16]) -> usize
-    requires has_step { (HasStep step_records.now k) × (position < premiss_count step_records.now k) }
-    requires k_in_bounds { (k ≤ length sizes.now) × SizeTable step_records.now (k + 1) sizes.now }
-    ensures { PremissStep step_records.now k position result }
+pub fn premiss(steps: &SizedSteps, k: usize, position: usize) -> usize
+    requires exportable { SomeExportable steps.now × (k < steps.now.count) }
+    requires position_in_bounds { position < premiss_count steps.now.records.now k }
+    ensures { PremissStep steps.now.records.now k position result }
 {
-    let later = later_premisses(premiss_count(step_records, k) as usize, position);
+    let later = later_premisses(premiss_count(steps.records, k) as usize, position);
+    let sizes = steps.sizes;
     let mut start = k;
     for _ in 0..later {
         start -= sizes[start - 1] as usize;

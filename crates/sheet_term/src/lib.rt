@@ -10,7 +10,7 @@ ghost use Rattle.sheet_term.specs.Counted.{counted_of};
 
 use definitions::Refusal;
 use proof_term::{RECORD_SIZE, annotation_count};
-use proof_tree::export_as_proof_term;
+use proof_tree::{SizedSteps, export_as_proof_term};
 use sheet::{AdmittedSheet, Sheet};
 
 // Room for two term records for each step.
@@ -26,10 +26,14 @@ fn export(
     ensures { Gives sheet.now terms.new result }
 {
     let h = sheet.header();
-    let pairs = sheet.proposition_pairs();
-    let code = sheet.code_bytes();
-    let records = sheet.step_records();
-    let next = export_as_proof_term(h.names, pairs, code, records, sizes, h.steps, terms)?;
+    let steps = SizedSteps {
+        pairs: sheet.proposition_pairs(),
+        code: sheet.code_bytes(),
+        records: sheet.step_records(),
+        sizes,
+        count: h.steps,
+    };
+    let next = export_as_proof_term(&steps, terms)?;
     Ok((h, next - 1))
 }
 

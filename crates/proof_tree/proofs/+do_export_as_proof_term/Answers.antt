@@ -1,132 +1,148 @@
 -- What is left of the premisses decides what they all come to. The calls end by the step's number.
-use Prim.Native.Nat.{ℕ, ◌≤◌}
+use Prim.Native.Nat.{ℕ, ◌+◌, ◌≤◌, ◌<◌}
 use mathlib.Core.Path.{◌≡◌, refl, sym, ◌∙◌}
 use mathlib.Core.Bool.{false}
 use native.Mathlib.Omega.{arith}
+use lib.ListN.{get_or}
 use borrow.Author.Rules.{rules}
+use Rattle.steps.specs.Size.{sizes}
+use Rattle.proof_tree.specs.Premisses.{premisses_from}
 use Rattle.definitions.specs.Sheet.{premiss_count}
 use Rattle.definitions.specs.Tree.{rule_in}
 use Rattle.definitions.specs.Admission.{too_few_trees}
 use Rattle.definitions.specs.Export.{row, admits_count}
 use Rattle.proof_tree.specs.Table.{mode_of, TableRow}
-use Rattle.proof_tree.specs.Exportable.{GoodStep}
+use Rattle.proof_tree.specs.Exportable.{GoodStep, ExportableWith}
 use Rattle.proof_tree.proofs.Counts.{enough}
 use Rattle.proof_tree.proofs.Rows.{reads_all}
 use Rattle.proof_tree.proofs.ReadPremisses.{read_none, read_more, read_refused, room_next, read_parts}
-use Rattle.proof_tree.proofs.Walking.{exportable_shorter, term_of, refusal_of, refused_as, size_tree, count_refused, Entered, premiss_refused, step_placed}
+use Rattle.proof_tree.proofs.Walking.{term_of, refusal_of, refused_as, size_tree, count_refused, Entered, premiss_refused, step_placed}
 use Rattle.proof_tree.proofs.+do_export_as_proof_term.Goals as goal
 use Rattle.proof_tree.proofs.+do_export_as_proof_term.Goals.{Start, After-row_of-row, Else-not-admits_count, In-loop-i}
 
+-- the steps, and the tree of step k as the table has it
 module _ (t : ℕ) where
-  good : (c : Start t) → let s = c.args in
-      GoodStep s.names s.pairs.now s.code.now s.step_records.now s.k
-  good c = c.requires.exportable.good c.args.k (omega arith)
+  good : (c : Start t) {names : ℕ} → let s = c.args.steps.now in ExportableWith names s → GoodStep names s.pairs.now s.code.now s.records.now c.args.k
+  good c e = e.good c.args.k c.requires.exportable.1
 
-  found : (c : Start t) → let s = c.args in
-      too_few_trees s.names s.pairs.now s.code.now s.step_records.now s.k ≡ false
-  found c = c.requires.exportable.table.enough _ _ _ _ (omega arith)
+  found : (c : Start t) {names : ℕ} → let s = c.args.steps.now in
+      ExportableWith names s → too_few_trees names s.pairs.now s.code.now s.records.now c.args.k ≡ false
+  found c e = e.table.enough _ _ _ _ c.requires.exportable.1
 
-  is_row : (c : After-row_of-row t) → let s = c.args in
-      TableRow (rule_in s.step_records.now s.k) c.row_of-row.result
+  is_row : (c : After-row_of-row t) → TableRow (rule_in c.args.steps.now.records.now c.args.k) c.row_of-row.result
   unfolding rule_in
   is_row c = rw c.rule_byte.ensures at c.row_of-row.ensures
 
-  entered : (c : Else-not-admits_count t) → let s = c.args in
-      Entered s.names s.pairs.now s.code.now s.step_records.now s.k c.row_of-row.result
-  entered c =
+  entered : (c : Else-not-admits_count t) {names : ℕ} → let s = c.args.steps.now in
+      ExportableWith names s → Entered names s.pairs.now s.code.now s.records.now c.args.k c.row_of-row.result
+  entered c e =
       record {
         is_row = is_row (goal.at.Else-not-admits_count t c).After-row_of-row;
-        found = found (goal.at.Else-not-admits_count t c).Start;
+        found = found (goal.at.Else-not-admits_count t c).Start e;
         right = rw c.premiss_count.ensures
             at (sym (c.admits_count.ensures _ (is_row (goal.at.Else-not-admits_count t c).After-row_of-row)) ∙ c.if-not-admits_count.false);
       }
 
+  entered_some : (c : Else-not-admits_count t) → let s = c.args.steps.now in
+      Entered c.requires.exportable.0.names s.pairs.now s.code.now s.records.now c.args.k c.row_of-row.result
+  entered_some c = entered c c.requires.exportable.0.exportable
+
   -- the step has the premisses that are read
-  has_premisses : (c : Else-not-admits_count t) → let s = c.args in
-      c.row_of-row.result.fewest ≤ premiss_count s.step_records.now s.k
+  has_premisses : (c : Else-not-admits_count t) → c.row_of-row.result.fewest ≤ premiss_count c.args.steps.now.records.now c.args.k
   unfolding admits_count
-  has_premisses c = omega (arith, (entered c).is_row.fewest_is, enough (row _).premisses _ (entered c).right)
+  has_premisses c = let there = entered_some c in omega (arith, there.is_row.fewest_is, enough (row _).premisses _ there.right)
+
+  -- what is left of the room for step k's tree
+  sized : (c : Start t) → let s = c.args.steps.now in let e = c.requires.exportable.0 in
+      get_or s.sizes.now c.args.k 0 ≡ 1 + sizes (premisses_from e.names s.pairs.now s.code.now s.records.now c.args.k 0)
+  sized c =
+      let s = c.args.steps.now in
+      let e = c.requires.exportable.0 in
+      e.exportable.table.sizes e.names s.pairs.now s.code.now c.args.k c.requires.exportable.1
+      ∙ size_tree e.names s.pairs.now s.code.now s.records.now c.args.k
 
 pub returns-then-not-admits_count : goal.returns-then-not-admits_count
-returns-then-not-admits_count t c =
-    count_refused (mode_of _) (found t (goal.at.returns-then-not-admits_count t c).Start)
+returns-then-not-admits_count t c names e =
+    count_refused (mode_of _) (found t (goal.at.returns-then-not-admits_count t c).Start e)
     (rw c.premiss_count.ensures
     at (sym (c.admits_count.ensures _ (is_row t (goal.at.returns-then-not-admits_count t c).After-row_of-row)) ∙ c.if-not-admits_count.true))
     c.at.ensures
 
 pub loop-i-init : goal.loop-i-init
-loop-i-init t c = read_none _ _ _ _ _ _ _ _ _
+loop-i-init t c names e = read_none _ _ _ _ _ _ _ _ _
 
-pub premiss-requires-clause-has_step : goal.premiss-requires-clause-has_step
-premiss-requires-clause-has_step t c =
-    let there = (goal.at.premiss-requires-clause-has_step t c).Else-not-admits_count in
-    ((good t (goal.at.premiss-requires-clause-has_step t c).Start).whole, omega (arith, has_premisses t there, reads_all (entered t there).is_row))
+pub premiss-requires-clause-position_in_bounds : goal.premiss-requires-clause-position_in_bounds
+premiss-requires-clause-position_in_bounds t c =
+    let there = (goal.at.premiss-requires-clause-position_in_bounds t c).Else-not-admits_count in
+    omega (arith, has_premisses t there, reads_all (entered_some t there).is_row)
 
 pub do_export_as_proof_term-requires : goal.do_export_as_proof_term-requires
 do_export_as_proof_term-requires t c =
-    let there = (goal.at.do_export_as_proof_term-requires t c).Else-not-admits_count in
-    let read = c.loop-i.invariant in
+    let at = goal.at.do_export_as_proof_term-requires t c in
+    let row = (entered_some t at.Else-not-admits_count).is_row in
+    let s = c.args.steps.now in
+    let e = c.requires.exportable.0 in
+    let read = c.loop-i.invariant e.names e.exportable in
     let step = c.premiss.ensures in
-    let room = room_next (entered t there).is_row read (rw (reads_all (entered t there).is_row) at c.loop-i-test.true) step c.below.ensures in
-    let size = size_tree c.args.names c.args.pairs.now c.args.code.now c.args.step_records.now c.args.k in (
+    let room = room_next row read (rw (reads_all row) at c.loop-i-test.true) step c.below.ensures in
+    let within : c.premiss.result < s.count = omega (arith, step.earlier, c.requires.exportable.1) in
+    let size = e.exportable.table.sizes e.names s.pairs.now s.code.now c.premiss.result within in (
       omega (arith, step.earlier, c.decreases),
       (
-        exportable_shorter (omega (arith, step.earlier)) c.requires.exportable,
+        (e, within),
         record {
-          room = omega (arith, room, size, read.same, c.requires.room_for.room);
-          few = omega (arith, room, size, c.requires.room_for.few);
+          room = omega (arith, room, size, sized t at.Start, read.same, c.requires.room_for.room);
+          few = omega (arith, room, size, sized t at.Start, c.requires.room_for.few);
         },
       ),
     )
 
 pub returns-in_err-after : goal.returns-in_err-after
-returns-in_err-after t c =
-    let there = entered t (goal.at.returns-in_err-after t c).Else-not-admits_count in
+returns-in_err-after t c names e =
+    let there = entered t (goal.at.returns-in_err-after t c).Else-not-admits_count e in
     refused_as (search rules)
     (premiss_refused (mode_of _) there
-    (read_refused there.is_row c.loop-i.invariant (rw (reads_all there.is_row) at c.loop-i-test.true) c.premiss.ensures c.below.ensures
-    (refusal_of c.in_err-after.ensures refl)))
+    (read_refused there.is_row (c.loop-i.invariant names e) (rw (reads_all there.is_row) at c.loop-i-test.true) c.premiss.ensures c.below.ensures
+    (refusal_of (c.in_err-after.ensures names e) refl)))
 
 pub overflow_sub-parts : goal.overflow_sub-parts
-overflow_sub-parts t c = omega (arith, (term_of c.in_ok-after.ensures refl).low)
+overflow_sub-parts t c =
+    let e = c.requires.exportable.0 in omega (arith, (term_of (c.in_ok-after.ensures e.names e.exportable) refl).low)
 
 pub overflow_cast-parts : goal.overflow_cast-parts
 overflow_cast-parts t c =
-    let there = (goal.at.overflow_cast-parts t c).Else-not-admits_count in
-    let row = (entered t there).is_row in
-    let room = room_next row c.loop-i.invariant (rw (reads_all row) at c.loop-i-test.true) c.premiss.ensures c.below.ensures in
-    let size = size_tree c.args.names c.args.pairs.now c.args.code.now c.args.step_records.now c.args.k in
-    let read = term_of c.in_ok-after.ensures refl in
-    record { fits = omega (arith, room, size, read.high, read.low, c.requires.room_for.few) }
+    let at = goal.at.overflow_cast-parts t c in
+    let row = (entered_some t at.Else-not-admits_count).is_row in
+    let e = c.requires.exportable.0 in
+    let room = room_next row (c.loop-i.invariant e.names e.exportable) (rw (reads_all row) at c.loop-i-test.true) c.premiss.ensures c.below.ensures in
+    let read = term_of (c.in_ok-after.ensures e.names e.exportable) refl in
+    record { fits = omega (arith, room, sized t at.Start, read.high, read.low, c.requires.room_for.few) }
 
 pub loop-i-preserved : goal.loop-i-preserved
-loop-i-preserved t c =
-    let there = entered t (goal.at.loop-i-preserved t c).Else-not-admits_count in
+loop-i-preserved t c names e =
+    let there = entered t (goal.at.loop-i-preserved t c).Else-not-admits_count e in
     let step = c.premiss.ensures in
-    read_more there.is_row c.loop-i.invariant (rw (reads_all there.is_row) at c.loop-i-test.true) step
+    read_more there.is_row (c.loop-i.invariant names e) (rw (reads_all there.is_row) at c.loop-i-test.true) step
     c.below.ensures
-    (term_of c.in_ok-after.ensures refl)
+    (term_of (c.in_ok-after.ensures names e) refl)
     (omega (arith, step.earlier)) c.do_export_as_proof_term.auto.term_records
 
-pub placed_term-requires-clause-some_good_step : goal.placed_term-requires-clause-some_good_step
-placed_term-requires-clause-some_good_step t c =
-    let s = (goal.at.placed_term-requires-clause-some_good_step t c).Start in
-    let there = (goal.at.placed_term-requires-clause-some_good_step t c).Else-not-admits_count in
-    (record { names = c.args.names; good = good t s }, (entered t there).is_row)
+pub placed_term-requires-clause-row : goal.placed_term-requires-clause-row
+placed_term-requires-clause-row t c = (entered_some t (goal.at.placed_term-requires-clause-row t c).Else-not-admits_count).is_row
 
 pub placed_term-requires-clause-parts : goal.placed_term-requires-clause-parts
 placed_term-requires-clause-parts t c =
-    let there = (goal.at.placed_term-requires-clause-parts t c).Else-not-admits_count in
-    let row = (entered t there).is_row in
-    let read = c.loop-i.invariant in
-    let size = size_tree c.args.names c.args.pairs.now c.args.code.now c.args.step_records.now c.args.k in
+    let at = goal.at.placed_term-requires-clause-parts t c in
+    let row = (entered_some t at.Else-not-admits_count).is_row in
+    let e = c.requires.exportable.0 in
+    let read = c.loop-i.invariant e.names e.exportable in
     read_parts row read (omega (arith, c.loop-i-test.false, read.position, reads_all row))
-    (omega (arith, read.high, size, read.same, c.requires.room_for.room))
-    (omega (arith, read.high, size, c.requires.room_for.few))
+    (omega (arith, read.high, sized t at.Start, read.same, c.requires.room_for.room))
+    (omega (arith, read.high, sized t at.Start, c.requires.room_for.few))
 
 pub returns : goal.returns
-returns t c =
-    let read = c.loop-i.invariant in
-    let there = (goal.at.returns t c).Else-not-admits_count in
-    step_placed (mode_of _) (entered t there) (omega (arith, c.loop-i-test.false, read.position, reads_all (entered t there).is_row)) read
-    (c.placed_term.ensures _ (good t (goal.at.returns t c).Start))
+returns t c names e =
+    let read = c.loop-i.invariant names e in
+    let there = entered t (goal.at.returns t c).Else-not-admits_count e in
+    step_placed (mode_of _) there (omega (arith, c.loop-i-test.false, read.position, reads_all there.is_row)) read
+    (c.placed_term.ensures names e)

@@ -1,6 +1,7 @@
 -- The loop's invariant: what is left of the premisses decides what they all come to. The calls end by the step's number.
-use Prim.Native.Nat.{◌-◌}
+use Prim.Native.Nat.{ℕ, ◌-◌}
 use Rattle.proof_tree.specs.Table.{mode_of}
+use Rattle.proof_tree.specs.Exportable.{ExportableWith}
 use Rattle.proof_tree.proofs.ReadPremisses.{PremissesRead}
 use Rattle.proof_tree.proofs.+do_export_as_proof_term.Given as goal
 
@@ -8,7 +9,8 @@ abbrev pub decreases-do_export_as_proof_term : goal.decreases-do_export_as_proof
 decreases-do_export_as_proof_term l = l.k
 
 abbrev pub invariant-loop-i : goal.invariant-loop-i
-invariant-loop-i l = PremissesRead l.names l.pairs l.code l.step_records l.k (mode_of l.mode) l.row l.initial.term_records l.used l.i l.parts l.term_records l.next
+invariant-loop-i l = (names : ℕ) → ExportableWith names l.steps
+    → PremissesRead names l.steps.pairs.now l.steps.code.now l.steps.records.now l.k (mode_of l.mode) l.row l.initial.term_records l.used l.i l.parts l.term_records l.next
 
 abbrev pub decreases-loop-i : goal.decreases-loop-i
 decreases-loop-i l = l.reads - l.i

@@ -10,43 +10,44 @@ use Rattle.proof_tree.proofs.placed_term.Goals as goal
 use Rattle.proof_tree.proofs.placed_term.Goals.{After-step_at-step, In_ok-label}
 
 visited : (c : After-step_at-step) {names : ℕ} → let s = c.args in
-    GoodStep names s.pairs.now s.code.now s.step_records.now s.k
-    → Visited names s.pairs.now s.code.now s.step_records.now s.k s.mode s.row c.ending_in-ending.result c.step_at-step.result
+    GoodStep names s.steps.now.pairs.now s.steps.now.code.now s.steps.now.records.now s.k
+    → Visited names s.steps.now.pairs.now s.steps.now.code.now s.steps.now.records.now s.k s.mode s.row c.ending_in-ending.result c.step_at-step.result
 visited c good =
     record {
       good = good;
-      is_row = c.requires.some_good_step.1;
+      is_row = c.requires.row;
       ends = c.ending_in-ending.ensures;
-      bytes = λ i. omega (arith, c.type_inv.code i);
+      bytes = c.args.steps.now.bytes;
       is_step = c.step_at-step.ensures;
     }
 
 -- the label of a parameter
 its_label : (c : In_ok-label) {names : ℕ} → let s = c.args in
-    (good : GoodStep names s.pairs.now s.code.now s.step_records.now s.k)
-    → LabelOf names s.pairs.now s.code.now c.step_at-step.result.conclusion (label (visited (goal.at.In_ok-label c).After-step_at-step good)) c.in_ok-label.label
+    (good : GoodStep names s.steps.now.pairs.now s.steps.now.code.now s.steps.now.records.now s.k)
+    → LabelOf names s.steps.now.pairs.now s.steps.now.code.now c.step_at-step.result.conclusion (label (visited (goal.at.In_ok-label c).After-step_at-step good)) c.in_ok-label.label
 its_label c good =
     let v = visited (goal.at.In_ok-label c).After-step_at-step good in
     label_of (c.in_ok-label.ensures _ _ (means v.good v.bytes (concluded v)))
 
 pub step_at-step-requires : goal.step_at-step-requires
-step_at-step-requires c = c.requires.some_good_step.0.good.whole
+step_at-step-requires c = (c.requires.exportable.0.exportable.good _ c.requires.exportable.1).whole
 
 pub annotation_of-requires : goal.annotation_of-requires
 annotation_of-requires c =
-    let v = visited c c.requires.some_good_step.0.good in (v.good.few, readable v.good v.bytes (concluded v))
+    let v = visited c (c.requires.exportable.0.exportable.good _ c.requires.exportable.1) in (v.good.few, readable v.good v.bytes (concluded v))
 
 pub rule_term-next-requires : goal.rule_term-next-requires
 rule_term-next-requires c =
     c.requires.parts.0
 
 pub returns-in_default : goal.returns-in_default
-returns-in_default c names good =
+returns-in_default c names e =
+    let good = e.good _ c.requires.exportable.1 in
     term_answer (visited (goal.at.returns-in_default c).After-step_at-step good) (its_label (goal.at.returns-in_default c).In_ok-label good) c.rule_term-next.ensures c.in_default.not-Ascribed
 
 pub wrap_into_type_ascription-requires : goal.wrap_into_type_ascription-requires
 wrap_into_type_ascription-requires c =
-    let v = visited (goal.at.wrap_into_type_ascription-requires c).After-step_at-step c.requires.some_good_step.0.good in
+    let v = visited (goal.at.wrap_into_type_ascription-requires c).After-step_at-step (c.requires.exportable.0.exportable.good _ c.requires.exportable.1) in
     let made = c.rule_term-next.ensures in
     let room = c.requires.parts.1 in
     let same = c.rule_term-next.auto in (
@@ -57,12 +58,14 @@ wrap_into_type_ascription-requires c =
     )
 
 pub returns-in_err-label : goal.returns-in_err-label
-returns-in_err-label c names good =
+returns-in_err-label c names e =
+    let good = e.good _ c.requires.exportable.1 in
     let v = visited (goal.at.returns-in_err-label c).After-step_at-step good in
     label_refused v _ (c.in_err-label.ensures _ _ (means v.good v.bytes (concluded v))) (search rules)
 
 pub returns : goal.returns
-returns c names good =
+returns c names e =
+    let good = e.good _ c.requires.exportable.1 in
     let v = visited (goal.at.returns c).After-step_at-step good in
     ascribed_answer v (its_label (goal.at.returns c).In_ok-label good) c.rule_term-next.ensures c.in-Ascribed.is
     (ascription (means v.good v.bytes (concluded v)) c.wrap_into_type_ascription.ensures)

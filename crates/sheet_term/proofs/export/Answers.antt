@@ -1,53 +1,58 @@
 -- The parts of an accepted sheet are what the walk asks for, and its answer at the root is the sheet's.
+use Prim.Native.Nat.{◌*◌, ◌<◌}
 use mathlib.Core.Path.{refl}
 use native.Mathlib.Omega.{arith}
 use borrow.Author.Rules.{rules}
 use Rattle.definitions.specs.Sheet.{step_limit}
+use Rattle.proof_tree.specs.Exportable.{Exportable}
+use Rattle.proof_tree.specs.Exporting.{RoomFor}
 use Rattle.proof_tree.proofs.Walking.{term_of}
-use Rattle.sheet.proofs.Admitted.{AcceptedSheet, beside_header}
+use Rattle.sheet.proofs.Admitted.{AcceptedSheet, beside_header, code_of_bytes}
 use Rattle.sheet_term.proofs.Accepted.{ready}
 use Rattle.sheet_term.proofs.Held.{gives_term, gives_refusal}
 use Rattle.sheet_term.proofs.Answers.{gives_none}
 use Rattle.sheet_term.proofs.export.Goals as goal
-use Rattle.sheet_term.proofs.export.Goals.{After-header-h}
+use Rattle.sheet_term.proofs.export.Goals.{After-header-h, After-step_records}
 
 its_sheet : (c : After-header-h) → AcceptedSheet c.args.sheet.now c.header-h.result
 its_sheet c = beside_header c.header-h.ensures.is c.header-h.ensures.accepted
 
-pub export_as_proof_term-requires-clause-exportable : goal.export_as_proof_term-requires-clause-exportable
+-- the steps can be exported with the sheet's count of names, and there is room
+walkable : (c : After-step_records) → let h = c.header-h.result in
+    (Exportable h.names c.proposition_pairs.result.now c.code_bytes.result.now c.step_records.result.now c.args.sizes.now h.steps × (0 < h.steps))
+    × RoomFor c.args.terms.now (2 * h.steps)
 unfolding step_limit
-export_as_proof_term-requires-clause-exportable c =
-    rw (c.proposition_pairs-pairs.ensures.is, c.code_bytes-code.ensures.is, c.step_records-records.ensures.is)
-    (ready (its_sheet (goal.at.export_as_proof_term-requires-clause-exportable c).After-header-h) {terms = c.args.terms.now} (search rules) (search rules) c.requires).0
+walkable c =
+    rw (c.proposition_pairs.ensures.is, c.code_bytes.ensures.is, c.step_records.ensures.is)
+    (ready (its_sheet (goal.at.After-step_records c).After-header-h) (search rules) (search rules) c.requires)
 
-pub export_as_proof_term-requires-clause-room_for : goal.export_as_proof_term-requires-clause-room_for
-unfolding step_limit
-export_as_proof_term-requires-clause-room_for c =
-    (ready (its_sheet (goal.at.export_as_proof_term-requires-clause-room_for c).After-header-h) {sizes = c.args.sizes.now} (search rules) (search rules) c.requires).1
+pub invariant_of-steps : goal.invariant_of-steps
+invariant_of-steps c = record { bytes = rw c.code_bytes.ensures.is (code_of_bytes c.args.sheet.now c.header-h.ensures.accepted.bytes) }
+
+pub export_as_proof_term-requires : goal.export_as_proof_term-requires
+export_as_proof_term-requires c =
+    let w = walkable (goal.at.export_as_proof_term-requires c).After-step_records in
+    record { exportable = (record { names = c.header-h.result.names; exportable = w.0.0 }, w.0.1); room_for = w.1 }
 
 pub overflow_sub-result : goal.overflow_sub-result
-overflow_sub-result c = omega (arith, (term_of c.in_ok-next.ensures refl).low)
+overflow_sub-result c =
+    let w = walkable (goal.at.overflow_sub-result c).After-step_records in
+    omega (arith, (term_of (c.in_ok-next.ensures c.header-h.result.names w.0.0) refl).low)
 
 pub returns : goal.returns
 unfolding step_limit
 returns c =
+    let w = walkable (goal.at.returns c).After-step_records in
     gives_term (its_sheet (goal.at.returns c).After-header-h)
     c.header-h.ensures.accepted.bytes (search rules)
-    (rw (
-      c.proposition_pairs-pairs.ensures.is,
-      c.code_bytes-code.ensures.is,
-      c.step_records-records.ensures.is,
-    ) at c.in_ok-next.ensures)
+    (rw (c.proposition_pairs.ensures.is, c.code_bytes.ensures.is, c.step_records.ensures.is) at (c.in_ok-next.ensures c.header-h.result.names w.0.0))
     refl
 
 pub returns-in_err-next : goal.returns-in_err-next
 unfolding step_limit
 returns-in_err-next c =
+    let w = walkable (goal.at.returns-in_err-next c).After-step_records in
     gives_none (gives_refusal (its_sheet (goal.at.returns-in_err-next c).After-header-h)
     c.header-h.ensures.accepted.bytes (search rules)
-    (rw (
-      c.proposition_pairs-pairs.ensures.is,
-      c.code_bytes-code.ensures.is,
-      c.step_records-records.ensures.is,
-    ) at c.in_err-next.ensures)
+    (rw (c.proposition_pairs.ensures.is, c.code_bytes.ensures.is, c.step_records.ensures.is) at (c.in_err-next.ensures c.header-h.result.names w.0.0))
     refl) (search rules)

@@ -13,11 +13,11 @@ use Rattle.proof_tree.proofs.step.premiss.Goals as goal
 use Rattle.proof_tree.proofs.step.premiss.Goals.{In-loop, Start}
 
 -- the sizes of the trees before step k
-sized : (c : Start) → SizeTable c.args.step_records.now c.args.k c.args.sizes.now
-sized c = size_table_shorter _ _ _ _ (omega arith) c.requires.k_in_bounds.1
+sized : (c : Start) → let s = c.args.steps.now in SizeTable s.records.now c.args.k s.sizes.now
+sized c = size_table_shorter _ _ _ _ (omega arith) c.requires.exportable.0.exportable.table
 
-found : (c : Start) → too_few_trees 0 [] [] c.args.step_records.now c.args.k ≡ false
-found c = c.requires.k_in_bounds.1.enough 0 [] [] _ (omega arith)
+found : (c : Start) → too_few_trees 0 [] [] c.args.steps.now.records.now c.args.k ≡ false
+found c = c.requires.exportable.0.exportable.table.enough 0 [] [] _ (omega arith)
 
 -- a premiss that is still to be passed ends before the walk's step
 before : (c : In-loop) → 0 < c.loop.start

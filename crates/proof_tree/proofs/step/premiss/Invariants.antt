@@ -7,7 +7,7 @@ use Rattle.proof_tree.proofs.step.premiss.Given as goal
 
 abbrev pub invariant-loop : goal.invariant-loop
 invariant-loop l =
-    Walk l.step_records l.k l.counter l.start × (l.counter ≤ l.later) × (l.position + 1 + l.later ≡ premiss_count l.step_records l.k)
+    Walk l.steps.records.now l.k l.counter l.start × (l.counter ≤ l.later) × (l.position + 1 + l.later ≡ premiss_count l.steps.records.now l.k)
 
 abbrev pub decreases-loop : goal.decreases-loop
 decreases-loop l = l.later - l.counter
