@@ -81,8 +81,8 @@ fn tally_over(records: &[u16], used: usize, kind: Kind, numbers: [u16; 5]) -> us
 }
 
 // Makes record `used` of a node over earlier records, with its tally, and gives the number of the next one. The memory and the number
-// of records stand as two parameters: of a struct that lends the memory, each clause would say `records.old.memory`,
-// `records.new.memory` and `records.old.used`.
+// of records stand as two parameters, here and at `push`: the reader of terms has the memory in its `Work`, which it changes in place,
+// and the number in a `Progress`, a value that it hands on.
 pub fn make(records: &mut [u16], used: usize, node: Node) -> usize
     requires { (record_size * (used + 1) ≤ length records.old) × PartsBelow used node }
     ensures { Made (λ props part. node_term props part node) records.old used records.new result }

@@ -1,5 +1,6 @@
 // From the steps of a sheet to the records of its term (source document 000).
-// The records that the walk makes travel beside the count of those made: each call hands the memory on and gives the count back.
+// The records that the walk makes travel beside the count of those made, as `make` takes them: each call hands the memory on and gives
+// the count back.
 #![tactic(auto)]
 
 mod conclusion;

@@ -28,7 +28,8 @@ pub enum Ending {
     PremissOwn,
 }
 
-// The term that a rule has over those of its premisses; `Premiss` is the first one's own.
+// The term that a rule has over those of its premisses; `Premiss` is the first one's own. It is no `Option<Kind>`: no rule makes an
+// ascription, so `node_over` would have an arm for one, and no label to give it.
 #[derive(Clone, Copy)]
 pub enum RuleTerm {
     Pair,
