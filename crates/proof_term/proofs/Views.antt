@@ -27,7 +27,6 @@ use Rattle.proof_term.specs.declared.nodes.Node.{Node}
 use Rattle.proof_term.specs.declared.nodes.Node.TheVariants.{Ident, Pair, ProjectFst, ProjectSnd, Function, Application, LetIn, OrLeft, OrRight, Case, Abort, TypeAscription, Unit, Sorry}
 use Rattle.proof_term.specs.Labels.{has_label, Labelled}
 use Rattle.proof_term.proofs.Records.{few_parts, term_at_is}
-use Rattle.proof_term.proofs.Labels.{no_label}
 
 -- an unknown number counts as Unit
 pub kind_unknown : (number : ℕ) → 14 ≤ number → kind_of number ≡ variant.Unit
@@ -74,17 +73,11 @@ by_kind P known unknown number = by_cases (dec_lt number 14)
     (λ l. subst P (kind_known number l) (known (kind_of number)))
     (λ l. unknown number (omega arith))
 
--- an unknown kind has as many parts as Unit, and as few labels
+-- an unknown kind has as many parts as Unit
 pub parts_of_kind : (number : ℕ) → part_count (kind_number (kind_of number)) ≡ part_count number
 parts_of_kind number = by_cases (dec_lt number 14)
     (λ l. rw (kind_known number l))
     (λ l. rw (kind_unknown number (omega arith)) (sym (get_or_past part_counts number 0 (omega arith))))
-
-pub label_of_kind : (number label : ℕ) → has_label (kind_number (kind_of number)) label ≡ has_label number label
-unfolding has_label
-label_of_kind number label = by_cases (dec_lt number 14)
-    (λ l. rw (kind_known number l))
-    (λ l. rw (kind_unknown number (omega arith)) (sym (no_label number label (omega arith) (omega arith))))
 
 -- What a record means, by its numbers and by its node.
 module _ (props : ℕ → Prop ℕ) where

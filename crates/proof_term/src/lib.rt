@@ -9,7 +9,6 @@ ghost use Rattle.std.specs.Prelude.{◌≡◌, ℕ, ◌+◌, ◌*◌, ◌≤◌,
 ghost use Rattle.definitions.specs.Prop.{Prop};
 ghost use Rattle.definitions.specs.Term.{annotation_count};
 ghost use Rattle.proof_term.specs.Records.{record_size, field_at, part_count, Each, term_at};
-ghost use Rattle.proof_term.specs.Labels.{has_label};
 ghost use Rattle.proof_term.specs.Views.{kind_number, node_term, PartsBelow};
 ghost use Rattle.proof_term.specs.Tally.{tally_limit, sum_over, tally_over, NodesTallied};
 ghost use Rattle.proof_term.specs.Making.{Pushed, Made};
@@ -100,14 +99,6 @@ pub fn field(records: &[u16], n: usize, i: usize) -> usize
     ensures { (result ≡ field_at records.now n i) × (result < 65536) }
 {
     usize::from(records[RECORD_SIZE * n + i])
-}
-
-// Whether a record has a label, by its kind and the kind of its label: an ascription, or a function whose parameter has one.
-#[tactic(auto, using(crate::proofs::Views::label_of_kind))]
-pub fn has_label(kind: usize, label: usize) -> bool
-    ensures { result ≡ has_label kind label }
-{
-    Kind::of(kind).has_label(label)
 }
 
 // The label count of the term that record `n` holds, whose nodes keep theirs: the record's tally.
