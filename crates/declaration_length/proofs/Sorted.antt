@@ -17,15 +17,15 @@ use Rattle.declarations.specs.Lines.{declaration, declaration_lines}
 
 module _ {A : Type 0} (line : A → List ℕ) where
   -- the bytes of the lines, each with the newline before it
-  abbrev bytes : List A → ℕ
+  abbrev pub bytes : List A → ℕ
   bytes l = length (following_lines (map line l))
 
-  one_more : (a : A) (l : List A) → bytes (a ∷ l) ≡ 1 + length (line a) + bytes l
+  pub one_more : (a : A) (l : List A) → bytes (a ∷ l) ≡ 1 + length (line a) + bytes l
   unfolding following_lines
   one_more a l = omega (arith, length-append (line a) (following_lines (map line l)))
 
   -- the first line has none
-  joined : (l : List A) → length (join_lines (map line l)) ≡ bytes l - 1
+  pub joined : (l : List A) → length (join_lines (map line l)) ≡ bytes l - 1
   unfolding join_lines following_lines
   joined [] = refl
   joined (a ∷ l) = omega arith

@@ -3,7 +3,9 @@ use Prim.Native.Nat.{ℕ, suc, ◌+◌, ◌<◌}
 use mathlib.Core.Path.{◌≡◌, refl, sym, ap, ◌∙◌}
 use mathlib.Core.Bool.{Bool, true, false, cond, and-true}
 use mathlib.Core.List.{List, [], ◌∷◌, ◌++◌, map, map-append, map-map, append-nil, append_assoc}
+use mathlib.Core.Logic.{by_cases}
 use native.Mathlib.Omega.{arith}
+use native.Mathlib.Decide.{dec_lt}
 use lib.ListN.{length, take}
 use Rattle.std.proofs.lemmas.List.{take_more, length-take-le}
 use borrow.Author.Tests.{ne_eqb}
@@ -99,3 +101,10 @@ datatypes_declared v listed ts =
 
 pub datatypes_over : (f : ℕ → Name) (ts : List ℕ) → uses_over f (datatype_uses ts) ≡ map as_use (map f ts)
 datatypes_over f ts = map-map (use_over f) (λ t. use_of t 0) ts ∙ sym (map-map as_use f ts)
+
+-- the counts of some first declarations fit, and that of the next
+pub counted_more : (declared : List Declaration) (j : ℕ) → ((i : ℕ) → i < j → (row declared i).count < 65536) → (row declared j).count < 65536
+    → (i : ℕ) → i < j + 1 → (row declared i).count < 65536
+counted_more declared j before this i h = by_cases (dec_lt i j)
+    (λ l. before i l)
+    (λ l. let last : i ≡ j = omega arith in rw last this)

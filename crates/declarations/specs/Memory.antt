@@ -59,6 +59,10 @@ module _ {N : ℕ} where
     pub flags : (name count : ℕ) → count ≤ parameter_limit → get_or m.seen (flag_of name count) false ≡ true
         → occurs eq_atom_use (use_over f (use_of name count)) (uses_over f l) ≡ true
 
+-- each count fits a number of 16 bits
+abbrev pub Counted : List Declaration → Type 0
+Counted declared = (j : ℕ) → j < length declared → (row declared j).count < 65536
+
 -- Over the names of a memory:
 module _ (bytes : List ℕ) (v : Vocabulary) where
   -- each declaration has a name

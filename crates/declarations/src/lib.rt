@@ -10,7 +10,7 @@ ghost use Rattle.definitions.specs.NameIndex.{start_slot};
 ghost use Rattle.vocabulary.specs.Vocabulary.{name_in, prop_in, Names, SomeProposition};
 ghost use Rattle.prop_lists.specs.Entries.{use_of, entries};
 ghost use Rattle.proof_term_lists.specs.Labels.{term_uses, added_uses, AddedStands, Listable, term_in};
-ghost use Rattle.declarations.specs.Memory.{use_in, declarations, declared_uses, is_declared, Declared, Fresh, Held, Notes};
+ghost use Rattle.declarations.specs.Memory.{use_in, declarations, declared_uses, is_declared, Declared, Counted, Fresh, Held, Notes};
 ghost use Rattle.declarations.specs.Lines.{count_text, break_before, declaration, declaration_lines};
 
 use definitions::TermList;
@@ -202,7 +202,9 @@ fn put_declaration<S: Sink<u8>>(
     v: Vocabulary,
 )
     requires { Names bytes.now v this.name }
-    ensures { S.puts sink.old (declaration list (use_in (name_in bytes.now v) this)) sink.new }
+    ensures line { S.puts sink.old (declaration list (use_in (name_in bytes.now v) this)) sink.new }
+    // A count that is handed over fits 16 bits.
+    ensures counted { this.count < 65536 }
 {
     let name = vocabulary::name(bytes, v, this.name as usize);
     match list {
@@ -239,7 +241,10 @@ pub fn put_declarations<S: Sink<u8>>(
     v: Vocabulary,
 )
     requires { Declared bytes.now v declared.now }
-    ensures { S.puts sink.old (declaration_lines list (declared_uses (name_in bytes.now v) declared.now)) sink.new }
+    ensures lines { S.puts sink.old
+        (declaration_lines list (declared_uses (name_in bytes.now v) declared.now)) sink.new }
+    // A slice says nothing of its elements' numbers. That the counts fit gives the lines a bound, and a counter then tells their length.
+    ensures counted { Counted declared.now }
 {
     for (j, this) in declared.iter().enumerate() {
         put_line_break(sink, j);

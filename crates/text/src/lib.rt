@@ -144,8 +144,7 @@ fn put_heading<S: Sink<u8>>(
     sink.put_all(b"\n\n");
 }
 
-// How long what stands before the term is: the order of the lines is no matter, so they are measured before they are sorted. The lengths
-// are summed and not counted by a sink, as `declaration_length` says.
+// How long what stands before the term is: the order of the lines is no matter, so they are measured before they are sorted.
 fn heading_length(
     s: &[u8],
     h: Sheet,

@@ -1,15 +1,14 @@
--- Each turn of the loop counts a newline, if it is not the first, and a line.
-use mathlib.Core.List.{[]}
+-- The lines have fewer bytes than a number says, so all of them are counted.
 use native.Mathlib.Omega.{arith}
-use Rattle.declarations.proofs.Lines.{lines_none}
-use Rattle.declaration_length.proofs.Lines.{lines_added}
+use Rattle.vocabulary.specs.Vocabulary.{name_in}
+use Rattle.prop_length.proofs.Lengths.{short_name}
+use Rattle.declaration_length.proofs.Lines.{lines_short}
 use Rattle.declaration_length.proofs.lines_length.Goals as goal
 
-pub loop-j-init : goal.loop-j-init
-loop-j-init c = (rw (lines_none c.args.list (λ i. []) []) (omega arith), omega arith)
-
-pub loop-j-preserved : goal.loop-j-preserved
-loop-j-preserved c =
-    let (is, small) = c.loop-j.invariant in
-    let (broken, few) = c.break_length.ensures in
-    (lines_added _ _ _ c.loop-j.j c.loop-j-test.true is broken c.line_length.ensures, omega (arith, few, c.line_length.ensures.small, small))
+pub returns : goal.returns
+returns c =
+    let s = c.args in
+    let names = short_name s.bytes.now s.v (λ k. omega (arith, c.type_inv.bytes k)) in
+    let short = lines_short (name_in s.bytes.now s.v) names s.list s.declared.now c.put_declarations.ensures.counted in
+    let counted = c.put_declarations.ensures.lines.counted in
+    record { is = omega (arith, counted, short, c.requires.1); small = omega (arith, counted, short, c.requires.1) }

@@ -20,5 +20,5 @@ returns g c =
     let s = c.args in
     let f = name_in s.s.now (vocabulary_of s.h) in
     heading_put s.version c.lists-upper.ensures.0 c.lists-upper.ensures.1 (declared_uses f s.first.now) (declared_uses f s.second.now) g.met.S.Sink.laws
-    (rw c.vocabulary-v.ensures at c.put_declarations.ensures) c.put.ensures
-    (rw c.vocabulary-v.ensures at c.put_declarations-2.ensures) c.put_all.ensures
+    (rw c.vocabulary-v.ensures at c.put_declarations.ensures.lines) c.put.ensures
+    (rw c.vocabulary-v.ensures at c.put_declarations-2.ensures.lines) c.put_all.ensures

@@ -1,2 +1,0 @@
--- What the functions over the lengths of declarations say.
-pub mod Lengths
