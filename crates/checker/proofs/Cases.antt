@@ -1,10 +1,11 @@
 -- A case whose head is inferred: the disjunction that stands, and the two branches under their binders.
 use Prim.Native.Nat.{ℕ, ◌+◌, ◌≤◌, ◌<◌}
-use mathlib.Core.Path.{◌≡◌, refl, sym, ap, ◌∙◌}
+use mathlib.Core.Path.{◌≡◌, refl, ap, ◌∙◌}
 use Rattle.std.specs.Prelude.{Option, Some}
 use mathlib.Core.List.{List}
 use native.Mathlib.Omega.{arith}
 use lib.ListN.{length, set}
+use Rattle.definitions.specs.Prop.{Prop}
 use Rattle.definitions.specs.Term.{ProofTerm, Case}
 use Rattle.definitions.specs.TermText.{nodes}
 use Rattle.definitions.specs.Code.{encode}
@@ -12,8 +13,6 @@ use Rattle.prefix_code.specs.PropAt.{prop_at}
 use Rattle.prefix_code.specs.Scan.{Scanned}
 use Rattle.prefix_code.specs.declared.Connective.TheVariants.{Or}
 use Rattle.prefix_code.proofs.Reading.{inside}
-use Rattle.proof_term.specs.Views.{kind_of}
-use Rattle.proof_term.specs.declared.nodes.Kind.{Kind}
 use Rattle.proof_term.specs.declared.nodes.Kind.TheVariants as variant
 use Rattle.proof_term.proofs.Views.{number_of_kind}
 use Rattle.proof_term.specs.Records.{field_at}
@@ -24,31 +23,34 @@ use Rattle.prop_numbers.proofs.Reps.{kept_wider, kept_then}
 use Rattle.prop_numbers.proofs.Fronts.{byte_of}
 use Rattle.prop_numbers.proofs.Halves.{Halves, half}
 use Rattle.checker.specs.Scope.{Entries}
-use Rattle.checker.specs.Asking.{term_of, Few, NameHeld, Well, Judgeable}
+use Rattle.checker.specs.Asking.{label_prop, OfKind, term_of, Few, NameHeld, Well, Judgeable}
 use Rattle.checker.specs.Judging.{Inferred}
-use Rattle.checker.specs.Helping.{Bound}
+use Rattle.checker.specs.Helping.{After, Bound}
 use Rattle.checker.proofs.Forms.{Three, case_view}
 use Rattle.checker.proofs.Sides.{Unopened, Opening, unopened, opening}
 use Rattle.checker.proofs.Inferring.{head_stands_there, head_halves}
 use Rattle.checker.proofs.Steps.{Call, call, few, bound_in, bound_long, restored, answer_space}
 
 module _ {records code : List ℕ} {stride : ℕ} {scope : List (Option ℕ)} {mades : List Made} {m n : ℕ} (j : Judgeable records code stride scope mades m n)
-    {kind : Kind} {a : ℕ} (k : kind ≡ kind_of (field_at records m 0)) (ea : a ≡ field_at records m 1) (e : kind ≡ variant.Case) where
+    {a : ℕ} (ea : a ≡ field_at records m 1) (e : OfKind records m variant.Case) where
   abbrev own : Well records code stride m
   own = j.well m (omega arith)
+
+  abbrev labels : ℕ → Prop ℕ
+  labels = label_prop code stride
 
   abbrev term : ℕ → ProofTerm ℕ
   term i = term_of code stride records i
 
   -- its three parts
   pub view : Three records code stride m a (field_at records m 2) (field_at records m 3) (λ h l r. Case h (field_at records m 4) l (field_at records m 5) r)
-  view = case_view own k ea refl refl e
+  view = case_view own ea refl refl e
 
   pub left_name : NameHeld records m 4
-  left_name = record { held = j.held; number = omega arith; below = own.left (number_of_kind (sym k ∙ e) (λ u. cc)) }
+  left_name = record { held = j.held; number = omega arith; below = own.left (number_of_kind e (λ u. cc)) }
 
   pub right_name : NameHeld records m 5
-  right_name = record { held = j.held; number = omega arith; below = own.right (number_of_kind (sym k ∙ e) (λ u. cc)) }
+  right_name = record { held = j.held; number = omega arith; below = own.right (number_of_kind e (λ u. cc)) }
 
   pub head_call : Call records code stride scope mades m a (n + 1)
   head_call = call j view.first j.entries j.slots (omega (arith, j.room, view.size))
@@ -89,9 +91,9 @@ module _ {records code : List ℕ} {stride : ℕ} {scope : List (Option ℕ)} {m
         inside_code = omega (arith, (inside left_stood.there).start)
 
         -- The left branch, the term of record b from a node on, under its binder:
-        module _ {b next : ℕ} (eb : b ≡ field_at records m 2) (en : next ≡ n + 1 + nodes (term a)) where
+        module _ {b next : ℕ} (eb : b ≡ field_at records m 2) (en : After records a (n + 1) next) where
           pub left_room : next + nodes (term b) ≤ n + nodes (term m)
-          left_room = rw (eb, en) (omega (arith, view.size))
+          left_room = rw (eb, en labels) (omega (arith, view.size))
 
           pub left_less : b < m
           left_less = rw eb view.second
@@ -116,15 +118,15 @@ module _ {records code : List ℕ} {stride : ℕ} {scope : List (Option ℕ)} {m
               pub left_kept : Kept n (n + nodes (term m)) mades mades₂
               left_kept =
                   kept_then (kept_wider n (n + nodes (term m)) (omega arith) (omega (arith, view.size)) i.kept)
-                  (kept_wider n (n + nodes (term m)) (rw en (omega arith)) left_room kept)
+                  (kept_wider n (n + nodes (term m)) (rw (en labels) (omega arith)) left_room kept)
 
               pub left_under : called ≡ set scope (field_at records m 4) (Some (h + 1))
               left_under = s ∙ bd.bound ∙ ap (λ (l : List (Option ℕ)). set l (field_at records m 4) (Some (h + 1))) i.same
 
               -- The right branch likewise:
-              module _ {c last side : ℕ} (ec : c ≡ field_at records m 3) (el : last ≡ next + nodes (term b)) (scanned : Scanned name_space code (h + 1) side) where
+              module _ {c last side : ℕ} (ec : c ≡ field_at records m 3) (el : After records b next last) (scanned : Scanned name_space code (h + 1) side) where
                 pub right_room : last + nodes (term c) ≤ n + nodes (term m)
-                right_room = rw (ec, el, eb, en) (omega (arith, view.size))
+                right_room = rw (ec, el labels, eb, en labels) (omega (arith, view.size))
 
                 pub right_less : c < m
                 right_less = rw ec view.third
@@ -147,14 +149,11 @@ module _ {records code : List ℕ} {stride : ℕ} {scope : List (Option ℕ)} {m
                   right_back s₂ off₂ = restored bd₂ right_name.below entries₂ s₂ off₂ ∙ left_back
 
                   pub right_kept : {mades₃ : List Made} → Kept last (last + nodes (term c)) mades₂ mades₃ → Kept n (n + nodes (term m)) mades mades₃
-                  right_kept more = kept_then left_kept (kept_wider n (n + nodes (term m)) (rw (el, en) (omega arith)) right_room more)
+                  right_kept more = kept_then left_kept (kept_wider n (n + nodes (term m)) (rw (el labels, en labels) (omega arith)) right_room more)
 
                   -- the nodes of the branches as the rules count them
-                  pub left_node : next ≡ n + 1 + nodes (term a)
-                  left_node = en
-
                   pub right_node : last ≡ n + 1 + nodes (term a) + nodes (term b)
-                  right_node = el ∙ ap (λ (i : ℕ). i + nodes (term b)) en
+                  right_node = el labels ∙ ap (λ (i : ℕ). i + nodes (term b)) (en labels)
 
                   pub term_is : term m ≡ Case (term a) (field_at records m 4) (term b) (field_at records m 5) (term c)
                   term_is = rw (eb, ec) view.is

@@ -8,13 +8,11 @@ use mathlib.Core.List.{List}
 use native.Mathlib.Omega.{arith}
 use native.Mathlib.Decide.{ℕ_discrete, dec_le}
 use lib.ListN.{length, get_or, set}
-use Rattle.definitions.specs.Prop.{impl, connective_byte}
+use Rattle.definitions.specs.Prop.{Prop, impl, connective_byte}
 use Rattle.definitions.specs.Term.{ProofTerm, Pair, Function}
 use Rattle.definitions.specs.TermText.{nodes}
 use Rattle.prefix_code.specs.Scan.{Scanned}
 use Rattle.prefix_code.specs.declared.Connective.TheVariants.{And, Or, Impl}
-use Rattle.proof_term.specs.Views.{kind_of}
-use Rattle.proof_term.specs.declared.nodes.Kind.{Kind}
 use Rattle.proof_term.specs.declared.nodes.Kind.TheVariants as variant
 use Rattle.proof_term.proofs.Views.{number_of_kind}
 use Rattle.proof_term.specs.Records.{field_at, parameter_label}
@@ -23,32 +21,35 @@ use Rattle.prop_numbers.specs.Standing.{stops, name_space, Stood, Known, Kept}
 use Rattle.prop_numbers.specs.Answering.{SideOf, Expected, Tested, Agreed}
 use Rattle.prop_numbers.proofs.Reps.{kept_all, kept_wider, kept_then}
 use Rattle.prop_numbers.proofs.Halves.{Halves, halves, half}
-use Rattle.checker.specs.Asking.{label_prop, term_of, Few, NameHeld, Well, Judgeable}
+use Rattle.checker.specs.Asking.{OfKind, label_prop, term_of, Few, NameHeld, Well, Judgeable}
 use Rattle.checker.specs.Judging.{ChecksAs, Inferred, Checked}
-use Rattle.checker.specs.Helping.{LabelTested, Bound, BodySide, BodyTested}
+use Rattle.checker.specs.Helping.{After, LabelTested, Bound, BodySide, BodyTested}
 use Rattle.checker.proofs.Forms.{One, Two, function_view, pair_view, inl_view, inr_view, abort_view, sorry_is, let_is}
 use Rattle.checker.proofs.Checking.{pair_other, function_other, inl_other, inr_other, pair_fails, pair_then, inl_part, inr_part, function_label, function_body, abort_part, sorry_passes, let_fails, case_unopened, case_fails, case_then, Falls, fall_stops, fall_same, fall_differ}
 use Rattle.checker.proofs.Steps.{Call, call, few, bound_in, bound_long, restored, side_halves, side_other, known_answer, checked_at, checks_under}
 use Rattle.checker.proofs.Cases.{head_unopened, head_opening, head_half, sides, left_name, right_name, left_under, left_back, left_kept, right_under, right_back, right_kept, right_node, term_is, view}
 
 module _ {records code : List ℕ} {stride : ℕ} {scope : List (Option ℕ)} {mades : List Made} {m n p : ℕ} (j : Judgeable records code stride scope mades m n) (stood : Stood code p)
-    {kind : Kind} {a : ℕ} (k : kind ≡ kind_of (field_at records m 0)) (ea : a ≡ field_at records m 1) where
+    {a : ℕ} (ea : a ≡ field_at records m 1) where
   abbrev At : List (Option ℕ) → List Made → ℕ → Type 0
   At scope' mades' r = Checked records code stride scope mades m n p scope' mades' r
 
   abbrev own : Well records code stride m
   own = j.well m (omega arith)
 
+  abbrev labels : ℕ → Prop ℕ
+  labels = label_prop code stride
+
   abbrev term : ℕ → ProofTerm ℕ
   term i = term_of code stride records i
 
   -- A function.
-  module _ (e : kind ≡ variant.Function) where
+  module _ (e : OfKind records m variant.Function) where
     function_is : One records code stride m a (Function (field_at records m 2) (parameter_label (label_prop code stride) (field_at records m 3) (field_at records m 4)))
-    function_is = function_view own k ea e
+    function_is = function_view own ea e
 
     pub function_name : NameHeld records m 2
-    function_name = record { held = j.held; number = omega arith; below = own.parameter (number_of_kind (sym k ∙ e) (λ u. cc)) }
+    function_name = record { held = j.held; number = omega arith; below = own.parameter (number_of_kind e (λ u. cc)) }
 
     module _ {side : ℕ} (b : BodySide records code stride m p n side) where
       pub function_stop : stops ≤ side → At scope mades side
@@ -99,9 +100,9 @@ module _ {records code : List ℕ} {stride : ℕ} {scope : List (Option ℕ)} {m
               (kept_wider n (n + nodes (term m)) (omega arith) (omega (arith, function_is.size)) c.kept)
 
   -- A pair.
-  module _ (e : kind ≡ variant.Pair) where
+  module _ (e : OfKind records m variant.Pair) where
     pair_is : Two records code stride m a (field_at records m 2) Pair
-    pair_is = pair_view own k ea refl e
+    pair_is = pair_view own ea refl e
 
     pub pair_few : Few records a (n + 1)
     pair_few = few j (n + 1) pair_is.first (omega (arith, j.room, pair_is.size))
@@ -126,66 +127,66 @@ module _ {records code : List ℕ} {stride : ℕ} {scope : List (Option ℕ)} {m
           pub pair_fail : (r ≡ 0 → ⊥) → At scope' mades' r
           pair_fail x = checked_at pair_is.is (pair_fails pair_halves c.answer x) c.same first_kept
 
-          module _ (ok : r ≡ 0) {b next : ℕ} (eb : b ≡ field_at records m 2) (en : next ≡ n + 1 + nodes (term a)) where
+          module _ (ok : r ≡ 0) {b next : ℕ} (eb : b ≡ field_at records m 2) (en : After records a (n + 1) next) where
             second_room : next + nodes (term b) ≤ n + nodes (term m)
-            second_room = rw (eb, en) (omega (arith, pair_is.size))
+            second_room = rw (eb, en labels) (omega (arith, pair_is.size))
 
             pub pair_next : Call records code stride scope' mades' m b next
             pair_next = call j (rw eb pair_is.second) (rw c.same j.entries) (c.kept.long ∙ j.slots) (omega (arith, second_room, j.room))
 
             pub pair_done : {scope'' : List (Option ℕ)} {mades'' : List Made} {q : ℕ} → Checked records code stride scope' mades' b next side scope'' mades'' q → At scope'' mades'' q
             pair_done d =
-                checked_at (rw eb pair_is.is) (pair_then pair_halves c.answer ok (checks_under c.same en d.answer)) (d.same ∙ c.same)
-                (kept_then first_kept (kept_wider n (n + nodes (term m)) (rw en (omega arith)) second_room d.kept))
+                checked_at (rw eb pair_is.is) (pair_then pair_halves c.answer ok (checks_under c.same (en labels) d.answer)) (d.same ∙ c.same)
+                (kept_then first_kept (kept_wider n (n + nodes (term m)) (rw (en labels) (omega arith)) second_room d.kept))
 
   -- Injections.
   module _ {side : ℕ} (s : SideOf code p Or n side) where
-    pub inl_stop : kind ≡ variant.OrLeft → stops ≤ side → At scope mades side
+    pub inl_stop : OfKind records m variant.OrLeft → stops ≤ side → At scope mades side
     inl_stop e h =
         let other = side_other j.ends.space stood s h in
-        rw (s.other other) (checked_at (inl_view own k ea e).is (inl_other stood _ other) refl kept_all)
+        rw (s.other other) (checked_at (inl_view own ea e).is (inl_other stood _ other) refl kept_all)
 
-    pub inr_stop : kind ≡ variant.OrRight → stops ≤ side → At scope mades side
+    pub inr_stop : OfKind records m variant.OrRight → stops ≤ side → At scope mades side
     inr_stop e h =
         let other = side_other j.ends.space stood s h in
-        rw (s.other other) (checked_at (inr_view own k ea e).is (inr_other stood _ other) refl kept_all)
+        rw (s.other other) (checked_at (inr_view own ea e).is (inr_other stood _ other) refl kept_all)
 
     pub or_halves : side < stops → Halves code p side Or
     or_halves l = side_halves j.ends.space stood s l
 
-    pub inl_done : {scope' : List (Option ℕ)} {mades' : List Made} {r : ℕ} → kind ≡ variant.OrLeft → side < stops → Checked records code stride scope mades a (n + 1) (p + 1) scope' mades' r → At scope' mades' r
+    pub inl_done : {scope' : List (Option ℕ)} {mades' : List Made} {r : ℕ} → OfKind records m variant.OrLeft → side < stops → Checked records code stride scope mades a (n + 1) (p + 1) scope' mades' r → At scope' mades' r
     inl_done e l c =
-        let v = inl_view own k ea e in
+        let v = inl_view own ea e in
         checked_at v.is (inl_part (or_halves l) c.answer) c.same (kept_wider n (n + nodes (term m)) (omega arith) (omega (arith, v.size)) c.kept)
 
-    pub inr_done : {scope' : List (Option ℕ)} {mades' : List Made} {r : ℕ} → kind ≡ variant.OrRight → side < stops → Checked records code stride scope mades a (n + 1) side scope' mades' r → At scope' mades' r
+    pub inr_done : {scope' : List (Option ℕ)} {mades' : List Made} {r : ℕ} → OfKind records m variant.OrRight → side < stops → Checked records code stride scope mades a (n + 1) side scope' mades' r → At scope' mades' r
     inr_done e l c =
-        let v = inr_view own k ea e in
+        let v = inr_view own ea e in
         checked_at v.is (inr_part (or_halves l) c.answer) c.same (kept_wider n (n + nodes (term m)) (omega arith) (omega (arith, v.size)) c.kept)
 
   -- the one part of these, and of an abort
   pub only_call : {F : ProofTerm ℕ → ProofTerm ℕ} → One records code stride m a F → Call records code stride scope mades m a (n + 1)
   only_call v = call j v.less j.entries j.slots (omega (arith, j.room, v.size))
 
-  pub inl_call : kind ≡ variant.OrLeft → Call records code stride scope mades m a (n + 1)
-  inl_call e = only_call (inl_view own k ea e)
+  pub inl_call : OfKind records m variant.OrLeft → Call records code stride scope mades m a (n + 1)
+  inl_call e = only_call (inl_view own ea e)
 
-  pub inr_call : kind ≡ variant.OrRight → Call records code stride scope mades m a (n + 1)
-  inr_call e = only_call (inr_view own k ea e)
+  pub inr_call : OfKind records m variant.OrRight → Call records code stride scope mades m a (n + 1)
+  inr_call e = only_call (inr_view own ea e)
 
-  pub abort_call : kind ≡ variant.Abort → Call records code stride scope mades m a (n + 1)
-  abort_call e = only_call (abort_view own k ea e)
+  pub abort_call : OfKind records m variant.Abort → Call records code stride scope mades m a (n + 1)
+  abort_call e = only_call (abort_view own ea e)
 
-  pub abort_done : {scope' : List (Option ℕ)} {mades' : List Made} {r : ℕ} → kind ≡ variant.Abort → Checked records code stride scope mades a (n + 1) (length code - 1) scope' mades' r → At scope' mades' r
+  pub abort_done : {scope' : List (Option ℕ)} {mades' : List Made} {r : ℕ} → OfKind records m variant.Abort → Checked records code stride scope mades a (n + 1) (length code - 1) scope' mades' r → At scope' mades' r
   abort_done e c =
-      let v = abort_view own k ea e in
+      let v = abort_view own ea e in
       checked_at v.is (abort_part j.ends.bottom_is c.answer) c.same (kept_wider n (n + nodes (term m)) (omega arith) (omega (arith, v.size)) c.kept)
 
-  pub sorry_done : kind ≡ variant.Sorry → At scope mades 0
-  sorry_done e = checked_at (sorry_is own k e) (sorry_passes n p) refl kept_all
+  pub sorry_done : OfKind records m variant.Sorry → At scope mades 0
+  sorry_done e = checked_at (sorry_is own e) (sorry_passes n p) refl kept_all
 
-  pub let_done : kind ≡ variant.LetIn → At scope mades (stops + n)
-  let_done e = checked_at (let_is own k e) (let_fails n p _ _ _ _) refl kept_all
+  pub let_done : OfKind records m variant.LetIn → At scope mades (stops + n)
+  let_done e = checked_at (let_is own e) (let_fails n p _ _ _ _) refl kept_all
 
   -- What is inferred and compared.
   module _ {scope' : List (Option ℕ)} {mades' : List Made} {r : ℕ} (i : Inferred records code stride scope mades m n scope' mades' r) where
@@ -202,33 +203,33 @@ module _ {records code : List ℕ} {stride : ℕ} {scope : List (Option ℕ)} {m
         go l t false is = rw (t.is ∙ ap (λ (b : Bool). cond b 0 (stops + n)) is) (checked_at refl (fall_differ falls i.answer l stood t.alike is) i.same i.kept)
 
   -- A case, by what its head infers.
-  module _ (e : kind ≡ variant.Case) {scope₁ : List (Option ℕ)} {mades₁ : List Made} {r h : ℕ} (i : Inferred records code stride scope mades a (n + 1) scope₁ mades₁ r)
+  module _ (e : OfKind records m variant.Case) {scope₁ : List (Option ℕ)} {mades₁ : List Made} {r h : ℕ} (i : Inferred records code stride scope mades a (n + 1) scope₁ mades₁ r)
       (x : Expected code mades₁ r Or n h) where
     pub case_stop : stops ≤ h → At scope₁ mades₁ h
     case_stop l =
-        checked_at (view j k ea e).is (case_unopened (head_unopened j k ea e i x l)) i.same
-        (kept_wider n (n + nodes (term m)) (omega arith) (omega (arith, (view j k ea e).size)) i.kept)
+        checked_at (view j ea e).is (case_unopened (head_unopened j ea e i x l)) i.same
+        (kept_wider n (n + nodes (term m)) (omega arith) (omega (arith, (view j ea e).size)) i.kept)
 
-    module _ (l : h < stops) {b next : ℕ} (eb : b ≡ field_at records m 2) (en : next ≡ n + 1 + nodes (term a)) {bound : List (Option ℕ)} {hidden : Option ℕ}
+    module _ (l : h < stops) {b next : ℕ} (eb : b ≡ field_at records m 2) (en : After records a (n + 1) next) {bound : List (Option ℕ)} {hidden : Option ℕ}
         (bd : Bound scope₁ (field_at records m 4) (h + 1) bound hidden) {called : List (Option ℕ)} {mades₂ : List Made} {back : List (Option ℕ)} {q : ℕ}
         (c : Checked records code stride bound mades₁ b next p called mades₂ q) (off : back ≡ set called (field_at records m 4) hidden) where
       left_answer : ChecksAs code (set scope (field_at records m 4) (Some (h + 1))) (term b) (n + 1 + nodes (term a)) p q
-      left_answer = checks_under (sym c.same ∙ left_under j k ea e i x l eb en bd c.same c.kept off) en c.answer
+      left_answer = checks_under (sym c.same ∙ left_under j ea e i x l eb en bd c.same c.kept off) (en labels) c.answer
 
       pub case_fail : (q ≡ 0 → ⊥) → At back mades₂ q
       case_fail other =
-          checked_at (rw eb (view j k ea e).is)
-          (case_fails {b = term (field_at records m 3)} {y = field_at records m 5} (left_name j k ea e).below j.entries (head_opening j k ea e i x l) (head_half j k ea e i x l) left_answer other)
-          (left_back j k ea e i x l eb en bd c.same c.kept off) (left_kept j k ea e i x l eb en bd c.same c.kept off)
+          checked_at (rw eb (view j ea e).is)
+          (case_fails {b = term (field_at records m 3)} {y = field_at records m 5} (left_name j ea e).below j.entries (head_opening j ea e i x l) (head_half j ea e i x l) left_answer other)
+          (left_back j ea e i x l eb en bd c.same c.kept off) (left_kept j ea e i x l eb en bd c.same c.kept off)
 
-      pub case_done : q ≡ 0 → {d last side : ℕ} → (ed : d ≡ field_at records m 3) → (el : last ≡ next + nodes (term b)) → (scanned : Scanned name_space code (h + 1) side)
+      pub case_done : q ≡ 0 → {d last side : ℕ} → (ed : d ≡ field_at records m 3) → (el : After records b next last) → (scanned : Scanned name_space code (h + 1) side)
           → {bound₂ : List (Option ℕ)} {hidden₂ : Option ℕ} → (bd₂ : Bound back (field_at records m 5) side bound₂ hidden₂) → {called₂ : List (Option ℕ)} {mades₃ : List Made} {back₂ : List (Option ℕ)} {q₂ : ℕ}
           → Checked records code stride bound₂ mades₂ d last p called₂ mades₃ q₂ → back₂ ≡ set called₂ (field_at records m 5) hidden₂ → At back₂ mades₃ q₂
       case_done ok ed el scanned bd₂ c₂ off₂ =
           let s = c.same in
-          checked_at (term_is j k ea e i x l eb en bd s c.kept off ed el scanned bd₂)
-          (case_then (left_name j k ea e).below j.entries (head_opening j k ea e i x l) (sides j k ea e i x l scanned) left_answer (right_name j k ea e).below ok
-          (checks_under (sym c₂.same ∙ right_under j k ea e i x l eb en bd s c.kept off ed el scanned bd₂ c₂.same)
-          (right_node j k ea e i x l eb en bd s c.kept off ed el scanned bd₂) c₂.answer))
-          (right_back j k ea e i x l eb en bd s c.kept off ed el scanned bd₂ c₂.same off₂)
-          (right_kept j k ea e i x l eb en bd s c.kept off ed el scanned bd₂ c₂.kept)
+          checked_at (term_is j ea e i x l eb en bd s c.kept off ed el scanned bd₂)
+          (case_then (left_name j ea e).below j.entries (head_opening j ea e i x l) (sides j ea e i x l scanned) left_answer (right_name j ea e).below ok
+          (checks_under (sym c₂.same ∙ right_under j ea e i x l eb en bd s c.kept off ed el scanned bd₂ c₂.same)
+          (right_node j ea e i x l eb en bd s c.kept off ed el scanned bd₂) c₂.answer))
+          (right_back j ea e i x l eb en bd s c.kept off ed el scanned bd₂ c₂.same off₂)
+          (right_kept j ea e i x l eb en bd s c.kept off ed el scanned bd₂ c₂.kept)

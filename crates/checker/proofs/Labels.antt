@@ -22,7 +22,7 @@ use Rattle.proof_term.specs.Records.{field_at, label_of, parameter_label}
 use Rattle.prop_numbers.specs.Standing.{standing, stops, name_space, Stood, Distinct}
 use Rattle.prop_numbers.specs.Answering.{SideOf}
 use Rattle.checker.specs.Asking.{label_prop}
-use Rattle.checker.specs.Helping.{LabelTested, BodySide, Ascribed}
+use Rattle.checker.specs.Helping.{LabelTested, BodySide}
 use Rattle.prop_numbers.proofs.Halves.{halves}
 
 module _ (props : ℕ → Prop ℕ) (kind number : ℕ) where
@@ -95,15 +95,3 @@ not_side t e = record {
 -- what is no stop has the connective
 pub has_connective : {code : List ℕ} {p : ℕ} {c : Connective} {node r : ℕ} → SideOf code p c node r → r < stops → get_or code p 0 ≡ connective_byte (meant c)
 has_connective {code} {p} {c} s h = by_cases (ℕ_discrete (get_or code p 0) (connective_byte (meant c))) (λ e. e) (λ e. absurd (omega (arith, s.other e)))
-
--- A label by its kind.
-module _ {records : List ℕ} {stride m node : ℕ} where
-  pub is_datatype : {kind : ℕ} → kind ≡ field_at records m 3 → kind ≡ 2 → Ascribed records stride m node (stops + node)
-  is_datatype k e = record { datatype = λ x. refl; offset = λ other. absurd (other (sym k ∙ e)) }
-
-  pub is_offset : {kind number : ℕ} → kind ≡ field_at records m 3 → (kind ≡ 2 → ⊥) → number ≡ field_at records m 4 → number < 65536 → stride ≤ 2
-      → Ascribed records stride m node (stride * number)
-  is_offset k other is low short = record {
-    datatype = λ x. absurd (other (k ∙ x));
-    offset = λ x. (ap (λ (i : ℕ). stride * i) is, short_stride short low);
-  }

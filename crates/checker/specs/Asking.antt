@@ -6,6 +6,8 @@ use Rattle.definitions.specs.TermText.{nodes}
 use Rattle.prefix_code.specs.PropAt.{prop_at}
 use Rattle.proof_term.specs.Records.{record_size, field_at, term_at}
 use Rattle.proof_term.specs.Tally.{PartsEarlier}
+use Rattle.proof_term.specs.Views.{kind_of}
+use Rattle.proof_term.specs.declared.nodes.Kind.{Kind}
 use Rattle.term_sizes.specs.Sizes.{Sized}
 use Rattle.prop_numbers.specs.declared.Made.{Made}
 use Rattle.prop_numbers.specs.Standing.{standing, node_limit, name_space, Stood}
@@ -18,6 +20,10 @@ label_prop code stride label = prop_at name_space code (stride * label)
 -- the term of record m
 abbrev pub term_of : List ℕ → ℕ → List ℕ → ℕ → ProofTerm ℕ
 term_of code stride records m = term_at (label_prop code stride) records m
+
+-- record m is of that kind
+abbrev pub OfKind : List ℕ → ℕ → Kind → Type 0
+OfKind records m kind = kind_of (field_at records m 0) ≡ kind
 
 -- the nodes of the term of record m, numbered from `node` on, have slots, and their count is kept
 pub record Few (records : List ℕ) (m node : ℕ) : Type 0 where

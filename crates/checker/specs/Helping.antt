@@ -1,14 +1,19 @@
 -- What the helpers of the two functions say.
 use Rattle.std.specs.Prelude.{ℕ, ◌+◌, ◌*◌, ◌<◌, ◌≡◌, Bool, true, false, List, get_or, set, Option, None, Some}
 use Rattle.definitions.specs.Name.{Name}
-use Rattle.definitions.specs.Prop.{impl, connective_byte, rename_prop}
+use Rattle.definitions.specs.Prop.{Prop, impl, connective_byte, rename_prop}
 use Rattle.definitions.specs.Term.{rename_parameter_label}
+use Rattle.definitions.specs.TermText.{nodes}
 use Rattle.definitions.specs.Checker.{ensure, label_is}
 use Rattle.prefix_code.specs.PropAt.{prop_at}
 use Rattle.prefix_code.specs.Scan.{Scanned}
-use Rattle.proof_term.specs.Records.{field_at, parameter_label}
+use Rattle.proof_term.specs.Records.{field_at, parameter_label, term_at}
 use Rattle.prop_numbers.specs.Standing.{stops, name_space, Distinct}
 use Rattle.checker.specs.Asking.{label_prop}
+
+-- the node after those of the term of record m, whose own is `node`, whatever its labels stand for
+abbrev pub After : List ℕ → ℕ → ℕ → ℕ → Type 0
+After records m node r = (props : ℕ → Prop ℕ) → r ≡ node + nodes (term_at props records m)
 
 -- the test of a function's label against the proposition at p
 pub record LabelTested (records code : List ℕ) (stride m p : ℕ) (r : Bool) : Type 0 where

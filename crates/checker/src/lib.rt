@@ -4,15 +4,12 @@
 #![tactic(auto)]
 
 ghost use Rattle.std.specs.Prelude.{◌≡◌, ℕ, ◌+◌, ◌*◌, ◌≤◌, ◌<◌, length, get_or, set, None};
-ghost use Rattle.definitions.specs.Prop.{Prop};
-ghost use Rattle.definitions.specs.TermText.{nodes};
-ghost use Rattle.proof_term.specs.Records.{record_size, field_at, term_at};
-ghost use Rattle.proof_term.specs.Views.{kind_of};
+ghost use Rattle.proof_term.specs.Records.{record_size, field_at};
 ghost use Rattle.proof_term.specs.declared.nodes.Kind.TheVariants.{Function, Pair, Application, Case};
 ghost use Rattle.prop_numbers.specs.Standing.{standing, node_limit, name_space, Stood};
-ghost use Rattle.checker.specs.Asking.{Few, NameHeld, LabelHeld, Judgeable};
+ghost use Rattle.checker.specs.Asking.{Few, NameHeld, LabelHeld, OfKind, Judgeable};
 ghost use Rattle.checker.specs.Judging.{Inferred, Checked};
-ghost use Rattle.checker.specs.Helping.{Found, Bound, Ascribed, Annotated, BodySide};
+ghost use Rattle.checker.specs.Helping.{After, Found, Bound, Ascribed, Annotated, BodySide};
 
 use prefix_code::{Connective, scan};
 use proof_term::{Kind, Label, NODE_LIMIT, field, kind_at, label_at, parameter_at};
@@ -25,7 +22,7 @@ use term_sizes::SIZE;
 // The node after those of the term of record m, whose own is `node`.
 fn after(records: &[u16], m: usize, node: usize) -> usize
     requires { Few records.now m node }
-    ensures { (props : ℕ → Prop ℕ) → result ≡ node + nodes (term_at props records.now m) }
+    ensures { After records.now m node result }
 {
     node + field(records, m, SIZE)
 }
@@ -34,7 +31,7 @@ fn after(records: &[u16], m: usize, node: usize) -> usize
 // side; else a stop at the node.
 fn body_side(records: &[u16], m: usize, code: &[u8], stride: usize, p: usize, node: usize) -> usize
     requires m_in_bounds { (record_size * (m + 1) ≤ length records.now) × LabelHeld records.now code.now stride m }
-    requires m_value { (field_at records.now m 0 ≡ 4) × Stood code.now p × (length code.now ≤ standing) × (node < node_limit) }
+    requires m_value { OfKind records.now m Function × Stood code.now p × (length code.now ≤ standing) × (node < node_limit) }
     ensures { BodySide records.now code.now stride m p node result }
 {
     let side = side_of(code, p, Connective::Impl, node);
@@ -97,6 +94,7 @@ fn entry(scope: &[Option<u32>], name: usize, node: usize) -> usize
 }
 
 // Where the label of record m stands, an ascription's or a function's, if it is a proposition; else a stop at the node.
+#[tactic(auto, using(proof_term::proofs::Views::datatype_read, proof_term::proofs::Views::proposition_read, crate::proofs::Labels::short_stride))]
 fn ascribed(records: &[u16], m: usize, stride: usize, node: usize) -> usize
     requires { (record_size * (m + 1) ≤ length records.now) × (stride ≤ 2) × (node < node_limit) }
     ensures { Ascribed records.now stride m node result }
@@ -108,6 +106,7 @@ fn ascribed(records: &[u16], m: usize, stride: usize, node: usize) -> usize
 }
 
 // The same for a function's label, which may be absent.
+#[tactic(auto, using(proof_term::proofs::Views::no_parameter, proof_term::proofs::Views::parameter_read))]
 fn annotated(records: &[u16], m: usize, stride: usize, node: usize) -> usize
     requires { (record_size * (m + 1) ≤ length records.now) × (stride ≤ 2) × (node < node_limit) }
     ensures { Annotated records.now stride m node result }
@@ -190,7 +189,7 @@ fn check_function(
     p: usize,
 ) -> usize
     requires ready { Judgeable records.now code.now stride scope.old made.old m node × Stood code.now p }
-    requires kind { kind_of (field_at records.now m 0) ≡ Function }
+    requires kind { OfKind records.now m Function }
     ensures { Checked records.now code.now stride scope.old made.old m node p
         scope.new made.new result }
 {
@@ -218,7 +217,7 @@ fn check_pair(
     p: usize,
 ) -> usize
     requires ready { Judgeable records.now code.now stride scope.old made.old m node × Stood code.now p }
-    requires kind { kind_of (field_at records.now m 0) ≡ Pair }
+    requires kind { OfKind records.now m Pair }
     ensures { Checked records.now code.now stride scope.old made.old m node p
         scope.new made.new result }
 {
@@ -249,7 +248,7 @@ fn check_case(
     p: usize,
 ) -> usize
     requires ready { Judgeable records.now code.now stride scope.old made.old m node × Stood code.now p }
-    requires kind { kind_of (field_at records.now m 0) ≡ Case }
+    requires kind { OfKind records.now m Case }
     ensures { Checked records.now code.now stride scope.old made.old m node p
         scope.new made.new result }
 {
@@ -335,7 +334,7 @@ fn infer_application(
     made: &mut [Made; NODE_LIMIT],
 ) -> usize
     requires ready { Judgeable records.now code.now stride scope.old made.old m node }
-    requires kind { kind_of (field_at records.now m 0) ≡ Application }
+    requires kind { OfKind records.now m Application }
     ensures { Inferred records.now code.now stride scope.old made.old m node
         scope.new made.new result }
 {
@@ -368,7 +367,7 @@ fn infer_function(
     made: &mut [Made; NODE_LIMIT],
 ) -> usize
     requires ready { Judgeable records.now code.now stride scope.old made.old m node }
-    requires kind { kind_of (field_at records.now m 0) ≡ Function }
+    requires kind { OfKind records.now m Function }
     ensures { Inferred records.now code.now stride scope.old made.old m node
         scope.new made.new result }
 {
@@ -395,7 +394,7 @@ fn infer_pair(
     made: &mut [Made; NODE_LIMIT],
 ) -> usize
     requires ready { Judgeable records.now code.now stride scope.old made.old m node }
-    requires kind { kind_of (field_at records.now m 0) ≡ Pair }
+    requires kind { OfKind records.now m Pair }
     ensures { Inferred records.now code.now stride scope.old made.old m node
         scope.new made.new result }
 {
@@ -422,7 +421,7 @@ fn infer_case(
     made: &mut [Made; NODE_LIMIT],
 ) -> usize
     requires ready { Judgeable records.now code.now stride scope.old made.old m node }
-    requires kind { kind_of (field_at records.now m 0) ≡ Case }
+    requires kind { OfKind records.now m Case }
     ensures { Inferred records.now code.now stride scope.old made.old m node
         scope.new made.new result }
 {

@@ -56,10 +56,6 @@ pub right_made : (mades : List Made) (k end : ℕ) → right_of mades (standing 
 unfolding right_of
 right_made mades k end = let that : standing + k - standing ≡ k = omega arith in rw (le-ltb (standing + k) standing (omega arith), that)
 
-pub right_stands : (mades : List Made) (p end : ℕ) → p < standing → right_of mades p end ≡ end
-unfolding right_of
-right_stands mades p end l = rw (lt-ltb p standing l)
-
 pub left_stands : (mades : List Made) (p : ℕ) → p < standing → left_of mades p ≡ p + 1
 unfolding left_of
 left_stands mades p l = rw (lt-ltb p standing l)

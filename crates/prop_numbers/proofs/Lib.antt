@@ -7,4 +7,3 @@ pub mod Reps
 pub mod Opening
 pub mod Halves
 pub mod Comparing
-pub mod Projecting

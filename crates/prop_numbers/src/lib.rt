@@ -46,6 +46,7 @@ pub const STOPS: usize = STANDING + NODE_LIMIT;
 // would spell its fields out. The number of the slots is part of `Space`, since most functions only read them.
 
 // The connective of a proposition, if it is binary.
+#[tactic(auto, using(crate::proofs::Fronts::past_front), unfolding(crate::specs::Standing::connective_of))]
 fn connective_of(code: &[u8], made: &[Made], p: usize) -> Option<Connective>
     requires { Space code.now made.now p }
     ensures { result ≡ connective_of code.now made.now p }
@@ -60,6 +61,7 @@ fn connective_of(code: &[u8], made: &[Made], p: usize) -> Option<Connective>
 }
 
 // The left side of a binary proposition.
+#[tactic(auto, unfolding(crate::specs::Standing::left_of))]
 pub fn left(made: &[Made], p: usize) -> usize
     requires { (p < stops) × (length made.now ≡ node_limit) }
     ensures { result ≡ left_of made.now p }
@@ -71,6 +73,7 @@ pub fn left(made: &[Made], p: usize) -> usize
 }
 
 // The right side.
+#[tactic(auto, unfolding(crate::specs::Standing::right_of))]
 pub fn right(code: &[u8], made: &[Made], p: usize) -> usize
     requires { Space code.now made.now p }
     ensures { RightOf code.now made.now p result }
@@ -154,6 +157,7 @@ pub fn expect(code: &[u8], made: &[Made], r: usize, connective: Connective, node
 }
 
 // The first side of a conjunction that is inferred, or a stop.
+#[tactic(auto, using(crate::proofs::Halves::expected_space))]
 pub fn first_side(code: &[u8], made: &[Made], r: usize, node: usize) -> usize
     requires { (r < stops → Space code.now made.now r) × (node < node_limit) }
     ensures { Projected code.now made.now r (FirstSide made.now) node result }
@@ -166,6 +170,7 @@ pub fn first_side(code: &[u8], made: &[Made], r: usize, node: usize) -> usize
 }
 
 // The second side.
+#[tactic(auto, using(crate::proofs::Halves::expected_space))]
 pub fn second_side(code: &[u8], made: &[Made], r: usize, node: usize) -> usize
     requires { (r < stops → Space code.now made.now r) × (node < node_limit) }
     ensures { Projected code.now made.now r (RightOf code.now made.now) node result }
@@ -178,6 +183,7 @@ pub fn second_side(code: &[u8], made: &[Made], r: usize, node: usize) -> usize
 }
 
 // Makes a proposition of two, unless the second is a stop.
+#[tactic(auto, unfolding(crate::specs::Standing::slotted))]
 pub fn make(
     made: &mut [Made; NODE_LIMIT],
     node: usize,

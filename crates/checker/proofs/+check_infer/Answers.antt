@@ -3,9 +3,7 @@
 use mathlib.Core.Path.{refl, sym, ap, ◌∙◌}
 use native.Mathlib.Omega.{arith}
 use lib.ListN.{length}
-use Rattle.proof_term.proofs.Views.{number_of_kind}
 use Rattle.prop_numbers.proofs.Halves.{expected_space}
-use Rattle.checker.specs.Asking.{label_prop}
 use Rattle.checker.proofs.Steps.{node_low, known_stood}
 use Rattle.checker.proofs.Fallback.{falls}
 use Rattle.checker.proofs.Cases as cases
@@ -16,89 +14,62 @@ use Rattle.checker.proofs.+check_infer.Goals as goal
 -- What is checked.
 pub check-returns-then-side-ge-STOPS : goal.check-returns-then-side-ge-STOPS
 check-returns-then-side-ge-STOPS t c =
-    arms.inl_stop c.requires.0 c.requires.1 c.kind_at-kind.ensures c.field-first.ensures.0 c.side_of-side.ensures c.in-OrLeft.is c.if-side-ge-STOPS.true
+    arms.inl_stop c.requires.0 c.requires.1 c.field-first.ensures.0 c.side_of-side.ensures (sym c.kind_at-kind.ensures ∙ c.in-OrLeft.is) c.if-side-ge-STOPS.true
 
 pub check-check-requires : goal.check-check-requires
 check-check-requires t c =
-    let call = arms.inl_call c.requires.0 c.requires.1 c.kind_at-kind.ensures c.field-first.ensures.0 c.in-OrLeft.is in
-    (omega (arith, c.decreases, call.less), (call.ready, (arms.or_halves c.requires.0 c.requires.1 c.kind_at-kind.ensures c.field-first.ensures.0 c.side_of-side.ensures c.if-side-ge-STOPS.false).left))
+    let call = arms.inl_call c.requires.0 c.requires.1 c.field-first.ensures.0 (sym c.kind_at-kind.ensures ∙ c.in-OrLeft.is) in
+    (omega (arith, c.decreases, call.less), (call.ready, (arms.or_halves c.requires.0 c.requires.1 c.field-first.ensures.0 c.side_of-side.ensures c.if-side-ge-STOPS.false).left))
 
 pub check-returns-else-side-ge-STOPS : goal.check-returns-else-side-ge-STOPS
 check-returns-else-side-ge-STOPS t c =
-    arms.inl_done c.requires.0 c.requires.1 c.kind_at-kind.ensures c.field-first.ensures.0 c.side_of-side.ensures c.in-OrLeft.is c.if-side-ge-STOPS.false c.check.ensures
+    arms.inl_done c.requires.0 c.requires.1 c.field-first.ensures.0 c.side_of-side.ensures (sym c.kind_at-kind.ensures ∙ c.in-OrLeft.is) c.if-side-ge-STOPS.false c.check.ensures
 
 pub check-returns-then-side-ge-STOPS-2 : goal.check-returns-then-side-ge-STOPS-2
 check-returns-then-side-ge-STOPS-2 t c =
-    arms.inr_stop c.requires.0 c.requires.1 c.kind_at-kind.ensures c.field-first.ensures.0 c.side_of-side-in-OrRight.ensures c.in-OrRight.is c.if-side-ge-STOPS-2.true
+    arms.inr_stop c.requires.0 c.requires.1 c.field-first.ensures.0 c.side_of-side-in-OrRight.ensures (sym c.kind_at-kind.ensures ∙ c.in-OrRight.is) c.if-side-ge-STOPS-2.true
 
 pub check-check-requires-in-OrRight : goal.check-check-requires-in-OrRight
 check-check-requires-in-OrRight t c =
-    let call = arms.inr_call c.requires.0 c.requires.1 c.kind_at-kind.ensures c.field-first.ensures.0 c.in-OrRight.is in
-    (omega (arith, c.decreases, call.less), (call.ready, (arms.or_halves c.requires.0 c.requires.1 c.kind_at-kind.ensures c.field-first.ensures.0 c.side_of-side-in-OrRight.ensures c.if-side-ge-STOPS-2.false).right))
+    let call = arms.inr_call c.requires.0 c.requires.1 c.field-first.ensures.0 (sym c.kind_at-kind.ensures ∙ c.in-OrRight.is) in
+    (omega (arith, c.decreases, call.less), (call.ready, (arms.or_halves c.requires.0 c.requires.1 c.field-first.ensures.0 c.side_of-side-in-OrRight.ensures c.if-side-ge-STOPS-2.false).right))
 
 pub check-returns-else-side-ge-STOPS-2 : goal.check-returns-else-side-ge-STOPS-2
 check-returns-else-side-ge-STOPS-2 t c =
-    arms.inr_done c.requires.0 c.requires.1 c.kind_at-kind.ensures c.field-first.ensures.0 c.side_of-side-in-OrRight.ensures c.in-OrRight.is c.if-side-ge-STOPS-2.false c.check-in-OrRight.ensures
+    arms.inr_done c.requires.0 c.requires.1 c.field-first.ensures.0 c.side_of-side-in-OrRight.ensures (sym c.kind_at-kind.ensures ∙ c.in-OrRight.is) c.if-side-ge-STOPS-2.false c.check-in-OrRight.ensures
 
 pub check-check-requires-in-Abort : goal.check-check-requires-in-Abort
 check-check-requires-in-Abort t c =
-    let call = arms.abort_call c.requires.0 c.requires.1 c.kind_at-kind.ensures c.field-first.ensures.0 c.in-Abort.is in
+    let call = arms.abort_call c.requires.0 c.requires.1 c.field-first.ensures.0 (sym c.kind_at-kind.ensures ∙ c.in-Abort.is) in
     (omega (arith, c.decreases, call.less), (call.ready, c.requires.0.ends.bottom))
 
 pub check-agree-requires : goal.check-agree-requires
 check-agree-requires t c =
     record {
       code_len_bound = (c.requires.0.ends.space, c.infer-r.ensures.kept.long ∙ c.requires.0.slots, node_low c.requires.0);
-      known = (arms.fall_known c.requires.0 c.requires.1 c.kind_at-kind.ensures c.field-first.ensures.0 c.infer-r.ensures, known_stood c.requires.1);
+      known = (arms.fall_known c.requires.0 c.requires.1 c.field-first.ensures.0 c.infer-r.ensures, known_stood c.requires.1);
     }
 
 pub check-returns-in-Ident : goal.check-returns-in-Ident
 check-returns-in-Ident t c =
-    arms.fall_done c.requires.0 c.requires.1 c.kind_at-kind.ensures c.field-first.ensures.0 c.infer-r.ensures
-    (falls (c.requires.0.well _ (omega arith)) c.kind_at-kind.ensures c.field-first.ensures.0 c.in-Ident.is)
+    arms.fall_done c.requires.0 c.requires.1 c.field-first.ensures.0 c.infer-r.ensures
+    (falls (c.requires.0.well _ (omega arith)) c.field-first.ensures.0 (rw c.kind_at-kind.ensures at c.in-Ident.is))
     c.agree.ensures
-
-pub check-kind_at-kind-requires : goal.check-kind_at-kind-requires
-check-kind_at-kind-requires t c = c.requires.0.held
-
-pub check-field-first-requires : goal.check-field-first-requires
-check-field-first-requires t c = (c.requires.0.held, omega arith)
 
 pub check-side_of-side-requires : goal.check-side_of-side-requires
 check-side_of-side-requires t c = (c.requires.1, c.requires.0.ends.space, node_low c.requires.0)
 
-pub check-overflow_add-node : goal.check-overflow_add-node
-check-overflow_add-node t c = omega (arith, node_low c.requires.0, c.requires.1.low)
-
-pub check-overflow_add-p : goal.check-overflow_add-p
-check-overflow_add-p t c = omega (arith, node_low c.requires.0, c.requires.1.low)
-
 pub check-side_of-side-requires-in-OrRight : goal.check-side_of-side-requires-in-OrRight
 check-side_of-side-requires-in-OrRight t c = (c.requires.1, c.requires.0.ends.space, node_low c.requires.0)
 
-pub check-overflow_add-node-in-OrRight : goal.check-overflow_add-node-in-OrRight
-check-overflow_add-node-in-OrRight t c = omega (arith, node_low c.requires.0)
-
-pub check-overflow_sub-bottom : goal.check-overflow_sub-bottom
-check-overflow_sub-bottom t c = omega (arith, c.requires.0.ends.two)
-
-pub check-overflow_add-node-in-Abort : goal.check-overflow_add-node-in-Abort
-check-overflow_add-node-in-Abort t c = omega (arith, node_low c.requires.0)
-
-pub check-overflow_add-result : goal.check-overflow_add-result
-check-overflow_add-result t c = omega (arith, node_low c.requires.0)
-
-pub check-infer-r-requires : goal.check-infer-r-requires
-check-infer-r-requires t c = (omega (arith, c.decreases), c.requires.0)
-
 pub check-returns-in-Abort : goal.check-returns-in-Abort
-check-returns-in-Abort t c = arms.abort_done c.requires.0 c.requires.1 c.kind_at-kind.ensures c.field-first.ensures.0 c.in-Abort.is c.check-in-Abort.ensures
+check-returns-in-Abort t c = arms.abort_done c.requires.0 c.requires.1 c.field-first.ensures.0 (sym c.kind_at-kind.ensures ∙ c.in-Abort.is) c.check-in-Abort.ensures
 
 pub check-returns-in-Sorry : goal.check-returns-in-Sorry
-check-returns-in-Sorry t c = arms.sorry_done c.requires.0 c.requires.1 c.kind_at-kind.ensures c.field-first.ensures.0 c.in-Sorry.is
+check-returns-in-Sorry t c = arms.sorry_done c.requires.0 c.requires.1 c.field-first.ensures.0 (sym c.kind_at-kind.ensures ∙ c.in-Sorry.is)
 
 pub check-returns-in-LetIn : goal.check-returns-in-LetIn
-check-returns-in-LetIn t c = arms.let_done c.requires.0 c.requires.1 c.kind_at-kind.ensures c.field-first.ensures.0 c.in-LetIn.is
+check-returns-in-LetIn t c = arms.let_done c.requires.0 c.requires.1 c.field-first.ensures.0 (sym c.kind_at-kind.ensures ∙ c.in-LetIn.is)
 
 -- A function.
 pub check_function-body_side-side-requires : goal.check_function-body_side-side-requires
@@ -106,361 +77,270 @@ check_function-body_side-side-requires t c =
     let j = c.requires.ready.0 in
     record {
       m_in_bounds = (j.held, (j.well c.args.m (omega arith)).label);
-      m_value = (number_of_kind (sym refl ∙ c.requires.kind) (λ u. cc), c.requires.ready.1, j.ends.space, node_low j);
+      m_value = (c.requires.kind, c.requires.ready.1, j.ends.space, node_low j);
     }
 
 pub check_function-returns-then-side-ge-STOPS : goal.check_function-returns-then-side-ge-STOPS
 check_function-returns-then-side-ge-STOPS t c =
-    arms.function_stop c.requires.ready.0 c.requires.ready.1 refl c.field-first.ensures.0 c.requires.kind c.body_side-side.ensures c.if-side-ge-STOPS.true
+    arms.function_stop c.requires.ready.0 c.requires.ready.1 c.field-first.ensures.0 c.requires.kind c.body_side-side.ensures c.if-side-ge-STOPS.true
 
 pub check_function-bind-hidden-requires : goal.check_function-bind-hidden-requires
 check_function-bind-hidden-requires t c =
     let e = c.requires.kind in
-    (arms.function_name c.requires.ready.0 c.requires.ready.1 refl c.field-first.ensures.0 e, (arms.function_left c.requires.ready.0 c.requires.ready.1 refl c.field-first.ensures.0 e c.body_side-side.ensures c.if-side-ge-STOPS.false).low, c.requires.ready.0.entries.long)
+    (arms.function_name c.requires.ready.0 c.requires.ready.1 c.field-first.ensures.0 e, (arms.function_left c.requires.ready.0 c.requires.ready.1 c.field-first.ensures.0 e c.body_side-side.ensures c.if-side-ge-STOPS.false).low, c.requires.ready.0.entries.long)
 
 pub check_function-check-r-requires : goal.check_function-check-r-requires
 check_function-check-r-requires t c =
     let e = c.requires.kind in
     let l = c.if-side-ge-STOPS.false in
-    let call = arms.function_call c.requires.ready.0 c.requires.ready.1 refl c.field-first.ensures.0 e c.body_side-side.ensures l c.bind-hidden.ensures in
-    (omega (arith, c.decreases, call.less), (call.ready, arms.function_side c.requires.ready.0 c.requires.ready.1 refl c.field-first.ensures.0 e c.body_side-side.ensures l))
+    let call = arms.function_call c.requires.ready.0 c.requires.ready.1 c.field-first.ensures.0 e c.body_side-side.ensures l c.bind-hidden.ensures in
+    (omega (arith, c.decreases, call.less), (call.ready, arms.function_side c.requires.ready.0 c.requires.ready.1 c.field-first.ensures.0 e c.body_side-side.ensures l))
 
 pub check_function-unbind-requires : goal.check_function-unbind-requires
 check_function-unbind-requires t c =
     let e = c.requires.kind in
-    (arms.function_name c.requires.ready.0 c.requires.ready.1 refl c.field-first.ensures.0 e, arms.function_long c.requires.ready.0 c.requires.ready.1 refl c.field-first.ensures.0 e c.body_side-side.ensures c.if-side-ge-STOPS.false c.bind-hidden.ensures c.check-r.ensures.same)
+    (arms.function_name c.requires.ready.0 c.requires.ready.1 c.field-first.ensures.0 e, arms.function_long c.requires.ready.0 c.requires.ready.1 c.field-first.ensures.0 e c.body_side-side.ensures c.if-side-ge-STOPS.false c.bind-hidden.ensures c.check-r.ensures.same)
 
 pub check_function-returns : goal.check_function-returns
 check_function-returns t c =
-    arms.function_done c.requires.ready.0 c.requires.ready.1 refl c.field-first.ensures.0 c.requires.kind c.body_side-side.ensures c.if-side-ge-STOPS.false c.bind-hidden.ensures c.check-r.ensures c.unbind.ensures
-
-pub check_function-overflow_add-p : goal.check_function-overflow_add-p
-check_function-overflow_add-p t c = omega (arith, c.requires.ready.1.low)
-
-pub check_function-overflow_add-node : goal.check_function-overflow_add-node
-check_function-overflow_add-node t c = omega (arith, node_low c.requires.ready.0)
-
-pub check_function-field-first-requires : goal.check_function-field-first-requires
-check_function-field-first-requires t c = (c.requires.ready.0.held, omega arith)
-
-pub check-check_function-requires : goal.check-check_function-requires
-check-check_function-requires t c = (omega (arith, c.decreases), (c.requires, sym c.kind_at-kind.ensures ∙ c.in-Function.is))
+    arms.function_done c.requires.ready.0 c.requires.ready.1 c.field-first.ensures.0 c.requires.kind c.body_side-side.ensures c.if-side-ge-STOPS.false c.bind-hidden.ensures c.check-r.ensures c.unbind.ensures
 
 -- A pair.
 pub check_pair-returns-then-side-ge-STOPS : goal.check_pair-returns-then-side-ge-STOPS
 check_pair-returns-then-side-ge-STOPS t c =
-    arms.pair_stop c.requires.ready.0 c.requires.ready.1 refl c.field-first.ensures.0 c.requires.kind c.side_of-side.ensures c.if-side-ge-STOPS.true
+    arms.pair_stop c.requires.ready.0 c.requires.ready.1 c.field-first.ensures.0 c.requires.kind c.side_of-side.ensures c.if-side-ge-STOPS.true
 
 pub check_pair-check-r-requires : goal.check_pair-check-r-requires
 check_pair-check-r-requires t c =
     let e = c.requires.kind in
-    let call = arms.pair_call c.requires.ready.0 c.requires.ready.1 refl c.field-first.ensures.0 e c.side_of-side.ensures c.if-side-ge-STOPS.false in
-    (omega (arith, c.decreases, call.less), (call.ready, (arms.pair_halves c.requires.ready.0 c.requires.ready.1 refl c.field-first.ensures.0 e c.side_of-side.ensures c.if-side-ge-STOPS.false).left))
+    let call = arms.pair_call c.requires.ready.0 c.requires.ready.1 c.field-first.ensures.0 e c.side_of-side.ensures c.if-side-ge-STOPS.false in
+    (omega (arith, c.decreases, call.less), (call.ready, (arms.pair_halves c.requires.ready.0 c.requires.ready.1 c.field-first.ensures.0 e c.side_of-side.ensures c.if-side-ge-STOPS.false).left))
 
 pub check_pair-returns-then-r-ne0 : goal.check_pair-returns-then-r-ne0
 check_pair-returns-then-r-ne0 t c =
-    arms.pair_fail c.requires.ready.0 c.requires.ready.1 refl c.field-first.ensures.0 c.requires.kind c.side_of-side.ensures c.if-side-ge-STOPS.false c.check-r.ensures c.if-r-ne0.true
+    arms.pair_fail c.requires.ready.0 c.requires.ready.1 c.field-first.ensures.0 c.requires.kind c.side_of-side.ensures c.if-side-ge-STOPS.false c.check-r.ensures c.if-r-ne0.true
 
 pub check_pair-after-next-requires : goal.check_pair-after-next-requires
 check_pair-after-next-requires t c =
-    arms.pair_few c.requires.ready.0 c.requires.ready.1 refl c.field-first.ensures.0 c.requires.kind
+    arms.pair_few c.requires.ready.0 c.requires.ready.1 c.field-first.ensures.0 c.requires.kind
 
 pub check_pair-check-requires : goal.check_pair-check-requires
 check_pair-check-requires t c =
     let e = c.requires.kind in
     let l = c.if-side-ge-STOPS.false in
-    let call = arms.pair_next c.requires.ready.0 c.requires.ready.1 refl c.field-first.ensures.0 e c.side_of-side.ensures l c.check-r.ensures c.if-r-ne0.false
-    c.field-second.ensures.0 (c.after-next.ensures (label_prop c.args.code.now c.args.stride)) in
-    (omega (arith, c.decreases, call.less), (call.ready, (arms.pair_halves c.requires.ready.0 c.requires.ready.1 refl c.field-first.ensures.0 e c.side_of-side.ensures l).right))
+    let call = arms.pair_next c.requires.ready.0 c.requires.ready.1 c.field-first.ensures.0 e c.side_of-side.ensures l c.check-r.ensures c.if-r-ne0.false
+    c.field-second.ensures.0 c.after-next.ensures in
+    (omega (arith, c.decreases, call.less), (call.ready, (arms.pair_halves c.requires.ready.0 c.requires.ready.1 c.field-first.ensures.0 e c.side_of-side.ensures l).right))
 
 pub check_pair-returns : goal.check_pair-returns
 check_pair-returns t c =
-    arms.pair_done c.requires.ready.0 c.requires.ready.1 refl c.field-first.ensures.0 c.requires.kind c.side_of-side.ensures c.if-side-ge-STOPS.false c.check-r.ensures c.if-r-ne0.false
-    c.field-second.ensures.0 (c.after-next.ensures (label_prop c.args.code.now c.args.stride)) c.check.ensures
+    arms.pair_done c.requires.ready.0 c.requires.ready.1 c.field-first.ensures.0 c.requires.kind c.side_of-side.ensures c.if-side-ge-STOPS.false c.check-r.ensures c.if-r-ne0.false
+    c.field-second.ensures.0 c.after-next.ensures c.check.ensures
 
 pub check_pair-side_of-side-requires : goal.check_pair-side_of-side-requires
 check_pair-side_of-side-requires t c = (c.requires.ready.1, c.requires.ready.0.ends.space, node_low c.requires.ready.0)
 
-pub check_pair-overflow_add-node : goal.check_pair-overflow_add-node
-check_pair-overflow_add-node t c = omega (arith, node_low c.requires.ready.0, c.requires.ready.1.low)
-
-pub check_pair-overflow_add-p : goal.check_pair-overflow_add-p
-check_pair-overflow_add-p t c = omega (arith, node_low c.requires.ready.0, c.requires.ready.1.low)
-
-pub check_pair-field-second-requires : goal.check_pair-field-second-requires
-check_pair-field-second-requires t c = (c.requires.ready.0.held, omega arith)
-
-pub check_pair-overflow_add-node-2 : goal.check_pair-overflow_add-node-2
-check_pair-overflow_add-node-2 t c = omega (arith, node_low c.requires.ready.0)
-
-pub check_pair-field-first-requires : goal.check_pair-field-first-requires
-check_pair-field-first-requires t c = (c.requires.ready.0.held, omega arith)
-
-pub check-check_pair-requires : goal.check-check_pair-requires
-check-check_pair-requires t c = (omega (arith, c.decreases), (c.requires, sym c.kind_at-kind.ensures ∙ c.in-Pair.is))
-
 -- A case.
 pub check_case-infer-inferred-requires : goal.check_case-infer-inferred-requires
 check_case-infer-inferred-requires t c =
-    let call = cases.head_call c.requires.ready.0 refl c.field-first.ensures.0 c.requires.kind in
+    let call = cases.head_call c.requires.ready.0 c.field-first.ensures.0 c.requires.kind in
     (omega (arith, c.decreases, call.less), call.ready)
 
 pub check_case-expect-h-requires : goal.check_case-expect-h-requires
 check_case-expect-h-requires t c =
-    (cases.head_space c.requires.ready.0 refl c.field-first.ensures.0 c.requires.kind c.infer-inferred.ensures, node_low c.requires.ready.0)
+    (cases.head_space c.requires.ready.0 c.field-first.ensures.0 c.requires.kind c.infer-inferred.ensures, node_low c.requires.ready.0)
 
 pub check_case-returns-then-h-ge-STOPS : goal.check_case-returns-then-h-ge-STOPS
 check_case-returns-then-h-ge-STOPS t c =
-    arms.case_stop c.requires.ready.0 c.requires.ready.1 refl c.field-first.ensures.0 c.requires.kind c.infer-inferred.ensures c.expect-h.ensures c.if-h-ge-STOPS.true
+    arms.case_stop c.requires.ready.0 c.requires.ready.1 c.field-first.ensures.0 c.requires.kind c.infer-inferred.ensures c.expect-h.ensures c.if-h-ge-STOPS.true
 
 pub check_case-after-next-requires : goal.check_case-after-next-requires
 check_case-after-next-requires t c =
-    cases.head_few c.requires.ready.0 refl c.field-first.ensures.0 c.requires.kind
+    cases.head_few c.requires.ready.0 c.field-first.ensures.0 c.requires.kind
 
 pub check_case-bind-hidden-requires : goal.check_case-bind-hidden-requires
 check_case-bind-hidden-requires t c =
     let e = c.requires.kind in
-    (cases.left_name c.requires.ready.0 refl c.field-first.ensures.0 e, (cases.left_stood c.requires.ready.0 refl c.field-first.ensures.0 c.requires.kind c.infer-inferred.ensures c.expect-h.ensures c.if-h-ge-STOPS.false).low, (cases.entries c.requires.ready.0 refl c.field-first.ensures.0 e c.infer-inferred.ensures).long)
+    (cases.left_name c.requires.ready.0 c.field-first.ensures.0 e, (cases.left_stood c.requires.ready.0 c.field-first.ensures.0 c.requires.kind c.infer-inferred.ensures c.expect-h.ensures c.if-h-ge-STOPS.false).low, (cases.entries c.requires.ready.0 c.field-first.ensures.0 e c.infer-inferred.ensures).long)
 
 pub check_case-check-r-requires : goal.check_case-check-r-requires
 check_case-check-r-requires t c =
-    let call = cases.left_call c.requires.ready.0 refl c.field-first.ensures.0 c.requires.kind c.infer-inferred.ensures c.expect-h.ensures c.if-h-ge-STOPS.false
-    c.field-second.ensures.0 (c.after-next.ensures (label_prop c.args.code.now c.args.stride)) c.bind-hidden.ensures in
+    let call = cases.left_call c.requires.ready.0 c.field-first.ensures.0 c.requires.kind c.infer-inferred.ensures c.expect-h.ensures c.if-h-ge-STOPS.false
+    c.field-second.ensures.0 c.after-next.ensures c.bind-hidden.ensures in
     (omega (arith, c.decreases, call.less), (call.ready, c.requires.ready.1))
 
 pub check_case-unbind-requires : goal.check_case-unbind-requires
 check_case-unbind-requires t c =
     let e = c.requires.kind in (
-      cases.left_name c.requires.ready.0 refl c.field-first.ensures.0 e,
-      cases.left_long c.requires.ready.0 refl c.field-first.ensures.0 e c.infer-inferred.ensures c.expect-h.ensures c.if-h-ge-STOPS.false
-          c.field-second.ensures.0 (c.after-next.ensures (label_prop c.args.code.now c.args.stride)) c.bind-hidden.ensures c.check-r.ensures.same,
+      cases.left_name c.requires.ready.0 c.field-first.ensures.0 e,
+      cases.left_long c.requires.ready.0 c.field-first.ensures.0 e c.infer-inferred.ensures c.expect-h.ensures c.if-h-ge-STOPS.false
+          c.field-second.ensures.0 c.after-next.ensures c.bind-hidden.ensures c.check-r.ensures.same,
     )
 
 pub check_case-returns-then-r-ne0 : goal.check_case-returns-then-r-ne0
 check_case-returns-then-r-ne0 t c =
-    arms.case_fail c.requires.ready.0 c.requires.ready.1 refl c.field-first.ensures.0 c.requires.kind c.infer-inferred.ensures c.expect-h.ensures c.if-h-ge-STOPS.false
-    c.field-second.ensures.0 (c.after-next.ensures (label_prop c.args.code.now c.args.stride)) c.bind-hidden.ensures c.check-r.ensures c.unbind.ensures c.if-r-ne0.true
+    arms.case_fail c.requires.ready.0 c.requires.ready.1 c.field-first.ensures.0 c.requires.kind c.infer-inferred.ensures c.expect-h.ensures c.if-h-ge-STOPS.false
+    c.field-second.ensures.0 c.after-next.ensures c.bind-hidden.ensures c.check-r.ensures c.unbind.ensures c.if-r-ne0.true
 
 pub check_case-after-last-requires : goal.check_case-after-last-requires
 check_case-after-last-requires t c =
-    cases.left_few c.requires.ready.0 refl c.field-first.ensures.0 c.requires.kind c.infer-inferred.ensures c.expect-h.ensures c.if-h-ge-STOPS.false
-    c.field-second.ensures.0 (c.after-next.ensures (label_prop c.args.code.now c.args.stride))
+    cases.left_few c.requires.ready.0 c.field-first.ensures.0 c.requires.kind c.infer-inferred.ensures c.expect-h.ensures c.if-h-ge-STOPS.false
+    c.field-second.ensures.0 c.after-next.ensures
 
 pub check_case-scan-side-requires : goal.check_case-scan-side-requires
 check_case-scan-side-requires t c =
-    cases.inside_code c.requires.ready.0 refl c.field-first.ensures.0 c.requires.kind c.infer-inferred.ensures c.expect-h.ensures c.if-h-ge-STOPS.false
+    cases.inside_code c.requires.ready.0 c.field-first.ensures.0 c.requires.kind c.infer-inferred.ensures c.expect-h.ensures c.if-h-ge-STOPS.false
 
 pub check_case-bind-hidden-requires-2 : goal.check_case-bind-hidden-requires-2
 check_case-bind-hidden-requires-2 t c =
     let e = c.requires.kind in
     let l = c.if-h-ge-STOPS.false in
-    let back = cases.left_back c.requires.ready.0 refl c.field-first.ensures.0 e c.infer-inferred.ensures c.expect-h.ensures l
-    c.field-second.ensures.0 (c.after-next.ensures (label_prop c.args.code.now c.args.stride)) c.bind-hidden.ensures c.check-r.ensures.same c.check-r.ensures.kept c.unbind.ensures in
-    (cases.right_name c.requires.ready.0 refl c.field-first.ensures.0 e, (cases.sides c.requires.ready.0 refl c.field-first.ensures.0 e c.infer-inferred.ensures c.expect-h.ensures l c.scan-side.ensures).right.low, ap length back ∙ c.requires.ready.0.entries.long)
+    let back = cases.left_back c.requires.ready.0 c.field-first.ensures.0 e c.infer-inferred.ensures c.expect-h.ensures l
+    c.field-second.ensures.0 c.after-next.ensures c.bind-hidden.ensures c.check-r.ensures.same c.check-r.ensures.kept c.unbind.ensures in
+    (cases.right_name c.requires.ready.0 c.field-first.ensures.0 e, (cases.sides c.requires.ready.0 c.field-first.ensures.0 e c.infer-inferred.ensures c.expect-h.ensures l c.scan-side.ensures).right.low, ap length back ∙ c.requires.ready.0.entries.long)
 
 pub check_case-check-r-requires-2 : goal.check_case-check-r-requires-2
 check_case-check-r-requires-2 t c =
-    let props = label_prop c.args.code.now c.args.stride in
-    let call = cases.right_call c.requires.ready.0 refl c.field-first.ensures.0 c.requires.kind c.infer-inferred.ensures c.expect-h.ensures c.if-h-ge-STOPS.false
-    c.field-second.ensures.0 (c.after-next.ensures props) c.bind-hidden.ensures c.check-r.ensures.same c.check-r.ensures.kept c.unbind.ensures
-    c.field-third.ensures.0 (c.after-last.ensures props) c.scan-side.ensures c.bind-hidden-2.ensures in
+    let call = cases.right_call c.requires.ready.0 c.field-first.ensures.0 c.requires.kind c.infer-inferred.ensures c.expect-h.ensures c.if-h-ge-STOPS.false
+    c.field-second.ensures.0 c.after-next.ensures c.bind-hidden.ensures c.check-r.ensures.same c.check-r.ensures.kept c.unbind.ensures
+    c.field-third.ensures.0 c.after-last.ensures c.scan-side.ensures c.bind-hidden-2.ensures in
     (omega (arith, c.decreases, call.less), (call.ready, c.requires.ready.1))
 
 pub check_case-unbind-requires-2 : goal.check_case-unbind-requires-2
 check_case-unbind-requires-2 t c =
-    let e = c.requires.kind in
-    let props = label_prop c.args.code.now c.args.stride in (
-      cases.right_name c.requires.ready.0 refl c.field-first.ensures.0 e,
-      cases.right_long c.requires.ready.0 refl c.field-first.ensures.0 e c.infer-inferred.ensures c.expect-h.ensures c.if-h-ge-STOPS.false
-          c.field-second.ensures.0 (c.after-next.ensures props) c.bind-hidden.ensures c.check-r.ensures.same c.check-r.ensures.kept c.unbind.ensures
-          c.field-third.ensures.0 (c.after-last.ensures props) c.scan-side.ensures c.bind-hidden-2.ensures c.check-r-2.ensures.same,
+    let e = c.requires.kind in (
+      cases.right_name c.requires.ready.0 c.field-first.ensures.0 e,
+      cases.right_long c.requires.ready.0 c.field-first.ensures.0 e c.infer-inferred.ensures c.expect-h.ensures c.if-h-ge-STOPS.false
+          c.field-second.ensures.0 c.after-next.ensures c.bind-hidden.ensures c.check-r.ensures.same c.check-r.ensures.kept c.unbind.ensures
+          c.field-third.ensures.0 c.after-last.ensures c.scan-side.ensures c.bind-hidden-2.ensures c.check-r-2.ensures.same,
     )
 
 pub check_case-returns : goal.check_case-returns
 check_case-returns t c =
-    let props = label_prop c.args.code.now c.args.stride in
-    arms.case_done c.requires.ready.0 c.requires.ready.1 refl c.field-first.ensures.0 c.requires.kind c.infer-inferred.ensures c.expect-h.ensures c.if-h-ge-STOPS.false
-    c.field-second.ensures.0 (c.after-next.ensures props) c.bind-hidden.ensures c.check-r.ensures c.unbind.ensures c.if-r-ne0.false
-    c.field-third.ensures.0 (c.after-last.ensures props) c.scan-side.ensures c.bind-hidden-2.ensures c.check-r-2.ensures c.unbind-2.ensures
-
-pub check_case-overflow_add-node : goal.check_case-overflow_add-node
-check_case-overflow_add-node t c = omega (arith, node_low c.requires.ready.0)
-
-pub check_case-field-second-requires : goal.check_case-field-second-requires
-check_case-field-second-requires t c = (c.requires.ready.0.held, omega arith)
-
-pub check_case-overflow_add-node-2 : goal.check_case-overflow_add-node-2
-check_case-overflow_add-node-2 t c = omega (arith, node_low c.requires.ready.0)
-
-pub check_case-overflow_add-h : goal.check_case-overflow_add-h
-check_case-overflow_add-h t c = omega (arith, (cases.left_stood c.requires.ready.0 refl c.field-first.ensures.0 c.requires.kind c.infer-inferred.ensures c.expect-h.ensures c.if-h-ge-STOPS.false).low)
-
-pub check_case-field-third-requires : goal.check_case-field-third-requires
-check_case-field-third-requires t c = (c.requires.ready.0.held, omega arith)
-
-pub check_case-overflow_add-h-2 : goal.check_case-overflow_add-h-2
-check_case-overflow_add-h-2 t c = omega (arith, (cases.left_stood c.requires.ready.0 refl c.field-first.ensures.0 c.requires.kind c.infer-inferred.ensures c.expect-h.ensures c.if-h-ge-STOPS.false).low)
-
-pub check_case-field-first-requires : goal.check_case-field-first-requires
-check_case-field-first-requires t c = (c.requires.ready.0.held, omega arith)
-
-pub check-check_case-requires : goal.check-check_case-requires
-check-check_case-requires t c = (omega (arith, c.decreases), (c.requires, sym c.kind_at-kind.ensures ∙ c.in-Case.is))
+    arms.case_done c.requires.ready.0 c.requires.ready.1 c.field-first.ensures.0 c.requires.kind c.infer-inferred.ensures c.expect-h.ensures c.if-h-ge-STOPS.false
+    c.field-second.ensures.0 c.after-next.ensures c.bind-hidden.ensures c.check-r.ensures c.unbind.ensures c.if-r-ne0.false
+    c.field-third.ensures.0 c.after-last.ensures c.scan-side.ensures c.bind-hidden-2.ensures c.check-r-2.ensures c.unbind-2.ensures
 
 -- What is inferred.
 pub infer-entry-requires : goal.infer-entry-requires
 infer-entry-requires t c =
-    (inferring.ident_name c.requires c.kind_at-kind.ensures c.field-first.ensures.0 c.in-Ident.is, node_low c.requires, c.requires.entries.long)
+    (inferring.ident_name c.requires c.field-first.ensures.0 (sym c.kind_at-kind.ensures ∙ c.in-Ident.is), node_low c.requires, c.requires.entries.long)
 
 pub infer-returns-in-Ident : goal.infer-returns-in-Ident
 infer-returns-in-Ident t c =
-    inferring.ident_done c.requires c.kind_at-kind.ensures c.field-first.ensures.0 c.in-Ident.is c.entry.ensures
+    inferring.ident_done c.requires c.field-first.ensures.0 (sym c.kind_at-kind.ensures ∙ c.in-Ident.is) c.entry.ensures
 
 pub infer-infer-r-requires : goal.infer-infer-r-requires
 infer-infer-r-requires t c =
-    let call = inferring.fst_call c.requires c.kind_at-kind.ensures c.field-first.ensures.0 c.in-ProjectFst.is in
+    let call = inferring.fst_call c.requires c.field-first.ensures.0 (sym c.kind_at-kind.ensures ∙ c.in-ProjectFst.is) in
     (omega (arith, c.decreases, call.less), call.ready)
 
 pub infer-first_side-requires : goal.infer-first_side-requires
 infer-first_side-requires t c =
-    (inferring.fst_space c.requires c.kind_at-kind.ensures c.field-first.ensures.0 c.infer-r.ensures c.in-ProjectFst.is, node_low c.requires)
+    (inferring.fst_space c.requires c.field-first.ensures.0 c.infer-r.ensures (sym c.kind_at-kind.ensures ∙ c.in-ProjectFst.is), node_low c.requires)
 
 pub infer-returns-in-ProjectFst : goal.infer-returns-in-ProjectFst
 infer-returns-in-ProjectFst t c =
-    inferring.fst_done c.requires c.kind_at-kind.ensures c.field-first.ensures.0 c.infer-r.ensures c.in-ProjectFst.is c.first_side.ensures
+    inferring.fst_done c.requires c.field-first.ensures.0 c.infer-r.ensures (sym c.kind_at-kind.ensures ∙ c.in-ProjectFst.is) c.first_side.ensures
 
 pub infer-infer-r-requires-in-ProjectSnd : goal.infer-infer-r-requires-in-ProjectSnd
 infer-infer-r-requires-in-ProjectSnd t c =
-    let call = inferring.snd_call c.requires c.kind_at-kind.ensures c.field-first.ensures.0 c.in-ProjectSnd.is in
+    let call = inferring.snd_call c.requires c.field-first.ensures.0 (sym c.kind_at-kind.ensures ∙ c.in-ProjectSnd.is) in
     (omega (arith, c.decreases, call.less), call.ready)
 
 pub infer-second_side-requires : goal.infer-second_side-requires
 infer-second_side-requires t c =
-    (inferring.snd_space c.requires c.kind_at-kind.ensures c.field-first.ensures.0 c.infer-r-in-ProjectSnd.ensures c.in-ProjectSnd.is, node_low c.requires)
+    (inferring.snd_space c.requires c.field-first.ensures.0 c.infer-r-in-ProjectSnd.ensures (sym c.kind_at-kind.ensures ∙ c.in-ProjectSnd.is), node_low c.requires)
 
 pub infer-returns-in-ProjectSnd : goal.infer-returns-in-ProjectSnd
 infer-returns-in-ProjectSnd t c =
-    inferring.snd_done c.requires c.kind_at-kind.ensures c.field-first.ensures.0 c.infer-r-in-ProjectSnd.ensures c.in-ProjectSnd.is c.second_side.ensures
+    inferring.snd_done c.requires c.field-first.ensures.0 c.infer-r-in-ProjectSnd.ensures (sym c.kind_at-kind.ensures ∙ c.in-ProjectSnd.is) c.second_side.ensures
 
 pub infer-returns-then-label-ge-STOPS : goal.infer-returns-then-label-ge-STOPS
 infer-returns-then-label-ge-STOPS t c =
-    inferring.ascription_stop c.requires c.kind_at-kind.ensures c.field-first.ensures.0 c.in-TypeAscription.is c.ascribed-label.ensures c.if-label-ge-STOPS.true
+    inferring.ascription_stop c.requires c.field-first.ensures.0 (sym c.kind_at-kind.ensures ∙ c.in-TypeAscription.is) c.ascribed-label.ensures c.if-label-ge-STOPS.true
 
 pub infer-check-r-requires : goal.infer-check-r-requires
 infer-check-r-requires t c =
-    let e = c.in-TypeAscription.is in
-    let call = inferring.ascription_call c.requires c.kind_at-kind.ensures c.field-first.ensures.0 e in
-    (omega (arith, c.decreases, call.less), (call.ready, inferring.ascription_stood c.requires c.kind_at-kind.ensures c.field-first.ensures.0 e c.ascribed-label.ensures c.if-label-ge-STOPS.false))
+    let e = (sym c.kind_at-kind.ensures ∙ c.in-TypeAscription.is) in
+    let call = inferring.ascription_call c.requires c.field-first.ensures.0 e in
+    (omega (arith, c.decreases, call.less), (call.ready, inferring.ascription_stood c.requires c.field-first.ensures.0 e c.ascribed-label.ensures c.if-label-ge-STOPS.false))
 
 pub infer-returns-then-r-ne0 : goal.infer-returns-then-r-ne0
 infer-returns-then-r-ne0 t c =
-    inferring.ascription_done c.requires c.kind_at-kind.ensures c.field-first.ensures.0 c.in-TypeAscription.is c.ascribed-label.ensures c.if-label-ge-STOPS.false c.check-r.ensures (λ other. refl) (λ ok. absurd (c.if-r-ne0.true ok))
+    inferring.ascription_done c.requires c.field-first.ensures.0 (sym c.kind_at-kind.ensures ∙ c.in-TypeAscription.is) c.ascribed-label.ensures c.if-label-ge-STOPS.false c.check-r.ensures (λ other. refl) (λ ok. absurd (c.if-r-ne0.true ok))
 
 pub infer-returns-else-r-ne0 : goal.infer-returns-else-r-ne0
 infer-returns-else-r-ne0 t c =
-    inferring.ascription_done c.requires c.kind_at-kind.ensures c.field-first.ensures.0 c.in-TypeAscription.is c.ascribed-label.ensures c.if-label-ge-STOPS.false c.check-r.ensures (λ other. absurd (other c.if-r-ne0.false)) (λ ok. refl)
-
-pub infer-kind_at-kind-requires : goal.infer-kind_at-kind-requires
-infer-kind_at-kind-requires t c = c.requires.held
-
-pub infer-field-first-requires : goal.infer-field-first-requires
-infer-field-first-requires t c = (c.requires.held, omega arith)
-
-pub infer-overflow_add-node : goal.infer-overflow_add-node
-infer-overflow_add-node t c = omega (arith, node_low c.requires)
-
-pub infer-overflow_add-node-in-ProjectSnd : goal.infer-overflow_add-node-in-ProjectSnd
-infer-overflow_add-node-in-ProjectSnd t c = omega (arith, node_low c.requires)
+    inferring.ascription_done c.requires c.field-first.ensures.0 (sym c.kind_at-kind.ensures ∙ c.in-TypeAscription.is) c.ascribed-label.ensures c.if-label-ge-STOPS.false c.check-r.ensures (λ other. absurd (other c.if-r-ne0.false)) (λ ok. refl)
 
 pub infer-ascribed-label-requires : goal.infer-ascribed-label-requires
 infer-ascribed-label-requires t c = (c.requires.held, (c.requires.well c.args.m (omega arith)).label.short, node_low c.requires)
 
-pub infer-overflow_add-node-in-TypeAscription : goal.infer-overflow_add-node-in-TypeAscription
-infer-overflow_add-node-in-TypeAscription t c = omega (arith, node_low c.requires)
-
 pub infer-returns-in-Unit : goal.infer-returns-in-Unit
-infer-returns-in-Unit t c = inferring.unit_done c.requires c.kind_at-kind.ensures c.field-first.ensures.0 c.in-Unit.is
+infer-returns-in-Unit t c = inferring.unit_done c.requires c.field-first.ensures.0 (sym c.kind_at-kind.ensures ∙ c.in-Unit.is)
 
 pub infer-returns-in-LetIn : goal.infer-returns-in-LetIn
-infer-returns-in-LetIn t c = inferring.no_rule c.requires c.kind_at-kind.ensures c.field-first.ensures.0 c.in-LetIn.is
+infer-returns-in-LetIn t c = inferring.no_rule c.requires c.field-first.ensures.0 (rw c.kind_at-kind.ensures at c.in-LetIn.is)
 
 -- An application.
 pub infer_application-infer-inferred-requires : goal.infer_application-infer-inferred-requires
 infer_application-infer-inferred-requires t c =
-    let call = inferring.application_call c.requires.ready refl c.field-first.ensures.0 c.requires.kind in
+    let call = inferring.application_call c.requires.ready c.field-first.ensures.0 c.requires.kind in
     (omega (arith, c.decreases, call.less), call.ready)
 
 pub infer_application-expect-p-requires : goal.infer_application-expect-p-requires
 infer_application-expect-p-requires t c =
-    (inferring.application_space c.requires.ready refl c.field-first.ensures.0 c.requires.kind c.infer-inferred.ensures, node_low c.requires.ready)
+    (inferring.application_space c.requires.ready c.field-first.ensures.0 c.requires.kind c.infer-inferred.ensures, node_low c.requires.ready)
 
 pub infer_application-returns-then-p-ge-STOPS : goal.infer_application-returns-then-p-ge-STOPS
 infer_application-returns-then-p-ge-STOPS t c =
-    inferring.application_stop c.requires.ready refl c.field-first.ensures.0 c.requires.kind c.infer-inferred.ensures c.expect-p.ensures c.if-p-ge-STOPS.true
+    inferring.application_stop c.requires.ready c.field-first.ensures.0 c.requires.kind c.infer-inferred.ensures c.expect-p.ensures c.if-p-ge-STOPS.true
 
 pub infer_application-after-next-requires : goal.infer_application-after-next-requires
 infer_application-after-next-requires t c =
-    inferring.application_few c.requires.ready refl c.field-first.ensures.0 c.requires.kind
-
-pub infer_application-left-argument-requires : goal.infer_application-left-argument-requires
-infer_application-left-argument-requires t c =
-    (c.if-p-ge-STOPS.false, c.infer-inferred.ensures.kept.long ∙ c.requires.ready.slots)
+    inferring.application_few c.requires.ready c.field-first.ensures.0 c.requires.kind
 
 pub infer_application-right-side-requires : goal.infer_application-right-side-requires
 infer_application-right-side-requires t c =
-    expected_space (inferring.application_space c.requires.ready refl c.field-first.ensures.0 c.requires.kind c.infer-inferred.ensures) c.expect-p.ensures c.if-p-ge-STOPS.false
+    expected_space (inferring.application_space c.requires.ready c.field-first.ensures.0 c.requires.kind c.infer-inferred.ensures) c.expect-p.ensures c.if-p-ge-STOPS.false
 
 pub infer_application-check-r-requires : goal.infer_application-check-r-requires
 infer_application-check-r-requires t c =
     let l = c.if-p-ge-STOPS.false in
-    let call = inferring.application_next c.requires.ready refl c.field-first.ensures.0 c.requires.kind c.infer-inferred.ensures c.expect-p.ensures l c.left-argument.ensures c.right-side.ensures
-    c.field-second.ensures.0 (c.after-next.ensures (label_prop c.args.code.now c.args.stride)) in
-    (omega (arith, c.decreases, call.less), (call.ready, inferring.application_argument c.requires.ready refl c.field-first.ensures.0 c.requires.kind c.infer-inferred.ensures c.expect-p.ensures l c.left-argument.ensures c.right-side.ensures))
+    let call = inferring.application_next c.requires.ready c.field-first.ensures.0 c.requires.kind c.infer-inferred.ensures c.expect-p.ensures l c.left-argument.ensures c.right-side.ensures
+    c.field-second.ensures.0 c.after-next.ensures in
+    (omega (arith, c.decreases, call.less), (call.ready, inferring.application_argument c.requires.ready c.field-first.ensures.0 c.requires.kind c.infer-inferred.ensures c.expect-p.ensures l c.left-argument.ensures c.right-side.ensures))
 
 pub infer_application-returns-then-r-ne0 : goal.infer_application-returns-then-r-ne0
 infer_application-returns-then-r-ne0 t c =
-    inferring.application_done c.requires.ready refl c.field-first.ensures.0 c.requires.kind c.infer-inferred.ensures c.expect-p.ensures c.if-p-ge-STOPS.false c.left-argument.ensures c.right-side.ensures
-    c.field-second.ensures.0 (c.after-next.ensures (label_prop c.args.code.now c.args.stride)) c.check-r.ensures (λ other. refl) (λ ok. absurd (c.if-r-ne0.true ok))
+    inferring.application_done c.requires.ready c.field-first.ensures.0 c.requires.kind c.infer-inferred.ensures c.expect-p.ensures c.if-p-ge-STOPS.false c.left-argument.ensures c.right-side.ensures
+    c.field-second.ensures.0 c.after-next.ensures c.check-r.ensures (λ other. refl) (λ ok. absurd (c.if-r-ne0.true ok))
 
 pub infer_application-returns : goal.infer_application-returns
 infer_application-returns t c =
-    inferring.application_done c.requires.ready refl c.field-first.ensures.0 c.requires.kind c.infer-inferred.ensures c.expect-p.ensures c.if-p-ge-STOPS.false c.left-argument.ensures c.right-side.ensures
-    c.field-second.ensures.0 (c.after-next.ensures (label_prop c.args.code.now c.args.stride)) c.check-r.ensures (λ other. absurd (other c.if-r-ne0.false)) (λ ok. refl)
-
-pub infer_application-overflow_add-node : goal.infer_application-overflow_add-node
-infer_application-overflow_add-node t c = omega (arith, node_low c.requires.ready)
-
-pub infer_application-field-second-requires : goal.infer_application-field-second-requires
-infer_application-field-second-requires t c = (c.requires.ready.held, omega arith)
-
-pub infer_application-overflow_add-node-2 : goal.infer_application-overflow_add-node-2
-infer_application-overflow_add-node-2 t c = omega (arith, node_low c.requires.ready)
-
-pub infer_application-field-first-requires : goal.infer_application-field-first-requires
-infer_application-field-first-requires t c = (c.requires.ready.held, omega arith)
-
-pub infer-infer_application-requires : goal.infer-infer_application-requires
-infer-infer_application-requires t c = (omega (arith, c.decreases), (c.requires, sym c.kind_at-kind.ensures ∙ c.in-Application.is))
+    inferring.application_done c.requires.ready c.field-first.ensures.0 c.requires.kind c.infer-inferred.ensures c.expect-p.ensures c.if-p-ge-STOPS.false c.left-argument.ensures c.right-side.ensures
+    c.field-second.ensures.0 c.after-next.ensures c.check-r.ensures (λ other. absurd (other c.if-r-ne0.false)) (λ ok. refl)
 
 -- A function.
 pub infer_function-returns-then-label-ge-STOPS : goal.infer_function-returns-then-label-ge-STOPS
 infer_function-returns-then-label-ge-STOPS t c =
-    inferring.function_stop c.requires.ready refl c.field-first.ensures.0 c.requires.kind c.annotated-label.ensures c.if-label-ge-STOPS.true
+    inferring.function_stop c.requires.ready c.field-first.ensures.0 c.requires.kind c.annotated-label.ensures c.if-label-ge-STOPS.true
 
 pub infer_function-bind-hidden-requires : goal.infer_function-bind-hidden-requires
 infer_function-bind-hidden-requires t c =
     let e = c.requires.kind in
-    (inferring.function_name c.requires.ready refl c.field-first.ensures.0 e, (inferring.function_stood c.requires.ready refl c.field-first.ensures.0 e c.annotated-label.ensures c.if-label-ge-STOPS.false).low, c.requires.ready.entries.long)
+    (inferring.function_name c.requires.ready c.field-first.ensures.0 e, (inferring.function_stood c.requires.ready c.field-first.ensures.0 e c.annotated-label.ensures c.if-label-ge-STOPS.false).low, c.requires.ready.entries.long)
 
 pub infer_function-infer-r-requires : goal.infer_function-infer-r-requires
 infer_function-infer-r-requires t c =
-    let call = inferring.function_call c.requires.ready refl c.field-first.ensures.0 c.requires.kind c.annotated-label.ensures c.if-label-ge-STOPS.false c.bind-hidden.ensures in
+    let call = inferring.function_call c.requires.ready c.field-first.ensures.0 c.requires.kind c.annotated-label.ensures c.if-label-ge-STOPS.false c.bind-hidden.ensures in
     (omega (arith, c.decreases, call.less), call.ready)
 
 pub infer_function-unbind-requires : goal.infer_function-unbind-requires
 infer_function-unbind-requires t c =
     let e = c.requires.kind in
-    (inferring.function_name c.requires.ready refl c.field-first.ensures.0 e, inferring.function_long c.requires.ready refl c.field-first.ensures.0 e c.annotated-label.ensures c.if-label-ge-STOPS.false c.bind-hidden.ensures c.infer-r.ensures.same)
+    (inferring.function_name c.requires.ready c.field-first.ensures.0 e, inferring.function_long c.requires.ready c.field-first.ensures.0 e c.annotated-label.ensures c.if-label-ge-STOPS.false c.bind-hidden.ensures c.infer-r.ensures.same)
 
 pub infer_function-make-requires : goal.infer_function-make-requires
 infer_function-make-requires t c =
@@ -468,37 +348,28 @@ infer_function-make-requires t c =
 
 pub infer_function-returns : goal.infer_function-returns
 infer_function-returns t c =
-    inferring.function_done c.requires.ready refl c.field-first.ensures.0 c.requires.kind c.annotated-label.ensures c.if-label-ge-STOPS.false c.bind-hidden.ensures c.infer-r.ensures c.unbind.ensures c.make.ensures
+    inferring.function_done c.requires.ready c.field-first.ensures.0 c.requires.kind c.annotated-label.ensures c.if-label-ge-STOPS.false c.bind-hidden.ensures c.infer-r.ensures c.unbind.ensures c.make.ensures
 
 pub infer_function-annotated-label-requires : goal.infer_function-annotated-label-requires
 infer_function-annotated-label-requires t c = (c.requires.ready.held, (c.requires.ready.well c.args.m (omega arith)).label.short, node_low c.requires.ready)
 
-pub infer_function-overflow_add-node : goal.infer_function-overflow_add-node
-infer_function-overflow_add-node t c = omega (arith, node_low c.requires.ready)
-
-pub infer_function-field-first-requires : goal.infer_function-field-first-requires
-infer_function-field-first-requires t c = (c.requires.ready.held, omega arith)
-
-pub infer-infer_function-requires : goal.infer-infer_function-requires
-infer-infer_function-requires t c = (omega (arith, c.decreases), (c.requires, sym c.kind_at-kind.ensures ∙ c.in-Function.is))
-
 -- A pair.
 pub infer_pair-infer-p-requires : goal.infer_pair-infer-p-requires
 infer_pair-infer-p-requires t c =
-    let call = inferring.pair_call c.requires.ready refl c.field-first.ensures.0 c.requires.kind in
+    let call = inferring.pair_call c.requires.ready c.field-first.ensures.0 c.requires.kind in
     (omega (arith, c.decreases, call.less), call.ready)
 
 pub infer_pair-returns-then-p-ge-STOPS : goal.infer_pair-returns-then-p-ge-STOPS
 infer_pair-returns-then-p-ge-STOPS t c =
-    inferring.pair_stop c.requires.ready refl c.field-first.ensures.0 c.requires.kind c.infer-p.ensures c.if-p-ge-STOPS.true
+    inferring.pair_stop c.requires.ready c.field-first.ensures.0 c.requires.kind c.infer-p.ensures c.if-p-ge-STOPS.true
 
 pub infer_pair-after-next-requires : goal.infer_pair-after-next-requires
 infer_pair-after-next-requires t c =
-    inferring.pair_few c.requires.ready refl c.field-first.ensures.0 c.requires.kind
+    inferring.pair_few c.requires.ready c.field-first.ensures.0 c.requires.kind
 
 pub infer_pair-infer-q-requires : goal.infer_pair-infer-q-requires
 infer_pair-infer-q-requires t c =
-    let call = inferring.pair_next c.requires.ready refl c.field-first.ensures.0 c.requires.kind c.infer-p.ensures c.if-p-ge-STOPS.false c.field-second.ensures.0 (c.after-next.ensures (label_prop c.args.code.now c.args.stride)) in
+    let call = inferring.pair_next c.requires.ready c.field-first.ensures.0 c.requires.kind c.infer-p.ensures c.if-p-ge-STOPS.false c.field-second.ensures.0 c.after-next.ensures in
     (omega (arith, c.decreases, call.less), call.ready)
 
 pub infer_pair-make-requires : goal.infer_pair-make-requires
@@ -507,92 +378,77 @@ infer_pair-make-requires t c =
 
 pub infer_pair-returns : goal.infer_pair-returns
 infer_pair-returns t c =
-    inferring.pair_done c.requires.ready refl c.field-first.ensures.0 c.requires.kind c.infer-p.ensures c.if-p-ge-STOPS.false c.field-second.ensures.0 (c.after-next.ensures (label_prop c.args.code.now c.args.stride)) c.infer-q.ensures c.make.ensures
-
-pub infer_pair-overflow_add-node : goal.infer_pair-overflow_add-node
-infer_pair-overflow_add-node t c = omega (arith, node_low c.requires.ready)
-
-pub infer_pair-field-second-requires : goal.infer_pair-field-second-requires
-infer_pair-field-second-requires t c = (c.requires.ready.held, omega arith)
-
-pub infer_pair-overflow_add-node-2 : goal.infer_pair-overflow_add-node-2
-infer_pair-overflow_add-node-2 t c = omega (arith, node_low c.requires.ready)
-
-pub infer_pair-field-first-requires : goal.infer_pair-field-first-requires
-infer_pair-field-first-requires t c = (c.requires.ready.held, omega arith)
-
-pub infer-infer_pair-requires : goal.infer-infer_pair-requires
-infer-infer_pair-requires t c = (omega (arith, c.decreases), (c.requires, sym c.kind_at-kind.ensures ∙ c.in-Pair.is))
+    inferring.pair_done c.requires.ready c.field-first.ensures.0 c.requires.kind c.infer-p.ensures c.if-p-ge-STOPS.false c.field-second.ensures.0 c.after-next.ensures c.infer-q.ensures c.make.ensures
 
 -- A case.
 pub infer_case-infer-inferred-requires : goal.infer_case-infer-inferred-requires
 infer_case-infer-inferred-requires t c =
-    let call = cases.head_call c.requires.ready refl c.field-first.ensures.0 c.requires.kind in
+    let call = cases.head_call c.requires.ready c.field-first.ensures.0 c.requires.kind in
     (omega (arith, c.decreases, call.less), call.ready)
 
 pub infer_case-expect-h-requires : goal.infer_case-expect-h-requires
 infer_case-expect-h-requires t c =
-    (cases.head_space c.requires.ready refl c.field-first.ensures.0 c.requires.kind c.infer-inferred.ensures, node_low c.requires.ready)
+    (cases.head_space c.requires.ready c.field-first.ensures.0 c.requires.kind c.infer-inferred.ensures, node_low c.requires.ready)
 
 pub infer_case-returns-then-h-ge-STOPS : goal.infer_case-returns-then-h-ge-STOPS
 infer_case-returns-then-h-ge-STOPS t c =
-    inferring.case_stop c.requires.ready refl c.field-first.ensures.0 c.requires.kind c.infer-inferred.ensures c.expect-h.ensures c.if-h-ge-STOPS.true
+    inferring.case_stop c.requires.ready c.field-first.ensures.0 c.requires.kind c.infer-inferred.ensures c.expect-h.ensures c.if-h-ge-STOPS.true
 
 pub infer_case-after-next-requires : goal.infer_case-after-next-requires
 infer_case-after-next-requires t c =
-    cases.head_few c.requires.ready refl c.field-first.ensures.0 c.requires.kind
+    cases.head_few c.requires.ready c.field-first.ensures.0 c.requires.kind
 
 pub infer_case-bind-hidden-requires : goal.infer_case-bind-hidden-requires
 infer_case-bind-hidden-requires t c =
-    (cases.left_name c.requires.ready refl c.field-first.ensures.0 c.requires.kind, (cases.left_stood c.requires.ready refl c.field-first.ensures.0 c.requires.kind c.infer-inferred.ensures c.expect-h.ensures c.if-h-ge-STOPS.false).low, (cases.entries c.requires.ready refl c.field-first.ensures.0 c.requires.kind c.infer-inferred.ensures).long)
+    (cases.left_name c.requires.ready c.field-first.ensures.0 c.requires.kind, (cases.left_stood c.requires.ready c.field-first.ensures.0 c.requires.kind c.infer-inferred.ensures c.expect-h.ensures c.if-h-ge-STOPS.false).low, (cases.entries c.requires.ready c.field-first.ensures.0 c.requires.kind c.infer-inferred.ensures).long)
 
 pub infer_case-infer-q-requires : goal.infer_case-infer-q-requires
 infer_case-infer-q-requires t c =
-    let call = cases.left_call c.requires.ready refl c.field-first.ensures.0 c.requires.kind c.infer-inferred.ensures c.expect-h.ensures c.if-h-ge-STOPS.false
-    c.field-second.ensures.0 (c.after-next.ensures (label_prop c.args.code.now c.args.stride)) c.bind-hidden.ensures in
+    let call = cases.left_call c.requires.ready c.field-first.ensures.0 c.requires.kind c.infer-inferred.ensures c.expect-h.ensures c.if-h-ge-STOPS.false
+    c.field-second.ensures.0 c.after-next.ensures c.bind-hidden.ensures in
     (omega (arith, c.decreases, call.less), call.ready)
 
 pub infer_case-unbind-requires : goal.infer_case-unbind-requires
 infer_case-unbind-requires t c = (
-  cases.left_name c.requires.ready refl c.field-first.ensures.0 c.requires.kind,
-  cases.left_long c.requires.ready refl c.field-first.ensures.0 c.requires.kind c.infer-inferred.ensures c.expect-h.ensures c.if-h-ge-STOPS.false
-      c.field-second.ensures.0 (c.after-next.ensures (label_prop c.args.code.now c.args.stride)) c.bind-hidden.ensures c.infer-q.ensures.same,
+  cases.left_name c.requires.ready c.field-first.ensures.0 c.requires.kind,
+  cases.left_long c.requires.ready c.field-first.ensures.0 c.requires.kind c.infer-inferred.ensures c.expect-h.ensures c.if-h-ge-STOPS.false
+      c.field-second.ensures.0 c.after-next.ensures c.bind-hidden.ensures c.infer-q.ensures.same,
 )
 
 pub infer_case-returns-then-q-ge-STOPS : goal.infer_case-returns-then-q-ge-STOPS
 infer_case-returns-then-q-ge-STOPS t c =
-    inferring.case_left_stop c.requires.ready refl c.field-first.ensures.0 c.requires.kind c.infer-inferred.ensures c.expect-h.ensures c.if-h-ge-STOPS.false
-    c.field-second.ensures.0 (c.after-next.ensures (label_prop c.args.code.now c.args.stride)) c.bind-hidden.ensures c.infer-q.ensures c.unbind.ensures c.if-q-ge-STOPS.true
+    inferring.case_left_stop c.requires.ready c.field-first.ensures.0 c.requires.kind c.infer-inferred.ensures c.expect-h.ensures c.if-h-ge-STOPS.false
+    c.field-second.ensures.0 c.after-next.ensures c.bind-hidden.ensures c.infer-q.ensures c.unbind.ensures c.if-q-ge-STOPS.true
 
 pub infer_case-after-last-requires : goal.infer_case-after-last-requires
 infer_case-after-last-requires t c =
-    cases.left_few c.requires.ready refl c.field-first.ensures.0 c.requires.kind c.infer-inferred.ensures c.expect-h.ensures c.if-h-ge-STOPS.false
-    c.field-second.ensures.0 (c.after-next.ensures (label_prop c.args.code.now c.args.stride))
+    cases.left_few c.requires.ready c.field-first.ensures.0 c.requires.kind c.infer-inferred.ensures c.expect-h.ensures c.if-h-ge-STOPS.false
+    c.field-second.ensures.0 c.after-next.ensures
 
 pub infer_case-scan-side-requires : goal.infer_case-scan-side-requires
 infer_case-scan-side-requires t c =
-    cases.inside_code c.requires.ready refl c.field-first.ensures.0 c.requires.kind c.infer-inferred.ensures c.expect-h.ensures c.if-h-ge-STOPS.false
+    cases.inside_code c.requires.ready c.field-first.ensures.0 c.requires.kind c.infer-inferred.ensures c.expect-h.ensures c.if-h-ge-STOPS.false
 
 pub infer_case-bind-hidden-requires-2 : goal.infer_case-bind-hidden-requires-2
 infer_case-bind-hidden-requires-2 t c =
     let l = c.if-h-ge-STOPS.false in
-    let back = cases.left_back c.requires.ready refl c.field-first.ensures.0 c.requires.kind c.infer-inferred.ensures c.expect-h.ensures l
-    c.field-second.ensures.0 (c.after-next.ensures (label_prop c.args.code.now c.args.stride)) c.bind-hidden.ensures c.infer-q.ensures.same c.infer-q.ensures.kept c.unbind.ensures in
-    (cases.right_name c.requires.ready refl c.field-first.ensures.0 c.requires.kind, (cases.sides c.requires.ready refl c.field-first.ensures.0 c.requires.kind c.infer-inferred.ensures c.expect-h.ensures l c.scan-side.ensures).right.low, ap length back ∙ c.requires.ready.entries.long)
+    let back = cases.left_back c.requires.ready c.field-first.ensures.0 c.requires.kind c.infer-inferred.ensures c.expect-h.ensures l
+    c.field-second.ensures.0 c.after-next.ensures c.bind-hidden.ensures c.infer-q.ensures.same c.infer-q.ensures.kept c.unbind.ensures in
+    (cases.right_name c.requires.ready c.field-first.ensures.0 c.requires.kind, (cases.sides c.requires.ready c.field-first.ensures.0 c.requires.kind c.infer-inferred.ensures c.expect-h.ensures l c.scan-side.ensures).right.low, ap length back ∙ c.requires.ready.entries.long)
 
 pub infer_case-infer-r-requires : goal.infer_case-infer-r-requires
 infer_case-infer-r-requires t c =
-    let call = cases.right_call c.requires.ready refl c.field-first.ensures.0 c.requires.kind c.infer-inferred.ensures c.expect-h.ensures c.if-h-ge-STOPS.false
-    c.field-second.ensures.0 (c.after-next.ensures (label_prop c.args.code.now c.args.stride)) c.bind-hidden.ensures c.infer-q.ensures.same c.infer-q.ensures.kept c.unbind.ensures
-    c.field-third.ensures.0 (c.after-last.ensures (label_prop c.args.code.now c.args.stride)) c.scan-side.ensures c.bind-hidden-2.ensures in
+    let call = cases.right_call c.requires.ready c.field-first.ensures.0 c.requires.kind c.infer-inferred.ensures c.expect-h.ensures c.if-h-ge-STOPS.false
+    c.field-second.ensures.0 c.after-next.ensures c.bind-hidden.ensures c.infer-q.ensures.same c.infer-q.ensures.kept c.unbind.ensures
+    c.field-third.ensures.0 c.after-last.ensures c.scan-side.ensures c.bind-hidden-2.ensures in
     (omega (arith, c.decreases, call.less), call.ready)
 
 pub infer_case-unbind-requires-2 : goal.infer_case-unbind-requires-2
 infer_case-unbind-requires-2 t c = (
-  cases.right_name c.requires.ready refl c.field-first.ensures.0 c.requires.kind,
-  cases.right_long c.requires.ready refl c.field-first.ensures.0 c.requires.kind c.infer-inferred.ensures c.expect-h.ensures c.if-h-ge-STOPS.false
-      c.field-second.ensures.0 (c.after-next.ensures (label_prop c.args.code.now c.args.stride)) c.bind-hidden.ensures c.infer-q.ensures.same c.infer-q.ensures.kept c.unbind.ensures
-      c.field-third.ensures.0 (c.after-last.ensures (label_prop c.args.code.now c.args.stride)) c.scan-side.ensures c.bind-hidden-2.ensures c.infer-r.ensures.same,
+  cases.right_name c.requires.ready c.field-first.ensures.0 c.requires.kind,
+  cases.right_long c.requires.ready c.field-first.ensures.0 c.requires.kind c.infer-inferred.ensures c.expect-h.ensures c.if-h-ge-STOPS.false
+      c.field-second.ensures.0 c.after-next.ensures c.bind-hidden.ensures c.infer-q.ensures.same c.infer-q.ensures.kept c.unbind.ensures
+      c.field-third.ensures.0 c.after-last.ensures c.scan-side.ensures c.bind-hidden-2.ensures c.infer-r.ensures.same,
 )
 
 pub infer_case-agree-requires : goal.infer_case-agree-requires
@@ -600,41 +456,17 @@ infer_case-agree-requires t c =
     let slots = c.infer-r.ensures.kept.long ∙ c.infer-q.ensures.kept.long ∙ c.infer-inferred.ensures.kept.long ∙ c.requires.ready.slots in record {
       code_len_bound = (c.requires.ready.ends.space, slots, node_low c.requires.ready);
       known = (
-        inferring.case_right_known c.requires.ready refl c.field-first.ensures.0 c.requires.kind c.infer-inferred.ensures c.expect-h.ensures c.if-h-ge-STOPS.false
-            c.field-second.ensures.0 (c.after-next.ensures (label_prop c.args.code.now c.args.stride)) c.bind-hidden.ensures c.infer-q.ensures c.unbind.ensures c.if-q-ge-STOPS.false
-            c.field-third.ensures.0 (c.after-last.ensures (label_prop c.args.code.now c.args.stride)) c.scan-side.ensures c.bind-hidden-2.ensures c.infer-r.ensures c.unbind-2.ensures,
-        inferring.case_left_known c.requires.ready refl c.field-first.ensures.0 c.requires.kind c.infer-inferred.ensures c.expect-h.ensures c.if-h-ge-STOPS.false
-            c.field-second.ensures.0 (c.after-next.ensures (label_prop c.args.code.now c.args.stride)) c.bind-hidden.ensures c.infer-q.ensures c.unbind.ensures c.if-q-ge-STOPS.false
-            c.field-third.ensures.0 (c.after-last.ensures (label_prop c.args.code.now c.args.stride)) c.scan-side.ensures c.bind-hidden-2.ensures c.infer-r.ensures c.unbind-2.ensures,
+        inferring.case_right_known c.requires.ready c.field-first.ensures.0 c.requires.kind c.infer-inferred.ensures c.expect-h.ensures c.if-h-ge-STOPS.false
+            c.field-second.ensures.0 c.after-next.ensures c.bind-hidden.ensures c.infer-q.ensures c.unbind.ensures c.if-q-ge-STOPS.false
+            c.field-third.ensures.0 c.after-last.ensures c.scan-side.ensures c.bind-hidden-2.ensures c.infer-r.ensures c.unbind-2.ensures,
+        inferring.case_left_known c.requires.ready c.field-first.ensures.0 c.requires.kind c.infer-inferred.ensures c.expect-h.ensures c.if-h-ge-STOPS.false
+            c.field-second.ensures.0 c.after-next.ensures c.bind-hidden.ensures c.infer-q.ensures c.unbind.ensures c.if-q-ge-STOPS.false
+            c.field-third.ensures.0 c.after-last.ensures c.scan-side.ensures c.bind-hidden-2.ensures c.infer-r.ensures c.unbind-2.ensures,
       );
     }
 
 pub infer_case-returns : goal.infer_case-returns
 infer_case-returns t c =
-    inferring.case_done c.requires.ready refl c.field-first.ensures.0 c.requires.kind c.infer-inferred.ensures c.expect-h.ensures c.if-h-ge-STOPS.false
-    c.field-second.ensures.0 (c.after-next.ensures (label_prop c.args.code.now c.args.stride)) c.bind-hidden.ensures c.infer-q.ensures c.unbind.ensures c.if-q-ge-STOPS.false
-    c.field-third.ensures.0 (c.after-last.ensures (label_prop c.args.code.now c.args.stride)) c.scan-side.ensures c.bind-hidden-2.ensures c.infer-r.ensures c.unbind-2.ensures c.agree.ensures
-
-pub infer_case-overflow_add-node : goal.infer_case-overflow_add-node
-infer_case-overflow_add-node t c = omega (arith, node_low c.requires.ready)
-
-pub infer_case-field-second-requires : goal.infer_case-field-second-requires
-infer_case-field-second-requires t c = (c.requires.ready.held, omega arith)
-
-pub infer_case-overflow_add-node-2 : goal.infer_case-overflow_add-node-2
-infer_case-overflow_add-node-2 t c = omega (arith, node_low c.requires.ready)
-
-pub infer_case-overflow_add-h : goal.infer_case-overflow_add-h
-infer_case-overflow_add-h t c = omega (arith, (cases.left_stood c.requires.ready refl c.field-first.ensures.0 c.requires.kind c.infer-inferred.ensures c.expect-h.ensures c.if-h-ge-STOPS.false).low)
-
-pub infer_case-field-third-requires : goal.infer_case-field-third-requires
-infer_case-field-third-requires t c = (c.requires.ready.held, omega arith)
-
-pub infer_case-overflow_add-h-2 : goal.infer_case-overflow_add-h-2
-infer_case-overflow_add-h-2 t c = omega (arith, (cases.left_stood c.requires.ready refl c.field-first.ensures.0 c.requires.kind c.infer-inferred.ensures c.expect-h.ensures c.if-h-ge-STOPS.false).low)
-
-pub infer_case-field-first-requires : goal.infer_case-field-first-requires
-infer_case-field-first-requires t c = (c.requires.ready.held, omega arith)
-
-pub infer-infer_case-requires : goal.infer-infer_case-requires
-infer-infer_case-requires t c = (omega (arith, c.decreases), (c.requires, sym c.kind_at-kind.ensures ∙ c.in-Case.is))
+    inferring.case_done c.requires.ready c.field-first.ensures.0 c.requires.kind c.infer-inferred.ensures c.expect-h.ensures c.if-h-ge-STOPS.false
+    c.field-second.ensures.0 c.after-next.ensures c.bind-hidden.ensures c.infer-q.ensures c.unbind.ensures c.if-q-ge-STOPS.false
+    c.field-third.ensures.0 c.after-last.ensures c.scan-side.ensures c.bind-hidden-2.ensures c.infer-r.ensures c.unbind-2.ensures c.agree.ensures

@@ -8,7 +8,7 @@ use borrow.Author.Tests.{eqb-false}
 use Rattle.std.specs.Prelude.{Some}
 use Rattle.definitions.specs.Prop.{impl, connective_byte}
 use Rattle.proof_term.specs.Records.{field_at}
-use Rattle.proof_term.proofs.Views.{no_parameter, parameter_read, datatype_read, proposition_read}
+use Rattle.proof_term.proofs.Views.{number_of_kind, no_parameter, parameter_read, datatype_read, proposition_read}
 use Rattle.prefix_code.specs.declared.Connective.TheVariants.{Impl}
 use Rattle.prop_numbers.specs.Standing.{Stood}
 use Rattle.prop_numbers.proofs.Halves.{halves}
@@ -38,7 +38,7 @@ label_stands c =
       some = eqb-false kind 0 label.0;
       other = read.0;
       is = c.from.ensures ∙ read.1;
-      stood = rw (c.from.ensures, read.1) (c.requires.m_in_bounds.1.parameter c.requires.m_value.0 (eqb-false kind 0 label.0) read.0);
+      stood = rw (c.from.ensures, read.1) (c.requires.m_in_bounds.1.parameter (number_of_kind c.requires.m_value.0 (λ u. cc)) (eqb-false kind 0 label.0) read.0);
     }
 
 pub returns-then-side-ge-STOPS : goal.returns-then-side-ge-STOPS
