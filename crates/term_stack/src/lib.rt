@@ -9,7 +9,7 @@ ghost use Rattle.term_stack.specs.Growing.{named_node, node_row, Unmade, MadeOf,
 ghost use Rattle.term_stack.specs.Standing.{Scene, ThereIs, Roomy};
 ghost use Rattle.term_stack.specs.Using.{Using, Leaf, Gives, Refuses, Turned, left_after};
 
-use proof_term::{Form, Label, Node, RECORD_SIZE, push};
+use proof_term::{Form, Label, NODE_LIMIT, Node, RECORD_SIZE, push};
 use words::NamedFunction;
 
 // How far the reading is: in the text, in the entries, the records, the names and the labels' code.
@@ -69,12 +69,11 @@ pub enum Entry {
     LetBody(u16, u16, Part),
 }
 
-const NODE_LIMIT: usize = proof_term::NODE_LIMIT;
-
+// A term nests at most so deep.
 const NESTING_LIMIT: usize = 512;
 
-// The most entries that a term within the limits needs.
-const ENTRY_LIMIT: usize = 767;
+// The most entries that a term within the limits needs: two levels of it take three entries, and the innermost leaves one less.
+const ENTRY_LIMIT: usize = 3 * NESTING_LIMIT / 2 - 1;
 
 // From which form on a part is bracketed in strict text.
 pub const CLOSED_ONLY: Form = Form::Call;
