@@ -9,3 +9,4 @@ pub mod Short
 pub mod Given
 pub mod Admitted
 pub mod NamesAndCode
+pub mod RootHeight

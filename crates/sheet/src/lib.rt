@@ -5,6 +5,7 @@ mod admitted_sheet;
 mod header;
 mod pairs;
 mod parts;
+mod sized_sheet;
 
 ghost use Rattle.std.specs.Prelude.{◌≡◌, ◌<◌, ◌≤◌, length, IfSome};
 ghost use Rattle.definitions.specs.Reason.{number_of};
@@ -20,6 +21,7 @@ use definitions::{Reason, Refusal};
 pub use header::{Layout, Sheet};
 pub use pairs::{first_bad_code, first_bad_name, first_bad_pair, first_deep_proposition};
 pub use parts::{code_bytes, name_pairs, proposition_pairs, step_records, text_bytes, vocabulary};
+pub use sized_sheet::SizedSheet;
 use steps::{fill_sizes, first_bad_step, first_deep_tree, leaves_trees};
 
 // The refusal for a reason at a place that was found, if one was.
