@@ -18,7 +18,7 @@ use Rattle.definitions.proofs.Readings.{Bytes}
 use Rattle.graft_laws.specs.Merges.{Merges}
 use Rattle.graft_laws.proofs.Answered.{answer_admitted}
 use Rattle.graft_laws.proofs.AnswerMerges.{answer_merges}
-use Rattle.std.specs.Prelude.{Result, Err, Ok, MatchResult, IfOk, IsErrAnd}
+use Rattle.std.specs.Prelude.{Result, Err, Ok, MatchResult, IsErrAnd}
 use Rattle.std.proofs.lemmas.Result.{err_from_is_err_and}
 use Rattle.output.specs.Written.{Fills, written_of, filled}
 use Rattle.vocabulary.specs.declared.Vocabulary.{Vocabulary}
@@ -60,9 +60,6 @@ admits_ok s a e = rw e at a
 
 pub admits_err : (s : List ℕ) {r : Result (List ℕ) Refusal} {x : Refusal} → Admits s r → r ≡ Err x → admitted s ≡ refused x
 admits_err s a e = rw e at a
-
-pub where_ok : {A E P : Type 0} {r : Result A E} {x : A} → IfOk r (λ _. P) → r ≡ Ok x → P
-where_ok p e = rw e at p
 
 -- a part of bytes that others follow
 part_of : (a rest : List ℕ) (p n : ℕ) → p + n ≤ length a → take n (drop p (a ++ rest)) ≡ take n (drop p a)

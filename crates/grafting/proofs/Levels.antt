@@ -1,5 +1,5 @@
--- The steps above a step by the table of sizes, and the nesting of a root by the table of nestings.
-use Prim.Native.Nat.{ℕ, suc, ◌+◌, ◌-◌, ◌≤◌, ◌<◌}
+-- The steps above a step by the table of sizes.
+use Prim.Native.Nat.{ℕ, suc, ◌+◌, ◌≤◌, ◌<◌}
 use mathlib.Core.Path.{◌≡◌, refl, sym, ◌∙◌}
 use mathlib.Core.Bool.{Bool, true, false, cond}
 use mathlib.Core.List.{List}
@@ -10,16 +10,14 @@ use lib.ListN.{get_or, drop}
 use lib.Dec.{ltb}
 use borrow.Author.Tests.{lt-ltb, le-ltb}
 use Rattle.std.specs.Int.{from_bool}
-use Rattle.std.specs.Prelude.{Option, None}
-use Rattle.definitions.specs.Sheet.{step_limit, tree_nesting_limit, names, steps, proposition_pairs, code_bytes, step_records, premiss_count}
-use Rattle.definitions.specs.Tree.{step_in, height, tree_of, root_of}
-use Rattle.definitions.specs.Admission.{deep_tree}
+use Rattle.definitions.specs.Sheet.{step_limit, names, steps, proposition_pairs, code_bytes, step_records, premiss_count}
+use Rattle.definitions.specs.Tree.{step_in, root_of}
 use Rattle.writer_laws.proofs.Checks.{Checks, admitted_checks}
 use Rattle.graft_laws.specs.Levels.{above, above_in}
 use Rattle.graft_laws.proofs.Stack.{stack}
 use Rattle.graft_laws.proofs.GraftSheets.{steps_of, counts_of, as_stack, one_root}
 use Rattle.graft_laws.proofs.Above.{above_last, above_passed, above_taken, above_root}
-use Rattle.steps.specs.Tables.{SizeTable, HeightTable, FilledHeights, passed}
+use Rattle.steps.specs.Tables.{SizeTable}
 use Rattle.steps.proofs.Premisses.{seam, tree_steps}
 use Rattle.sheet.specs.declared.header.Sheet.{Sheet}
 use Rattle.sheet.specs.Header.{header_of}
@@ -105,19 +103,3 @@ module _ {s : List ℕ} {h : Sheet} (a : AcceptedSheet s h) where
           counted ∙ above_root (steps_of s) (counts_of s) numbers k (steps s) (root_of s) (omega (arith, c.later)) (one_root s checks),
           omega (arith, c.small, few_steps),
         )
-
-  -- the last of the nestings is the root's
-  all_shallow : {r : Option ℕ} {before after : List ℕ} → FilledHeights (step_records s) (steps s) tree_nesting_limit before r after
-      → HeightTable (step_records s) (steps s) after
-  unfolding deep_tree passed
-  all_shallow {r} f =
-      let nowhere : r ≡ None = f.found (names s) (proposition_pairs s) (code_bytes s) ∙ checks.nested in
-      rw nowhere at f.table
-
-  pub root_level : {records : List ℕ} {r : Option ℕ} {before after : List ℕ} → records ≡ step_records s
-      → FilledHeights records h.steps tree_nesting_limit before r after → get_or after (h.steps - 1) 0 ≡ height (root_of s)
-  unfolding header_of root_of tree_of
-  root_level e f =
-      let some = a.sheet.in_range.some_step in
-      let root = (all_shallow (rw (e, a.header) at f)).heights (names s) (proposition_pairs s) (code_bytes s) (steps s - 1) (omega arith) in
-      rw a.header root

@@ -24,7 +24,7 @@ use Rattle.name_index.specs.declared.Index.{Index}
 use Rattle.merged_names.specs.Numbered.{Indexed, Numbered}
 use Rattle.steps.specs.Records.{HasStep}
 use Rattle.sheet.specs.declared.header.Sheet.{Sheet}
-use Rattle.std.specs.Prelude.{Result, Ok, Err, IfOk}
+use Rattle.std.specs.Prelude.{Result, Err}
 use Rattle.sheet.specs.Header.{header_of, vocabulary_of}
 use Rattle.sheet.proofs.Admitted.{AcceptedSheet, has_steps, its_header}
 use Rattle.sheet.proofs.NamesAndCode.{count_is, names_are, names_of}
@@ -65,11 +65,6 @@ open_step s k e = go (dec_lt k (steps s))
     go : Dec (k < steps s) → k < steps s
     go (yes l) = l
     go (no past) = absurd (true≢false (rw (le-leb (steps s) k (omega arith)) at e))
-
--- what holds anyway holds where there is an answer
-pub whenever : {A E P : Type 0} (r : Result A E) → P → IfOk r (λ _. P)
-whenever (Ok a) p = p
-whenever (Err x) p = tt
 
 -- 27
 module _ (s t : List ℕ) (k : ℕ) (deep : Bool) (room : ℕ) {same : Bool}

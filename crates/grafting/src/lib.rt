@@ -2,8 +2,8 @@
 // has no premisses; or the first of the host's 1 to 11, the donor's, 26, 27, 28 and 16, and whose it is.
 #![tactic(auto)]
 
-ghost use Rattle.std.specs.Prelude.{◌≡◌, false, ℕ, ◌+◌, ◌≤◌, ◌<◌, length, take, ltb, IfOk, Ok};
-ghost use Rattle.definitions.specs.Sheet.{name_limit, tree_nesting_limit, names, steps, step_records};
+ghost use Rattle.std.specs.Prelude.{◌≡◌, false, ℕ, ◌+◌, ◌≤◌, ◌<◌, length, take, ltb, Ok};
+ghost use Rattle.definitions.specs.Sheet.{name_limit, tree_nesting_limit, names, steps};
 ghost use Rattle.definitions.specs.Tree.{height, root_of};
 ghost use Rattle.definitions.specs.NameIndex.{slot_count};
 ghost use Rattle.definitions.specs.Graft.{not_open, graft, graft_answer};
@@ -11,7 +11,6 @@ ghost use Rattle.graft_laws.specs.Levels.{above};
 ghost use Rattle.graft_laws.specs.Merges.{Merges};
 ghost use Rattle.output.specs.Written.{Fills};
 ghost use Rattle.merged_names.specs.Numbered.{Numbered};
-ghost use Rattle.steps.specs.Tables.{SizeTable};
 ghost use Rattle.sheet.specs.Admitted.{Accepted};
 ghost use Rattle.restating.specs.Slots.{slots_after};
 ghost use Rattle.merged_sheet.specs.Merging.{Merging};
@@ -22,8 +21,8 @@ use equal_conclusions::{NumberedSheets, same_conclusion};
 use merged_names::fill_numbers;
 use merged_sheet::merge;
 use name_index::{Index, SLOT_COUNT, build};
-use sheet::{AdmittedSheet, Sheet, vocabulary};
-use steps::{Rule, first_deep_tree, premiss_count, rule_byte};
+use sheet::{AdmittedSheet, Sheet, SizedSheet, vocabulary};
+use steps::{Rule, premiss_count, rule_byte};
 
 // The byte of the rule Sorry.
 const SORRY: u8 = Rule::Sorry as u8;
@@ -42,15 +41,13 @@ fn not_open(host: &AdmittedSheet, k: usize) -> bool
     premiss_count(records, k) != 0
 }
 
-// How many steps stand above step k: the later ones whose trees reach it. The sizes stand beside the sheet, since few functions over a
-// sheet read a table of them.
-fn steps_above(host: &AdmittedSheet, sizes: &[u16; Sheet::STEP_LIMIT], k: usize) -> usize
-    requires k_bound { k < steps host.now }
-    requires size_table { SizeTable (step_records host.now) (steps host.now) sizes.now }
-    ensures levels { (result ≡ above k (root_of host.now)) × (result ≤ 1024) }
-    ensures accepted { Accepted host.now }
+// How many steps stand above step k: the later ones whose trees reach it.
+fn steps_above(host: &SizedSheet, k: usize) -> usize
+    requires { k < steps host.now }
+    ensures { (result ≡ above k (root_of host.now)) × (result ≤ 1024) }
 {
-    let h = host.header();
+    let h = host.admitted().header();
+    let sizes = host.sizes();
     let mut count = 0;
     for j in k + 1..h.steps {
         count += usize::from(j < k + usize::from(sizes[j]));
@@ -58,41 +55,14 @@ fn steps_above(host: &AdmittedSheet, sizes: &[u16; Sheet::STEP_LIMIT], k: usize)
     count
 }
 
-// The nesting of the root.
-fn root_height(sheet: &AdmittedSheet, sizes: &[u16; Sheet::STEP_LIMIT]) -> u16
-    requires { SizeTable (step_records sheet.now) (steps sheet.now) sizes.now }
-    ensures height { result ≡ height (root_of sheet.now) }
-    ensures accepted { Accepted sheet.now }
-{
-    let h = sheet.header();
-    let mut heights = [0u16; Sheet::STEP_LIMIT];
-    first_deep_tree(
-        sheet.step_records(),
-        h.steps,
-        sizes,
-        &mut heights,
-        Sheet::TREE_NESTING_LIMIT,
-    );
-    heights[h.steps - 1]
-}
-
 // 28, the levels: the steps above the host step and the donor's levels pass 256.
-fn too_deep(
-    host: &AdmittedSheet,
-    host_sizes: &[u16; Sheet::STEP_LIMIT],
-    k: usize,
-    donor: &AdmittedSheet,
-    donor_sizes: &[u16; Sheet::STEP_LIMIT],
-) -> bool
-    requires k_bound { k < steps host.now }
-    requires size_table { SizeTable (step_records host.now) (steps host.now) host_sizes.now }
-    requires size_table_2 { SizeTable (step_records donor.now) (steps donor.now) donor_sizes.now }
-    ensures deep { result ≡ ltb tree_nesting_limit
+fn too_deep(host: &SizedSheet, k: usize, donor: &SizedSheet) -> bool
+    requires { k < steps host.now }
+    ensures { result ≡ ltb tree_nesting_limit
         (above k (root_of host.now) + height (root_of donor.now)) }
-    ensures accepted { Accepted host.now × Accepted donor.now }
 {
-    let levels = root_height(donor, donor_sizes) as usize;
-    (Sheet::TREE_NESTING_LIMIT as usize) < steps_above(host, host_sizes, k) + levels
+    let levels = donor.root_height() as usize;
+    (Sheet::TREE_NESTING_LIMIT as usize) < steps_above(host, k) + levels
 }
 
 // Stores the numbers that the host's names and the donor's have in the merged sheet. One index of the host's names serves both, so
@@ -161,45 +131,38 @@ fn merge_equal(
 
 // 26 and then these.
 fn graft_accepted(
-    host: &AdmittedSheet,
-    host_sizes: &[u16; Sheet::STEP_LIMIT],
+    host: &SizedSheet,
     k: usize,
-    donor: &AdmittedSheet,
-    donor_sizes: &[u16; Sheet::STEP_LIMIT],
+    donor: &SizedSheet,
     out: &mut [u8],
 ) -> Result<Sheet, Refusal>
-    requires size_table { SizeTable (step_records host.now) (steps host.now) host_sizes.now }
-    requires size_table_2 { SizeTable (step_records donor.now) (steps donor.now) donor_sizes.now }
     ensures merging { Merging (graft host.now donor.now k (length out.old))
         out.old out.new result }
-    ensures accepted { IfOk result (λ _. Accepted host.now × Accepted donor.now) }
+    ensures accepted { Accepted host.now × Accepted donor.now }
 {
-    if not_open(host, k) {
+    let h = host.admitted();
+    let g = donor.admitted();
+    if not_open(h, k) {
         return Err(Reason::NoOpenStep.at(0));
     }
-    let deep = too_deep(host, host_sizes, k, donor, donor_sizes);
-    merge_equal(host, k, donor, deep, out)
+    merge_equal(h, k, g, too_deep(host, k, donor), out)
 }
 
 // The same, with the index of the merged sheet's names.
 fn graft_indexed(
-    host: &AdmittedSheet,
-    host_sizes: &[u16; Sheet::STEP_LIMIT],
+    host: &SizedSheet,
     k: usize,
-    donor: &AdmittedSheet,
-    donor_sizes: &[u16; Sheet::STEP_LIMIT],
+    donor: &SizedSheet,
     slots: &mut [u16],
     out: &mut [u8],
 ) -> Result<usize, Refusal>
-    requires slots_len { length slots.old ≡ slot_count }
-    requires size_table { SizeTable (step_records host.now) (steps host.now) host_sizes.now }
-    requires size_table_2 { SizeTable (step_records donor.now) (steps donor.now) donor_sizes.now }
+    requires { length slots.old ≡ slot_count }
     ensures fills { Fills (graft host.now donor.now k (length out.old))
         out.old out.new result }
     ensures slots_after { slots.new ≡ slots_after
         (graft host.now donor.now k (length out.old)) slots.old }
 {
-    let m = graft_accepted(host, host_sizes, k, donor, donor_sizes, out)?;
+    let m = graft_accepted(host, k, donor, out)?;
     build(slots, out, vocabulary(m));
     Ok(m.layout().end)
 }
@@ -221,11 +184,11 @@ pub fn graft<'a>(
         → Merges host.now donor.now k (take n out.new) }
 {
     let mut host_sizes = [0u16; Sheet::STEP_LIMIT];
-    let host_checked = AdmittedSheet::with_sizes(host, &mut host_sizes);
+    let host_checked = SizedSheet::new(host, &mut host_sizes);
     let h = host_checked.map_err(|refusal| (Whose::Host, refusal))?;
     let mut donor_sizes = [0u16; Sheet::STEP_LIMIT];
-    let donor_checked = AdmittedSheet::with_sizes(donor, &mut donor_sizes);
+    let donor_checked = SizedSheet::new(donor, &mut donor_sizes);
     let g = donor_checked.map_err(|refusal| (Whose::Donor, refusal))?;
-    let written = graft_indexed(&h, &host_sizes, k, &g, &donor_sizes, slots, out);
+    let written = graft_indexed(&h, k, &g, slots, out);
     written.map_err(|refusal| (Whose::Neither, refusal))
 }

@@ -4,80 +4,50 @@ use mathlib.Core.Path.{◌≡◌, refl, ap, ◌∙◌}
 use mathlib.Core.Bool.{Bool, true, false, ◌||◌, not}
 use mathlib.Core.List.{List}
 use native.Mathlib.Omega.{arith}
-use lib.ListN.{get_or}
 use lib.Dec.{leb}
 use borrow.Author.Tests.{le-leb, lt-leb, leb-false}
 use Rattle.definitions.specs.declared.Refusal.{Refusal}
-use Rattle.std.specs.Prelude.{Option, None, Result, Err, ℕ}
+use Rattle.std.specs.Prelude.{Result, Err, ℕ}
 use Rattle.definitions.specs.Outcome.{Outcome, refused, accepted, refuse, ◌>>=◌, refuse_if}
 use Rattle.definitions.specs.Sheet.{step_size, step_limit, tree_nesting_limit, names, propositions, steps, proposition_pairs, code_bytes, step_records, name_of}
-use Rattle.definitions.specs.Tree.{height, tree_of, root_of, rename_conclusion}
-use Rattle.definitions.specs.Admission.{admitted, bad_step, deep_tree}
+use Rattle.definitions.specs.Tree.{height, root_of, rename_conclusion}
+use Rattle.definitions.specs.Admission.{admitted, bad_step}
 use Rattle.definitions.specs.Answers.{is_in_room}
 use Rattle.definitions.specs.Restate.{Given, new_record, bad_given, no_step_left, given_conclusion, restated_sheet, restated, restate_answer}
-use Rattle.writer_laws.proofs.Checks.{admitted_checks}
 use Rattle.writer_laws.proofs.Restating.{new_step_bad}
 use Rattle.output.specs.Written.{Fills}
 use Rattle.output.proofs.Filling.{refuses}
-use Rattle.steps.specs.Records.{HasStep, HasSteps}
-use Rattle.steps.specs.Tables.{SizeTable, HeightTable, FilledHeights, passed}
+use Rattle.steps.specs.Records.{HasStep}
 use Rattle.steps.specs.StepAt.{step_at}
 use Rattle.steps.proofs.StepAt.{conclusion_is}
 use Rattle.steps.proofs.GoodSteps.{known_conclusion}
 use Rattle.sheet.specs.declared.header.Sheet.{Sheet}
 use Rattle.sheet.specs.Header.{header_of}
-use Rattle.sheet.proofs.Admitted.{AcceptedSheet, has_steps}
+use Rattle.sheet.proofs.Admitted.{AcceptedSheet}
+use Rattle.sheet.proofs.RootHeight.{some_step, all_steps}
 use Rattle.comparison.specs.Conclusions.{concluded, ConclusionIn, conclusion_comparison}
 use Rattle.comparison.proofs.Conclusions.{concluded_step, conclusion_in}
 use Rattle.restating.specs.Step.{sheet_with, conclusion_of_step, root_compared, judged}
 
 -- Of an accepted sheet:
 module _ {s : List ℕ} {h : Sheet} (a : AcceptedSheet s h) where
-  pub some_step : 1 ≤ h.steps
-  some_step = rw a.header a.sheet.in_range.some_step
-
-  pub few_steps : h.steps ≤ step_limit
-  few_steps = rw a.header a.sheet.in_range.steps
-
-  pub all_steps : HasSteps (step_records s) h.steps
-  unfolding header_of
-  all_steps = rw a.header (has_steps a.sheet)
-
   pub last_step : HasStep (step_records s) (h.steps - 1)
   unfolding step_size
-  last_step = omega (arith, all_steps, some_step)
-
-  pub sizes_known : {table : List ℕ} → SizeTable (step_records s) (steps s) table → SizeTable (step_records s) h.steps table
-  unfolding header_of
-  sizes_known t = rw a.header t
+  last_step = omega (arith, all_steps a, some_step a)
 
   -- 23
   pub bad_known : (step : List ℕ) {b : Bool} → b ≡ bad_step h.names h.propositions step 0 → b ≡ bad_step (names s) (propositions s) step 0
   unfolding header_of
   bad_known step e = rw a.header at e
 
-  -- 24: the steps, or the root's nesting, which is the last of the table
+  -- 24: the steps, or the root's nesting
   pub steps_full : step_limit ≤ h.steps → true ≡ no_step_left s (root_of s)
   unfolding no_step_left header_of
   steps_full l = let l : step_limit ≤ steps s = rw a.header at l in rw (le-leb step_limit (steps s) l)
 
-  all_shallow : {r : Option ℕ} {before after : List ℕ} → FilledHeights (step_records s) (steps s) tree_nesting_limit before r after
-      → HeightTable (step_records s) (steps s) after
-  unfolding deep_tree passed
-  all_shallow {r} f =
-      let shallow = (admitted_checks s (root_of s) a.root).0.nested in
-      let nowhere : r ≡ None = f.found (names s) (proposition_pairs s) (code_bytes s) ∙ shallow in
-      rw nowhere at f.table
-
-  pub levels_decide : {records : List ℕ} {r : Option ℕ} {before after : List ℕ} → records ≡ step_records s → h.steps < step_limit
-      → FilledHeights records h.steps tree_nesting_limit before r after
-      → leb tree_nesting_limit (get_or after (h.steps - 1) 0) ≡ no_step_left s (root_of s)
-  unfolding no_step_left header_of root_of tree_of
-  levels_decide e l f =
-      let few : steps s < step_limit = rw a.header at l in
-      let some = a.sheet.in_range.some_step in
-      let root = (all_shallow (rw (e, a.header) at f)).heights (names s) (proposition_pairs s) (code_bytes s) (steps s - 1) (omega arith) in
-      rw (a.header, lt-leb step_limit (steps s) few, root)
+  pub levels_decide : h.steps < step_limit → leb tree_nesting_limit (height (root_of s)) ≡ no_step_left s (root_of s)
+  unfolding no_step_left header_of
+  levels_decide l = let few : steps s < step_limit = rw a.header at l in rw (lt-leb step_limit (steps s) few)
 
   -- 25 and 19: the two conclusions
   pub root_in : ConclusionIn s (step_at (step_records s) (h.steps - 1)).conclusion

@@ -4,7 +4,7 @@
 
 ghost use Rattle.std.specs.Prelude.{◌≡◌, false, true, ℕ, ◌<◌, length, take, Ok};
 ghost use Rattle.definitions.specs.Outcome.{accepted};
-ghost use Rattle.definitions.specs.Sheet.{step_limit, names, propositions, steps, step_records};
+ghost use Rattle.definitions.specs.Sheet.{step_limit, names, propositions, steps};
 ghost use Rattle.definitions.specs.Tree.{root_of};
 ghost use Rattle.definitions.specs.Admission.{bad_step};
 ghost use Rattle.definitions.specs.Answers.{is_in_room};
@@ -14,7 +14,6 @@ ghost use Rattle.writer_laws.specs.Restates.{Restates};
 ghost use Rattle.output.specs.Numbers.{u16s};
 ghost use Rattle.output.specs.Written.{Fills};
 ghost use Rattle.steps.specs.Records.{HasStep};
-ghost use Rattle.steps.specs.Tables.{SizeTable};
 ghost use Rattle.sheet.specs.Header.{InRange};
 ghost use Rattle.sheet.specs.Admitted.{Accepted};
 ghost use Rattle.sheet.specs.Checks.{outcome_of};
@@ -26,8 +25,8 @@ use definitions::{Reason, Refusal};
 use name_index::{SLOT_COUNT, build};
 use output::sink::put_u16s;
 use output::{Sink, Writer};
-use sheet::{AdmittedSheet, Sheet};
-use steps::{Rule, bad_step, first_deep_tree, step_at};
+use sheet::{AdmittedSheet, Sheet, SizedSheet};
+use steps::{Rule, bad_step, step_at};
 
 // A conclusion in the form of a step record, and a column. The kind is a number, since refusal 23 is for one that is no kind.
 #[derive(Drop)]
@@ -94,25 +93,14 @@ fn put_sheet<S: Sink<u8>>(sink: &mut S, sheet: &AdmittedSheet, step: &[u8])
     sink.put_all(text_and_code);
 }
 
-// 24: there are already 1,024 steps or 256 levels. The sizes stand beside the sheet, since few functions over a sheet read a table of
-// them.
-fn no_step_left(sheet: &AdmittedSheet, sizes: &[u16; Sheet::STEP_LIMIT]) -> bool
-    requires { SizeTable (step_records sheet.now) (steps sheet.now) sizes.now }
+// 24: there are already 1,024 steps or 256 levels.
+fn no_step_left(sheet: &SizedSheet) -> bool
     ensures { result ≡ no_step_left sheet.now (root_of sheet.now) }
 {
-    let h = sheet.header();
-    if Sheet::STEP_LIMIT <= h.steps {
+    if Sheet::STEP_LIMIT <= sheet.admitted().header().steps {
         return true;
     }
-    let mut heights = [0u16; Sheet::STEP_LIMIT];
-    first_deep_tree(
-        sheet.step_records(),
-        h.steps,
-        sizes,
-        &mut heights,
-        Sheet::TREE_NESTING_LIMIT,
-    );
-    Sheet::TREE_NESTING_LIMIT <= heights[h.steps - 1]
+    Sheet::TREE_NESTING_LIMIT <= sheet.root_height()
 }
 
 // The root's conclusion and that of one more step.
@@ -128,24 +116,19 @@ fn compare_root(sheet: &AdmittedSheet, step: &[u8]) -> Result<bool, Refusal>
 }
 
 // 23, 24, and then whether the root's conclusion equals that of one more step.
-fn judge(
-    sheet: &AdmittedSheet,
-    sizes: &[u16; Sheet::STEP_LIMIT],
-    step: &[u8],
-) -> Result<bool, Refusal>
-    requires has_step { HasStep step.now 0 }
-    requires size_table { SizeTable (step_records sheet.now) (steps sheet.now) sizes.now }
+fn judge(sheet: &SizedSheet, step: &[u8]) -> Result<bool, Refusal>
+    requires { HasStep step.now 0 }
     ensures value { outcome_of result ≡ judged sheet.now step.now }
     ensures accepted { Accepted sheet.now }
 {
-    let h = sheet.header();
+    let h = sheet.admitted().header();
     if bad_step(step, 0, h.names, h.propositions) {
         return Err(Reason::Given.at(0));
     }
-    if no_step_left(sheet, sizes) {
+    if no_step_left(sheet) {
         return Err(Reason::NoStepLeft.at(0));
     }
-    compare_root(sheet, step)
+    compare_root(sheet.admitted(), step)
 }
 
 // The sheet with one more step, where it fits: it is longer by the record.
@@ -167,42 +150,35 @@ fn write_sheet(
 }
 
 // The new sheet of an accepted one, after the tests.
-fn restate_accepted(
-    sheet: &AdmittedSheet,
-    sizes: &[u16; Sheet::STEP_LIMIT],
-    given: Given,
-    out: &mut [u8],
-) -> Result<usize, Refusal>
-    requires { SizeTable (step_records sheet.now) (steps sheet.now) sizes.now }
+fn restate_accepted(sheet: &SizedSheet, given: Given, out: &mut [u8]) -> Result<usize, Refusal>
     ensures { Fills (restate_answer sheet.now (given_of given) (length out.old))
         out.old out.new result }
 {
     let mut step = [0u8; Sheet::STEP_SIZE];
     put_record(&mut step, given);
-    let same = judge(sheet, sizes, &step)?;
+    let same = judge(sheet, &step)?;
     if !same {
         return Err(Reason::NotAlphaEqual.at(0));
     }
-    write_sheet(sheet, &step, out)
+    write_sheet(sheet.admitted(), &step, out)
 }
 
 // The same, with the index of the new sheet's names, which are the old ones.
 fn restate_indexed(
-    sheet: &AdmittedSheet,
-    sizes: &[u16; Sheet::STEP_LIMIT],
+    sheet: &SizedSheet,
     given: Given,
     slots: &mut [u16],
     out: &mut [u8],
 ) -> Result<usize, Refusal>
-    requires slots_len { length slots.old ≡ slot_count }
-    requires size_table { SizeTable (step_records sheet.now) (steps sheet.now) sizes.now }
+    requires { length slots.old ≡ slot_count }
     ensures fills { Fills (restate_answer sheet.now (given_of given) (length out.old))
         out.old out.new result }
     ensures slots_after { slots.new ≡ slots_after
         (restate_answer sheet.now (given_of given) (length out.old)) slots.old }
 {
-    let length = restate_accepted(sheet, sizes, given, out)?;
-    build(slots, sheet.bytes(), sheet.vocabulary());
+    let length = restate_accepted(sheet, given, out)?;
+    let admitted = sheet.admitted();
+    build(slots, admitted.bytes(), admitted.vocabulary());
     Ok(length)
 }
 
@@ -222,6 +198,6 @@ pub fn restate(
         → Restates s.now (given_of given) (take n out.new) }
 {
     let mut sizes = [0u16; Sheet::STEP_LIMIT];
-    let sheet = AdmittedSheet::with_sizes(s, &mut sizes)?;
-    restate_indexed(&sheet, &sizes, given, slots, out)
+    let sheet = SizedSheet::new(s, &mut sizes)?;
+    restate_indexed(&sheet, given, slots, out)
 }

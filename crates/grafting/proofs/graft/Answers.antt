@@ -7,34 +7,34 @@ use Rattle.definitions.specs.declared.Whose.TheVariants.{Neither, Host, Donor}
 use Rattle.definitions.specs.NameIndex.{slot_count}
 use Rattle.sheet.specs.Admitted.{Accepted}
 use Rattle.sheet.proofs.Admitted.{with_header}
-use Rattle.grafting.proofs.Answers.{By, by_mapped, accepted_by, refused_as, told_by, admits_ok, admits_err, where_ok, host-refused, donor-refused, neither, slots-of-neither, bytes-merge}
+use Rattle.grafting.proofs.Answers.{By, by_mapped, accepted_by, refused_as, told_by, admits_ok, admits_err, host-refused, donor-refused, neither, slots-of-neither, bytes-merge}
 use Rattle.grafting.proofs.graft.Goals as goal
 use Rattle.grafting.proofs.graft.Goals.{After-map_err, After-map_err-2, In_ok-h, In_ok-g}
 
-host_checked : (c : After-map_err) → By c.with_sizes-host_checked.result Host c.map_err.result
-host_checked c = by_mapped c.with_sizes-host_checked.result c.map_err.result Host c.map_err.ensures.cases (λ x e p. search rules)
+host_checked : (c : After-map_err) → By c.new-host_checked.result Host c.map_err.result
+host_checked c = by_mapped c.new-host_checked.result c.map_err.result Host c.map_err.ensures.cases (λ x e p. search rules)
 
-donor_checked : (c : After-map_err-2) → By c.with_sizes-donor_checked.result Donor c.map_err-2.result
-donor_checked c = by_mapped c.with_sizes-donor_checked.result c.map_err-2.result Donor c.map_err-2.ensures.cases (λ x e p. search rules)
+donor_checked : (c : After-map_err-2) → By c.new-donor_checked.result Donor c.map_err-2.result
+donor_checked c = by_mapped c.new-donor_checked.result c.map_err-2.result Donor c.map_err-2.ensures.cases (λ x e p. search rules)
 
 -- the sheets that were accepted
-host_ok : (c : In_ok-h) → c.with_sizes-host_checked.result ≡ Ok c.in_ok-h.h
+host_ok : (c : In_ok-h) → c.new-host_checked.result ≡ Ok c.in_ok-h.h
 host_ok c = accepted_by _ Host (host_checked (goal.at.In_ok-h c).After-map_err) c.in_ok-h.was
 
 host : (c : In_ok-h) → (c.in_ok-h.h ≡ c.args.host.now) × Accepted c.args.host.now
-host c = admits_ok _ c.with_sizes-host_checked.ensures.admits (host_ok c)
+host c = admits_ok _ c.new-host_checked.ensures (host_ok c)
 
-donor_ok : (c : In_ok-g) → c.with_sizes-donor_checked.result ≡ Ok c.in_ok-g.g
+donor_ok : (c : In_ok-g) → c.new-donor_checked.result ≡ Ok c.in_ok-g.g
 donor_ok c = accepted_by _ Donor (donor_checked (goal.at.In_ok-g c).After-map_err-2) c.in_ok-g.was
 
 donor : (c : In_ok-g) → (c.in_ok-g.g ≡ c.args.donor.now) × Accepted c.args.donor.now
-donor c = admits_ok _ c.with_sizes-donor_checked.ensures.admits (donor_ok c)
+donor c = admits_ok _ c.new-donor_checked.ensures (donor_ok c)
 
 pub returns-in_err-h : goal.returns-in_err-h
 returns-in_err-h c =
     let passed : Err c.in_err-h.field-0.0 ≡ c.from_residual.result = search rules in
     let (_, is, mapped) = refused_as _ (host_checked (goal.at.returns-in_err-h c).After-map_err) c.in_err-h.was in
-    let (answer, slots) = host-refused _ _ _ _ (admits_err _ c.with_sizes-host_checked.ensures.admits is) _ _ in
+    let (answer, slots) = host-refused _ _ _ _ (admits_err _ c.new-host_checked.ensures is) _ _ in
     let handed = told_by answer (ap (λ e. Err e) (sym mapped) ∙ passed) in
     record {
       fills_by = handed;
@@ -47,7 +47,7 @@ returns-in_err-g c =
     let here = goal.at.returns-in_err-g c in
     let passed : Err c.in_err-g.field-0.0 ≡ c.from_residual-in_err-g.result = search rules in
     let (_, is, mapped) = refused_as _ (donor_checked here.After-map_err-2) c.in_err-g.was in
-    let (answer, slots) = donor-refused _ _ _ _ (with_header (host here.In_ok-h).1) (admits_err _ c.with_sizes-donor_checked.ensures.admits is) _ _ in
+    let (answer, slots) = donor-refused _ _ _ _ (with_header (host here.In_ok-h).1) (admits_err _ c.new-donor_checked.ensures is) _ _ in
     let handed = told_by answer (ap (λ e. Err e) (sym mapped) ∙ passed) in
     record {
       fills_by = handed;
@@ -57,13 +57,7 @@ returns-in_err-g c =
 
 pub graft_indexed-written-requires : goal.graft_indexed-written-requires
 unfolding slot_count
-graft_indexed-written-requires c =
-    let here = goal.at.graft_indexed-written-requires c in
-    record {
-      slots_len = search rules;
-      size_table = rw (host here.In_ok-h).0 (where_ok c.with_sizes-host_checked.ensures.sized (host_ok here.In_ok-h));
-      size_table_2 = rw (donor here.In_ok-g).0 (where_ok c.with_sizes-donor_checked.ensures.sized (donor_ok here.In_ok-g));
-    }
+graft_indexed-written-requires c = search rules
 
 pub returns : goal.returns
 returns c =

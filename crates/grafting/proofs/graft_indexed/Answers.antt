@@ -8,9 +8,6 @@ use Rattle.grafting.proofs.Answers.{within_both, few_names, built, stays-refused
 use Rattle.grafting.proofs.graft_indexed.Goals as goal
 use Rattle.grafting.proofs.graft_indexed.Goals.{In_ok-m}
 
-pub graft_accepted-requires : goal.graft_accepted-requires
-graft_accepted-requires c = record { size_table = c.requires.size_table; size_table_2 = c.requires.size_table_2 }
-
 pub returns-in_err-m : goal.returns-in_err-m
 returns-in_err-m c =
     let p = stays-refused _ _ _ _ c.graft_accepted.ensures.merging c.in_err-m.was _ in
@@ -19,7 +16,7 @@ returns-in_err-m c =
 -- the merged sheet
 sheet_here : (c : In_ok-m) → Stands c.args.host.now c.args.donor.now c.args.k _ c.graft_accepted.ensures.merging c.in_ok-m.m
 sheet_here c =
-    let (host, donor) = c.in_ok-m.ensures.accepted in
+    let (host, donor) = c.graft_accepted.ensures.accepted in
     stands (with_header host) (with_header donor) host.bytes donor.bytes _ _ c.graft_accepted.ensures.merging c.in_ok-m.was
 
 pub vocabulary-requires : goal.vocabulary-requires
@@ -30,7 +27,7 @@ build-requires c =
     let o = sheet_here (goal.at.build-requires c).In_ok-m in
     let is = vocabulary-is _ _ _ _ _ o c.vocabulary.ensures in
     let rest = drop (length o.sheet) c.args.out.now in
-    record { slots_len = (c.requires.slots_len, within_both o.has rest is o.memory); name_count_bound = few_names o.has rest is }
+    record { slots_len = (c.requires, within_both o.has rest is o.memory); name_count_bound = few_names o.has rest is }
 
 pub layout-requires : goal.layout-requires
 layout-requires c = in_range _ _ _ _ _ (sheet_here (goal.at.layout-requires c).In_ok-m)

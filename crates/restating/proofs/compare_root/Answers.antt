@@ -1,6 +1,7 @@
 -- The conclusions of the last step and of one more.
 use Rattle.sheet.proofs.Admitted.{beside_header}
-use Rattle.restating.proofs.Tests.{some_step, last_step, root_in, step_in, compared}
+use Rattle.sheet.proofs.RootHeight.{some_step}
+use Rattle.restating.proofs.Tests.{last_step, root_in, step_in, compared}
 use Rattle.restating.proofs.compare_root.Goals as goal
 
 pub overflow_sub-h : goal.overflow_sub-h

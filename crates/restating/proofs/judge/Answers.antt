@@ -11,7 +11,7 @@ use Rattle.restating.proofs.judge.Goals.{After-bad_step}
 -- the test of the step, in the sheet's own words
 tested : (c : After-bad_step) → let s = c.args.sheet.now in
     c.bad_step.result ≡ bad_step (names s) (propositions s) c.args.step.now 0
-tested c = bad_known (beside_header c.header-h.ensures.is c.header-h.ensures.accepted) _ c.bad_step.ensures
+tested c = bad_known (rw c.admitted.ensures.is at (beside_header c.header-h.ensures.is c.header-h.ensures.accepted)) _ c.bad_step.ensures
 
 pub returns-then-bad_step-clause-value : goal.returns-then-bad_step-clause-value
 unfolding refuse
@@ -27,9 +27,9 @@ returns-then-no_step_left-clause-value c =
 
 pub compare_root-requires-clause-step_value : goal.compare_root-requires-clause-step_value
 compare_root-requires-clause-step_value c =
-    sym (tested (goal.at.compare_root-requires-clause-step_value c).After-bad_step) ∙ c.if-bad_step.false
+    rw c.admitted-2.ensures.is (sym (tested (goal.at.compare_root-requires-clause-step_value c).After-bad_step) ∙ c.if-bad_step.false)
 
 pub returns-clause-value : goal.returns-clause-value
 returns-clause-value c =
     judged_compared _ _ (sym (tested (goal.at.returns-clause-value c).After-bad_step) ∙ c.if-bad_step.false)
-    (sym c.no_step_left.ensures ∙ c.if-no_step_left.false) c.compare_root.ensures
+    (sym c.no_step_left.ensures ∙ c.if-no_step_left.false) (rw c.admitted-2.ensures.is at c.compare_root.ensures)

@@ -1,30 +1,19 @@
--- The nesting of the root is the last of the table of nestings.
-use native.Mathlib.Omega.{arith}
+-- The steps, or the nesting of the root.
 use Rattle.definitions.specs.Sheet.{step_limit, tree_nesting_limit}
-use Rattle.sheet.proofs.Admitted.{beside_header}
-use Rattle.restating.proofs.Tests.{some_step, few_steps, all_steps, sizes_known, steps_full, levels_decide}
+use Rattle.sheet.proofs.Admitted.{AcceptedSheet, beside_header}
+use Rattle.restating.proofs.Tests.{steps_full, levels_decide}
 use Rattle.restating.proofs.no_step_left.Goals as goal
+use Rattle.restating.proofs.no_step_left.Goals.{After-header}
 
-pub returns-then-h-ge-STEP_LIMIT : goal.returns-then-h-ge-STEP_LIMIT
+its : (c : After-header) → AcceptedSheet c.args.sheet.now c.header.result
+its c = beside_header (rw c.admitted.ensures.is at c.header.ensures.is) (rw c.admitted.ensures.is at c.header.ensures.accepted)
+
+pub returns-then-header-ge-STEP_LIMIT : goal.returns-then-header-ge-STEP_LIMIT
 unfolding step_limit
-returns-then-h-ge-STEP_LIMIT c =
-    steps_full (beside_header c.header-h.ensures.is c.header-h.ensures.accepted) c.if-h-ge-STEP_LIMIT.true
-
-pub first_deep_tree-requires : goal.first_deep_tree-requires
-unfolding step_limit
-first_deep_tree-requires c =
-    let sheet = beside_header c.header-h.ensures.is c.header-h.ensures.accepted in
-    rw c.step_records.ensures.is
-    record {
-      has_steps = (all_steps sheet, few_steps sheet);
-      steps_in_bounds = (omega (arith, few_steps sheet), omega (arith, few_steps sheet), sizes_known sheet c.requires);
-    }
-
-pub overflow_sub-result : goal.overflow_sub-result
-overflow_sub-result c = some_step (beside_header c.header-h.ensures.is c.header-h.ensures.accepted)
+returns-then-header-ge-STEP_LIMIT c =
+    steps_full (its (goal.at.returns-then-header-ge-STEP_LIMIT c).After-header) c.if-header-ge-STEP_LIMIT.true
 
 pub returns : goal.returns
 unfolding step_limit tree_nesting_limit
 returns c =
-    levels_decide (beside_header c.header-h.ensures.is c.header-h.ensures.accepted) c.step_records.ensures.is
-    c.if-h-ge-STEP_LIMIT.false c.first_deep_tree.ensures
+    rw c.root_height.ensures (levels_decide (its (goal.at.returns c).After-header) c.if-header-ge-STEP_LIMIT.false)

@@ -2,8 +2,8 @@
 use native.Mathlib.Omega.{arith}
 use Rattle.definitions.specs.Sheet.{header_size, step_limit}
 use Rattle.sheet.proofs.Admitted.{AcceptedSheet, its_header, beside_header}
+use Rattle.sheet.proofs.RootHeight.{few_steps}
 use Rattle.restating.proofs.Bytes.{after_header, within, in_range_after, sheet_parts}
-use Rattle.restating.proofs.Tests.{few_steps}
 use Rattle.restating.proofs.put_sheet.Goals as goal
 use Rattle.restating.proofs.put_sheet.Goals.{After-header-h}
 

@@ -7,16 +7,15 @@ use Rattle.restating.proofs.restate.Goals as goal
 
 pub returns-in_err-sheet : goal.returns-in_err-sheet
 returns-in_err-sheet c =
-    let answer = sheet-refused _ _ c.in_err-sheet.ensures.admits _ _ in
+    let answer = sheet-refused _ _ c.in_err-sheet.ensures _ _ in
     let handed = told answer (search rules) in
     record { fills = handed; slots_after = slots_kept _ _ _ answer refl _; by_index = bytes-restate _ _ _ handed }
 
 pub restate_indexed-requires : goal.restate_indexed-requires
 unfolding slot_count
-restate_indexed-requires c =
-    record { slots_len = search rules; size_table = rw c.in_ok-sheet.ensures.admits.0 c.in_ok-sheet.ensures.sized }
+restate_indexed-requires c = search rules
 
 pub returns : goal.returns
 returns c =
-    let record { fills = answer; slots_after = slots } = rw c.in_ok-sheet.ensures.admits.0 at c.restate_indexed.ensures in
+    let record { fills = answer; slots_after = slots } = rw c.in_ok-sheet.ensures.0 at c.restate_indexed.ensures in
     record { fills = answer; slots_after = slots; by_index = bytes-restate _ _ _ answer }

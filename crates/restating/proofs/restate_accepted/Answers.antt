@@ -6,7 +6,7 @@ use Rattle.restating.proofs.Tests.{tests_refused, tests_no, tests_yes, steps_lef
 use Rattle.restating.proofs.restate_accepted.Goals as goal
 
 pub judge-requires : goal.judge-requires
-judge-requires c = record { has_step = has_record _ c.put_record.ensures; size_table = c.requires }
+judge-requires c = has_record _ c.put_record.ensures
 
 pub returns-in_err-same : goal.returns-in_err-same
 returns-in_err-same c =
@@ -21,9 +21,9 @@ returns-then-not-same c =
 pub write_sheet-requires : goal.write_sheet-requires
 write_sheet-requires c =
     let judged = c.in_ok-same.ensures in
-    steps_left _ _ judged.accepted.root c.put_record.ensures (rw c.if-not-same.false at judged.value)
+    rw c.admitted.ensures.is (steps_left _ _ judged.accepted.root c.put_record.ensures (rw c.if-not-same.false at judged.value))
 
 pub returns : goal.returns
 returns c =
     let judged = c.in_ok-same.ensures in
-    tests_yes _ _ judged.accepted.root c.put_record.ensures (rw c.if-not-same.false at judged.value) _ c.write_sheet.ensures
+    tests_yes _ _ judged.accepted.root c.put_record.ensures (rw c.if-not-same.false at judged.value) _ (rw c.admitted.ensures.is at c.write_sheet.ensures)

@@ -14,7 +14,7 @@ build-requires c =
     let record { is = is; accepted = accepted } = c.vocabulary.ensures in
     rw c.bytes.ensures.is
     record {
-      slots_len = (c.requires.slots_len, vocabulary-within (with_header accepted) is);
+      slots_len = (c.requires, vocabulary-within (with_header accepted) is);
       name_count_bound = few_names (with_header accepted) is;
     }
 
@@ -25,5 +25,5 @@ returns c =
     let record { is = is; accepted = accepted } = c.vocabulary.ensures in
     record {
       fills = told answer written;
-      slots_after = slots-built _ _ _ answer written _ (built (with_header accepted) is (rw c.bytes.ensures.is at c.build.ensures));
+      slots_after = slots-built _ _ _ answer written _ (rw c.admitted-admitted.ensures.is at (built (with_header accepted) is (rw c.bytes.ensures.is at c.build.ensures)));
     }
