@@ -8,7 +8,7 @@ ghost use Rattle.output.specs.Wrote.{Wrote};
 ghost use Rattle.sheet.specs.Header.{header_of, HasHeader};
 ghost use Rattle.located.specs.AfterHeader.{AfterHeader};
 
-use definitions::{Located, Refusal};
+use definitions::{Located, Reason, Refusal};
 use output::sink::put_decimal;
 use output::{Sink, Writer};
 use sheet::{Sheet, step_records};
@@ -19,7 +19,7 @@ use steps::step_at;
 fn names_step(refusal: Refusal) -> bool
     ensures { result ≡ names_step refusal }
 {
-    (9..=15).contains(&refusal.number)
+    (Reason::StepField as u8..=Reason::NoUniversal as u8).contains(&refusal.number)
 }
 
 // The column of a step: 0 where there is no such step, since 0 is no column and a caller in C is handed a number.
@@ -47,7 +47,7 @@ pub fn locate(s: &[u8], refusal: Refusal) -> Located
         let column = column_at(s, refusal.place as usize);
         return Located { refusal, column };
     }
-    Located { refusal, column: 0 }
+    Located::from(refusal)
 }
 
 // ` column K` for a refusal that names a step.

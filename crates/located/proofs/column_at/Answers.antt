@@ -1,6 +1,5 @@
 -- A step that is there has its column among the records; for one that is not, the definition gives 0.
 use mathlib.Core.Path.{◌≡◌, sym}
-use borrow.Author.Rules.{rules}
 use Rattle.steps.specs.StepAt.{step_at}
 use Rattle.sheet.specs.Header.{header_of}
 use Rattle.sheet.proofs.Stages.{stage_accepted, refused_not_accepted}

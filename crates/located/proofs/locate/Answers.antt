@@ -15,4 +15,4 @@ returns-then-names_step c =
 
 pub returns : goal.returns
 unfolding located column_of
-returns c = rw (sym c.names_step.ensures ∙ c.if-names_step.false)
+returns c = rw (sym c.names_step.ensures ∙ c.if-names_step.false) (search rules)
