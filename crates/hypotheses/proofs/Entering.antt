@@ -1,5 +1,5 @@
 -- The scope that hypotheses fill holds for each name its latest hypothesis.
-use Prim.Native.Nat.{ℕ, ◌+◌, ◌<◌}
+use Prim.Native.Nat.{ℕ, ◌<◌}
 use mathlib.Core.Path.{◌≡◌, refl, sym, ◌∙◌}
 use mathlib.Core.Bool.{false, true≢false}
 use Rattle.std.specs.Prelude.{Option, Some}

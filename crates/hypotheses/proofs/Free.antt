@@ -10,24 +10,23 @@ use Rattle.definitions.specs.Tree.{prop_of, root_of}
 use Rattle.definitions.specs.CheckingRules.{Context, bind}
 use Rattle.definitions.specs.Sound.{is_quantifier_free}
 use Rattle.definitions.specs.CheckAnswers.{all_quantifier_free, named_prop, hypothesis_out, assumed}
-use Rattle.definitions.proofs.PrefixCode.{Bytes}
 use Rattle.writer_laws.proofs.Checks.{admitted_checks}
 use Rattle.graft_laws.proofs.MergedSheet.{coded}
 use Rattle.checker_laws.proofs.Checkable.{quantifier_free_same}
 use Rattle.sheet.specs.declared.header.Sheet.{Sheet}
 use Rattle.sheet.specs.Header.{header_of}
-use Rattle.sheet.proofs.Admitted.{AcceptedSheet}
+use Rattle.sheet.specs.Admitted.{Accepted}
 use Rattle.hypotheses.specs.Pairs.{out_of}
 use Rattle.hypotheses.proofs.Walking.{out_is, none_left, Next}
 
--- the code that a proposition's pair marks is its own
-module _ {s : List ℕ} {h : Sheet} (a : AcceptedSheet s h) (bytes : Bytes s) {k : ℕ} (l : k < propositions s) where
+-- the code that a proposition's pair marks is its own, over the names that the header counts
+module _ {s : List ℕ} (a : Accepted s) {k : ℕ} (l : k < propositions s) where
   pub its_code : {code : List ℕ} → code ≡ marked (proposition_pairs s) (code_bytes s) k → code ≡ encode (prop_of s k)
-  its_code e = e ∙ sym (coded s (admitted_checks s (root_of s) a.root).0 bytes k l).0
+  its_code e = e ∙ sym (coded s (admitted_checks s (root_of s) a.root).0 a.bytes k l).0
 
-  pub its_names : Codable h.names (prop_of s k)
+  pub its_names : {h : Sheet} → h ≡ header_of s → Codable h.names (prop_of s k)
   unfolding header_of
-  its_names = rw a.header (coded s (admitted_checks s (root_of s) a.root).0 bytes k l).1
+  its_names is = rw is (coded s (admitted_checks s (root_of s) a.root).0 a.bytes k l).1
 
 -- names do not matter to 22
 pub free_named : (s : List ℕ) (k : ℕ) {r : Bool} → r ≡ is_quantifier_free (prop_of s k) → r ≡ is_quantifier_free (named_prop s k)

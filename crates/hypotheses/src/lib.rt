@@ -6,14 +6,13 @@ ghost use Rattle.std.specs.Prelude.{◌≡◌, false, [], ◌<◌};
 ghost use Rattle.definitions.specs.Sheet.{propositions};
 ghost use Rattle.definitions.specs.Sound.{is_quantifier_free};
 ghost use Rattle.definitions.specs.CheckAnswers.{all_quantifier_free, named_prop, hypothesis_out, assumed};
-ghost use Rattle.sheet.proofs.Admitted.{AcceptedSheet};
 ghost use Rattle.hypotheses.specs.Pairs.{out_of};
 ghost use Rattle.hypotheses.specs.Entered.{entered, Enterable};
 
 use checkable::is_quantifier_free;
 use number::{marked_bytes, pair_offset};
 use prop_numbers::NAMES;
-use sheet::{Sheet, code_bytes, proposition_pairs};
+use sheet::AdmittedSheet;
 
 // The hypotheses are a slice of numbers and no slice of pairs, since so they come in from C.
 
@@ -31,21 +30,21 @@ pub fn is_out(hypotheses: &[u16], names: usize, propositions: usize) -> bool
 
 // Whether a proposition of the sheet has no quantifier and no uninstantiated parameter. Its pair says where its code ends; `is_free_at` of
 // checkable has to find the end.
-pub fn is_free(s: &[u8], h: Sheet, k: usize) -> bool
-    requires { AcceptedSheet s.now h × (k < propositions s.now) }
-    ensures { result ≡ is_quantifier_free (named_prop s.now k) }
+pub fn is_free(sheet: &AdmittedSheet, k: usize) -> bool
+    requires { k < propositions sheet.now }
+    ensures { result ≡ is_quantifier_free (named_prop sheet.now k) }
 {
-    let code = marked_bytes(proposition_pairs(s, h), code_bytes(s, h), k);
-    is_quantifier_free(code, h.names)
+    let code = marked_bytes(sheet.proposition_pairs(), sheet.code_bytes(), k);
+    is_quantifier_free(code, sheet.header().names)
 }
 
 // Whether the proposition of each hypothesis is such a one, also where a later hypothesis hides it: refusal 22.
-pub fn are_free(s: &[u8], h: Sheet, hypotheses: &[u16]) -> bool
-    requires { AcceptedSheet s.now h × (hypothesis_out s.now hypotheses.now ≡ false) }
-    ensures { result ≡ all_quantifier_free (assumed s.now hypotheses.now []) }
+pub fn are_free(sheet: &AdmittedSheet, hypotheses: &[u16]) -> bool
+    requires { hypothesis_out sheet.now hypotheses.now ≡ false }
+    ensures { result ≡ all_quantifier_free (assumed sheet.now hypotheses.now []) }
 {
     for pair in hypotheses.chunks_exact(2) {
-        if !is_free(s, h, pair[1] as usize) {
+        if !is_free(sheet, pair[1] as usize) {
             return false;
         }
     }

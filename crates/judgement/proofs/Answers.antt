@@ -1,7 +1,7 @@
 -- The answer by its refusals: 31, then 22, then what the rules say.
 use Prim.Native.Nat.{ℕ, ◌-◌, ◌≤◌, ◌<◌}
 use mathlib.Core.Path.{◌≡◌, refl, sym, ap, ◌∙◌}
-use mathlib.Core.Bool.{Bool, true, false, ◌||◌, not}
+use mathlib.Core.Bool.{Bool, true, false, ◌||◌}
 use mathlib.Core.List.{List, []}
 use native.Mathlib.Omega.{arith}
 use lib.Dec.{leb}
@@ -13,7 +13,6 @@ use Rattle.definitions.specs.Answers.{sheet_term, named_term}
 use Rattle.definitions.specs.Checker.{Judged, derived, stopped}
 use Rattle.definitions.specs.Sound.{is_quantifier_free}
 use Rattle.definitions.specs.CheckAnswers.{is_checkable, all_quantifier_free, named_prop, hypothesis_out, assumed, judgement, sheet_judgement}
-use Rattle.definitions.proofs.PrefixCode.{Bytes}
 use Rattle.definitions.proofs.Either.{neither}
 use Rattle.checker_laws.proofs.Checkable.{checkable_same}
 use Rattle.checker_laws.proofs.SoundJudgement.{sound_judgement, sound_yes}
@@ -24,7 +23,8 @@ use Rattle.prop_numbers.specs.Standing.{stops}
 use Rattle.checker.specs.Judging.{Checks, yes, node}
 use Rattle.sheet.specs.declared.header.Sheet.{Sheet}
 use Rattle.sheet.specs.Header.{header_of}
-use Rattle.sheet.proofs.Admitted.{AcceptedSheet}
+use Rattle.sheet.specs.Admitted.{Accepted}
+use Rattle.sheet.proofs.Admitted.{with_header}
 use Rattle.hypotheses.specs.Pairs.{out_of}
 use Rattle.hypotheses.proofs.Walking.{out_is}
 use Rattle.sheet_term.specs.Held.{HeldTerm}
@@ -34,53 +34,51 @@ use Rattle.judgement.specs.Asked.{Known, held_term, may_check, ruled}
 use Rattle.judgement.specs.Answered.{judgement_of, Judges}
 use Rattle.judgement.proofs.Asking.{held_named}
 
--- 31
-module _ (n p k : ℕ) (hs : List ℕ) where
-  pub past : p ≤ k → true ≡ (leb p k || out_of n p hs)
-  past l = rw (le-leb p k l)
-
-  pub not-past : k < p → {r : Bool} → r ≡ out_of n p hs → r ≡ (leb p k || out_of n p hs)
-  not-past l e = rw (lt-leb p k l) e
-
-module _ {s : List ℕ} {h : Sheet} (a : AcceptedSheet s h) (k : ℕ) (hs : List ℕ) {out : Bool}
-    (is : out ≡ (leb h.propositions k || out_of h.names h.propositions hs)) where
-  same_test : out ≡ (leb (propositions s) k || hypothesis_out s hs)
+-- 31, by the counts of the header
+module _ (s : List ℕ) {h : Sheet} (header : h ≡ header_of s) (k : ℕ) (hs : List ℕ) where
+  pub past : h.propositions ≤ k → true ≡ (leb (propositions s) k || hypothesis_out s hs)
   unfolding header_of
-  same_test = rw (out_is s hs) (rw a.header at is)
+  past l = rw (le-leb (propositions s) k (rw header at l))
 
+  pub not-past : k < h.propositions → {r : Bool} → r ≡ out_of h.names h.propositions hs → r ≡ (leb (propositions s) k || hypothesis_out s hs)
+  unfolding header_of
+  not-past l e = rw (lt-leb (propositions s) k (rw header at l), out_is s hs) (rw header at e)
+
+module _ (s : List ℕ) (k : ℕ) (hs : List ℕ) {out : Bool} (is : out ≡ (leb (propositions s) k || hypothesis_out s hs)) where
   pub known : out ≡ false → Known s hs k
-  known e = let (low, none) = neither _ _ (sym same_test ∙ e) in record { proposition = leb-false _ _ low; hypotheses = none }
+  known e = let (low, none) = neither _ _ (sym is ∙ e) in record { proposition = leb-false _ _ low; hypotheses = none }
 
   pub refused-31 : out ≡ true → {terms : List ℕ} {n : ℕ} → HeldTerm s terms n
       → Err (record { number = 31; place = 0 }) ≡ judgement_of (judgement s (held_term s terms n) hs k)
   unfolding judgement refuse_if ◌>>=◌ refuse judgement_of
-  refused-31 e t = rw (← same_test, e)
+  refused-31 e t = rw (← is, e)
 
 -- 22
-module _ {s : List ℕ} {h : Sheet} (a : AcceptedSheet s h) (bytes : Bytes s) {terms : List ℕ} {n : ℕ} (t : HeldTerm s terms n) where
+module _ {s : List ℕ} (a : Accepted s) {h : Sheet} (header : h ≡ header_of s) {terms : List ℕ} {n : ℕ} (t : HeldTerm s terms n) where
   pub labels-present : {code : List ℕ} → code ≡ code_bytes s → LabelsPresent h.names code terms n
   unfolding header_of
-  labels-present is = rw (is, a.header) (record { labels = λ m up label other. label_present a bytes ((t.labels m up label).proposition other) })
+  labels-present is = rw (is, header)
+      (record { labels = λ m up label other. label_present (with_header a) a.bytes ((t.labels m up label).proposition other) })
 
   pub term-checkable : {code : List ℕ} {r : Bool} → code ≡ code_bytes s → r ≡ is_checkable (term_at (prop_at h.names code) terms n)
       → r ≡ is_checkable (held_term s terms n)
   unfolding header_of held_term
-  term-checkable is e = rw (is, a.header) at e ∙ sym (checkable_same (name_of s) (term_at (prop_at (names s) (code_bytes s)) terms n))
+  term-checkable is e = rw (is, header) at e ∙ sym (checkable_same (name_of s) (term_at (prop_at (names s) (code_bytes s)) terms n))
 
-  -- the first that the rules do not speak of decides
-  module _ (hs : List ℕ) (k : ℕ) {r : Bool} (is : r ≡ is_checkable (held_term s terms n)) where
-    pub term-not : r ≡ false → false ≡ may_check s terms n hs k
+-- the first that the rules do not speak of decides
+module _ (s terms : List ℕ) (n : ℕ) (hs : List ℕ) (k : ℕ) {r : Bool} (is : r ≡ is_checkable (held_term s terms n)) where
+  pub term-not : r ≡ false → false ≡ may_check s terms n hs k
+  unfolding may_check
+  term-not e = rw (← is, e)
+
+  module _ (also : r ≡ true) {q : Bool} (free : q ≡ is_quantifier_free (named_prop s k)) where
+    pub proposition_not : q ≡ false → false ≡ may_check s terms n hs k
     unfolding may_check
-    term-not e = rw (← is, e)
+    proposition_not e = rw (← is, also, ← free, e)
 
-    module _ (also : r ≡ true) {q : Bool} (free : q ≡ is_quantifier_free (named_prop s k)) where
-      pub proposition_not : q ≡ false → false ≡ may_check s terms n hs k
-      unfolding may_check
-      proposition_not e = rw (← is, also, ← free, e)
-
-      pub hypotheses-decide : q ≡ true → {o : Bool} → o ≡ all_quantifier_free (assumed s hs []) → o ≡ may_check s terms n hs k
-      unfolding may_check
-      hypotheses-decide e all = rw (← is, also, ← free, e) all
+    pub hypotheses-decide : q ≡ true → {o : Bool} → o ≡ all_quantifier_free (assumed s hs []) → o ≡ may_check s terms n hs k
+    unfolding may_check
+    hypotheses-decide e all = rw (← is, also, ← free, e) all
 
 module _ {s hs : List ℕ} {k : ℕ} (known : Known s hs k) {terms : List ℕ} {n : ℕ} (t : HeldTerm s terms n)
     {free : Bool} (is : free ≡ may_check s terms n hs k) where

@@ -20,7 +20,6 @@ use Rattle.definitions.specs.Answers.{named_term}
 use Rattle.definitions.specs.CheckingRules.{lookup}
 use Rattle.definitions.specs.Checker.{check}
 use Rattle.definitions.specs.CheckAnswers.{named_prop, hypothesis_out, assumed}
-use Rattle.definitions.proofs.PrefixCode.{Bytes}
 use Rattle.reading_laws.proofs.SheetLimits.{sheet_limited}
 use Rattle.prefix_code.specs.PropAt.{prop_at}
 use Rattle.prefix_code.specs.Scan.{Stands}
@@ -37,8 +36,8 @@ use Rattle.prop_numbers.specs.Standing.{node_limit, name_space, Stood}
 use Rattle.checker.specs.Scope.{Entries, Scoped, entry_prop}
 use Rattle.checker.specs.Asking.{label_prop, term_of, Well, Judgeable}
 use Rattle.checker.specs.Judging.{Decides, Checks, Checked}
-use Rattle.sheet.specs.declared.header.Sheet.{Sheet}
-use Rattle.sheet.proofs.Admitted.{AcceptedSheet, has_codes}
+use Rattle.sheet.specs.Admitted.{Accepted}
+use Rattle.sheet.proofs.Admitted.{with_header, has_codes}
 use Rattle.hypotheses.specs.Pairs.{out_of}
 use Rattle.hypotheses.specs.Entered.{entered, Enterable}
 use Rattle.hypotheses.proofs.Walking.{out_is}
@@ -60,7 +59,7 @@ pub record InScope (s hs code : List ℕ) (scope : List (Option ℕ)) (f : ℕ �
   pub scoped : Scoped f code scope (assumed s hs [])
 
 -- Of an accepted sheet, the numbers of its names, its code over them, and the hypotheses, none of which is out:
-module _ {s : List ℕ} {h : Sheet} (a : AcceptedSheet s h) (bytes : Bytes s) {numbers : List ℕ} (l : LowestNumbers s numbers)
+module _ {s : List ℕ} (a : Accepted s) {numbers : List ℕ} (l : LowestNumbers s numbers)
     (hs : List ℕ) (known : hypothesis_out s hs ≡ false) where
   inside : out_of (length numbers) (propositions s) hs ≡ false
   inside = rw l.long (sym (out_is s hs) ∙ known)
@@ -76,13 +75,13 @@ module _ {s : List ℕ} {h : Sheet} (a : AcceptedSheet s h) (bytes : Bytes s) {n
       inside = inside;
       low = low;
       present = (has_codes a.sheet).pairs_within.present;
-      stand = λ p below. (prop_stood a bytes l c p below).low;
+      stand = λ p below. (prop_stood a l c p below).low;
       space = space;
     })
 
     -- and the scope that was empty holds them
     none_yet : Assumed s numbers (proposition_pairs s) code (propositions s) l.naming l.apart low (λ x below. l.named x (omega (arith, l.long)))
-        (prop_stood a bytes l c) (prop_named a bytes l c) [] (replicate name_space None) []
+        (prop_stood a l c) (prop_named a l c) [] (replicate name_space None) []
     unfolding Scoped lookup entry_prop
     none_yet = record {
       entries = record {
@@ -96,12 +95,12 @@ module _ {s : List ℕ} {h : Sheet} (a : AcceptedSheet s h) (bytes : Bytes s) {n
         → InScope s hs code scope l.naming
     in_scope {scope = scope} is empty e =
         let all = scope_assumed s numbers (proposition_pairs s) code (propositions s) l.naming l.apart low (λ x below. l.named x (omega (arith, l.long)))
-        (prop_stood a bytes l c) (prop_named a bytes l c) hs (replicate name_space None) [] inside none_yet in
+        (prop_stood a l c) (prop_named a l c) hs (replicate name_space None) [] inside none_yet in
         let so : scope ≡ entered numbers (proposition_pairs s) hs (replicate name_space None) = cc in
         rw so (record { entries = all.entries; scoped = all.scoped })
 
 -- Of the term that is held, over the numbers:
-module _ {s : List ℕ} {h : Sheet} (a : AcceptedSheet s h) (bytes : Bytes s) {numbers : List ℕ} (l : LowestNumbers s numbers)
+module _ {s : List ℕ} (a : Accepted s) {numbers : List ℕ} (l : LowestNumbers s numbers)
     {code : List ℕ} (c : CodeStands (names s) (proposition_pairs s) (code_bytes s) (propositions s) numbers code)
     {terms : List ℕ} {n : ℕ} (t : HeldTerm s terms n) {after : List ℕ} (r : RecordsOver (mapped numbers) terms n after) where
   -- every number that the map has is one of the space
@@ -116,20 +115,20 @@ module _ {s : List ℕ} {h : Sheet} (a : AcceptedSheet s h) (bytes : Bytes s) {n
       let same = same_label (mapped numbers) r m up label in
       let no_datatype : (field_at terms m 3 ≡ 2 → ⊥) = λ e. other (same.kind ∙ e) in
       let number : 1 * field_at after m 4 ≡ field_at terms m 4 = omega (arith, same.number no_datatype) in
-      rw number (label_stood a bytes l c ((t.labels m up same.labelled).proposition no_datatype))
+      rw number (label_stood a l c ((t.labels m up same.labelled).proposition no_datatype))
 
   -- with names as bytes it is the sheet's term
   label_is : (m : ℕ) → m ≤ n → LabelOver (mapped numbers) (prop_at (names s) (code_bytes s)) (label_prop code 1) terms m
   label_is m up = record {
     is = λ label other.
         let once : 1 * field_at terms m 4 ≡ field_at terms m 4 = omega arith in
-        rw once (label_over a bytes l c ((t.labels m up label).proposition other)).is;
+        rw once (label_over a l c ((t.labels m up label).proposition other)).is;
   }
 
   coded : Coded (names s) (term_labels (term_at (prop_at (names s) (code_bytes s)) terms n))
   unfolding Stands
   coded = term_coded (names s) (prop_at (names s) (code_bytes s)) terms t.in_order
-      (λ m up label other. (label_present a bytes ((t.labels m up label).proposition other)).stands.0)
+      (λ m up label other. (label_present (with_header a) a.bytes ((t.labels m up label).proposition other)).stands.0)
 
   is_held : rename_term l.naming (term_of code 1 after n) ≡ held_term s terms n
   unfolding held_term mapped
@@ -141,7 +140,7 @@ module _ {s : List ℕ} {h : Sheet} (a : AcceptedSheet s h) (bytes : Bytes s) {n
   unfolding limits.node_limit
   few_nodes =
       let same = nodes_same l.naming (term_of code 1 after n) in
-      let few = (sheet_limited s bytes (held_term s terms n) (held_named t)).0.few_nodes in
+      let few = (sheet_limited s a.bytes (held_term s terms n) (held_named t)).0.few_nodes in
       omega (arith, same, few, ap nodes is_held)
 
   -- With the node counts in the records:
@@ -197,5 +196,5 @@ module _ {s : List ℕ} {h : Sheet} (a : AcceptedSheet s h) (bytes : Bytes s) {n
         let means = checked.answer.means l.naming (assumed s hs []) l.apart i.scoped in
         let held = ap (rename_term l.naming) same_term ∙ is_held in
         let says : check (held_term s terms n) (assumed s hs []) 0 (named_prop s k) ≡ checked.answer.outcome =
-        rw (← held, ← (prop_named a bytes l c k below), ← is) means in
+        rw (← held, ← (prop_named a l c k below), ← is) means in
         rw says checked.answer.shown

@@ -14,7 +14,7 @@ use Rattle.merged_names.proofs.Naming.{naming, number_named, named_apart}
 use Rattle.prop_numbers.specs.Standing.{Distinct}
 use Rattle.sheet.specs.declared.header.Sheet.{Sheet}
 use Rattle.sheet.specs.Header.{header_of}
-use Rattle.sheet.proofs.Admitted.{AcceptedSheet}
+use Rattle.sheet.specs.Admitted.{Accepted}
 use Rattle.judgement.specs.Asked.{LowestNumbers}
 
 -- no name of bytes is one number past all bytes
@@ -25,12 +25,12 @@ no_such_name s bytes x y l e =
     let first = part_bytes (pair_length (name_pairs s) x) (pair_offset (name_pairs s) x) (text_bytes s) text 0 in
     omega (arith, first, ap (λ (m : List ℕ). get_or m 0 0) e)
 
-pub lowest_numbers : {s : List ℕ} {h : Sheet} → AcceptedSheet s h → Bytes s → {numbers first : List ℕ} → Numbered s s (names s) numbers
+pub lowest_numbers : {s : List ℕ} → Accepted s → {h : Sheet} → h ≡ header_of s → {numbers first : List ℕ} → Numbered s s (names s) numbers
     → first ≡ take h.names numbers → LowestNumbers s first
 unfolding Distinct header_of name_limit
-lowest_numbers {s} {h} a bytes {numbers} {first} filled is =
-    let apart = no_such_name s bytes in
-    let cut : first ≡ take (names s) numbers = rw a.header at is in
+lowest_numbers {s} a header {numbers} {first} filled is =
+    let apart = no_such_name s a.bytes in
+    let cut : first ≡ take (names s) numbers = rw header at is in
     let room : names s ≤ length numbers = omega (arith, filled.room, a.sheet.in_range.names) in
     let same : (x : ℕ) → x < names s → get_or (take (names s) numbers) x 0 ≡ get_or numbers x 0 = λ x l. get_or-take (names s) numbers x 0 l in
     rw cut (record {

@@ -14,7 +14,6 @@ use Rattle.definitions.specs.Sheet.{name_of, names, propositions, proposition_pa
 use Rattle.definitions.specs.Tree.{prop_of}
 use Rattle.definitions.specs.Admission.{bad_code}
 use Rattle.definitions.specs.CheckAnswers.{named_prop}
-use Rattle.definitions.proofs.PrefixCode.{Bytes}
 use Rattle.graft_laws.proofs.MergedSheet.{rename_twice}
 use Rattle.prefix_code.specs.PropAt.{prop_at}
 use Rattle.prefix_code.specs.Scan.{Stands}
@@ -29,14 +28,15 @@ use Rattle.checker.specs.Asking.{Ends}
 use Rattle.sheet.specs.declared.header.Sheet.{Sheet}
 use Rattle.sheet.specs.Header.{header_of}
 use Rattle.sheet.proofs.Slices.{lengths}
-use Rattle.sheet.proofs.Admitted.{AcceptedSheet, code_of_bytes, has_codes}
+use Rattle.sheet.specs.Admitted.{Accepted}
+use Rattle.sheet.proofs.Admitted.{code_of_bytes, has_codes, with_header}
 use Rattle.equal_conclusions.proofs.Codes.{codable, whole_code}
 use Rattle.hypotheses.proofs.Free.{its_code}
 use Rattle.sheet_term.specs.Held.{LabelStands}
 use Rattle.judgement.specs.Asked.{LowestNumbers}
 
 -- Of an accepted sheet:
-module _ {s : List ℕ} {h : Sheet} (a : AcceptedSheet s h) where
+module _ {s : List ℕ} (a : Accepted s) where
   pub few_names : names s ≤ 512
   unfolding header_of name_limit
   few_names = a.sheet.in_range.names
@@ -50,14 +50,14 @@ module _ {s : List ℕ} {h : Sheet} (a : AcceptedSheet s h) where
       (λ g. let same : i ≡ k = omega arith in rw same (a.sheet.proposition_pair (suc k) m).sorted)
 
   -- its propositions can be written over other numbers
-  pub codes : Bytes s → {pairs code numbers out : List ℕ} → pairs ≡ proposition_pairs s → code ≡ code_bytes s → names s ≤ length numbers
+  pub codes : {h : Sheet} → h ≡ header_of s → {pairs code numbers out : List ℕ} → pairs ≡ proposition_pairs s → code ≡ code_bytes s → names s ≤ length numbers
       → length out ≡ code_space + 2 → Codes h.names pairs code h.propositions numbers out
   unfolding header_of code_limit
-  codes bytes is-pairs is_code room long =
+  codes is is-pairs is_code room long =
       let within = (has_codes a.sheet).pairs_within in
-      rw (is-pairs, is_code, a.header) (record {
+      rw (is-pairs, is_code, is) (record {
         present = within.present;
-        whole = λ k l. rw a.header at (whole_code a bytes k l refl);
+        whole = λ k l. whole_code (with_header a) a.bytes k l refl;
         ends = within.ends;
         sorted = apart;
         low = omega (arith, (lengths s a.sheet.whole).code_bytes, a.sheet.in_range.code);
@@ -65,11 +65,11 @@ module _ {s : List ℕ} {h : Sheet} (a : AcceptedSheet s h) where
         room = long;
       })
 
-  pub stands_so : {pairs code numbers after : List ℕ} → pairs ≡ proposition_pairs s → code ≡ code_bytes s
+  pub stands_so : {h : Sheet} → h ≡ header_of s → {pairs code numbers after : List ℕ} → pairs ≡ proposition_pairs s → code ≡ code_bytes s
       → CodeStands h.names pairs code h.propositions numbers after
       → CodeStands (names s) (proposition_pairs s) (code_bytes s) (propositions s) numbers after
   unfolding header_of
-  stands_so is-pairs is_code c = rw (is-pairs, is_code, a.header) at c
+  stands_so is is-pairs is_code c = rw (is-pairs, is_code, is) at c
 
 -- ⊤ and ⊥ stand behind all code
 pub ends : {n : ℕ} {pairs code : List ℕ} {count : ℕ} {numbers after : List ℕ} → CodeStands n pairs code count numbers after → Ends after
@@ -89,14 +89,14 @@ ends {after = after} c =
     }
 
 -- Of its code over the numbers of its names:
-module _ {s : List ℕ} {h : Sheet} (a : AcceptedSheet s h) (bytes : Bytes s) {numbers : List ℕ} (l : LowestNumbers s numbers)
+module _ {s : List ℕ} (a : Accepted s) {numbers : List ℕ} (l : LowestNumbers s numbers)
     {code : List ℕ} (c : CodeStands (names s) (proposition_pairs s) (code_bytes s) (propositions s) numbers code) where
   low : (x : ℕ) → x < names s → mapped numbers x < name_space
   unfolding mapped
   low x below = omega (arith, l.below x below, few_names a)
 
   prop_over : (k : ℕ) → k < propositions s → Over name_space code (pair_offset (proposition_pairs s) k) (rename_prop (mapped numbers) (prop_of s k))
-  prop_over k below = whole_over c name_space low below (prop_of s k) (codable a bytes k below) (its_code a bytes below refl)
+  prop_over k below = whole_over c name_space low below (prop_of s k) (codable (with_header a) a.bytes k below) (its_code a below refl)
 
   stood : {at : ℕ} {q : Prop ℕ} → Over name_space code at q → Stood code at
   stood o = record { low = omega (arith, (inside o.there).start, c.long); there = o.there }
@@ -113,7 +113,7 @@ module _ {s : List ℕ} {h : Sheet} (a : AcceptedSheet s h) (bytes : Bytes s) {n
   unfolding named_prop mapped
   prop_named k below =
       ap (rename_prop l.naming) (prop_over k below).is
-      ∙ rename_twice (names s) l.naming (mapped numbers) (name_of s) l.named (prop_of s k) (codable a bytes k below)
+      ∙ rename_twice (names s) l.naming (mapped numbers) (name_of s) l.named (prop_of s k) (codable (with_header a) a.bytes k below)
 
   -- so does each label, over the numbers: a whole proposition, or the left side of one
   module _ (k : ℕ) (below : k < propositions s) where
@@ -125,7 +125,7 @@ module _ {s : List ℕ} {h : Sheet} (a : AcceptedSheet s h) (bytes : Bytes s) {n
 
     is_there : prop_of s k ≡ prop_at (names s) (code_bytes s) whole
     unfolding bad_code prop_of
-    is_there = prop_in_lem (names s) (proposition_pairs s) (code_bytes s) k (code_of_bytes s bytes) decoded
+    is_there = prop_in_lem (names s) (proposition_pairs s) (code_bytes s) k (code_of_bytes s a.bytes) decoded
 
     whole_label : Over name_space code whole (rename_prop (mapped numbers) (prop_at (names s) (code_bytes s) whole))
     whole_label = subst (λ (p : Prop ℕ). Over name_space code whole (rename_prop (mapped numbers) p)) is_there (prop_over k below)
@@ -133,11 +133,11 @@ module _ {s : List ℕ} {h : Sheet} (a : AcceptedSheet s h) (bytes : Bytes s) {n
     left_label : {offset : ℕ} → ImplicationAt (code_bytes s) whole offset → Over name_space code offset (rename_prop (mapped numbers) (prop_at (names s) (code_bytes s) offset))
     unfolding bad_code
     left_label (byte, after) =
-        let there = present_in (names s) (proposition_pairs s) (code_bytes s) k (code_of_bytes s bytes) decoded in
+        let there = present_in (names s) (proposition_pairs s) (code_bytes s) k (code_of_bytes s a.bytes) decoded in
         let b = binary_at (names s) (code_bytes s) whole there.rest _ there.stands (omega arith) (omega arith) in
         let side = prop_at_lem (names s) (code_bytes s) (whole + 1) b.left _ b.left_at in
         rw (after, side)
-        (left_over c name_space low below (prop_of s k) (codable a bytes k below) (its_code a bytes below refl)
+        (left_over c name_space low below (prop_of s k) (codable (with_header a) a.bytes k below) (its_code a below refl)
         b.connective b.left b.right (is_there ∙ b.is))
 
   pub label_over : {offset : ℕ} → LabelStands s offset → Over name_space code offset (rename_prop (mapped numbers) (prop_at (names s) (code_bytes s) offset))

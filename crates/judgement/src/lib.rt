@@ -6,12 +6,10 @@ ghost use Rattle.std.specs.Prelude.{◌≡◌, ◌||◌, ◌+◌, ◌≤◌, len
 ghost use Rattle.definitions.specs.Outcome.{accepted};
 ghost use Rattle.definitions.specs.Sheet.{name_limit, names, propositions, proposition_pairs, code_bytes};
 ghost use Rattle.definitions.specs.Checker.{Judged};
-ghost use Rattle.definitions.specs.CheckAnswers.{judgement};
+ghost use Rattle.definitions.specs.CheckAnswers.{hypothesis_out, judgement};
 ghost use Rattle.merged_names.specs.Numbered.{Numbered};
 ghost use Rattle.standing_code.specs.Over.{code_space, CodeStands};
 ghost use Rattle.checker.specs.Judging.{Checks};
-ghost use Rattle.hypotheses.specs.Pairs.{out_of};
-ghost use Rattle.sheet.proofs.Admitted.{AcceptedSheet};
 ghost use Rattle.sheet_term.specs.Held.{HeldTerm};
 ghost use Rattle.judgement.specs.Answered.{judgement_of, Decided, Judges};
 ghost use Rattle.judgement.specs.Asked.{Known, held_term, may_check, ruled, LowestNumbers};
@@ -25,7 +23,7 @@ use name_index::{Index, SLOT_COUNT, build};
 use number::pair_offset;
 use proof_term::NODE_LIMIT;
 use prop_numbers::{Made, NAMES, STOPS};
-use sheet::{Sheet, code_bytes, proposition_pairs, vocabulary};
+use sheet::{AdmittedSheet, Sheet};
 use sheet_term::{TERM_NUMBERS, sheet_term};
 use standing_code::{CODE_SIZE, put_code};
 use term_renumbering::renumber_records;
@@ -33,11 +31,12 @@ use term_sizes::fill_sizes;
 
 // Stores for each name the lowest number with its bytes. A graft numbers the names of two sheets over two indexes; here one index is
 // both.
-fn number_names(s: &[u8], h: Sheet, numbers: &mut [u16])
-    requires { AcceptedSheet s.now h × (name_limit ≤ length numbers.old) }
-    ensures { Numbered s.now s.now (names s.now) numbers.new }
+fn number_names(sheet: &AdmittedSheet, numbers: &mut [u16])
+    requires { name_limit ≤ length numbers.old }
+    ensures { Numbered sheet.now sheet.now (names sheet.now) numbers.new }
 {
-    let v = vocabulary(h);
+    let s = sheet.bytes();
+    let v = sheet.vocabulary();
     let mut slots = [0u16; SLOT_COUNT];
     build(&mut slots, s, v);
     let index = Index {
@@ -49,43 +48,45 @@ fn number_names(s: &[u8], h: Sheet, numbers: &mut [u16])
 }
 
 // 31: the proposition or a hypothesis is not the sheet's.
-fn is_outside(h: Sheet, hypotheses: &[u16], k: usize) -> bool
-    ensures { result ≡ (leb h.propositions k || out_of h.names h.propositions hypotheses.now) }
+fn is_outside(sheet: &AdmittedSheet, hypotheses: &[u16], k: usize) -> bool
+    ensures { result ≡ (leb (propositions sheet.now) k || hypothesis_out sheet.now hypotheses.now) }
 {
+    let h = sheet.header();
     if h.propositions <= k {
         return true;
     }
     is_out(hypotheses, h.names, h.propositions)
 }
 
-// The question is two parameters, the hypotheses and k, and no struct: of a struct each clause would say `question.hypotheses.now` and
-// `question.k` for `hypotheses.now` and `k`.
+// The question is two parameters, the hypotheses and k, and no struct: what is known of it, `Known`, is asked by two functions alone, and
+// each clause would say `question.now.hypotheses.now` and `question.now.k` for `hypotheses.now` and `k`.
 
 // 22 of the term, the proposition and the hypotheses: whether the rules speak of them.
-fn may_check(s: &[u8], h: Sheet, terms: &[u16], n: usize, hypotheses: &[u16], k: usize) -> bool
-    requires accepted_sheet { AcceptedSheet s.now h × HeldTerm s.now terms.now n }
-    requires known { Known s.now hypotheses.now k }
-    ensures { result ≡ may_check s.now terms.now n hypotheses.now k }
+fn may_check(sheet: &AdmittedSheet, terms: &[u16], n: usize, hypotheses: &[u16], k: usize) -> bool
+    requires held_term { HeldTerm sheet.now terms.now n }
+    requires known { Known sheet.now hypotheses.now k }
+    ensures { result ≡ may_check sheet.now terms.now n hypotheses.now k }
 {
-    if !is_checkable(terms, n, code_bytes(s, h), h.names) {
+    if !is_checkable(terms, n, sheet.code_bytes(), sheet.header().names) {
         return false;
     }
-    if !is_free(s, h, k) {
+    if !is_free(sheet, k) {
         return false;
     }
-    are_free(s, h, hypotheses)
+    are_free(sheet, hypotheses)
 }
 
 // The sheet's propositions over the numbers, each where it stands, and then ⊤ and ⊥.
-fn stand(s: &[u8], h: Sheet, numbers: &[u16], code: &mut [u8])
-    requires accepted_sheet { AcceptedSheet s.now h × (names s.now ≤ length numbers.now) }
+fn stand(sheet: &AdmittedSheet, numbers: &[u16], code: &mut [u8])
+    requires room { names sheet.now ≤ length numbers.now }
     requires code_len { length code.old ≡ code_space + 2 }
-    ensures { CodeStands (names s.now) (proposition_pairs s.now) (code_bytes s.now)
-        (propositions s.now) numbers.now code.new }
+    ensures { CodeStands (names sheet.now) (proposition_pairs sheet.now) (code_bytes sheet.now)
+        (propositions sheet.now) numbers.now code.new }
 {
+    let h = sheet.header();
     put_code(
-        proposition_pairs(s, h),
-        code_bytes(s, h),
+        sheet.proposition_pairs(),
+        sheet.code_bytes(),
         h.propositions,
         h.names,
         numbers,
@@ -106,21 +107,21 @@ fn stopping_node(r: usize) -> Option<usize>
 
 // What the rules say: the node at which they stop, or none where they derive the judgement.
 fn decide(
-    s: &[u8],
-    h: Sheet,
+    sheet: &AdmittedSheet,
     terms: &mut [u16; TERM_NUMBERS],
     n: usize,
     hypotheses: &[u16],
     k: usize,
     numbers: &[u16],
 ) -> Option<usize>
-    requires accepted_sheet { AcceptedSheet s.now h × HeldTerm s.now terms.old n × LowestNumbers s.now numbers.now }
-    requires known { Known s.now hypotheses.now k }
-    ensures { Ok result ≡ judgement_of (accepted (ruled s.now terms.old n hypotheses.now k)) }
+    requires held_term { HeldTerm sheet.now terms.old n }
+    requires lowest { LowestNumbers sheet.now numbers.now }
+    requires known { Known sheet.now hypotheses.now k }
+    ensures { Ok result ≡ judgement_of (accepted (ruled sheet.now terms.old n hypotheses.now k)) }
 {
-    let pairs = proposition_pairs(s, h);
+    let pairs = sheet.proposition_pairs();
     let mut code = [0u8; CODE_SIZE];
-    stand(s, h, numbers, &mut code);
+    stand(sheet, numbers, &mut code);
     renumber_records(terms, n, numbers);
     fill_sizes(terms, n);
     let mut scope: [Option<u32>; NAMES] = [None; NAMES];
@@ -133,26 +134,26 @@ fn decide(
 
 // 31, 22 and the answer, of the term that is held.
 fn judge_held(
-    s: &[u8],
-    h: Sheet,
+    sheet: &AdmittedSheet,
     terms: &mut [u16; TERM_NUMBERS],
     n: usize,
     hypotheses: &[u16],
     k: usize,
 ) -> Result<Option<usize>, Refusal>
-    requires { AcceptedSheet s.now h × HeldTerm s.now terms.old n }
-    ensures { result ≡ judgement_of (judgement s.now (held_term s.now terms.old n)
+    requires { HeldTerm sheet.now terms.old n }
+    ensures { result ≡ judgement_of (judgement sheet.now (held_term sheet.now terms.old n)
         hypotheses.now k) }
 {
-    if is_outside(h, hypotheses, k) {
+    if is_outside(sheet, hypotheses, k) {
         return Err(Reason::JudgedNumber.at(0));
     }
-    if !may_check(s, h, terms, n, hypotheses, k) {
+    if !may_check(sheet, terms, n, hypotheses, k) {
         return Err(Reason::Uncheckable.at(0));
     }
     let mut numbers = [0u16; Sheet::NAME_LIMIT];
-    number_names(s, h, &mut numbers);
-    Ok(decide(s, h, terms, n, hypotheses, k, &numbers[..h.names]))
+    number_names(sheet, &mut numbers);
+    let names = sheet.header().names;
+    Ok(decide(sheet, terms, n, hypotheses, k, &numbers[..names]))
 }
 
 // The judgement that the sheet's own term checks against its proposition k, from hypotheses given as a name's number and a
@@ -162,6 +163,6 @@ pub fn judge(s: &[u8], hypotheses: &[u16], k: usize) -> Result<Option<usize>, Re
     ensures { Judges s.now hypotheses.now k result }
 {
     let mut terms = [0u16; TERM_NUMBERS];
-    let (h, n) = sheet_term(s, &mut terms)?;
-    judge_held(s, h, &mut terms, n, hypotheses, k)
+    let (sheet, n) = sheet_term(s, &mut terms)?;
+    judge_held(&sheet, &mut terms, n, hypotheses, k)
 }

@@ -28,10 +28,10 @@ use Rattle.proof_term_lists.specs.Labels.{term_uses, record_adds, added_uses, Ad
 use Rattle.proof_term_lists.specs.Numbers.{list_numbers}
 use Rattle.proof_term_lists.proofs.Labels.{uses_below, uses_none, uses_more, uses_all, added_stands}
 use Rattle.proof_term_lists.proofs.Numbers.{numbers_are}
-use Rattle.sheet.specs.declared.header.Sheet.{Sheet}
-use Rattle.sheet.specs.Header.{vocabulary_of}
-use Rattle.sheet.proofs.Admitted.{AcceptedSheet, its_header}
+use Rattle.sheet.specs.Admitted.{Accepted}
+use Rattle.sheet.proofs.Admitted.{has_header}
 use Rattle.sheet_term.specs.Held.{HeldTerm}
+use Rattle.text.specs.Declaring.{sheet_vocabulary}
 use Rattle.text.proofs.Labels.{props_are}
 
 -- a proposition has no more entries than its code has bytes
@@ -117,12 +117,12 @@ module _ (list : TermList) (s : List ℕ) where
   refusal_told e = rw e
 
   -- all numbers of the term's list are counted
-  pub length_told : {h : Sheet} → AcceptedSheet s h → {words : Vocabulary} → words ≡ vocabulary_of h → {terms : List ℕ} {n : ℕ} → HeldTerm s terms n
+  pub length_told : Accepted s → {words : Vocabulary} → words ≡ sheet_vocabulary s → {terms : List ℕ} {n : ℕ} → HeldTerm s terms n
       → length (list_numbers list (term_in s words terms n)) < 2 ^ 63 → {a b : Counter} → a.count ≡ 0 → CounterPuts a (list_numbers list (term_in s words terms n)) b
       → Ok b.count ≡ written_of (map_outcome (list_numbers list) (sheet_term s))
   unfolding map_outcome written_of
   length_told sheet {words} same {terms} {n} term short {b = b} none counts =
       let t : ProofTerm ℕ = term_in s words terms n in
-      let is : sheet_term s ≡ accepted t = rw (props_are (its_header sheet) same) term.is_term in
+      let is : sheet_term s ≡ accepted t = rw (props_are (has_header sheet.sheet) same) term.is_term in
       let long : b.count ≡ length (list_numbers list t) = omega (arith, counts.counted) in
       rw (is, long)

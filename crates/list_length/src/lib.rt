@@ -10,7 +10,6 @@ ghost use Rattle.proof_term_lists.specs.Numbers.{list_numbers};
 use definitions::{Refusal, TermList};
 use output::Counter;
 use proof_term_lists::put_term_list;
-use sheet::vocabulary;
 use sheet_term::{TERM_NUMBERS, sheet_term};
 
 // How many numbers a list of a sheet's term has, or the refusal of the term, for every sequence of bytes.
@@ -18,8 +17,8 @@ pub fn list_length(s: &[u8], list: TermList) -> Result<usize, Refusal>
     ensures { result ≡ written_of (map_outcome (list_numbers list) (sheet_term s.now)) }
 {
     let mut terms = [0u16; TERM_NUMBERS];
-    let (h, n) = sheet_term(s, &mut terms)?;
+    let (sheet, n) = sheet_term(s, &mut terms)?;
     let mut length = Counter { count: 0 };
-    put_term_list(&mut length, list, s, vocabulary(h), &terms, n);
+    put_term_list(&mut length, list, s, sheet.vocabulary(), &terms, n);
     Ok(length.count)
 }

@@ -6,7 +6,6 @@ ghost use Rattle.definitions.specs.Name.{Name};
 ghost use Rattle.definitions.specs.Prop.{Prop};
 ghost use Rattle.definitions.specs.Term.{ProofTerm, rename_term};
 ghost use Rattle.definitions.specs.Display.{form};
-ghost use Rattle.output.specs.Wrote.{Wrote};
 ghost use Rattle.proof_term.specs.Records.{record_size, field_at, record_term};
 ghost use Rattle.proof_term.specs.Forms.{as_form};
 ghost use Rattle.proof_term.specs.Views.{kind_number};
@@ -17,7 +16,7 @@ ghost use Rattle.proof_term_display.specs.Printable.{PrintableTerm, PrintableLab
 ghost use Rattle.proof_term_display.specs.Item.{LabelReady, ItemReady, record_item};
 
 use definitions::Style;
-use output::{Counter, Sink, Writer};
+use output::Sink;
 use proof_term::{Form, KINDS, Kind, Label, field, kind_at, label_at, parameter_at};
 use prop::put_proposition;
 use vocabulary::{Vocabulary, name};
@@ -392,30 +391,4 @@ pub fn put_term<S: Sink<u8>>(
         style,
     };
     put_node(sink, &formats, records, n, bytes, ends, p);
-}
-
-// The term of record `n`, in lent memory by a position and a flag.
-pub fn print_term(
-    out: &mut [u8],
-    to: usize,
-    records: &[u16],
-    n: usize,
-    bytes: &[u8],
-    v: Vocabulary,
-    ends: &[u16],
-    style: Style,
-    write: bool,
-) -> usize
-    requires { PrintableTerm records.now n bytes.now v ends.now }
-    ensures { Wrote (term_text style bytes.now v records.now n)
-        write out.old to out.new result }
-{
-    if write {
-        let mut writer = Writer { out, to };
-        put_term(&mut writer, records, n, bytes, v, ends, style);
-        return writer.to;
-    }
-    let mut counter = Counter { count: to };
-    put_term(&mut counter, records, n, bytes, v, ends, style);
-    counter.count
 }

@@ -3,14 +3,13 @@
 #![tactic(auto)]
 
 ghost use Rattle.std.specs.Prelude.{◌≡◌, ◌+◌, ◌*◌, ◌≤◌, length};
-ghost use Rattle.output.specs.Wrote.{Wrote};
 ghost use Rattle.proof_term.specs.Records.{record_size};
 ghost use Rattle.prop_lists.specs.Entries.{entry_numbers};
 ghost use Rattle.proof_term_lists.specs.Labels.{is_listed, record_adds, added_uses, AddedStands, Listable, term_in};
 ghost use Rattle.proof_term_lists.specs.Numbers.{list_numbers};
 
 use definitions::{TermList, Version};
-use output::{Counter, Sink, Writer};
+use output::Sink;
 use proof_term::{Label, node_at};
 use prop_lists::{put_entries, put_entry};
 use vocabulary::Vocabulary;
@@ -74,29 +73,4 @@ pub fn put_term_list<S: Sink<u16>>(
         let added = record_adds(term_records, m, list);
         put_added(sink, list, bytes, v, added);
     }
-}
-
-// The same in lent memory, by a position and a flag.
-pub fn put_list(
-    term_records: &[u16],
-    n: usize,
-    list: TermList,
-    bytes: &[u8],
-    v: Vocabulary,
-    out: &mut [u16],
-    to: usize,
-    write: bool,
-) -> usize
-    requires { Listable bytes.now v term_records.now n }
-    ensures { Wrote (list_numbers list (term_in bytes.now v term_records.now n))
-        write out.old to out.new result }
-{
-    if write {
-        let mut writer = Writer { out, to };
-        put_term_list(&mut writer, list, bytes, v, term_records, n);
-        return writer.to;
-    }
-    let mut counter = Counter { count: to };
-    put_term_list(&mut counter, list, bytes, v, term_records, n);
-    counter.count
 }

@@ -34,7 +34,7 @@ use Rattle.proof_tree.specs.Exporting.{LabelOffset, StepExported}
 use Rattle.proof_tree.proofs.Labels.{has_proposition}
 use Rattle.proof_tree.proofs.ExportedNames.{exported_names}
 use Rattle.proof_tree.proofs.Walking.{term_of, refusal_of, size_within}
-use Rattle.sheet_term.specs.Held.{LabelStands, HeldTerm, Gives, holds}
+use Rattle.sheet_term.specs.Held.{LabelStands, HeldTerm}
 
 -- what is no sheet has no term
 pub not_a_sheet : (s : List ℕ) {r : Refusal} → admitted s ≡ refused r → sheet_term s ≡ refused r
@@ -86,7 +86,7 @@ module _ {s : List ℕ} {h : Sheet} (a : AcceptedSheet s h) where
     -- Of the walk's answer at the last step:
     module _ {before after : List ℕ} {r : Result ℕ Refusal} (room : length after ≡ 2 * record_size * step_limit)
         (walked : StepExported h.names (proposition_pairs s) (code_bytes s) (step_records s) (h.steps - 1) checking before 0 after r) where
-      held : {next : ℕ} → r ≡ Ok next → HeldTerm s after (next - 1)
+      pub held : {next : ℕ} → r ≡ Ok next → HeldTerm s after (next - 1)
       unfolding header_of step_limit
       held {next} e =
           let t = term_of (rw a.header at walked) e in
@@ -108,9 +108,6 @@ module _ {s : List ℕ} {h : Sheet} (a : AcceptedSheet s h) where
             };
           }
 
-      pub gives_term : {next : ℕ} → r ≡ Ok next → Gives s after (Ok (h, next - 1))
-      gives_term {next} e = holds {h = h} {n = next - 1} a (held e)
-
-      pub gives_refusal : {x : Refusal} → r ≡ Err x → sheet_term s ≡ refused x
+      pub is_refused : {x : Refusal} → r ≡ Err x → sheet_term s ≡ refused x
       unfolding header_of
-      gives_refusal {x} e = root_outcome ∙ refusal_of (rw a.header at walked) e
+      is_refused {x} e = root_outcome ∙ refusal_of (rw a.header at walked) e

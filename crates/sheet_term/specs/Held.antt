@@ -10,8 +10,7 @@ use Rattle.proof_term.specs.Records.{record_size, term_at}
 use Rattle.proof_term.specs.Labels.{InOrder, LabelsFit}
 use Rattle.proof_term.specs.Tally.{PartsEarlier, NodesTallied}
 use Rattle.proof_term.specs.Readable.{NamesBelow}
-use Rattle.sheet.specs.declared.header.Sheet.{Sheet}
-use Rattle.sheet.proofs.Admitted.{AcceptedSheet}
+use Rattle.sheet.specs.Admitted.{Accepted}
 
 -- the offset of a proposition of the sheet, or of the left side of an implication
 pub record LabelStands (s : List ℕ) (offset : ℕ) : Type 0 where
@@ -33,7 +32,18 @@ pub record HeldTerm (s terms : List ℕ) (n : ℕ) : Type 0 where
   pub tallied : NodesTallied terms n
   pub labels : LabelsFit (names s) (LabelStands s) terms n
 
--- what each answer says
-pub data Gives (s terms : List ℕ) : Result (Sheet × ℕ) Refusal → Type 0 where
-  holds : {h : Sheet} {n : ℕ} → AcceptedSheet s h → HeldTerm s terms n → Gives s terms (Ok (h, n))
-  refuses : {r : Refusal} → sheet_term s ≡ refused r → Gives s terms (Err r)
+-- a sheet and record n, where the sheet is these bytes and the record holds its term
+pub record SheetWithTerm (s terms : List ℕ) (x : List ℕ × ℕ) : Type 0 where
+  pub same : x.0 ≡ s
+  pub sheet : Accepted s
+  pub term : HeldTerm s terms x.1
+
+-- what is answered of an admitted sheet: the record that holds its term, or the term's refusal
+abbrev pub Exports : List ℕ → List ℕ → Result ℕ Refusal → Type 0
+Exports s terms (Ok n) = HeldTerm s terms n
+Exports s terms (Err r) = sheet_term s ≡ refused r
+
+-- what is answered of any bytes
+abbrev pub Gives : List ℕ → List ℕ → Result (List ℕ × ℕ) Refusal → Type 0
+Gives s terms (Ok x) = SheetWithTerm s terms x
+Gives s terms (Err r) = sheet_term s ≡ refused r

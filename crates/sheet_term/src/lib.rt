@@ -5,7 +5,7 @@ ghost use Rattle.std.specs.Prelude.{◌≡◌};
 ghost use Rattle.definitions.specs.Sheet.{steps, step_records};
 ghost use Rattle.definitions.specs.Answers.{label_count};
 ghost use Rattle.steps.specs.Tables.{SizeTable};
-ghost use Rattle.sheet_term.specs.Held.{Gives};
+ghost use Rattle.sheet_term.specs.Held.{Exports, Gives};
 ghost use Rattle.sheet_term.specs.Counted.{counted_of};
 
 use definitions::Refusal;
@@ -16,14 +16,14 @@ use sheet::{AdmittedSheet, Sheet};
 // Room for two term records for each step.
 pub const TERM_NUMBERS: usize = 2 * RECORD_SIZE * Sheet::STEP_LIMIT;
 
-// The term of an admitted sheet: its header, and the record that holds the term.
+// The record that holds the term of an admitted sheet.
 fn export(
     sheet: &AdmittedSheet,
     sizes: &[u16; Sheet::STEP_LIMIT],
     terms: &mut [u16; TERM_NUMBERS],
-) -> Result<(Sheet, usize), Refusal>
+) -> Result<usize, Refusal>
     requires { SizeTable (step_records sheet.now) (steps sheet.now) sizes.now }
-    ensures { Gives sheet.now terms.new result }
+    ensures { Exports sheet.now terms.new result }
 {
     let h = sheet.header();
     let steps = SizedSteps {
@@ -34,17 +34,21 @@ fn export(
         count: h.steps,
     };
     let next = export_as_proof_term(&steps, terms)?;
-    Ok((h, next - 1))
+    Ok(next - 1)
 }
 
-// The header of a sheet and the record that holds its term, or the first of refusals 1 to 15, of any bytes. Where they are refused,
-// what the records hold is left open. The records are the caller's, who writes them again, so no value holds them with their term.
-pub fn sheet_term(s: &[u8], terms: &mut [u16; TERM_NUMBERS]) -> Result<(Sheet, usize), Refusal>
+// The sheet of any bytes and the record that holds its term, or the first of refusals 1 to 15. Where the bytes are refused, what the
+// records hold is left open. The records are the caller's, who writes them again, so no value holds them with their term.
+pub fn sheet_term<'a>(
+    s: &'a [u8],
+    terms: &mut [u16; TERM_NUMBERS],
+) -> Result<(AdmittedSheet<'a>, usize), Refusal>
     ensures { Gives s.now terms.new result }
 {
     let mut sizes = [0u16; Sheet::STEP_LIMIT];
     let sheet = AdmittedSheet::with_sizes(s, &mut sizes)?;
-    export(&sheet, &sizes, terms)
+    let n = export(&sheet, &sizes, terms)?;
+    Ok((sheet, n))
 }
 
 // The label count of any bytes.

@@ -16,10 +16,10 @@ use Rattle.output.proofs.Filling as filling
 use Rattle.vocabulary.specs.declared.Vocabulary.{Vocabulary}
 use Rattle.proof_term_lists.specs.Labels.{term_in}
 use Rattle.proof_term_lists.specs.Numbers.{list_numbers}
-use Rattle.sheet.specs.declared.header.Sheet.{Sheet}
-use Rattle.sheet.specs.Header.{vocabulary_of}
-use Rattle.sheet.proofs.Admitted.{AcceptedSheet, its_header}
+use Rattle.sheet.specs.Admitted.{Accepted}
+use Rattle.sheet.proofs.Admitted.{has_header}
 use Rattle.sheet_term.specs.Held.{HeldTerm}
+use Rattle.text.specs.Declaring.{sheet_vocabulary}
 use Rattle.text.proofs.Labels.{props_are}
 use Rattle.skriduhol.specs.Lists.{list_answer}
 
@@ -37,10 +37,10 @@ module _ (list : TermList) (s : List ℕ) where
   list_of e room = rw e
 
 -- Of a term that is held, by the vocabulary of its sheet:
-module _ {s : List ℕ} {h : Sheet} (a : AcceptedSheet s h) {words : Vocabulary} (same : words ≡ vocabulary_of h)
+module _ {s : List ℕ} (a : Accepted s) {words : Vocabulary} (same : words ≡ sheet_vocabulary s)
     {terms : List ℕ} {n : ℕ} (t : HeldTerm s terms n) where
   term_is : sheet_term s ≡ accepted (term_in s words terms n)
-  term_is = rw (props_are (its_header a) same) t.is_term
+  term_is = rw (props_are (has_header a.sheet) same) t.is_term
 
   -- the list is measured by a dry run, and then written where it fits
   module _ (list : TermList) {before dry : List ℕ} {end : ℕ} (d : Wrote (list_numbers list (term_in s words terms n)) false before 0 dry end) where

@@ -34,9 +34,10 @@ use definitions::{Located, Reason, Refusal, Style, TermList, Version, Whose};
 use list_length::list_length;
 use located::{locate, put_refusal};
 use name_index::{Index, SLOT_COUNT};
-use proof_term_lists::put_list;
+use output::{Counter, Writer};
+use proof_term_lists::put_term_list;
 use restating::Given;
-use sheet::{check_header, vocabulary};
+use sheet::{AdmittedSheet, check_header, vocabulary};
 use sheet_term::{TERM_NUMBERS, sheet_term};
 use text::{sheet_text_length, text};
 
@@ -49,10 +50,7 @@ fn asked_version(number: usize) -> Result<Version, Located>
         1 => Ok(Version::First),
         2 => Ok(Version::Second),
         3 => Ok(Version::Third),
-        _ => Err(Located {
-            refusal: Reason::Version.at(0),
-            column: 0,
-        }),
+        _ => Err(Located::from(Reason::Version.at(0))),
     }
 }
 
@@ -63,8 +61,8 @@ fn styled_text(s: &[u8], version: Version, style: Style, out: &mut [u8]) -> Resu
     ensures { Fills (is_in_room (length out.old) (sheet_text s.now version style)) out.old out.new result }
 {
     let mut terms = [0u16; TERM_NUMBERS];
-    let (h, n) = sheet_term(s, &mut terms)?;
-    text(s, h, &terms, n, version, style, out)
+    let (sheet, n) = sheet_term(s, &mut terms)?;
+    text(&sheet, &terms, n, version, style, out)
 }
 
 // The text of a version of the handout, 1 to 3, in a style.
@@ -103,20 +101,22 @@ pub fn handout_length(s: &[u8], version: usize, style: Style) -> Result<usize, L
     length.map_err(|refusal| locate(s, refusal))
 }
 
-// A list of the sheet: the sheet's term, and then what its labels add. It is measured by a dry run before it is written, since a
-// refusal leaves the memory as it was.
+// A list of the sheet: the sheet's term, and then what its labels add. It is counted before it is written, since a refusal leaves the
+// memory as it was.
 fn label_list(s: &[u8], which: TermList, out: &mut [u16]) -> Result<usize, Refusal>
     ensures { Fills (list_answer which s.now (length out.old)) out.old out.new result }
 {
     let mut terms = [0u16; TERM_NUMBERS];
-    let (h, n) = sheet_term(s, &mut terms)?;
-    let v = vocabulary(h);
-    let end = put_list(&terms, n, which, s, v, out, 0, false);
-    if out.len() < end {
+    let (sheet, n) = sheet_term(s, &mut terms)?;
+    let v = sheet.vocabulary();
+    let mut length = Counter { count: 0 };
+    put_term_list(&mut length, which, s, v, &terms, n);
+    if out.len() < length.count {
         return Err(Reason::Room.at(0));
     }
-    put_list(&terms, n, which, s, v, out, 0, true);
-    Ok(end)
+    let mut writer = Writer { out, to: 0 };
+    put_term_list(&mut writer, which, s, v, &terms, n);
+    Ok(length.count)
 }
 
 // The atom list, in every version the same: the number of a name and a parameter count for each atom.
@@ -214,7 +214,7 @@ fn locate_by(host: &[u8], donor: &[u8], refused: (Whose, Refusal)) -> (Whose, Lo
 {
     let (whose, refusal) = refused;
     let located = match whose {
-        Whose::Neither => Located { refusal, column: 0 },
+        Whose::Neither => Located::from(refusal),
         Whose::Host => locate(host, refusal),
         Whose::Donor => locate(donor, refusal),
     };
@@ -274,7 +274,7 @@ pub fn exercise(names: &[u8], n: usize, ordinal: usize, out: &mut [u8]) -> Resul
         out.old out.new result }
 {
     let written = exercises::exercise(names, n, ordinal, out);
-    written.map_err(|refusal| Located { refusal, column: 0 })
+    written.map_err(Located::from)
 }
 
 // How long the code of an exercise is.
@@ -283,16 +283,16 @@ pub fn exercise_length(names: &[u8], n: usize, ordinal: usize) -> Result<usize, 
         (whole_exercise names.now n ordinal) result }
 {
     let length = made_length::exercise_length(names, n, ordinal);
-    length.map_err(|refusal| Located { refusal, column: 0 })
+    length.map_err(Located::from)
 }
 
 // The index of the sheet's names.
 pub fn name_index(s: &[u8], slots: &mut [u16; SLOT_COUNT]) -> Result<usize, Located>
     ensures { FillsOf s.now (index_answer s.now) slots.old slots.new result }
 {
-    let checked = sheet::answer(s);
-    let h = checked.map_err(|refusal| locate(s, refusal))?;
-    name_index::build(slots, s, vocabulary(h));
+    let checked = AdmittedSheet::new(s);
+    let sheet = checked.map_err(|refusal| locate(s, refusal))?;
+    name_index::build(slots, s, sheet.vocabulary());
     Ok(SLOT_COUNT)
 }
 

@@ -1,9 +1,8 @@
 -- What is noted of the labels of a sheet's term and then of its goal are the declarations of its text.
-use Prim.Native.Nat.{ℕ, ◌*◌}
-use mathlib.Core.Path.{◌≡◌, refl, sym, ap, ◌∙◌}
+use Prim.Native.Nat.{ℕ}
+use mathlib.Core.Path.{◌≡◌, sym, ap, ◌∙◌}
 use mathlib.Core.List.{List, [], ◌++◌, map, map-append}
 use native.Mathlib.Omega.{arith}
-use lib.ListN.{length}
 use Rattle.definitions.specs.declared.Version.TheVariants.{First}
 use Rattle.definitions.specs.declared.TermList.{TermList}
 use Rattle.definitions.specs.declared.TermList.TheVariants.{Atoms, Datatypes}
@@ -11,9 +10,8 @@ use Rattle.definitions.specs.Name.{Name}
 use Rattle.definitions.specs.Prop.{Prop, AtomUse, get_atoms, get_datatypes, rename_prop}
 use Rattle.definitions.specs.Sheet.{name_limit, goal, proposition_pairs, name_of, pair_offset}
 use Rattle.definitions.specs.Term.{ProofTerm, atom_list, datatype_list, rename_term}
-use Rattle.definitions.specs.Text.{firsts, firsts_after, eq_atom_use, compare_atom_use, arranged}
+use Rattle.definitions.specs.Text.{firsts, eq_atom_use, compare_atom_use, arranged}
 use Rattle.definitions.specs.Answers.{goal_prop}
-use Rattle.definitions.proofs.PrefixCode.{Bytes}
 use Rattle.order_laws.proofs.Datatypes.{as_use}
 use Rattle.vocabulary.specs.declared.Vocabulary.{Vocabulary}
 use Rattle.vocabulary.specs.Vocabulary.{name_in, prop_in, SomeProposition}
@@ -25,11 +23,12 @@ use Rattle.declarations.specs.Memory.{use_over, uses_over, declarations, declare
 use Rattle.declarations.proofs.Noting.{fresh_noted, fresh_held, declared_held}
 use Rattle.declarations.proofs.Lines.{datatypes_over}
 use Rattle.sheet.specs.declared.header.Sheet.{Sheet}
-use Rattle.sheet.specs.Header.{header_of, vocabulary_of}
-use Rattle.sheet.proofs.Admitted.{AcceptedSheet, its_header}
+use Rattle.sheet.specs.Header.{header_of}
+use Rattle.sheet.specs.Admitted.{Accepted}
+use Rattle.sheet.proofs.Admitted.{with_header, has_header}
 use Rattle.sheet.proofs.NamesAndCode.{count_is, prop_is, some_proposition, names_of}
 use Rattle.sheet_term.specs.Held.{HeldTerm}
-use Rattle.text.specs.Declaring.{listed_uses, term_of, Declares}
+use Rattle.text.specs.Declaring.{sheet_vocabulary, listed_uses, term_of, Declares}
 use Rattle.text.proofs.Labels.{few_names, names_are, props_are, proposition_present, proposition_is, listable}
 use Rattle.text.proofs.Heading.{named_term_lem}
 use Rattle.text.proofs.Renaming.{prop_atoms_renamed, prop_datatypes_renamed, atoms_renamed, datatypes_renamed}
@@ -51,38 +50,39 @@ unfolding arranged
 met noted = noted.entries
 
 -- Of an accepted sheet, by its vocabulary:
-module _ {s : List ℕ} {h : Sheet} (a : AcceptedSheet s h) (bytes : Bytes s) {words : Vocabulary} (same : words ≡ vocabulary_of h) where
+module _ {s : List ℕ} (a : Accepted s) {words : Vocabulary} (same : words ≡ sheet_vocabulary s) where
   -- what it takes to note the term's labels before anything is noted
   pub labels_notable : {terms : List ℕ} {n : ℕ} {m : Declarations 4608} → HeldTerm s terms n → Fresh m → Listable s words terms n × Held s words m
   unfolding name_limit
   labels_notable term fresh =
-      let has = its_header a in
+      let has = has_header a.sheet in
       let few = few_names has in
       let count = ap (λ w. w.name_count) same in (
-        listable a.sheet bytes a same term,
+        listable a same term,
         rw same
-            (fresh_held fresh (λ name below. names_of a (rw (count_is has) at below)) (omega arith) (omega arith) (omega arith)),
+            (fresh_held fresh (λ name below. names_of (with_header a) (rw (count_is has) at below)) (omega arith) (omega arith) (omega arith)),
       )
 
   -- Where the goal stands:
-  module _ {pairs : List ℕ} (cut : pairs ≡ proposition_pairs s) {goal-offset : ℕ} (is : goal-offset ≡ pair_offset pairs h.goal) where
+  module _ {pairs : List ℕ} (cut : pairs ≡ proposition_pairs s) {h : Sheet} (header : h ≡ header_of s) {goal-offset : ℕ}
+      (is : goal-offset ≡ pair_offset pairs h.goal) where
     offset_is : goal-offset ≡ pair_offset (proposition_pairs s) (goal s)
     unfolding header_of
-    offset_is = rw (is, cut, a.header)
+    offset_is = rw (is, cut, header)
 
     pub goal_there : SomeProposition s words goal-offset
     unfolding header_of
-    goal_there = rw (same, offset_is) (some_proposition (its_header a) (proposition_present a.sheet bytes (goal s) a.sheet.in_range.goal))
+    goal_there = rw (same, offset_is) (some_proposition (has_header a.sheet) (proposition_present a (goal s) a.sheet.in_range.goal))
 
     goal_is : goal_prop s ≡ rename_prop (name_of s) (prop_in s words goal-offset)
     unfolding goal_prop header_of
     goal_is =
-        ap (rename_prop (name_of s)) (proposition_is a.sheet bytes (goal s) a.sheet.in_range.goal ∙ rw (same, offset_is) (sym (prop_is (its_header a) _)))
+        ap (rename_prop (name_of s)) (proposition_is a (goal s) a.sheet.in_range.goal ∙ rw (same, offset_is) (sym (prop_is (has_header a.sheet) _)))
 
     -- once the term's labels and then the goal are noted, the declarations are those of the sheet's text
     pub declares : {terms : List ℕ} {n : ℕ} → HeldTerm s terms n → (list : TermList) → {N : ℕ} {m₀ m₁ m₂ : Declarations N} → Fresh m₀
         → Notes s words (term_uses list (term_in s words terms n)) m₀ m₁
-        → Notes s words (entries list (prop_in s words goal-offset)) m₁ m₂ → Declares s h First list (declarations m₂)
+        → Notes s words (entries list (prop_in s words goal-offset)) m₁ m₂ → Declares s First list (declarations m₂)
     declares {terms} {n} term list fresh first second =
         let noted = second.adds _ (first.adds [] (fresh_noted fresh _)) in
         record {
@@ -93,6 +93,6 @@ module _ {s : List ℕ} {h : Sheet} (a : AcceptedSheet s h) (bytes : Bytes s) {w
               let t' = term_in s words terms n in
               let p' = prop_in s words goal-offset in
               let same-uses : listed_uses list (rename_term f t') (rename_prop f p') ≡ listed_uses list t (goal_prop s)
-              = rw (held, goal_is, names_are (its_header a) same, props_are (its_header a) same) in
+              = rw (held, goal_is, names_are (has_header a.sheet) same, props_are (has_header a.sheet) same) in
               rw same at (met noted ∙ ap (λ l. arranged compare_atom_use First (firsts eq_atom_use l)) (uses_are list f t' p' ∙ same-uses));
         }

@@ -15,9 +15,10 @@ use Rattle.sheet.specs.declared.header.Sheet.{Sheet}
 use Rattle.prefix_code.specs.PropAt.{prop_at}
 use Rattle.vocabulary.specs.declared.Vocabulary.{Vocabulary}
 use Rattle.vocabulary.specs.Vocabulary.{text_in, code_in, name_in, prop_in}
-use Rattle.sheet.specs.Header.{header_of, vocabulary_of}
+use Rattle.sheet.specs.Header.{header_of}
+use Rattle.sheet.specs.Admitted.{Accepted}
 use Rattle.sheet.proofs.Slices.{lengths}
-use Rattle.sheet.proofs.Admitted.{AcceptedSheet, its_header, has_codes}
+use Rattle.sheet.proofs.Admitted.{with_header, has_header, has_codes}
 use Rattle.sheet.proofs.NamesAndCode.{count_is, pairs_are, text_is, code_is, within, names_of}
 use Rattle.prop.specs.Ends.{Known, AllFillable}
 use Rattle.proof_term.specs.Records.{term_at}
@@ -25,7 +26,7 @@ use Rattle.proof_term.specs.Readable.{NamesBelow}
 use Rattle.proof_term_display.specs.Printable.{PrintableTerm, term_text}
 use Rattle.proof_term_length.specs.Measure.{Measurable}
 use Rattle.sheet_term.specs.Held.{HeldTerm}
-use Rattle.text.specs.Declaring.{term_of, EndsKnown}
+use Rattle.text.specs.Declaring.{sheet_vocabulary, term_of, EndsKnown}
 use Rattle.text.proofs.Labels.{label_known}
 
 -- Of a term and of code, by equal counts, names and propositions:
@@ -40,14 +41,14 @@ shown_by : (style : Style) (terms : List ℕ) (n : ℕ) {f g : ℕ → Name} {pr
     display_term style (rename_term f (term_at props terms n)) ≡ display_term style (rename_term g (term_at these terms n))
 shown_by style terms n e h = rw (e, h)
 
-module _ {s : List ℕ} {h : Sheet} (a : AcceptedSheet s h) where
+module _ {s : List ℕ} (a : Accepted s) where
   -- the ends of all propositions can be filled in
-  pub fillable : {ends : List ℕ} → length ends ≡ 8192 → AllFillable h.names (proposition_pairs s) (code_bytes s) h.propositions ends
+  pub fillable : {h : Sheet} → h ≡ header_of s → {ends : List ℕ} → length ends ≡ 8192 → AllFillable h.names (proposition_pairs s) (code_bytes s) h.propositions ends
   unfolding bad_code header_of code_limit
-  fillable long =
+  fillable is long =
       let codes = has_codes a.sheet in
       let short = (lengths s a.sheet.whole).code_bytes in
-      rw a.header (record {
+      rw is (record {
         marks = record {
           there = codes.pairs_within.present;
           sorted = λ i below. (a.sheet.proposition_pair i below).sorted;
@@ -57,31 +58,31 @@ module _ {s : List ℕ} {h : Sheet} (a : AcceptedSheet s h) where
         room = record { long = omega (arith, a.sheet.in_range.code); short = omega (arith, a.sheet.in_range.code) };
       })
 
-  pub ends_known : {ends : List ℕ} → ((i : ℕ) → i < h.propositions → Known h.names (code_bytes s) ends (pair_offset (proposition_pairs s) i))
+  pub ends_known : {h : Sheet} → h ≡ header_of s → {ends : List ℕ} → ((i : ℕ) → i < h.propositions → Known h.names (code_bytes s) ends (pair_offset (proposition_pairs s) i))
       → EndsKnown s ends
   unfolding header_of
-  ends_known known = record { known = rw a.header at known }
+  ends_known is known = record { known = rw is at known }
 
   -- the vocabulary's names and propositions are the sheet's
-  names_are : name_in s (vocabulary_of h) ≡ name_of s
+  names_are : name_in s (sheet_vocabulary s) ≡ name_of s
   unfolding name_in name_of
-  names_are = ap (λ pairs. marked pairs (text_in s (vocabulary_of h))) (pairs_are (its_header a)) ∙ ap (marked (name_pairs s)) (text_is (its_header a))
+  names_are = ap (λ pairs. marked pairs (text_in s (sheet_vocabulary s))) (pairs_are (has_header a.sheet)) ∙ ap (marked (name_pairs s)) (text_is (has_header a.sheet))
 
-  props_are : prop_in s (vocabulary_of h) ≡ prop_at (names s) (code_bytes s)
+  props_are : prop_in s (sheet_vocabulary s) ≡ prop_at (names s) (code_bytes s)
   unfolding prop_in
-  props_are = ap (λ count. prop_at count (code_in s (vocabulary_of h))) (count_is (its_header a)) ∙ ap (prop_at (names s)) (code_is (its_header a))
+  props_are = ap (λ count. prop_at count (code_in s (sheet_vocabulary s))) (count_is (has_header a.sheet)) ∙ ap (prop_at (names s)) (code_is (has_header a.sheet))
 
-  module _ {v : Vocabulary} (is : v ≡ vocabulary_of h) where
+  module _ {v : Vocabulary} (is : v ≡ sheet_vocabulary s) where
     pub code_short : length (code_in s v) ≤ 8192
     unfolding header_of code_limit
     code_short =
-        let same = ap (λ w. length (code_in s w)) is ∙ ap length (code_is (its_header a)) in
+        let same = ap (λ w. length (code_in s w)) is ∙ ap length (code_is (has_header a.sheet)) in
         omega (arith, (lengths s a.sheet.whole).code_bytes, a.sheet.in_range.code)
 
     -- with that table the term can be printed
     pub printable : {terms ends : List ℕ} {n : ℕ} → HeldTerm s terms n → EndsKnown s ends → PrintableTerm terms n s v ends
     printable {terms} {n = n} term table =
-        let has = its_header a in
+        let has = has_header a.sheet in
         rw is (record {
           held = term.held;
           below = below_by (count_is has) terms n props_are term.below;
@@ -92,7 +93,7 @@ module _ {s : List ℕ} {h : Sheet} (a : AcceptedSheet s h) where
                 proposition = λ no_datatype. known_by (count_is has) (code_is has) (label_known table (fits.proposition no_datatype));
               };
           within = within has;
-          named = λ i below. names_of a (rw (count_is has) at below);
+          named = λ i below. names_of (with_header a) (rw (count_is has) at below);
         })
 
     -- and be measured

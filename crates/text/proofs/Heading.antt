@@ -33,10 +33,8 @@ use Rattle.vocabulary.specs.declared.Vocabulary.{Vocabulary}
 use Rattle.vocabulary.specs.Vocabulary.{name_in}
 use Rattle.prop_length.specs.Length.{TextLength}
 use Rattle.declaration_length.proofs.Sorted.{same_lines}
-use Rattle.sheet.specs.declared.header.Sheet.{Sheet}
-use Rattle.sheet.specs.Header.{vocabulary_of}
 use Rattle.sheet_term.specs.Held.{HeldTerm}
-use Rattle.text.specs.Declaring.{listed_uses, heading_lines, term_of, Declares, Arranges, HeadingLength, TermLength}
+use Rattle.text.specs.Declaring.{sheet_vocabulary, listed_uses, heading_lines, term_of, Declares, Arranges, HeadingLength, TermLength}
 
 -- the lines of a list in a version's order are those of the heading
 listed_lines : (v : Version) (list : TermList) (t : ProofTerm Name) (goal : Prop Name)
@@ -45,15 +43,15 @@ unfolding declarations
 listed_lines v Atoms t goal = atoms_declared v (atom_list t ++ get_atoms goal)
 listed_lines v (Datatypes listed) t goal = datatypes_declared v listed (datatype_list listed t ++ get_datatypes goal)
 
-lines_are : {s : List ℕ} {h : Sheet} {v : Version} {list : TermList} {declared : List Declaration} → Declares s h v list declared
+lines_are : {s : List ℕ} {v : Version} {list : TermList} {declared : List Declaration} → Declares s v list declared
     → (t : ProofTerm Name) → named_term s ≡ accepted t
-    → declaration_lines list (declared_uses (name_in s (vocabulary_of h)) declared) ≡ declarations v list t (goal_prop s)
+    → declaration_lines list (declared_uses (name_in s (sheet_vocabulary s)) declared) ≡ declarations v list t (goal_prop s)
 lines_are {s} {v = v} {list} noted t is = ap (declaration_lines list) (noted.entries t is) ∙ listed_lines v list t (goal_prop s)
 
 -- they are as long as those that stand as they were first met
-lines_long : {s : List ℕ} {h : Sheet} (v : Version) {list : TermList} {declared : List Declaration} → Declares s h First list declared
+lines_long : {s : List ℕ} (v : Version) {list : TermList} {declared : List Declaration} → Declares s First list declared
     → (t : ProofTerm Name) → named_term s ≡ accepted t
-    → length (declaration_lines list (declared_uses (name_in s (vocabulary_of h)) declared)) ≡ length (declarations v list t (goal_prop s))
+    → length (declaration_lines list (declared_uses (name_in s (sheet_vocabulary s)) declared)) ≡ length (declarations v list t (goal_prop s))
 unfolding arranged
 lines_long {s} v {list} noted t is =
     let uses = firsts eq_atom_use (listed_uses list t (goal_prop s)) in
@@ -61,21 +59,21 @@ lines_long {s} v {list} noted t is =
     ∙ (sym (same_lines compare_atom_use v list uses) ∙ ap length (listed_lines v list t (goal_prop s)))
 
 -- what stands as it was first met stands in the order of a version once it is arranged
-pub in_order : {s : List ℕ} {h : Sheet} {v : Version} {list : TermList} {before after : List Declaration}
-    → Declares s h First list before → Arranges s h v before after → Declares s h v list after
+pub in_order : {s : List ℕ} {v : Version} {list : TermList} {before after : List Declaration}
+    → Declares s First list before → Arranges s v before after → Declares s v list after
 unfolding arranged
 in_order {v = v} noted done =
     record { table = done.table; entries = λ t is. done.entries ∙ ap (arranged compare_atom_use v) (noted.entries t is) }
 
 -- what is noted of a list is noted of the same list
-pub noted_of : {s : List ℕ} {h : Sheet} {v : Version} {list other : TermList} {declared : List Declaration} → list ≡ other → Declares s h v list declared
-    → Declares s h v other declared
+pub noted_of : {s : List ℕ} {v : Version} {list other : TermList} {declared : List Declaration} → list ≡ other → Declares s v list declared
+    → Declares s v other declared
 noted_of same noted = rw same at noted
 
 -- the lines of both lists are the heading
-pub heading_is : {s : List ℕ} {h : Sheet} (v : Version) {first second : List Declaration} → Declares s h v (first_list v) first
-    → Declares s h v (second_list v) second → (t : ProofTerm Name) → named_term s ≡ accepted t
-    → let f = name_in s (vocabulary_of h) in heading_lines v (declared_uses f first) (declared_uses f second) ≡ heading v t (goal_prop s)
+pub heading_is : {s : List ℕ} (v : Version) {first second : List Declaration} → Declares s v (first_list v) first
+    → Declares s v (second_list v) second → (t : ProofTerm Name) → named_term s ≡ accepted t
+    → let f = name_in s (sheet_vocabulary s) in heading_lines v (declared_uses f first) (declared_uses f second) ≡ heading v t (goal_prop s)
 unfolding heading_lines heading
 heading_is v a d t is = rw (lines_are a t is, lines_are d t is)
 
@@ -89,14 +87,14 @@ unfolding heading_lines
 heading_put v up low first second laws lines line others end = rw (← up, ← low) (laws.then lines (laws.then line (laws.then others end)))
 
 -- By a sheet's vocabulary:
-module _ {s : List ℕ} {h : Sheet} {words : Vocabulary} (same : words ≡ vocabulary_of h) where
+module _ {s : List ℕ} {words : Vocabulary} (same : words ≡ sheet_vocabulary s) where
   -- what is noted can be printed
-  pub printable : {v : Version} {list : TermList} {declared : List Declaration} → Declares s h v list declared → Declared s words declared
+  pub printable : {v : Version} {list : TermList} {declared : List Declaration} → Declares s v list declared → Declared s words declared
   printable noted = rw same noted.table
 
   -- as long are the lines of both lists as they were first met, and three newlines
   pub heading_measured : (v : Version) {upper lower : TermList} → upper ≡ first_list v → lower ≡ second_list v
-      → {first second : List Declaration} → Declares s h First (first_list v) first → Declares s h First (second_list v) second
+      → {first second : List Declaration} → Declares s First (first_list v) first → Declares s First (second_list v) second
       → {above below : ℕ} → TextLength (declaration_lines upper (declared_uses (name_in s words) first)) above
       → TextLength (declaration_lines lower (declared_uses (name_in s words) second)) below
       → HeadingLength s v (above + below + 3)

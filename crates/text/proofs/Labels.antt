@@ -8,7 +8,6 @@ use native.Mathlib.Omega.{arith}
 use Rattle.definitions.specs.Sheet.{name_limit, names, propositions, proposition_pairs, code_bytes, name_of, pair_offset, marked}
 use Rattle.definitions.specs.Tree.{prop_of}
 use Rattle.definitions.specs.Admission.{bad_code}
-use Rattle.definitions.proofs.PrefixCode.{Bytes}
 use Rattle.prefix_code.specs.PropAt.{prop_at, Present}
 use Rattle.prefix_code.proofs.Reading.{present_in, prop_in_lem}
 use Rattle.prop.specs.Ends.{Known}
@@ -18,12 +17,12 @@ use Rattle.vocabulary.specs.Vocabulary.{pairs_in, text_in, code_in, name_in, pro
 use Rattle.proof_term_lists.specs.Labels.{Listable}
 use Rattle.sheet.specs.declared.header.Sheet.{Sheet}
 use Rattle.sheet.specs.Header.{vocabulary_of, HasHeader}
-use Rattle.sheet.specs.Admitted.{Admitted}
-use Rattle.sheet.proofs.Admitted.{AcceptedSheet, its_header, code_of_bytes, has_codes}
+use Rattle.sheet.specs.Admitted.{Accepted}
+use Rattle.sheet.proofs.Admitted.{with_header, has_header, code_of_bytes, has_codes}
 use Rattle.sheet.proofs.NamesAndCode.{count_is, pairs_are, text_is, code_is, within}
 use Rattle.sheet_term.specs.Held.{LabelStands, HeldTerm}
 use Rattle.sheet_term.proofs.Held.{label_present}
-use Rattle.text.specs.Declaring.{EndsKnown}
+use Rattle.text.specs.Declaring.{sheet_vocabulary, EndsKnown}
 
 -- the table has the ends of a label
 pub label_known : {s ends : List ℕ} {offset : ℕ} → EndsKnown s ends → LabelStands s offset → Known (names s) (code_bytes s) ends offset
@@ -55,21 +54,21 @@ module _ {s : List ℕ} {h : Sheet} (has : HasHeader s h) {words : Vocabulary} (
   pub props_are : prop_in s words ≡ prop_at (names s) (code_bytes s)
   props_are = props_cut (rw same (sym (code_is has))) (rw same (sym (count_is has)))
 
-module _ {s : List ℕ} (a : Admitted s) (bytes : Bytes s) where
+module _ {s : List ℕ} (a : Accepted s) where
   pub proposition_present : (i : ℕ) → i < propositions s → Present (names s) (code_bytes s) (pair_offset (proposition_pairs s) i)
   unfolding bad_code
-  proposition_present i below = present_in (names s) (proposition_pairs s) (code_bytes s) i (code_of_bytes s bytes) ((has_codes a).decoded i below)
+  proposition_present i below = present_in (names s) (proposition_pairs s) (code_bytes s) i (code_of_bytes s a.bytes) ((has_codes a.sheet).decoded i below)
 
   pub proposition_is : (i : ℕ) → i < propositions s → prop_of s i ≡ prop_at (names s) (code_bytes s) (pair_offset (proposition_pairs s) i)
   unfolding bad_code prop_of
-  proposition_is i below = prop_in_lem (names s) (proposition_pairs s) (code_bytes s) i (code_of_bytes s bytes) ((has_codes a).decoded i below)
+  proposition_is i below = prop_in_lem (names s) (proposition_pairs s) (code_bytes s) i (code_of_bytes s a.bytes) ((has_codes a.sheet).decoded i below)
 
   -- the labels of the sheet's term can be listed, by its vocabulary
-  pub listable : {h : Sheet} → AcceptedSheet s h → {words : Vocabulary} → words ≡ vocabulary_of h → {terms : List ℕ} {n : ℕ} → HeldTerm s terms n
+  pub listable : {words : Vocabulary} → words ≡ sheet_vocabulary s → {terms : List ℕ} {n : ℕ} → HeldTerm s terms n
       → Listable s words terms n
   unfolding name_limit
-  listable accepted same term =
-      let has = its_header accepted in
+  listable same term =
+      let has = has_header a.sheet in
       rw same
       (record {
         held = term.held;
@@ -79,5 +78,5 @@ module _ {s : List ℕ} (a : Admitted s) (bytes : Bytes s) where
         labels = λ m l own.
             let fits = term.labels m l own in
             rw (code_is has, count_is has)
-            (record { datatype = fits.datatype; proposition = λ other. label_present accepted bytes (fits.proposition other) });
+            (record { datatype = fits.datatype; proposition = λ other. label_present (with_header a) a.bytes (fits.proposition other) });
       })

@@ -15,7 +15,6 @@ use Rattle.definitions.specs.Sheet.{names, code_bytes, code_limit, name_of, step
 use Rattle.definitions.specs.Term.{Label, proposition, datatype, NamedFunction, fst, snd, inl, inr, abort, ProofTerm, Ident, Pair, Named, Function, Application, LetIn, Case, TypeAscription, Unit, Sorry, of_label, of_labels, rename_label, rename_parameter_label, rename_term}
 use Rattle.definitions.specs.Display.{Position, function_of, argument_of, body_of, ascribed_by, part_of, within, wrap, wraps, display_label, display_parameter_label, function_text, display_term}
 use Rattle.definitions.specs.TermText.{node_limit, nodes}
-use Rattle.definitions.proofs.PrefixCode.{Bytes}
 use Rattle.reading_laws.proofs.SheetLimits.{sheet_limited}
 use Rattle.prefix_code.specs.PropAt.{prop_at}
 use Rattle.prefix_code.proofs.Reading.{inside}
@@ -25,12 +24,12 @@ use Rattle.prop_length.proofs.Lengths.{short_name, text_small}
 use Rattle.proof_term.specs.Records.{field_at, label_of, term_at}
 use Rattle.proof_term.specs.Labels.{has_label, of_own_label, of_record, of_records, LabelFits}
 use Rattle.proof_term.proofs.Labels.{in_order}
-use Rattle.sheet.specs.declared.header.Sheet.{Sheet}
-use Rattle.sheet.specs.Header.{header_of, vocabulary_of}
+use Rattle.sheet.specs.Header.{header_of}
+use Rattle.sheet.specs.Admitted.{Accepted}
 use Rattle.sheet.proofs.Slices.{lengths}
-use Rattle.sheet.proofs.Admitted.{AcceptedSheet, its_header}
+use Rattle.sheet.proofs.Admitted.{has_header}
 use Rattle.sheet_term.specs.Held.{LabelStands, HeldTerm}
-use Rattle.text.specs.Declaring.{term_of, EndsKnown}
+use Rattle.text.specs.Declaring.{sheet_vocabulary, term_of, EndsKnown}
 use Rattle.text.proofs.Labels.{label_known, names_are}
 use Rattle.text.proofs.Heading.{named_term_lem}
 
@@ -86,8 +85,7 @@ module _ (f : ℕ → Name) (short : (x : ℕ) → length (f x) ≤ 65535) (styl
   term_most Sorry = omega arith
 
 -- Of a sheet's term in records, by the table of the ends of its propositions:
-module _ {s terms ends : List ℕ} {n : ℕ} {h : Sheet} (sheet : AcceptedSheet s h) (term : HeldTerm s terms n) (table : EndsKnown s ends)
-    (bytes : Bytes s) where
+module _ {s terms ends : List ℕ} {n : ℕ} (sheet : Accepted s) (term : HeldTerm s terms n) (table : EndsKnown s ends) where
   abbrev props : ℕ → Prop ℕ
   props = prop_at (names s) (code_bytes s)
 
@@ -95,7 +93,7 @@ module _ {s terms ends : List ℕ} {n : ℕ} {h : Sheet} (sheet : AcceptedSheet 
   its_text l = display_label (rename_label (name_of s) l)
 
   short : (x : ℕ) → length (name_of s x) ≤ 65535
-  short x = rw (← names_are (its_header sheet) refl) (short_name s (vocabulary_of h) bytes x)
+  short x = rw (← names_are (has_header sheet.sheet) refl) (short_name s (sheet_vocabulary s) sheet.bytes x)
 
   -- an end in the table lies within the code
   fits : (at : ℕ) → Known (names s) (code_bytes s) ends at → get_or ends at 0 < 65536
@@ -138,7 +136,7 @@ module _ {s terms ends : List ℕ} {n : ℕ} {h : Sheet} (sheet : AcceptedSheet 
   pub term_short : (style : Style) → length (display_term style (term_of s terms n)) < 4398046511104
   unfolding node_limit step_limit
   term_short style =
-      let few = (sheet_limited s bytes (term_of s terms n) (named_term_lem term)).0.few_nodes in
+      let few = (sheet_limited s sheet.bytes (term_of s terms n) (named_term_lem term)).0.few_nodes in
       let labels = labels_most (n + 1) (omega arith) in
       let same = ap length (in_order its_text props terms term.in_order) in
       omega (arith, few, labels, same, term.held, term.room, term_most (name_of s) short style (term_at props terms n))

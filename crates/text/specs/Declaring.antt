@@ -13,14 +13,14 @@ use Rattle.definitions.specs.Text.{firsts, eq_atom_use, compare_atom_use, arrang
 use Rattle.definitions.specs.Answers.{named_term, goal_prop}
 use Rattle.order_laws.proofs.Datatypes.{as_use}
 use Rattle.prefix_code.specs.PropAt.{prop_at}
+use Rattle.vocabulary.specs.declared.Vocabulary.{Vocabulary}
 use Rattle.vocabulary.specs.Vocabulary.{name_in}
 use Rattle.prop.specs.Ends.{Known}
 use Rattle.proof_term.specs.Records.{term_at}
 use Rattle.declarations.specs.declared.Declaration.{Declaration}
 use Rattle.declarations.specs.Memory.{declared_uses, Declared}
 use Rattle.declarations.specs.Lines.{declaration_lines}
-use Rattle.sheet.specs.declared.header.Sheet.{Sheet}
-use Rattle.sheet.specs.Header.{vocabulary_of}
+use Rattle.sheet.specs.Header.{header_of, vocabulary_of}
 
 -- what a list of a term and of its goal has, a datatype as a use with the count 0
 abbrev pub listed_uses : TermList → ProofTerm Name → Prop Name → List (AtomUse Name)
@@ -33,20 +33,24 @@ heading_lines v first second = declaration_lines (first_list v) first ++ (utf8 "
 
 -- Of a sheet's bytes:
 module _ (s : List ℕ) where
+  -- where its names and its code lie
+  abbrev pub sheet_vocabulary : Vocabulary
+  sheet_vocabulary = vocabulary_of (header_of s)
+
   -- the term that record n holds, over names as bytes
   abbrev pub term_of : List ℕ → ℕ → ProofTerm Name
   term_of terms n = rename_term (name_of s) (term_at (prop_at (names s) (code_bytes s)) terms n)
 
   -- declarations, each of a name of the sheet, are those of a list in a version's order
-  pub record Declares (h : Sheet) (v : Version) (list : TermList) (declared : List Declaration) : Type 0 where
-    pub table : Declared s (vocabulary_of h) declared
+  pub record Declares (v : Version) (list : TermList) (declared : List Declaration) : Type 0 where
+    pub table : Declared s sheet_vocabulary declared
     pub entries : (t : ProofTerm Name) → named_term s ≡ accepted t
-        → declared_uses (name_in s (vocabulary_of h)) declared ≡ arranged compare_atom_use v (firsts eq_atom_use (listed_uses list t (goal_prop s)))
+        → declared_uses (name_in s sheet_vocabulary) declared ≡ arranged compare_atom_use v (firsts eq_atom_use (listed_uses list t (goal_prop s)))
 
   -- declarations are put into a version's order
-  pub record Arranges (h : Sheet) (v : Version) (before after : List Declaration) : Type 0 where
-    pub table : Declared s (vocabulary_of h) after
-    pub entries : declared_uses (name_in s (vocabulary_of h)) after ≡ arranged compare_atom_use v (declared_uses (name_in s (vocabulary_of h)) before)
+  pub record Arranges (v : Version) (before after : List Declaration) : Type 0 where
+    pub table : Declared s sheet_vocabulary after
+    pub entries : declared_uses (name_in s sheet_vocabulary) after ≡ arranged compare_atom_use v (declared_uses (name_in s sheet_vocabulary) before)
 
   -- the table has the ends of each proposition of the sheet
   pub record EndsKnown (ends : List ℕ) : Type 0 where

@@ -1,7 +1,7 @@
 // The text of a sheet's term: the declarations, and then the term (source document 005).
 #![tactic(auto)]
 
-ghost use Rattle.std.specs.Prelude.{◌≡◌, ◌≤◌, ◌<◌, true, List, ℕ, length, take};
+ghost use Rattle.std.specs.Prelude.{◌≡◌, ◌≤◌, ◌<◌, List, ℕ, length, take};
 ghost use Rattle.definitions.specs.declared.Version.TheVariants.{First};
 ghost use Rattle.definitions.specs.Outcome.{accepted};
 ghost use Rattle.definitions.specs.Name.{Name};
@@ -9,14 +9,11 @@ ghost use Rattle.definitions.specs.Term.{ProofTerm};
 ghost use Rattle.definitions.specs.Display.{display_term};
 ghost use Rattle.definitions.specs.Text.{first_list, second_list, heading};
 ghost use Rattle.definitions.specs.Answers.{is_in_room, named_term, goal_prop, sheet_text};
-ghost use Rattle.output.specs.Wrote.{Wrote};
 ghost use Rattle.output.specs.Written.{written_of, Fills};
 ghost use Rattle.vocabulary.specs.Vocabulary.{name_in};
 ghost use Rattle.declarations.specs.Memory.{declared_uses, Declared};
-ghost use Rattle.sheet.specs.Header.{vocabulary_of};
-ghost use Rattle.sheet.proofs.Admitted.{AcceptedSheet};
 ghost use Rattle.sheet_term.specs.Held.{HeldTerm};
-ghost use Rattle.text.specs.Declaring.{heading_lines, term_of, Declares, Arranges, EndsKnown, HeadingLength, TermLength};
+ghost use Rattle.text.specs.Declaring.{sheet_vocabulary, heading_lines, term_of, Declares, Arranges, EndsKnown, HeadingLength, TermLength};
 
 use declaration_length::lines_length;
 use declaration_order::sort_declarations;
@@ -24,10 +21,9 @@ use declarations::{Declaration, Declarations, put_declarations};
 use definitions::{Reason, Refusal, Style, TermList, Version};
 use number::pair_offset;
 use output::{Sink, Writer};
-use proof_term_display::print_term;
 use proof_term_length::term_length;
 use prop::fill_all_ends;
-use sheet::{Sheet, code_bytes, name_pairs, proposition_pairs, text_bytes, vocabulary};
+use sheet::{AdmittedSheet, Sheet};
 use sheet_term::{TERM_NUMBERS, sheet_term};
 
 // As many declarations as there are names and counts of parameters.
@@ -48,25 +44,23 @@ fn lists(version: Version) -> (TermList, TermList)
     }
 }
 
-// Stores the declarations of a list of the term and then of what the goal adds to it, and says how many there are. A sheet, its header,
-// the records of its term and the term's own stay four parameters: in a struct each `s.now` of the clauses would be a field's `t.sheet.now`.
+// Stores the declarations of a list of the term and then of what the goal adds to it, and says how many there are.
 fn declare(
-    s: &[u8],
-    h: Sheet,
+    sheet: &AdmittedSheet,
     terms: &[u16],
     n: usize,
     list: TermList,
     declared: &mut [Declaration; DECLARATION_LIMIT],
 ) -> usize
-    requires accepted_sheet { AcceptedSheet s.now h }
-    requires held_term { HeldTerm s.now terms.now n }
+    requires { HeldTerm sheet.now terms.now n }
     ensures within { result ≤ length declared.new }
-    ensures declares { Declares s.now h First list (take result declared.new) }
+    ensures declares { Declares sheet.now First list (take result declared.new) }
 {
     let mut noted = Declarations::<DECLARATION_LIMIT>::new();
-    let v = vocabulary(h);
+    let s = sheet.bytes();
+    let v = sheet.vocabulary();
     noted.note_term(terms, n, list, s, v);
-    let goal = pair_offset(proposition_pairs(s, h), h.goal);
+    let goal = pair_offset(sheet.proposition_pairs(), sheet.header().goal);
     noted.note_entries(s, v, goal, list);
     let all = noted.declared();
     declared[..all.len()].copy_from_slice(all);
@@ -75,46 +69,43 @@ fn declare(
 
 // Stores the declarations of both lists of a version's heading, and says how many there are of each.
 fn declare_both(
-    s: &[u8],
-    h: Sheet,
+    sheet: &AdmittedSheet,
     terms: &[u16],
     n: usize,
     version: Version,
     first: &mut [Declaration; DECLARATION_LIMIT],
     second: &mut [Declaration; DECLARATION_LIMIT],
 ) -> (usize, usize)
-    requires accepted_sheet { AcceptedSheet s.now h }
-    requires held_term { HeldTerm s.now terms.now n }
+    requires { HeldTerm sheet.now terms.now n }
     ensures within { (result.0 ≤ length first.new) × (result.1 ≤ length second.new) }
-    ensures declares { Declares s.now h First (first_list version) (take result.0 first.new) }
-    ensures declares_2 { Declares s.now h First (second_list version) (take result.1 second.new) }
+    ensures declares { Declares sheet.now First (first_list version) (take result.0 first.new) }
+    ensures declares_2 { Declares sheet.now First (second_list version) (take result.1 second.new) }
 {
     let (upper, lower) = lists(version);
-    let first_count = declare(s, h, terms, n, upper, first);
-    let second_count = declare(s, h, terms, n, lower, second);
+    let first_count = declare(sheet, terms, n, upper, first);
+    let second_count = declare(sheet, terms, n, lower, second);
     (first_count, second_count)
 }
 
 // Puts declarations, as they were first met, into the order of a version.
-fn arrange(s: &[u8], h: Sheet, version: Version, declared: &mut [Declaration])
-    requires accepted_sheet { AcceptedSheet s.now h }
-    requires declared { Declared s.now (vocabulary_of h) declared.old }
-    ensures { Arranges s.now h version declared.old declared.new }
+fn arrange(sheet: &AdmittedSheet, version: Version, declared: &mut [Declaration])
+    requires { Declared sheet.now (sheet_vocabulary sheet.now) declared.old }
+    ensures { Arranges sheet.now version declared.old declared.new }
 {
     match version {
         Version::First | Version::Second => {}
-        Version::Third => sort_declarations(declared, s, vocabulary(h)),
+        Version::Third => sort_declarations(declared, sheet.bytes(), sheet.vocabulary()),
     }
 }
 
 // Fills in where each proposition of the sheet and each of its parts ends.
-fn fill_sheet_ends(s: &[u8], h: Sheet, ends: &mut [u16; Sheet::CODE_LIMIT])
-    requires { AcceptedSheet s.now h }
-    ensures { EndsKnown s.now ends.new }
+fn fill_sheet_ends(sheet: &AdmittedSheet, ends: &mut [u16; Sheet::CODE_LIMIT])
+    ensures { EndsKnown sheet.now ends.new }
 {
+    let h = sheet.header();
     fill_all_ends(
-        proposition_pairs(s, h),
-        code_bytes(s, h),
+        sheet.proposition_pairs(),
+        sheet.code_bytes(),
         h.propositions,
         h.names,
         ends,
@@ -124,19 +115,19 @@ fn fill_sheet_ends(s: &[u8], h: Sheet, ends: &mut [u16; Sheet::CODE_LIMIT])
 // What stands before the term: the lines of the first list, those of the second, and an empty line.
 fn put_heading<S: Sink<u8>>(
     sink: &mut S,
-    s: &[u8],
-    h: Sheet,
+    sheet: &AdmittedSheet,
     version: Version,
     first: &[Declaration],
     second: &[Declaration],
 )
-    requires accepted_sheet { AcceptedSheet s.now h }
-    requires tables { Declared s.now (vocabulary_of h) first.now × Declared s.now (vocabulary_of h) second.now }
+    requires first { Declared sheet.now (sheet_vocabulary sheet.now) first.now }
+    requires second { Declared sheet.now (sheet_vocabulary sheet.now) second.now }
     ensures { S.puts sink.old (heading_lines version
-        (declared_uses (name_in s.now (vocabulary_of h)) first.now)
-        (declared_uses (name_in s.now (vocabulary_of h)) second.now)) sink.new }
+        (declared_uses (name_in sheet.now (sheet_vocabulary sheet.now)) first.now)
+        (declared_uses (name_in sheet.now (sheet_vocabulary sheet.now)) second.now)) sink.new }
 {
-    let v = vocabulary(h);
+    let s = sheet.bytes();
+    let v = sheet.vocabulary();
     let (upper, lower) = lists(version);
     put_declarations(sink, first, upper, s, v);
     sink.put(b'\n');
@@ -146,112 +137,75 @@ fn put_heading<S: Sink<u8>>(
 
 // How long what stands before the term is: the order of the lines is no matter, so they are measured before they are sorted.
 fn heading_length(
-    s: &[u8],
-    h: Sheet,
+    sheet: &AdmittedSheet,
     version: Version,
     first: &[Declaration],
     second: &[Declaration],
 ) -> usize
-    requires accepted_sheet { AcceptedSheet s.now h }
-    requires declares { Declares s.now h First (first_list version) first.now }
-    requires declares_2 { Declares s.now h First (second_list version) second.now }
+    requires declares { Declares sheet.now First (first_list version) first.now }
+    requires declares_2 { Declares sheet.now First (second_list version) second.now }
     requires few { (length first.now < 32768) × (length second.now < 32768) }
-    ensures { HeadingLength s.now version result }
+    ensures { HeadingLength sheet.now version result }
 {
-    let v = vocabulary(h);
+    let s = sheet.bytes();
+    let v = sheet.vocabulary();
     let (upper, lower) = lists(version);
     lines_length(first, upper, s, v) + lines_length(second, lower, s, v) + 3
 }
 
-// The same in lent memory, and the position behind it.
-fn write_heading(
-    out: &mut [u8],
-    s: &[u8],
-    h: Sheet,
-    version: Version,
-    first: &[Declaration],
-    second: &[Declaration],
-) -> usize
-    requires accepted_sheet { AcceptedSheet s.now h }
-    requires tables { Declared s.now (vocabulary_of h) first.now × Declared s.now (vocabulary_of h) second.now }
-    ensures { Wrote (heading_lines version
-        (declared_uses (name_in s.now (vocabulary_of h)) first.now)
-        (declared_uses (name_in s.now (vocabulary_of h)) second.now)) true out.old 0 out.new result }
-{
-    let mut writer = Writer { out, to: 0 };
-    put_heading(&mut writer, s, h, version, first, second);
-    writer.to
-}
-
 // The term, from its records.
-fn put_term(
-    out: &mut [u8],
-    to: usize,
-    s: &[u8],
-    h: Sheet,
+fn put_term<S: Sink<u8>>(
+    sink: &mut S,
+    sheet: &AdmittedSheet,
     terms: &[u16],
     n: usize,
     style: Style,
     ends: &[u16; Sheet::CODE_LIMIT],
-) -> usize
-    requires accepted_sheet { AcceptedSheet s.now h }
-    requires held_term { HeldTerm s.now terms.now n }
-    requires ends_known { EndsKnown s.now ends.now }
-    ensures { Wrote (display_term style (term_of s.now terms.now n))
-        true out.old to out.new result }
+)
+    requires held_term { HeldTerm sheet.now terms.now n }
+    requires ends_known { EndsKnown sheet.now ends.now }
+    ensures { S.puts sink.old (display_term style (term_of sheet.now terms.now n)) sink.new }
 {
-    print_term(
-        out,
-        to,
-        terms,
-        n,
-        s,
-        sheet::vocabulary(h),
-        ends,
-        style,
-        true,
-    )
+    let s = sheet.bytes();
+    let v = sheet.vocabulary();
+    proof_term_display::put_term(sink, terms, n, s, v, ends, style);
 }
 
 // How long the term's text is.
 fn measure_term(
-    s: &[u8],
-    h: Sheet,
+    sheet: &AdmittedSheet,
     terms: &[u16],
     n: usize,
     style: Style,
     ends: &[u16; Sheet::CODE_LIMIT],
 ) -> usize
-    requires accepted_sheet { AcceptedSheet s.now h }
-    requires held_term { HeldTerm s.now terms.now n }
-    requires ends_known { EndsKnown s.now ends.now }
-    ensures { TermLength (display_term style (term_of s.now terms.now n)) result }
+    requires held_term { HeldTerm sheet.now terms.now n }
+    requires ends_known { EndsKnown sheet.now ends.now }
+    ensures { TermLength (display_term style (term_of sheet.now terms.now n)) result }
 {
-    term_length(
-        terms,
-        n,
-        s,
-        sheet::vocabulary(h),
-        ends,
-        style,
-        TERM_TEXT_LIMIT,
-    )
+    let s = sheet.bytes();
+    let v = sheet.vocabulary();
+    term_length(terms, n, s, v, ends, style, TERM_TEXT_LIMIT)
 }
 
 // How long the text of a sheet's term in a version is.
-fn text_length(s: &[u8], h: Sheet, terms: &[u16], n: usize, version: Version, style: Style) -> usize
-    requires accepted_sheet { AcceptedSheet s.now h }
-    requires held_term { HeldTerm s.now terms.now n }
-    ensures { (a : List ℕ) → sheet_text s.now version style ≡ accepted a → result ≡ length a }
+fn text_length(
+    sheet: &AdmittedSheet,
+    terms: &[u16],
+    n: usize,
+    version: Version,
+    style: Style,
+) -> usize
+    requires { HeldTerm sheet.now terms.now n }
+    ensures { (a : List ℕ) → sheet_text sheet.now version style ≡ accepted a → result ≡ length a }
 {
     let mut ends = [0u16; Sheet::CODE_LIMIT];
-    fill_sheet_ends(s, h, &mut ends);
-    let term = measure_term(s, h, terms, n, style, &ends);
+    fill_sheet_ends(sheet, &mut ends);
+    let term = measure_term(sheet, terms, n, style, &ends);
     let mut first = [Declaration { name: 0, count: 0 }; DECLARATION_LIMIT];
     let mut second = [Declaration { name: 0, count: 0 }; DECLARATION_LIMIT];
     let (first_count, second_count) = declare_both(
-        s,
-        h,
+        sheet,
         terms,
         n,
         version,
@@ -259,8 +213,7 @@ fn text_length(s: &[u8], h: Sheet, terms: &[u16], n: usize, version: Version, st
         &mut second,
     );
     heading_length(
-        s,
-        h,
+        sheet,
         version,
         &first[..first_count],
         &second[..second_count],
@@ -272,37 +225,34 @@ pub fn sheet_text_length(s: &[u8], version: Version, style: Style) -> Result<usi
     ensures { result ≡ written_of (sheet_text s.now version style) }
 {
     let mut terms = [0u16; TERM_NUMBERS];
-    let (h, n) = sheet_term(s, &mut terms)?;
-    Ok(text_length(s, h, &terms, n, version, style))
+    let (sheet, n) = sheet_term(s, &mut terms)?;
+    Ok(text_length(&sheet, &terms, n, version, style))
 }
 
 // The text of a sheet's term in a version, in lent memory: measured, and then written where it fits. A term that is too long for the
 // memory is refused before anything is declared. A test of room has no value to hand on, so it is an `if`.
 pub fn text(
-    s: &[u8],
-    h: Sheet,
+    sheet: &AdmittedSheet,
     terms: &[u16],
     n: usize,
     version: Version,
     style: Style,
     out: &mut [u8],
 ) -> Result<usize, Refusal>
-    requires accepted_sheet { AcceptedSheet s.now h }
-    requires held_term { HeldTerm s.now terms.now n }
-    ensures { Fills (is_in_room (length out.old) (sheet_text s.now version style))
+    requires { HeldTerm sheet.now terms.now n }
+    ensures { Fills (is_in_room (length out.old) (sheet_text sheet.now version style))
         out.old out.new result }
 {
     let mut ends = [0u16; Sheet::CODE_LIMIT];
-    fill_sheet_ends(s, h, &mut ends);
-    let term = measure_term(s, h, terms, n, style, &ends);
+    fill_sheet_ends(sheet, &mut ends);
+    let term = measure_term(sheet, terms, n, style, &ends);
     if out.len() < term {
         return Err(Reason::Room.at(0));
     }
     let mut first = [Declaration { name: 0, count: 0 }; DECLARATION_LIMIT];
     let mut second = [Declaration { name: 0, count: 0 }; DECLARATION_LIMIT];
     let (first_count, second_count) = declare_both(
-        s,
-        h,
+        sheet,
         terms,
         n,
         version,
@@ -311,13 +261,14 @@ pub fn text(
     );
     let first = &mut first[..first_count];
     let second = &mut second[..second_count];
-    let end = heading_length(s, h, version, first, second) + term;
+    let end = heading_length(sheet, version, first, second) + term;
     if out.len() < end {
         return Err(Reason::Room.at(0));
     }
-    arrange(s, h, version, first);
-    arrange(s, h, version, second);
-    let start = write_heading(out, s, h, version, first, second);
-    put_term(out, start, s, h, terms, n, style, &ends);
+    arrange(sheet, version, first);
+    arrange(sheet, version, second);
+    let mut writer = Writer { out, to: 0 };
+    put_heading(&mut writer, sheet, version, first, second);
+    put_term(&mut writer, sheet, terms, n, style, &ends);
     Ok(end)
 }

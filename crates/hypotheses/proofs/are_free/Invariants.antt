@@ -5,4 +5,4 @@ use Rattle.hypotheses.proofs.Free.{FreeBefore}
 use Rattle.hypotheses.proofs.are_free.Given as goal
 
 abbrev pub invariant-loop-pair : goal.invariant-loop-pair
-invariant-loop-pair l = (chunks_exact_size l.pair-iterator ≡ 2) × FreeBefore l.s l.hypotheses (chunks_exact_rest l.pair-iterator)
+invariant-loop-pair l = (chunks_exact_size l.pair-iterator ≡ 2) × FreeBefore l.sheet l.hypotheses (chunks_exact_rest l.pair-iterator)

@@ -1,14 +1,13 @@
 -- What is no sheet, or has no term, is refused so; a term that is held is judged.
 use borrow.Author.Rules.{rules}
-use Rattle.sheet_term.proofs.Answers.{accepted-of, term_of, refusal_of}
 use Rattle.judgement.proofs.Answers.{no_term, of-the-term}
 use Rattle.judgement.proofs.judge.Goals as goal
 
 pub judge_held-requires : goal.judge_held-requires
-judge_held-requires c = (accepted-of c.in_ok-h.ensures, term_of c.in_ok-h.ensures)
+judge_held-requires c = let given = c.in_ok-sheet.ensures in rw given.same given.term
 
-pub returns-in_err-h : goal.returns-in_err-h
-returns-in_err-h c = no_term _ _ _ (refusal_of c.in_err-h.ensures) (search rules)
+pub returns-in_err-sheet : goal.returns-in_err-sheet
+returns-in_err-sheet c = no_term _ _ _ c.in_err-sheet.ensures (search rules)
 
 pub returns : goal.returns
-returns c = of-the-term _ _ _ (term_of c.in_ok-h.ensures) c.judge_held.ensures
+returns c = let given = c.in_ok-sheet.ensures in of-the-term _ _ _ given.term (rw given.same at c.judge_held.ensures)

@@ -1,29 +1,36 @@
 -- With its index beside it, the sheet merged into itself has its own lowest numbers.
 use borrow.Author.Rules.{rules}
 use Rattle.definitions.specs.NameIndex.{slot_count}
-use Rattle.sheet.proofs.Admitted.{its_header}
+use Rattle.sheet.specs.Header.{header_of}
+use Rattle.sheet.proofs.Admitted.{AcceptedSheet, with_header}
 use Rattle.restating.proofs.Answers.{vocabulary-within, few_names, built}
 use Rattle.grafting.proofs.Tests.{indexed, none_numbered}
 use Rattle.judgement.proofs.number_names.Goals as goal
+use Rattle.judgement.proofs.number_names.Goals.{After-vocabulary-v}
+
+-- the sheet, the bytes that the index is of
+here : (c : After-vocabulary-v) → AcceptedSheet c.bytes-s.result.now (header_of c.args.sheet.now)
+here c = rw c.bytes-s.ensures.is (with_header c.vocabulary-v.ensures.accepted)
 
 pub build-requires : goal.build-requires
 unfolding slot_count
 build-requires c =
-    let sheet = c.requires.0 in
-    record {
-      slots_len = (search rules, vocabulary-within sheet c.vocabulary-v.ensures);
-      name_count_bound = few_names sheet c.vocabulary-v.ensures;
-    }
+    let sheet = here (goal.at.build-requires c).After-vocabulary-v in
+    let v = c.vocabulary-v.ensures.is in
+    record { slots_len = (search rules, vocabulary-within sheet v); name_count_bound = few_names sheet v }
 
 pub invariant_of-index : goal.invariant_of-index
 unfolding slot_count
-invariant_of-index c = record { within = vocabulary-within c.requires.0 c.vocabulary-v.ensures; whole = search rules }
+invariant_of-index c =
+    let sheet = here (goal.at.invariant_of-index c).After-vocabulary-v in
+    record { within = vocabulary-within sheet c.vocabulary-v.ensures.is; whole = search rules }
 
 pub fill_numbers-requires : goal.fill_numbers-requires
 fill_numbers-requires c =
-    let (sheet, room) = c.requires in
-    let here = built sheet c.vocabulary-v.ensures c.build.ensures in
-    record { indexed = (indexed sheet c.vocabulary-v.ensures here, indexed sheet c.vocabulary-v.ensures here); numbered = none_numbered _ _ room }
+    let sheet = here (goal.at.fill_numbers-requires c).After-vocabulary-v in
+    let v = c.vocabulary-v.ensures.is in
+    let built = built sheet v c.build.ensures in
+    record { indexed = (indexed sheet v built, indexed sheet v built); numbered = none_numbered _ _ c.requires }
 
-pub vocabulary-v-requires : goal.vocabulary-v-requires
-vocabulary-v-requires c = (its_header c.requires.0).in_range
+pub returns : goal.returns
+returns c = rw c.bytes-s.ensures.is at c.fill_numbers.ensures.numbered_2

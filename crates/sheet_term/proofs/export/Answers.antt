@@ -9,8 +9,7 @@ use Rattle.proof_tree.specs.Exporting.{RoomFor}
 use Rattle.proof_tree.proofs.Walking.{term_of}
 use Rattle.sheet.proofs.Admitted.{AcceptedSheet, beside_header, code_of_bytes}
 use Rattle.sheet_term.proofs.Accepted.{ready}
-use Rattle.sheet_term.proofs.Held.{gives_term, gives_refusal}
-use Rattle.sheet_term.proofs.Answers.{gives_none}
+use Rattle.sheet_term.proofs.Held.{held, is_refused}
 use Rattle.sheet_term.proofs.export.Goals as goal
 use Rattle.sheet_term.proofs.export.Goals.{After-header-h, After-step_records}
 
@@ -43,7 +42,7 @@ pub returns : goal.returns
 unfolding step_limit
 returns c =
     let w = walkable (goal.at.returns c).After-step_records in
-    gives_term (its_sheet (goal.at.returns c).After-header-h)
+    held (its_sheet (goal.at.returns c).After-header-h)
     c.header-h.ensures.accepted.bytes (search rules)
     (rw (c.proposition_pairs.ensures.is, c.code_bytes.ensures.is, c.step_records.ensures.is) at (c.in_ok-next.ensures c.header-h.result.names w.0.0))
     refl
@@ -52,7 +51,8 @@ pub returns-in_err-next : goal.returns-in_err-next
 unfolding step_limit
 returns-in_err-next c =
     let w = walkable (goal.at.returns-in_err-next c).After-step_records in
-    gives_none (gives_refusal (its_sheet (goal.at.returns-in_err-next c).After-header-h)
+    let no_term = is_refused (its_sheet (goal.at.returns-in_err-next c).After-header-h)
     c.header-h.ensures.accepted.bytes (search rules)
     (rw (c.proposition_pairs.ensures.is, c.code_bytes.ensures.is, c.step_records.ensures.is) at (c.in_err-next.ensures c.header-h.result.names w.0.0))
-    refl) (search rules)
+    refl in
+    search rules

@@ -6,19 +6,19 @@ use Rattle.definitions.specs.Sheet.{step_limit}
 use Rattle.definitions.specs.Answers.{label_count}
 use Rattle.std.specs.Prelude.{Ok}
 use Rattle.sheet_term.specs.Counted.{counted_of}
-use Rattle.sheet_term.proofs.Answers.{term_of, refusal_of, no_count}
+use Rattle.sheet_term.proofs.Answers.{no_count}
 use Rattle.sheet_term.proofs.label_count.Goals as goal
 
 pub slice_bounds-annotation_count-end : goal.slice_bounds-annotation_count-end
 unfolding step_limit
-slice_bounds-annotation_count-end c = sym (term_of c.in_ok-n.ensures).room
+slice_bounds-annotation_count-end c = sym c.in_ok-n.ensures.term.room
 
 pub annotation_count-requires : goal.annotation_count-requires
-annotation_count-requires c = let t = term_of c.in_ok-n.ensures in (t.held, t.tallied)
+annotation_count-requires c = let t = c.in_ok-n.ensures.term in (t.held, t.tallied)
 
 pub returns-in_err-n : goal.returns-in_err-n
-returns-in_err-n c = (search rules) ∙ no_count _ (refusal_of c.in_err-n.ensures)
+returns-in_err-n c = (search rules) ∙ no_count _ c.in_err-n.ensures
 
 pub returns : goal.returns
 unfolding label_count map_outcome counted_of
-returns c = rw (term_of c.in_ok-n.ensures).is_term (ap Ok (c.annotation_count.ensures _))
+returns c = rw c.in_ok-n.ensures.term.is_term (ap Ok (c.annotation_count.ensures _))

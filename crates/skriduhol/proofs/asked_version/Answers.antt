@@ -20,4 +20,4 @@ returns-in-3 c = λ s. rw c.in-3.is
 
 pub returns-in_default : goal.returns-in_default
 unfolding asked_of version_of refuse located column_of names_step
-returns-in_default c = λ s. rw c.at.ensures (search (rules, ne_eqb))
+returns-in_default c = λ s. rw (c.from.ensures, c.at.ensures) (search (rules, ne_eqb))

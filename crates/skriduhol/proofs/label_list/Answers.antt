@@ -1,35 +1,39 @@
--- The labels of a term that is held can be listed; the list is measured and then written. The refusal of a term is the answer.
+-- The labels of a term that is held can be listed; the list is counted and then written. The refusal of a term is the answer.
+use mathlib.Core.Path.{◌≡◌, refl}
 use native.Mathlib.Omega.{arith}
 use Rattle.std.proofs.Common.{rules}
+use Rattle.output.proofs.Writing.{counted_dry}
 use Rattle.proof_term_lists.specs.Labels.{Listable}
-use Rattle.sheet.proofs.Admitted.{its_header}
-use Rattle.sheet_term.proofs.Answers.{accepted-of, term_of, refusal_of}
+use Rattle.text.specs.Declaring.{sheet_vocabulary}
 use Rattle.text.proofs.Labels as labels
 use Rattle.skriduhol.proofs.Lists.{no_list, too_long, fills}
 use Rattle.skriduhol.proofs.label_list.Goals as goal
 use Rattle.skriduhol.proofs.label_list.Goals.{After-vocabulary-v}
 
-listable : (c : After-vocabulary-v) → Listable c.args.s.now c.vocabulary-v.result c.sheet_term.new.terms c.in_ok-h.n
-listable c =
-    let sheet = accepted-of c.in_ok-h.ensures in
-    labels.listable sheet.sheet (λ i. omega (arith, c.type_inv.s i)) sheet c.vocabulary-v.ensures (term_of c.in_ok-h.ensures)
+its_vocabulary : (c : After-vocabulary-v) → c.vocabulary-v.result ≡ sheet_vocabulary c.args.s.now
+its_vocabulary c = rw c.in_ok-sheet.ensures.same at c.vocabulary-v.ensures.is
 
-pub returns-in_err-h : goal.returns-in_err-h
-returns-in_err-h c = no_list _ _ (refusal_of c.in_err-h.ensures) (search rules) _
+listable : (c : After-vocabulary-v) → Listable c.args.s.now c.vocabulary-v.result c.sheet_term.new.terms c.in_ok-sheet.n
+listable c = let given = c.in_ok-sheet.ensures in labels.listable given.sheet (its_vocabulary c) given.term
 
-pub vocabulary-v-requires : goal.vocabulary-v-requires
-vocabulary-v-requires c = (its_header (accepted-of c.in_ok-h.ensures)).in_range
+pub returns-in_err-sheet : goal.returns-in_err-sheet
+returns-in_err-sheet c = no_list _ _ c.in_err-sheet.ensures (search rules) _
 
-pub put_list-end-requires : goal.put_list-end-requires
-put_list-end-requires c = listable (goal.at.put_list-end-requires c).After-vocabulary-v
+pub put_term_list-requires : goal.put_term_list-requires
+put_term_list-requires c = listable (goal.at.put_term_list-requires c).After-vocabulary-v
 
-pub returns-then-out-end : goal.returns-then-out-end
-returns-then-out-end c =
-    rw c.at.ensures (too_long (accepted-of c.in_ok-h.ensures) c.vocabulary-v.ensures (term_of c.in_ok-h.ensures) _ c.put_list-end.ensures (omega arith))
+pub returns-then-out-length : goal.returns-then-out-length
+returns-then-out-length c =
+    let given = c.in_ok-sheet.ensures in
+    rw c.at.ensures
+    (too_long given.sheet (its_vocabulary (goal.at.returns-then-out-length c).After-vocabulary-v) given.term _
+    (counted_dry refl (search rules) c.put_term_list.ensures) (omega arith))
 
-pub put_list-requires : goal.put_list-requires
-put_list-requires c = listable (goal.at.put_list-requires c).After-vocabulary-v
+pub put_term_list-requires-2 : goal.put_term_list-requires-2
+put_term_list-requires-2 c = listable (goal.at.put_term_list-requires-2 c).After-vocabulary-v
 
 pub returns : goal.returns
 returns c =
-    fills (accepted-of c.in_ok-h.ensures) c.vocabulary-v.ensures (term_of c.in_ok-h.ensures) _ c.put_list-end.ensures (omega arith) c.put_list.ensures
+    let given = c.in_ok-sheet.ensures in
+    fills given.sheet (its_vocabulary (goal.at.returns c).After-vocabulary-v) given.term _
+    (counted_dry refl (search rules) c.put_term_list.ensures) (omega arith) {next = c.put_term_list-2.new.sink.to} (search rules)

@@ -1,44 +1,49 @@
--- An accepted sheet's names are entered; a refusal is located, and leaves the slots as they were.
-use mathlib.Core.Path.{◌≡◌, sym, ◌∙◌}
+-- An admitted sheet's names are entered; a refusal is located, and leaves the slots as they were.
+use mathlib.Core.Path.{◌≡◌}
 use native.Mathlib.Omega.{arith}
 use Rattle.std.proofs.Common.{rules}
 use Rattle.std.specs.Prelude.{Err}
 use Rattle.definitions.specs.NameIndex.{slot_count}
-use Rattle.sheet.proofs.Admitted.{AcceptedSheet, accepted_sheet, refused_sheet, its_header}
+use Rattle.sheet.specs.Header.{header_of, vocabulary_of}
+use Rattle.sheet.specs.Admitted.{Accepted}
+use Rattle.sheet.proofs.Admitted.{with_header, has_header}
 use Rattle.sheet.proofs.NamesAndCode.{within}
 use Rattle.located.proofs.AfterHeader.{admission_after_header}
 use Rattle.located.proofs.Back.{back, mapped, accepted_back, refused_back}
 use Rattle.skriduhol.proofs.Names.{names_fit, index_filled, index_refused}
 use Rattle.skriduhol.proofs.name_index.Goals as goal
-use Rattle.skriduhol.proofs.name_index.Goals.{After-map_err, In_ok-h, In_err-h}
+use Rattle.skriduhol.proofs.name_index.Goals.{After-map_err, In_ok-sheet, In_err-sheet, After-vocabulary}
 
-located_here : (c : After-map_err) → c.map_err.result ≡ back c.args.s.now c.answer-checked.result
-located_here c = mapped _ c.answer-checked.result c.map_err.ensures.cases (λ x l e p. search rules)
+located_here : (c : After-map_err) → c.map_err.result ≡ back c.args.s.now c.new-checked.result
+located_here c = mapped _ c.new-checked.result c.map_err.ensures.cases (λ x l e p. search rules)
 
-is_accepted : (c : In_ok-h) → AcceptedSheet c.args.s.now c.in_ok-h.h
-is_accepted c =
-    accepted_sheet _ (sym c.answer-checked.ensures ∙ accepted_back _ c.answer-checked.result (located_here (goal.at.In_ok-h c).After-map_err) c.in_ok-h.was)
+is_admitted : (c : In_ok-sheet) → (c.in_ok-sheet.sheet ≡ c.args.s.now) × Accepted c.args.s.now
+is_admitted c =
+    rw (accepted_back _ c.new-checked.result (located_here (goal.at.In_ok-sheet c).After-map_err) c.in_ok-sheet.was) at c.new-checked.ensures
+
+-- the vocabulary is that of the bytes
+its_vocabulary : (c : After-vocabulary) → c.vocabulary.result ≡ vocabulary_of (header_of c.args.s.now)
+its_vocabulary c = rw (is_admitted (goal.at.After-vocabulary c).In_ok-sheet).0 at c.vocabulary.ensures.is
 
 pub map_err-requires : goal.map_err-requires
-map_err-requires c = λ r e. let after = admission_after_header _ (refused_sheet _ (sym c.answer-checked.ensures ∙ e)) in search rules
+map_err-requires c = λ r e. let after = admission_after_header _ (rw e at c.new-checked.ensures) in search rules
 
-pub returns-in_err-h : goal.returns-in_err-h
-returns-in_err-h c =
-    let here = (goal.at.returns-in_err-h c).In_err-h in
-    let (_, was, at) = refused_back _ c.answer-checked.result (located_here (goal.at.In_err-h here).After-map_err) c.in_err-h.was in
-    let passed : Err c.in_err-h.field-0.0 ≡ c.from_residual.result = search rules in
-    rw (← passed) (index_refused (refused_sheet _ (sym c.answer-checked.ensures ∙ was)) at)
-
-pub vocabulary-requires : goal.vocabulary-requires
-vocabulary-requires c = (its_header (is_accepted (goal.at.vocabulary-requires c).In_ok-h)).in_range
+pub returns-in_err-sheet : goal.returns-in_err-sheet
+returns-in_err-sheet c =
+    let here = (goal.at.returns-in_err-sheet c).In_err-sheet in
+    let (_, was, at) = refused_back _ c.new-checked.result (located_here (goal.at.In_err-sheet here).After-map_err) c.in_err-sheet.was in
+    let passed : Err c.in_err-sheet.field-0.0 ≡ c.from_residual.result = search rules in
+    rw (← passed) (index_refused (rw was at c.new-checked.ensures) at)
 
 pub build-requires : goal.build-requires
 unfolding slot_count
 build-requires c =
-    let a = is_accepted (goal.at.build-requires c).In_ok-h in
-    rw c.vocabulary.ensures record { slots_len = (omega arith, within (its_header a)); name_count_bound = names_fit a }
+    let sheet = (is_admitted (goal.at.build-requires c).In_ok-sheet).1 in
+    rw (its_vocabulary (goal.at.build-requires c).After-vocabulary)
+    record { slots_len = (omega arith, within (has_header sheet.sheet)); name_count_bound = names_fit (with_header sheet) }
 
 pub returns : goal.returns
 unfolding slot_count
 returns c =
-    index_filled (is_accepted (goal.at.returns c).In_ok-h) (omega arith) (rw c.vocabulary.ensures at c.build.ensures)
+    let sheet = (is_admitted (goal.at.returns c).In_ok-sheet).1 in
+    index_filled (with_header sheet) (omega arith) (rw (its_vocabulary (goal.at.returns c).After-vocabulary) at c.build.ensures)

@@ -1,19 +1,20 @@
--- The term and the lines before it are measured; the text is refused for want of room, or written.
+-- The term and the lines before it are measured; the text is refused for want of room, or put into the memory.
+use Rattle.std.proofs.Common.{rules}
 use Rattle.text.proofs.Heading.{in_order, heading_is, term_too_long, text_too_long, text_fills}
 use Rattle.text.proofs.text.Goals as goal
 
 pub returns-then-out-term : goal.returns-then-out-term
 returns-then-out-term c =
-    rw c.at.ensures (term_too_long c.requires.held_term _ _ c.measure_term-term.ensures c.if-out-term.true)
+    rw c.at.ensures (term_too_long c.requires _ _ c.measure_term-term.ensures c.if-out-term.true)
 
 pub returns-then-out-end : goal.returns-then-out-end
 returns-then-out-end c =
     rw c.at-then-out-end.ensures
-    (text_too_long c.requires.held_term _ _ c.measure_term-term.ensures c.heading_length.ensures c.if-out-end.true)
+    (text_too_long c.requires _ _ c.measure_term-term.ensures c.heading_length.ensures c.if-out-end.true)
 
 pub returns : goal.returns
 returns c =
     let both = c.declare_both-first_count.ensures in
     let heading = heading_is c.args.version (in_order both.declares c.arrange.ensures) (in_order both.declares_2 c.arrange-2.ensures) in
-    text_fills c.requires.held_term _ _ c.measure_term-term.ensures c.heading_length.ensures c.if-out-end.false
-    (λ t is. rw (← heading t is) c.write_heading-start.ensures) c.put_term.ensures
+    text_fills c.requires _ _ c.measure_term-term.ensures c.heading_length.ensures {middle = c.put_heading.new.sink.out.now} {to = c.put_heading.new.sink.to}
+    {next = c.put_term.new.sink.to} c.if-out-end.false (λ t is. rw (← heading t is) (search rules)) (search rules)

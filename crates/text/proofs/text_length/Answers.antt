@@ -3,5 +3,4 @@ use Rattle.text.proofs.Heading.{text_long}
 use Rattle.text.proofs.text_length.Goals as goal
 
 pub returns : goal.returns
-returns c =
-    text_long c.requires.held_term _ _ c.measure_term-term.ensures c.heading_length.ensures
+returns c = text_long c.requires _ _ c.measure_term-term.ensures c.heading_length.ensures
