@@ -7,7 +7,7 @@ ghost use Rattle.definitions.specs.TermReader.{read_answer};
 ghost use Rattle.skriduhol_terms.specs.Judged.{JudgesOf};
 ghost use Rattle.skriduhol_terms.specs.Reading.{reading_of, ReadsOf, RestoresOf, MeansTerm};
 
-use definitions::{Located, Refusal};
+use definitions::Located;
 use located::locate;
 use term_reader::TermSize;
 
@@ -21,19 +21,12 @@ pub fn judge(s: &[u8], hypotheses: &[u16], k: usize) -> Result<Option<usize>, Lo
     judged.map_err(|refusal| locate(s, refusal))
 }
 
-// A refusal of a text, which names no step of a sheet.
-fn without_column(refusal: Refusal) -> Located
-    ensures { result ≡ record { refusal = refusal; column = 0 } }
-{
-    Located { refusal, column: 0 }
-}
-
 // How large the term is whose strict text these bytes are: what `read_term` answers given room, and never 16.
 pub fn read_term_length(text: &[u8], types: &[u8]) -> Result<TermSize, Located>
     ensures { result ≡ reading_of (read_answer (names_in types.now) text.now) }
 {
-    let read = term_reader::term_size(text, types);
-    read.map_err(without_column)
+    let size = term_reader::term_size(text, types);
+    size.map_err(Located::from)
 }
 
 // The term whose strict text these bytes are, without declarations; the datatypes are listed with newlines between their names. Its
@@ -56,5 +49,5 @@ pub fn read_term(
         records.new names.new code.new result }
 {
     let read = term_reader::read_term(text, types, records, names, code);
-    read.map_err(without_column)
+    read.map_err(Located::from)
 }

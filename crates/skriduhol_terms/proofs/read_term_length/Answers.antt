@@ -6,5 +6,5 @@ use Rattle.skriduhol_terms.proofs.read_term_length.Goals as goal
 
 pub returns : goal.returns
 returns c =
-    let back = mapped c.term_size-read.result c.map_err.ensures.cases (λ x l p. search rules) in
-    back ∙ ap nowhere c.term_size-read.ensures ∙ reading_back _
+    let back = mapped c.term_size-size.result c.map_err.ensures.cases (λ x l p. search rules) in
+    back ∙ ap nowhere c.term_size-size.ensures ∙ reading_back _
