@@ -1,12 +1,17 @@
 -- A record's label is printable where the record's is ready, and its text is the record's.
 use Prim.Native.Nat.{ℕ}
-use mathlib.Core.Path.{◌≡◌, sym, ◌∙◌}
+use mathlib.Core.Path.{◌≡◌, sym, ap, ◌∙◌}
 use Rattle.std.specs.Prelude.{Option, None, Some, IfSome}
 use mathlib.Core.List.{List}
 use Rattle.std.proofs.lemmas.Bool.{eqb-false}
-use Rattle.proof_term.specs.Records.{field_at}
-use Rattle.proof_term.specs.Views.{label_of_numbers, parameter_of_numbers}
+use Rattle.definitions.specs.Name.{Name}
+use Rattle.definitions.specs.Prop.{Prop, rename_prop}
+use Rattle.definitions.specs.Term.{rename_label}
+use Rattle.definitions.specs.Display.{display_prop, display_label}
+use Rattle.proof_term.specs.Records.{field_at, label_of}
+use Rattle.proof_term.specs.Views.{label_of_numbers, parameter_of_numbers, label_meant}
 use Rattle.proof_term.specs.declared.nodes.Label.{Label}
+use Rattle.proof_term.specs.declared.nodes.Label.TheVariants.{Proposition, Datatype}
 use Rattle.proof_term.proofs.Views.{label_same, parameter_same, parameter_read, datatype_read, proposition_read}
 use Rattle.vocabulary.specs.declared.Vocabulary.{Vocabulary}
 use Rattle.vocabulary.specs.Vocabulary.{prop_in}
@@ -37,3 +42,18 @@ module _ (bytes : List ℕ) (v : Vocabulary) (records : List ℕ) (n : ℕ) wher
   pub parameter_label_shown : {l : Option Label} → l ≡ parameter_of_numbers (field_at records n 3) (field_at records n 4)
       → shown_parameter_label bytes v l ≡ parameter_label_text bytes v records n
   parameter_label_shown is = rw (is, parameter_same (prop_in bytes v) (field_at records n 3) (field_at records n 4))
+
+-- The text of a label by its kind, over any names and propositions:
+module _ (f : ℕ → Name) (props : ℕ → Prop ℕ) (kind number : ℕ) where
+  read_text : {l : Label} → label_of_numbers kind number ≡ l
+      → display_label (rename_label f (label_meant props l)) ≡ display_label (rename_label f (label_of props kind number))
+  read_text is = ap (λ l. display_label (rename_label f (label_meant props l))) (sym is) ∙ ap (λ l. display_label (rename_label f l)) (label_same props kind number)
+
+  pub datatype_text : {name : ℕ} → label_of_numbers kind number ≡ Datatype name → f name ≡ display_label (rename_label f (label_of props kind number))
+  unfolding rename_label display_label
+  datatype_text is = read_text is
+
+  pub proposition_text : {at : ℕ} → label_of_numbers kind number ≡ Proposition at
+      → display_prop (rename_prop f (props at)) ≡ display_label (rename_label f (label_of props kind number))
+  unfolding rename_label display_label
+  proposition_text is = read_text is
