@@ -82,6 +82,7 @@ impl<const N: usize> Declarations<N> {
 
     // Whether a declaration has this count and the bytes of this name. The search goes from the newest of the name's slot to older ones,
     // and where their chain ends is not known before: so it is a `while let`.
+    #[tactic(auto, unfolding(definitions::specs::NameIndex::slot_count), using(crate::proofs::Noting::slot_below))]
     fn is_declared(
         &self,
         slot: usize,
@@ -107,6 +108,7 @@ impl<const N: usize> Declarations<N> {
 
     // Adds a use, unless a declaration has its name bytes and count. A use that was noted under the same number is known by its flag,
     // so the search runs once for each number and count. A new declaration is put before the chain of its slot.
+    #[tactic(auto, unfolding(definitions::specs::NameIndex::slot_count), using(crate::proofs::Noting::slot_below))]
     fn note(&mut self, name: usize, count: usize, bytes: &[u8], v: Vocabulary)
         requires held { Held bytes.now v self.old }
         requires name_bound { (name < v.name_count) × (count ≤ parameter_limit) }

@@ -3,60 +3,51 @@ use mathlib.Core.Path.{◌≡◌, sym, ◌∙◌}
 use native.Mathlib.Omega.{arith}
 use borrow.Author.Rules.{rules}
 use lib.ListN.{length}
-use Rattle.definitions.specs.NameIndex.{slot_count}
+use Rattle.std.specs.Prelude.{Some}
 use Rattle.vocabulary.specs.Vocabulary.{name_in}
 use Rattle.prop_lists.specs.Entries.{use_of}
 use Rattle.declarations.specs.Chains.{row}
-use Rattle.declarations.proofs.Chains.{start_slot_below}
 use Rattle.declarations.proofs.Noting.{newest_of}
-use Rattle.declarations.proofs.Search.{same_is, all_remain, none_remain, found, passed_over}
+use Rattle.declarations.proofs.Search.{Remain, same_is, all_remain, none_remain, found, passed_over}
 use Rattle.declarations.proofs.Declarations.is_declared.Goals as goal
+use Rattle.declarations.proofs.Declarations.is_declared.Goals.{In-Some}
 
-pub offset_bounds-self-slot : goal.offset_bounds-self-slot
-unfolding slot_count
-offset_bounds-self-slot g c = omega (arith, start_slot_below (name_in c.args.bytes.now c.args.v c.args.name))
-
-pub bounds-self-slot : goal.bounds-self-slot
-unfolding slot_count
-bounds-self-slot g c = omega (arith, start_slot_below (name_in c.args.bytes.now c.args.v c.args.name))
+-- declaration j is the last of those that are left
+these : (g : _) (c : In-Some g) →
+    let s = c.args in
+    Remain (name_in s.bytes.now s.v) s.self.now.rows s.self.now.len (use_of s.name s.count) (Some c.in-Some.j)
+these g c = rw c.in-Some.is at c.loop-next.invariant
 
 pub loop-next-init : goal.loop-next-init
 loop-next-init g c = all_remain (newest_of _ c.requires.held c.requires.named.1)
 
--- declaration j is one of them
 pub bounds-self-j : goal.bounds-self-j
-bounds-self-j g c =
-    let these = rw c.in-Some.is at c.loop-next.invariant in
-    omega (arith, these.within, c.from-j.ensures, c.requires.held.within)
+bounds-self-j g c = omega (arith, (these g (goal.at.bounds-self-j g c).In-Some).within, c.from-j.ensures, c.requires.held.within)
 
 pub bounds-self-j-in-Some : goal.bounds-self-j-in-Some
-bounds-self-j-in-Some g c =
-    let these = rw c.in-Some.is at c.loop-next.invariant in
-    omega (arith, these.within, c.from-j.ensures, c.requires.held.within)
+bounds-self-j-in-Some g c = omega (arith, (these g (goal.at.bounds-self-j-in-Some g c).In-Some).within, c.from-j.ensures, c.requires.held.within)
 
 pub has-requires : goal.has-requires
 has-requires g c =
-    let these = rw c.in-Some.is at c.loop-next.invariant in
-    (c.requires.named.0, rw c.from-j.ensures (c.requires.held.named _ (omega (arith, these.within))))
+    let left = these g (goal.at.has-requires g c).In-Some in
+    (c.requires.named.0, rw c.from-j.ensures (c.requires.held.named _ (omega (arith, left.within))))
 
 pub returns-then-has : goal.returns-then-has
 returns-then-has g c =
-    let these = rw c.in-Some.is at c.loop-next.invariant in
     let s = c.args in
     let long : length s.self.now.rows ≡ g.row.N = search rules in
-    sym (found these (omega (arith, long, c.requires.held.within)) (same_is (name_in s.bytes.now s.v) (use_of s.name s.count) (row s.self.now.rows c.in-Some.j) ∙ (sym (rw c.from-j.ensures at c.has.ensures) ∙ c.if-has.true)))
+    sym (found (these g (goal.at.returns-then-has g c).In-Some) (omega (arith, long, c.requires.held.within)) (same_is (name_in s.bytes.now s.v) (use_of s.name s.count) (row s.self.now.rows c.in-Some.j) ∙ (sym (rw c.from-j.ensures at c.has.ensures) ∙ c.if-has.true)))
 
 pub loop-next-preserved : goal.loop-next-preserved
 loop-next-preserved g c =
-    let these = rw c.in-Some.is at c.loop-next.invariant in
     let s = c.args in
     let other = same_is (name_in s.bytes.now s.v) (use_of s.name s.count) (row s.self.now.rows c.in-Some.j) ∙ (sym (rw c.from-j.ensures at c.has.ensures) ∙ c.if-has.false) in
-    rw c.from-j.ensures (passed_over these c.requires.held.chained other)
+    rw c.from-j.ensures (passed_over (these g (goal.at.loop-next-preserved g c).In-Some) c.requires.held.chained other)
 
 pub loop-next-smaller : goal.loop-next-smaller
 loop-next-smaller g c =
-    let these = rw c.in-Some.is at c.loop-next.invariant in
-    rw (c.in-Some.is, c.from-j.ensures) (omega (arith, (c.requires.held.chained.goes_on c.in-Some.j (omega (arith, these.within))).within))
+    let left = these g (goal.at.loop-next-smaller g c).In-Some in
+    rw (c.in-Some.is, c.from-j.ensures) (omega (arith, (c.requires.held.chained.goes_on c.in-Some.j (omega (arith, left.within))).within))
 
 pub returns : goal.returns
 returns g c = sym (none_remain (rw c.in_default.is at c.loop-next.invariant))

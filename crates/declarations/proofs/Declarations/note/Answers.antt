@@ -1,11 +1,17 @@
 -- Each return is one of the three ways to note a use: by its flag, by a declaration that has its bytes, or as a new declaration.
+use Prim.Native.Nat.{◌<◌}
 use mathlib.Core.Path.{sym, ap, ◌∙◌}
 use native.Mathlib.Omega.{arith}
 use borrow.Author.Rules.{rules}
 use Rattle.definitions.specs.Code.{parameter_limit}
 use Rattle.definitions.specs.NameIndex.{slot_count, start_slot}
-use Rattle.declarations.proofs.Noting.{has_flag, noted_again, slot_below, room_for_one, noted_known, noted_new}
+use Rattle.declarations.proofs.Noting.{has_flag, noted_again, room_for_one, noted_known, noted_new}
 use Rattle.declarations.proofs.Declarations.note.Goals as goal
+use Rattle.declarations.proofs.Declarations.note.Goals.{Else-self-flag}
+
+-- where the flag was not set there is room for a declaration more
+room : (g : _) (c : Else-self-flag g) → c.args.self.now.len < g.row.N
+room g c = room_for_one c.requires.held c.requires.name_bound.0 c.requires.name_bound.1 (search rules) c.if-self-flag.false
 
 pub overflow_add-flag : goal.overflow_add-flag
 overflow_add-flag g c = let inside = has_flag c.requires.held c.requires.name_bound.0 c.requires.name_bound.1 in omega (arith, inside, c.requires.held.numbered)
@@ -37,39 +43,11 @@ pub overflow_cast-self-2 : goal.overflow_cast-self-2
 unfolding parameter_limit
 overflow_cast-self-2 g c = omega (arith, c.requires.name_bound.1)
 
-pub offset_bounds-self-self : goal.offset_bounds-self-self
-offset_bounds-self-self g c = let room = room_for_one c.requires.held c.requires.name_bound.0 c.requires.name_bound.1 (search rules) c.if-self-flag.false in omega (arith, room, c.requires.held.numbered)
-
 pub bounds-self-self : goal.bounds-self-self
-bounds-self-self g c = let room = room_for_one c.requires.held c.requires.name_bound.0 c.requires.name_bound.1 (search rules) c.if-self-flag.false in omega (arith, room, c.requires.held.numbered)
-
-pub offset_bounds-self-self-2 : goal.offset_bounds-self-self-2
-offset_bounds-self-self-2 g c = let room = room_for_one c.requires.held c.requires.name_bound.0 c.requires.name_bound.1 (search rules) c.if-self-flag.false in omega (arith, room, c.requires.held.numbered)
+bounds-self-self g c = room g (goal.at.bounds-self-self g c).Else-self-flag
 
 pub bounds-self-self-2 : goal.bounds-self-self-2
-bounds-self-self-2 g c = let room = room_for_one c.requires.held c.requires.name_bound.0 c.requires.name_bound.1 (search rules) c.if-self-flag.false in omega (arith, room, c.requires.held.numbered)
-
-pub overflow_cast-self-3 : goal.overflow_cast-self-3
-overflow_cast-self-3 g c = let room = room_for_one c.requires.held c.requires.name_bound.0 c.requires.name_bound.1 (search rules) c.if-self-flag.false in omega (arith, room, c.requires.held.numbered)
-
-pub overflow_add-self : goal.overflow_add-self
-overflow_add-self g c = let room = room_for_one c.requires.held c.requires.name_bound.0 c.requires.name_bound.1 (search rules) c.if-self-flag.false in omega (arith, room, c.requires.held.numbered)
-
-pub offset_bounds-self-slot : goal.offset_bounds-self-slot
-unfolding slot_count
-offset_bounds-self-slot g c = omega (arith, slot_below _ c.start_slot-slot.ensures)
-
-pub bounds-self-slot : goal.bounds-self-slot
-unfolding slot_count
-bounds-self-slot g c = omega (arith, slot_below _ c.start_slot-slot.ensures)
-
-pub offset_bounds-self-slot-2 : goal.offset_bounds-self-slot-2
-unfolding slot_count
-offset_bounds-self-slot-2 g c = omega (arith, slot_below _ c.start_slot-slot.ensures)
-
-pub bounds-self-slot-2 : goal.bounds-self-slot-2
-unfolding slot_count
-bounds-self-slot-2 g c = omega (arith, slot_below _ c.start_slot-slot.ensures)
+bounds-self-self-2 g c = room g (goal.at.bounds-self-self-2 g c).Else-self-flag
 
 pub returns : goal.returns
 unfolding slot_count
