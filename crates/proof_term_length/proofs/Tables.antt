@@ -1,5 +1,5 @@
 -- What the tables hold while the records are measured.
-use Prim.Native.Nat.{ℕ, ◌+◌, ◌*◌, ◌/◌, ◌%◌, ◌≤◌, ◌<◌, min}
+use Prim.Native.Nat.{ℕ, ◌+◌, ◌*◌, ◌/◌, ◌%◌, ◌<◌, min}
 use mathlib.Core.Path.{◌≡◌, ap, ◌∙◌}
 use mathlib.Core.Logic.{by_cases}
 use mathlib.Core.List.{List}
@@ -10,7 +10,7 @@ use lib.Seq.{get_or-set_same, get_or-set_other}
 use Rattle.definitions.specs.declared.Style.{Style}
 use Rattle.vocabulary.specs.declared.Vocabulary.{Vocabulary}
 use Rattle.prop.specs.Printing.{prop_text}
-use Rattle.proof_term_length.specs.Measure.{term_length, own_label_length, Agrees, Measurable, MeasuredBelow, Known}
+use Rattle.proof_term_length.specs.Measure.{term_length, own_label_length, Agrees, MeasuredBelow, Known}
 
 -- an entry of a table of zeros
 zero_at : (n i : ℕ) → ◌≡◌ {A = ℕ} (get_or (replicate n 0) i 0) 0
@@ -39,14 +39,3 @@ module _ (bytes : List ℕ) (v : Vocabulary) where
     one_measured lengths {m} below inside bare whole own is k h = by_cases (ℕ_discrete k m)
         (λ e. rw e (get_or-set_same lengths m _ 0 inside ∙ (is ∙ (ap (λ l. min (bare + l) cap) own ∙ whole.same))))
         (λ other. get_or-set_other lengths m k _ 0 other ∙ below k (omega arith))
-
--- what can be measured can be measured of the records before
-pub measurable_below : {records : List ℕ} {n : ℕ} {bytes : List ℕ} {v : Vocabulary} {ends : List ℕ} {m : ℕ}
-    → Measurable records n bytes v ends → m ≤ n → Measurable records m bytes v ends
-measurable_below p h = record {
-  held = omega (arith, p.held);
-  few = omega (arith, p.few);
-  short = p.short;
-  labels = λ k l. p.labels k (omega arith);
-  names = p.names;
-}

@@ -1,6 +1,5 @@
 -- The row of the record's kind says what its text has.
 use mathlib.Core.Path.{◌≡◌, refl}
-use native.Mathlib.Omega.{arith}
 use Rattle.proof_term_length.specs.Measure.{row_of}
 use Rattle.proof_term_length.specs.declared.Row.{Row}
 use Rattle.proof_term.specs.declared.nodes.Kind.{Kind}
@@ -29,18 +28,3 @@ returns c =
     let whole = rw (← c.row_of-row.ensures) at (term_counted c.args.bytes.now c.args.v c.args.records.now c.args.n c.args.style _ kind) in
     rw (whole, ← c.name_in-name.ensures.0, ← c.name_in-other_name.ensures.0)
     (agree_more _ (agree_sum (agree_exactly refl) all c.sum-2.ensures))
-
-pub name_in-name-requires : goal.name_in-name-requires
-name_in-name-requires c = let s = c.requires in record { n_in_bounds = (s.n_in_bounds.0, (row_right c).name); all_named = s.all_named }
-
-pub name_in-other_name-requires : goal.name_in-other_name-requires
-name_in-other_name-requires c = let s = c.requires in record {
-  n_in_bounds = (s.n_in_bounds.0, (row_right (goal.at.name_in-other_name-requires c).After-row_of-row).other_name);
-  all_named = s.all_named;
-}
-
-pub overflow_add-row : goal.overflow_add-row
-overflow_add-row c = omega (arith, (row_right (goal.at.overflow_add-row c).After-row_of-row).own, c.name_in-name.ensures.1)
-
-pub overflow_add-row-2 : goal.overflow_add-row-2
-overflow_add-row-2 c = omega (arith, (row_right (goal.at.overflow_add-row-2 c).After-row_of-row).own, c.name_in-name.ensures.1, c.name_in-other_name.ensures.1)

@@ -36,20 +36,5 @@ returns c =
           (half ∙ (length-is ∙ ap (λ i. length (prop_text c.args.bytes.now c.args.v i)) there)),
     )
 
-pub overflow_cast-upper : goal.overflow_cast-upper
-overflow_cast-upper c = omega (arith, c.requires.printable.1)
-
-pub overflow_cast-result : goal.overflow_cast-result
-overflow_cast-result c = omega (arith, kept c, small c.requires.printable.0 (λ k. omega (arith, c.type_inv.bytes k)) (omega (arith, c.type_inv.ends c.args.at)))
-
-pub text_length-length-requires : goal.text_length-length-requires
-text_length-length-requires c = c.requires.printable.0
-
-pub overflow_mul-known : goal.overflow_mul-known
-overflow_mul-known c = omega (arith, c.text_length-length.ensures.small)
-
-pub overflow_add-known : goal.overflow_add-known
-overflow_add-known c = omega (arith, c.text_length-length.ensures.small, c.requires.printable.1)
-
 pub overflow_cast-known : goal.overflow_cast-known
 overflow_cast-known c = omega (arith, c.text_length-length.ensures.is, small c.requires.printable.0 (λ k. omega (arith, c.type_inv.bytes k)) (omega (arith, c.type_inv.ends c.args.at)), c.requires.printable.1)

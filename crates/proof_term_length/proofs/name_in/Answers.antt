@@ -25,9 +25,3 @@ returns-then-v-name c =
 
 pub returns : goal.returns
 returns c = (c.name_length.ensures.is ∙ sym (size_is (goal.at.returns c).After-field-name), c.name_length.ensures.small)
-
-pub field-name-requires : goal.field-name-requires
-field-name-requires c = (c.requires.n_in_bounds.0, rw c.in-Some.is at c.requires.n_in_bounds.1)
-
-pub name_length-requires : goal.name_length-requires
-name_length-requires c = c.requires.all_named.named _ c.if-v-name.false

@@ -1,9 +1,8 @@
 -- A part is an earlier record, whose length the table has, or Unit.
 use mathlib.Core.Path.{◌≡◌, refl, ap, ◌∙◌}
-use native.Mathlib.Omega.{arith}
 use Rattle.proof_term.specs.Records.{field_at}
 use Rattle.proof_term_display.specs.Format.{part_field, part_number}
-use Rattle.proof_term_display.proofs.Tables.{part_field_below, at_position}
+use Rattle.proof_term_display.proofs.Tables.{at_position}
 use Rattle.proof_term_length.specs.Measure.{part_size}
 use Rattle.proof_term_length.proofs.Sums.{agree_exactly, agree_as_far, agree_sum}
 use Rattle.proof_term_length.proofs.Counting.{unit_size, bracketed_size, bare_size}
@@ -23,9 +22,6 @@ returns-then-n-number c = λ bytes v measured.
     rw c.in-Some.is
     (agree_exactly (unit_size bytes v _ _ c.args.style _ _ (number_is (goal.at.returns-then-n-number c).After-field-number) c.if-n-number.true))
 
-pub is_bracketed-requires : goal.is_bracketed-requires
-is_bracketed-requires c = omega (arith, c.requires.0, c.if-n-number.false)
-
 pub returns-then-is_bracketed : goal.returns-then-is_bracketed
 returns-then-is_bracketed c = λ bytes v measured.
     let s = c.args in
@@ -40,6 +36,3 @@ returns c = λ bytes v measured.
     let bracketed = at_position _ _ _ _ c.position.ensures (c.is_bracketed.ensures _ _) in
     let size = bare_size bytes v _ _ s.style _ _ (number_is (goal.at.returns c).After-field-number) c.if-n-number.false bracketed c.if-is_bracketed.false in
     rw (c.in-Some.is, size) (agree_as_far (measured _ c.if-n-number.false))
-
-pub field-number-requires : goal.field-number-requires
-field-number-requires c = (c.requires.0, omega (arith, c.field.ensures, part_field_below (part_number c.in-Some.which)))

@@ -2,28 +2,12 @@
 use Prim.Native.Nat.{ℕ}
 use native.Mathlib.Omega.{arith}
 use lib.ListN.{length-set, length-replicate}
-use Rattle.proof_term_length.proofs.Tables.{none_known, one_measured, measurable_below}
+use Rattle.proof_term_length.proofs.Tables.{none_known, one_measured}
 use Rattle.proof_term_length.proofs.term_length.Goals as goal
 use Rattle.proof_term_length.proofs.term_length.Goals.{else-loop-m-test, then-loop-m-test+else-m-n}
 
 pub loop-m-init : goal.loop-m-init
 loop-m-init c = (length-replicate {A = ℕ} 2048 0, (λ m h. absurd (omega arith)), none_known _ _ 4096)
-
-pub bare_length-bare-requires : goal.bare_length-bare-requires
-bare_length-bare-requires c =
-    let s = c.requires in
-    let inv = c.loop-m.invariant in
-    record {
-      n_in_bounds = (omega (arith, s.held, c.loop-m-test.true), omega (arith, s.few, c.loop-m-test.true));
-      all_named = s.names;
-      measured_below = inv.1;
-    }
-
-pub label_length-label-requires : goal.label_length-label-requires
-label_length-label-requires c = record {
-  measurable = measurable_below c.requires (omega (arith, c.loop-m-test.true));
-  known = c.loop-m.invariant.2;
-}
 
 pub loop-m-preserved : goal.loop-m-preserved
 loop-m-preserved c =
