@@ -1,11 +1,11 @@
 -- Conclusions of two sheets, names taken by bytes; and the code of a proposition over the numbers of a map.
-use Rattle.std.specs.Prelude.{ℕ, ◌≤◌, Bool, ◌&&◌, List, length}
+use Rattle.std.specs.Prelude.{ℕ, Bool, ◌&&◌, List}
 use Rattle.definitions.specs.Name.{eq_name}
 use Rattle.definitions.specs.Prop.{rename_prop}
 use Rattle.definitions.specs.Code.{encode}
 use Rattle.definitions.specs.Equal.{eq_prop}
 use Rattle.definitions.specs.Comparison.{eq_identifier}
-use Rattle.definitions.specs.Sheet.{names, name_of}
+use Rattle.definitions.specs.Sheet.{name_of}
 use Rattle.definitions.specs.Tree.{prop_of, rename_identifier}
 use Rattle.renumbering.specs.Renumbered.{mapped}
 use Rattle.steps.specs.declared.Judgement.{Judgement}
@@ -14,10 +14,6 @@ use Rattle.steps.specs.StepAt.{object_of}
 -- the code of a sheet's proposition over the numbers that a map has for its names
 unfoldable pub code_over : List ℕ → List ℕ → ℕ → List ℕ
 code_over s numbers i = encode (rename_prop (mapped numbers) (prop_of s i))
-
--- the map has a number for each name of a sheet
-abbrev pub Numbers : List ℕ → List ℕ → Type 0
-Numbers s numbers = names s ≤ length numbers
 
 -- whether propositions p and q of two sheets are equal
 unfoldable pub same_proposition : List ℕ → ℕ → List ℕ → ℕ → Bool

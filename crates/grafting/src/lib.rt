@@ -18,7 +18,7 @@ ghost use Rattle.grafting.specs.Answered.{equal_and_limited, FillsBy, slots_by};
 
 use definitions::{Reason, Refusal, Whose};
 use equal_conclusions::{NumberedSheets, same_conclusion};
-use merged_names::fill_numbers;
+use merged_names::{IndexedSheets, fill_numbers};
 use merged_sheet::merge;
 use name_index::{Index, SLOT_COUNT, build};
 use sheet::{AdmittedSheet, Sheet, SizedSheet, vocabulary};
@@ -97,8 +97,16 @@ fn number_names(
         v: w,
         slots: &donor_slots,
     };
-    fill_numbers(host_index, host_index, host_numbers);
-    fill_numbers(host_index, donor_index, donor_numbers);
+    let one = IndexedSheets {
+        host: host_index,
+        donor: host_index,
+    };
+    let both = IndexedSheets {
+        host: host_index,
+        donor: donor_index,
+    };
+    fill_numbers(&one, host_numbers);
+    fill_numbers(&both, donor_numbers);
 }
 
 // 27, 28 and 16 of an open step; or the merged sheet, of which the answer is the header. Whether the levels pass their limit is counted

@@ -18,7 +18,7 @@ use checkable::is_checkable;
 use checker::check;
 use definitions::{Reason, Refusal};
 use hypotheses::{are_free, assume, is_free, is_out};
-use merged_names::fill_numbers;
+use merged_names::{IndexedSheets, fill_numbers};
 use name_index::{Index, SLOT_COUNT, build};
 use number::pair_offset;
 use proof_term::NODE_LIMIT;
@@ -44,7 +44,11 @@ fn number_names(sheet: &AdmittedSheet, numbers: &mut [u16])
         v,
         slots: &slots,
     };
-    fill_numbers(index, index, numbers);
+    let sheets = IndexedSheets {
+        host: index,
+        donor: index,
+    };
+    fill_numbers(&sheets, numbers);
 }
 
 // 31: the proposition or a hypothesis is not the sheet's.

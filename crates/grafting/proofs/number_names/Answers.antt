@@ -44,32 +44,32 @@ invariant_of-donor_index c =
     let donor = donor_here (goal.at.invariant_of-donor_index c).After-build-2 in
     record { within = vocabulary-within donor c.vocabulary-w.ensures.is; whole = search rules }
 
-pub fill_numbers-requires : goal.fill_numbers-requires
-fill_numbers-requires c =
-    let host = host_here (goal.at.fill_numbers-requires c).After-build-2 in
-    let built = built host c.vocabulary-v.ensures.is c.build.ensures in
-    record {
-      indexed = (indexed host c.vocabulary-v.ensures.is built, indexed host c.vocabulary-v.ensures.is built);
-      numbered = none_numbered _ _ c.requires.0;
-    }
+pub invariant_of-one : goal.invariant_of-one
+invariant_of-one c =
+    let v = c.vocabulary-v.ensures.is in
+    let host = host_here (goal.at.invariant_of-one c).After-build-2 in
+    let there = built host v c.build.ensures in
+    record { host_indexed = indexed host v there; donor_indexed = indexed host v there }
 
-pub fill_numbers-requires-2 : goal.fill_numbers-requires-2
-fill_numbers-requires-2 c =
-    let here = (goal.at.fill_numbers-requires-2 c).After-build-2 in
+pub invariant_of-both : goal.invariant_of-both
+invariant_of-both c =
+    let v = c.vocabulary-v.ensures.is in
+    let w = c.vocabulary-w.ensures.is in
+    let here = (goal.at.invariant_of-both c).After-build-2 in
     let host = host_here here in
     let donor = donor_here here in
-    record {
-      indexed = (
-        indexed host c.vocabulary-v.ensures.is (built host c.vocabulary-v.ensures.is c.build.ensures),
-        indexed donor c.vocabulary-w.ensures.is (built donor c.vocabulary-w.ensures.is c.build-2.ensures),
-      );
-      numbered = none_numbered _ _ c.requires.1;
-    }
+    record { host_indexed = indexed host v (built host v c.build.ensures); donor_indexed = indexed donor w (built donor w c.build-2.ensures) }
+
+pub fill_numbers-requires : goal.fill_numbers-requires
+fill_numbers-requires c = none_numbered _ _ c.requires.0
+
+pub fill_numbers-requires-2 : goal.fill_numbers-requires-2
+fill_numbers-requires-2 c = none_numbered _ _ c.requires.1
 
 pub returns : goal.returns
 returns c =
     record {
-      numbered = rw c.bytes-s.ensures.is at c.fill_numbers.ensures.numbered_2;
-      numbered_2 = rw (c.bytes-s.ensures.is, c.bytes-t.ensures.is) at c.fill_numbers-2.ensures.numbered_2;
+      numbered = rw c.bytes-s.ensures.is at c.fill_numbers.ensures.numbered;
+      numbered_2 = rw (c.bytes-s.ensures.is, c.bytes-t.ensures.is) at c.fill_numbers-2.ensures.numbered;
       accepted = (c.vocabulary-v.ensures.accepted, c.vocabulary-w.ensures.accepted);
     }

@@ -25,12 +25,15 @@ invariant_of-index c =
     let sheet = here (goal.at.invariant_of-index c).After-vocabulary-v in
     record { within = vocabulary-within sheet c.vocabulary-v.ensures.is; whole = search rules }
 
-pub fill_numbers-requires : goal.fill_numbers-requires
-fill_numbers-requires c =
-    let sheet = here (goal.at.fill_numbers-requires c).After-vocabulary-v in
+pub invariant_of-sheets : goal.invariant_of-sheets
+invariant_of-sheets c =
+    let sheet = here (goal.at.invariant_of-sheets c).After-vocabulary-v in
     let v = c.vocabulary-v.ensures.is in
     let built = built sheet v c.build.ensures in
-    record { indexed = (indexed sheet v built, indexed sheet v built); numbered = none_numbered _ _ c.requires }
+    record { host_indexed = indexed sheet v built; donor_indexed = indexed sheet v built }
+
+pub fill_numbers-requires : goal.fill_numbers-requires
+fill_numbers-requires c = none_numbered _ _ c.requires
 
 pub returns : goal.returns
 returns c = rw c.bytes-s.ensures.is at c.fill_numbers.ensures.numbered_2

@@ -6,14 +6,14 @@ use Rattle.merged_names.proofs.fill_numbers.Goals as goal
 
 pub loop-n-init : goal.loop-n-init
 loop-n-init c =
-    record { all = c.requires.indexed.1.count; reached = omega arith; counted = none_yet _ _; stored = c.requires.numbered; size = refl }
+    record { all = c.args.sheets.now.donor_indexed.count; reached = omega arith; counted = none_yet _ _; stored = c.requires; size = refl }
 
 pub number_name-missing-requires : goal.number_name-missing-requires
 number_name-missing-requires c =
     let inv = c.loop-n.invariant in
     record {
-      indexed = c.requires.indexed;
-      n_bound = (omega (arith, inv.all, c.loop-n-test.true), inv.stored);
+      below = omega (arith, inv.all, c.loop-n-test.true);
+      numbered = inv.stored;
       missing_value = inv.counted;
     }
 
@@ -26,4 +26,4 @@ loop-n-preserved c =
 pub returns : goal.returns
 returns c =
     let p = all_filled c.loop-n.invariant c.loop-n-test.false in
-    record { value = p.0; numbered_2 = p.1 }
+    record { value = p.0; numbered = p.1 }
