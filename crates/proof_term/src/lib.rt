@@ -55,7 +55,8 @@ pub fn sum_over<F: Fn(usize) -> usize>(own: usize, parts: &[u16], value: F) -> u
     requires few { (own ≤ 1) × (length parts.now ≤ 3) }
     requires asked { (k : ℕ) → k < length parts.now → F.pre value (get_or parts.now k 0) }
     requires small { (k r : ℕ) → k < length parts.now → F.post value (get_or parts.now k 0) r → r ≤ tally_limit }
-    ensures { (is : ℕ → ℕ) → ((k r : ℕ) → k < length parts.now → F.post value (get_or parts.now k 0) r → r ≡ is (get_or parts.now k 0))
+    ensures { (is : ℕ → ℕ)
+        → ((k r : ℕ) → k < length parts.now → F.post value (get_or parts.now k 0) r → r ≡ is (get_or parts.now k 0))
         → result ≡ sum_over own parts.now is }
 {
     let mut sum = own;
@@ -70,7 +71,8 @@ pub fn sum_over<F: Fn(usize) -> usize>(own: usize, parts: &[u16], value: F) -> u
 #[tactic(auto, using(crate::proofs::Records::few_parts))]
 fn tally_over(records: &[u16], used: usize, kind: Kind, numbers: [u16; 5]) -> usize
     requires used_in_bounds { record_size * used ≤ length records.now }
-    requires each { Each (λ part. part < used) (part_count (kind_number kind)) (get_or numbers 0 0) (get_or numbers 1 0) (get_or numbers 2 0) }
+    requires each { Each (λ part. part < used) (part_count (kind_number kind))
+        (get_or numbers 0 0) (get_or numbers 1 0) (get_or numbers 2 0) }
     ensures { (result ≡ tally_over records.now (kind_number kind) numbers) × (result < 65536) }
 {
     let own = usize::from(kind.has_label(usize::from(numbers[2])));
