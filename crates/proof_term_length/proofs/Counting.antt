@@ -30,7 +30,7 @@ use Rattle.proof_term.proofs.Views.{LabelRead}
 use Rattle.proof_term.proofs.NodeLabels.{label_is}
 use Rattle.proof_term_display.specs.declared.TermPart.{TermPart}
 use Rattle.proof_term_length.specs.declared.Row.{Row}
-use Rattle.proof_term_length.specs.Measure.{row_of, Numbered, term_length, name_size, part_size, own_label_length}
+use Rattle.proof_term_length.specs.Measure.{row_of, term_length, name_size, part_size, own_label_length}
 
 -- a number past the names stands for no byte
 pub no_name : (bytes : List ℕ) (v : Vocabulary) (n : ℕ) → v.name_count ≤ n → length (name_in bytes v n) ≡ 0
@@ -44,28 +44,6 @@ no_name bytes v n past =
       get_or-eq_default pairs 0 {n = 4 * n + 2} (omega arith),
       get_or-eq_default pairs 0 {n = 4 * n + 2 + 1} (omega arith),
     )
-
--- no number of a row is too large
-pub record RowFits (row : Row) : Type 0 where
-  pub own : row.own < 32
-  pub name : Numbered row.name
-  pub other_name : Numbered row.other_name
-
-pub row_fits : (k : Kind) → RowFits (row_of k)
-row_fits kind.Ident = record { own = omega arith; name = omega arith; other_name = tt }
-row_fits kind.Pair = record { own = omega arith; name = tt; other_name = tt }
-row_fits kind.ProjectFst = record { own = omega arith; name = tt; other_name = tt }
-row_fits kind.ProjectSnd = record { own = omega arith; name = tt; other_name = tt }
-row_fits kind.Function = record { own = omega arith; name = omega arith; other_name = tt }
-row_fits kind.Application = record { own = omega arith; name = tt; other_name = tt }
-row_fits kind.LetIn = record { own = omega arith; name = omega arith; other_name = omega arith }
-row_fits kind.OrLeft = record { own = omega arith; name = tt; other_name = tt }
-row_fits kind.OrRight = record { own = omega arith; name = tt; other_name = tt }
-row_fits kind.Case = record { own = omega arith; name = omega arith; other_name = omega arith }
-row_fits kind.Abort = record { own = omega arith; name = tt; other_name = tt }
-row_fits kind.TypeAscription = record { own = omega arith; name = tt; other_name = tt }
-row_fits kind.Unit = record { own = omega arith; name = tt; other_name = tt }
-row_fits kind.Sorry = record { own = omega arith; name = tt; other_name = tt }
 
 module _ (bytes : List ℕ) (v : Vocabulary) (records : List ℕ) (n : ℕ) (s : Style) where
   -- a part that is there

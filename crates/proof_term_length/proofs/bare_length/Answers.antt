@@ -1,20 +1,9 @@
 -- The row of the record's kind says what its text has.
-use mathlib.Core.Path.{◌≡◌, refl}
-use Rattle.proof_term_length.specs.Measure.{row_of}
-use Rattle.proof_term_length.specs.declared.Row.{Row}
-use Rattle.proof_term.specs.declared.nodes.Kind.{Kind}
+use mathlib.Core.Path.{refl}
 use Rattle.proof_term_display.proofs.Tables.{kind_seen}
 use Rattle.proof_term_length.proofs.Sums.{agree_exactly, agree_sum, agree_more}
-use Rattle.proof_term_length.proofs.Counting.{RowFits, row_fits, term_counted}
+use Rattle.proof_term_length.proofs.Counting.{term_counted}
 use Rattle.proof_term_length.proofs.bare_length.Goals as goal
-use Rattle.proof_term_length.proofs.bare_length.Goals.{After-row_of-row}
-
--- no number of the row is too large
-fits_of : (kind : Kind) {row : Row} → row ≡ row_of kind → RowFits (row_of kind) → RowFits row
-fits_of kind e f = rw e f
-
-row_right : (c : After-row_of-row) → RowFits c.row_of-row.result
-row_right c = fits_of c.kind_at.result c.row_of-row.ensures (row_fits c.kind_at.result)
 
 pub returns : goal.returns
 returns c =

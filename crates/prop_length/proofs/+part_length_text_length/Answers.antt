@@ -67,18 +67,6 @@ part_length-returns t c =
     let tested = le-ltb _ _ c.if-precedence-least.false in
     record { is = bare_length _ (rw (part_strength t here.After-precedence) at tested) inside.is; small = inside.small }
 
-pub part_length-text_length-length-requires : goal.part_length-text_length-length-requires
-part_length-text_length-length-requires t c = (omega (arith, c.decreases), c.requires)
-
-pub part_length-code_of-requires : goal.part_length-code_of-requires
-part_length-code_of-requires t c = c.requires.within
-
-pub part_length-precedence-requires : goal.part_length-precedence-requires
-part_length-precedence-requires t c = record { names = _; known = known_in c.code_of.ensures c.requires.known }
-
-pub part_length-overflow_add-result : goal.part_length-overflow_add-result
-part_length-overflow_add-result t c = omega (arith, c.text_length-length.ensures.small)
-
 -- `text_length`: a count that is the text's length is a length
 counted : (t : ℕ) → (c : text_length-After-shape t) {r : ℕ} → let s = c.args in
     r ≡ length (prop_text s.bytes.now s.v s.at) → TextLength (prop_text s.bytes.now s.v s.at) r
@@ -110,9 +98,6 @@ strength_is t c =
     let s = c.args in
     strength_in c.code_of.ensures (name_in s.bytes.now s.v) s.v.name_count s.at
     (c.precedence.ensures _ _ (known_in c.code_of.ensures c.requires.known))
-
-pub text_length-shape-requires : goal.text_length-shape-requires
-text_length-shape-requires t c = record { within = c.requires.within; present = c.requires.known.present }
 
 pub text_length-returns-in-True : goal.text_length-returns-in-True
 unfolding prop_in
@@ -157,9 +142,6 @@ text_length-returns-in-Quantified t c =
     let d = c.name_length-datatype.ensures.is ∙ ap (λ n. length (f n)) q.datatype_is in
     let whole = ap (λ p. length (display_prop (rename_prop f p))) q.parts.is ∙ quantified_length f q.parts.quantifier _ _ _ in
     counted t here.After-shape (omega (arith, x, d, whole, rw q.body_is at c.text_length.ensures.is))
-
-pub text_length-precedence-requires : goal.text_length-precedence-requires
-text_length-precedence-requires t c = record { names = _; known = known_in c.code_of.ensures c.requires.known }
 
 pub text_length-part_length-requires : goal.text_length-part_length-requires
 text_length-part_length-requires t c = left_part t (goal.at.text_length-part_length-requires t c).In-Binary

@@ -32,12 +32,6 @@ first_length : (c : After-name_length-length) → let s = c.args in
     NameLength (name_in s.bytes.now s.v (number_at c.code_of-code.result.now (s.at + 1))) c.name_length-length.result
 first_length c = rw (← c.number_at.ensures.0) c.name_length-length.ensures
 
-pub code_of-code-requires : goal.code_of-code-requires
-code_of-code-requires c = c.requires.within
-
-pub overflow_add-at : goal.overflow_add-at
-overflow_add-at c = omega (arith, its_name c)
-
 pub number_at-requires : goal.number_at-requires
 number_at-requires c = omega (arith, its_name c)
 
@@ -45,14 +39,8 @@ pub name_length-length-requires : goal.name_length-length-requires
 name_length-length-requires c =
     c.requires.named _ (rw c.number_at.ensures.0 (its_name (goal.at.name_length-length-requires c).After-code_of-code).below)
 
-pub overflow_add-end : goal.overflow_add-end
-overflow_add-end c = omega (arith, its_name (goal.at.overflow_add-end c).After-code_of-code)
-
 pub bounds-code-at : goal.bounds-code-at
 bounds-code-at c = omega (arith, its_name (goal.at.bounds-code-at c).After-code_of-code)
-
-pub overflow_add-i : goal.overflow_add-i
-overflow_add-i c = omega (arith, its_name (goal.at.overflow_add-i c).After-code_of-code)
 
 pub loop-init : goal.loop-init
 loop-init c =
@@ -71,12 +59,6 @@ pub name_length-requires : goal.name_length-requires
 name_length-requires c =
     c.requires.named _
     (rw c.number_at-in-loop.ensures.0 (summing.below _ _ _ _ c.loop.invariant (omega arith)))
-
-pub overflow_add-length : goal.overflow_add-length
-overflow_add-length c = omega (arith, c.name_length.ensures.small)
-
-pub overflow_add-length-in-loop : goal.overflow_add-length-in-loop
-overflow_add-length-in-loop c = omega (arith, c.name_length.ensures.small, c.loop.invariant.small)
 
 pub parameter_end-i-requires : goal.parameter_end-i-requires
 parameter_end-i-requires c = omega (arith, summing.inside _ _ _ _ c.loop.invariant (omega arith))
