@@ -31,7 +31,8 @@ fn after(records: &[u16], m: usize, node: usize) -> usize
 // side; else a stop at the node.
 fn body_side(records: &[u16], m: usize, code: &[u8], stride: usize, p: usize, node: usize) -> usize
     requires m_in_bounds { (record_size * (m + 1) ≤ length records.now) × LabelHeld records.now code.now stride m }
-    requires m_value { OfKind records.now m Function × Stood code.now p × (length code.now ≤ standing) × (node < node_limit) }
+    requires m_value { OfKind records.now m Function × Stood code.now p
+        × (length code.now ≤ standing) × (node < node_limit) }
     ensures { BodySide records.now code.now stride m p node result }
 {
     let side = side_of(code, p, Connective::Impl, node);

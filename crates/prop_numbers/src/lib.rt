@@ -101,10 +101,8 @@ fn same(code: &[u8], made: &[Made], p: usize, q: usize) -> bool
     requires known { Known code.now made.now p × Known code.now made.now q }
     ensures { Alike code.now made.now p q result }
 {
-    if p < STANDING {
-        if q < STANDING {
-            return same_code(code, p, q);
-        }
+    if p < STANDING && q < STANDING {
+        return same_code(code, p, q);
     }
     if connective_of(code, made, p) != connective_of(code, made, q) {
         return false;

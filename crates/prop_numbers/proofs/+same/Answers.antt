@@ -9,7 +9,7 @@ use Rattle.prop_numbers.specs.Standing.{standing, Known, Space, connective_of}
 use Rattle.prop_numbers.proofs.Halves.{rep_stands, space_of}
 use Rattle.prop_numbers.proofs.Comparing.{left_lighter, right_lighter, Joined, joined, left_known, right_known, alike_other, alike_standing, alike_left, alike_both}
 use Rattle.prop_numbers.proofs.+same.Goals as goal
-use Rattle.prop_numbers.proofs.+same.Goals.{Else-ne, Joined-p-lt-STANDING, Start, then-p-lt-STANDING+else-q-lt-STANDING, else-p-lt-STANDING}
+use Rattle.prop_numbers.proofs.+same.Goals.{Else-ne, Joined-else-p-lt-STANDING, Start, else-p-lt-STANDING-via-then-p-lt-STANDING+else-q-lt-STANDING, else-p-lt-STANDING-via-else-p-lt-STANDING}
 
 first : (t : ℕ) → (c : Start t) → Known c.args.code.now c.args.made.now c.args.p
 first t c = c.requires.known.0
@@ -24,11 +24,11 @@ second_space : (t : ℕ) → (c : Start t) → Space c.args.code.now c.args.made
 second_space t c = space_of c.requires.code_len_bound.0 c.requires.code_len_bound.1 (second t c)
 
 -- one of the two is made
-one_made : (t : ℕ) → (c : Joined-p-lt-STANDING t) → (standing ≤ c.args.q) ⊎ (standing ≤ c.args.p)
+one_made : (t : ℕ) → (c : Joined-else-p-lt-STANDING t) → (standing ≤ c.args.q) ⊎ (standing ≤ c.args.p)
 one_made t c =
-    elim c.if-p-lt-STANDING.branch [
-      | then-p-lt-STANDING+else-q-lt-STANDING w ↦ inl w.if-q-lt-STANDING.false
-      | else-p-lt-STANDING w ↦ inr w.if-p-lt-STANDING.false
+    elim c.else-p-lt-STANDING.branch [
+      | else-p-lt-STANDING-via-then-p-lt-STANDING+else-q-lt-STANDING w ↦ inl w.if-q-lt-STANDING.false
+      | else-p-lt-STANDING-via-else-p-lt-STANDING w ↦ inr w.if-p-lt-STANDING.false
     ]
 
 -- and both have one connective
@@ -37,7 +37,7 @@ same_heads t c = let same : c.connective_of.result ≡ c.connective_of-2.result 
 
 heads : (t : ℕ) → (c : Else-ne t) → let s = c.args in Joined s.code.now s.made.now s.p
 heads t c =
-    joined (first t (goal.at.Else-ne t c).Start) (second t (goal.at.Else-ne t c).Start) (same_heads t c) (one_made t (goal.at.Else-ne t c).Joined-p-lt-STANDING)
+    joined (first t (goal.at.Else-ne t c).Start) (second t (goal.at.Else-ne t c).Start) (same_heads t c) (one_made t (goal.at.Else-ne t c).Joined-else-p-lt-STANDING)
 
 -- the second too
 other_head : (t : ℕ) → (c : Else-ne t) → let s = c.args in connective_of s.code.now s.made.now s.q ≡ Some (heads t c).connective
@@ -51,7 +51,7 @@ pub returns-then-q-lt-STANDING : goal.returns-then-q-lt-STANDING
 returns-then-q-lt-STANDING t c = alike_standing c.if-p-lt-STANDING.true c.if-q-lt-STANDING.true c.same_code.ensures
 
 pub returns-then-ne : goal.returns-then-ne
-returns-then-ne t c = alike_other (λ e. let other : c.connective_of.result ≡ c.connective_of-2.result → ⊥ = search rules in other (c.connective_of.ensures ∙ e ∙ sym c.connective_of-2.ensures)) (one_made t (goal.at.returns-then-ne t c).Joined-p-lt-STANDING)
+returns-then-ne t c = alike_other (λ e. let other : c.connective_of.result ≡ c.connective_of-2.result → ⊥ = search rules in other (c.connective_of.ensures ∙ e ∙ sym c.connective_of-2.ensures)) (one_made t (goal.at.returns-then-ne t c).Joined-else-p-lt-STANDING)
 
 pub same-left_same-requires : goal.same-left_same-requires
 same-left_same-requires t c =
