@@ -1,5 +1,5 @@
--- The record's number falls, and where it stays, which judgement is asked. Each answer is one law over the answers of the parts: the
--- laws of the arms stand in `CheckArms`, `InferArms` and, for the head of a case and its binders, `Cases`.
+-- The record's number falls, and where it stays, an arm is asked, or what is checked is inferred. Each answer is one law over the
+-- answers of the parts: the laws of the arms stand in `CheckArms`, `InferArms` and, for the head of a case and its binders, `Cases`.
 use mathlib.Core.Path.{refl, sym, ap, ◌∙◌}
 use native.Mathlib.Omega.{arith}
 use lib.ListN.{length}

@@ -5,23 +5,11 @@ use Rattle.std.proofs.Common.{rules}
 use mathlib.Core.Logic.{◌⊎◌, inl, inr}
 use native.Mathlib.Omega.{arith}
 use Rattle.std.specs.Prelude.{Some}
-use Rattle.prop_numbers.specs.Standing.{standing, Known, Space, connective_of}
+use Rattle.prop_numbers.specs.Standing.{standing, connective_of}
 use Rattle.prop_numbers.proofs.Halves.{rep_stands, space_of}
 use Rattle.prop_numbers.proofs.Comparing.{left_lighter, right_lighter, Joined, joined, left_known, right_known, alike_other, alike_standing, alike_left, alike_both}
 use Rattle.prop_numbers.proofs.+same.Goals as goal
 use Rattle.prop_numbers.proofs.+same.Goals.{Else-ne, Joined-else-p-lt-STANDING, Start, else-p-lt-STANDING-via-then-p-lt-STANDING+else-q-lt-STANDING, else-p-lt-STANDING-via-else-p-lt-STANDING}
-
-first : (t : ℕ) → (c : Start t) → Known c.args.code.now c.args.made.now c.args.p
-first t c = c.requires.known.0
-
-second : (t : ℕ) → (c : Start t) → Known c.args.code.now c.args.made.now c.args.q
-second t c = c.requires.known.1
-
-first_space : (t : ℕ) → (c : Start t) → Space c.args.code.now c.args.made.now c.args.p
-first_space t c = space_of c.requires.code_len_bound.0 c.requires.code_len_bound.1 (first t c)
-
-second_space : (t : ℕ) → (c : Start t) → Space c.args.code.now c.args.made.now c.args.q
-second_space t c = space_of c.requires.code_len_bound.0 c.requires.code_len_bound.1 (second t c)
 
 -- one of the two is made
 one_made : (t : ℕ) → (c : Joined-else-p-lt-STANDING t) → (standing ≤ c.args.q) ⊎ (standing ≤ c.args.p)
@@ -31,21 +19,22 @@ one_made t c =
       | else-p-lt-STANDING-via-else-p-lt-STANDING w ↦ inr w.if-p-lt-STANDING.false
     ]
 
--- and both have one connective
-same_heads : (t : ℕ) → (c : Else-ne t) → let s = c.args in connective_of s.code.now s.made.now s.p ≡ connective_of s.code.now s.made.now s.q
-same_heads t c = let same : c.connective_of.result ≡ c.connective_of-2.result = search rules in sym c.connective_of.ensures ∙ same ∙ c.connective_of-2.ensures
+-- and both have one connective,
+one_connective : (t : ℕ) → (c : Else-ne t) → let s = c.args in connective_of s.code.now s.made.now s.p ≡ connective_of s.code.now s.made.now s.q
+one_connective t c = let same : c.connective_of.result ≡ c.connective_of-2.result = search rules in sym c.connective_of.ensures ∙ same ∙ c.connective_of-2.ensures
 
-heads : (t : ℕ) → (c : Else-ne t) → let s = c.args in Joined s.code.now s.made.now s.p
-heads t c =
-    joined (first t (goal.at.Else-ne t c).Start) (second t (goal.at.Else-ne t c).Start) (same_heads t c) (one_made t (goal.at.Else-ne t c).Joined-else-p-lt-STANDING)
+-- so the first has one
+first_joined : (t : ℕ) → (c : Else-ne t) → let s = c.args in Joined s.code.now s.made.now s.p
+first_joined t c =
+    joined c.requires.known.0 c.requires.known.1 (one_connective t c) (one_made t (goal.at.Else-ne t c).Joined-else-p-lt-STANDING)
 
--- the second too
-other_head : (t : ℕ) → (c : Else-ne t) → let s = c.args in connective_of s.code.now s.made.now s.q ≡ Some (heads t c).connective
-other_head t c = sym (same_heads t c) ∙ (heads t c).head
+-- and the second has it too
+second_connective : (t : ℕ) → (c : Else-ne t) → let s = c.args in connective_of s.code.now s.made.now s.q ≡ Some (first_joined t c).connective
+second_connective t c = sym (one_connective t c) ∙ (first_joined t c).head
 
 pub same_code-requires : goal.same_code-requires
 same_code-requires t c =
-    ((rep_stands (first t (goal.at.same_code-requires t c).Start).rep c.if-p-lt-STANDING.true).there, (rep_stands (second t (goal.at.same_code-requires t c).Start).rep c.if-q-lt-STANDING.true).there)
+    ((rep_stands c.requires.known.0.rep c.if-p-lt-STANDING.true).there, (rep_stands c.requires.known.1.rep c.if-q-lt-STANDING.true).there)
 
 pub returns-then-q-lt-STANDING : goal.returns-then-q-lt-STANDING
 returns-then-q-lt-STANDING t c = alike_standing c.if-p-lt-STANDING.true c.if-q-lt-STANDING.true c.same_code.ensures
@@ -56,48 +45,48 @@ returns-then-ne t c = alike_other (λ e. let other : c.connective_of.result ≡ 
 pub same-left_same-requires : goal.same-left_same-requires
 same-left_same-requires t c =
     let few = c.requires.code_len_bound.0 in
-    let j = heads t (goal.at.same-left_same-requires t c).Else-ne in
-    let l = left_lighter j.connective few (first t (goal.at.same-left_same-requires t c).Start).last (first t (goal.at.same-left_same-requires t c).Start).rep j.head in
-    let r = left_lighter j.connective few (second t (goal.at.same-left_same-requires t c).Start).last (second t (goal.at.same-left_same-requires t c).Start).rep (other_head t (goal.at.same-left_same-requires t c).Else-ne) in (
+    let j = first_joined t (goal.at.same-left_same-requires t c).Else-ne in
+    let l = left_lighter j.connective few c.requires.known.0.last c.requires.known.0.rep j.head in
+    let r = left_lighter j.connective few c.requires.known.1.last c.requires.known.1.rep (second_connective t (goal.at.same-left_same-requires t c).Else-ne) in (
       rw (c.left.ensures, c.left-2.ensures) (omega (arith, c.decreases, l, r)),
-      (c.requires.code_len_bound, (left_known j.connective few (first t (goal.at.same-left_same-requires t c).Start) j.head c.left.ensures, left_known j.connective few (second t (goal.at.same-left_same-requires t c).Start) (other_head t (goal.at.same-left_same-requires t c).Else-ne) c.left-2.ensures)),
+      (c.requires.code_len_bound, (left_known j.connective few c.requires.known.0 j.head c.left.ensures, left_known j.connective few c.requires.known.1 (second_connective t (goal.at.same-left_same-requires t c).Else-ne) c.left-2.ensures)),
     )
 
 pub returns-then-not-left_same : goal.returns-then-not-left_same
 returns-then-not-left_same t c =
-    alike_left (heads t (goal.at.returns-then-not-left_same t c).Else-ne).connective c.requires.code_len_bound.0 (heads t (goal.at.returns-then-not-left_same t c).Else-ne).head (other_head t (goal.at.returns-then-not-left_same t c).Else-ne) c.left.ensures c.left-2.ensures
+    alike_left (first_joined t (goal.at.returns-then-not-left_same t c).Else-ne).connective c.requires.code_len_bound.0 (first_joined t (goal.at.returns-then-not-left_same t c).Else-ne).head (second_connective t (goal.at.returns-then-not-left_same t c).Else-ne) c.left.ensures c.left-2.ensures
     (rw c.if-not-left_same.true at c.same-left_same.ensures)
 
 pub same-requires : goal.same-requires
 same-requires t c =
     let few = c.requires.code_len_bound.0 in
-    let j = heads t (goal.at.same-requires t c).Else-ne in
-    let l = right_lighter j.connective few (first t (goal.at.same-requires t c).Start).last (first t (goal.at.same-requires t c).Start).rep j.head c.right.ensures in
-    let r = right_lighter j.connective few (second t (goal.at.same-requires t c).Start).last (second t (goal.at.same-requires t c).Start).rep (other_head t (goal.at.same-requires t c).Else-ne) c.right-2.ensures in (
+    let j = first_joined t (goal.at.same-requires t c).Else-ne in
+    let l = right_lighter j.connective few c.requires.known.0.last c.requires.known.0.rep j.head c.right.ensures in
+    let r = right_lighter j.connective few c.requires.known.1.last c.requires.known.1.rep (second_connective t (goal.at.same-requires t c).Else-ne) c.right-2.ensures in (
       omega (arith, c.decreases, l, r),
-      (c.requires.code_len_bound, (right_known j.connective few (first t (goal.at.same-requires t c).Start) j.head c.right.ensures, right_known j.connective few (second t (goal.at.same-requires t c).Start) (other_head t (goal.at.same-requires t c).Else-ne) c.right-2.ensures)),
+      (c.requires.code_len_bound, (right_known j.connective few c.requires.known.0 j.head c.right.ensures, right_known j.connective few c.requires.known.1 (second_connective t (goal.at.same-requires t c).Else-ne) c.right-2.ensures)),
     )
 
 pub returns : goal.returns
 returns t c =
-    alike_both (heads t (goal.at.returns t c).Else-ne).connective c.requires.code_len_bound.0 (heads t (goal.at.returns t c).Else-ne).head (other_head t (goal.at.returns t c).Else-ne) c.left.ensures c.left-2.ensures
+    alike_both (first_joined t (goal.at.returns t c).Else-ne).connective c.requires.code_len_bound.0 (first_joined t (goal.at.returns t c).Else-ne).head (second_connective t (goal.at.returns t c).Else-ne) c.left.ensures c.left-2.ensures
     c.right.ensures c.right-2.ensures
     (rw c.if-not-left_same.false at c.same-left_same.ensures) c.same.ensures
 
 pub connective_of-requires : goal.connective_of-requires
-connective_of-requires t c = first_space t (goal.at.connective_of-requires t c).Start
+connective_of-requires t c = space_of c.requires.code_len_bound.0 c.requires.code_len_bound.1 c.requires.known.0
 
 pub connective_of-requires-2 : goal.connective_of-requires-2
-connective_of-requires-2 t c = second_space t (goal.at.connective_of-requires-2 t c).Start
+connective_of-requires-2 t c = space_of c.requires.code_len_bound.0 c.requires.code_len_bound.1 c.requires.known.1
 
 pub left-requires : goal.left-requires
-left-requires t c = let s = first_space t (goal.at.left-requires t c).Start in (s.low, s.slots)
+left-requires t c = let s = space_of c.requires.code_len_bound.0 c.requires.code_len_bound.1 c.requires.known.0 in (s.low, s.slots)
 
 pub left-requires-2 : goal.left-requires-2
-left-requires-2 t c = let s = second_space t (goal.at.left-requires-2 t c).Start in (s.low, s.slots)
+left-requires-2 t c = let s = space_of c.requires.code_len_bound.0 c.requires.code_len_bound.1 c.requires.known.1 in (s.low, s.slots)
 
 pub right-requires : goal.right-requires
-right-requires t c = first_space t (goal.at.right-requires t c).Start
+right-requires t c = space_of c.requires.code_len_bound.0 c.requires.code_len_bound.1 c.requires.known.0
 
 pub right-requires-2 : goal.right-requires-2
-right-requires-2 t c = second_space t (goal.at.right-requires-2 t c).Start
+right-requires-2 t c = space_of c.requires.code_len_bound.0 c.requires.code_len_bound.1 c.requires.known.1
