@@ -118,10 +118,10 @@ fn annotated(records: &[u16], m: usize, stride: usize, node: usize) -> usize
     }
 }
 
-// Both functions have an arm for each rule. An arm that binds a name or asks of two parts is a function of its own, which its caller
-// gives all that it has and calls last. An answer is a number, as prop_numbers::STOPS says. What they work on stands in loose
-// parameters: of a struct that lends the scope and the slots, each clause would say `now`, `old` and `new` of every field. A kind is a
-// value, but the numbers of a record are read one by one where an arm needs them.
+// Both functions have an arm for each rule. An arm that binds a name or asks of two parts is a function of its own, which the compiler
+// puts into its one caller, so that each of the 512 levels takes one frame. An answer is a number, as prop_numbers::STOPS says. What
+// they work on stands in loose parameters: of a struct that lends the scope and the slots, each clause would say `now`, `old` and `new`
+// of every field. A kind is a value, but the numbers of a record are read one by one where an arm needs them.
 
 // Does the term of record m, a node of that number, check against the proposition at p?
 #[cycle(check_infer)]
