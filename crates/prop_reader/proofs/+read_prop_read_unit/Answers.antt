@@ -1,11 +1,9 @@
 -- The calls end by the levels: a unit's parts are a level deeper than it, and so are the sides after it.
 use Prim.Native.Nat.{ℕ, ◌+◌, ◌-◌}
 use mathlib.Core.Path.{◌≡◌, ◌∙◌}
-use Rattle.std.specs.Prelude.{None}
 use mathlib.Core.List.{List}
 use native.Mathlib.Omega.{arith}
 use lib.ListN.{length, drop}
-use borrow.Author.Rules.{rules}
 use Rattle.definitions.specs.Name.{Name}
 use Rattle.definitions.specs.TermText.{term_text_limit}
 use Rattle.definitions.specs.TermReader.{signed, unit, read_prop}
@@ -30,8 +28,7 @@ read_prop-read_unit-requires t c =
 
 pub read_prop-returns-in_err-left : goal.read_prop-returns-in_err-left
 read_prop-returns-in_err-left t c ns b =
-    let none : c.from_residual.result ≡ None = search rules in
-    rw none (unit_fails ns _ c.if-levels-eq0.false (c.in_err-left.ensures ns b))
+    rw c.from_residual.ensures (unit_fails ns _ c.if-levels-eq0.false (c.in_err-left.ensures ns b))
 
 -- what was read so far
 so_far : (t : ℕ) → (c : read_prop-At-loop t) → let s = c.args in
@@ -74,8 +71,7 @@ read_prop-read_prop-requires t c =
 pub read_prop-returns-in_err-right : goal.read_prop-returns-in_err-right
 read_prop-returns-in_err-right t c ns b =
     let j = so_far t (goal.at.read_prop-returns-in_err-right t c).At-loop ns b in
-    let none : c.from_residual-in_err-right.result ≡ None = search rules in
-    rw none (right_not j (omega (arith, c.loop-test.true)) c.in-Some.ensures.reads c.right_least-asked.ensures.is (c.in_err-right.ensures ns (binds_noted b j.read.noted j.bound_kept)))
+    rw c.from_residual-in_err-right.ensures (right_not j (omega (arith, c.loop-test.true)) c.in-Some.ensures.reads c.right_least-asked.ensures.is (c.in_err-right.ensures ns (binds_noted b j.read.noted j.bound_kept)))
 
 pub read_prop-join-requires : goal.read_prop-join-requires
 read_prop-join-requires t c =
@@ -86,8 +82,7 @@ read_prop-join-requires t c =
 pub read_prop-returns-in_err-left-2 : goal.read_prop-returns-in_err-left-2
 read_prop-returns-in_err-left-2 t c ns b =
     let j = so_far t (goal.at.read_prop-returns-in_err-left-2 t c).At-loop ns b in
-    let none : c.from_residual-in_err-left-2.result ≡ None = search rules in
-    rw none (joining_not j (omega (arith, c.loop-test.true)) c.in-Some.ensures.reads c.right_least-asked.ensures.is (c.in_ok-right.ensures ns (binds_noted b j.read.noted j.bound_kept))
+    rw c.from_residual-in_err-left-2.ensures (joining_not j (omega (arith, c.loop-test.true)) c.in-Some.ensures.reads c.right_least-asked.ensures.is (c.in_ok-right.ensures ns (binds_noted b j.read.noted j.bound_kept))
     (λ q m. c.in_err-left-2.ensures j.prop q j.read.measured m))
 
 pub read_prop-loop-preserved : goal.read_prop-loop-preserved
@@ -184,8 +179,7 @@ read_unit-returns-in-Some t c ns b = rw (unit_atom (read_prop c.args.levels) ns 
 
 pub read_unit-returns-in_err-sign : goal.read_unit-returns-in_err-sign
 read_unit-returns-in_err-sign t c ns b =
-    let none : c.from_residual.result ≡ None = search rules in
-    rw none (answers_none (unit_lacks (read_prop c.args.levels) ns _ c.in_default.ensures c.in_err-sign.ensures))
+    rw c.from_residual.ensures (answers_none (unit_lacks (read_prop c.args.levels) ns _ c.in_default.ensures c.in_err-sign.ensures))
 
 pub read_unit-read_constant-requires : goal.read_unit-read_constant-requires
 unfolding term_text_limit
@@ -211,8 +205,7 @@ reads t c ns = unit_signed (read_prop c.args.levels) ns _ c.in_default.ensures (
 
 pub read_unit-returns-in_err-place-in-Opening : goal.read_unit-returns-in_err-place-in-Opening
 read_unit-returns-in_err-place-in-Opening t c ns b =
-    let none : c.from_residual-in_err-place-in-Opening.result ≡ None = search rules in
-    rw (none, reads t (goal.at.read_unit-returns-in_err-place-in-Opening t c).In-Opening ns) (front_not (read_prop c.args.levels) (c.in_err-place-in-Opening.ensures ns b))
+    rw (c.from_residual-in_err-place-in-Opening.ensures, reads t (goal.at.read_unit-returns-in_err-place-in-Opening t c).In-Opening ns) (front_not (read_prop c.args.levels) (c.in_err-place-in-Opening.ensures ns b))
 
 pub read_unit-read_prop-requires : goal.read_unit-read_prop-requires
 read_unit-read_prop-requires t c =
@@ -225,8 +218,7 @@ read_unit-returns-in_err-part-in-Opening t c ns b =
     let place = c.in_ok-place-in-Opening.ensures ns b in
     let (f, front) = place.answer in
     let least = c.part_least-least.ensures f front.sign_is in
-    let none : c.from_residual-in_err-part-in-Opening.result ≡ None = search rules in
-    rw (none, reads t (goal.at.read_unit-returns-in_err-part-in-Opening t c).In-Opening ns, front.reads (read_prop c.args.levels))
+    rw (c.from_residual-in_err-part-in-Opening.ensures, reads t (goal.at.read_unit-returns-in_err-part-in-Opening t c).In-Opening ns, front.reads (read_prop c.args.levels))
     (part_not front place.bound_kept place.dry (read_prop c.args.levels) least (c.in_err-part-in-Opening.ensures (part_bound f ns) front.binds))
 
 pub read_unit-close_prop-requires : goal.read_unit-close_prop-requires

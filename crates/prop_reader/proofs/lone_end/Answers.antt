@@ -1,16 +1,12 @@
 -- The name, and then neither a bracket nor a connective.
-use mathlib.Core.Path.{◌≡◌, sym, ◌∙◌}
-use Rattle.std.specs.Prelude.{None}
-use borrow.Author.Rules.{rules}
+use mathlib.Core.Path.{sym, ◌∙◌}
 use Rattle.definitions.specs.Utf8.{utf8}
 use Rattle.words.proofs.Words.{stands, stands_not}
 use Rattle.prop_reader.proofs.Labels.{lone_no_name, lone_bracket, lone_connective, lone_there}
 use Rattle.prop_reader.proofs.lone_end.Goals as goal
 
 pub returns-in_err-end : goal.returns-in_err-end
-returns-in_err-end c =
-    let none : c.from_residual.result ≡ None = search rules in
-    rw none (lone_no_name c.args.text.now c.args.at c.in_err-end.ensures)
+returns-in_err-end c = rw c.from_residual.ensures (lone_no_name c.args.text.now c.args.at c.in_err-end.ensures)
 
 pub returns-then-is_some : goal.returns-then-is_some
 returns-then-is_some c =

@@ -1,16 +1,11 @@
 -- The name's number.
-use mathlib.Core.Path.{◌≡◌}
 use native.Mathlib.Omega.{arith}
-use Rattle.std.specs.Prelude.{None}
-use borrow.Author.Rules.{rules}
 use Rattle.definitions.specs.Sheet.{name_limit}
 use Rattle.prop_reader.proofs.Labels.{datatype_given}
 use Rattle.prop_reader.proofs.read_datatype.Goals as goal
 
 pub returns-in_err-name : goal.returns-in_err-name
-returns-in_err-name c =
-    let none : c.from_residual.result ≡ None = search rules in
-    rw none c.in_err-name.ensures
+returns-in_err-name c = rw c.from_residual.ensures c.in_err-name.ensures
 
 pub overflow_cast-result : goal.overflow_cast-result
 unfolding name_limit

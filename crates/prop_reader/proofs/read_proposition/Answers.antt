@@ -1,10 +1,7 @@
 -- The proposition, its brackets, and then its limits.
-use mathlib.Core.Path.{◌≡◌}
-use Rattle.std.specs.Prelude.{None}
 use mathlib.Core.Path.{refl}
 use mathlib.Core.List.{[]}
 use native.Mathlib.Omega.{arith}
-use borrow.Author.Rules.{rules}
 use Rattle.definitions.specs.Sheet.{code_limit, proposition_nesting_limit}
 use Rattle.definitions.specs.TermText.{term_text_limit}
 use Rattle.prop_reader.proofs.Labels.{binds_nothing, prop_begins, proposition_not, proposition_bracketed, proposition_deep, proposition_large, proposition_given}
@@ -14,9 +11,7 @@ pub read_prop-requires : goal.read_prop-requires
 read_prop-requires c = prop_begins c.requires refl
 
 pub returns-in_err-read : goal.returns-in_err-read
-returns-in_err-read c =
-    let none : c.from_residual.result ≡ None = search rules in
-    rw none (proposition_not (c.in_err-read.ensures [] (binds_nothing _ _)))
+returns-in_err-read c = rw c.from_residual.ensures (proposition_not (c.in_err-read.ensures [] (binds_nothing _ _)))
 
 pub returns-then-read : goal.returns-then-read
 returns-then-read c =

@@ -1,8 +1,5 @@
 -- Behind the term a blank, and then the closed term.
-use mathlib.Core.Path.{◌≡◌}
 use native.Mathlib.Omega.{arith}
-use borrow.Author.Rules.{rules}
-use Rattle.std.specs.Prelude.{None}
 use Rattle.term_stack.specs.Standing.{left_at}
 use Rattle.term_openings.specs.Beginning.{with_names, NamesBegin, NamesEnd}
 use Rattle.term_openings.proofs.ClosedTerms.{ends_within}
@@ -12,7 +9,7 @@ use Rattle.term_closings.proofs.argument.Goals as goal
 
 pub returns-in_err-due : goal.returns-in_err-due
 unfolding NamesBegin NamesEnd with_names
-returns-in_err-due c z held = let none : c.from_residual.result ≡ None = search rules in rw none (argument_not_due held c.requires.1 c.in_err-due.ensures)
+returns-in_err-due c z held = rw c.from_residual.ensures (argument_not_due held c.requires.1 c.in_err-due.ensures)
 
 pub expect-requires : goal.expect-requires
 unfolding NamesBegin with_names
@@ -21,8 +18,7 @@ expect-requires c = c.requires.0.holds.behind.placed.within
 pub returns-in_err-start : goal.returns-in_err-start
 unfolding NamesBegin NamesEnd with_names
 returns-in_err-start c z held =
-    let none : c.from_residual-in_err-start.result ≡ None = search rules in
-    rw none (no_blank held c.requires.1 c.in_ok-due.ensures c.in_err-start.ensures)
+    rw c.from_residual-in_err-start.ensures (no_blank held c.requires.1 c.in_ok-due.ensures c.in_err-start.ensures)
 
 pub waiting-requires : goal.waiting-requires
 unfolding NamesBegin with_names

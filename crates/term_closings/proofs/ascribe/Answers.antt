@@ -1,8 +1,5 @@
 -- Behind the colon the label; the record of the ascription is made, and its term is whole.
-use mathlib.Core.Path.{◌≡◌}
 use native.Mathlib.Omega.{arith}
-use borrow.Author.Rules.{rules}
-use Rattle.std.specs.Prelude.{None}
 use Rattle.term_stack.specs.Turning.{scene_of, TurnBegins, TurnEnds}
 use Rattle.term_openings.proofs.Noting.{noting}
 use Rattle.term_closings.proofs.Ascribed.{held_small, label_begins, label_not_due, no_label, ascription_not, ascription_turned}
@@ -12,8 +9,7 @@ pub returns-in_err-due : goal.returns-in_err-due
 unfolding TurnBegins TurnEnds scene_of
 returns-in_err-due c before held =
     let (begins, bare, colon) = c.requires in
-    let none : c.from_residual.result ≡ None = search rules in
-    rw none (label_not_due held bare colon c.in_err-due.ensures)
+    rw c.from_residual.ensures (label_not_due held bare colon c.in_err-due.ensures)
 
 pub read_label-requires : goal.read_label-requires
 unfolding TurnBegins scene_of
@@ -25,8 +21,7 @@ pub returns-in_err-read : goal.returns-in_err-read
 unfolding TurnBegins TurnEnds scene_of
 returns-in_err-read c before held =
     let (begins, bare, colon) = c.requires in
-    let none : c.from_residual-in_err-read.result ≡ None = search rules in
-    rw none (no_label held bare colon c.in_ok-due.ensures c.in_err-read.ensures)
+    rw c.from_residual-in_err-read.ensures (no_label held bare colon c.in_ok-due.ensures c.in_err-read.ensures)
 
 pub waiting-requires : goal.waiting-requires
 unfolding TurnBegins scene_of
@@ -44,8 +39,7 @@ pub returns-in_err-made : goal.returns-in_err-made
 unfolding TurnBegins TurnEnds scene_of noting
 returns-in_err-made c before held =
     let (begins, bare, colon) = c.requires in
-    let none : c.from_residual-in_err-made.result ≡ None = search rules in
-    rw none (ascription_not held bare colon c.in_ok-due.ensures c.in_ok-read.ensures (rw c.over-whole.ensures at c.in_err-made.ensures))
+    rw c.from_residual-in_err-made.ensures (ascription_not held bare colon c.in_ok-due.ensures c.in_ok-read.ensures (rw c.over-whole.ensures at c.in_err-made.ensures))
 
 pub returns : goal.returns
 unfolding TurnBegins TurnEnds scene_of noting

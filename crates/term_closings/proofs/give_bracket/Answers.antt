@@ -1,8 +1,5 @@
 -- Behind the term a comma, or else the closing bracket.
-use mathlib.Core.Path.{◌≡◌}
 use native.Mathlib.Omega.{arith}
-use borrow.Author.Rules.{rules}
-use Rattle.std.specs.Prelude.{None}
 use Rattle.term_stack.specs.Standing.{left_at}
 use Rattle.term_stack.specs.Using.{left_after}
 use Rattle.term_stack.proofs.Closes.{given_small}
@@ -34,8 +31,7 @@ expect-requires-2 c = c.requires.holds.to.placed.within
 pub returns-in_err-end : goal.returns-in_err-end
 unfolding TextEnds with_text
 returns-in_err-end c z g =
-    let none : c.from_residual.result ≡ None = search rules in
-    rw none (bracket_stuck c.if-hand.false c.in_default.ensures g c.in_err-end.ensures)
+    rw c.from_residual.ensures (bracket_stuck c.if-hand.false c.in_default.ensures g c.in_err-end.ensures)
 
 pub use_for-requires : goal.use_for-requires
 unfolding TextBegins with_text

@@ -1,8 +1,6 @@
 -- What stands before the branch is read, and an entry waits for it.
 use mathlib.Core.Path.{◌≡◌, refl}
 use native.Mathlib.Omega.{arith}
-use borrow.Author.Rules.{rules}
-use Rattle.std.specs.Prelude.{None}
 use Rattle.term_stack.proofs.Closes.{given_small}
 use Rattle.term_stack.proofs.Alike.{entry_for}
 use Rattle.term_openings.specs.Beginning.{with_names, NamesBegin, NamesEnd}
@@ -21,8 +19,7 @@ entry_is c = elim c.match-before-2.branch [ in-None-before w ↦ rw (w.entry-is,
 pub returns-in_err-due : goal.returns-in_err-due
 unfolding NamesEnd with_names
 returns-in_err-due c z g =
-    let none : c.from_residual.result ≡ None = search rules in
-    rw none (branch_not_due (next_branch c.args.before _ _ _ (entry_for g)) g.to c.in_err-due.ensures)
+    rw c.from_residual.ensures (branch_not_due (next_branch c.args.before _ _ _ (entry_for g)) g.to c.in_err-due.ensures)
 
 pub read_branch-requires : goal.read_branch-requires
 unfolding NamesBegin with_names
@@ -33,8 +30,7 @@ read_branch-requires c =
 pub returns-in_err-branch : goal.returns-in_err-branch
 unfolding NamesEnd with_names
 returns-in_err-branch c z g =
-    let none : c.from_residual-in_err-branch.result ≡ None = search rules in
-    rw none (branch_stuck (next_branch c.args.before _ _ _ (entry_for g)) g.to c.in_ok-due.ensures (rw (word_is (goal.at.returns-in_err-branch c).After-read_branch) at c.in_err-branch.ensures))
+    rw c.from_residual-in_err-branch.ensures (branch_stuck (next_branch c.args.before _ _ _ (entry_for g)) g.to c.in_ok-due.ensures (rw (word_is (goal.at.returns-in_err-branch c).After-read_branch) at c.in_err-branch.ensures))
 
 pub waiting-part-requires : goal.waiting-part-requires
 unfolding NamesBegin with_names

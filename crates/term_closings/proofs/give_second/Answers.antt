@@ -1,8 +1,6 @@
 -- The bracket closes, and the record of the pair is made over both parts.
-use mathlib.Core.Path.{◌≡◌}
 use native.Mathlib.Omega.{arith}
 use borrow.Author.Rules.{rules}
-use Rattle.std.specs.Prelude.{None}
 use Rattle.term_stack.proofs.Closes.{given_small}
 use Rattle.term_openings.specs.Beginning.{with_text, TextBegins, TextEnds}
 use Rattle.term_openings.proofs.ClosedTerms.{ends_within}
@@ -20,8 +18,7 @@ expect-requires c = c.requires.holds.to.placed.within
 pub returns-in_err-end : goal.returns-in_err-end
 unfolding TextEnds with_text
 returns-in_err-end c z g =
-    let none : c.from_residual.result ≡ None = search rules in
-    rw none (second_stuck c.if-hand.false g c.in_err-end.ensures)
+    rw c.from_residual.ensures (second_stuck c.if-hand.false g c.in_err-end.ensures)
 
 pub waiting-requires : goal.waiting-requires
 unfolding TextBegins with_text
@@ -40,8 +37,7 @@ make-requires c = rw (c.over-pair.ensures, c.from-2.ensures) (pair_few c.require
 pub returns-in_err-made : goal.returns-in_err-made
 unfolding TextEnds with_text
 returns-in_err-made c z g =
-    let none : c.from_residual-in_err-made.result ≡ None = search rules in
-    rw none (pair_not c.if-hand.false c.in_ok-end.ensures g (rw (c.over-pair.ensures, c.from.ensures) at c.in_err-made.ensures))
+    rw c.from_residual-in_err-made.ensures (pair_not c.if-hand.false c.in_ok-end.ensures g (rw (c.over-pair.ensures, c.from.ensures) at c.in_err-made.ensures))
 
 pub use_for-requires : goal.use_for-requires
 unfolding TextBegins with_text

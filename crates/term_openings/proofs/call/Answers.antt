@@ -1,8 +1,5 @@
 -- A blank, and then a closed term.
-use mathlib.Core.Path.{◌≡◌}
 use native.Mathlib.Omega.{arith}
-use borrow.Author.Rules.{rules}
-use Rattle.std.specs.Prelude.{None}
 use Rattle.term_stack.specs.Standing.{left_at}
 use Rattle.term_openings.specs.Beginning.{with_names, NamesBegin, NamesEnd}
 use Rattle.term_openings.proofs.ClosedTerms.{ends_within}
@@ -15,7 +12,7 @@ expect-requires c = c.requires.holds.started.placed.within
 
 pub returns-in_err-body : goal.returns-in_err-body
 unfolding NamesEnd with_names
-returns-in_err-body c z called = let none : c.from_residual.result ≡ None = search rules in rw none (body_not called c.in_err-body.ensures)
+returns-in_err-body c z called = rw c.from_residual.ensures (body_not called c.in_err-body.ensures)
 
 pub closed_for-requires : goal.closed_for-requires
 unfolding NamesBegin with_names

@@ -1,8 +1,6 @@
 -- The number of the name, and then a leaf.
-use mathlib.Core.Path.{◌≡◌, refl}
+use mathlib.Core.Path.{refl}
 use native.Mathlib.Omega.{arith}
-use borrow.Author.Rules.{rules}
-use Rattle.std.specs.Prelude.{None}
 use Rattle.definitions.specs.Sheet.{name_limit}
 use Rattle.term_openings.specs.Beginning.{with_names, NamesBegin, NamesEnd}
 use Rattle.term_openings.proofs.Noting.{noting}
@@ -18,8 +16,7 @@ number_of_name-requires c =
 pub returns-in_err-name : goal.returns-in_err-name
 unfolding NamesEnd with_names name_limit
 returns-in_err-name c z closed =
-    let none : c.from_residual.result ≡ None = search rules in
-    rw none (name_full closed c.requires.1 c.in_err-name.ensures)
+    rw c.from_residual.ensures (name_full closed c.requires.1 c.in_err-name.ensures)
 
 pub overflow_cast-leaf : goal.overflow_cast-leaf
 unfolding name_limit

@@ -1,8 +1,6 @@
 -- A bracket, and then another one or what stands within.
-use mathlib.Core.Path.{◌≡◌, refl}
+use mathlib.Core.Path.{refl}
 use native.Mathlib.Omega.{arith}
-use borrow.Author.Rules.{rules}
-use Rattle.std.specs.Prelude.{None}
 use Rattle.term_stack.specs.Standing.{left_at}
 use Rattle.term_stack.proofs.Opened.{opens}
 use Rattle.term_openings.specs.Beginning.{with_text, TextBegins, TextEnds}
@@ -16,8 +14,7 @@ expect-requires c = c.requires.0.holds.for.placed.within
 pub returns-in_err-inside : goal.returns-in_err-inside
 unfolding TextEnds with_text
 returns-in_err-inside c z closed =
-    let none : c.from_residual.result ≡ None = search rules in
-    rw none (no_bracket closed c.requires.1 c.in_err-inside.ensures)
+    rw c.from_residual.ensures (no_bracket closed c.requires.1 c.in_err-inside.ensures)
 
 pub use_leaf-requires : goal.use_leaf-requires
 unfolding TextBegins with_text

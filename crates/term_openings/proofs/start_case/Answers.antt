@@ -1,8 +1,5 @@
 -- A blank, and then an entry for the head.
-use mathlib.Core.Path.{◌≡◌}
 use native.Mathlib.Omega.{arith}
-use borrow.Author.Rules.{rules}
-use Rattle.std.specs.Prelude.{None}
 use Rattle.term_stack.specs.Standing.{left_at}
 use Rattle.term_stack.proofs.Opened.{opens}
 use Rattle.term_openings.specs.Beginning.{with_text, TextBegins, TextEnds}
@@ -15,7 +12,7 @@ expect-requires c = c.requires.holds.placed.within
 
 pub returns-in_err-head : goal.returns-in_err-head
 unfolding TextEnds with_text
-returns-in_err-head c z started = let none : c.from_residual.result ≡ None = search rules in rw none (case_not started c.in_err-head.ensures)
+returns-in_err-head c z started = rw c.from_residual.ensures (case_not started c.in_err-head.ensures)
 
 pub returns : goal.returns
 unfolding TextEnds with_text left_at

@@ -1,8 +1,5 @@
 -- The parameter, its label, and then an entry for the body.
-use mathlib.Core.Path.{◌≡◌}
 use native.Mathlib.Omega.{arith}
-use borrow.Author.Rules.{rules}
-use Rattle.std.specs.Prelude.{None}
 use Rattle.definitions.specs.Sheet.{name_limit}
 use Rattle.term_stack.specs.Standing.{left_at}
 use Rattle.term_stack.specs.Turning.{scene_of, TurnBegins, TurnEnds}
@@ -19,7 +16,7 @@ name_after-requires c =
 
 pub returns-in_err-name : goal.returns-in_err-name
 unfolding TurnEnds scene_of
-returns-in_err-name c before started = let none : c.from_residual.result ≡ None = search rules in rw none (parameter_not started c.in_err-name.ensures)
+returns-in_err-name c before started = rw c.from_residual.ensures (parameter_not started c.in_err-name.ensures)
 
 pub parameter_label-requires : goal.parameter_label-requires
 unfolding TurnBegins scene_of
@@ -28,14 +25,12 @@ parameter_label-requires c = label_place c.requires.holds c.in_ok-name.ensures
 pub returns-in_err-read : goal.returns-in_err-read
 unfolding TurnEnds scene_of
 returns-in_err-read c before started =
-    let none : c.from_residual-in_err-read.result ≡ None = search rules in
-    rw none (label_not started c.in_ok-name.ensures c.in_err-read.ensures)
+    rw c.from_residual-in_err-read.ensures (label_not started c.in_ok-name.ensures c.in_err-read.ensures)
 
 pub returns-in_err-body : goal.returns-in_err-body
 unfolding TurnEnds scene_of
 returns-in_err-body c before started =
-    let none : c.from_residual-in_err-body.result ≡ None = search rules in
-    rw none (arrow_not started c.in_ok-name.ensures c.in_ok-read.ensures c.in_err-body.ensures)
+    rw c.from_residual-in_err-body.ensures (arrow_not started c.in_ok-name.ensures c.in_ok-read.ensures c.in_err-body.ensures)
 
 -- the number is small
 pub overflow_cast-entry : goal.overflow_cast-entry

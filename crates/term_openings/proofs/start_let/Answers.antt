@@ -1,8 +1,5 @@
 -- Two names, each behind its bytes, and then an entry for the head.
-use mathlib.Core.Path.{◌≡◌}
 use native.Mathlib.Omega.{arith}
-use borrow.Author.Rules.{rules}
-use Rattle.std.specs.Prelude.{None}
 use Rattle.definitions.specs.Sheet.{name_limit}
 use Rattle.term_stack.specs.Standing.{left_at}
 use Rattle.term_stack.proofs.Opened.{opens}
@@ -19,7 +16,7 @@ name_after-requires c =
 
 pub returns-in_err-first : goal.returns-in_err-first
 unfolding NamesEnd with_names
-returns-in_err-first c z started = let none : c.from_residual.result ≡ None = search rules in rw none (first_not started c.in_err-first.ensures)
+returns-in_err-first c z started = rw c.from_residual.ensures (first_not started c.in_err-first.ensures)
 
 pub name_after-requires-2 : goal.name_after-requires-2
 unfolding NamesBegin with_names
@@ -30,14 +27,12 @@ name_after-requires-2 c =
 pub returns-in_err-second : goal.returns-in_err-second
 unfolding NamesEnd with_names
 returns-in_err-second c z started =
-    let none : c.from_residual-in_err-second.result ≡ None = search rules in
-    rw none (second_not started c.in_ok-first.ensures c.in_err-second.ensures)
+    rw c.from_residual-in_err-second.ensures (second_not started c.in_ok-first.ensures c.in_err-second.ensures)
 
 pub returns-in_err-head : goal.returns-in_err-head
 unfolding NamesEnd with_names
 returns-in_err-head c z started =
-    let none : c.from_residual-in_err-head.result ≡ None = search rules in
-    rw none (let_not started c.in_ok-first.ensures c.in_ok-second.ensures c.in_err-head.ensures)
+    rw c.from_residual-in_err-head.ensures (let_not started c.in_ok-first.ensures c.in_ok-second.ensures c.in_err-head.ensures)
 
 -- the numbers of the names are small
 pub overflow_cast-entry : goal.overflow_cast-entry

@@ -1,8 +1,6 @@
 -- The invariant: the machine is between two turns. The measure is what is left.
-use mathlib.Core.Path.{◌≡◌, refl, sym, ◌∙◌}
+use mathlib.Core.Path.{refl, sym, ◌∙◌}
 use native.Mathlib.Omega.{arith}
-use borrow.Author.Rules.{rules}
-use Rattle.std.specs.Prelude.{None}
 use Rattle.term_stack.specs.Turning.{scene_of}
 use Rattle.term_reader.specs.Between.{TurnFollows, GoesOn}
 use Rattle.term_reader.proofs.Turns.{begun}
@@ -27,8 +25,7 @@ turn-requires c =
 pub returns-in_err-state : goal.returns-in_err-state
 unfolding GoesOn scene_of
 returns-in_err-state c =
-    let none : c.from_residual.result ≡ None = search rules in
-    rw none (c.in_err-state.ensures _ c.loop-names.invariant.there)
+    rw c.from_residual.ensures (c.in_err-state.ensures _ c.loop-names.invariant.there)
 
 pub loop-names-smaller : goal.loop-names-smaller
 unfolding GoesOn scene_of

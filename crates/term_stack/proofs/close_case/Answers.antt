@@ -1,14 +1,12 @@
 -- The entry holds the head, the first branch and the names, and the record is made over the second branch.
-use mathlib.Core.Path.{◌≡◌}
 use native.Mathlib.Omega.{arith}
 use borrow.Author.Rules.{rules}
-use Rattle.std.specs.Prelude.{None}
 use Rattle.term_stack.proofs.Grown.{build_not_due, not_built, built, built_few}
 use Rattle.term_stack.proofs.Closes.{given_small, case_builds}
 use Rattle.term_stack.proofs.close_case.Goals as goal
 
 pub returns-in_err-due : goal.returns-in_err-due
-returns-in_err-due c z g = let none : c.from_residual.result ≡ None = search rules in rw none (build_not_due (case_builds g) c.in_err-due.ensures)
+returns-in_err-due c z g = rw c.from_residual.ensures (build_not_due (case_builds g) c.in_err-due.ensures)
 
 pub over-whole-requires : goal.over-whole-requires
 over-whole-requires c =
@@ -26,8 +24,7 @@ make-requires c =
 
 pub returns-in_err-made : goal.returns-in_err-made
 returns-in_err-made c z g =
-    let none : c.from_residual-in_err-made.result ≡ None = search rules in
-    rw none (not_built (case_builds g) c.in_ok-due.ensures (rw (c.over-whole.ensures, c.from-nest.ensures, c.max.ensures) at c.in_err-made.ensures))
+    rw c.from_residual-in_err-made.ensures (not_built (case_builds g) c.in_ok-due.ensures (rw (c.over-whole.ensures, c.from-nest.ensures, c.max.ensures) at c.in_err-made.ensures))
 
 pub returns : goal.returns
 returns c z g =

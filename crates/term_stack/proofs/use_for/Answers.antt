@@ -1,8 +1,6 @@
 -- The purpose says which record is made over a closed term.
-use mathlib.Core.Path.{◌≡◌}
 use native.Mathlib.Omega.{arith}
 use borrow.Author.Rules.{rules}
-use Rattle.std.specs.Prelude.{None}
 use Rattle.term_stack.proofs.Grown.{build_not_due, not_built, built, built_few}
 use Rattle.term_stack.proofs.Used.{used_small, used_head, argument_builds, body_builds}
 use Rattle.term_stack.proofs.use_for.Goals as goal
@@ -13,8 +11,7 @@ returns-in-Head c z u = used_head (rw c.in-Head.is at u)
 -- an argument
 pub returns-in_err-due-in-Argument : goal.returns-in_err-due-in-Argument
 returns-in_err-due-in-Argument c z u =
-    let none : c.from_residual.result ≡ None = search rules in
-    rw none (build_not_due (argument_builds (rw c.in-Argument.is at u)) c.in_err-due-in-Argument.ensures)
+    rw c.from_residual.ensures (build_not_due (argument_builds (rw c.in-Argument.is at u)) c.in_err-due-in-Argument.ensures)
 
 pub waiting-requires : goal.waiting-requires
 waiting-requires c = used_small c.requires.holds
@@ -33,8 +30,7 @@ make-requires c =
 
 pub returns-in_err-made-in-Argument : goal.returns-in_err-made-in-Argument
 returns-in_err-made-in-Argument c z u =
-    let none : c.from_residual-in_err-made-in-Argument.result ≡ None = search rules in
-    rw none (not_built (argument_builds (rw c.in-Argument.is at u)) c.in_ok-due-in-Argument.ensures (rw (c.over-whole.ensures, c.from.ensures) at c.in_err-made-in-Argument.ensures))
+    rw c.from_residual-in_err-made-in-Argument.ensures (not_built (argument_builds (rw c.in-Argument.is at u)) c.in_ok-due-in-Argument.ensures (rw (c.over-whole.ensures, c.from.ensures) at c.in_err-made-in-Argument.ensures))
 
 pub returns-in_ok-made-in-Argument : goal.returns-in_ok-made-in-Argument
 returns-in_ok-made-in-Argument c z u =
@@ -45,8 +41,7 @@ returns-in_ok-made-in-Argument c z u =
 -- the body of a named function
 pub returns-in_err-due-in-Body : goal.returns-in_err-due-in-Body
 returns-in_err-due-in-Body c z u =
-    let none : c.from_residual-in_err-due-in-Body.result ≡ None = search rules in
-    rw none (build_not_due (body_builds (rw c.in-Body.is at u)) c.in_err-due-in-Body.ensures)
+    rw c.from_residual-in_err-due-in-Body.ensures (build_not_due (body_builds (rw c.in-Body.is at u)) c.in_err-due-in-Body.ensures)
 
 pub over-whole-requires-in-Body : goal.over-whole-requires-in-Body
 over-whole-requires-in-Body c =
@@ -58,8 +53,7 @@ waiting-requires-in-Body c = used_small c.requires.holds
 
 pub returns-in_err-made-in-Body : goal.returns-in_err-made-in-Body
 returns-in_err-made-in-Body c z u =
-    let none : c.from_residual-in_err-made-in-Body.result ≡ None = search rules in
-    rw none (not_built (body_builds (rw c.in-Body.is at u)) c.in_ok-due-in-Body.ensures (rw c.over-whole-in-Body.ensures at c.in_err-made-in-Body.ensures))
+    rw c.from_residual-in_err-made-in-Body.ensures (not_built (body_builds (rw c.in-Body.is at u)) c.in_ok-due-in-Body.ensures (rw c.over-whole-in-Body.ensures at c.in_err-made-in-Body.ensures))
 
 pub returns-in_ok-made-in-Body : goal.returns-in_ok-made-in-Body
 returns-in_ok-made-in-Body c z u =

@@ -1,12 +1,9 @@
 -- The record of the leaf, and then its purpose.
-use mathlib.Core.Path.{◌≡◌}
-use borrow.Author.Rules.{rules}
-use Rattle.std.specs.Prelude.{None}
 use Rattle.term_stack.proofs.Leaves.{leaf_not, leaf_using, leaf_left}
 use Rattle.term_stack.proofs.use_leaf.Goals as goal
 
 pub returns-in_err-made : goal.returns-in_err-made
-returns-in_err-made c z l = let none : c.from_residual.result ≡ None = search rules in rw none (leaf_not l c.in_err-made.ensures)
+returns-in_err-made c z l = rw c.from_residual.ensures (leaf_not l c.in_err-made.ensures)
 
 pub use_for-requires : goal.use_for-requires
 use_for-requires c = record { value = c.requires.value; holds = leaf_using c.requires.holds c.in_ok-made.ensures }
