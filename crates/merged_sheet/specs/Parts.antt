@@ -11,13 +11,6 @@ use Rattle.sheet.specs.declared.header.Sheet.{Sheet}
 use Rattle.appended_parts.specs.declared.Appended.{Appended}
 use Rattle.restating.specs.Step.{header_numbers}
 
--- there is room for the pairs, or the bytes, of as many pieces as a sheet can have
-abbrev pub PairRoom : List ℕ → Type 0
-PairRoom bytes = pair_size * name_limit ≤ length bytes
-
-abbrev pub ByteRoom : List ℕ → Type 0
-ByteRoom bytes = text_limit ≤ length bytes
-
 -- a header whose numbers are no smaller
 pub record Longer (h m : Sheet) : Type 0 where
   pub text : h.text_length ≤ m.text_length

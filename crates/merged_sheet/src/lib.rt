@@ -7,8 +7,7 @@ ghost use Rattle.definitions.specs.Sheet.{steps};
 ghost use Rattle.definitions.specs.Graft.{not_open};
 ghost use Rattle.sheet.specs.Header.{InRange, header_of};
 ghost use Rattle.sheet.specs.Admitted.{Accepted};
-ghost use Rattle.appended_parts.specs.Appended.{Room};
-ghost use Rattle.merged_sheet.specs.Parts.{PairRoom, ByteRoom, Longer, Few, head_and_pairs, records_with, text_and_code, header_with, NewParts};
+ghost use Rattle.merged_sheet.specs.Parts.{Longer, Few, head_and_pairs, records_with, text_and_code, header_with, NewParts};
 ghost use Rattle.merged_sheet.specs.Merging.{limited, Merging};
 
 use appended_parts::{Appended, append_names, append_propositions};
@@ -30,11 +29,10 @@ fn put_pairs<S: Sink<u8>>(
     sink: &mut S,
     host: &AdmittedSheet,
     m: Sheet,
-    new_names: &[u8],
-    new_propositions: &[u8],
+    new_names: &[u8; PAIR_ROOM],
+    new_propositions: &[u8; PAIR_ROOM],
 )
-    requires longer { InRange m × Longer (header_of host.now) m }
-    requires pair_room { PairRoom new_names.now × PairRoom new_propositions.now }
+    requires { InRange m × Longer (header_of host.now) m }
     ensures { S.puts sink.old
         (head_and_pairs host.now (header_of host.now) m new_names.now new_propositions.now) sink.new }
 {
@@ -71,11 +69,10 @@ fn put_text_and_code<S: Sink<u8>>(
     sink: &mut S,
     host: &AdmittedSheet,
     m: Sheet,
-    new_text: &[u8],
-    new_code: &[u8],
+    new_text: &[u8; Sheet::TEXT_LIMIT],
+    new_code: &[u8; Sheet::CODE_LIMIT],
 )
-    requires longer { InRange m × Longer (header_of host.now) m }
-    requires byte_room { ByteRoom new_text.now × ByteRoom new_code.now }
+    requires { InRange m × Longer (header_of host.now) m }
     ensures { S.puts sink.old
         (text_and_code host.now (header_of host.now) m new_text.now new_code.now) sink.new }
 {
@@ -106,12 +103,11 @@ fn merged_header(h: Sheet, g: Sheet, names: Appended, propositions: Appended) ->
 // What is appended, and the header that the merged sheet has with it.
 fn append_parts(
     sheets: &NumberedSheets,
-    new_names: &mut [u8],
-    new_text: &mut [u8],
-    new_propositions: &mut [u8],
-    new_code: &mut [u8],
+    new_names: &mut [u8; PAIR_ROOM],
+    new_text: &mut [u8; Sheet::TEXT_LIMIT],
+    new_propositions: &mut [u8; PAIR_ROOM],
+    new_code: &mut [u8; Sheet::CODE_LIMIT],
 ) -> Sheet
-    requires { Room new_names.old new_text.old × Room new_propositions.old new_code.old }
     ensures new_parts { NewParts sheets.now.host.now sheets.now.donor.now result new_names.new new_text.new
         new_propositions.new new_code.new }
     ensures accepted { Accepted sheets.now.host.now × Accepted sheets.now.donor.now }

@@ -1,6 +1,8 @@
 -- What is appended gives the header.
+use native.Mathlib.Omega.{arith}
+use Rattle.definitions.specs.Sheet.{pair_size, name_limit, text_limit}
 use Rattle.sheet.proofs.Admitted.{AcceptedSheet, its_header, beside_header}
-use Rattle.merged_sheet.proofs.Bytes.{code_within, few_appended, few_codes, new_parts}
+use Rattle.merged_sheet.proofs.Bytes.{few_appended, few_codes, new_parts}
 use Rattle.merged_sheet.proofs.append_parts.Goals as goal
 use Rattle.merged_sheet.proofs.append_parts.Goals.{After-header-g}
 
@@ -11,15 +13,8 @@ donor : (c : After-header-g) → AcceptedSheet c.args.sheets.now.donor.now c.hea
 donor c = beside_header c.header-g.ensures.is c.header-g.ensures.accepted
 
 pub append_names-names-requires : goal.append_names-names-requires
-append_names-names-requires c = c.requires.0
-
-pub append_propositions-propositions-requires : goal.append_propositions-propositions-requires
-append_propositions-propositions-requires c =
-    let here = (goal.at.append_propositions-propositions-requires c).After-header-g in
-    record {
-      from_bound = code_within (host here);
-      room = c.requires.1;
-    }
+unfolding pair_size name_limit text_limit
+append_names-names-requires c = record { for_pairs = omega arith; for_bytes = omega arith }
 
 pub merged_header-requires : goal.merged_header-requires
 merged_header-requires c =
@@ -30,13 +25,8 @@ merged_header-requires c =
       few_codes (donor here) c.header-g.ensures.accepted.bytes c.args.sheets.now.donor_numbers.now c.append_propositions-propositions.ensures,
     )
 
-pub returns : goal.returns
-returns c =
-    let here = (goal.at.returns c).After-header-g in
-    let bytes = c.header-g.ensures.accepted.bytes in
-    record {
-      new_parts =
-          new_parts (host here) (donor here) bytes c.args.sheets.now.donor_numbered c.append_names-names.ensures c.append_propositions-propositions.ensures
-          c.merged_header.ensures;
-      accepted = (c.header-h.ensures.accepted, c.header-g.ensures.accepted);
-    }
+pub returns-clause-new_parts : goal.returns-clause-new_parts
+returns-clause-new_parts c =
+    let here = (goal.at.returns-clause-new_parts c).After-header-g in
+    new_parts (host here) (donor here) c.header-g.ensures.accepted.bytes c.args.sheets.now.donor_numbered c.append_names-names.ensures
+    c.append_propositions-propositions.ensures c.merged_header.ensures

@@ -6,7 +6,7 @@ use mathlib.Core.Logic.{⊎_elim}
 use mathlib.Core.List.{List}
 use native.Mathlib.Omega.{arith}
 use lib.ListN.{length}
-use Rattle.definitions.specs.Sheet.{pair_size, name_limit, text_limit, header_out_of_range}
+use Rattle.definitions.specs.Sheet.{header_out_of_range}
 use Rattle.definitions.specs.Graft.{merged_sheet}
 use Rattle.graft_laws.proofs.MergedSheet.{Grafts, here}
 use Rattle.std.proofs.Common.{rules}
@@ -42,11 +42,6 @@ end c =
     let record { new_parts = new; accepted = (host, _) } = c.append_parts-m.ensures in
     ap (λ l. l.end) c.layout.ensures ∙ end_is (with_header host) new (graft_here (goal.at.After-layout c).After-append_parts-m)
 
-pub append_parts-m-requires : goal.append_parts-m-requires
-unfolding pair_size name_limit text_limit
-append_parts-m-requires c =
-    (record { for_pairs = omega arith; for_bytes = omega arith }, record { for_pairs = omega arith; for_bytes = omega arith })
-
 pub returns-then-out_of_range : goal.returns-then-out_of_range
 returns-then-out_of_range c =
     let there = sym (outside (goal.at.returns-then-out_of_range c).After-out_of_range) in
@@ -66,27 +61,19 @@ returns-then-out-layout c =
     (no_room _ _ _ _ (inside_both _ _ _ _ (within (goal.at.returns-then-out-layout c).Else-deep) c.if-deep.false) _ (omega (arith, c.if-out-layout.true, end (goal.at.returns-then-out-layout c).After-layout)))
 
 pub put_pairs-requires : goal.put_pairs-requires
-unfolding pair_size name_limit
 put_pairs-requires c =
     let here = goal.at.put_pairs-requires c in
     let record { new_parts = new; accepted = (host, _) } = c.append_parts-m.ensures in
-    record {
-      longer = (range (with_header host) new (graft_here here.After-append_parts-m) (within here.Else-deep), longer (with_header host) new);
-      pair_room = (omega arith, omega arith);
-    }
+    (range (with_header host) new (graft_here here.After-append_parts-m) (within here.Else-deep), longer (with_header host) new)
 
 pub put_records-requires : goal.put_records-requires
 put_records-requires c = here (graft_here (goal.at.put_records-requires c).After-append_parts-m)
 
 pub put_text_and_code-requires : goal.put_text_and_code-requires
-unfolding text_limit
 put_text_and_code-requires c =
     let here = goal.at.put_text_and_code-requires c in
     let record { new_parts = new; accepted = (host, _) } = c.append_parts-m.ensures in
-    record {
-      longer = (range (with_header host) new (graft_here here.After-append_parts-m) (within here.Else-deep), longer (with_header host) new);
-      byte_room = (omega arith, omega arith);
-    }
+    (range (with_header host) new (graft_here here.After-append_parts-m) (within here.Else-deep), longer (with_header host) new)
 
 pub returns : goal.returns
 returns c =

@@ -25,9 +25,6 @@ pub overflow_add-result-5 : goal.overflow_add-result-5
 unfolding step_limit
 overflow_add-result-5 c = let (h, g, _, _) = c.requires in omega (arith, h.steps, g.steps)
 
-pub overflow_sub-result : goal.overflow_sub-result
-overflow_sub-result c = let (h, _, _, _) = c.requires in omega (arith, h.some_step)
-
 pub returns : goal.returns
 unfolding header_with
 returns c = refl
