@@ -86,6 +86,7 @@ fn put_text_and_code<S: Sink<u8>>(
 }
 
 // The header of the merged sheet, by those of the two and what is appended.
+#[tactic(auto, unfolding(definitions::specs::Sheet::text_limit, definitions::specs::Sheet::name_limit, definitions::specs::Sheet::code_limit, definitions::specs::Sheet::proposition_limit, definitions::specs::Sheet::step_limit, crate::specs::Parts::header_with))]
 fn merged_header(h: Sheet, g: Sheet, names: Appended, propositions: Appended) -> Sheet
     requires { InRange h × InRange g × Few names × Few propositions }
     ensures { result ≡ header_with h g names propositions }

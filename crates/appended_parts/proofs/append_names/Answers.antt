@@ -14,12 +14,9 @@ all c = name_count (beside_header c.header-n-end.ensures.is c.header-n-end.ensur
 pub loop-n-init : goal.loop-n-init
 loop-n-init c = record { reached = omega arith; so = no_names _ _ _ c.requires; pair_size = refl; byte_size = refl }
 
-pub append_name-appended-requires : goal.append_name-appended-requires
-append_name-appended-requires c =
-    record {
-      n_bound = omega (arith, all (goal.at.append_name-appended-requires c).After-header-n-end, c.loop-n-test.true);
-      appends = c.loop-n.invariant.so;
-    }
+pub append_name-appended-requires-clause-n_bound : goal.append_name-appended-requires-clause-n_bound
+append_name-appended-requires-clause-n_bound c =
+    omega (arith, all (goal.at.append_name-appended-requires-clause-n_bound c).After-header-n-end, c.loop-n-test.true)
 
 pub loop-n-preserved : goal.loop-n-preserved
 loop-n-preserved c =
@@ -30,12 +27,6 @@ loop-n-preserved c =
       pair_size = omega (arith, inv.pair_size);
       byte_size = omega (arith, inv.byte_size);
     }
-
-pub shape_of-pairs : goal.shape_of-pairs
-shape_of-pairs c = c.loop-n.invariant.pair_size
-
-pub shape_of-text : goal.shape_of-text
-shape_of-text c = c.loop-n.invariant.byte_size
 
 pub returns : goal.returns
 returns c =

@@ -18,9 +18,6 @@ addable c =
     let record { i_bound = (below, offset); appends = so } = c.requires in
     code_addable (sheet c) c.header-g.ensures.accepted.bytes c.args.sheets.now.donor_numbers.now _ below offset so c.proposition_code-source.ensures.is
 
-pub proposition_code-source-requires : goal.proposition_code-source-requires
-proposition_code-source-requires c = c.requires.i_bound.0
-
 pub put_proposition-requires : goal.put_proposition-requires
 put_proposition-requires c =
     let donor = sheet (goal.at.put_proposition-requires c).After-proposition_code-source in

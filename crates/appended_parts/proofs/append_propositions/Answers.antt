@@ -14,12 +14,10 @@ all c = proposition_count (beside_header c.header-i-end.ensures.is c.header-i-en
 pub loop-i-init : goal.loop-i-init
 loop-i-init c = record { reached = omega arith; so = no_codes _ _ _ c.requires.room; pair_size = refl; byte_size = refl }
 
-pub append_proposition-appended-requires : goal.append_proposition-appended-requires
-append_proposition-appended-requires c =
-    record {
-      i_bound = (omega (arith, all (goal.at.append_proposition-appended-requires c).After-header-i-end, c.loop-i-test.true), c.requires.from_bound);
-      appends = c.loop-i.invariant.so;
-    }
+pub append_proposition-appended-requires-clause-i_bound : goal.append_proposition-appended-requires-clause-i_bound
+append_proposition-appended-requires-clause-i_bound c =
+    let here = (goal.at.append_proposition-appended-requires-clause-i_bound c).After-header-i-end in
+    (omega (arith, all here, c.loop-i-test.true), c.requires.from_bound)
 
 pub loop-i-preserved : goal.loop-i-preserved
 loop-i-preserved c =
@@ -30,12 +28,6 @@ loop-i-preserved c =
       pair_size = omega (arith, inv.pair_size);
       byte_size = omega (arith, inv.byte_size);
     }
-
-pub shape_of-pairs : goal.shape_of-pairs
-shape_of-pairs c = c.loop-i.invariant.pair_size
-
-pub shape_of-code : goal.shape_of-code
-shape_of-code c = c.loop-i.invariant.byte_size
 
 pub returns : goal.returns
 returns c = turned (codes_below _ _) c.loop-i.invariant (omega (arith, all (goal.at.returns c).After-header-i-end, c.loop-i-test.false))
