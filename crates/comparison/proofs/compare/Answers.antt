@@ -5,6 +5,3 @@ use Rattle.comparison.proofs.compare.Goals as goal
 
 pub returns-in_err-sheet : goal.returns-in_err-sheet
 returns-in_err-sheet c = let refuses = not_a_sheet _ c.args.i c.args.j c.in_err-sheet.ensures in search rules
-
-pub returns : goal.returns
-returns c = rw c.in_ok-sheet.ensures.0 at c.compare_steps.ensures

@@ -6,10 +6,3 @@ use Rattle.equal_conclusions.proofs.proposition_code.Goals as goal
 pub marked_bytes-requires : goal.marked_bytes-requires
 marked_bytes-requires c =
     pair_in (with_header c.code_bytes.ensures.accepted) c.requires c.proposition_pairs.ensures.is c.code_bytes.ensures.is
-
-pub returns : goal.returns
-returns c =
-    record {
-      is = rw (← c.proposition_pairs.ensures.is, ← c.code_bytes.ensures.is) c.marked_bytes.ensures;
-      accepted = c.code_bytes.ensures.accepted;
-    }

@@ -4,7 +4,7 @@ use mathlib.Core.Path.{◌≡◌, sym, ◌∙◌}
 use Rattle.definitions.specs.Sheet.{steps, step_records}
 use Rattle.steps.specs.StepAt.{step_at}
 use Rattle.sheet.proofs.Admitted.{AcceptedSheet, with_header, beside_header}
-use Rattle.equal_conclusions.proofs.Conclusions.{has_step, some_step, root_below, root_is, known, concluded, root_concluded, two_propositions, two_judgements, proposition_and_judgement, judgement_and_proposition}
+use Rattle.equal_conclusions.proofs.Conclusions.{has_step, root_below, root_is, known, concluded, root_concluded, two_propositions, two_judgements, proposition_and_judgement, judgement_and_proposition}
 use Rattle.equal_conclusions.proofs.same_conclusion.Goals as goal
 use Rattle.equal_conclusions.proofs.same_conclusion.Goals.{After-header-root, After-step_at-theirs}
 
@@ -16,9 +16,6 @@ pub step_at-ours-requires : goal.step_at-ours-requires
 step_at-ours-requires c =
     let record { is = is; accepted = accepted } = c.step_records.ensures in
     has_step (with_header accepted) _ c.requires is
-
-pub overflow_sub-root : goal.overflow_sub-root
-overflow_sub-root c = some_step (donor_at (goal.at.overflow_sub-root c).After-header-root)
 
 pub step_at-theirs-requires : goal.step_at-theirs-requires
 step_at-theirs-requires c =
