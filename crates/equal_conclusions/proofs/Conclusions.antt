@@ -1,5 +1,5 @@
 -- Two type judgements, and two conclusions by their kinds.
-use Prim.Native.Nat.{ℕ, ◌-◌, ◌≤◌, ◌<◌}
+use Prim.Native.Nat.{ℕ, ◌-◌, ◌<◌}
 use mathlib.Core.Path.{◌≡◌, ap, ap₂, ◌∙◌}
 use mathlib.Core.Bool.{Bool, true, false}
 use mathlib.Core.List.{List}
@@ -48,9 +48,6 @@ module _ {s : List ℕ} {h : Sheet} (a : AcceptedSheet s h) where
   pub has_step : (k : ℕ) → k < steps s → {records : List ℕ} → records ≡ step_records s → HasStep records k
   unfolding step_size
   has_step k l e = rw e (omega (arith, has_steps a.sheet))
-
-  pub some_step : 1 ≤ h.steps
-  some_step = rw a.header a.sheet.in_range.some_step
 
   pub root_below : h.steps - 1 < steps s
   unfolding header_of

@@ -1,56 +1,15 @@
--- What is made of a conclusion and a step, and what is written of them, piece by piece.
+-- What is written of a step, and of steps one after another.
 use Prim.Native.Nat.{ℕ, ◌+◌}
 use mathlib.Core.Path.{◌≡◌, refl, ap}
 use mathlib.Core.List.{List, [], ◌∷◌, ◌++◌, map, append_assoc, append-nil}
 use native.Mathlib.Numerals.{add-one}
-use lib.Dec.{leb}
 use Rattle.definitions.specs.Encode.{concat}
 use Rattle.definitions.specs.Graft.{up_to}
 use Rattle.output.specs.Numbers.{u16s}
 use Rattle.output.specs.SinkLaws.{SinkLaws}
-use Rattle.steps.specs.declared.Conclusion.{Conclusion}
-use Rattle.steps.specs.declared.Conclusion.TheVariants.{PropIsTrue, TypeJudgement}
-use Rattle.steps.specs.declared.Judgement.{Judgement}
 use Rattle.steps.specs.declared.Step.{Step}
 use Rattle.steps.specs.StepAt.{step_at}
-use Rattle.renumbering.specs.StepOver.{identifiers_of, name_over, conclusion_over, step_over, conclusion_bytes, step_bytes, steps_over}
-
-module _ (f : ℕ → ℕ) (shift : ℕ) {c : Conclusion} where
-  pub proposition_over : {p : ℕ} → c ≡ PropIsTrue p → PropIsTrue (shift + p) ≡ conclusion_over f shift c
-  unfolding conclusion_over
-  proposition_over e = rw e
-
-  pub judgement_over : {x : Judgement} → c ≡ TypeJudgement x
-      → TypeJudgement (record { name = f x.name; unique_id = x.unique_id; datatype = f x.datatype }) ≡ conclusion_over f shift c
-  unfolding conclusion_over
-  judgement_over e = rw e
-
--- the step that is made of a step's parts over the map
-pub step_over_lem : (f : ℕ → ℕ) (shift : ℕ) (s : Step) {first second : ℕ} {c : Conclusion}
-    → first ≡ name_over f (leb 1 (identifiers_of s)) s.first.name → second ≡ name_over f (leb 2 (identifiers_of s)) s.second.name
-    → c ≡ conclusion_over f shift s.conclusion
-    → record {
-      rule = s.rule;
-      premiss_count = s.premiss_count;
-      first = record { name = first; unique_id = s.first.unique_id };
-      second = record { name = second; unique_id = s.second.unique_id };
-      conclusion = c;
-      column = s.column;
-    } ≡ step_over f shift s
-unfolding step_over
-step_over_lem f shift s x y z = rw (x, y, z)
-
-module _ (c : Conclusion) (column : ℕ) {S : Type 0} (puts : S → List ℕ → S → Type 0) {before after : S} where
-  pub proposition_written : (p : ℕ) → c ≡ PropIsTrue p → puts before (u16s (0 ∷ p ∷ 0 ∷ 0 ∷ column ∷ [])) after
-      → puts before (conclusion_bytes c column) after
-  unfolding conclusion_bytes
-  proposition_written p e w = rw e w
-
-  pub judgement_written : (x : Judgement) → c ≡ TypeJudgement x
-      → puts before (u16s (1 ∷ x.name ∷ x.unique_id ∷ x.datatype ∷ column ∷ [])) after
-      → puts before (conclusion_bytes c column) after
-  unfolding conclusion_bytes
-  judgement_written x e w = rw e w
+use Rattle.renumbering.specs.StepOver.{step_over, conclusion_bytes, step_bytes, steps_over}
 
 pub step_written : (s : Step) {S : Type 0} {puts : S → List ℕ → S → Type 0} (laws : SinkLaws puts) {before a b c after : S} → puts before (s.rule ∷ []) a
     → puts a (s.premiss_count ∷ []) b

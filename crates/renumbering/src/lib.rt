@@ -127,6 +127,7 @@ fn renumber_identifiers(numbers: &[u16], step: &Step) -> (u16, u16)
 }
 
 // A conclusion over the map's numbers, its proposition counted on from `shift`.
+#[tactic(auto, unfolding(crate::specs::Renumbered::mapped, crate::specs::StepOver::conclusion_over))]
 fn renumber_conclusion(numbers: &[u16], conclusion: Conclusion, shift: usize) -> Conclusion
     requires { ConclusionMapped conclusion shift numbers.now }
     ensures { result ≡ conclusion_over (mapped numbers.now) shift conclusion }
@@ -142,6 +143,7 @@ fn renumber_conclusion(numbers: &[u16], conclusion: Conclusion, shift: usize) ->
 }
 
 // A step over the map's numbers; ids, premiss count and column stay, and so do the fields that its rule lacks.
+#[tactic(auto, unfolding(crate::specs::StepOver::step_over))]
 fn renumber_step(numbers: &[u16], step: Step, shift: usize) -> Step
     requires { StepMapped step shift numbers.now }
     ensures { result ≡ step_over (mapped numbers.now) shift step }
@@ -164,6 +166,7 @@ fn renumber_step(numbers: &[u16], step: Step, shift: usize) -> Step
 }
 
 // A conclusion and the column after it: its kind, and then a proposition and two zeros, or an object and its datatype.
+#[tactic(auto, unfolding(crate::specs::StepOver::conclusion_bytes))]
 fn put_conclusion<S: Sink<u8>>(sink: &mut S, conclusion: Conclusion, column: u16)
     ensures { S.puts sink.old (conclusion_bytes conclusion column) sink.new }
 {

@@ -3,7 +3,6 @@ use Prim.Native.Nat.{◌<◌}
 use mathlib.Core.Path.{◌≡◌}
 use native.Mathlib.Omega.{arith}
 use lib.ListN.{get_or}
-use Rattle.definitions.specs.Code.{parameter_limit}
 use Rattle.prefix_code.proofs.Fronts.{front_byte, bare_front, quantified_front}
 use Rattle.renumbering.proofs.Heads.{AtomThere, QuantifierThere, head_at, atom_at, quantifier_at, parameters_at, bare_written, atom_written, quantifier_written}
 use Rattle.renumbering.proofs.put_head.Goals as goal
@@ -31,28 +30,13 @@ unreachable-requires g c = omega (arith, (head_at _ c.requires.0).known, c.in_de
 pub returns-in-True : goal.returns-in-True
 returns-in-True g c = bare_written _ _ g.met.S.Sink.laws c.put.ensures (bare_front c.in-Some.ensures c.in-True.is)
 
-pub overflow_add-count : goal.overflow_add-count
-overflow_add-count g c = omega (arith, (atom g (goal.at.overflow_add-count g c).In-Atom).bytes.inside)
-
 pub bounds-code-at-in-Atom : goal.bounds-code-at-in-Atom
 bounds-code-at-in-Atom g c = omega (arith, (atom g (goal.at.bounds-code-at-in-Atom g c).In-Atom).bytes.inside)
-
-pub overflow_add-at : goal.overflow_add-at
-overflow_add-at g c = omega (arith, (atom g (goal.at.overflow_add-at g c).In-Atom).bytes.inside)
 
 pub put_name-requires : goal.put_name-requires
 put_name-requires g c =
     let b = (atom g (goal.at.put_name-requires g c).In-Atom).bytes in
     (omega (arith, b.inside), omega (arith, b.name, b.below, c.requires.1))
-
-pub overflow_add-at-in-Atom : goal.overflow_add-at-in-Atom
-overflow_add-at-in-Atom g c = omega (arith, (atom g (goal.at.overflow_add-at-in-Atom g c).In-Atom).bytes.inside)
-
-pub overflow_cast-count : goal.overflow_cast-count
-unfolding parameter_limit
-overflow_cast-count g c =
-    let b = (atom g (goal.at.overflow_cast-count g c).In-Atom).bytes in
-    omega (arith, b.count, b.few)
 
 pub put_parameters-requires : goal.put_parameters-requires
 put_parameters-requires g c = (parameters_at _ c.requires.0 (byte5 g (goal.at.put_parameters-requires g c).In-Atom), c.requires.1)
@@ -62,16 +46,10 @@ returns-in-Atom g c =
     atom_written _ _ g.met.S.Sink.laws c.put.ensures c.put_name.ensures (byte5 g (goal.at.returns-in-Atom g c).In-Atom) c.put-in-Atom.ensures
     c.put_parameters.ensures
 
-pub overflow_add-at-in-Quantified : goal.overflow_add-at-in-Quantified
-overflow_add-at-in-Quantified g c = omega (arith, (quantifier g (goal.at.overflow_add-at-in-Quantified g c).In-Quantified).bytes.inside)
-
 pub put_name-requires-in-Quantified : goal.put_name-requires-in-Quantified
 put_name-requires-in-Quantified g c =
     let b = (quantifier g (goal.at.put_name-requires-in-Quantified g c).In-Quantified).bytes in
     (omega (arith, b.inside), omega (arith, b.object, b.object_below, c.requires.1))
-
-pub overflow_add-at-in-Quantified-2 : goal.overflow_add-at-in-Quantified-2
-overflow_add-at-in-Quantified-2 g c = omega (arith, (quantifier g (goal.at.overflow_add-at-in-Quantified-2 g c).In-Quantified).bytes.inside)
 
 pub put_name-requires-in-Quantified-2 : goal.put_name-requires-in-Quantified-2
 put_name-requires-in-Quantified-2 g c =

@@ -16,16 +16,10 @@ bounds-code-at g c = omega (arith, (parameter_at _ c.requires.1).inside)
 pub unreachable-requires : goal.unreachable-requires
 unreachable-requires g c = omega (arith, (parameter_at _ c.requires.1).kind, c.in_default.ensures)
 
-pub overflow_add-at : goal.overflow_add-at
-overflow_add-at g c = omega (arith, (parameter_at _ c.requires.1).inside)
-
 pub put_name-requires : goal.put_name-requires
 put_name-requires g c =
     let there = parameter_at _ c.requires.1 in
     (omega (arith, there.inside), omega (arith, there.name, there.below, c.requires.2))
-
-pub overflow_add-at-in-Instantiated : goal.overflow_add-at-in-Instantiated
-overflow_add-at-in-Instantiated g c = omega (arith, ((parameter_at _ c.requires.1).instantiated (free g (goal.at.overflow_add-at-in-Instantiated g c).In-Instantiated)).1)
 
 pub number_at-requires : goal.number_at-requires
 number_at-requires g c = omega (arith, ((parameter_at _ c.requires.1).instantiated (free g (goal.at.number_at-requires g c).In-Instantiated)).1)

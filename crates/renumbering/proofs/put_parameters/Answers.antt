@@ -11,9 +11,6 @@ loop-init g c = let all : c.args.count - 0 ≡ c.args.count = omega arith in rw 
 pub put_parameter-requires : goal.put_parameter-requires
 put_parameter-requires g c = (c.args.names, next_asked g.met.S.Sink.laws c.loop.invariant c.requires.0 (omega arith), c.requires.1)
 
-pub parameter_end-i-requires : goal.parameter_end-i-requires
-parameter_end-i-requires g c = c.loop.invariant.inside
-
 pub loop-preserved : goal.loop-preserved
 loop-preserved g c =
     let fewer : c.args.count - (c.loop.counter + 1) ≡ c.args.count - c.loop.counter - 1 = omega arith in

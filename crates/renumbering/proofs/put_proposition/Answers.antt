@@ -9,9 +9,6 @@ loop-i-init g c = at_first g.met.S.Sink.laws
 pub put_head-requires : goal.put_head-requires
 put_head-requires g c = (next_asked g.met.S.Sink.laws c.loop-i.invariant c.requires.0 c.loop-i-test.true, c.requires.1)
 
-pub head_end-i-requires : goal.head_end-i-requires
-head_end-i-requires g c = c.loop-i.invariant.inside
-
 pub loop-i-smaller : goal.loop-i-smaller
 loop-i-smaller g c =
     omega (arith, next_inside g.met.S.Sink.laws c.loop-i.invariant c.requires.0 c.loop-i-test.true c.head_end-i.ensures)
