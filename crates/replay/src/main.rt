@@ -8,6 +8,8 @@ ghost use Rattle.std.specs.Prelude.{◌<◌, ◌≤◌};
 use definitions::{Located, Style, Whose};
 use input::{read_array, read_u16};
 use name_index::{FREE, SLOT_COUNT};
+use number::PAIR_SIZE;
+use proof_term::RECORD_SIZE;
 use restating::Given;
 use std::{fs, io};
 use term_reader::TermSize;
@@ -292,13 +294,12 @@ fn read_room(rest: &mut &[u8]) -> Size {
     }
 }
 
-// A record has seven numbers, and a name four bytes.
 fn term_agrees(rest: &mut &[u8], text: &[u8], datatypes: &[u8]) -> bool {
     let room = read_room(rest);
     let expected = read_term_answer(rest);
     let held = expected.unwrap_or(NO_TERM);
-    let numbers = read_numbers::<ROOM>(rest, 7 * held.records.min(ROOM));
-    let pairs = read_memory(rest, 4 * held.names.min(ROOM));
+    let numbers = read_numbers::<ROOM>(rest, RECORD_SIZE * held.records.min(ROOM));
+    let pairs = read_memory(rest, PAIR_SIZE * held.names.min(ROOM));
     let labels = read_memory(rest, held.code);
     let mut records = [0; ROOM];
     let mut names = [0; ROOM];
