@@ -55,16 +55,17 @@ pub enum Purpose {
     Body(NamedFunction),
 }
 
-// What waits for a term: the first term after a bracket, the second part of a pair, and the parts of a function, a case and a let,
-// with the terms, the labels and the numbers of the names that were read before.
+// What waits for a term: the parts of a case, the first term after a bracket, the second part of a pair, and the parts of a function and
+// a let, with the terms, the labels and the numbers of the names that were read before. The head of a case comes first, whose bytes are
+// zeros: so a memory of it alone is zeroed where it lies, and no array is copied into it.
 #[derive(Clone, Copy)]
 pub enum Entry {
-    Bracket(Purpose),
-    Second(Purpose, Part),
-    FunctionBody { name: u16, label: Option<Label> },
     CaseHead,
     CaseFirst(Part, u16),
     CaseSecond(Part, u16, Part, u16),
+    Bracket(Purpose),
+    Second(Purpose, Part),
+    FunctionBody { name: u16, label: Option<Label> },
     LetHead(u16, u16),
     LetBody(u16, u16, Part),
 }
