@@ -40,8 +40,8 @@ impl<'a> AdmittedSheet<'a> {
         Ok(AdmittedSheet { bytes, header })
     }
 
-    // The same, and the sizes of its steps' trees.
-    pub fn with_sizes(
+    // The same, and the sizes of its steps' trees: a SizedSheet keeps both.
+    pub(crate) fn with_sizes(
         bytes: &'a [u8],
         sizes: &mut [u16; Sheet::STEP_LIMIT],
     ) -> Result<AdmittedSheet<'a>, Refusal>

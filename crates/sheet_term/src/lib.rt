@@ -2,29 +2,24 @@
 #![tactic(auto)]
 
 ghost use Rattle.std.specs.Prelude.{◌≡◌};
-ghost use Rattle.definitions.specs.Sheet.{steps, step_records};
 ghost use Rattle.definitions.specs.Answers.{label_count};
-ghost use Rattle.steps.specs.Tables.{SizeTable};
 ghost use Rattle.sheet_term.specs.Held.{Exports, Gives};
 ghost use Rattle.sheet_term.specs.Counted.{counted_of};
 
 use definitions::Refusal;
 use proof_term::{RECORD_SIZE, annotation_count};
 use proof_tree::{SizedSteps, export_as_proof_term};
-use sheet::{AdmittedSheet, Sheet};
+use sheet::{AdmittedSheet, Sheet, SizedSheet};
 
 // Room for two term records for each step.
 pub const TERM_NUMBERS: usize = 2 * RECORD_SIZE * Sheet::STEP_LIMIT;
 
 // The record that holds the term of an admitted sheet.
-fn export(
-    sheet: &AdmittedSheet,
-    sizes: &[u16; Sheet::STEP_LIMIT],
-    terms: &mut [u16; TERM_NUMBERS],
-) -> Result<usize, Refusal>
-    requires { SizeTable (step_records sheet.now) (steps sheet.now) sizes.now }
-    ensures { Exports sheet.now terms.new result }
+fn export(sized: &SizedSheet, terms: &mut [u16; TERM_NUMBERS]) -> Result<usize, Refusal>
+    ensures { Exports sized.now terms.new result }
 {
+    let sheet = sized.admitted();
+    let sizes = sized.sizes();
     let h = sheet.header();
     let steps = SizedSteps {
         pairs: sheet.proposition_pairs(),
@@ -46,9 +41,9 @@ pub fn sheet_term<'a>(
     ensures { Gives s.now terms.new result }
 {
     let mut sizes = [0u16; Sheet::STEP_LIMIT];
-    let sheet = AdmittedSheet::with_sizes(s, &mut sizes)?;
-    let n = export(&sheet, &sizes, terms)?;
-    Ok((sheet, n))
+    let sheet = SizedSheet::new(s, &mut sizes)?;
+    let n = export(&sheet, terms)?;
+    Ok((sheet.into_admitted(), n))
 }
 
 // The label count of any bytes.

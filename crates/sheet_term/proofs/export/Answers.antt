@@ -13,20 +13,21 @@ use Rattle.sheet_term.proofs.Held.{held, is_refused}
 use Rattle.sheet_term.proofs.export.Goals as goal
 use Rattle.sheet_term.proofs.export.Goals.{After-header-h, After-step_records}
 
-its_sheet : (c : After-header-h) → AcceptedSheet c.args.sheet.now c.header-h.result
-its_sheet c = beside_header c.header-h.ensures.is c.header-h.ensures.accepted
+its_sheet : (c : After-header-h) → AcceptedSheet c.args.sized.now c.header-h.result
+its_sheet c = rw c.admitted-sheet.ensures.is at (beside_header c.header-h.ensures.is c.header-h.ensures.accepted)
 
 -- the steps can be exported with the sheet's count of names, and there is room
 walkable : (c : After-step_records) → let h = c.header-h.result in
-    (Exportable h.names c.proposition_pairs.result.now c.code_bytes.result.now c.step_records.result.now c.args.sizes.now h.steps × (0 < h.steps))
+    (Exportable h.names c.proposition_pairs.result.now c.code_bytes.result.now c.step_records.result.now c.sizes-sizes.result.now h.steps × (0 < h.steps))
     × RoomFor c.args.terms.now (2 * h.steps)
 unfolding step_limit
 walkable c =
-    rw (c.proposition_pairs.ensures.is, c.code_bytes.ensures.is, c.step_records.ensures.is)
-    (ready (its_sheet (goal.at.After-step_records c).After-header-h) (search rules) (search rules) c.requires)
+    rw (c.proposition_pairs.ensures.is, c.code_bytes.ensures.is, c.step_records.ensures.is, c.admitted-sheet.ensures.is)
+    (ready (its_sheet (goal.at.After-step_records c).After-header-h) (search rules) (search rules) c.sizes-sizes.ensures)
 
 pub invariant_of-steps : goal.invariant_of-steps
-invariant_of-steps c = record { bytes = rw c.code_bytes.ensures.is (code_of_bytes c.args.sheet.now c.header-h.ensures.accepted.bytes) }
+invariant_of-steps c =
+    record { bytes = rw (c.code_bytes.ensures.is, c.admitted-sheet.ensures.is) (code_of_bytes c.args.sized.now c.admitted-sheet.ensures.accepted.bytes) }
 
 pub export_as_proof_term-requires : goal.export_as_proof_term-requires
 export_as_proof_term-requires c =
@@ -43,8 +44,13 @@ unfolding step_limit
 returns c =
     let w = walkable (goal.at.returns c).After-step_records in
     held (its_sheet (goal.at.returns c).After-header-h)
-    c.header-h.ensures.accepted.bytes (search rules)
-    (rw (c.proposition_pairs.ensures.is, c.code_bytes.ensures.is, c.step_records.ensures.is) at (c.in_ok-next.ensures c.header-h.result.names w.0.0))
+    c.admitted-sheet.ensures.accepted.bytes (search rules)
+    (rw (
+      c.proposition_pairs.ensures.is,
+      c.code_bytes.ensures.is,
+      c.step_records.ensures.is,
+      c.admitted-sheet.ensures.is,
+    ) at (c.in_ok-next.ensures c.header-h.result.names w.0.0))
     refl
 
 pub returns-in_err-next : goal.returns-in_err-next
@@ -52,7 +58,12 @@ unfolding step_limit
 returns-in_err-next c =
     let w = walkable (goal.at.returns-in_err-next c).After-step_records in
     let no_term = is_refused (its_sheet (goal.at.returns-in_err-next c).After-header-h)
-    c.header-h.ensures.accepted.bytes (search rules)
-    (rw (c.proposition_pairs.ensures.is, c.code_bytes.ensures.is, c.step_records.ensures.is) at (c.in_err-next.ensures c.header-h.result.names w.0.0))
+    c.admitted-sheet.ensures.accepted.bytes (search rules)
+    (rw (
+      c.proposition_pairs.ensures.is,
+      c.code_bytes.ensures.is,
+      c.step_records.ensures.is,
+      c.admitted-sheet.ensures.is,
+    ) at (c.in_err-next.ensures c.header-h.result.names w.0.0))
     refl in
     search rules
