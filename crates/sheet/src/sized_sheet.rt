@@ -9,7 +9,7 @@ use crate::admitted_sheet::AdmittedSheet;
 use crate::header::Sheet;
 use definitions::Refusal;
 use std::marker::Model;
-use steps::first_deep_tree;
+use steps::SizedSteps;
 
 // The sheet, beside the table that the checks filled. The table is lent, since it has 2 KiB, and may go before the sheet's bytes.
 #[derive(Drop)]
@@ -71,12 +71,17 @@ impl<'a, 't> SizedSheet<'a, 't> {
     pub fn root_height(&self) -> u16
         ensures { result ≡ height (root_of self.now) }
     {
-        let records = self.admitted.step_records();
+        let step_records = self.admitted.step_records();
         let steps = self.admitted.header().steps;
         let sizes = self.sizes;
+        let sized = SizedSteps {
+            step_records,
+            steps,
+            sizes,
+        };
         let mut heights = [0u16; Sheet::STEP_LIMIT];
         let limit = Sheet::TREE_NESTING_LIMIT;
-        first_deep_tree(records, steps, sizes, &mut heights, limit);
+        sized.first_deep_tree(&mut heights, limit);
         heights[steps - 1]
     }
 }

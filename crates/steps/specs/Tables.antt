@@ -1,9 +1,11 @@
 -- What is kept of the steps' trees: the size and the nesting of each. They are the same for all names, pairs and code, since
 -- the premiss counts alone say which steps a tree has.
-use Rattle.std.specs.Prelude.{ℕ, ◌+◌, ◌<◌, ◌≡◌, true, false, List, get_or, drop, ltb, Option, None, Some}
+use Rattle.std.specs.Prelude.{ℕ, ◌+◌, ◌≤◌, ◌<◌, ◌≡◌, true, false, List, length, get_or, drop, ltb, Option, None, Some}
 use Rattle.definitions.specs.Outcome.{lowest}
 use Rattle.definitions.specs.Tree.{height, tree_in}
 use Rattle.definitions.specs.Admission.{too_few_trees}
+use Rattle.definitions.specs.Sheet.{step_limit}
+use Rattle.steps.specs.Records.{HasSteps}
 use Rattle.steps.specs.Size.{size}
 
 -- where the tree of step k starts: nowhere if the step finds too few trees, else so that the tree has the steps up to k
@@ -19,6 +21,13 @@ pub record SizeTable (records : List ℕ) (steps : ℕ) (table : List ℕ) : Typ
       → k < steps → too_few_trees names pairs code records k ≡ false
   pub sizes : (names : ℕ) (pairs code : List ℕ) (k : ℕ)
       → k < steps → get_or table k 0 ≡ size (tree_in names pairs code records k)
+
+-- so many steps are there, and the table has the size of each one's tree
+pub record StepsSized (records : List ℕ) (steps : ℕ) (table : List ℕ) : Type 0 where
+  pub has_steps : HasSteps records steps
+  pub few : steps ≤ step_limit
+  pub within : steps ≤ length table
+  pub sizes : SizeTable records steps table
 
 -- how many steps a search passes: those before the one that it finds, or else all
 unfoldable pub passed : Option ℕ → ℕ → ℕ

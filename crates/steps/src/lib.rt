@@ -3,20 +3,22 @@
 
 mod record;
 mod rule;
+mod sized_steps;
 
-ghost use Rattle.std.specs.Prelude.{ℕ, ◌+◌, ◌≤◌, ◌<◌, ◌≡◌, List, length, get_or};
+ghost use Rattle.std.specs.Prelude.{◌≤◌, ◌<◌, ◌≡◌, length, get_or};
 ghost use Rattle.definitions.specs.Outcome.{lowest};
 ghost use Rattle.definitions.specs.Sheet.{step_limit, rule_byte, premiss_count};
-ghost use Rattle.definitions.specs.Tree.{rules, Sorry, identifier_count, height, tree_in};
-ghost use Rattle.definitions.specs.Admission.{bad_step, trees_left};
+ghost use Rattle.definitions.specs.Tree.{rules, Sorry, identifier_count};
+ghost use Rattle.definitions.specs.Admission.{bad_step};
 ghost use Rattle.steps.specs.Records.{HasStep, HasSteps};
 ghost use Rattle.steps.specs.StepAt.{step_at};
-ghost use Rattle.steps.specs.Tables.{TreeStart, SizeTable, FilledSizes, HeightTable, FilledHeights};
+ghost use Rattle.steps.specs.Tables.{FilledSizes};
 
 use record::StepRecord;
 pub use record::{PROP_IS_TRUE, TYPE_JUDGEMENT};
 pub use rule::Rule;
 use search::lowest;
+pub use sized_steps::SizedSteps;
 
 // The bytes of a step.
 pub const STEP_SIZE: usize = 20;
@@ -56,6 +58,9 @@ pub struct Step {
     pub conclusion: Conclusion,
     pub column: u16,
 }
+
+// The readers of one step. Each caller reads one or two fields of it, so a call names the records and the step: with a public
+// `StepRecord` the same two would be named in a literal, and the same fact shown of them there.
 
 // The byte of the rule of step k.
 pub fn rule_byte(step_records: &[u8], k: usize) -> u8
@@ -111,94 +116,23 @@ pub fn first_bad_step(
     lowest(steps, |k| bad_step(step_records, k, names, propositions))
 }
 
-// Where the tree of step k starts, if the step finds its premisses: back over each of them by its size. It may stop at each of them,
-// so the walk is a loop and no fold.
-fn tree_start(step_records: &[u8], k: usize, sizes: &[u16]) -> Option<usize>
-    requires { (HasStep step_records.now k) × (k ≤ length sizes.now)
-        × SizeTable step_records.now k sizes.now }
-    ensures { TreeStart step_records.now k result }
-{
-    let needed = premiss_count(step_records, k);
-    let mut start = k;
-    for _ in 0..needed {
-        if start == 0 {
-            return None;
-        }
-        start -= sizes[start - 1] as usize;
-    }
-    Some(start)
-}
-
 // Refusal 10, its first part: the lowest step that finds too few trees. The sizes are those of the steps' trees. Each turn reads the
-// sizes that the turns before it wrote, so no search over a closure that only reads serves; nor does a struct of the records and the
-// sizes, which would lend them to two readers alone.
+// sizes that the turns before it wrote, so no search over a closure that only reads serves.
 #[tactic(auto, unfolding(definitions::specs::Sheet::step_size, definitions::specs::Sheet::step_limit, crate::specs::Tables::TreeStart))]
 pub fn fill_sizes(step_records: &[u8], steps: usize, sizes: &mut [u16]) -> Option<usize>
     requires { (HasSteps step_records.now steps) × (steps ≤ step_limit) × (steps ≤ length sizes.old) }
     ensures { FilledSizes step_records.now steps sizes.old result sizes.new }
 {
     for k in 0..steps {
-        let Some(start) = tree_start(step_records, k, sizes) else {
+        let front = SizedSteps {
+            step_records,
+            steps: k,
+            sizes,
+        };
+        let Some(start) = front.next_start() else {
             return Some(k);
         };
         sizes[k] = (k + 1 - start) as u16;
-    }
-    None
-}
-
-// Refusal 10, its second part: the last step's tree has not all the steps. The sizes are a table that the caller keeps beside the
-// records, so what they are is asked for in each clause.
-pub fn leaves_trees(step_records: &[u8], steps: usize, sizes: &[u16]) -> bool
-    requires { (0 < steps) × (steps ≤ length sizes.now) × SizeTable step_records.now steps sizes.now }
-    ensures { (names : ℕ) (pairs code : List ℕ) →
-        result ≡ trees_left names pairs code step_records.now steps }
-{
-    (sizes[steps - 1] as usize) < steps
-}
-
-// The nesting of the tree of step k: one more than that of its deepest premiss. The place where the next premiss ends goes along
-// beside the deepest, so the walk is a loop.
-fn tree_height(step_records: &[u8], k: usize, sizes: &[u16], heights: &[u16]) -> u16
-    requires has_step { (HasStep step_records.now k) × (k < step_limit) × (k ≤ length sizes.now)
-        × (k ≤ length heights.now) }
-    requires size_table { SizeTable step_records.now (k + 1) sizes.now
-        × HeightTable step_records.now k heights.now }
-    ensures { (names : ℕ) (pairs code : List ℕ) →
-        result ≡ height (tree_in names pairs code step_records.now k) }
-{
-    let premisses = premiss_count(step_records, k);
-    let mut start = k;
-    let mut deepest = 0;
-    for _ in 0..premisses {
-        let last = start - 1;
-        deepest = heights[last].max(deepest);
-        start -= sizes[last] as usize;
-    }
-    deepest + 1
-}
-
-// The lowest step whose tree nests deeper than a limit: with that of a sheet, this is refusal 11. The heights are those of the
-// steps before it, which its turns write and read in their order.
-#[tactic(auto, unfolding(definitions::specs::Sheet::step_size))]
-pub fn first_deep_tree(
-    step_records: &[u8],
-    steps: usize,
-    sizes: &[u16],
-    heights: &mut [u16],
-    limit: u16,
-) -> Option<usize>
-    requires has_steps { (HasSteps step_records.now steps) × (steps ≤ step_limit) }
-    requires steps_in_bounds { (steps ≤ length sizes.now) × (steps ≤ length heights.old)
-        × SizeTable step_records.now steps sizes.now }
-    ensures { FilledHeights step_records.now steps limit heights.old result
-        heights.new }
-{
-    for k in 0..steps {
-        let height = tree_height(step_records, k, sizes, heights);
-        if limit < height {
-            return Some(k);
-        }
-        heights[k] = height;
     }
     None
 }

@@ -15,27 +15,32 @@ answer : {records : List ℕ} {steps : ℕ} {before after : List ℕ} {r : Optio
     → FilledSizes records steps before r after
 answer f = record { found = f.found; table = f.table; kept = f.kept }
 
-pub tree_start-requires : goal.tree_start-requires
+pub invariant_of-front : goal.invariant_of-front
 unfolding step_size
-tree_start-requires c = (omega arith, omega arith, c.loop-k.invariant.table)
+invariant_of-front c =
+    record { sized = record { has_steps = omega arith; few = omega arith; within = omega arith; sizes = c.loop-k.invariant.table } }
+
+pub next_start-requires : goal.next_start-requires
+unfolding step_size
+next_start-requires c = omega arith
 
 pub returns-in_default : goal.returns-in_default
 unfolding TreeStart
 returns-in_default c =
     answer (filling_stopped c.loop-k.invariant c.loop-k-test.true
-    (rw c.in_default.is at c.tree_start.ensures))
+    (rw c.in_default.is at c.next_start.ensures))
 
 pub overflow_sub-sizes : goal.overflow_sub-sizes
 unfolding TreeStart
 overflow_sub-sizes c =
-    let s = rw c.in-Some.is at c.tree_start.ensures in
+    let s = rw c.in-Some.is at c.next_start.ensures in
     omega (arith, (s 0 [] []).1)
 
 pub loop-k-preserved : goal.loop-k-preserved
 unfolding TreeStart
 loop-k-preserved c =
     let f = c.loop-k.invariant in
-    let s = rw c.in-Some.is at c.tree_start.ensures in
+    let s = rw c.in-Some.is at c.next_start.ensures in
     filling_more f _ c.loop-k-test.true (λ names pairs code. (s names pairs code).0)
     (size_table_more _ _ _ _ (omega arith) f.table s)
 

@@ -9,15 +9,23 @@ use Rattle.sheet.proofs.sized_sheet.SizedSheet.root_height.Goals.{After-header-s
 its : (c : After-header-steps) → AcceptedSheet c.self.inside.admitted c.header-steps.result
 its c = beside_header c.header-steps.ensures.is c.header-steps.ensures.accepted
 
+pub invariant_of-sized : goal.invariant_of-sized
+unfolding step_limit
+invariant_of-sized c =
+    let here = its (goal.at.invariant_of-sized c).After-header-steps in
+    rw c.step_records-step_records.ensures.is
+    record {
+      sized = record {
+        has_steps = all_steps here;
+        few = few_steps here;
+        within = omega (arith, few_steps here);
+        sizes = sizes_known here c.self.invariant.1;
+      };
+    }
+
 pub first_deep_tree-requires : goal.first_deep_tree-requires
 unfolding step_limit
-first_deep_tree-requires c =
-    let here = its (goal.at.first_deep_tree-requires c).After-header-steps in
-    rw c.step_records-records.ensures.is
-    record {
-      has_steps = (all_steps here, few_steps here);
-      steps_in_bounds = (omega (arith, few_steps here), omega (arith, few_steps here), sizes_known here c.self.invariant.1);
-    }
+first_deep_tree-requires c = omega (arith, few_steps (its (goal.at.first_deep_tree-requires c).After-header-steps))
 
 pub offset_bounds-heights-steps : goal.offset_bounds-heights-steps
 unfolding step_limit
@@ -32,4 +40,4 @@ pub returns : goal.returns
 unfolding tree_nesting_limit
 returns c =
     rw c.self.view_is
-    at (root_level (its (goal.at.returns c).After-header-steps) c.step_records-records.ensures.is c.first_deep_tree.ensures)
+    at (root_level (its (goal.at.returns c).After-header-steps) c.step_records-step_records.ensures.is c.first_deep_tree.ensures)

@@ -2,7 +2,7 @@
 use Prim.Native.Nat.{◌-◌}
 use native.Mathlib.Omega.{arith}
 use Rattle.steps.proofs.Walk.{walk_start, walk_within, size_fits, walk_on, walk_out, walk_done}
-use Rattle.steps.proofs.tree_start.Goals as goal
+use Rattle.steps.proofs.sized_steps.SizedSteps.next_start.Goals as goal
 
 pub loop-init : goal.loop-init
 loop-init c = (walk_start _ _, omega arith, c.premiss_count-needed.ensures)
@@ -11,18 +11,18 @@ pub returns-then-start-eq0 : goal.returns-then-start-eq0
 returns-then-start-eq0 c = walk_out c.loop.invariant.0 c.if-start-eq0.true (omega arith)
 
 pub overflow_sub-start-in-loop : goal.overflow_sub-start-in-loop
-overflow_sub-start-in-loop c = size_fits c.loop.invariant.0 _ c.requires.2 (omega arith)
+overflow_sub-start-in-loop c = size_fits c.loop.invariant.0 _ c.args.self.now.sized.sizes (omega arith)
 
 pub loop-preserved : goal.loop-preserved
 loop-preserved c =
     let l = c.loop.invariant in
-    (walk_on l.0 _ c.requires.2 (omega arith), omega arith, l.2)
+    (walk_on l.0 _ c.args.self.now.sized.sizes (omega arith), omega arith, l.2)
 
 pub offset_bounds-sizes-start : goal.offset_bounds-sizes-start
-offset_bounds-sizes-start c = omega (arith, walk_within c.loop.invariant.0)
+offset_bounds-sizes-start c = omega (arith, walk_within c.loop.invariant.0, c.args.self.now.sized.within)
 
 pub bounds-sizes-start : goal.bounds-sizes-start
-bounds-sizes-start c = omega (arith, walk_within c.loop.invariant.0)
+bounds-sizes-start c = omega (arith, walk_within c.loop.invariant.0, c.args.self.now.sized.within)
 
 pub overflow_cast-start : goal.overflow_cast-start
 overflow_cast-start c = omega (arith, c.type_inv.sizes (c.loop.start - 1))

@@ -7,7 +7,7 @@ use Rattle.std.specs.Prelude.{ℕ}
 use Rattle.definitions.specs.Tree.{height, tree_in}
 use Rattle.steps.specs.Tables.{HeightTable}
 use Rattle.steps.proofs.Filling.{Filling}
-use Rattle.steps.proofs.first_deep_tree.Given as goal
+use Rattle.steps.proofs.sized_steps.SizedSteps.first_deep_tree.Given as goal
 
 -- a step's tree nests deeper than the limit
 abbrev pub deeper : List ℕ → ℕ → ℕ → List ℕ → List ℕ → ℕ → Bool
@@ -15,7 +15,7 @@ deeper records limit names pairs code k = ltb limit (height (tree_in names pairs
 
 abbrev pub invariant-loop-k : goal.invariant-loop-k
 invariant-loop-k l =
-    Filling (deeper l.step_records l.limit) (HeightTable l.step_records) l.steps l.initial.heights l.heights l.k
+    Filling (deeper l.self.step_records.now l.limit) (HeightTable l.self.step_records.now) l.self.steps l.initial.heights l.heights l.k
 
 abbrev pub decreases-loop-k : goal.decreases-loop-k
-decreases-loop-k l = l.steps - l.k
+decreases-loop-k l = l.self.steps - l.k

@@ -4,12 +4,11 @@ use mathlib.Core.List.{List}
 use native.Mathlib.Omega.{arith}
 use borrow.Author.Tests.{lt-ltb, le-ltb}
 use Rattle.std.specs.Prelude.{Option, ℕ}
-use Rattle.definitions.specs.Sheet.{step_size}
 use Rattle.steps.specs.Tables.{HeightTable, FilledHeights}
-use Rattle.steps.proofs.Tables.{size_table_shorter, height_table_none, height_table_more}
+use Rattle.steps.proofs.Tables.{height_table_none, height_table_more}
 use Rattle.steps.proofs.Filling.{Filled, filling_none, filling_more, filling_stopped, filling_done}
-use Rattle.steps.proofs.first_deep_tree.Goals as goal
-use Rattle.steps.proofs.first_deep_tree.Invariants.{deeper}
+use Rattle.steps.proofs.sized_steps.SizedSteps.first_deep_tree.Goals as goal
+use Rattle.steps.proofs.sized_steps.SizedSteps.first_deep_tree.Invariants.{deeper}
 
 answer : {records : List ℕ} {steps limit : ℕ} {before after : List ℕ} {r : Option ℕ}
     → Filled (deeper records limit) (HeightTable records) steps before r after
@@ -17,12 +16,7 @@ answer : {records : List ℕ} {steps limit : ℕ} {before after : List ℕ} {r :
 answer f = record { found = f.found; table = f.table; kept = f.kept }
 
 pub tree_height-height-requires : goal.tree_height-height-requires
-unfolding step_size
-tree_height-height-requires c =
-    record {
-      has_step = (omega arith, omega arith, omega arith, omega arith);
-      size_table = (size_table_shorter _ _ _ _ (omega arith) c.requires.steps_in_bounds.2, c.loop-k.invariant.table);
-    }
+tree_height-height-requires c = (omega arith, omega arith, c.loop-k.invariant.table)
 
 pub returns-then-limit-height : goal.returns-then-limit-height
 returns-then-limit-height c =
