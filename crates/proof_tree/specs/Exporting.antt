@@ -15,7 +15,7 @@ use Rattle.proof_term.specs.Tally.{Tallied}
 use Rattle.proof_term.specs.Making.{Kept}
 use Rattle.prefix_code.specs.PropAt.{prop_at}
 use Rattle.prefix_code.specs.Shape.{ImplicationAt}
-use Rattle.proof_tree.specs.declared.sized_steps.SizedSteps.{SizedSteps}
+use Rattle.proof_tree.specs.declared.walked_steps.WalkedSteps.{WalkedSteps}
 use Rattle.proof_tree.specs.Exportable.{ExportableWith}
 use Rattle.proof_tree.specs.Terms.{HasProposition, part_terms, Ordered}
 
@@ -67,7 +67,7 @@ StepPlaced names pairs code records k mode reads parts before used after r =
     (used + 1 - reads) (used + 2) after r
 
 -- Of steps that can be exported, with whatever count of names they can be:
-module _ (s : SizedSteps) where
+module _ (s : WalkedSteps) where
   abbrev pub Exported : ℕ → Place → List ℕ → ℕ → List ℕ → Result ℕ Refusal → Type 0
   Exported k mode before used after r =
       (names : ℕ) → ExportableWith names s → StepExported names s.pairs.now s.code.now s.records.now k mode before used after r

@@ -4,7 +4,7 @@
 #![tactic(auto)]
 
 mod conclusion;
-mod sized_steps;
+mod walked_steps;
 mod step;
 mod table;
 mod term;
@@ -25,7 +25,7 @@ use conclusion::annotation_of;
 use definitions::{Reason, Refusal};
 use number::pair_offset;
 use proof_term::{Label, Node, make};
-pub use sized_steps::SizedSteps;
+pub use walked_steps::WalkedSteps;
 use step::premiss;
 use steps::{Conclusion, premiss_count, rule_byte, step_at};
 pub use table::ReasoningMode;
@@ -68,7 +68,7 @@ fn ending_in(mode: ReasoningMode, ending: Ending) -> Ending
 // The term of step k in its mode, over the records of its premisses' terms: its ending says which label it has, and whether an
 // ascription follows.
 fn placed_term(
-    steps: &SizedSteps,
+    steps: &WalkedSteps,
     k: usize,
     mode: ReasoningMode,
     row: Row,
@@ -83,7 +83,7 @@ fn placed_term(
     ensures { Placed steps.now k (mode_of mode) row.fewest (first_three parts)
         term_records.old used term_records.new result }
 {
-    let SizedSteps {
+    let WalkedSteps {
         pairs,
         code,
         records,
@@ -104,7 +104,7 @@ fn placed_term(
 
 // The term of step k in its mode: its premisses are counted on entering it and come next, in order; its conclusion comes last.
 fn do_export_as_proof_term(
-    steps: &SizedSteps,
+    steps: &WalkedSteps,
     k: usize,
     mode: ReasoningMode,
     term_records: &mut [u16],
@@ -137,7 +137,7 @@ fn do_export_as_proof_term(
 }
 
 // The sheet's term: what the last step gives in checking mode.
-pub fn export_as_proof_term(steps: &SizedSteps, term_records: &mut [u16]) -> Result<usize, Refusal>
+pub fn export_as_proof_term(steps: &WalkedSteps, term_records: &mut [u16]) -> Result<usize, Refusal>
     requires exportable { SomeExportable steps.now × (0 < steps.now.count) }
     requires room_for { RoomFor term_records.old (2 * steps.now.count) }
     ensures { Exported steps.now (steps.now.count - 1) checking term_records.old 0 term_records.new result }

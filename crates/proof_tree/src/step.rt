@@ -4,7 +4,7 @@ ghost use Rattle.definitions.specs.Sheet.{premiss_count};
 ghost use Rattle.proof_tree.specs.Exportable.{SomeExportable};
 ghost use Rattle.proof_tree.specs.Premisses.{PremissStep};
 
-use crate::sized_steps::SizedSteps;
+use crate::walked_steps::WalkedSteps;
 use steps::premiss_count;
 
 // How many of the premisses come after the one of a position.
@@ -18,7 +18,7 @@ fn later_premisses(count: usize, position: usize) -> usize
 // The step that finishes the premiss of a position, earliest first: back from step k over the premisses after it. Each step back is
 // as long as the size says where the last one ended. The closure of a `fold` would have to say in clauses of its own which step has a
 // tree before it and where that tree starts; the loop needs none beside its invariant.
-pub fn premiss(steps: &SizedSteps, k: usize, position: usize) -> usize
+pub fn premiss(steps: &WalkedSteps, k: usize, position: usize) -> usize
     requires exportable { SomeExportable steps.now × (k < steps.now.count) }
     requires position_in_bounds { position < premiss_count steps.now.records.now k }
     ensures { PremissStep steps.now.records.now k position result }

@@ -8,7 +8,7 @@ ghost use Rattle.sheet_term.specs.Counted.{counted_of};
 
 use definitions::Refusal;
 use proof_term::{RECORD_SIZE, annotation_count};
-use proof_tree::{SizedSteps, export_as_proof_term};
+use proof_tree::{WalkedSteps, export_as_proof_term};
 use sheet::{AdmittedSheet, Sheet, SizedSheet};
 
 // Room for two term records for each step.
@@ -21,7 +21,7 @@ fn export(sized: &SizedSheet, terms: &mut [u16; TERM_NUMBERS]) -> Result<usize, 
     let sheet = sized.admitted();
     let sizes = sized.sizes();
     let h = sheet.header();
-    let steps = SizedSteps {
+    let steps = WalkedSteps {
         pairs: sheet.proposition_pairs(),
         code: sheet.code_bytes(),
         records: sheet.step_records(),

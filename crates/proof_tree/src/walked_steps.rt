@@ -4,7 +4,7 @@ ghost use Rattle.std.specs.Prelude.{ℕ, ◌<◌, get_or};
 // The pairs and the code of the steps' propositions, the records of the steps, and the sizes of their trees. That the steps can be
 // exported is a clause of each function and no ghost field: a ghost field must be a proposition, and this names a count of names.
 #[derive(Clone, Copy)]
-pub struct SizedSteps<'a> {
+pub struct WalkedSteps<'a> {
     pub pairs: &'a [u8],
     pub code: &'a [u8],
     pub records: &'a [u8],
