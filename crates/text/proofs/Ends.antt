@@ -1,25 +1,24 @@
 -- The table of the ends of an accepted sheet's propositions: it can be filled in, and with it the term can be printed.
 use Prim.Native.Nat.{ℕ, ◌≤◌, ◌<◌}
-use mathlib.Core.Path.{◌≡◌, ap, ◌∙◌}
+use mathlib.Core.Path.{◌≡◌, refl, ap, ◌∙◌}
 use mathlib.Core.List.{List}
 use native.Mathlib.Omega.{arith}
 use lib.ListN.{length}
 use Rattle.definitions.specs.declared.Style.{Style}
-use Rattle.definitions.specs.Sheet.{names, name_pairs, proposition_pairs, code_bytes, code_limit, step_limit, pair_offset, name_of, marked}
+use Rattle.definitions.specs.Sheet.{proposition_pairs, code_bytes, code_limit, step_limit, pair_offset}
 use Rattle.definitions.specs.Name.{Name}
 use Rattle.definitions.specs.Prop.{Prop}
 use Rattle.definitions.specs.Term.{rename_term}
 use Rattle.definitions.specs.Display.{display_term}
 use Rattle.definitions.specs.Admission.{bad_code}
 use Rattle.sheet.specs.declared.header.Sheet.{Sheet}
-use Rattle.prefix_code.specs.PropAt.{prop_at}
 use Rattle.vocabulary.specs.declared.Vocabulary.{Vocabulary}
-use Rattle.vocabulary.specs.Vocabulary.{text_in, code_in, name_in, prop_in}
+use Rattle.vocabulary.specs.Vocabulary.{code_in}
 use Rattle.sheet.specs.Header.{header_of}
 use Rattle.sheet.specs.Admitted.{Accepted}
 use Rattle.sheet.proofs.Slices.{lengths}
 use Rattle.sheet.proofs.Admitted.{with_header, has_header, has_codes}
-use Rattle.sheet.proofs.NamesAndCode.{count_is, pairs_are, text_is, code_is, within, names_of}
+use Rattle.sheet.proofs.NamesAndCode.{count_is, code_is, within, names_of}
 use Rattle.prop.specs.Ends.{Known, AllFillable}
 use Rattle.proof_term.specs.Records.{term_at}
 use Rattle.proof_term.specs.Readable.{NamesBelow}
@@ -27,7 +26,7 @@ use Rattle.proof_term_display.specs.Printable.{PrintableTerm, term_text}
 use Rattle.proof_term_length.specs.Measure.{Measurable}
 use Rattle.sheet_term.specs.Held.{HeldTerm}
 use Rattle.text.specs.Declaring.{sheet_vocabulary, term_of, EndsKnown}
-use Rattle.text.proofs.Labels.{label_known}
+use Rattle.text.proofs.Labels.{label_known, names_are, props_are}
 
 -- Of a term and of code, by equal counts, names and propositions:
 module _ {count names : ℕ} (counts : count ≡ names) where
@@ -63,15 +62,6 @@ module _ {s : List ℕ} (a : Accepted s) where
   unfolding header_of
   ends_known is known = record { known = rw is at known }
 
-  -- the vocabulary's names and propositions are the sheet's
-  names_are : name_in s (sheet_vocabulary s) ≡ name_of s
-  unfolding name_in name_of
-  names_are = ap (λ pairs. marked pairs (text_in s (sheet_vocabulary s))) (pairs_are (has_header a.sheet)) ∙ ap (marked (name_pairs s)) (text_is (has_header a.sheet))
-
-  props_are : prop_in s (sheet_vocabulary s) ≡ prop_at (names s) (code_bytes s)
-  unfolding prop_in
-  props_are = ap (λ count. prop_at count (code_in s (sheet_vocabulary s))) (count_is (has_header a.sheet)) ∙ ap (prop_at (names s)) (code_is (has_header a.sheet))
-
   module _ {v : Vocabulary} (is : v ≡ sheet_vocabulary s) where
     pub code_short : length (code_in s v) ≤ 8192
     unfolding header_of code_limit
@@ -85,7 +75,7 @@ module _ {s : List ℕ} (a : Accepted s) where
         let has = has_header a.sheet in
         rw is (record {
           held = term.held;
-          below = below_by (count_is has) terms n props_are term.below;
+          below = below_by (count_is has) terms n (props_are has refl) term.below;
           labels = λ m h l.
               let fits = term.labels m h l in
               record {
@@ -110,4 +100,6 @@ module _ {s : List ℕ} (a : Accepted s) where
         }
 
     pub term_shown : (style : Style) (terms : List ℕ) (n : ℕ) → term_text style s v terms n ≡ display_term style (term_of s terms n)
-    term_shown style terms n = ap (λ w. term_text style s w terms n) is ∙ shown_by style terms n names_are props_are
+    term_shown style terms n =
+        ap (λ w. term_text style s w terms n) is
+        ∙ shown_by style terms n (names_are (has_header a.sheet) refl) (props_are (has_header a.sheet) refl)
