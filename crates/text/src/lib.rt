@@ -44,6 +44,9 @@ fn lists(version: Version) -> (TermList, TermList)
     }
 }
 
+// A sheet, the records of its term and the record that holds it are three parameters and no struct: a ghost field takes a fact that has
+// one proof at most, and of `HeldTerm`, which holds for each label the number of a proposition, this is not shown.
+
 // Stores the declarations of a list of the term and then of what the goal adds to it, and says how many there are.
 fn declare(
     sheet: &AdmittedSheet,
