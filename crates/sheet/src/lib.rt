@@ -22,7 +22,7 @@ pub use header::{Layout, Sheet};
 pub use pairs::{first_bad_code, first_bad_name, first_bad_pair, first_deep_proposition};
 pub use parts::{code_bytes, name_pairs, proposition_pairs, step_records, text_bytes, vocabulary};
 pub use sized_sheet::SizedSheet;
-use steps::{SizedSteps, fill_sizes, first_bad_step};
+use steps::{SizedSteps, fill_sizes, first_bad_step, leaves_trees};
 
 // The refusal for a reason at a place that was found, if one was.
 #[tactic(auto, unfolding(definitions::specs::Outcome::refuse, definitions::specs::Outcome::refuse_at))]
@@ -106,14 +106,14 @@ fn check_trees(s: &[u8], h: Sheet, sizes: &mut [u16]) -> Result<(), Refusal>
     let records = step_records(s, h);
     let steps = h.steps;
     refuse_at(fill_sizes(records, steps, sizes), Reason::TreeCount)?;
+    if leaves_trees(records, steps, sizes) {
+        return Err(Reason::TreeCount.at(steps - 1));
+    }
     let sized = SizedSteps {
         step_records: records,
         steps,
         sizes,
     };
-    if sized.leave_trees() {
-        return Err(Reason::TreeCount.at(steps - 1));
-    }
     let mut heights = [0u16; Sheet::STEP_LIMIT];
     refuse_at(
         sized.first_deep_tree(&mut heights, Sheet::TREE_NESTING_LIMIT),

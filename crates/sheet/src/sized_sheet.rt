@@ -52,7 +52,7 @@ impl<'a, 't> SizedSheet<'a, 't> {
         &self.admitted
     }
 
-    // The same, for who needs the sizes no more.
+    // The sheet itself, for who needs the sizes no more.
     pub fn into_admitted(self) -> AdmittedSheet<'a>
         ensures is { result ≡ self.entry }
         ensures accepted { Accepted self.entry }

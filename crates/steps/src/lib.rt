@@ -5,14 +5,14 @@ mod record;
 mod rule;
 mod sized_steps;
 
-ghost use Rattle.std.specs.Prelude.{◌≤◌, ◌<◌, ◌≡◌, length, get_or};
+ghost use Rattle.std.specs.Prelude.{ℕ, List, ◌≤◌, ◌<◌, ◌≡◌, length, get_or};
 ghost use Rattle.definitions.specs.Outcome.{lowest};
 ghost use Rattle.definitions.specs.Sheet.{step_limit, rule_byte, premiss_count};
 ghost use Rattle.definitions.specs.Tree.{rules, Sorry, identifier_count};
-ghost use Rattle.definitions.specs.Admission.{bad_step};
+ghost use Rattle.definitions.specs.Admission.{bad_step, trees_left};
 ghost use Rattle.steps.specs.Records.{HasStep, HasSteps};
 ghost use Rattle.steps.specs.StepAt.{step_at};
-ghost use Rattle.steps.specs.Tables.{FilledSizes};
+ghost use Rattle.steps.specs.Tables.{SizeTable, FilledSizes};
 
 use record::StepRecord;
 pub use record::{PROP_IS_TRUE, TYPE_JUDGEMENT};
@@ -135,4 +135,13 @@ pub fn fill_sizes(step_records: &[u8], steps: usize, sizes: &mut [u16]) -> Optio
         sizes[k] = (k + 1 - start) as u16;
     }
     None
+}
+
+// Refusal 10, its second part: the last step's tree has not all the steps. It reads one size, and asks no more of the table.
+pub fn leaves_trees(step_records: &[u8], steps: usize, sizes: &[u16]) -> bool
+    requires { (0 < steps) × (steps ≤ length sizes.now) × SizeTable step_records.now steps sizes.now }
+    ensures { (names : ℕ) (pairs code : List ℕ) →
+        result ≡ trees_left names pairs code step_records.now steps }
+{
+    usize::from(sizes[steps - 1]) < steps
 }

@@ -1,7 +1,6 @@
 // The first steps of some records, with the sizes of their trees.
 ghost use Rattle.std.specs.Prelude.{ℕ, ◌≤◌, ◌<◌, ◌≡◌, List, length};
 ghost use Rattle.definitions.specs.Tree.{height, tree_in};
-ghost use Rattle.definitions.specs.Admission.{trees_left};
 ghost use Rattle.steps.specs.Records.{HasStep};
 ghost use Rattle.steps.specs.Tables.{TreeStart, StepsSized, HeightTable, FilledHeights};
 
@@ -35,20 +34,11 @@ impl SizedSteps<'_> {
         Some(start)
     }
 
-    // Refusal 10, its second part: the last step's tree has not all the steps.
-    pub fn leave_trees(&self) -> bool
-        requires { 0 < self.now.steps }
-        ensures { (names : ℕ) (pairs code : List ℕ) →
-            result ≡ trees_left names pairs code self.now.step_records.now self.now.steps }
-    {
-        let sizes = self.sizes;
-        usize::from(sizes[self.steps - 1]) < self.steps
-    }
-
     // The nesting of the tree of step k: one more than that of its deepest premiss. The place where the next premiss ends goes along
     // beside the deepest, so the walk is a loop.
     fn tree_height(&self, k: usize, heights: &[u16]) -> u16
-        requires { (k < self.now.steps) × (k ≤ length heights.now) × HeightTable self.now.step_records.now k heights.now }
+        requires { (k < self.now.steps) × (k ≤ length heights.now)
+            × HeightTable self.now.step_records.now k heights.now }
         ensures { (names : ℕ) (pairs code : List ℕ) →
             result ≡ height (tree_in names pairs code self.now.step_records.now k) }
     {

@@ -21,7 +21,7 @@ use Rattle.sheet.proofs.Searched.{fits, searched, no_place}
 use Rattle.sheet.proofs.Given.{steps_present, steps_fit}
 use Rattle.sheet.proofs.Stages.{refused_if, not_refused_if, stops, stopped, passes}
 use Rattle.sheet.proofs.check_trees.Goals as goal
-use Rattle.sheet.proofs.check_trees.Goals.{After-fill_sizes, After-first_deep_tree, After-leave_trees, After-slice_known-2-1, Else-leave_trees, In_ok-refuse_at}
+use Rattle.sheet.proofs.check_trees.Goals.{After-fill_sizes, After-first_deep_tree, After-leaves_trees, After-slice_known-2-1, Else-leaves_trees, In_ok-refuse_at}
 
 -- What holds of the step records and the steps as the program has them holds of the sheet's.
 module _ (s : List ℕ) {records : List ℕ} {h : Sheet} (same : records ≡ step_records s) (header : h ≡ header_of s) where
@@ -101,16 +101,16 @@ unfolding step_limit
 table_long_enough c =
     omega (arith, c.requires.0.in_range.steps, c.requires.1, c.fill_sizes.auto.sizes)
 
-trees_test : (c : After-leave_trees) →
-    let s = sheet_filled (goal.at.After-leave_trees c).In_ok-refuse_at in
-    trees_left (names s) (proposition_pairs s) (code_bytes s) (step_records s) (steps s) ≡ c.leave_trees.result
+trees_test : (c : After-leaves_trees) →
+    let s = sheet_filled (goal.at.After-leaves_trees c).In_ok-refuse_at in
+    trees_left (names s) (proposition_pairs s) (code_bytes s) (step_records s) (steps s) ≡ c.leaves_trees.result
 trees_test c =
-    left-of _ c.step_records-records.ensures c.requires.0.header (c.leave_trees.ensures _ _ _)
+    left-of _ c.step_records-records.ensures c.requires.0.header (c.leaves_trees.ensures _ _ _)
 
-one_left : (c : Else-leave_trees) →
-    let s = sheet_filled (goal.at.Else-leave_trees c).In_ok-refuse_at in
+one_left : (c : Else-leaves_trees) →
+    let s = sheet_filled (goal.at.Else-leaves_trees c).In_ok-refuse_at in
     accepted tt ≡ refuse_if (trees_left (names s) (proposition_pairs s) (code_bytes s) (step_records s) (steps s)) 10 (steps s - 1)
-one_left c = not_refused_if _ _ (trees_test (goal.at.Else-leave_trees c).After-leave_trees ∙ c.if-leave_trees.false)
+one_left c = not_refused_if _ _ (trees_test (goal.at.Else-leaves_trees c).After-leaves_trees ∙ c.if-leaves_trees.false)
 
 height_search : (c : After-first_deep_tree) →
     let s = sheet_filled (goal.at.After-first_deep_tree c).In_ok-refuse_at in
@@ -157,20 +157,22 @@ invariant_of-sized c =
       };
     }
 
-pub leave_trees-requires : goal.leave_trees-requires
-leave_trees-requires c = c.requires.0.in_range.some_step
+pub leaves_trees-requires : goal.leaves_trees-requires
+leaves_trees-requires c =
+    let passed = (goal.at.leaves_trees-requires c).In_ok-refuse_at in
+    (c.requires.0.in_range.some_step, table_long_enough passed, program_table passed)
 
 pub at-requires : goal.at-requires
 unfolding step_limit
 at-requires c = omega (arith, c.requires.0.in_range.steps)
 
-pub returns-then-leave_trees : goal.returns-then-leave_trees
+pub returns-then-leaves_trees : goal.returns-then-leaves_trees
 unfolding tree_checks header_of
-returns-then-leave_trees c =
-    let at = goal.at.returns-then-leave_trees c in
+returns-then-leaves_trees c =
+    let at = goal.at.returns-then-leaves_trees c in
     record {
       value = passes _ (trees_passed at.In_ok-refuse_at)
-          (stops _ (refused_if _ _ (trees_test at.After-leave_trees ∙ c.if-leave_trees.true) (rw c.requires.0.header at c.at.ensures)));
+          (stops _ (refused_if _ _ (trees_test at.After-leaves_trees ∙ c.if-leaves_trees.true) (rw c.requires.0.header at c.at.ensures)));
       sized = sized at.After-fill_sizes;
     }
 
@@ -187,6 +189,6 @@ returns c =
     let at = goal.at.returns c in
     record {
       value = passes _ (trees_passed at.In_ok-refuse_at)
-          (passes _ (one_left at.Else-leave_trees) (searched _ _ (height_search at.After-first_deep_tree) 11 c.refuse_at-2.ensures));
+          (passes _ (one_left at.Else-leaves_trees) (searched _ _ (height_search at.After-first_deep_tree) 11 c.refuse_at-2.ensures));
       sized = sized at.After-fill_sizes;
     }

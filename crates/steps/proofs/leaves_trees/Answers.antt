@@ -11,7 +11,7 @@ use Rattle.definitions.specs.Tree.{trees_before, tree_in}
 use Rattle.definitions.specs.Admission.{trees_left}
 use Rattle.steps.specs.Size.{size}
 use Rattle.steps.proofs.Premisses.{Seam, seam, tree_steps, below_tree}
-use Rattle.steps.proofs.sized_steps.SizedSteps.leave_trees.Goals as goal
+use Rattle.steps.proofs.leaves_trees.Goals as goal
 
 module _ (names : ℕ) (pairs code records : List ℕ) where
   -- trees are left below a tree that starts past step 0
@@ -34,7 +34,7 @@ module _ (names : ℕ) (pairs code records : List ℕ) where
 
 pub returns : goal.returns
 returns c names pairs code =
-    let last = c.args.self.now.steps - 1 in
-    let e : last + 1 ≡ c.args.self.now.steps = omega arith in
-    rw (c.from.ensures, c.args.self.now.sized.sizes.sizes names pairs code last (omega arith))
-    (rw e at (left_below names pairs code c.args.self.now.step_records.now last))
+    let last = c.args.steps - 1 in
+    let e : last + 1 ≡ c.args.steps = omega arith in
+    rw (c.from.ensures, c.requires.2.sizes names pairs code last (omega arith))
+    (rw e at (left_below names pairs code c.args.step_records.now last))
