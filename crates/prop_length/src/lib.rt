@@ -1,5 +1,6 @@
-// How long the text of a proposition is, added up without printing it. To put the text into a counter gives the same and takes 1.05 to
-// 1.24 times as long: 39 ns for 32 at an atom with eight parameters, 24.0 µs for 20.4 at 1,500 atoms with none.
+// How long the text of a proposition is, added up without printing it: a text is measured so by a rule of the project (docs/DECISIONS.md,
+// 117). To put the text into a counter gives the same and takes 1.05 to 1.24 times as long: 39 ns for 32 at an atom with eight parameters,
+// 24.0 µs for 20.4 at 1,500 atoms with none.
 #![tactic(auto)]
 
 ghost use Rattle.vocabulary.specs.Vocabulary.{name_in, Names};

@@ -188,7 +188,8 @@ fn named(function: NamedFunction, body: u16) -> Node
 // A closed term is in hand: makes of it what it was read for.
 pub fn use_for(work: &mut Work, s: Progress, hand: Hand, p: Purpose) -> Option<State>
     requires { ThereIs (λ (z : Scene). Using z work.old s hand p) }
-    ensures { (z : Scene) → Using z work.old s hand p → MatchOption result (Refuses z) (Turned z work.new (left_after z s)) }
+    ensures { (z : Scene) → Using z work.old s hand p →
+        MatchOption result (Refuses z) (Turned z work.new (left_after z s)) }
 {
     match p {
         Purpose::Head => Some(State::Holding(s, hand)),
@@ -220,7 +221,8 @@ pub fn use_for(work: &mut Work, s: Progress, hand: Hand, p: Purpose) -> Option<S
 // Makes a leaf, and of it what it was read for.
 pub fn use_leaf(work: &mut Work, s: Progress, node: Node, p: Purpose) -> Option<State>
     requires { ThereIs (λ (z : Scene). Leaf z work.old s node p) }
-    ensures { (z : Scene) → Leaf z work.old s node p → MatchOption result (Refuses z) (Turned z work.new (left_after z s)) }
+    ensures { (z : Scene) → Leaf z work.old s node p →
+        MatchOption result (Refuses z) (Turned z work.new (left_after z s)) }
 {
     let leaf = Hand {
         form: Form::Closed,

@@ -138,7 +138,8 @@ fn put_heading<S: Sink<u8>>(
     sink.put_all(b"\n\n");
 }
 
-// How long what stands before the term is: the order of the lines is no matter, so they are measured before they are sorted.
+// How long what stands before the term is: the order of the lines is no matter, so they are measured before they are sorted. Each list is
+// counted by itself, with the bound that `lines_length` gives; one counter for the whole would ask of `put_heading` to hand that bound on.
 fn heading_length(
     sheet: &AdmittedSheet,
     version: Version,
