@@ -152,8 +152,7 @@ pub fn make(work: &mut Work, s: Progress, node: Node, hand: Hand) -> Option<Prog
         return None;
     }
     let tally = hand.tally as u16;
-    let kind = node.kind().number();
-    let used = push(&mut work.records, s.used, kind, node.numbers(), tally);
+    let used = push(&mut work.records, s.used, node.kind().number(), node.numbers(), tally);
     Some(Progress { used, ..s })
 }
 
