@@ -2,7 +2,7 @@
 // over the merged numbers. Pairs and bytes stand in two memories until the merged sheet is written.
 #![tactic(auto)]
 
-ghost use Rattle.std.specs.Prelude.{◌≡◌, ◌+◌, ◌*◌, ◌<◌, ◌≤◌};
+ghost use Rattle.std.specs.Prelude.{◌≡◌, ◌+◌, ◌*◌, ◌<◌, ◌≤◌, length};
 ghost use Rattle.definitions.specs.Sheet.{pair_size, code_limit, names, propositions, text_length};
 ghost use Rattle.definitions.specs.Graft.{missing};
 ghost use Rattle.graft_laws.specs.Missing.{missing_below};
@@ -13,6 +13,7 @@ use number::PAIR_SIZE;
 use output::sink::put_u16s;
 use output::{Sink, Writer};
 use renumbering::put_proposition;
+use sheet::AdmittedSheet;
 use vocabulary::name;
 
 // How many pieces were appended, and how long they are together. The memories for pairs and bytes stand beside it: a struct that
@@ -56,7 +57,7 @@ fn append_name(
 {
     let h = sheets.host.header();
     let v = sheets.donor.vocabulary();
-    if sheets.donor_numbers[n] as usize != h.names + before.count {
+    if sheets.numbers[n] as usize != h.names + before.count {
         return before;
     }
     let piece = name(sheets.donor.bytes(), v, n);
@@ -86,48 +87,48 @@ pub fn append_names(sheets: &NumberedSheets, pairs: &mut [u8], text: &mut [u8]) 
 
 // Proposition i of the donor, over the merged numbers, after those before it.
 fn append_proposition(
-    sheets: &NumberedSheets,
+    donor: &AdmittedSheet,
+    numbers: &[u16],
     i: usize,
     from: usize,
     before: Appended,
     pairs: &mut [u8],
     code: &mut [u8],
 ) -> Appended
-    requires i_bound { (i < propositions sheets.now.donor.now) × (from ≤ code_limit) }
-    requires appends { Appends from
-        (codes_below sheets.now.donor.now sheets.now.donor_numbers.now i) pairs.old code.old before }
-    ensures { Appends from
-        (codes_below sheets.now.donor.now sheets.now.donor_numbers.now (i + 1)) pairs.new code.new result }
+    requires i_bound { (i < propositions donor.now) × (from ≤ code_limit) }
+    requires numbers { names donor.now ≤ length numbers.now }
+    requires appends { Appends from (codes_below donor.now numbers.now i) pairs.old code.old before }
+    ensures { Appends from (codes_below donor.now numbers.now (i + 1)) pairs.new code.new result }
 {
-    let g = sheets.donor.header();
-    let source = proposition_code(sheets.donor, i);
+    let g = donor.header();
+    let source = proposition_code(donor, i);
     let mut behind = Writer {
         out: code,
         to: before.length,
     };
-    put_proposition(source, g.names, sheets.donor_numbers, &mut behind);
+    put_proposition(source, g.names, numbers, &mut behind);
     append_pair(pairs, from, before, source.len())
 }
 
 // All propositions of the donor, over the merged numbers, counted on from an offset.
 pub fn append_propositions(
-    sheets: &NumberedSheets,
+    donor: &AdmittedSheet,
+    numbers: &[u16],
     from: usize,
     pairs: &mut [u8],
     code: &mut [u8],
 ) -> Appended
     requires from_bound { from ≤ code_limit }
+    requires numbers { names donor.now ≤ length numbers.now }
     requires room { Room pairs.old code.old }
-    ensures { Appends from
-        (codes_below sheets.now.donor.now sheets.now.donor_numbers.now (propositions sheets.now.donor.now))
-        pairs.new code.new result }
+    ensures { Appends from (codes_below donor.now numbers.now (propositions donor.now)) pairs.new code.new result }
 {
     let mut appended = Appended {
         count: 0,
         length: 0,
     };
-    for i in 0..sheets.donor.header().propositions {
-        appended = append_proposition(sheets, i, from, appended, pairs, code);
+    for i in 0..donor.header().propositions {
+        appended = append_proposition(donor, numbers, i, from, appended, pairs, code);
     }
     appended
 }

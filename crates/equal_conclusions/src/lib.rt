@@ -8,6 +8,7 @@ ghost use Rattle.std.specs.Prelude.{◌≡◌, ◌-◌, ◌<◌, ◌≤◌, leng
 ghost use Rattle.definitions.specs.Equal.{eq_conclusion};
 ghost use Rattle.definitions.specs.Sheet.{name_limit, names, propositions, steps, proposition_pairs, code_bytes, marked};
 ghost use Rattle.definitions.specs.Answers.{named_conclusion};
+ghost use Rattle.merged_names.specs.Numbered.{Numbered};
 ghost use Rattle.sheet.specs.Admitted.{Accepted};
 ghost use Rattle.steps.specs.StepAt.{KnownJudgement};
 ghost use Rattle.equal_conclusions.specs.Equality.{code_over, same_proposition, same_judgement};
@@ -49,14 +50,15 @@ fn renumber_proposition<'a>(
 }
 
 // Whether a proposition of the host and one of the donor are equal.
-fn same_propositions(sheets: &NumberedSheets, p: usize, q: usize) -> bool
-    requires { (p < propositions sheets.now.host.now) × (q < propositions sheets.now.donor.now) }
+fn same_propositions(sheets: &NumberedSheets, host_numbers: &[u16], p: usize, q: usize) -> bool
+    requires p_bound { (p < propositions sheets.now.host.now) × (q < propositions sheets.now.donor.now) }
+    requires numbered { Numbered sheets.now.host.now sheets.now.host.now (names sheets.now.host.now) host_numbers.now }
     ensures { result ≡ same_proposition sheets.now.host.now p sheets.now.donor.now q }
 {
     let mut left = [0u8; Sheet::CODE_LIMIT];
     let mut right = [0u8; Sheet::CODE_LIMIT];
-    let ours = renumber_proposition(sheets.host, p, sheets.host_numbers, &mut left);
-    let theirs = renumber_proposition(sheets.donor, q, sheets.donor_numbers, &mut right);
+    let ours = renumber_proposition(sheets.host, p, host_numbers, &mut left);
+    let theirs = renumber_proposition(sheets.donor, q, sheets.numbers, &mut right);
     same_name(ours, theirs)
 }
 
@@ -81,8 +83,9 @@ fn same_judgements(sheets: &NumberedSheets, x: Judgement, y: Judgement) -> bool
 
 // Whether the conclusion of step k of the host and that of the donor's root are equal. One sheet's propositions are compared up to
 // their bound names; here names are of two sheets, and equal propositions have equal codes.
-pub fn same_conclusion(sheets: &NumberedSheets, k: usize) -> bool
-    requires { k < steps sheets.now.host.now }
+pub fn same_conclusion(sheets: &NumberedSheets, host_numbers: &[u16], k: usize) -> bool
+    requires k_bound { k < steps sheets.now.host.now }
+    requires numbered { Numbered sheets.now.host.now sheets.now.host.now (names sheets.now.host.now) host_numbers.now }
     ensures { result ≡ eq_conclusion (named_conclusion sheets.now.host.now k)
         (named_conclusion sheets.now.donor.now (steps sheets.now.donor.now - 1)) }
 {
@@ -91,7 +94,7 @@ pub fn same_conclusion(sheets: &NumberedSheets, k: usize) -> bool
     let theirs = step_at(sheets.donor.step_records(), root).conclusion;
     match (ours, theirs) {
         (Conclusion::PropIsTrue(p), Conclusion::PropIsTrue(q)) => {
-            same_propositions(sheets, p as usize, q as usize)
+            same_propositions(sheets, host_numbers, p as usize, q as usize)
         }
         (Conclusion::TypeJudgement(x), Conclusion::TypeJudgement(y)) => {
             same_judgements(sheets, x, y)

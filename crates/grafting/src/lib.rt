@@ -127,11 +127,10 @@ fn merge_equal(
     number_names(host, donor, &mut host_numbers, &mut donor_numbers);
     let sheets = NumberedSheets {
         host,
-        host_numbers: &host_numbers,
         donor,
-        donor_numbers: &donor_numbers,
+        numbers: &donor_numbers,
     };
-    if !same_conclusion(&sheets, k) {
+    if !same_conclusion(&sheets, &host_numbers, k) {
         return Err(Reason::ConclusionsDiffer.at(0));
     }
     merge(&sheets, k, deep, out)

@@ -21,7 +21,7 @@ pub struct IndexedSheets<'h, 'd> {
 }
 
 // The numbers are filled as the loop goes, so they stand beside the two sheets; `equal_conclusions::NumberedSheets` holds them once they
-// are.
+// are filled.
 
 // The number that donor name n has already: the host's of equal bytes, or that of an earlier name of the donor. A new name has none.
 fn known_number(sheets: &IndexedSheets, numbers: &[u16], n: usize) -> Option<usize>

@@ -50,7 +50,7 @@ fn put_pairs<S: Sink<u8>>(
 fn put_records<S: Sink<u8>>(sink: &mut S, sheets: &NumberedSheets, k: usize)
     requires { k < steps sheets.now.host.now }
     ensures { S.puts sink.old
-        (records_with sheets.now.host.now k sheets.now.donor.now sheets.now.donor_numbers.now) sink.new }
+        (records_with sheets.now.host.now k sheets.now.donor.now sheets.now.numbers.now) sink.new }
 {
     let h = sheets.host.header();
     let g = sheets.donor.header();
@@ -59,7 +59,7 @@ fn put_records<S: Sink<u8>>(sink: &mut S, sheets: &NumberedSheets, k: usize)
     let after = &records[STEP_SIZE * (k + 1)..];
     let grafted = sheets.donor.step_records();
     sink.put_all(before);
-    put_renumbered_steps(grafted, g.steps, h.propositions, sheets.donor_numbers, sink);
+    put_renumbered_steps(grafted, g.steps, h.propositions, sheets.numbers, sink);
     sink.put_all(after);
 }
 
@@ -116,7 +116,13 @@ fn append_parts(
     let h = sheets.host.header();
     let g = sheets.donor.header();
     let names = append_names(sheets, new_names, new_text);
-    let propositions = append_propositions(sheets, h.code_length, new_propositions, new_code);
+    let propositions = append_propositions(
+        sheets.donor,
+        sheets.numbers,
+        h.code_length,
+        new_propositions,
+        new_code,
+    );
     merged_header(h, g, names, propositions)
 }
 

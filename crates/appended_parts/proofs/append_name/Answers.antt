@@ -19,11 +19,11 @@ host c = beside_header c.header-h.ensures.is c.header-h.ensures.accepted
 
 pub offset_bounds-sheets-n : goal.offset_bounds-sheets-n
 offset_bounds-sheets-n c =
-    omega (arith, has_numbers (with_header c.vocabulary-v.ensures.accepted) _ c.args.sheets.now.donor_numbered.room, c.requires.n_bound)
+    omega (arith, has_numbers (with_header c.vocabulary-v.ensures.accepted) _ c.args.sheets.now.numbered.room, c.requires.n_bound)
 
 pub bounds-sheets-n : goal.bounds-sheets-n
 bounds-sheets-n c =
-    omega (arith, has_numbers (with_header c.vocabulary-v.ensures.accepted) _ c.args.sheets.now.donor_numbered.room, c.requires.n_bound)
+    omega (arith, has_numbers (with_header c.vocabulary-v.ensures.accepted) _ c.args.sheets.now.numbered.room, c.requires.n_bound)
 
 pub overflow_add-h : goal.overflow_add-h
 unfolding name_limit
@@ -35,7 +35,7 @@ overflow_add-h c =
 pub returns-then-sheets-n : goal.returns-then-sheets-n
 returns-then-sheets-n c =
     let record { n_bound = below; appends = so } = c.requires in
-    let numbered = c.args.sheets.now.donor_numbered in
+    let numbered = c.args.sheets.now.numbered in
     let first = name_count (host (goal.at.returns-then-sheets-n c).After-header-h) in
     not_new _ _ below so first (λ e. c.if-sheets-n.true (numbered.stored _ below ∙ e))
 
@@ -61,7 +61,7 @@ append_pair-requires c = addable (goal.at.append_pair-requires c).After-name-pie
 pub returns : goal.returns
 returns c =
     let record { n_bound = below; appends = so } = c.requires in
-    let numbered = c.args.sheets.now.donor_numbered in
+    let numbered = c.args.sheets.now.numbered in
     let here = (goal.at.returns c).After-name-piece in
     let accepted = host (goal.at.returns c).After-header-h in
     rw c.append_pair.ensures.more

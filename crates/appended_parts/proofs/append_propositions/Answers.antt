@@ -8,7 +8,7 @@ use Rattle.appended_parts.proofs.Turns.{turned, proposition_count, no_codes}
 use Rattle.appended_parts.proofs.append_propositions.Goals as goal
 use Rattle.appended_parts.proofs.append_propositions.Goals.{After-header-i-end}
 
-all : (c : After-header-i-end) → c.header-i-end.result.propositions ≡ propositions c.args.sheets.now.donor.now
+all : (c : After-header-i-end) → c.header-i-end.result.propositions ≡ propositions c.args.donor.now
 all c = proposition_count (beside_header c.header-i-end.ensures.is c.header-i-end.ensures.accepted)
 
 pub loop-i-init : goal.loop-i-init

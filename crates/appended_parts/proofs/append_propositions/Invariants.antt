@@ -6,4 +6,4 @@ use Rattle.appended_parts.proofs.append_propositions.Given as goal
 
 abbrev pub invariant-loop-i : goal.invariant-loop-i
 invariant-loop-i l =
-    Turning (propositions l.sheets.donor.now) l.i l.from (codes_below l.sheets.donor.now l.sheets.donor_numbers.now) l.initial.pairs l.initial.code l.pairs l.code l.appended
+    Turning (propositions l.donor) l.i l.from (codes_below l.donor l.numbers) l.initial.pairs l.initial.code l.pairs l.code l.appended

@@ -15,7 +15,7 @@ donor_at c = beside_header c.header-root.ensures.is c.header-root.ensures.accept
 pub step_at-ours-requires : goal.step_at-ours-requires
 step_at-ours-requires c =
     let record { is = is; accepted = accepted } = c.step_records.ensures in
-    has_step (with_header accepted) _ c.requires is
+    has_step (with_header accepted) _ c.requires.k_bound is
 
 pub step_at-theirs-requires : goal.step_at-theirs-requires
 step_at-theirs-requires c =
@@ -36,10 +36,13 @@ same_propositions-requires c =
     let here = goal.at.same_propositions-requires c in
     let host = with_header c.step_records.ensures.accepted in
     let donor = donor_at here.After-header-root in
-    let both = c.in-PropIsTrue-PropIsTrue in (
-      (known host _ c.requires).proposition _ (sym (ours here.After-step_at-theirs) ∙ both.is-0),
-      (known donor _ (rw (root_is donor) at (root_below donor))).proposition _ (sym (theirs here.After-step_at-theirs) ∙ both.is-1),
-    )
+    let both = c.in-PropIsTrue-PropIsTrue in record {
+      p_bound = (
+        (known host _ c.requires.k_bound).proposition _ (sym (ours here.After-step_at-theirs) ∙ both.is-0),
+        (known donor _ (rw (root_is donor) at (root_below donor))).proposition _ (sym (theirs here.After-step_at-theirs) ∙ both.is-1),
+      );
+      numbered = c.requires.numbered;
+    }
 
 pub same_judgements-requires : goal.same_judgements-requires
 same_judgements-requires c =
@@ -47,7 +50,7 @@ same_judgements-requires c =
     let host = with_header c.step_records.ensures.accepted in
     let donor = donor_at here.After-header-root in
     let both = c.in-TypeJudgement-TypeJudgement in (
-      (known host _ c.requires).judgement _ (sym (ours here.After-step_at-theirs) ∙ both.is-0),
+      (known host _ c.requires.k_bound).judgement _ (sym (ours here.After-step_at-theirs) ∙ both.is-0),
       (known donor _ (rw (root_is donor) at (root_below donor))).judgement _ (sym (theirs here.After-step_at-theirs) ∙ both.is-1),
     )
 

@@ -8,7 +8,6 @@ pub returns : goal.returns
 returns c =
     let ours = c.renumber_proposition-ours.ensures in
     let theirs = c.renumber_proposition-theirs.ensures in
-    let sheets = c.args.sheets.now in
-    let (p, q) = c.requires in
+    let record { p_bound = (p, q); numbered = numbered } = c.requires in
     c.same_name.ensures
-    ∙ by_codes (with_header ours.accepted) (with_header theirs.accepted) ours.accepted.bytes theirs.accepted.bytes sheets.host_numbered sheets.donor_numbered _ _ p q ours.is theirs.is
+    ∙ by_codes (with_header ours.accepted) (with_header theirs.accepted) ours.accepted.bytes theirs.accepted.bytes numbered c.args.sheets.now.numbered _ _ p q ours.is theirs.is

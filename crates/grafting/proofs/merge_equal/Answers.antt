@@ -8,8 +8,8 @@ pub number_names-requires : goal.number_names-requires
 unfolding name_limit
 number_names-requires c = (omega arith, omega arith)
 
-pub same_conclusion-requires : goal.same_conclusion-requires
-same_conclusion-requires c = open_step _ _ c.requires
+pub same_conclusion-requires-clause-k_bound : goal.same_conclusion-requires-clause-k_bound
+same_conclusion-requires-clause-k_bound c = open_step _ _ c.requires
 
 pub returns-then-not-same_conclusion : goal.returns-then-not-same_conclusion
 returns-then-not-same_conclusion c =

@@ -80,5 +80,5 @@ returns c =
     let record { new_parts = new; accepted = (host, donor) } = c.append_parts-m.ensures in
     let put = writer_then c.put_pairs.ensures (writer_then c.put_records.ensures c.put_text_and_code.ensures) in
     written _ _ _ _ (inside_both _ _ _ _ (within (goal.at.returns c).Else-deep) c.if-deep.false) _ (omega (arith, c.if-out-layout.false, end (goal.at.returns c).After-layout)) (its_header (goal.at.returns c).After-append_parts-m)
-    (merged_bytes (with_header host) new (with_header donor) c.args.sheets.now.donor_numbered c.args.k)
+    (merged_bytes (with_header host) new (with_header donor) c.args.sheets.now.numbered c.args.k)
     (let stored = put.wrote.stored in let same = put.same_memory in search rules)

@@ -47,7 +47,7 @@ slice_bounds-after-start g c =
 pub put_renumbered_steps-requires : goal.put_renumbered_steps-requires
 put_renumbered_steps-requires g c =
     let here = (goal.at.put_renumbered_steps-requires g c).After-step_records-records in
-    steps_mapped (donor g here) c.args.sheets.now.donor_numbers.now (has_numbers (donor g here) _ c.args.sheets.now.donor_numbered.room) c.step_records-grafted.ensures.is (few_propositions (host g here))
+    steps_mapped (donor g here) c.args.sheets.now.numbers.now (has_numbers (donor g here) _ c.args.sheets.now.numbered.room) c.step_records-grafted.ensures.is (few_propositions (host g here))
 
 pub returns : goal.returns
 unfolding records_with step_size
@@ -55,6 +55,6 @@ returns g c =
     let laws = g.met.S.Sink.laws in
     let here = (goal.at.returns g c).After-step_records-records in
     let (before, after) = parts_around (host g here) c.args.k c.step_records-records.ensures.is in
-    let grafted = steps_as (host g here) (donor g here) c.args.sheets.now.donor_numbers.now c.step_records-grafted.ensures.is in
+    let grafted = steps_as (host g here) (donor g here) c.args.sheets.now.numbers.now c.step_records-grafted.ensures.is in
     laws.then (rw before at c.put_all.ensures)
     (laws.then (rw grafted at c.put_renumbered_steps.ensures) (rw after at c.put_all-2.ensures))
