@@ -1,4 +1,4 @@
-// The atom list and the datatype list of a term in records, as numbers in lent memory. The records stand in the term's order, so that
+// The atom list and the datatype list of a term in records, put into a sink of numbers. The records stand in the term's order, so that
 // a list is what the labels of one record after the other add.
 #![tactic(auto)]
 
