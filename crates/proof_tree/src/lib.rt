@@ -4,10 +4,10 @@
 #![tactic(auto)]
 
 mod conclusion;
-mod walked_steps;
 mod step;
 mod table;
 mod term;
+mod walked_steps;
 
 ghost use Rattle.std.specs.Prelude.{◌+◌, ◌*◌, ◌-◌, ◌<◌, ◌≡◌, get_or};
 ghost use Rattle.definitions.specs.Tree.{rule_in};
@@ -25,12 +25,12 @@ use conclusion::annotation_of;
 use definitions::{Reason, Refusal};
 use number::pair_offset;
 use proof_term::{Label, Node, make};
-pub use walked_steps::WalkedSteps;
 use step::premiss;
 use steps::{Conclusion, premiss_count, rule_byte, step_at};
 pub use table::ReasoningMode;
 use table::{Ending, Row, row_of};
 use term::rule_term;
+pub use walked_steps::WalkedSteps;
 
 // Ascribes the newest term with the conclusion of its step k.
 fn wrap_into_type_ascription(

@@ -20,8 +20,8 @@ use prop_parts::{NameRead, read_name};
 use prop_reader::read_label;
 use term_openings::closed_for;
 use term_stack::{
-    Entry, Hand, NO_ASCRIPTION, NO_FUNCTION, Part, Progress, Purpose, State, Work,
-    close_case, close_function, close_let, due, enter, make, over, use_for, waiting,
+    Entry, Hand, NO_ASCRIPTION, NO_FUNCTION, Part, Progress, Purpose, State, Work, close_case,
+    close_function, close_let, due, enter, make, over, use_for, waiting,
 };
 use words::{argument_follows, expect};
 

@@ -152,7 +152,13 @@ pub fn make(work: &mut Work, s: Progress, node: Node, hand: Hand) -> Option<Prog
         return None;
     }
     let tally = hand.tally as u16;
-    let used = push(&mut work.records, s.used, node.kind().number(), node.numbers(), tally);
+    let used = push(
+        &mut work.records,
+        s.used,
+        node.kind().number(),
+        node.numbers(),
+        tally,
+    );
     Some(Progress { used, ..s })
 }
 
