@@ -16,9 +16,8 @@ use proof_term_display::{TermPart, is_bracketed};
 use prop_length::{name_length, text_length};
 use vocabulary::Vocabulary;
 
-// Half as many as a sheet's code has bytes: that limit is a constant of `sheet`, on which this crate does not build. The memory is
-// fixed, since a library has no heap.
-const KNOWN_LIMIT: usize = 4096;
+// Half as many as a sheet's code has bytes. The memory is fixed, since a library has no heap.
+const KNOWN_LIMIT: usize = prefix_code::CODE_LIMIT / 2;
 
 const RECORD_LIMIT: usize = proof_term::NODE_LIMIT;
 
