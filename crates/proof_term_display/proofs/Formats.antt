@@ -2,7 +2,7 @@
 use Prim.Native.Nat.{ℕ, ◌<◌}
 use mathlib.Core.Path.{◌≡◌, sym, ap, ◌∙◌}
 use mathlib.Core.List.{List, [], ◌∷◌, ◌++◌, map, append-nil}
-use lib.ListN.{length, get_or, get_or-map}
+use lib.ListN.{get_or}
 use Rattle.definitions.specs.declared.Style.{Style}
 use Rattle.definitions.specs.Name.{Name}
 use Rattle.definitions.specs.Prop.{Prop}
@@ -10,7 +10,7 @@ use Rattle.definitions.specs.Term.{ProofTerm, Unit, rename_term, rename_label, r
 use Rattle.definitions.specs.Display.{wrap, wraps, function_text, display_parameter_label, display_term}
 use Rattle.proof_term.specs.Records.{leaf, form_term, forms, record_term}
 use Rattle.proof_term_display.specs.Brackets.{is_bracketed}
-use Rattle.proof_term_display.specs.Format.{Item, item_of, items, formats, FormatTable, part_text, item_text}
+use Rattle.proof_term_display.specs.Format.{Item, item_of, items, formats, part_text, item_text}
 use Rattle.proof_term_display.proofs.Tables.{mapped}
 
 module _ (s : Style) (f : ℕ → Name) (props : ℕ → Prop ℕ) (term : ℕ → ProofTerm ℕ) (field : ℕ → ℕ) where
@@ -37,13 +37,3 @@ module _ (s : Style) (f : ℕ → Name) (props : ℕ → Prop ℕ) (term : ℕ �
       ∙ mapped (display_term s) kinds Unit [] kind h
       ∙ ap (display_term s) (mapped (λ g. rename_term f (form_term term g (field 1) (field 2) (field 3)))
       (forms props (field 1) (field 2) (field 3) (field 4) (field 5)) (leaf Unit) Unit kind h)
-
--- the row of a kind in a table of formats
-module _ {table : List (List ℕ)} (t : FormatTable table) (kind : ℕ) where
-  pub row_size : kind < 14 → length (get_or table kind []) ≡ 32
-  unfolding formats
-  row_size h = sym (get_or-map length table kind []) ∙ ap (λ l. get_or l kind 0) t.sizes ∙ mapped (λ format. 32) formats [] 0 kind h
-
-  pub row_items : items (get_or table kind []) ≡ get_or formats kind []
-  unfolding items
-  row_items = sym (get_or-map items table kind []) ∙ ap (λ l. get_or l kind []) t.shows

@@ -14,13 +14,9 @@ use Rattle.proof_term_display.specs.declared.TermPart.{TermPart}
 use Rattle.proof_term_display.specs.declared.TermPart.TheVariants.{First, Second, Third, NamedBody, AscribedBody, Function, Argument, PairFirst, PairSecond}
 
 module _ (format : List ℕ) (i : ℕ) where
-  pub items_next : i < length format → (get_or format i 0 ≡ 46 → ⊥) → items (drop i format) ≡ item_of (get_or format i 0) ∷ items (drop (i + 1) format)
+  pub items_next : i < length format → items (drop i format) ≡ item_of (get_or format i 0) ∷ items (drop (i + 1) format)
   unfolding items
-  items_next h no_end = rw (add-one, drop-cons format i 0 h, ne_eqb (get_or format i 0) 46 no_end)
-
-  pub items_end : i < length format → get_or format i 0 ≡ 46 → items (drop i format) ≡ []
-  unfolding items
-  items_end h end = rw (drop-cons format i 0 h, end)
+  items_next h = rw (add-one, drop-cons format i 0 h)
 
   pub items_past : length format ≤ i → items (drop i format) ≡ []
   unfolding items

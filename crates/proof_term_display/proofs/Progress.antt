@@ -1,8 +1,7 @@
 -- A text that is written piece by piece: what is done, and what is left. So a term's text is written by the items of its format.
 use Prim.Native.Nat.{ℕ, ◌+◌, ◌≤◌, ◌<◌}
 use mathlib.Core.Path.{◌≡◌, refl, sym, ap, ◌∙◌}
-use mathlib.Core.List.{List, [], ◌∷◌, ◌++◌, append_assoc, append-nil}
-use native.Mathlib.Omega.{arith}
+use mathlib.Core.List.{List, [], ◌++◌, append_assoc, append-nil}
 use lib.ListN.{length, get_or, drop}
 use Rattle.definitions.specs.declared.Style.{Style}
 use Rattle.definitions.specs.Term.{rename_term}
@@ -11,11 +10,11 @@ use Rattle.output.specs.SinkLaws.{SinkLaws}
 use Rattle.proof_term.specs.Records.{field_at, part_at}
 use Rattle.vocabulary.specs.declared.Vocabulary.{Vocabulary}
 use Rattle.vocabulary.specs.Vocabulary.{name_in, prop_in}
-use Rattle.proof_term_display.specs.Format.{Item, item_of, items, FormatTable}
+use Rattle.proof_term_display.specs.Format.{Item, item_of, items, formats}
 use Rattle.proof_term_display.specs.Printable.{PrintableTerm, term_text}
 use Rattle.proof_term_display.specs.Item.{KindAt, ItemReady, record_item}
-use Rattle.proof_term_display.proofs.Items.{items_next, items_end, items_past}
-use Rattle.proof_term_display.proofs.Formats.{rendered, format_text, row_size, row_items}
+use Rattle.proof_term_display.proofs.Items.{items_next, items_past}
+use Rattle.proof_term_display.proofs.Formats.{rendered, format_text}
 use Rattle.proof_term_display.proofs.Ready.{Ready, ready_next, ready}
 
 -- of `whole`, which is put into a sink, all is done but what is left
@@ -46,39 +45,31 @@ module _ (s : Style) (bytes : List ℕ) (v : Vocabulary) (ends records : List �
 
   -- the text of record n's term is put as far as the items before place i of its format go, and those from there on can be printed
   pub record Underway {S : Type 0} (puts : S → List ℕ → S → Type 0) (before : S) (format : List ℕ) (after : S) (i : ℕ) : Type 0 where
-    pub size : length format ≡ 32
     pub begun : Begun whole puts before after (texts (items (drop i format)))
     pub rest : Ready bytes v ends records n (items (drop i format))
 
   module _ {S : Type 0} {puts : S → List ℕ → S → Type 0} (laws : SinkLaws puts) {before : S} where
     pub start :
-        {kind : ℕ} {table : List (List ℕ)} → PrintableTerm records n bytes v ends → KindAt records n kind → FormatTable table →
-        Underway puts before (get_or table kind []) before 0
-    start {kind} {table} p k t =
-        let shown : texts (items (get_or table kind [])) ≡ whole =
-        ap texts (row_items t kind) ∙ format_text s (name_in bytes v) (prop_in bytes v) (part_at (prop_in bytes v) records n) (field_at records n) kind k.known
+        {kind : ℕ} {format : List ℕ} → PrintableTerm records n bytes v ends → KindAt records n kind → items format ≡ get_or formats kind [] →
+        Underway puts before format before 0
+    start {kind} {format} p k is =
+        let shown : texts (items format) ≡ whole =
+        ap texts is ∙ format_text s (name_in bytes v) (prop_in bytes v) (part_at (prop_in bytes v) records n) (field_at records n) kind k.known
         ∙ ap (λ t. display_term s (rename_term (name_in bytes v) t)) (sym (k.holds (prop_in bytes v))) in
-        record { size = row_size t kind k.known; begun = rw shown (begin laws); rest = rw (row_items t kind) (ready bytes v ends records n p k) }
+        record { begun = rw shown (begin laws); rest = rw is (ready bytes v ends records n p k) }
 
     module _ {format : List ℕ} {after : S} {i : ℕ} (u : Underway puts before format after i) where
-      pub ends_here : get_or format i 0 ≡ 46 → i < 32 → puts before whole after
+      pub ends_past : length format ≤ i → puts before whole after
       unfolding rendered
-      ends_here e h = finish (rw (items_end format i (omega (arith, u.size)) e) at u.begun)
+      ends_past h = finish (rw (items_past format i h) at u.begun)
 
-      pub ends_past : 32 ≤ i → puts before whole after
-      unfolding rendered
-      ends_past h = finish (rw (items_past format i (omega (arith, u.size))) at u.begun)
-
-      module _ (h : i < 32) (no_end : get_or format i 0 ≡ 46 → ⊥) where
-        next_items : items (drop i format) ≡ item_of (get_or format i 0) ∷ items (drop (i + 1) format)
-        next_items = items_next format i (omega (arith, u.size)) no_end
-
+      module _ (h : i < length format) where
         both_ready : ItemReady bytes v ends records n (item_of (get_or format i 0)) × Ready bytes v ends records n (items (drop (i + 1) format))
-        both_ready = ready_next bytes v ends records n _ _ (rw next_items at u.rest)
+        both_ready = ready_next bytes v ends records n _ _ (rw (items_next format i h) at u.rest)
 
         pub item_ready : ItemReady bytes v ends records n (item_of (get_or format i 0))
         item_ready = both_ready.0
 
         pub goes_on : {later : S} → puts after (record_item bytes v records n s (item_of (get_or format i 0))) later → Underway puts before format later (i + 1)
         unfolding rendered
-        goes_on w = record { size = u.size; begun = more laws (rw next_items at u.begun) w; rest = both_ready.1 }
+        goes_on w = record { begun = more laws (rw (items_next format i h) at u.begun) w; rest = both_ready.1 }

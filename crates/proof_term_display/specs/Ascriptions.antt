@@ -1,5 +1,5 @@
 -- An ascription as the text of its body, in brackets or not, and what stands after it.
-use Rattle.std.specs.Prelude.{ℕ, ◌<◌, ◌≡◌, Bool, true, false, cond, List, [], ◌∷◌, ◌++◌, eqb}
+use Rattle.std.specs.Prelude.{ℕ, ◌<◌, ◌≡◌, Bool, true, false, List, [], ◌∷◌, ◌++◌, Option, None, Some}
 use Rattle.definitions.specs.declared.Style.{Style}
 use Rattle.definitions.specs.Utf8.{utf8}
 use Rattle.definitions.specs.Name.{Name}
@@ -15,15 +15,17 @@ unfoldable pub bracket : Bool → ℕ → List ℕ
 bracket true b = b ∷ []
 bracket false b = []
 
--- the record that is printed for record n: itself, or the body of the ascription that it is
-pub data Unascribed (records : List ℕ) (n : ℕ) : ℕ → Type 0 where
-  itself : Unascribed records n n
-  body_of : field_at records n 0 ≡ 11 → field_at records n 1 < n → Unascribed records n (field_at records n 1)
+-- the body of record n, if that is the ascription of an earlier record
+pub data AscribedBody (records : List ℕ) (n : ℕ) : Option ℕ → Type 0 where
+  no_ascription : AscribedBody records n None
+  body_of : field_at records n 0 ≡ 11 → field_at records n 1 < n → AscribedBody records n (Some (field_at records n 1))
 
--- what stands after that record's text
-unfoldable pub after_body : List ℕ → Vocabulary → List ℕ → ℕ → ℕ → List ℕ
-after_body bytes v records n body = cond (eqb body n) [] (utf8 ": " ++ label_text bytes v records n)
+-- what stands after the body, if there is one
+unfoldable pub after_body : List ℕ → Vocabulary → List ℕ → ℕ → Option ℕ → List ℕ
+after_body bytes v records n None = []
+after_body bytes v records n (Some body) = utf8 ": " ++ label_text bytes v records n
 
--- whether that record's text is bracketed as a body
-unfoldable pub body_bracketed : (ℕ → Name) → (ℕ → Prop ℕ) → List ℕ → ℕ → ℕ → Style → Bool
-body_bracketed f props records n body s = cond (eqb body n) false (is_bracketed ascribed_by s (form_at f props records body))
+-- whether the body is bracketed, if there is one
+unfoldable pub body_bracketed : (ℕ → Name) → (ℕ → Prop ℕ) → List ℕ → Option ℕ → Style → Bool
+body_bracketed f props records None s = false
+body_bracketed f props records (Some body) s = is_bracketed ascribed_by s (form_at f props records body)

@@ -1,5 +1,5 @@
 -- The texts of the kinds of records as formats: bytes that stand for themselves, and bytes that stand for a name, a part or a label.
-use Rattle.std.specs.Prelude.{ℕ, ◌-◌, ◌≡◌, ◌&&◌, cond, List, [], ◌∷◌, map, length, get_or, leb, eqb}
+use Rattle.std.specs.Prelude.{ℕ, ◌-◌, ◌&&◌, cond, List, [], ◌∷◌, get_or, leb, eqb}
 use Rattle.definitions.specs.declared.Style.{Style}
 use Rattle.definitions.specs.Utf8.{utf8}
 use Rattle.definitions.specs.Name.{Name}
@@ -52,10 +52,10 @@ item_of b =
     (cond (eqb b 76) of_parameter
     (cond (eqb b 77) of_ascription (fixed b))))
 
--- up to the first full stop, which is 46
+-- byte by byte
 unfoldable pub items : List ℕ → List Item
 items [] = []
-items (b ∷ bs) = cond (eqb b 46) [] (item_of b ∷ items bs)
+items (b ∷ bs) = item_of b ∷ items bs
 
 -- the format of each kind, in the order of the kinds
 unfoldable pub formats : List (List Item)
@@ -75,11 +75,6 @@ formats =
     ∷ items (utf8 "()")
     ∷ items (utf8 "sorry")
     ∷ []
-
--- a table of the formats as bytes, 32 for each kind
-pub record FormatTable (table : List (List ℕ)) : Type 0 where
-  pub sizes : map length table ≡ map (λ format. 32) formats
-  pub shows : map items table ≡ formats
 
 -- The text of each item of a record, by the record's numbers and the terms of its parts.
 module _ (s : Style) (f : ℕ → Name) (props : ℕ → Prop ℕ) (term : ℕ → ProofTerm ℕ) (field : ℕ → ℕ) where

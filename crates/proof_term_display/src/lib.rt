@@ -1,7 +1,7 @@
 // The text of a term from its records (`Display` of source document 001), plain and strict.
 #![tactic(auto)]
 
-ghost use Rattle.std.specs.Prelude.{◌≡◌, ◌&&◌, false, ℕ, ◌+◌, ◌*◌, ◌≤◌, length, leb, MatchOption, IfSome};
+ghost use Rattle.std.specs.Prelude.{◌≡◌, ◌&&◌, false, ℕ, ◌+◌, ◌*◌, ◌≤◌, [], length, get_or, leb, MatchOption, IfSome, OnSome};
 ghost use Rattle.definitions.specs.Name.{Name};
 ghost use Rattle.definitions.specs.Prop.{Prop};
 ghost use Rattle.definitions.specs.Term.{ProofTerm, rename_term};
@@ -9,15 +9,15 @@ ghost use Rattle.definitions.specs.Display.{form};
 ghost use Rattle.proof_term.specs.Records.{record_size, field_at, record_term};
 ghost use Rattle.proof_term.specs.Forms.{as_form};
 ghost use Rattle.proof_term.specs.Views.{kind_number};
-ghost use Rattle.proof_term_display.specs.Ascriptions.{bracket, Unascribed, body_bracketed, after_body};
+ghost use Rattle.proof_term_display.specs.Ascriptions.{bracket, AscribedBody, body_bracketed, after_body};
 ghost use Rattle.proof_term_display.specs.Brackets.{position_of, is_bracketed, bracket_row, form_at};
-ghost use Rattle.proof_term_display.specs.Format.{part_field, part_number, part_position, item_of, part, FormatTable};
+ghost use Rattle.proof_term_display.specs.Format.{part_field, part_number, part_position, item_of, part, items, formats};
 ghost use Rattle.proof_term_display.specs.Printable.{PrintableTerm, PrintableLabel, term_text, shown_label, shown_parameter_label};
 ghost use Rattle.proof_term_display.specs.Item.{LabelReady, ItemReady, record_item};
 
 use definitions::Style;
 use output::Sink;
-use proof_term::{Form, KINDS, Kind, Label, field, kind_at, label_at, parameter_at};
+use proof_term::{Form, Kind, Label, field, kind_at, label_at, parameter_at};
 use prop::put_proposition;
 use vocabulary::{Vocabulary, name};
 
@@ -31,8 +31,6 @@ pub enum PartPosition {
     PartOf,
     Within,
 }
-
-const FORMAT_SIZE: usize = 32;
 
 // The parts of terms, each with the letter that stands for it in a format: the parts of a function, a case or a let in their order, the
 // bodies of a named function and of an ascription, the function and the argument of an application, and the parts of a pair.
@@ -111,28 +109,27 @@ fn form_of(kind: Kind) -> Form
 }
 
 // Whether a part is bracketed, by its position, the style and its form: closed, call, function, block, ascription. It is a table of
-// document 01, with a row for each position and a column for each form, and so are the formats below, which end at a full stop since
-// what is as long for each kind is one array.
+// document 01, with a row for each position and a column for each form.
 #[tactic(auto, unfolding(crate::specs::Brackets::is_bracketed, definitions::specs::Display::brackets_of, definitions::specs::Display::is_strict, definitions::specs::Display::brackets, definitions::specs::Display::bracketed))]
 fn brackets_of(position: PartPosition, style: Style) -> [bool; 5]
     ensures { result ≡ bracket_row position style }
 {
     match style {
         Style::Plain => match position {
-            PartPosition::FunctionOf => [false, false, true, false, true], // the function of an application, plain
-            PartPosition::ArgumentOf => [false, true, true, false, true], // its argument, plain
-            PartPosition::BodyOf => [false, true, true, true, true], // the body of a named function, plain
-            PartPosition::AscribedBy => [false, false, true, true, true], // the body of an ascription, plain
-            PartPosition::PartOf => [false, false, false, false, false], // a part of a pair, plain
-            PartPosition::Within => [false, false, false, false, false], // within a function, a case or a let, plain
+            PartPosition::FunctionOf => [false, false, true, false, true],
+            PartPosition::ArgumentOf => [false, true, true, false, true],
+            PartPosition::BodyOf => [false, true, true, true, true],
+            PartPosition::AscribedBy => [false, false, true, true, true],
+            PartPosition::PartOf => [false, false, false, false, false],
+            PartPosition::Within => [false, false, false, false, false],
         },
         Style::Strict => match position {
-            PartPosition::FunctionOf => [false, false, true, true, true], // the function of an application, strict
-            PartPosition::ArgumentOf => [false, true, true, true, true], // its argument, strict
-            PartPosition::BodyOf => [false, true, true, true, true], // the body of a named function, strict
-            PartPosition::AscribedBy => [false, false, true, true, true], // the body of an ascription, strict
-            PartPosition::PartOf => [false, false, false, false, false], // a part of a pair, strict
-            PartPosition::Within => [false, false, false, false, true], // within a function, a case or a let, strict
+            PartPosition::FunctionOf => [false, false, true, true, true],
+            PartPosition::ArgumentOf => [false, true, true, true, true],
+            PartPosition::BodyOf => [false, true, true, true, true],
+            PartPosition::AscribedBy => [false, false, true, true, true],
+            PartPosition::PartOf => [false, false, false, false, false],
+            PartPosition::Within => [false, false, false, false, true],
         },
     }
 }
@@ -147,31 +144,33 @@ pub fn is_bracketed(records: &[u16], n: usize, position: PartPosition, style: St
     brackets[form_of(kind_at(records, n)).rank()]
 }
 
-// The format of each kind, in the order of the kinds, up to the full stop. A digit stands for the name in that number of the
-// record. A, B and C stand for the parts of a function, a case or a let, D for the body of a named function, E for that of an
-// ascription, F and G for the function and the argument of an application, H and I for the parts of a pair, L for the label of a
-// parameter, if it has one, and M for that of an ascription.
-type Formats = [[u8; FORMAT_SIZE]; KINDS];
+// The format of a kind. A digit stands for the name in that number of the record. A, B and C stand for the parts of a function, a case
+// or a let, D for the body of a named function, E for that of an ascription, F and G for the function and the argument of an
+// application, H and I for the parts of a pair, L for the label of a parameter, if it has one, and M for that of an ascription.
+#[tactic(auto, unfolding(crate::specs::Format::formats))]
+fn format_of(kind: Kind) -> &'static [u8]
+    ensures { items result.now ≡ get_or formats (kind_number kind) [] }
+{
+    match kind {
+        Kind::Ident => b"1",
+        Kind::Pair => b"(H, I)",
+        Kind::ProjectFst => b"fst D",
+        Kind::ProjectSnd => b"snd D",
+        Kind::Function => b"fn 2L => A",
+        Kind::Application => b"F G",
+        Kind::LetIn => b"let (3, 4) = A in B",
+        Kind::OrLeft => b"inl D",
+        Kind::OrRight => b"inr D",
+        Kind::Case => b"case A of inl 4 => B, inr 5 => C",
+        Kind::Abort => b"abort D",
+        Kind::TypeAscription => b"E: M",
+        Kind::Unit => b"()",
+        Kind::Sorry => b"sorry",
+    }
+}
 
-const FORMATS: Formats = [
-    *b"1...............................", // a name
-    *b"(H, I)..........................",
-    *b"fst D...........................",
-    *b"snd D...........................",
-    *b"fn 2L => A......................",
-    *b"F G.............................", // an application
-    *b"let (3, 4) = A in B.............",
-    *b"inl D...........................",
-    *b"inr D...........................",
-    *b"case A of inl 4 => B, inr 5 => C",
-    *b"abort D.........................",
-    *b"E: M............................", // an ascription
-    *b"()..............................",
-    *b"sorry...........................",
-];
-
-// What the printing of a term goes by: where the names and the propositions lie, and the style. The records, the memory, the ends and the
-// formats stand beside it: they are lent, and of what is lent a clause on a struct would say `p.now.records.now` for `records.now`.
+// What the printing of a term goes by: where the names and the propositions lie, and the style. The records, the memory and the ends
+// stand beside it: they are lent, and of what is lent a clause on a struct would say `p.now.records.now` for `records.now`.
 #[derive(Clone, Copy)]
 pub struct Printer {
     pub vocabulary: Vocabulary,
@@ -216,50 +215,50 @@ fn put_bracket<S: Sink<u8>>(sink: &mut S, b: u8, bracketed: bool)
     }
 }
 
-// The record that is printed for record `n`: the body of an ascription, which so takes no frame of its own, or `n` itself.
-fn unascribed(records: &[u16], n: usize) -> usize
+// The body of record `n`, if that is the ascription of an earlier record. The body is printed in the frame of its ascription.
+fn ascribed_body(records: &[u16], n: usize) -> Option<usize>
     requires { record_size * (n + 1) ≤ length records.now }
-    ensures { Unascribed records.now n result }
+    ensures { AscribedBody records.now n result }
 {
     let Kind::TypeAscription = kind_at(records, n) else {
-        return n;
+        return None;
     };
     let body = field(records, n, 1);
     if n <= body {
-        return n;
+        return None;
     }
-    body
+    Some(body)
 }
 
 // Whether the body of an ascription is bracketed.
-fn is_body_bracketed(records: &[u16], n: usize, body: usize, style: Style) -> bool
-    requires { record_size * (body + 1) ≤ length records.now }
+fn is_body_bracketed(records: &[u16], ascribed: Option<usize>, style: Style) -> bool
+    requires { IfSome ascribed (λ body. record_size * (body + 1) ≤ length records.now) }
     ensures { (f : ℕ → Name) (props : ℕ → Prop ℕ) →
-        result ≡ body_bracketed f props records.now n body style }
+        result ≡ body_bracketed f props records.now ascribed style }
 {
-    if body == n {
+    let Some(body) = ascribed else {
         return false;
-    }
+    };
     is_bracketed(records, body, PartPosition::AscribedBy, style)
 }
 
-// What stands after the body of an ascription: a colon and its label.
+// What stands after the body of record `n`, if that is an ascription: a colon and its label.
 fn put_ascription<S: Sink<u8>>(
     sink: &mut S,
     records: &[u16],
     n: usize,
-    body: usize,
+    ascribed: Option<usize>,
     bytes: &[u8],
     v: Vocabulary,
     ends: &[u16],
 )
     requires printable_term { PrintableTerm records.now n bytes.now v ends.now }
-    requires label_ready { (body ≡ n → ⊥) → LabelReady bytes.now v ends.now records.now n }
-    ensures { S.puts sink.old (after_body bytes.now v records.now n body) sink.new }
+    requires label_ready { OnSome ascribed (LabelReady bytes.now v ends.now records.now n) }
+    ensures { S.puts sink.old (after_body bytes.now v records.now n ascribed) sink.new }
 {
-    if body == n {
+    let Some(_) = ascribed else {
         return;
-    }
+    };
     sink.put_all(b": ");
     put_label(sink, label_at(records, n), bytes, v, ends);
 }
@@ -269,14 +268,12 @@ fn put_ascription<S: Sink<u8>>(
 fn put_part<S: Sink<u8>>(
     sink: &mut S,
     which: TermPart,
-    formats: &Formats,
     records: &[u16],
     n: usize,
     bytes: &[u8],
     ends: &[u16],
     p: Printer,
 )
-    requires format_table { FormatTable formats.now }
     requires printable_term { PrintableTerm records.now n bytes.now p.vocabulary ends.now }
     requires item_ready { ItemReady bytes.now p.vocabulary ends.now records.now n (part (part_number which)) }
     ensures { S.puts sink.old
@@ -289,13 +286,13 @@ fn put_part<S: Sink<u8>>(
     }
     let style = p.style;
     let bracketed = is_bracketed(records, number, which.position(), style);
-    let body = unascribed(records, number);
-    let inner = is_body_bracketed(records, number, body, style);
+    let ascribed = ascribed_body(records, number);
+    let inner = is_body_bracketed(records, ascribed, style);
     put_bracket(sink, b'(', bracketed);
     put_bracket(sink, b'(', inner);
-    put_node(sink, formats, records, body, bytes, ends, p);
+    put_node(sink, records, ascribed.unwrap_or(number), bytes, ends, p);
     put_bracket(sink, b')', inner);
-    put_ascription(sink, records, number, body, bytes, p.vocabulary, ends);
+    put_ascription(sink, records, number, ascribed, bytes, p.vocabulary, ends);
     put_bracket(sink, b')', bracketed);
 }
 
@@ -311,14 +308,12 @@ fn is_between(b: u8, first: u8, last: u8) -> bool
 fn put_item<S: Sink<u8>>(
     sink: &mut S,
     b: u8,
-    formats: &Formats,
     records: &[u16],
     n: usize,
     bytes: &[u8],
     ends: &[u16],
     p: Printer,
 )
-    requires format_table { FormatTable formats.now }
     requires printable_term { PrintableTerm records.now n bytes.now p.vocabulary ends.now }
     requires item_ready { ItemReady bytes.now p.vocabulary ends.now records.now n (item_of b) }
     ensures { S.puts sink.old
@@ -334,7 +329,7 @@ fn put_item<S: Sink<u8>>(
         return;
     }
     if let Some(which) = TermPart::of_letter(b) {
-        put_part(sink, which, formats, records, n, bytes, ends, p);
+        put_part(sink, which, records, n, bytes, ends, p);
         return;
     }
     if b == b'L' {
@@ -348,27 +343,21 @@ fn put_item<S: Sink<u8>>(
     sink.put(b);
 }
 
-// The term of record `n`, by a table of formats that is lent, since a constant is laid down anew wherever it is named.
+// The term of record `n`, item by item of its kind's format.
 #[cycle(put_node)]
 fn put_node<S: Sink<u8>>(
     sink: &mut S,
-    formats: &Formats,
     records: &[u16],
     n: usize,
     bytes: &[u8],
     ends: &[u16],
     p: Printer,
 )
-    requires format_table { FormatTable formats.now }
-    requires printable_term { PrintableTerm records.now n bytes.now p.vocabulary ends.now }
+    requires { PrintableTerm records.now n bytes.now p.vocabulary ends.now }
     ensures { S.puts sink.old (term_text p.style bytes.now p.vocabulary records.now n) sink.new }
 {
-    let kind = usize::from(kind_at(records, n).number());
-    for &b in &formats[kind] {
-        if b == b'.' {
-            return;
-        }
-        put_item(sink, b, formats, records, n, bytes, ends, p);
+    for &b in format_of(kind_at(records, n)) {
+        put_item(sink, b, records, n, bytes, ends, p);
     }
 }
 
@@ -385,10 +374,9 @@ pub fn put_term<S: Sink<u8>>(
     requires { PrintableTerm records.now n bytes.now v ends.now }
     ensures { S.puts sink.old (term_text style bytes.now v records.now n) sink.new }
 {
-    let formats = FORMATS;
     let p = Printer {
         vocabulary: v,
         style,
     };
-    put_node(sink, &formats, records, n, bytes, ends, p);
+    put_node(sink, records, n, bytes, ends, p);
 }

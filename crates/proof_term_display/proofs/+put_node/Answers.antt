@@ -9,16 +9,16 @@ use Rattle.proof_term.specs.Records.{field_at}
 use Rattle.prop.proofs.Shown.{below_as, put_as}
 use Rattle.proof_term_display.specs.Format.{part_field, part_number, item_text}
 use Rattle.proof_term_display.specs.Printable.{PrintableTerm}
-use Rattle.proof_term_display.specs.Item.{KindAt, ItemReady}
+use Rattle.proof_term_display.specs.Item.{ItemReady}
 use Rattle.proof_term_display.proofs.Tables.{part_field_below, at_position, kind_seen}
 use Rattle.proof_term_display.proofs.Items.{between, item_outside, item_name, item_part, item_fixed}
 use Rattle.proof_term_display.proofs.Items.{item_of_parameter, item_of_ascription}
 use Rattle.proof_term_display.proofs.Labels.{printable_label, printable_parameter, label_shown, parameter_label_shown}
-use Rattle.proof_term_display.proofs.Progress.{start, ends_here, ends_past, item_ready, goes_on}
+use Rattle.proof_term_display.proofs.Progress.{start, ends_past, item_ready, goes_on}
 use Rattle.proof_term_display.proofs.Parts.{unit_text, printable_part}
-use Rattle.proof_term_display.proofs.Ascriptions.{not_after, body_printable, label_printable, part_written}
+use Rattle.proof_term_display.proofs.Ascriptions.{not_after, body_held, body_printable, label_printable, part_written}
 use Rattle.proof_term_display.proofs.+put_node.Goals as goal
-use Rattle.proof_term_display.proofs.+put_node.Goals.{put_part-After-field-number, put_part-Else-n-number, put_part-Then-n-number, put_node-Else-b-eq46, put_node-After-from-kind, put_item-After-field-number, put_item-After-of_letter, put_item-Then-is_between}
+use Rattle.proof_term_display.proofs.+put_node.Goals.{put_part-After-field-number, put_part-Else-n-number, put_part-Then-n-number, put_item-After-field-number, put_item-After-of_letter, put_item-Then-is_between}
 
 -- the part's number, and what it takes to print it
 number_is : (g : _) (t : ℕ) → (c : put_part-After-field-number g t) → let s = c.args in
@@ -45,60 +45,43 @@ put_part-is_bracketed-bracketed-requires g t c =
 
 pub put_part-put_node-requires : goal.put_part-put_node-requires
 put_part-put_node-requires g t c =
-    let which = c.unascribed-body.ensures in
-    λ κs lives. (omega (arith, not_after which, c.if-n-number.false, c.decreases), (lives, (c.requires.format_table, body_printable which (number_printable g t (goal.at.put_part-put_node-requires g t c).Else-n-number))))
+    let which = c.ascribed_body-ascribed.ensures in
+    λ κs lives. (omega (arith, not_after which, c.unwrap_or.ensures, c.if-n-number.false, c.decreases), (lives, rw c.unwrap_or.ensures (body_printable which (number_printable g t (goal.at.put_part-put_node-requires g t c).Else-n-number))))
 
 pub put_part-put_ascription-requires : goal.put_part-put_ascription-requires
 put_part-put_ascription-requires g t c =
     let printable = number_printable g t (goal.at.put_part-put_ascription-requires g t c).Else-n-number in
-    record { printable_term = printable; label_ready = label_printable c.unascribed-body.ensures printable }
+    record { printable_term = printable; label_ready = label_printable c.ascribed_body-ascribed.ensures printable }
 
 pub put_part-returns : goal.put_part-returns
 put_part-returns g t c =
-    part_written _ _ _ _ _ _ _ (number_is g t (goal.at.put_part-returns g t c).After-field-number) c.if-n-number.false c.unascribed-body.ensures
+    part_written _ _ _ _ _ _ _ (number_is g t (goal.at.put_part-returns g t c).After-field-number) c.if-n-number.false c.ascribed_body-ascribed.ensures
     g.met.S.Sink.laws (at_position _ _ _ _ c.position.ensures (c.is_bracketed-bracketed.ensures _ _)) (c.is_body_bracketed-inner.ensures _ _)
-    c.put_bracket.ensures c.put_bracket-2.ensures c.put_node.ensures c.put_bracket-3.ensures c.put_ascription.ensures c.put_bracket-4.ensures
-
-pub put_part-unascribed-body-requires : goal.put_part-unascribed-body-requires
-put_part-unascribed-body-requires g t c = omega (arith, c.requires.printable_term.held)
+    c.put_bracket.ensures c.put_bracket-2.ensures (rw c.unwrap_or.ensures at c.put_node.ensures) c.put_bracket-3.ensures c.put_ascription.ensures c.put_bracket-4.ensures
 
 pub put_part-is_body_bracketed-inner-requires : goal.put_part-is_body_bracketed-inner-requires
-put_part-is_body_bracketed-inner-requires g t c = omega (arith, c.requires.printable_term.held, not_after c.unascribed-body.ensures)
+put_part-is_body_bracketed-inner-requires g t c = body_held c.ascribed_body-ascribed.ensures (omega (arith, c.requires.printable_term.held))
 
-pub put_node-returns-then-b-eq46 : goal.put_node-returns-then-b-eq46
-put_node-returns-then-b-eq46 g t c =
-    ends_here _ _ _ _ _ _ g.met.S.Sink.laws c.loop-b.invariant c.if-b-eq46.true (omega (arith, c.loop-b.invariant.size))
+pub put_part-ascribed_body-ascribed-requires : goal.put_part-ascribed_body-ascribed-requires
+put_part-ascribed_body-ascribed-requires g t c = omega (arith, c.requires.printable_term.held)
 
 pub put_node-put_item-requires : goal.put_node-put_item-requires
 put_node-put_item-requires g t c =
-    let ready = item_ready _ _ _ _ _ _ g.met.S.Sink.laws c.loop-b.invariant (omega (arith, c.loop-b.invariant.size)) c.if-b-eq46.false in
-    λ κs lives. (omega (arith, c.decreases), (lives, (c.requires.format_table, (c.requires.printable_term, ready))))
+    let ready = item_ready _ _ _ _ _ _ g.met.S.Sink.laws c.loop-b.invariant (omega arith) in
+    λ κs lives. (omega (arith, c.decreases), (lives, (c.requires, ready)))
 
 pub put_node-loop-b-preserved : goal.put_node-loop-b-preserved
-put_node-loop-b-preserved g t c =
-    goes_on _ _ _ _ _ _ g.met.S.Sink.laws c.loop-b.invariant (omega (arith, c.loop-b.invariant.size)) c.if-b-eq46.false
-    c.put_item.ensures
+put_node-loop-b-preserved g t c = goes_on _ _ _ _ _ _ g.met.S.Sink.laws c.loop-b.invariant (omega arith) c.put_item.ensures
 
 pub put_node-returns : goal.put_node-returns
-put_node-returns g t c = ends_past _ _ _ _ _ _ g.met.S.Sink.laws c.loop-b.invariant (omega (arith, c.loop-b.invariant.size))
+put_node-returns g t c = ends_past _ _ _ _ _ _ g.met.S.Sink.laws c.loop-b.invariant (omega arith)
 
 pub put_node-kind_at-requires : goal.put_node-kind_at-requires
-put_node-kind_at-requires g t c = c.requires.printable_term.held
-
--- the kind is one that is known
-kind_is : (g : _) (t : ℕ) → (c : put_node-After-from-kind g t) → let s = c.args in KindAt s.records.now s.n c.from-kind.result
-kind_is g t c = rw (c.from-kind.ensures, c.number.ensures) (kind_seen c.args.records.now c.args.n c.kind_at.ensures)
+put_node-kind_at-requires g t c = c.requires.held
 
 pub put_node-loop-b-init : goal.put_node-loop-b-init
 put_node-loop-b-init g t c =
-    let entry = c.requires in
-    start _ _ _ _ _ _ g.met.S.Sink.laws entry.printable_term (kind_is g t (goal.at.put_node-loop-b-init g t c).After-from-kind) entry.format_table
-
-pub put_node-offset_bounds-formats-kind : goal.put_node-offset_bounds-formats-kind
-put_node-offset_bounds-formats-kind g t c = omega (arith, (kind_is g t c).known)
-
-pub put_node-bounds-formats-kind : goal.put_node-bounds-formats-kind
-put_node-bounds-formats-kind g t c = (kind_is g t c).known
+    start _ _ _ _ _ _ g.met.S.Sink.laws c.requires (kind_seen c.args.records.now c.args.n c.kind_at.ensures) c.format_of-b-items.ensures
 
 -- what the tests tell
 is_name : (g : _) (t : ℕ) → (c : put_item-Then-is_between g t) → let b = c.args.b in leb 49 b && leb b 53 ≡ true
@@ -132,7 +115,7 @@ put_item-returns-then-is_between g t c =
 pub put_item-put_part-requires : goal.put_item-put_part-requires
 put_item-put_part-requires g t c =
     let ready = rw (item_part c.args.b (no_name g t (goal.at.put_item-put_part-requires g t c).After-of_letter) _ c.in-Some.ensures) at c.requires.item_ready in
-    λ κs lives. (omega (arith, c.decreases), (lives, (c.requires.format_table, (c.requires.printable_term, ready))))
+    λ κs lives. (omega (arith, c.decreases), (lives, (c.requires.printable_term, ready)))
 
 pub put_item-returns-in-Some : goal.put_item-returns-in-Some
 put_item-returns-in-Some g t c =

@@ -1,13 +1,14 @@
--- Another record than the one that it is printed for is the body of an ascription.
-use mathlib.Core.Path.{◌∙◌}
-use borrow.Author.Tests.{eq-eqb, ne_eqb}
+-- Where there is no ascription nothing is bracketed.
 use Rattle.proof_term_display.specs.Ascriptions.{body_bracketed}
 use Rattle.proof_term_display.proofs.is_body_bracketed.Goals as goal
 
-pub returns-then-body-n : goal.returns-then-body-n
+pub returns-in_default : goal.returns-in_default
 unfolding body_bracketed
-returns-then-body-n c f props = rw (eq-eqb _ _ c.if-body-n.true)
+returns-in_default c f props = rw c.in_default.is
 
 pub returns : goal.returns
 unfolding body_bracketed
-returns c f props = c.is_bracketed.ensures f props ∙ rw (ne_eqb _ _ c.if-body-n.false)
+returns c f props = rw c.in-Some.is (c.is_bracketed.ensures f props)
+
+pub is_bracketed-requires : goal.is_bracketed-requires
+is_bracketed-requires c = rw c.in-Some.is at c.requires

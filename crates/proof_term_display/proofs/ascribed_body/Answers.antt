@@ -1,8 +1,8 @@
--- The tests say which record it is.
+-- The tests say whether there is one.
 use mathlib.Core.Path.{sym, ◌∙◌}
 use Rattle.proof_term.proofs.Views.{number_of_kind}
-use Rattle.proof_term_display.specs.Ascriptions.{itself, body_of}
-use Rattle.proof_term_display.proofs.unascribed.Goals as goal
+use Rattle.proof_term_display.specs.Ascriptions.{no_ascription, body_of}
+use Rattle.proof_term_display.proofs.ascribed_body.Goals as goal
 
 pub returns : goal.returns
 returns c =
@@ -11,7 +11,7 @@ returns c =
     rw is (body_of kind (rw is at c.if-n-body.false))
 
 pub returns-in_default : goal.returns-in_default
-returns-in_default c = itself
+returns-in_default c = no_ascription
 
 pub returns-then-n-body : goal.returns-then-n-body
-returns-then-n-body c = itself
+returns-then-n-body c = no_ascription
