@@ -20,12 +20,12 @@ use sheet::AdmittedSheet;
 pub fn is_out(hypotheses: &[u16], names: usize, propositions: usize) -> bool
     ensures { result ≡ out_of names propositions hypotheses.now }
 {
-    for pair in hypotheses.chunks(2) {
-        if pair.len() == 1 || names <= pair[0] as usize || propositions <= pair[1] as usize {
-            return true;
+    hypotheses.chunks(2).any(|pair| match *pair {
+        [name, proposition] => {
+            names <= usize::from(name) || propositions <= usize::from(proposition)
         }
-    }
-    false
+        _ => true,
+    })
 }
 
 // Whether a proposition of the sheet has no quantifier and no uninstantiated parameter. Its pair says where its code ends; `is_free_at` of
@@ -43,12 +43,9 @@ pub fn are_free(sheet: &AdmittedSheet, hypotheses: &[u16]) -> bool
     requires { hypothesis_out sheet.now hypotheses.now ≡ false }
     ensures { result ≡ all_quantifier_free (assumed sheet.now hypotheses.now []) }
 {
-    for pair in hypotheses.chunks_exact(2) {
-        if !is_free(sheet, pair[1] as usize) {
-            return false;
-        }
-    }
-    true
+    hypotheses
+        .chunks_exact(2)
+        .all(|pair| is_free(sheet, usize::from(pair[1])))
 }
 
 // Enters the hypotheses into the scope, each under the number that the map has for its name: the offset of its proposition.
