@@ -1,7 +1,7 @@
 -- An atom: its name, and its parameters, perhaps none.
 use Prim.Native.Nat.{ℕ, ◌+◌}
 use mathlib.Core.Path.{◌≡◌, refl, sym, ap, ◌∙◌}
-use mathlib.Core.Bool.{Bool, false}
+use mathlib.Core.Bool.{false}
 use Rattle.std.specs.Prelude.{Option, None, Some}
 use mathlib.Core.List.{List, [], ◌∷◌, map}
 use native.Mathlib.Omega.{arith}
@@ -15,7 +15,7 @@ use Rattle.definitions.specs.Display.{precedence}
 use Rattle.definitions.specs.TermReader.{expect, standing, if_read, parameters_of}
 use Rattle.definitions.proofs.Readings.{given}
 use Rattle.reading_laws.proofs.TermConventions.{gives_yield, gives_then}
-use Rattle.output.specs.Wrote.{puts}
+use Rattle.std.proofs.lemmas.List.Edits.{sets}
 use Rattle.words.specs.Places.{Expected}
 use Rattle.words.specs.Table.{add_name, added, number_in, table_names, Table, NamePlace, Noted, TooMany, NumberOf}
 use Rattle.words.specs.declared.Numbered.{Numbered}
@@ -23,7 +23,7 @@ use Rattle.words.proofs.Added.{noted_then, met_added}
 use Rattle.atom_reader.specs.declared.Place.{Place}
 use Rattle.atom_reader.specs.declared.ParametersRead.{ParametersRead}
 use Rattle.atom_reader.specs.Reading.{Begins, parameters_from, parameter_code, parameter_bytes, ParametersAnswer, atom_from, atom_head, code_over, PropAnswer}
-use Rattle.atom_reader.proofs.Storing.{puts_nothing, puts_dry, stored_then, puts_front}
+use Rattle.atom_reader.proofs.Storing.{sets_front}
 use Rattle.atom_reader.proofs.Sizes.{atom_bytes}
 use Rattle.atom_reader.proofs.Scopes.{added_one_meets, binds_noted, crowded_first, crowded_second}
 use Rattle.atom_reader.proofs.Readings.{gives_any}
@@ -46,9 +46,9 @@ parameters_begin bracket pre = record {
 }
 
 -- Whether a bracket follows the name.
-module _ (names : List Name) {text pairs code : List ℕ} {p : Place} {write : Bool} where
+module _ (names : List Name) {text pairs code : List ℕ} {p : Place} where
   pub no_parameters : {bound : List ℕ} → expect (utf8 "(") (drop p.at text) ≡ None → Begins text pairs bound p 0 2
-      → ParametersAnswer (parameters_of names (drop p.at text)) parameter_limit 0 text pairs code p write pairs code
+      → ParametersAnswer (parameters_of names (drop p.at text)) parameter_limit 0 text pairs code p pairs code
       (Some (record { end = p.at; parameters = 0; count = p.count; size = 0 }))
   unfolding parameters_of if_read yield parameter_code parameter_bytes encode_parameters
   no_parameters e pre = record {
@@ -58,7 +58,7 @@ module _ (names : List Name) {text pairs code : List ℕ} {p : Place} {write : B
       record {
         within = pre.within;
         noted = noted_none pre.table;
-        stored = sym (puts_nothing write code p.to);
+        stored = refl;
         count_is = refl;
         size_is = refl;
         few = omega arith;
@@ -66,15 +66,14 @@ module _ (names : List Name) {text pairs code : List ℕ} {p : Place} {write : B
         small = omega arith;
       },
     );
-    dry = λ l. refl;
   }
 
   pub some_parameters : {open' : ℕ} {after code' : List ℕ} (r : Option ParametersRead) → Expected (utf8 "(") text p.at open'
       → ParametersAnswer (parameters_from names parameter_limit (drop open' text)) parameter_limit 1 text pairs code
-      (record { at = open'; count = p.count; depth = p.depth; to = p.to }) write after code' r
-      → ParametersAnswer (parameters_of names (drop p.at text)) parameter_limit 0 text pairs code p write after code' r
+      (record { at = open'; count = p.count; depth = p.depth; to = p.to }) after code' r
+      → ParametersAnswer (parameters_of names (drop p.at text)) parameter_limit 0 text pairs code p after code' r
   unfolding parameters_of parameters_from if_read
-  some_parameters None bracket answer = record { answer = rw bracket.reads answer.answer; dry = answer.dry }
+  some_parameters None bracket answer = record { answer = rw bracket.reads answer.answer }
   some_parameters (Some r) bracket answer =
       let (ps, reads, given) = answer.answer in
       record {
@@ -92,15 +91,7 @@ module _ (names : List Name) {text pairs code : List ℕ} {p : Place} {write : B
             small = omega (arith, given.small, bracket.after);
           },
         );
-        dry = answer.dry;
       }
-
--- the head of an atom, byte by byte
-pub head_stored : (write : Bool) (l : List ℕ) (to number parameters : ℕ) {one two three : List ℕ} → one ≡ puts write l to (5 ∷ [])
-    → two ≡ puts write one (to + 1) (u16 number) → three ≡ puts write two (to + 3) (parameters ∷ []) → three ≡ puts write l to (atom_head number parameters)
-unfolding atom_head u16
-head_stored write l to number parameters first second third =
-    stored_then write l to (5 ∷ u16 number) (parameters ∷ []) (stored_then write l to (5 ∷ []) (u16 number) first refl second) refl third
 
 -- where the parameters may begin
 pub atom_place : {a : Name} {end : ℕ} {text pairs bound after : List ℕ} {p : Place} {found : Numbered}
@@ -125,30 +116,29 @@ length_renamed f [] = refl
 length_renamed f (p ∷ ps) = rw (length_renamed f ps)
 
 -- the parameters are stored, and then the head before them
-atom_stored : (write : Bool) (l : List ℕ) (to : ℕ) (seen : List Name) (a : Name) (ps : List (PropParameter Name)) {number parameters : ℕ} {mid after : List ℕ}
-    → number ≡ number_in seen a → parameters ≡ length ps → mid ≡ puts write l (to + 4) (parameter_code seen ps)
-    → after ≡ puts write mid to (atom_head number parameters) → after ≡ puts write l to (code_over seen (Atom a ps))
+atom_stored : (l : List ℕ) (to : ℕ) (seen : List Name) (a : Name) (ps : List (PropParameter Name)) {number parameters : ℕ} {mid after : List ℕ}
+    → number ≡ number_in seen a → parameters ≡ length ps → mid ≡ sets l (to + 4) (parameter_code seen ps)
+    → after ≡ sets mid to (atom_head number parameters) → after ≡ sets l to (code_over seen (Atom a ps))
 unfolding code_over encode rename_prop atom_head parameter_code u16
-atom_stored write l to seen a ps e f first second =
-    rw (length_renamed (number_in seen) ps, ← e, ← f, second, first) (puts_front write l to (atom_head _ _) (parameter_code seen ps))
+atom_stored l to seen a ps e f first second =
+    rw (length_renamed (number_in seen) ps, ← e, ← f, second, first) (sets_front (atom_head _ _) l to (parameter_code seen ps))
 
 -- The name's number, and then the parameters.
-pub atom_full : (names : List Name) (a : Name) (end : ℕ) {text pairs bound code : List ℕ} {p : Place} {write : Bool} (after : List ℕ)
-    → TooMany a text pairs p.count → PropAnswer (atom_from names a (drop end text)) text pairs bound code p write after bound code None
+pub atom_full : (names : List Name) (a : Name) (end : ℕ) {text pairs bound code : List ℕ} {p : Place} (after : List ℕ)
+    → TooMany a text pairs p.count → PropAnswer (atom_from names a (drop end text)) text pairs bound code p after bound code None
 unfolding atom_from ◌>>=◌ prop_names added standing
 atom_full names a end {text} {pairs} {p = p} after full = record {
   answer =
       gives_then _ _ (parameters_of names (drop end text)) _ (gives_any _) λ ps u j.
       gives_yield _ (standing false (Atom a ps)) u (crowded_first (table_names pairs text p.count) (a ∷ []) (map parameter_name ps) full);
   bound_kept = refl;
-  dry = λ l. refl;
 }
 
-module _ (names : List Name) (a : Name) (end : ℕ) {text pairs bound code after : List ℕ} {p : Place} {write : Bool} {found : Numbered}
+module _ (names : List Name) (a : Name) (end : ℕ) {text pairs bound code after : List ℕ} {p : Place} {found : Numbered}
     (number : NumberOf a text pairs p.count after found) {after' code' : List ℕ} where
   pub atom_not : ParametersAnswer (parameters_of names (drop end text)) parameter_limit 0 text after code
-      (record { at = end; count = found.count; depth = p.depth; to = p.to + 4 }) write after' code' None
-      → PropAnswer (atom_from names a (drop end text)) text pairs bound code p write after' bound code' None
+      (record { at = end; count = found.count; depth = p.depth; to = p.to + 4 }) after' code' None
+      → PropAnswer (atom_from names a (drop end text)) text pairs bound code p after' bound code' None
   unfolding atom_from ◌>>=◌ prop_names standing
   atom_not read = record {
     answer =
@@ -156,13 +146,12 @@ module _ (names : List Name) (a : Name) (end : ℕ) {text pairs bound code after
         gives_yield _ (standing false (Atom a ps)) u
         (crowded_second (table_names pairs text p.count) (a ∷ []) (map parameter_name ps) (rw number.noted.names at j));
     bound_kept = refl;
-    dry = read.dry;
   }
 
   module _ {r : ParametersRead} (read : ParametersAnswer (parameters_of names (drop end text)) parameter_limit 0 text after code
-      (record { at = end; count = found.count; depth = p.depth; to = p.to + 4 }) write after' code' (Some r))
-      {code'' : List ℕ} (headed : code'' ≡ puts write code' p.to (atom_head found.number r.parameters)) (place : NamePlace text p.at end) where
-    pub atom_given : PropAnswer (atom_from names a (drop end text)) text pairs bound code p write after' bound code''
+      (record { at = end; count = found.count; depth = p.depth; to = p.to + 4 }) after' code' (Some r))
+      {code'' : List ℕ} (headed : code'' ≡ sets code' p.to (atom_head found.number r.parameters)) (place : NamePlace text p.at end) where
+    pub atom_given : PropAnswer (atom_from names a (drop end text)) text pairs bound code p after' bound code''
         (Some (record { end = r.end; count = r.count; size = 4 + r.size; nesting = 1; strength = 999; bottom = false; own = false }))
     unfolding atom_from ◌>>=◌ followed_by yield prop_names nesting precedence is_false standing
     atom_given =
@@ -174,7 +163,7 @@ module _ (names : List Name) (a : Name) (end : ℕ) {text pairs bound code after
             record {
               within = given.within;
               noted = noted_then number.noted given.noted;
-              stored = atom_stored write code p.to _ a ps
+              stored = atom_stored code p.to _ a ps
                   (number_later a (table_names pairs text p.count) (map parameter_name ps) number.number_is
                   ∙ ap (λ seen. number_in seen a) (ap (λ seen. added seen (map parameter_name ps)) (sym number.noted.names) ∙ sym given.noted.names))
                   given.count_is given.stored headed;
@@ -189,5 +178,4 @@ module _ (names : List Name) (a : Name) (end : ℕ) {text pairs bound code after
             },
           );
           bound_kept = refl;
-          dry = λ l. headed ∙ (puts_dry write code' p.to _ l ∙ read.dry l);
         }

@@ -16,7 +16,7 @@ use Rattle.definitions.specs.TermText.{parameter_named}
 use Rattle.definitions.specs.TermReader.{name, expect, if_read, later_parameters}
 use Rattle.definitions.proofs.Readings.{given}
 use Rattle.reading_laws.proofs.TermConventions.{gives_yield, gives_none, gives_then}
-use Rattle.output.specs.Wrote.{puts}
+use Rattle.std.proofs.lemmas.List.Edits.{sets}
 use Rattle.words.specs.Places.{between, Expected}
 use Rattle.words.specs.Table.{added, number_in, table_names}
 use Rattle.words.proofs.Added.{noted_then}
@@ -27,7 +27,7 @@ use Rattle.atom_reader.specs.declared.Place.{Place}
 use Rattle.atom_reader.specs.declared.ParametersRead.{ParametersRead}
 use Rattle.atom_reader.specs.Scope.{Met, Binds}
 use Rattle.atom_reader.specs.Reading.{Begins, parameters_from, parameter_code, parameter_bytes, ParametersGiven, ParameterAnswer, ParametersAnswer}
-use Rattle.atom_reader.proofs.Storing.{puts_dry, stored_then}
+use Rattle.atom_reader.proofs.Storing.{stored_then}
 use Rattle.atom_reader.proofs.Readings.{gives_from, gives_any, follows_none}
 use Rattle.atom_reader.proofs.Sizes.{parameter_code_length}
 use Rattle.atom_reader.proofs.Scopes.{added_meets, added_one_meets, parameter_code_kept, binds_more, binds_noted, bound_number, bound_taken, crowded_first, crowded_second}
@@ -54,16 +54,16 @@ parameter_short (Uninstantiated x) = omega arith
 parameter_short (Instantiated x i) = omega arith
 
 -- One parameter.
-pub parameter_not : (names : List Name) {text pairs code : List ℕ} {p : Place} {write : Bool} (after : List ℕ) → NameLacks text p.at pairs p.count
-    → ParameterAnswer names text pairs code p write after code None
+pub parameter_not : (names : List Name) {text pairs code : List ℕ} {p : Place} (after : List ℕ) → NameLacks text p.at pairs p.count
+    → ParameterAnswer names text pairs code p after code None
 unfolding added
-parameter_not names {text} {p = p} after lacks = record { answer = gives_from (name (drop p.at text)) _ lacks; dry = λ l. refl }
+parameter_not names {text} {p = p} after lacks = record { answer = gives_from (name (drop p.at text)) _ lacks }
 
-module _ {names : List Name} {text pairs bound code after : List ℕ} {p : Place} {write : Bool} {n : NameRead}
+module _ {names : List Name} {text pairs bound code after : List ℕ} {p : Place} {n : NameRead}
     (b : Binds names (table_names pairs text p.count) bound p.depth) (read : NameGiven text p.at pairs p.count after n) where
   module _ {code' : List ℕ} {kind : ParameterKind} {size : ℕ} (inside : p.depth ≤ length bound)
       (kind_is : kind ≡ kind_of (occurs eqb n.number (bound_numbers (take p.depth bound) (length (take p.depth bound)))))
-      (put : ParameterPut kind n.number write code p.to code' size) where
+      (put : ParameterPut kind n.number code p.to code' size) where
     abbrev x : Name
     x = between p.at n.end text
 
@@ -89,7 +89,7 @@ module _ {names : List Name} {text pairs bound code after : List ℕ} {p : Place
         ∙ (ap (λ k. encode_parameter (parameter_of (kind_of (occurs eq_name x names)) k)) number_there
         ∙ (sym (ap encode_parameter (parameter_renamed (number_in seen) names x)) ∙ sym (append-nil _)))
 
-    pub parameter_given : ParameterAnswer names text pairs code p write after code'
+    pub parameter_given : ParameterAnswer names text pairs code p after code'
         (Some (record { end = n.end; parameters = 1; count = n.count; size = size }))
     parameter_given = record {
       answer = (
@@ -98,7 +98,7 @@ module _ {names : List Name} {text pairs bound code after : List ℕ} {p : Place
         record {
           within = read.within;
           noted = rw (parameter_name_lem names x) read.noted;
-          stored = put.stored ∙ ap (puts write code p.to) code_is;
+          stored = put.stored ∙ ap (sets code p.to) code_is;
           count_is = refl;
           size_is = put.size_is ∙ (ap length code_is ∙ parameter_code_length seen (parameter_named names x ∷ []));
           few = omega arith;
@@ -106,7 +106,6 @@ module _ {names : List Name} {text pairs bound code after : List ℕ} {p : Place
           small = omega (arith, read.from, put.size_is, parameter_short (parameter_of kind n.number));
         },
       );
-      dry = λ l. put.stored ∙ puts_dry write code p.to _ l;
     }
 
 -- Parameters that are read one after another.
@@ -141,16 +140,16 @@ unfolding later_parameters if_read ◌>>=◌ followed_by
 later_not names most t e f = rw (e, f) refl
 
 -- none may follow
-pub none_left : (names : List Name) {text pairs code : List ℕ} {p : Place} {write : Bool} {most : ℕ} → most ≡ 0
-    → ParametersAnswer (parameters_from names most (drop p.at text)) most 1 text pairs code p write pairs code None
+pub none_left : (names : List Name) {text pairs code : List ℕ} {p : Place} {most : ℕ} → most ≡ 0
+    → ParametersAnswer (parameters_from names most (drop p.at text)) most 1 text pairs code p pairs code None
 unfolding parameters_from later_parameters ◌>>=◌ followed_by
 none_left names {text} {pairs} {code} {p} e =
-    record { answer = rw (e, follows_none (name (drop p.at text)) _ (λ x t. refl)) (gives_none _); dry = λ l. refl }
+    record { answer = rw (e, follows_none (name (drop p.at text)) _ (λ x t. refl)) (gives_none _) }
 
 -- the first one is not read
-pub first_not : {names : List Name} {text pairs code mid mid-code : List ℕ} {p : Place} {write : Bool} {most : ℕ}
-    → ParameterAnswer names text pairs code p write mid mid-code None
-    → ParametersAnswer (parameters_from names most (drop p.at text)) most 1 text pairs code p write mid mid-code None
+pub first_not : {names : List Name} {text pairs code mid mid-code : List ℕ} {p : Place} {most : ℕ}
+    → ParameterAnswer names text pairs code p mid mid-code None
+    → ParametersAnswer (parameters_from names most (drop p.at text)) most 1 text pairs code p mid mid-code None
 unfolding parameters_from ◌>>=◌
 first_not {names} {text} {pairs} {p = p} {most = most} one = record {
   answer =
@@ -158,14 +157,13 @@ first_not {names} {text} {pairs} {p = p} {most = most} one = record {
       gives_then _ _ (later_parameters names most t) _ (gives_any _) λ ps u j.
       gives_yield _ (parameter_named names x ∷ ps) u
       (rw (parameter_name_lem names x) (crowded_first (table_names pairs text p.count) (x ∷ []) (map parameter_name ps) k));
-  dry = one.dry;
 }
 
 -- where the next one begins
-pub next_begins : (names : List Name) {text pairs bound code mid mid-code : List ℕ} {p : Place} {write : Bool} {first : ParametersRead}
+pub next_begins : (names : List Name) {text pairs bound code mid mid-code : List ℕ} {p : Place} {first : ParametersRead}
     {ps : List (PropParameter Name)} {more : ℕ}
     → Begins text pairs bound p 0 2 → Binds names (table_names pairs text p.count) bound p.depth
-    → ParametersGiven 1 3 text pairs code p write mid mid-code first ps → Expected (utf8 ", ") text first.end more
+    → ParametersGiven 1 3 text pairs code p mid mid-code first ps → Expected (utf8 ", ") text first.end more
     → Begins text mid bound (record { at = more; count = first.count; depth = p.depth; to = p.to + first.size }) 0 2
 next_begins names pre b one goes_on = record {
   short = pre.short;
@@ -177,11 +175,10 @@ next_begins names pre b one goes_on = record {
 }
 
 -- The first one is read, and another may follow.
-module _ (names : List Name) {text pairs code mid mid-code : List ℕ} {p : Place} {write : Bool} {first : ParametersRead} {x : Name} {most : ℕ}
+module _ (names : List Name) {text pairs code mid mid-code : List ℕ} {p : Place} {first : ParametersRead} {x : Name} {most : ℕ}
     (k : ℕ) (some_left : most ≡ suc k)
     (named : name (drop p.at text) ≡ given x (drop first.end text))
-    (one : ParametersGiven 1 3 text pairs code p write mid mid-code first (parameter_named names x ∷ []))
-    (dry : write ≡ false → mid-code ≡ code) where
+    (one : ParametersGiven 1 3 text pairs code p mid mid-code first (parameter_named names x ∷ [])) where
   follows : parameters_from names most (drop p.at text)
       ≡ followed_by (later_parameters names (suc k) (drop first.end text)) (λ ps. yield (parameter_named names x ∷ ps))
   follows = rw some_left (from_first names (suc k) x _ _ named)
@@ -189,12 +186,12 @@ module _ (names : List Name) {text pairs code mid mid-code : List ℕ} {p : Plac
   -- none does
   module _ (no_more : expect (utf8 ", ") (drop first.end text) ≡ None) where
     pub first_open : expect (utf8 ")") (drop first.end text) ≡ None
-        → ParametersAnswer (parameters_from names most (drop p.at text)) most 1 text pairs code p write mid mid-code None
+        → ParametersAnswer (parameters_from names most (drop p.at text)) most 1 text pairs code p mid mid-code None
     unfolding followed_by
-    first_open e = record { answer = rw (follows, later_not names k _ no_more e) (gives_none _); dry = dry }
+    first_open e = record { answer = rw (follows, later_not names k _ no_more e) (gives_none _) }
 
     pub first_alone : {last : ℕ} → Expected (utf8 ")") text first.end last
-        → ParametersAnswer (parameters_from names most (drop p.at text)) most 1 text pairs code p write mid mid-code
+        → ParametersAnswer (parameters_from names most (drop p.at text)) most 1 text pairs code p mid mid-code
         (Some (record { end = last; parameters = first.parameters; count = first.count; size = first.size }))
     unfolding followed_by yield
     first_alone {last} ends = record {
@@ -212,7 +209,6 @@ module _ (names : List Name) {text pairs code mid mid-code : List ℕ} {p : Plac
           small = omega (arith, one.small, ends.after);
         },
       );
-      dry = dry;
     }
 
   -- others do
@@ -220,7 +216,7 @@ module _ (names : List Name) {text pairs code mid mid-code : List ℕ} {p : Plac
     abbrev Others : List ℕ → List ℕ → Option ParametersRead → Type 0
     Others after after-code found =
         ParametersAnswer (parameters_from names k (drop more text)) k 1 text mid mid-code
-        (record { at = more; count = first.count; depth = p.depth; to = p.to + first.size }) write after after-code found
+        (record { at = more; count = first.count; depth = p.depth; to = p.to + first.size }) after after-code found
 
     follows_more : parameters_from names most (drop p.at text)
         ≡ followed_by (parameters_from names k (drop more text)) (λ ps. yield (parameter_named names x ∷ ps))
@@ -229,7 +225,7 @@ module _ (names : List Name) {text pairs code mid mid-code : List ℕ} {p : Plac
     seen_then : table_names mid text first.count ≡ added (table_names pairs text p.count) (x ∷ [])
     seen_then = rw (parameter_name_lem names x) at one.noted.names
 
-    pub rest_not : {after after-code : List ℕ} → Others after after-code None → ParametersAnswer (parameters_from names most (drop p.at text)) most 1 text pairs code p write after after-code None
+    pub rest_not : {after after-code : List ℕ} → Others after after-code None → ParametersAnswer (parameters_from names most (drop p.at text)) most 1 text pairs code p after after-code None
     rest_not others = record {
       answer =
           rw follows_more
@@ -237,12 +233,11 @@ module _ (names : List Name) {text pairs code mid mid-code : List ℕ} {p : Plac
           gives_yield _ (parameter_named names x ∷ ps) u
           (rw (parameter_name_lem names x)
           (crowded_second (table_names pairs text p.count) (x ∷ []) (map parameter_name ps) (rw seen_then at i))));
-      dry = λ e. others.dry e ∙ dry e;
     }
 
     joined_code : {after after-code : List ℕ} {rest : ParametersRead} (ps : List (PropParameter Name))
-        → ParametersGiven k 1 text mid mid-code (record { at = more; count = first.count; depth = p.depth; to = p.to + first.size }) write after after-code rest ps
-        → after-code ≡ puts write code p.to (parameter_code (table_names after text rest.count) (parameter_named names x ∷ ps))
+        → ParametersGiven k 1 text mid mid-code (record { at = more; count = first.count; depth = p.depth; to = p.to + first.size }) after after-code rest ps
+        → after-code ≡ sets code p.to (parameter_code (table_names after text rest.count) (parameter_named names x ∷ ps))
     joined_code {after} {after-code} {rest} ps given =
         let p₁ = parameter_named names x in
         let seen₁ = table_names mid text first.count in
@@ -251,12 +246,12 @@ module _ (names : List Name) {text pairs code mid mid-code : List ℕ} {p : Plac
         rw one.noted.names (added_meets (table_names pairs text p.count) (map parameter_name (p₁ ∷ []))) in
         let kept : parameter_code seen₂ (p₁ ∷ []) ≡ parameter_code seen₁ (p₁ ∷ []) =
         rw given.noted.names (parameter_code_kept seen₁ (map parameter_name ps) (p₁ ∷ []) met) in
-        stored_then write code p.to (parameter_code seen₁ (p₁ ∷ [])) (parameter_code seen₂ ps) one.stored
+        stored_then code p.to (parameter_code seen₁ (p₁ ∷ [])) (parameter_code seen₂ ps) one.stored
         (one.size_is ∙ sym (parameter_code_length seen₁ (p₁ ∷ []))) given.stored
-        ∙ ap (puts write code p.to) (ap (λ l. l ++ parameter_code seen₂ ps) (sym kept) ∙ sym (parameters_code seen₂ p₁ ps))
+        ∙ ap (sets code p.to) (ap (λ l. l ++ parameter_code seen₂ ps) (sym kept) ∙ sym (parameters_code seen₂ p₁ ps))
 
     pub rest_given : {after after-code : List ℕ} {rest : ParametersRead} → Others after after-code (Some rest)
-        → ParametersAnswer (parameters_from names most (drop p.at text)) most 1 text pairs code p write after after-code
+        → ParametersAnswer (parameters_from names most (drop p.at text)) most 1 text pairs code p after after-code
         (Some (record { end = rest.end; parameters = 1 + rest.parameters; count = rest.count; size = first.size + rest.size }))
     unfolding followed_by yield
     rest_given {rest} others =
@@ -276,5 +271,4 @@ module _ (names : List Name) {text pairs code mid mid-code : List ℕ} {p : Plac
               small = omega (arith, one.small, goes_on.after, given.small);
             },
           );
-          dry = λ e. others.dry e ∙ dry e;
         }

@@ -1,29 +1,16 @@
 -- Code that is stored, part by part.
 use Prim.Native.Nat.{ℕ, suc, ◌+◌, ◌<◌}
 use mathlib.Core.Path.{◌≡◌, refl, ap, ◌∙◌}
-use mathlib.Core.Bool.{Bool, true, false}
 use mathlib.Core.List.{List, [], ◌∷◌, ◌++◌}
 use native.Mathlib.Omega.{arith}
 use lib.ListN.{length, set}
 use lib.Seq.{sets, set_comm}
-use Rattle.output.specs.Wrote.{puts}
-use Rattle.prop_parts.proofs.Stored.{puts_then}
-
--- a dry run leaves the memory as it was
-pub puts_dry : (write : Bool) (l : List ℕ) (to : ℕ) (s : List ℕ) → write ≡ false → puts write l to s ≡ l
-unfolding puts
-puts_dry write l to s e = rw e refl
-
--- nothing is stored
-pub puts_nothing : (write : Bool) (l : List ℕ) (to : ℕ) → puts write l to [] ≡ l
-unfolding puts
-puts_nothing true l to = refl
-puts_nothing false l to = refl
+use Rattle.output.proofs.Writing.{sets_append}
 
 -- a text is stored and then another after it
-pub stored_then : (write : Bool) (l : List ℕ) (to : ℕ) {mid after : List ℕ} {n : ℕ} (s t : List ℕ) → mid ≡ puts write l to s → n ≡ length s → after ≡ puts write mid (to + n) t
-    → after ≡ puts write l to (s ++ t)
-stored_then write l to s t first e second = rw (second, e, first) (puts_then write l to s t)
+pub stored_then : (l : List ℕ) (to : ℕ) {mid after : List ℕ} {n : ℕ} (s t : List ℕ) → mid ≡ sets l to s → n ≡ length s → after ≡ sets mid (to + n) t
+    → after ≡ sets l to (s ++ t)
+stored_then l to s t first e second = rw (second, e, first) (sets_append l to s t)
 
 -- a store before a run of stores
 pub set_sets : (l : List ℕ) (i j a : ℕ) (s : List ℕ) → i < j → set (sets l j s) i a ≡ sets (set l i a) j s
@@ -31,14 +18,9 @@ set_sets l i j a [] h = refl
 set_sets l i j a (b ∷ s) h = set_sets (set l j b) i (suc j) a s (omega arith) ∙ ap (λ m. sets m (suc j) s) (set_comm l j i b a (λ e. absurd (omega arith)))
 
 -- to store a text after another's place, and then that one, is to store both
-sets_front : (s l : List ℕ) (to : ℕ) (t : List ℕ) → sets (sets l (to + length s) t) to s ≡ sets l to (s ++ t)
+pub sets_front : (s l : List ℕ) (to : ℕ) (t : List ℕ) → sets (sets l (to + length s) t) to s ≡ sets l to (s ++ t)
 sets_front [] l to t = ap (λ k. sets l k t) (omega arith)
 sets_front (a ∷ s) l to t =
     let later : to + length (a ∷ s) ≡ suc to + length s = omega arith in
     ap (λ m. sets m (suc to) s) (set_sets l to (to + length (a ∷ s)) a t (omega arith))
     ∙ rw later (sets_front s (set l to a) (suc to) t)
-
-pub puts_front : (write : Bool) (l : List ℕ) (to : ℕ) (s t : List ℕ) → puts write (puts write l (to + length s) t) to s ≡ puts write l to (s ++ t)
-unfolding puts
-puts_front true l to s t = sets_front s l to t
-puts_front false l to s t = refl

@@ -1,13 +1,13 @@
 // An atom of a label: its name and its parameters, read from strict text into prefix code. A reader gives what it read, or none where
-// it does not stand there or there are too many names. Names are noted in any case; code is stored only where `write` says so, a flag
-// for the reason that prop_parts gives.
+// it does not stand there or there are too many names. Names are noted in any case; of the code, what does not fit is dropped, as
+// prop_parts says.
 #![tactic(auto)]
 
 ghost use Rattle.std.specs.Prelude.{◌≡◌, List, ◌<◌, length, drop};
 ghost use Rattle.definitions.specs.Name.{Name};
 ghost use Rattle.definitions.specs.Code.{parameter_limit};
 ghost use Rattle.definitions.specs.TermReader.{parameters_of};
-ghost use Rattle.output.specs.Wrote.{puts};
+ghost use Rattle.std.proofs.lemmas.List.Edits.{sets};
 ghost use Rattle.words.specs.Places.{between};
 ghost use Rattle.words.specs.Table.{table_names, NamePlace};
 ghost use Rattle.atom_reader.specs.Scope.{Binds};
@@ -59,17 +59,16 @@ fn read_parameter(
     bound: &[u16],
     code: &mut [u8],
     p: Place,
-    write: bool,
 ) -> Option<ParametersRead>
     requires { Begins text.now names.old bound.now p 0 2 }
     ensures { (ns : List Name) →
         Binds ns (table_names names.old text.now p.count) bound.now p.depth →
-        ParameterAnswer ns text.now names.old code.old p write
+        ParameterAnswer ns text.now names.old code.old p
         names.new code.new result }
 {
     let name = read_name(text, p.at, names, p.count)?;
     let kind = parameter_kind(&bound[..p.depth], name.number);
-    let size = put_parameter(code, p.to, name.number, kind, write);
+    let size = put_parameter(code, p.to, name.number, kind);
     Some(ParametersRead {
         end: name.end,
         parameters: 1,
@@ -86,19 +85,18 @@ fn read_parameters(
     code: &mut [u8],
     p: Place,
     most: usize,
-    write: bool,
 ) -> Option<ParametersRead>
     requires { Begins text.now names.old bound.now p 0 2 }
     ensures { (ns : List Name) →
         Binds ns (table_names names.old text.now p.count) bound.now p.depth →
         ParametersAnswer (parameters_from ns most (drop p.at text.now)) most 1
-        text.now names.old code.old p write
+        text.now names.old code.old p
         names.new code.new result }
 {
     if most == 0 {
         return None;
     }
-    let first = read_parameter(text, names, bound, code, p, write)?;
+    let first = read_parameter(text, names, bound, code, p)?;
     let Some(more) = expect(text, first.end, b", ") else {
         let end = expect(text, first.end, b")")?;
         return Some(ParametersRead { end, ..first });
@@ -109,7 +107,7 @@ fn read_parameters(
         depth: p.depth,
         to: p.to + first.size,
     };
-    let rest = read_parameters(text, names, bound, code, place, most - 1, write)?;
+    let rest = read_parameters(text, names, bound, code, place, most - 1)?;
     Some(ParametersRead {
         end: rest.end,
         parameters: 1 + rest.parameters,
@@ -125,13 +123,12 @@ fn atom_parameters(
     bound: &[u16],
     code: &mut [u8],
     p: Place,
-    write: bool,
 ) -> Option<ParametersRead>
     requires { Begins text.now names.old bound.now p 0 2 }
     ensures { (ns : List Name) →
         Binds ns (table_names names.old text.now p.count) bound.now p.depth →
         ParametersAnswer (parameters_of ns (drop p.at text.now)) parameter_limit 0
-        text.now names.old code.old p write
+        text.now names.old code.old p
         names.new code.new result }
 {
     let Some(open) = expect(text, p.at, b"(") else {
@@ -143,25 +140,18 @@ fn atom_parameters(
         });
     };
     let place = Place { at: open, ..p };
-    read_parameters(
-        text,
-        names,
-        bound,
-        code,
-        place,
-        PARAMETER_LIMIT as usize,
-        write,
-    )
+    read_parameters(text, names, bound, code, place, PARAMETER_LIMIT as usize)
 }
 
 // What stands in the code of an atom before its parameters.
-fn put_atom(code: &mut [u8], to: usize, number: usize, parameters: usize, write: bool)
+#[tactic(auto, unfolding(crate::specs::Reading::atom_head, definitions::specs::Code::u16))]
+fn put_atom(code: &mut [u8], to: usize, number: usize, parameters: usize)
     requires { (to < 200000) × (number < 65536) × (parameters < 256) }
-    ensures { code.new ≡ puts write code.old to (atom_head number parameters) }
+    ensures { code.new ≡ sets code.old to (atom_head number parameters) }
 {
-    put(code, to, ATOM, write);
-    put_u16(code, to + 1, number, write);
-    put(code, to + 3, parameters as u8, write);
+    put(code, to, ATOM);
+    put_u16(code, to + 1, number);
+    put(code, to + 3, parameters as u8);
 }
 
 // An atom whose name ends at `end`.
@@ -172,13 +162,12 @@ pub fn read_atom(
     code: &mut [u8],
     p: Place,
     end: usize,
-    write: bool,
 ) -> Option<PropRead>
     requires { Begins text.now names.old bound.now p 0 0 × NamePlace text.now p.at end }
     ensures { (ns : List Name) →
         Binds ns (table_names names.old text.now p.count) bound.now p.depth →
         PropAnswer (atom_from ns (between p.at end text.now) (drop end text.now))
-        text.now names.old bound.now code.old p write
+        text.now names.old bound.now code.old p
         names.new bound.now code.new result }
 {
     let found = number_of_name(text, p.at, end, names, p.count)?;
@@ -188,8 +177,8 @@ pub fn read_atom(
         depth: p.depth,
         to: p.to + 4,
     };
-    let read = atom_parameters(text, names, bound, code, place, write)?;
-    put_atom(code, p.to, found.number, read.parameters, write);
+    let read = atom_parameters(text, names, bound, code, place)?;
+    put_atom(code, p.to, found.number, read.parameters);
     Some(PropRead {
         end: read.end,
         count: read.count,

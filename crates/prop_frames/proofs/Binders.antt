@@ -1,7 +1,7 @@
 -- What stands in front of a part is read: a bracket, a negation's sign, or a quantifier with its names.
 use Prim.Native.Nat.{ℕ, ◌+◌, ◌≤◌}
 use mathlib.Core.Path.{◌≡◌, refl, sym, ap, ◌∙◌}
-use mathlib.Core.Bool.{Bool, false}
+use mathlib.Core.Bool.{false}
 use Rattle.std.specs.Prelude.{Option, None, Some}
 use mathlib.Core.List.{List, [], ◌∷◌}
 use native.Mathlib.Omega.{arith}
@@ -9,12 +9,12 @@ use lib.ListN.{length, drop, set}
 use Rattle.definitions.specs.Utf8.{utf8}
 use Rattle.definitions.specs.Name.{Name}
 use Rattle.definitions.specs.Prop.{Prop, Quantified, Quantifier, quantifier_byte}
-use Rattle.definitions.specs.Code.{Read, Reading, yield, followed_by, ◌>>=◌, u16}
+use Rattle.definitions.specs.Code.{Read, Reading, yield, followed_by, ◌>>=◌}
 use Rattle.definitions.specs.TermText.{prop_names}
 use Rattle.definitions.specs.TermReader.{Shown, standing, name, expect, negation, bracket, binder, signed}
 use Rattle.definitions.proofs.Readings.{given}
 use Rattle.reading_laws.proofs.TermConventions.{gives_yield, gives_none, gives_then, gives_due}
-use Rattle.output.specs.Wrote.{puts}
+use Rattle.std.proofs.lemmas.List.Edits.{sets}
 use Rattle.words.specs.Places.{between, Expected}
 use Rattle.words.specs.Table.{added, number_in, table_names}
 use Rattle.words.proofs.Added.{noted_then}
@@ -25,7 +25,6 @@ use Rattle.prop_frames.specs.declared.BinderRead.{BinderRead}
 use Rattle.atom_reader.specs.Scope.{Met, Crowded, Binds}
 use Rattle.atom_reader.specs.Reading.{Begins}
 use Rattle.prop_frames.specs.Fronts.{negated, bracketed, quantified, front_names, front_code, front_bytes, part_least, part_bound, closing, binder_names, Binder, BinderLacks, BinderGiven, binder_code, FrontAnswer}
-use Rattle.atom_reader.proofs.Storing.{puts_nothing, puts_dry, stored_then}
 use Rattle.atom_reader.proofs.Scopes.{added_meets, binds_noted, bound_set, binds_one, crowded_first, crowded_second}
 use Rattle.atom_reader.proofs.Readings.{gives_from, gives_any}
 use Rattle.atom_reader.proofs.Atoms.{noted_none, number_later}
@@ -81,13 +80,6 @@ module _ {text pairs after : List ℕ} {at count : ℕ} {n : NameRead} (object :
         },
       )
 
--- their code, byte by byte
-pub binder_stored : (write : Bool) (l : List ℕ) (to head object datatype : ℕ) {one two three : List ℕ} → one ≡ puts write l to (head ∷ [])
-    → two ≡ puts write one (to + 1) (u16 object) → three ≡ puts write two (to + 3) (u16 datatype) → three ≡ puts write l to (binder_code head object datatype)
-unfolding binder_code u16
-binder_stored write l to head object datatype first second third =
-    stored_then write l to (head ∷ u16 object) (u16 datatype) (stored_then write l to (head ∷ []) (u16 object) first refl second) refl third
-
 -- a reading in two steps
 splits_on : {A B C : Type 0} (m : Option (Read A)) (f : A → Reading C) (f' : A → Reading B) (next : B → Reading C)
     → ((a : A) (s : List ℕ) → f a s ≡ followed_by (f' a s) next) → followed_by m f ≡ followed_by (followed_by m f') next
@@ -105,10 +97,10 @@ binder_splits part names q s =
     splits_on (name v) _ _ _ λ d w.
     splits_on (expect (utf8 ". ") w) _ _ _ λ u z. refl
 
-module _ {names : List Name} {text pairs bound code : List ℕ} {p : Place} {write : Bool}
+module _ {names : List Name} {text pairs bound code : List ℕ} {p : Place}
     (b : Binds names (table_names pairs text p.count) bound p.depth) (pre : Begins text pairs bound p 1 0) where
   pub opens_bracket : {at : ℕ} → at ≡ p.at + sign_size bracket → at ≤ length text
-      → FrontAnswer bracket names text pairs bound code p write pairs bound code (Some (record { at = at; count = p.count; depth = p.depth; to = p.to }))
+      → FrontAnswer bracket names text pairs bound code p pairs bound code (Some (record { at = at; count = p.count; depth = p.depth; to = p.to }))
   unfolding signed ◌>>=◌ sign_size part_least part_bound front_names front_code front_bytes closing
   opens_bracket {at} e h = record {
     answer = (
@@ -118,7 +110,7 @@ module _ {names : List Name} {text pairs bound code : List ℕ} {p : Place} {wri
         reads = λ part. rw e refl;
         sign_is = refl;
         noted = noted_none pre.table;
-        stored = sym (puts_nothing write code p.to);
+        stored = refl;
         to_is = omega arith;
         binds = b;
         depth = omega arith;
@@ -128,11 +120,10 @@ module _ {names : List Name} {text pairs bound code : List ℕ} {p : Place} {wri
       },
     );
     bound_kept = refl;
-    dry = λ l. refl;
   }
 
-  pub opens_negation : {at : ℕ} {after : List ℕ} → at ≡ p.at + sign_size negation → at ≤ length text → after ≡ puts write code p.to (4 ∷ [])
-      → FrontAnswer negation names text pairs bound code p write pairs bound after (Some (record { at = at; count = p.count; depth = p.depth; to = p.to + 1 }))
+  pub opens_negation : {at : ℕ} {after : List ℕ} → at ≡ p.at + sign_size negation → at ≤ length text → after ≡ sets code p.to (4 ∷ [])
+      → FrontAnswer negation names text pairs bound code p pairs bound after (Some (record { at = at; count = p.count; depth = p.depth; to = p.to + 1 }))
   unfolding signed ◌>>=◌ sign_size part_least part_bound front_names front_code front_bytes closing
   opens_negation {at} e h stored = record {
     answer = (
@@ -152,11 +143,10 @@ module _ {names : List Name} {text pairs bound code : List ℕ} {p : Place} {wri
       },
     );
     bound_kept = refl;
-    dry = λ l. stored ∙ puts_dry write code p.to (4 ∷ []) l;
   }
 
   module _ (q : Quantifier) {at : ℕ} (after : List ℕ) (e : at ≡ p.at + sign_size (binder q)) where
-    pub opens_not : BinderLacks text at pairs p.count → FrontAnswer (binder q) names text pairs bound code p write after bound code None
+    pub opens_not : BinderLacks text at pairs p.count → FrontAnswer (binder q) names text pairs bound code p after bound code None
     unfolding closing prop_names standing
     opens_not lacks = record {
       answer = λ part.
@@ -167,12 +157,11 @@ module _ {names : List Name} {text pairs bound code : List ℕ} {p : Place} {wri
           gives_yield _ (standing false (Quantified q d.object d.datatype r.shown)) u
           (crowded_first (table_names pairs text p.count) (d.object ∷ d.datatype ∷ []) (prop_names r.shown) f));
       bound_kept = refl;
-      dry = λ l. refl;
     }
 
     pub opens_quantifier : {read : BinderRead} {code' : List ℕ} (d : Binder) → BinderGiven text at pairs p.count after read d
-        → code' ≡ puts write code p.to (binder_code (quantifier_byte q) read.object read.datatype)
-        → FrontAnswer (binder q) names text pairs bound code p write after (set bound p.depth read.object) code'
+        → code' ≡ sets code p.to (binder_code (quantifier_byte q) read.object read.datatype)
+        → FrontAnswer (binder q) names text pairs bound code p after (set bound p.depth read.object) code'
         (Some (record { at = read.end; count = read.count; depth = p.depth + 1; to = p.to + 5 }))
     unfolding sign_size part_least part_bound front_names front_code front_bytes followed_by binder_code Met
     opens_quantifier {read} d given stored = record {
@@ -195,5 +184,4 @@ module _ {names : List Name} {text pairs bound code : List ℕ} {p : Place} {wri
         },
       );
       bound_kept = bound_set bound p.depth read.object p.depth (omega arith);
-      dry = λ l. stored ∙ puts_dry write code p.to _ l;
     }

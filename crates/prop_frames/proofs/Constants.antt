@@ -1,6 +1,6 @@
 -- ⊤ and ⊥ are read.
 use Prim.Native.Nat.{ℕ, ◌+◌, ◌≤◌}
-use mathlib.Core.Path.{◌≡◌, refl, ◌∙◌}
+use mathlib.Core.Path.{◌≡◌, refl}
 use mathlib.Core.Bool.{Bool, true, false}
 use mathlib.Core.List.{List, [], ◌∷◌}
 use Rattle.std.specs.Prelude.{Some}
@@ -12,7 +12,7 @@ use Rattle.definitions.specs.Code.{yield, encode}
 use Rattle.definitions.specs.TermText.{prop_names, code_bytes}
 use Rattle.definitions.specs.Display.{precedence}
 use Rattle.definitions.specs.TermReader.{signed}
-use Rattle.output.specs.Wrote.{puts}
+use Rattle.std.proofs.lemmas.List.Edits.{sets}
 use Rattle.words.specs.Table.{Table}
 use denote.Enum.Bare.{sameb}
 use Rattle.prop_parts.specs.contracts.Constant.{the_type}
@@ -21,7 +21,6 @@ use Rattle.prop_parts.specs.declared.Constant.TheVariants.{Top, Bottom}
 use Rattle.prop_parts.specs.Found.{constant_byte, constant_sign}
 use Rattle.atom_reader.specs.declared.Place.{Place}
 use Rattle.atom_reader.specs.Reading.{code_over, PropAnswer}
-use Rattle.atom_reader.proofs.Storing.{puts_dry}
 use Rattle.atom_reader.proofs.Atoms.{noted_none}
 use Rattle.prop_frames.specs.Fronts.{Part}
 
@@ -33,10 +32,10 @@ pub same_bottom : (c : Constant) → sameb the_type c Bottom ≡ is_bottom c
 same_bottom Top = refl
 same_bottom Bottom = refl
 
-module _ (part : Part) (names : List Name) {text pairs bound code after : List ℕ} {p : Place} {write : Bool} where
+module _ (part : Part) (names : List Name) {text pairs bound code after : List ℕ} {p : Place} where
   pub constant : (c : Constant) {n : ℕ} {t : Bool} → n ≡ constant_byte c → t ≡ is_bottom c → Table pairs text p.count → p.at + 3 ≤ length text
-      → after ≡ puts write code p.to (n ∷ [])
-      → PropAnswer (signed part names (constant_sign c) (drop (p.at + 3) text)) text pairs bound code p write pairs bound after
+      → after ≡ sets code p.to (n ∷ [])
+      → PropAnswer (signed part names (constant_sign c) (drop (p.at + 3) text)) text pairs bound code p pairs bound after
       (Some (record { end = p.at + 3; count = p.count; size = 1; nesting = 1; strength = 999; bottom = t; own = false }))
   unfolding signed yield prop_names code_over encode rename_prop code_bytes nesting precedence is_false constant_byte
   constant Top e f table h stored = record {
@@ -53,7 +52,6 @@ module _ (part : Part) (names : List Name) {text pairs bound code after : List �
       },
     );
     bound_kept = refl;
-    dry = λ k. stored ∙ puts_dry write code p.to _ k;
   }
   constant Bottom e f table h stored = record {
     answer = (
@@ -69,5 +67,4 @@ module _ (part : Part) (names : List Name) {text pairs bound code after : List �
       },
     );
     bound_kept = refl;
-    dry = λ k. stored ∙ puts_dry write code p.to _ k;
   }

@@ -13,7 +13,7 @@ use Rattle.definitions.specs.Prop.{Prop, False, Binary, Quantified, impl, is_fal
 use Rattle.definitions.specs.Code.{Reading, yield, followed_by, ◌>>=◌}
 use Rattle.definitions.specs.Display.{is_negation, precedence}
 use Rattle.definitions.specs.TermReader.{standing, same, due, expect, negation, bracket, binder}
-use Rattle.output.specs.Wrote.{puts}
+use Rattle.std.proofs.lemmas.List.Edits.{sets}
 use Rattle.words.specs.Places.{Expected}
 use Rattle.atom_reader.specs.declared.PropRead.{PropRead}
 use Rattle.atom_reader.specs.Reading.{Measured}
@@ -22,7 +22,6 @@ use Rattle.prop_parts.specs.declared.Opening.TheVariants.{Negation, Bracket, Bin
 use Rattle.prop_parts.specs.Found.{opening_sign}
 use Rattle.prop_frames.specs.Fronts.{Front, negated, bracketed, quantified, front_sign, part_least, back_code, around, closing, enclosed, Closes}
 use Rattle.atom_reader.proofs.Readings.{follows_none}
-use Rattle.atom_reader.proofs.Storing.{puts_dry, puts_nothing}
 use Rattle.atom_reader.proofs.Sizes.{nests, negation_bytes, quantified_bytes}
 
 -- a front by its sign
@@ -77,23 +76,23 @@ module _ {q : Prop Name} {part : PropRead} (m : Measured part q) where
     bottom_is = refl;
   }
 
-module _ {q : Prop Name} {text code : List ℕ} {to : ℕ} {write : Bool} {part : PropRead} where
+module _ {q : Prop Name} {text code : List ℕ} {to : ℕ} {part : PropRead} where
   -- the whole does not stand there
-  pub closes_not : {f : Front} → closing f (standing part.own q) (drop part.end text) ≡ None → Closes f q text code to write part code None
-  closes_not e = record { answer = e; dry = λ k. refl }
+  pub closes_not : {f : Front} → closing f (standing part.own q) (drop part.end text) ≡ None → Closes f q text code to part code None
+  closes_not e = record { answer = e }
 
-module _ {q : Prop Name} {text code : List ℕ} {to : ℕ} {write : Bool} {part : PropRead} (m : Measured part q) where
-  pub closes_bracket_not : part.own ≡ true → Closes bracketed q text code to write part code None
+module _ {q : Prop Name} {text code : List ℕ} {to : ℕ} {part : PropRead} (m : Measured part q) where
+  pub closes_bracket_not : part.own ≡ true → Closes bracketed q text code to part code None
   unfolding closing standing ◌>>=◌ same
   closes_bracket_not e =
       closes_not (follows_none (expect (utf8 ")") (drop part.end text)) _ (λ u s. due_not part.own false _ s (rw e refl)))
 
-  pub closes_bracket_open : expect (utf8 ")") (drop part.end text) ≡ None → Closes bracketed q text code to write part code None
+  pub closes_bracket_open : expect (utf8 ")") (drop part.end text) ≡ None → Closes bracketed q text code to part code None
   unfolding closing ◌>>=◌ followed_by
   closes_bracket_open e = closes_not (rw e refl)
 
   pub closes_bracket : {end : ℕ} → part.own ≡ false → Expected (utf8 ")") text part.end end
-      → Closes bracketed q text code to write part code
+      → Closes bracketed q text code to part code
       (Some (record { end = end; count = part.count; size = part.size; nesting = part.nesting; strength = part.strength; bottom = part.bottom; own = true }))
   unfolding closing standing ◌>>=◌ followed_by around back_code due same yield
   closes_bracket e x = record {
@@ -101,19 +100,18 @@ module _ {q : Prop Name} {text code : List ℕ} {to : ℕ} {write : Bool} {part 
       within = x.within;
       reads = rw (x.reads, e) refl;
       measured = record { size_is = m.size_is; nesting_is = m.nesting_is; strength_is = m.strength_is; bottom_is = m.bottom_is };
-      stored = sym (puts_nothing write code _);
+      stored = refl;
       count_is = refl;
       from = omega (arith, x.after);
     };
-    dry = λ h. refl;
   }
 
-  pub closes_negation_not : {t : Bool} → t ≡ same part.own (ltb part.strength 999) → t ≡ false → Closes negated q text code to write part code None
+  pub closes_negation_not : {t : Bool} → t ≡ same part.own (ltb part.strength 999) → t ≡ false → Closes negated q text code to part code None
   unfolding closing standing
   closes_negation_not a e = closes_not (due_not _ _ _ _ (rw m.strength_is at (sym a ∙ e)))
 
   pub closes_negation : {t : Bool} {after : List ℕ} → t ≡ same part.own (ltb part.strength 999) → t ≡ true → part.end ≤ length text
-      → after ≡ puts write code (to + part.size) (1 ∷ []) → Closes negated q text code to write part after (Some (enclosed part 2 999))
+      → after ≡ sets code (to + part.size) (1 ∷ []) → Closes negated q text code to part after (Some (enclosed part 2 999))
   unfolding closing standing around back_code yield enclosed
   closes_negation a e h stored = record {
     answer = record {
@@ -124,17 +122,16 @@ module _ {q : Prop Name} {text code : List ℕ} {to : ℕ} {write : Bool} {part 
       count_is = refl;
       from = omega arith;
     };
-    dry = λ k. stored ∙ puts_dry write code (to + part.size) (1 ∷ []) k;
   }
 
-  pub closes_quantifier_not : (g : Quantifier) (f : Front) → binder g ≡ front_sign f → part.own ≡ true → Closes f q text code to write part code None
+  pub closes_quantifier_not : (g : Quantifier) (f : Front) → binder g ≡ front_sign f → part.own ≡ true → Closes f q text code to part code None
   unfolding closing standing same
   closes_quantifier_not g negated e o = cc
   closes_quantifier_not g bracketed e o = cc
   closes_quantifier_not g (quantified h x t) e o = closes_not (due_not _ _ _ _ (rw o refl))
 
   pub closes_quantifier : (g : Quantifier) (f : Front) → binder g ≡ front_sign f → part.own ≡ false → part.end ≤ length text
-      → Closes f q text code to write part code (Some (enclosed part 5 1))
+      → Closes f q text code to part code (Some (enclosed part 5 1))
   unfolding closing standing same around back_code yield enclosed
   closes_quantifier g negated e o h = cc
   closes_quantifier g bracketed e o h = cc
@@ -143,11 +140,10 @@ module _ {q : Prop Name} {text code : List ℕ} {to : ℕ} {write : Bool} {part 
       within = h;
       reads = due_is _ _ _ _ (rw o refl);
       measured = quantifier_measured m k x t;
-      stored = sym (puts_nothing write code _);
+      stored = refl;
       count_is = refl;
       from = omega arith;
     };
-    dry = λ k. refl;
   }
 
 -- brackets stand exactly where they are due

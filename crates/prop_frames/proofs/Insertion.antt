@@ -1,7 +1,7 @@
 -- One byte is put in front of code that is stored.
 use Prim.Native.Nat.{ℕ, zero, suc, ◌+◌, ◌-◌, ◌≤◌, ◌<◌, min}
 use mathlib.Core.Path.{◌≡◌, refl, sym, ap, ◌∙◌}
-use mathlib.Core.Bool.{Bool, true, false}
+use mathlib.Core.Bool.{true}
 use mathlib.Core.Logic.{by_cases}
 use mathlib.Core.List.{List, [], ◌∷◌, ◌++◌, append_assoc}
 use native.Mathlib.Omega.{arith}
@@ -18,29 +18,21 @@ use Rattle.prop_frames.specs.Sides.{inserted}
 -- One byte is put in front: at each place stands what stood before it.
 module _ (l : List ℕ) (at carry : ℕ) where
   pub insert_step : (n : ℕ) → at < length l → 0 < n
-      → inserted true l at n carry ≡ inserted true (set l at carry) (at + 1) (n - 1) (get_or l at 0)
-  unfolding inserted puts
+      → inserted l at n carry ≡ inserted (set l at carry) (at + 1) (n - 1) (get_or l at 0)
+  unfolding inserted
   insert_step zero h k = absurd (omega arith)
   insert_step (suc m) h k =
       let less : suc m - 1 ≡ m = omega arith in
       let next : at + 1 ≡ suc at = omega arith in
       rw (less, next, drop-cons l at 0 h, drop-set-lt (suc at) l at carry (omega arith))
 
-  pub insert_past : (n : ℕ) → length l ≤ at → inserted true l at n carry ≡ l
-  unfolding inserted puts
+  pub insert_past : (n : ℕ) → length l ≤ at → inserted l at n carry ≡ l
+  unfolding inserted
   insert_past n h = sets_past l at (carry ∷ take n (drop at l)) h
 
-  pub insert_last : inserted true l at 0 carry ≡ set l at carry
-  unfolding inserted puts
+  pub insert_last : inserted l at 0 carry ≡ set l at carry
+  unfolding inserted
   insert_last = refl
-
-insert_dry : (l : List ℕ) (at n carry : ℕ) → inserted false l at n carry ≡ l
-unfolding inserted puts
-insert_dry l at n carry = refl
-
--- a dry run inserts nothing
-pub inserted_dry : (write : Bool) (l : List ℕ) (at n carry : ℕ) → write ≡ false → inserted write l at n carry ≡ l
-inserted_dry write l at n carry e = rw e (insert_dry l at n carry)
 
 -- What has room moves up by one, and the byte is stored in the place that is left.
 set_behind : (front rest : List ℕ) (z b : ℕ) → set (front ++ (z ∷ rest)) (length front) b ≡ front ++ (b ∷ rest)
@@ -55,24 +47,23 @@ module _ (l : List ℕ) (to b : ℕ) (inside : to < length l) where
       rw (next, take-suc l to 0 inside, append_assoc (take to l ++ (get_or l to 0 ∷ [])) t rest, append_assoc (take to l) (get_or l to 0 ∷ []) (t ++ rest))
       (rw here at (set_behind (take to l) (t ++ rest) (get_or l to 0) b))
 
-  moved_by : {write : Bool} {n : ℕ} {moved : List ℕ} (size k : ℕ) → write ≡ true → n ≡ k → suc k ≡ min (length l - to) (suc size)
-      → moved ≡ (take (to + 1) l ++ take n (drop to l)) ++ drop (to + 1 + n) l → set moved to b ≡ inserted write l to size b
+  moved_by : {n : ℕ} {moved : List ℕ} (size k : ℕ) → n ≡ k → suc k ≡ min (length l - to) (suc size)
+      → moved ≡ (take (to + 1) l ++ take n (drop to l)) ++ drop (to + 1 + n) l → set moved to b ≡ inserted l to size b
   unfolding inserted puts
-  moved_by size k w e room moves =
+  moved_by size k e room moves =
       let text = b ∷ take size (drop to l) in
       let cut : b ∷ take k (drop to l) ≡ take (suc k) text = ap (λ t. b ∷ t) (sym (take-take k size (drop to l) (omega arith))) in
       let sized : length (b ∷ take k (drop to l)) ≡ suc k = omega (arith, length-take k (drop to l), length-drop to l) in
       let behind : drop (to + 1 + k) l ≡ drop (suc k) (drop to l) =
       let sum : to + 1 + k ≡ to + suc k = omega arith in
       rw sum (sym (drop-drop (suc k) to l)) in
-      rw w
-      (fitting_part true l to text {fit = suc k} (omega (arith, length-take size (drop to l), length-drop to l))
+      fitting_part true l to text {fit = suc k} (omega (arith, length-take size (drop to l), length-drop to l))
       (rw (moves, e, first_stored (take k (drop to l)) (drop (to + 1 + k) l), behind)
-      (stored_part to (suc k) l (b ∷ take k (drop to l)) (sym sized) (omega arith) ∙ ap (puts true l to) cut)))
+      (stored_part to (suc k) l (b ∷ take k (drop to l)) (sym sized) (omega arith) ∙ ap (sets l to) cut))
 
-  pub moved_up : {write : Bool} {last : ℕ} {moved : List ℕ} (size : ℕ) → write ≡ true → last ≡ min (length l - 1) (to + size)
-      → moved ≡ copy_within l to last (to + 1) → set moved to b ≡ inserted write l to size b
-  moved_up {write} {last} size w e moves = moved_by size (last - to) w refl (omega arith) moves
+  pub moved_up : {last : ℕ} {moved : List ℕ} (size : ℕ) → last ≡ min (length l - 1) (to + size)
+      → moved ≡ copy_within l to last (to + 1) → set moved to b ≡ inserted l to size b
+  moved_up {last} size e moves = moved_by size (last - to) refl (omega arith) moves
 
 -- what stands before a run of stores
 get_d_sets : (l : List ℕ) (i j : ℕ) (s : List ℕ) → i < j → get_or (sets l j s) i 0 ≡ get_or l i 0
@@ -80,10 +71,10 @@ get_d_sets l i j [] h = refl
 get_d_sets l i j (b ∷ s) h = get_d_sets (set l j b) i (suc j) s (omega arith) ∙ get_or-set_other l j i b 0 (λ e. absurd (omega arith))
 
 -- to put a byte in front of what was stored is to store it with the byte in front
-insert_sets : (s l : List ℕ) (to b : ℕ) → inserted true (sets l to s) to (length s) b ≡ sets l to (b ∷ s)
+insert_sets : (s l : List ℕ) (to b : ℕ) → inserted (sets l to s) to (length s) b ≡ sets l to (b ∷ s)
 insert_sets [] l to b = insert_last l to b
 insert_sets (y ∷ s) l to b = by_cases (dec_le (length l) to)
-    (λ h. ap (λ m. inserted true m to (length (y ∷ s)) b) (sets_past l to (y ∷ s) h)
+    (λ h. ap (λ m. inserted m to (length (y ∷ s)) b) (sets_past l to (y ∷ s) h)
     ∙ (insert_past l to b (length (y ∷ s)) h ∙ sym (sets_past l to (b ∷ y ∷ s) h)))
     (λ h.
     let mid = sets (set l to y) (suc to) s in
@@ -96,8 +87,6 @@ insert_sets (y ∷ s) l to b = by_cases (dec_le (length l) to)
     insert_step mid to b (length (y ∷ s)) inside (omega arith)
     ∙ rw (less, next, byte, front) (insert_sets s (set l to b) (suc to) y))
 
-pub insert_stored : (write : Bool) (l : List ℕ) (to : ℕ) (s : List ℕ) (b size : ℕ) → size ≡ length s
-    → inserted write (puts write l to s) to size b ≡ puts write l to (b ∷ s)
-unfolding puts
-insert_stored true l to s b size e = rw e (insert_sets s l to b)
-insert_stored false l to s b size e = insert_dry l to size b
+pub insert_stored : (l : List ℕ) (to : ℕ) (s : List ℕ) (b size : ℕ) → size ≡ length s
+    → inserted (sets l to s) to size b ≡ sets l to (b ∷ s)
+insert_stored l to s b size e = rw e (insert_sets s l to b)

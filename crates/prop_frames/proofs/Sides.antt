@@ -18,7 +18,6 @@ use Rattle.prop_parts.specs.Found.{ConnectiveAt}
 use Rattle.atom_reader.specs.declared.PropRead.{PropRead}
 use Rattle.atom_reader.specs.Reading.{Measured}
 use Rattle.prop_frames.specs.Sides.{GoesOnAt, sides_agree, inserted, Joins}
-use Rattle.prop_frames.proofs.Insertion.{inserted_dry}
 use Rattle.atom_reader.proofs.Sizes.{binary_bytes}
 
 -- The connective at a place, if it binds strongly enough.
@@ -103,11 +102,11 @@ unfolding same
 not_same true e = sym e
 not_same false e = refl
 
-module _ {c : Connective} {p q : Prop Name} {text code after : List ℕ} {to : ℕ} {write : Bool} {left right : PropRead} (m : Measured left p) (n : Measured right q) where
+module _ {c : Connective} {p q : Prop Name} {text code after : List ℕ} {to : ℕ} {left right : PropRead} (m : Measured left p) (n : Measured right q) where
   pub joins_sides : {t : Bool} {deep strength : ℕ} → t ≡ sides_agree c (standing left.own p) (standing right.own q) → t ≡ true
-      → after ≡ inserted write code to (left.size + right.size) (connective_byte c)
+      → after ≡ inserted code to (left.size + right.size) (connective_byte c)
       → deep ≡ max left.nesting right.nesting → strength ≡ connective_precedence c
-      → Joins c p q text code to write left right after
+      → Joins c p q text code to left right after
       (Some (record { end = right.end; count = right.count; size = 1 + left.size + right.size; nesting = deep + 1; strength = strength; bottom = false; own = false }))
   unfolding nesting precedence is_false standing
   joins_sides {t} {deep} {strength} a e stored deeper strong =
@@ -126,5 +125,4 @@ module _ {c : Connective} {p q : Prop Name} {text code after : List ℕ} {to : �
           };
           stored = stored;
         };
-        dry = λ k. stored ∙ inserted_dry write code to _ _ k;
       }

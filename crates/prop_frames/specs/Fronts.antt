@@ -1,5 +1,5 @@
 -- What stands in front of a part and after it: a negation's sign, a bracket, a quantifier with its names.
-use Rattle.std.specs.Prelude.{ℕ, ◌+◌, ◌*◌, ◌<◌, ◌≤◌, ◌≡◌, Bool, true, false, List, [], ◌∷◌, ◌++◌, length, drop, ltb, None, Option, MatchOption}
+use Rattle.std.specs.Prelude.{ℕ, ◌+◌, ◌*◌, ◌<◌, ◌≤◌, ◌≡◌, true, false, List, [], ◌∷◌, ◌++◌, length, drop, ltb, None, Option, MatchOption}
 use Rattle.definitions.specs.Utf8.{utf8}
 use Rattle.definitions.specs.Name.{Name}
 use Rattle.definitions.specs.Prop.{Prop, False, Binary, Quantified, impl, Quantifier, quantifier_byte}
@@ -9,7 +9,7 @@ use Rattle.definitions.specs.TermText.{prop_names}
 use Rattle.definitions.specs.TermReader.{Shown, standing, due, expect, Sign, negation, bracket, binder, name, signed}
 use Rattle.definitions.proofs.Readings.{given}
 use Rattle.reading_laws.proofs.TermConventions.{Gives}
-use Rattle.output.specs.Wrote.{puts}
+use Rattle.std.proofs.lemmas.List.Edits.{sets}
 use Rattle.words.specs.Table.{number_in, table_names, Noted}
 use Rattle.prop_parts.specs.declared.Opening.{Opening}
 use Rattle.prop_parts.specs.Found.{bound_numbers, opening_sign, sign_size}
@@ -117,7 +117,7 @@ pub record FrontBegins (text pairs bound : List ℕ) (p : Place) (sign : Opening
 
 -- the front that was read from its sign on, and what became of the memory
 pub record FrontGiven
-    (g : Sign) (names : List Name) (text pairs bound code : List ℕ) (p : Place) (write : Bool) (after bound' code' : List ℕ) (r : Place) (f : Front)
+    (g : Sign) (names : List Name) (text pairs bound code : List ℕ) (p : Place) (after bound' code' : List ℕ) (r : Place) (f : Front)
     : Type 0 where
   pub within : r.at ≤ length text
   pub reads : (part : Part)
@@ -125,7 +125,7 @@ pub record FrontGiven
       ≡ followed_by (part (part_least f) (part_bound f names) (drop r.at text)) (closing f)
   pub sign_is : g ≡ front_sign f
   pub noted : Noted (front_names f) text pairs p.count after r.count
-  pub stored : code' ≡ puts write code p.to (front_code (table_names after text r.count) f)
+  pub stored : code' ≡ sets code p.to (front_code (table_names after text r.count) f)
   pub to_is : r.to ≡ p.to + front_bytes f
   pub binds : Binds (part_bound f names) (table_names after text r.count) bound' r.depth
   pub depth : r.depth ≤ p.depth + 1
@@ -135,13 +135,12 @@ pub record FrontGiven
 
 -- the answer of a reader of fronts; none where there is none, or too many names
 pub record FrontAnswer
-    (g : Sign) (names : List Name) (text pairs bound code : List ℕ) (p : Place) (write : Bool) (after bound' code' : List ℕ) (r : Option Place)
+    (g : Sign) (names : List Name) (text pairs bound code : List ℕ) (p : Place) (after bound' code' : List ℕ) (r : Option Place)
     : Type 0 where
   pub answer : MatchOption r ((part : Part)
       → Gives (signed part names g (drop (p.at + sign_size g) text)) (λ q rest. Crowded (table_names pairs text p.count) (prop_names q.shown)))
-      (λ r. (f : Front) × FrontGiven g names text pairs bound code p write after bound' code' r f)
+      (λ r. (f : Front) × FrontGiven g names text pairs bound code p after bound' code' r f)
   pub bound_kept : bound_numbers bound' p.depth ≡ bound_numbers bound p.depth
-  pub dry : write ≡ false → code' ≡ code
 
 -- a part may be closed: its end, and how large it is at most
 pub record Closable (text : List ℕ) (to : ℕ) (part : PropRead) : Type 0 where
@@ -163,15 +162,14 @@ enclosed part bytes strength =
     }
 
 -- the whole that is made of its part, and what became of the code
-pub record ClosedGiven (f : Front) (q : Prop Name) (text code : List ℕ) (to : ℕ) (write : Bool) (part : PropRead) (code' : List ℕ) (r : PropRead) : Type 0 where
+pub record ClosedGiven (f : Front) (q : Prop Name) (text code : List ℕ) (to : ℕ) (part : PropRead) (code' : List ℕ) (r : PropRead) : Type 0 where
   pub within : r.end ≤ length text
   pub reads : closing f (standing part.own q) (drop part.end text) ≡ given (standing r.own (around f q)) (drop r.end text)
   pub measured : Measured r (around f q)
-  pub stored : code' ≡ puts write code (to + part.size) (back_code f)
+  pub stored : code' ≡ sets code (to + part.size) (back_code f)
   pub count_is : r.count ≡ part.count
   pub from : part.end ≤ r.end
 
 -- the whole, or none where the part stands in other brackets than are due
-pub record Closes (f : Front) (q : Prop Name) (text code : List ℕ) (to : ℕ) (write : Bool) (part : PropRead) (code' : List ℕ) (r : Option PropRead) : Type 0 where
-  pub answer : MatchOption r (closing f (standing part.own q) (drop part.end text) ≡ None) (ClosedGiven f q text code to write part code')
-  pub dry : write ≡ false → code' ≡ code
+pub record Closes (f : Front) (q : Prop Name) (text code : List ℕ) (to : ℕ) (part : PropRead) (code' : List ℕ) (r : Option PropRead) : Type 0 where
+  pub answer : MatchOption r (closing f (standing part.own q) (drop part.end text) ≡ None) (ClosedGiven f q text code to part code')

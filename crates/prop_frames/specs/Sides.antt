@@ -5,7 +5,7 @@ use Rattle.definitions.specs.Prop.{Prop, Binary, Connective, connective_byte}
 use Rattle.definitions.specs.Display.{precedence, is_negation, wraps_left, wraps_right}
 use Rattle.definitions.specs.TermReader.{Shown, standing, same, goes_on}
 use Rattle.definitions.proofs.Readings.{given}
-use Rattle.output.specs.Wrote.{puts}
+use Rattle.std.proofs.lemmas.List.Edits.{sets}
 use Rattle.prefix_code.specs.declared.Connective as read
 use Rattle.prefix_code.specs.Shape.{meant}
 use Rattle.atom_reader.specs.declared.PropRead.{PropRead}
@@ -23,8 +23,8 @@ sides_agree c p q =
     && (same q.own (wraps_right c (precedence q.shown)) && same (is_negation c q.shown) false)
 
 -- the memory with one byte in front of so many from `to` on
-unfoldable pub inserted : Bool → List ℕ → ℕ → ℕ → ℕ → List ℕ
-inserted write l to size b = puts write l to (b ∷ take size (drop to l))
+unfoldable pub inserted : List ℕ → ℕ → ℕ → ℕ → List ℕ
+inserted l to size b = sets l to (b ∷ take size (drop to l))
 
 -- two sides may be joined: where the right one ends, and how large they are at most
 pub record Joinable (text : List ℕ) (to : ℕ) (left right : PropRead) : Type 0 where
@@ -35,16 +35,15 @@ pub record Joinable (text : List ℕ) (to : ℕ) (left right : PropRead) : Type 
 
 -- the whole that is made of two sides, and what became of the code
 pub record JoinedGiven
-    (c : Connective) (p q : Prop Name) (code : List ℕ) (to : ℕ) (write : Bool) (left right : PropRead) (code' : List ℕ) (r : PropRead) : Type 0 where
+    (c : Connective) (p q : Prop Name) (code : List ℕ) (to : ℕ) (left right : PropRead) (code' : List ℕ) (r : PropRead) : Type 0 where
   pub agrees : sides_agree c (standing left.own p) (standing right.own q) ≡ true
   pub end_is : r.end ≡ right.end
   pub own_is : r.own ≡ false
   pub count_is : r.count ≡ right.count
   pub measured : Measured r (Binary c p q)
-  pub stored : code' ≡ inserted write code to (left.size + right.size) (connective_byte c)
+  pub stored : code' ≡ inserted code to (left.size + right.size) (connective_byte c)
 
 -- the whole, or none where the sides do not agree with the connective
 pub record Joins
-    (c : Connective) (p q : Prop Name) (text code : List ℕ) (to : ℕ) (write : Bool) (left right : PropRead) (code' : List ℕ) (r : Option PropRead) : Type 0 where
-  pub answer : MatchOption r (sides_agree c (standing left.own p) (standing right.own q) ≡ false) (JoinedGiven c p q code to write left right code')
-  pub dry : write ≡ false → code' ≡ code
+    (c : Connective) (p q : Prop Name) (text code : List ℕ) (to : ℕ) (left right : PropRead) (code' : List ℕ) (r : Option PropRead) : Type 0 where
+  pub answer : MatchOption r (sides_agree c (standing left.own p) (standing right.own q) ≡ false) (JoinedGiven c p q code to left right code')

@@ -8,7 +8,7 @@ ghost use Rattle.definitions.specs.Name.{Name};
 ghost use Rattle.definitions.specs.Prop.{Prop, quantifier_byte};
 ghost use Rattle.definitions.specs.TermReader.{standing, same, signed, goes_on};
 ghost use Rattle.definitions.specs.TermText.{term_text_limit};
-ghost use Rattle.output.specs.Wrote.{puts};
+ghost use Rattle.std.proofs.lemmas.List.Edits.{sets};
 ghost use Rattle.words.specs.Table.{table_names, Table};
 ghost use Rattle.prefix_code.specs.Shape.{meant, quantifier_meant};
 ghost use Rattle.prop_parts.specs.Found.{constant_sign, opening_sign};
@@ -39,8 +39,8 @@ fn agree(own: bool, due: bool) -> bool
     own == due
 }
 
-// The readers are given `text`, `names`, `bound`, `code` and the place apart, as in atom_reader, and so is `write`. The names that
-// quantifiers bind fill the memory `bound` up to the place's depth: memory of fixed size has no push.
+// The readers are given `text`, `names`, `bound`, `code` and the place apart, as in atom_reader. The names that quantifiers bind fill
+// the memory `bound` up to the place's depth: memory of fixed size has no push.
 
 // The names of a quantifier, after its sign.
 fn binder_names(text: &[u8], at: usize, names: &mut [u8], count: usize) -> Option<BinderRead>
@@ -62,21 +62,15 @@ fn binder_names(text: &[u8], at: usize, names: &mut [u8], count: usize) -> Optio
 }
 
 // What stands in the code of a quantifier before its part.
-fn put_binder(
-    code: &mut [u8],
-    to: usize,
-    quantifier: Quantifier,
-    object: usize,
-    datatype: usize,
-    write: bool,
-)
+#[tactic(auto, unfolding(crate::specs::Fronts::binder_code, definitions::specs::Code::u16))]
+fn put_binder(code: &mut [u8], to: usize, quantifier: Quantifier, object: usize, datatype: usize)
     requires { (to < 200000) × (object < 65536) × (datatype < 65536) }
-    ensures { code.new ≡ puts write code.old to
+    ensures { code.new ≡ sets code.old to
         (binder_code (quantifier_byte (quantifier_meant quantifier)) object datatype) }
 {
-    put(code, to, quantifier.byte(), write);
-    put_u16(code, to + 1, object, write);
-    put_u16(code, to + 3, datatype, write);
+    put(code, to, quantifier.byte());
+    put_u16(code, to + 1, object);
+    put_u16(code, to + 3, datatype);
 }
 
 // What stands before a part: the sign at `p` and what belongs to it. Gives the place of the part.
@@ -87,12 +81,11 @@ pub fn open_front(
     code: &mut [u8],
     p: Place,
     sign: Opening,
-    write: bool,
 ) -> Option<Place>
     requires { FrontBegins text.now names.old bound.old p sign }
     ensures { (ns : List Name) →
         Binds ns (table_names names.old text.now p.count) bound.old p.depth →
-        FrontAnswer (opening_sign sign) ns text.now names.old bound.old code.old p write
+        FrontAnswer (opening_sign sign) ns text.now names.old bound.old code.old p
         names.new bound.new code.new result }
 {
     let to = p.to;
@@ -101,7 +94,7 @@ pub fn open_front(
     match sign {
         Opening::Bracket => Some(Place { at, ..p }),
         Opening::Negation => {
-            put(code, to, IMPL, write);
+            put(code, to, IMPL);
             Some(Place {
                 at,
                 to: to + 1,
@@ -110,7 +103,7 @@ pub fn open_front(
         }
         Opening::Binder(quantifier) => {
             let read = binder_names(text, at, names, p.count)?;
-            put_binder(code, to, quantifier, read.object, read.datatype, write);
+            put_binder(code, to, quantifier, read.object, read.datatype);
             bound[depth] = read.object as u16;
             Some(Place {
                 at: read.end,
@@ -155,11 +148,10 @@ pub fn close_prop(
     to: usize,
     sign: Opening,
     part: PropRead,
-    write: bool,
 ) -> Option<PropRead>
     requires { Closable text.now to part }
     ensures { (f : Front) (q : Prop Name) → opening_sign sign ≡ front_sign f → Measured part q →
-        Closes f q text.now code.old to write part code.new result }
+        Closes f q text.now code.old to part code.new result }
 {
     match sign {
         Opening::Bracket => {
@@ -177,7 +169,7 @@ pub fn close_prop(
             if !agree(part.own, part.strength < STRONGEST) {
                 return None;
             }
-            put(code, to + part.size, FALSE, write);
+            put(code, to + part.size, FALSE);
             Some(enclosing(part, 2, STRONGEST))
         }
         Opening::Binder(_) => {
@@ -190,19 +182,13 @@ pub fn close_prop(
 }
 
 // ⊤ or ⊥, whose sign stands at `p`.
-pub fn read_constant(
-    text: &[u8],
-    code: &mut [u8],
-    p: Place,
-    sign: Constant,
-    write: bool,
-) -> PropRead
+pub fn read_constant(text: &[u8], code: &mut [u8], p: Place, sign: Constant) -> PropRead
     requires { (p.at + 3 ≤ length text.now) × (p.to < 200000) × (length text.now ≤ term_text_limit) }
     ensures { (part : Part) (ns : List Name) (pairs bound : List ℕ) → Table pairs text.now p.count →
         PropAnswer (signed part ns (constant_sign sign) (drop (p.at + 3) text.now))
-        text.now pairs bound code.old p write pairs bound code.new (Some result) }
+        text.now pairs bound code.old p pairs bound code.new (Some result) }
 {
-    put(code, p.to, sign.byte(), write);
+    put(code, p.to, sign.byte());
     PropRead {
         end: p.at + CONSTANT_SIZE,
         count: p.count,
@@ -244,12 +230,12 @@ fn may_join(connective: Connective, left: PropRead, right: PropRead) -> bool
 }
 
 // Puts one byte in front of so many from `to` on, as far as there is room.
-#[tactic(auto, unfolding(crate::specs::Sides::inserted, output::specs::Wrote::puts))]
-fn insert(code: &mut [u8], to: usize, size: usize, b: u8, write: bool)
+#[tactic(auto, unfolding(crate::specs::Sides::inserted))]
+fn insert(code: &mut [u8], to: usize, size: usize, b: u8)
     requires { to + size < 200000 }
-    ensures { code.new ≡ inserted write code.old to size b }
+    ensures { code.new ≡ inserted code.old to size b }
 {
-    if write && to < code.len() {
+    if to < code.len() {
         let last = (code.len() - 1).min(to + size);
         code.copy_within(to..last, to + 1);
         code[to] = b;
@@ -264,16 +250,15 @@ pub fn join(
     connective: Connective,
     left: PropRead,
     right: PropRead,
-    write: bool,
 ) -> Option<PropRead>
     requires { Joinable text.now to left right }
     ensures { (p q : Prop Name) → Measured left p → Measured right q →
-        Joins (meant connective) p q text.now code.old to write left right code.new result }
+        Joins (meant connective) p q text.now code.old to left right code.new result }
 {
     if !may_join(connective, left, right) {
         return None;
     }
-    insert(code, to, left.size + right.size, connective.byte(), write);
+    insert(code, to, left.size + right.size, connective.byte());
     Some(PropRead {
         end: right.end,
         count: right.count,

@@ -7,7 +7,7 @@ use Rattle.definitions.specs.Code.{Read, encode_parameter}
 use Rattle.definitions.specs.TermReader as reader
 use Rattle.definitions.specs.TermReader.{connective, top, bottom, negation, bracket, binder, sign, name}
 use Rattle.definitions.proofs.Readings.{given}
-use Rattle.output.specs.Wrote.{puts}
+use Rattle.std.proofs.lemmas.List.Edits.{sets}
 use Rattle.words.specs.Places.{between}
 use Rattle.words.specs.Table.{add_name, number_in, table_names, TooMany, Noted}
 use Rattle.prop_parts.specs.declared.NameRead.{NameRead}
@@ -89,6 +89,6 @@ parameter_of kinds.Uninstantiated x = Uninstantiated x
 parameter_of kinds.Instantiated x = Instantiated x 0
 
 -- the code of a parameter is stored from `to` on, and has so many bytes
-pub record ParameterPut (kind : ParameterKind) (number : ℕ) (write : Bool) (before : List ℕ) (to : ℕ) (after : List ℕ) (size : ℕ) : Type 0 where
-  pub stored : after ≡ puts write before to (encode_parameter (parameter_of kind number))
+pub record ParameterPut (kind : ParameterKind) (number : ℕ) (before : List ℕ) (to : ℕ) (after : List ℕ) (size : ℕ) : Type 0 where
+  pub stored : after ≡ sets before to (encode_parameter (parameter_of kind number))
   pub size_is : size ≡ length (encode_parameter (parameter_of kind number))

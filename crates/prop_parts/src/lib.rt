@@ -1,6 +1,6 @@
 // The parts of a label's text and of its code: signs, connectives and names, and the bytes that stand for them.
-// Where `write` is false nothing is stored, and the answer is the same. Each reader promises this dry run to whoever calls it, so the
-// flag stays; and code may be put in front of code that is stored (prop_frames), which an output's sink, which only goes on, cannot do.
+// Code is stored at a place of lent memory: it may be put in front of code that is stored (prop_frames), which an output's sink, which
+// only goes on, cannot do. What does not fit is dropped, and an empty memory is lent where nothing is to be stored.
 #![tactic(auto)]
 
 ghost use Rattle.std.specs.Prelude.{◌≡◌, ◌≤◌, ◌<◌, [], ◌∷◌, length, drop, eqb, None, MatchOption};
@@ -8,7 +8,7 @@ ghost use Rattle.definitions.specs.Code.{u16};
 ghost use Rattle.definitions.specs.Text.{occurs};
 ghost use Rattle.definitions.specs.TermReader.{sign, connective};
 ghost use Rattle.definitions.specs.TermText.{term_text_limit};
-ghost use Rattle.output.specs.Wrote.{puts};
+ghost use Rattle.std.proofs.lemmas.List.Edits.{sets};
 ghost use Rattle.words.specs.Table.{Table};
 ghost use Rattle.prop_parts.specs.Found.{ConnectiveAt, constant_byte, opening_sign, sign_size, SignAt, NameLacks, NameGiven, bound_numbers, kind_of, ParameterPut};
 
@@ -140,29 +140,27 @@ pub fn read_name(text: &[u8], at: usize, names: &mut [u8], count: usize) -> Opti
 
 // Bytes of code from `to` on.
 #[tactic(auto, unfolding(output::specs::Wrote::puts))]
-fn store(code: &mut [u8], to: usize, bytes: &[u8], write: bool)
-    ensures { code.new ≡ puts write code.old to bytes.now }
+fn store(code: &mut [u8], to: usize, bytes: &[u8])
+    ensures { code.new ≡ sets code.old to bytes.now }
 {
-    if write {
-        let mut writer = Writer { out: code, to };
-        writer.put_all(bytes);
-    }
+    let mut writer = Writer { out: code, to };
+    writer.put_all(bytes);
 }
 
 // One byte.
-pub fn put(code: &mut [u8], to: usize, b: u8, write: bool)
-    ensures { code.new ≡ puts write code.old to (b ∷ []) }
+pub fn put(code: &mut [u8], to: usize, b: u8)
+    ensures { code.new ≡ sets code.old to (b ∷ []) }
 {
-    store(code, to, &[b], write);
+    store(code, to, &[b]);
 }
 
 // A number of two bytes, low byte first.
 #[tactic(auto, unfolding(definitions::specs::Code::u16))]
-pub fn put_u16(code: &mut [u8], to: usize, n: usize, write: bool)
+pub fn put_u16(code: &mut [u8], to: usize, n: usize)
     requires { n < 65536 }
-    ensures { code.new ≡ puts write code.old to (u16 n) }
+    ensures { code.new ≡ sets code.old to (u16 n) }
 {
-    store(code, to, &(n as u16).to_le_bytes(), write);
+    store(code, to, &(n as u16).to_le_bytes());
 }
 
 // The kind of a parameter whose name has this number, where quantifiers bind names of these numbers.
@@ -176,22 +174,17 @@ pub fn parameter_kind(bound: &[u16], number: usize) -> ParameterKind
 }
 
 // The code of a parameter, instantiated with id 0 where it is not bound. Gives its size.
-pub fn put_parameter(
-    code: &mut [u8],
-    to: usize,
-    number: usize,
-    kind: ParameterKind,
-    write: bool,
-) -> usize
+#[tactic(auto, unfolding(crate::specs::Found::parameter_of, definitions::specs::Code::encode_parameter, definitions::specs::Code::u16))]
+pub fn put_parameter(code: &mut [u8], to: usize, number: usize, kind: ParameterKind) -> usize
     requires { (to < 200000) × (number < 65536) }
-    ensures { ParameterPut kind number write code.old to code.new result }
+    ensures { ParameterPut kind number code.old to code.new result }
 {
-    put(code, to, kind.byte(), write);
-    put_u16(code, to + 1, number, write);
+    put(code, to, kind.byte());
+    put_u16(code, to + 1, number);
     match kind {
         ParameterKind::Uninstantiated => 3,
         ParameterKind::Instantiated => {
-            put_u16(code, to + 3, 0, write);
+            put_u16(code, to + 3, 0);
             5
         }
     }

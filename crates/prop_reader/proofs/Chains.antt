@@ -14,7 +14,7 @@ use Rattle.definitions.specs.Display.{precedence, is_negation, wraps_left, wraps
 use Rattle.definitions.specs.TermReader.{Shown, standing, same, due, if_read, goes_on, right_least, unit, joined, read_prop}
 use Rattle.definitions.proofs.Readings.{given}
 use Rattle.reading_laws.proofs.TermConventions.{Gives, gives_yield, gives_none, gives_then, gives_due, gives_if_read}
-use Rattle.output.specs.Wrote.{puts}
+use Rattle.std.proofs.lemmas.List.Edits.{sets}
 use Rattle.words.specs.Table.{added, table_names}
 use Rattle.words.proofs.Added.{noted_then}
 use Rattle.prop_parts.specs.Found.{bound_numbers}
@@ -84,19 +84,19 @@ unfolding code_over encode rename_prop
 binary_code seen c p q = refl
 
 -- the code of both sides, and then the connective in front
-chain_stored : (write : Bool) (l : List ℕ) (to : ℕ) (seen : List Name) (c : Connective) (p q : Prop Name) {m n : ℕ} {one two three : List ℕ}
-    → Met seen (prop_names p) → one ≡ puts write l to (code_over seen p) → m ≡ code_bytes p
-    → two ≡ puts write one (to + m) (code_over (added seen (prop_names q)) q) → n ≡ code_bytes q
-    → three ≡ inserted write two to (m + n) (connective_byte c) → three ≡ puts write l to (code_over (added seen (prop_names q)) (Binary c p q))
-chain_stored write l to seen c p q {m} {n} {one} {two} met first left second right third =
+chain_stored : (l : List ℕ) (to : ℕ) (seen : List Name) (c : Connective) (p q : Prop Name) {m n : ℕ} {one two three : List ℕ}
+    → Met seen (prop_names p) → one ≡ sets l to (code_over seen p) → m ≡ code_bytes p
+    → two ≡ sets one (to + m) (code_over (added seen (prop_names q)) q) → n ≡ code_bytes q
+    → three ≡ inserted two to (m + n) (connective_byte c) → three ≡ sets l to (code_over (added seen (prop_names q)) (Binary c p q))
+chain_stored l to seen c p q {m} {n} {one} {two} met first left second right third =
     let a = code_over seen p in
     let b = code_over (added seen (prop_names q)) q in
-    let both : two ≡ puts write l to (a ++ b) = stored_then write l to a b first (left ∙ sym (code_length_lem seen p)) second in
+    let both : two ≡ sets l to (a ++ b) = stored_then l to a b first (left ∙ sym (code_length_lem seen p)) second in
     let long : m + n ≡ length (a ++ b) = omega (arith, length-append a b, code_length_lem seen p, code_length_lem (added seen (prop_names q)) q) in
     third
-    ∙ (ap (λ k. inserted write k to (m + n) (connective_byte c)) both
-    ∙ (insert_stored write l to (a ++ b) (connective_byte c) (m + n) long
-    ∙ ap (λ k. puts write l to (connective_byte c ∷ (k ++ b))) (sym (code_kept seen (prop_names q) p met)) ∙ ap (puts write l to) (sym (binary_code (added seen (prop_names q)) c p q))))
+    ∙ (ap (λ k. inserted k to (m + n) (connective_byte c)) both
+    ∙ (insert_stored l to (a ++ b) (connective_byte c) (m + n) long
+    ∙ ap (λ k. sets l to (connective_byte c ∷ (k ++ b))) (sym (code_kept seen (prop_names q) p met)) ∙ ap (sets l to) (sym (binary_code (added seen (prop_names q)) c p q))))
 
 -- one level
 pub level : (levels least : ℕ) (names : List Name) (s : List ℕ) → (levels ≡ 0 → ⊥)
@@ -109,31 +109,29 @@ level (suc n) least names s h =
 
 -- the left side that was read so far, what is still to be read after it, and what became of the memory
 pub record Joining
-    (names : List Name) (text pairs bound code : List ℕ) (p : Place) (levels least : ℕ) (write : Bool) (after bound' code' : List ℕ) (left : PropRead) (most : ℕ)
+    (names : List Name) (text pairs bound code : List ℕ) (p : Place) (levels least : ℕ) (after bound' code' : List ℕ) (left : PropRead) (most : ℕ)
     : Type 0 where
   pub prop : Prop Name
   pub reads : read_prop levels least names (drop p.at text)
       ≡ joined (read_prop (levels - 1)) names most least (standing left.own prop) (drop left.end text)
-  pub read : PropGiven text pairs code p write after code' left prop
+  pub read : PropGiven text pairs code p after code' left prop
   pub bound_kept : bound_numbers bound' p.depth ≡ bound_numbers bound p.depth
-  pub dry : write ≡ false → code' ≡ code
 
 -- The first unit.
-module _ (names : List Name) {text pairs bound code after bound' code' : List ℕ} {p : Place} {levels : ℕ} (least : ℕ) {write : Bool}
+module _ (names : List Name) {text pairs bound code after bound' code' : List ℕ} {p : Place} {levels : ℕ} (least : ℕ)
     (deep : levels ≡ 0 → ⊥) where
-  pub unit_fails : PropAnswer (unit (read_prop (levels - 1)) names (drop p.at text)) text pairs bound code p write after bound' code' None
-      → PropAnswer (read_prop levels least names (drop p.at text)) text pairs bound code p write after bound' code' None
+  pub unit_fails : PropAnswer (unit (read_prop (levels - 1)) names (drop p.at text)) text pairs bound code p after bound' code' None
+      → PropAnswer (read_prop levels least names (drop p.at text)) text pairs bound code p after bound' code' None
   unit_fails answer = record {
     answer =
         rw (level levels least names (drop p.at text) deep)
         (gives_then _ _ (unit (read_prop (levels - 1)) names (drop p.at text)) _ answer.answer λ q t k.
         joined_crowded (read_prop (levels - 1)) names (table_names pairs text p.count) (levels - 1) least q t k);
     bound_kept = answer.bound_kept;
-    dry = answer.dry;
   }
 
-  pub joining_starts : {left : PropRead} → PropAnswer (unit (read_prop (levels - 1)) names (drop p.at text)) text pairs bound code p write after bound' code' (Some left)
-      → Joining names text pairs bound code p levels least write after bound' code' left (levels - 1)
+  pub joining_starts : {left : PropRead} → PropAnswer (unit (read_prop (levels - 1)) names (drop p.at text)) text pairs bound code p after bound' code' (Some left)
+      → Joining names text pairs bound code p levels least after bound' code' left (levels - 1)
   unfolding followed_by
   joining_starts answer =
       let (q, reads, read) = answer.answer in
@@ -142,27 +140,25 @@ module _ (names : List Name) {text pairs bound code after bound' code' : List �
         reads = level levels least names (drop p.at text) deep ∙ rw reads refl;
         read = read;
         bound_kept = answer.bound_kept;
-        dry = answer.dry;
       }
 
 -- Each turn.
-module _ {names : List Name} {text pairs bound code after bound' code' : List ℕ} {p : Place} {levels least : ℕ} {write : Bool} {left : PropRead} {most : ℕ}
-    (j : Joining names text pairs bound code p levels least write after bound' code' left most) where
+module _ {names : List Name} {text pairs bound code after bound' code' : List ℕ} {p : Place} {levels least : ℕ} {left : PropRead} {most : ℕ}
+    (j : Joining names text pairs bound code p levels least after bound' code' left most) where
   ends : read_prop levels least names (drop p.at text) ≡ given (standing left.own j.prop) (drop left.end text)
-      → PropAnswer (read_prop levels least names (drop p.at text)) text pairs bound code p write after bound' code' (Some left)
+      → PropAnswer (read_prop levels least names (drop p.at text)) text pairs bound code p after bound' code' (Some left)
   ends e = record {
     answer = (j.prop, e, j.read);
     bound_kept = j.bound_kept;
-    dry = j.dry;
   }
 
   -- no more connectives are read
-  pub joining_done : most ≡ 0 → PropAnswer (read_prop levels least names (drop p.at text)) text pairs bound code p write after bound' code' (Some left)
+  pub joining_done : most ≡ 0 → PropAnswer (read_prop levels least names (drop p.at text)) text pairs bound code p after bound' code' (Some left)
   unfolding joined yield
   joining_done e = ends (j.reads ∙ rw e refl)
 
   pub joining_ends : 0 < most → goes_on least (drop left.end text) ≡ None
-      → PropAnswer (read_prop levels least names (drop p.at text)) text pairs bound code p write after bound' code' (Some left)
+      → PropAnswer (read_prop levels least names (drop p.at text)) text pairs bound code p after bound' code' (Some left)
   joining_ends h e =
       let more : most ≡ suc (most - 1) = omega arith in
       ends (j.reads ∙ rw more (joined_ends (read_prop (levels - 1)) names (most - 1) least _ _ e))
@@ -186,10 +182,10 @@ module _ {names : List Name} {text pairs bound code after bound' code' : List �
     abbrev Right : ℕ → List ℕ → List ℕ → List ℕ → Option PropRead → Type 0
     Right least after₂ bound₂ code₂ right =
         PropAnswer (read_prop (levels - 1) least names (drop (left.end + 5) text)) text after bound' code'
-        (record { at = left.end + 5; count = left.count; depth = p.depth; to = p.to + left.size }) write after₂ bound₂ code₂ right
+        (record { at = left.end + 5; count = left.count; depth = p.depth; to = p.to + left.size }) after₂ bound₂ code₂ right
 
     abbrev Whole : List ℕ → List ℕ → List ℕ → Option PropRead → Type 0
-    Whole after₂ bound₂ code₃ whole = PropAnswer (read_prop levels least names (drop p.at text)) text pairs bound code p write after₂ bound₂ code₃ whole
+    Whole after₂ bound₂ code₃ whole = PropAnswer (read_prop levels least names (drop p.at text)) text pairs bound code p after₂ bound₂ code₃ whole
 
     answer : {after₂ bound₂ code₂ : List ℕ} {right : Option PropRead} → Right asked after₂ bound₂ code₂ right → Right (right_least c) after₂ bound₂ code₂ right
     answer read = rw asked_is at read
@@ -203,7 +199,6 @@ module _ {names : List Name} {text pairs bound code after bound' code' : List �
           (joined_right (read_prop (levels - 1)) names (table_names pairs text p.count) (most - 1) least (standing left.own j.prop) _ _ c goes
           (rw j.read.noted.names at (answer read).answer));
       bound_kept = read.bound_kept ∙ j.bound_kept;
-      dry = λ l. read.dry l ∙ j.dry l;
     }
 
     module _ {after₂ bound₂ code₂ : List ℕ} {right : PropRead} (side : Right asked after₂ bound₂ code₂ (Some right)) where
@@ -228,18 +223,17 @@ module _ {names : List Name} {text pairs bound code after bound' code' : List �
           j.reads ∙ (ap (λ n. joined (read_prop (levels - 1)) names n least (standing left.own j.prop) (drop left.end text)) more ∙ joined_step (read_prop (levels - 1)) names (most - 1) least (standing left.own j.prop) (standing right.own q) _ _ _ c goes reads)
 
       module _ {code₃ : List ℕ} where
-        pub joining_not : ((q : Prop Name) → Measured right q → Joins c j.prop q text code₂ p.to write left right code₃ None) → Whole after₂ bound₂ code₃ None
+        pub joining_not : ((q : Prop Name) → Measured right q → Joins c j.prop q text code₂ p.to left right code₃ None) → Whole after₂ bound₂ code₃ None
         joining_not joins =
             let (q, reads, read) = (answer side).answer in
             let joined = joins q read.measured in
             record {
               answer = rw (steps q reads, joined.answer) (gives_none _);
               bound_kept = side.bound_kept ∙ j.bound_kept;
-              dry = λ l. joined.dry l ∙ (side.dry l ∙ j.dry l);
             }
 
-        pub joining_on : {whole : PropRead} → ((q : Prop Name) → Measured right q → Joins c j.prop q text code₂ p.to write left right code₃ (Some whole))
-            → Joining names text pairs bound code p levels least write after₂ bound₂ code₃ whole (most - 1)
+        pub joining_on : {whole : PropRead} → ((q : Prop Name) → Measured right q → Joins c j.prop q text code₂ p.to left right code₃ (Some whole))
+            → Joining names text pairs bound code p levels least after₂ bound₂ code₃ whole (most - 1)
         unfolding prop_names
         joining_on {whole} joins =
             let (q, reads, read) = (answer side).answer in
@@ -253,7 +247,7 @@ module _ {names : List Name} {text pairs bound code after bound' code' : List �
                 noted = rw made.count_is (noted_then j.read.noted read.noted);
                 stored =
                     rw (made.count_is, read.noted.names)
-                    (chain_stored write code p.to (table_names after text left.count) c j.prop q
+                    (chain_stored code p.to (table_names after text left.count) c j.prop q
                     (rw j.read.noted.names (added_meets (table_names pairs text p.count) (prop_names j.prop)))
                     j.read.stored j.read.measured.size_is (rw read.noted.names at read.stored) read.measured.size_is made.stored);
                 measured = made.measured;
@@ -271,7 +265,6 @@ module _ {names : List Name} {text pairs bound code after bound' code' : List �
                     );
               };
               bound_kept = side.bound_kept ∙ j.bound_kept;
-              dry = λ l. joined.dry l ∙ (side.dry l ∙ j.dry l);
             }
 
 -- no level is left
@@ -281,18 +274,18 @@ no_level least names s e = rw e refl
 
 -- So many turns: what held where they began holds now.
 pub record Turned
-    (text : List ℕ) (levels least : ℕ) (write : Bool) (to depth : ℕ) (names bound code : List ℕ) (left : PropRead) (most : ℕ)
+    (text : List ℕ) (levels least : ℕ) (to depth : ℕ) (names bound code : List ℕ) (left : PropRead) (most : ℕ)
     (names' bound' code' : List ℕ) (left' : PropRead) (most' : ℕ) : Type 0 where
   pub within : left'.end ≤ length text
   pub names_long : length names' ≡ length names
   pub bound_long : length bound' ≡ length bound
   pub code_long : length code' ≡ length code
   pub keeps : (ns : List Name) (pairs₀ bound₀ code₀ : List ℕ) (at count : ℕ) → Binds ns (table_names pairs₀ text count) bound₀ depth
-      → Joining ns text pairs₀ bound₀ code₀ (record { at = at; count = count; depth = depth; to = to }) levels least write names bound code left most
-      → Joining ns text pairs₀ bound₀ code₀ (record { at = at; count = count; depth = depth; to = to }) levels least write names' bound' code' left' most'
+      → Joining ns text pairs₀ bound₀ code₀ (record { at = at; count = count; depth = depth; to = to }) levels least names bound code left most
+      → Joining ns text pairs₀ bound₀ code₀ (record { at = at; count = count; depth = depth; to = to }) levels least names' bound' code' left' most'
 
-pub turned : {text : List ℕ} {levels least : ℕ} {write : Bool} {to depth : ℕ} {names bound code : List ℕ} {left : PropRead} {most : ℕ}
-    → left.end ≤ length text → Turned text levels least write to depth names bound code left most names bound code left most
+pub turned : {text : List ℕ} {levels least : ℕ} {to depth : ℕ} {names bound code : List ℕ} {left : PropRead} {most : ℕ}
+    → left.end ≤ length text → Turned text levels least to depth names bound code left most names bound code left most
 turned h = record {
   within = h;
   names_long = refl;

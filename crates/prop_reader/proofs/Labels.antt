@@ -137,29 +137,27 @@ shown_same : {p q : Shown (Prop Name)} {s t : List ℕ} → given p s ≡ given 
 shown_same {p} {q} {s} {t} e = ap (λ (r : Read (Shown (Prop Name))). r.value) (same_Some (record { value = p; rest = s }) (record { value = q; rest = t }) e)
 
 -- The proposition of a label.
-pub proposition_not : {text pairs code after bound bound' code' : List ℕ} {at count to : ℕ} {write : Bool}
-    → PropAnswer (read_prop 128 0 [] (drop at text)) text pairs bound code (record { at = at; count = count; depth = 0; to = to }) write after bound' code' None
-    → PropositionAnswer text at pairs count code to write after code' None
+pub proposition_not : {text pairs code after bound bound' code' : List ℕ} {at count to : ℕ}
+    → PropAnswer (read_prop 128 0 [] (drop at text)) text pairs bound code (record { at = at; count = count; depth = 0; to = to }) after bound' code' None
+    → PropositionAnswer text at pairs count code to after code' None
 unfolding prop_levels standing
 proposition_not {text} {pairs} {count = count} answer = record {
   answer = λ p s e. crowded_label (table_names pairs text count) p (gives_holds _ _ (standing false p) s answer.answer e);
-  dry = answer.dry;
 }
 
-module _ {text pairs code after bound bound' code' : List ℕ} {at count to : ℕ} {write : Bool} {read : PropRead}
-    (found : PropAnswer (read_prop 128 0 [] (drop at text)) text pairs bound code (record { at = at; count = count; depth = 0; to = to }) write after bound' code' (Some read)) where
+module _ {text pairs code after bound bound' code' : List ℕ} {at count to : ℕ} {read : PropRead}
+    (found : PropAnswer (read_prop 128 0 [] (drop at text)) text pairs bound code (record { at = at; count = count; depth = 0; to = to }) after bound' code' (Some read)) where
   -- what was read stands in brackets of its own, or passes a limit
-  pub proposition_bracketed : read.own ≡ true → PropositionAnswer text at pairs count code to write after code' None
+  pub proposition_bracketed : read.own ≡ true → PropositionAnswer text at pairs count code to after code' None
   unfolding prop_levels standing
   proposition_bracketed own =
       let (q, reads, given) = found.answer in
       record {
         answer = λ p s e. absurd (true≢false (sym own ∙ ap (λ (x : Shown (Prop Name)). x.own) (shown_same (sym reads ∙ e))));
-        dry = found.dry;
       }
 
   proposition_past : ((p : Prop Name) → read.size ≡ code_bytes p → read.nesting ≡ prop.nesting p → fits_label (table_names pairs text count) (proposition p) ≡ false)
-      → PropositionAnswer text at pairs count code to write after code' None
+      → PropositionAnswer text at pairs count code to after code' None
   unfolding prop_levels standing
   proposition_past past =
       let (q, reads, given) = found.answer in
@@ -167,17 +165,16 @@ module _ {text pairs code after bound bound' code' : List ℕ} {at count to : �
         answer = λ p s e.
             let is : q ≡ p = ap (λ (x : Shown (Prop Name)). x.shown) (shown_same (sym reads ∙ e)) in
             rw is at (past q given.measured.size_is given.measured.nesting_is);
-        dry = found.dry;
       }
 
-  pub proposition_deep : proposition_nesting_limit < read.nesting → PropositionAnswer text at pairs count code to write after code' None
+  pub proposition_deep : proposition_nesting_limit < read.nesting → PropositionAnswer text at pairs count code to after code' None
   proposition_deep deep = proposition_past (λ p size nests. deep_label (table_names pairs text count) p (omega (arith, nests)))
 
-  pub proposition_large : code_limit < read.size → PropositionAnswer text at pairs count code to write after code' None
+  pub proposition_large : code_limit < read.size → PropositionAnswer text at pairs count code to after code' None
   proposition_large large = proposition_past (λ p size nests. large_label (table_names pairs text count) p (omega (arith, size)))
 
   pub proposition_given : LabelBegins text at pairs count to → read.own ≡ false → read.nesting ≤ proposition_nesting_limit → read.size ≤ code_limit
-      → PropositionAnswer text at pairs count code to write after code'
+      → PropositionAnswer text at pairs count code to after code'
       (Some (record { end = read.end; label = Proposition (to / 2); count = read.count; to = to + read.size + read.size % 2 }))
   unfolding prop_levels
   proposition_given pre own shallow small =
@@ -199,7 +196,6 @@ module _ {text pairs code after bound bound' code' : List ℕ} {at count to : �
             near = omega (arith, given.small);
           },
         );
-        dry = found.dry;
       }
 
 -- The label of what was read.
@@ -217,16 +213,15 @@ labelled : (types : List Name) (levels : ℕ) (s : List ℕ) (x : Read (Label Na
 labelled types levels s x e = gives_holds (label types levels s) _ x.value x.rest (label_gives types levels s) e
 
 -- the text of a proposition that is no lone listed name
-module _ (types : List Name) {text pairs code after code' : List ℕ} {at count to : ℕ} {write : Bool}
+module _ (types : List Name) {text pairs code after code' : List ℕ} {at count to : ℕ}
     (unlisted : (p : Prop Name) (s : List ℕ) → read_prop prop_levels 0 [] (drop at text) ≡ given (standing false p) s → label_for types p ≡ proposition p) where
-  pub proposition_label : (r : Option (LabelRead numbered.Label)) → PropositionAnswer text at pairs count code to write after code' r
-      → LabelAnswer text at types pairs count code to write after code' r
+  pub proposition_label : (r : Option (LabelRead numbered.Label)) → PropositionAnswer text at pairs count code to after code' r
+      → LabelAnswer text at types pairs count code to after code' r
   unfolding label ◌>>=◌ followed_by due same yield standing label_names
   proposition_label None answer = record {
     answer = λ x e.
         let (p, reads, is) = labelled types prop_levels (drop at text) x e in
         rw (is, unlisted p x.rest reads) (answer.answer p x.rest reads);
-    dry = answer.dry;
   }
   proposition_label (Some r) answer =
       let (p, given) = answer.answer in
@@ -244,7 +239,6 @@ module _ (types : List Name) {text pairs code after code' : List ℕ} {at count 
             near = given.near;
           },
         );
-        dry = answer.dry;
       }
 
 some_levels : 1 < prop_levels
@@ -286,23 +280,22 @@ module _ {text : List ℕ} {at r : ℕ} (ends : LoneEnds text at r) where
         rw (← is, sym tested ∙ e) refl
 
     -- which is listed
-    pub lone_listed : {pairs code after : List ℕ} {count to : ℕ} {write : Bool} (w : Option (LabelRead numbered.Label)) → t ≡ true → to % 2 ≡ 0
+    pub lone_listed : {pairs code after : List ℕ} {count to : ℕ} (w : Option (LabelRead numbered.Label)) → t ≡ true → to % 2 ≡ 0
         → MatchOption w (TooMany (between at r text) text pairs count) (DatatypeGiven text at r pairs count to after)
-        → LabelAnswer text at types pairs count code to write after code w
+        → LabelAnswer text at types pairs count code to after code w
     unfolding label ◌>>=◌ followed_by due same yield standing label_names
-    lone_listed {pairs} {code} {after} {count} {to} {write} w e even found = go w found
+    lone_listed {pairs} {code} {after} {count} {to} w e even found = go w found
       where
         reads : label types prop_levels (drop at text) ≡ given (datatype (between at r text)) (drop r text)
         reads = rw lone_prop (ap (λ x. Some (record { value = x; rest = drop r text })) (listed_label types (between at r text) (sym tested ∙ e)))
 
         go : (w : Option (LabelRead numbered.Label)) → MatchOption w (TooMany (between at r text) text pairs count) (DatatypeGiven text at r pairs count to after)
-            → LabelAnswer text at types pairs count code to write after code w
+            → LabelAnswer text at types pairs count code to after code w
         go None many = record {
           answer = λ x f.
               let is : datatype (between at r text) ≡ x.value =
               ap (λ (y : Read (Label Name)). y.value) (same_Some (record { value = datatype (between at r text); rest = drop r text }) x (sym reads ∙ f)) in
               rw (← is) (crowded_datatype (table_names pairs text count) (between at r text) many);
-          dry = λ l. refl;
         }
         go (Some w) named = record {
           answer = (
@@ -318,5 +311,4 @@ module _ {text : List ℕ} {at r : ℕ} (ends : LoneEnds text at r) where
               near = omega (arith, ends.from, named.end_is, named.to_is);
             },
           );
-          dry = λ l. refl;
         }

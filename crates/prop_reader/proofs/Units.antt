@@ -16,7 +16,7 @@ use Rattle.definitions.specs.TermText.{term_text_limit, prop_names, code_bytes}
 use Rattle.definitions.specs.TermReader.{Shown, standing, name, expect, if_read, Sign, sign, signed, atom_named, unit}
 use Rattle.definitions.proofs.Readings.{given}
 use Rattle.reading_laws.proofs.TermConventions.{Gives, gives_yield, gives_none, gives_then, gives_due}
-use Rattle.output.specs.Wrote.{puts}
+use Rattle.std.proofs.lemmas.List.Edits.{sets}
 use Rattle.words.specs.Table.{added, table_names}
 use Rattle.words.proofs.Added.{noted_then, met_added}
 use Rattle.prop_parts.specs.declared.Constant.{Constant}
@@ -47,9 +47,9 @@ module _ (part : Part) (names : List Name) (s : List ℕ) where
   unit_lacks e f = rw (e, f) refl
 
 -- nothing stands there
-pub answers_none : {reading : Option (Read (Shown (Prop Name)))} {text pairs bound code after : List ℕ} {p : Place} {write : Bool}
-    → reading ≡ None → PropAnswer reading text pairs bound code p write after bound code None
-answers_none e = record { answer = rw e (gives_none _); bound_kept = refl; dry = λ l. refl }
+pub answers_none : {reading : Option (Read (Shown (Prop Name)))} {text pairs bound code after : List ℕ} {p : Place}
+    → reading ≡ None → PropAnswer reading text pairs bound code p after bound code None
+answers_none e = record { answer = rw e (gives_none _); bound_kept = refl }
 
 -- What belongs to a front.
 
@@ -103,8 +103,8 @@ bound_less a b m (suc n) h e = by_cases (dec_le m n)
     (λ k. let all : m ≡ suc n = omega arith in rw all e)
 
 -- where the part may begin
-pub front_begins : {g : Sign} {names : List Name} {text pairs bound code mid mid-bound mid-code : List ℕ} {p place : Place} {write : Bool} {f : Front} {levels : ℕ}
-    → FrontGiven g names text pairs bound code p write mid mid-bound mid-code place f → Begins text pairs bound p (levels + 1) 0
+pub front_begins : {g : Sign} {names : List Name} {text pairs bound code mid mid-bound mid-code : List ℕ} {p place : Place} {f : Front} {levels : ℕ}
+    → FrontGiven g names text pairs bound code p mid mid-bound mid-code place f → Begins text pairs bound p (levels + 1) 0
     → length mid-bound ≡ length bound → Begins text mid mid-bound place levels 0
 front_begins {names = names} {f = f} front pre same = record {
   short = pre.short;
@@ -116,8 +116,8 @@ front_begins {names = names} {f = f} front pre same = record {
 }
 
 -- a part that was read is not too large to be closed
-pub closable : {text pairs code mid-code after : List ℕ} {p : Place} {write : Bool} {r : PropRead} {q : Prop Name}
-    → length text ≤ term_text_limit → p.to ≤ 2 * p.at → PropGiven text pairs code p write after mid-code r q → Closable text p.to r
+pub closable : {text pairs code mid-code after : List ℕ} {p : Place} {r : PropRead} {q : Prop Name}
+    → length text ≤ term_text_limit → p.to ≤ 2 * p.at → PropGiven text pairs code p after mid-code r q → Closable text p.to r
 unfolding term_text_limit
 closable {q = q} short near read = record {
   within = read.within;
@@ -126,31 +126,31 @@ closable {q = q} short near read = record {
 }
 
 -- the code of the front, of the part, and of what follows it
-front_stored : (write : Bool) (l : List ℕ) (to : ℕ) (seen ys : List Name) (f : Front) (q : Prop Name) {at n : ℕ} {one two three : List ℕ} → Met seen (front_names f)
-    → one ≡ puts write l to (front_code seen f) → at ≡ to + front_bytes f → two ≡ puts write one at (code_over (added seen ys) q) → n ≡ code_bytes q
-    → three ≡ puts write two (at + n) (back_code f) → three ≡ puts write l to (code_over (added seen ys) (around f q))
-front_stored write l to seen ys f q {at} {n} {one} {two} {three} met first at-is second size third =
+front_stored : (l : List ℕ) (to : ℕ) (seen ys : List Name) (f : Front) (q : Prop Name) {at n : ℕ} {one two three : List ℕ} → Met seen (front_names f)
+    → one ≡ sets l to (front_code seen f) → at ≡ to + front_bytes f → two ≡ sets one at (code_over (added seen ys) q) → n ≡ code_bytes q
+    → three ≡ sets two (at + n) (back_code f) → three ≡ sets l to (code_over (added seen ys) (around f q))
+front_stored l to seen ys f q {at} {n} {one} {two} {three} met first at-is second size third =
     let a = front_code seen f in
     let b = code_over (added seen ys) q in
-    let moved : two ≡ puts write one (to + front_bytes f) b = rw at-is at second in
-    let both : two ≡ puts write l to (a ++ b) = stored_then write l to a b first (sym (front_length seen f)) moved in
+    let moved : two ≡ sets one (to + front_bytes f) b = rw at-is at second in
+    let both : two ≡ sets l to (a ++ b) = stored_then l to a b first (sym (front_length seen f)) moved in
     let end : at + n ≡ to + (front_bytes f + n) = omega arith in
     let long : front_bytes f + n ≡ length (a ++ b) =
     omega (arith, length-append a b, front_length seen f, code_length_lem (added seen ys) q) in
-    stored_then write l to (a ++ b) (back_code f) both long (rw end at third)
-    ∙ ap (puts write l to) (ap (λ c. (c ++ b) ++ back_code f) (sym (front_kept seen ys f met)) ∙ sym (front_code_lem (added seen ys) f q))
+    stored_then l to (a ++ b) (back_code f) both long (rw end at third)
+    ∙ ap (sets l to) (ap (λ c. (c ++ b) ++ back_code f) (sym (front_kept seen ys f met)) ∙ sym (front_code_lem (added seen ys) f q))
 
 -- A front and its part.
-module _ {g : Sign} {names : List Name} {text pairs bound code mid mid-bound mid-code : List ℕ} {p place : Place} {write : Bool} {f : Front}
-    (front : FrontGiven g names text pairs bound code p write mid mid-bound mid-code place f)
-    (bound_kept : bound_numbers mid-bound p.depth ≡ bound_numbers bound p.depth) (dry : write ≡ false → mid-code ≡ code)
+module _ {g : Sign} {names : List Name} {text pairs bound code mid mid-bound mid-code : List ℕ} {p place : Place} {f : Front}
+    (front : FrontGiven g names text pairs bound code p mid mid-bound mid-code place f)
+    (bound_kept : bound_numbers mid-bound p.depth ≡ bound_numbers bound p.depth)
     (part : Part) {asked : ℕ} (Asked-is : asked ≡ part_least f) where
   abbrev Answer : List ℕ → List ℕ → List ℕ → ℕ → Option PropRead → Type 0
-  Answer after bound' code' least r = PropAnswer (part least (part_bound f names) (drop place.at text)) text mid mid-bound mid-code place write after bound' code' r
+  Answer after bound' code' least r = PropAnswer (part least (part_bound f names) (drop place.at text)) text mid mid-bound mid-code place after bound' code' r
 
   abbrev Whole : List ℕ → List ℕ → List ℕ → Option PropRead → Type 0
   Whole after bound' code'' r =
-      PropAnswer (followed_by (part (part_least f) (part_bound f names) (drop place.at text)) (closing f)) text pairs bound code p write after bound' code'' r
+      PropAnswer (followed_by (part (part_least f) (part_bound f names) (drop place.at text)) (closing f)) text pairs bound code p after bound' code'' r
 
   inner : {after bound' code' : List ℕ} {r : Option PropRead} → Answer after bound' code' asked r → Answer after bound' code' (part_least f) r
   inner answer = rw Asked-is at answer
@@ -166,11 +166,10 @@ module _ {g : Sign} {names : List Name} {text pairs bound code mid mid-bound mid
         gives_closing f q t _ λ own u.
         rw (front_names_lem f q.shown) (crowded_second (table_names pairs text p.count) (front_names f) (prop_names q.shown) (rw front.noted.names at k));
     bound_kept = kept_then _ answer.bound_kept;
-    dry = λ l. answer.dry l ∙ dry l;
   }
 
   pub part_closed : {after bound' code' code'' : List ℕ} {r : PropRead} (w : Option PropRead) → Answer after bound' code' asked (Some r)
-      → ((q : Prop Name) → Measured r q → Closes f q text code' place.to write r code'' w) → Whole after bound' code'' w
+      → ((q : Prop Name) → Measured r q → Closes f q text code' place.to r code'' w) → Whole after bound' code'' w
   unfolding followed_by
   part_closed None answer closes =
       let (q, reads, read) = (inner answer).answer in
@@ -178,7 +177,6 @@ module _ {g : Sign} {names : List Name} {text pairs bound code mid mid-bound mid
       record {
         answer = rw (reads, closed.answer) (gives_none _);
         bound_kept = kept_then _ answer.bound_kept;
-        dry = λ l. closed.dry l ∙ (answer.dry l ∙ dry l);
       }
   part_closed (Some w) answer closes =
       let (q, reads, read) = (inner answer).answer in
@@ -193,7 +191,7 @@ module _ {g : Sign} {names : List Name} {text pairs bound code mid mid-bound mid
             noted = rw (front_names_lem f q, whole.count_is) (noted_then front.noted read.noted);
             stored =
                 rw (whole.count_is, read.noted.names)
-                (front_stored write code p.to (table_names mid text place.count) (prop_names q) f q
+                (front_stored code p.to (table_names mid text place.count) (prop_names q) f q
                 (rw front.noted.names (added_meets (table_names pairs text p.count) (front_names f)))
                 front.stored front.to_is (rw read.noted.names at read.stored) read.measured.size_is whole.stored);
             measured = whole.measured;
@@ -202,7 +200,6 @@ module _ {g : Sign} {names : List Name} {text pairs bound code mid mid-bound mid
           },
         );
         bound_kept = kept_then _ answer.bound_kept;
-        dry = λ l. closed.dry l ∙ (answer.dry l ∙ dry l);
       }
 
 -- fewer levels suffice for less
@@ -224,7 +221,7 @@ constant_size Top = refl
 constant_size Bottom = refl
 
 -- the front is not read
-pub front_not : (part : Part) {g : Sign} {names : List Name} {text pairs bound code mid bound' code' : List ℕ} {p : Place} {write : Bool}
-    → FrontAnswer g names text pairs bound code p write mid bound' code' None
-    → PropAnswer (signed part names g (drop (p.at + sign_size g) text)) text pairs bound code p write mid bound' code' None
-front_not part front = record { answer = front.answer part; bound_kept = front.bound_kept; dry = front.dry }
+pub front_not : (part : Part) {g : Sign} {names : List Name} {text pairs bound code mid bound' code' : List ℕ} {p : Place}
+    → FrontAnswer g names text pairs bound code p mid bound' code' None
+    → PropAnswer (signed part names g (drop (p.at + sign_size g) text)) text pairs bound code p mid bound' code' None
+front_not part front = record { answer = front.answer part; bound_kept = front.bound_kept }

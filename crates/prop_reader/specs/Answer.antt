@@ -1,5 +1,5 @@
 -- What the reader of labels answers, in both directions.
-use Rattle.std.specs.Prelude.{ℕ, ◌+◌, ◌*◌, ◌/◌, ◌%◌, ◌<◌, ◌≤◌, ◌≡◌, Bool, true, false, List, [], ◌∷◌, length, drop, None, Some, Option, MatchOption}
+use Rattle.std.specs.Prelude.{ℕ, ◌+◌, ◌*◌, ◌/◌, ◌%◌, ◌<◌, ◌≤◌, ◌≡◌, true, false, List, [], ◌∷◌, length, drop, None, Some, Option, MatchOption}
 use Rattle.definitions.specs.Utf8.{utf8}
 use Rattle.definitions.specs.Name.{Name}
 use Rattle.definitions.specs.Prop.{Prop}
@@ -9,7 +9,7 @@ use Rattle.definitions.specs.Sheet.{name_length_limit}
 use Rattle.definitions.specs.TermText.{term_text_limit, prop_names, label_names, code_bytes}
 use Rattle.definitions.specs.TermReader.{standing, name, expect, connective, read_prop, label, prop_levels}
 use Rattle.definitions.proofs.Readings.{given}
-use Rattle.output.specs.Wrote.{puts}
+use Rattle.std.proofs.lemmas.List.Edits.{sets}
 use Rattle.words.specs.Places.{between}
 use Rattle.words.specs.Table.{number_in, table_names, Table, Noted}
 use Rattle.proof_term.specs.declared.nodes.Label as numbered
@@ -49,51 +49,49 @@ pub record DatatypeGiven (text : List ℕ) (at end : ℕ) (pairs : List ℕ) (co
 
 -- the proposition that was read, within the limits and in no brackets of its own
 pub record PropositionGiven
-    (text : List ℕ) (at : ℕ) (pairs : List ℕ) (count : ℕ) (code : List ℕ) (to : ℕ) (write : Bool) (after code' : List ℕ) (r : LabelRead numbered.Label) (p : Prop Name)
+    (text : List ℕ) (at : ℕ) (pairs : List ℕ) (count : ℕ) (code : List ℕ) (to : ℕ) (after code' : List ℕ) (r : LabelRead numbered.Label) (p : Prop Name)
     : Type 0 where
   pub within : r.end ≤ length text
   pub reads : read_prop prop_levels 0 [] (drop at text) ≡ given (standing false p) (drop r.end text)
   pub fits : fits_label (table_names pairs text count) (proposition p) ≡ true
   pub noted : Noted (prop_names p) text pairs count after r.count
   pub label_is : r.label ≡ Proposition (to / 2)
-  pub stored : code' ≡ puts write code to (code_over (table_names after text r.count) p)
+  pub stored : code' ≡ sets code to (code_over (table_names after text r.count) p)
   pub to_is : r.to ≡ to + (code_bytes p + code_bytes p % 2)
   pub from : at < r.end
   pub even : r.to % 2 ≡ 0
   pub near : r.to + 2 * at ≤ to + 2 * r.end + 3
 
 pub record PropositionAnswer
-    (text : List ℕ) (at : ℕ) (pairs : List ℕ) (count : ℕ) (code : List ℕ) (to : ℕ) (write : Bool) (after code' : List ℕ) (r : Option (LabelRead numbered.Label)) : Type 0 where
+    (text : List ℕ) (at : ℕ) (pairs : List ℕ) (count : ℕ) (code : List ℕ) (to : ℕ) (after code' : List ℕ) (r : Option (LabelRead numbered.Label)) : Type 0 where
   pub answer : MatchOption r ((p : Prop Name) (s : List ℕ) → read_prop prop_levels 0 [] (drop at text) ≡ given (standing false p) s
       → fits_label (table_names pairs text count) (proposition p) ≡ false)
-      (λ r. (p : Prop Name) × PropositionGiven text at pairs count code to write after code' r p)
-  pub dry : write ≡ false → code' ≡ code
+      (λ r. (p : Prop Name) × PropositionGiven text at pairs count code to after code' r p)
 
 -- what is kept of a label: the code of a proposition at an even offset, or the number of a datatype
-pub data LabelKept (seen : List Name) (code : List ℕ) (to : ℕ) (write : Bool) (code' : List ℕ) (r : LabelRead numbered.Label) : Label Name → Type 0 where
-  of_proposition : {p : Prop Name} → r.label ≡ Proposition (to / 2) → code' ≡ puts write code to (code_over seen p)
-      → r.to ≡ to + (code_bytes p + code_bytes p % 2) → LabelKept seen code to write code' r (proposition p)
+pub data LabelKept (seen : List Name) (code : List ℕ) (to : ℕ) (code' : List ℕ) (r : LabelRead numbered.Label) : Label Name → Type 0 where
+  of_proposition : {p : Prop Name} → r.label ≡ Proposition (to / 2) → code' ≡ sets code to (code_over seen p)
+      → r.to ≡ to + (code_bytes p + code_bytes p % 2) → LabelKept seen code to code' r (proposition p)
   of_datatype : {t : Name} → r.label ≡ Datatype (number_in seen t) → code' ≡ code → r.to ≡ to
-      → LabelKept seen code to write code' r (datatype t)
+      → LabelKept seen code to code' r (datatype t)
 
 -- the label that was read, and what became of the names and the code
 pub record LabelGiven
-    (text : List ℕ) (at : ℕ) (types : List Name) (pairs : List ℕ) (count : ℕ) (code : List ℕ) (to : ℕ) (write : Bool)
+    (text : List ℕ) (at : ℕ) (types : List Name) (pairs : List ℕ) (count : ℕ) (code : List ℕ) (to : ℕ)
     (after code' : List ℕ) (r : LabelRead numbered.Label) (l : Label Name) : Type 0 where
   pub within : r.end ≤ length text
   pub reads : label types prop_levels (drop at text) ≡ given l (drop r.end text)
   pub fits : fits_label (table_names pairs text count) l ≡ true
   pub noted : Noted (label_names l) text pairs count after r.count
-  pub kept : LabelKept (table_names after text r.count) code to write code' r l
+  pub kept : LabelKept (table_names after text r.count) code to code' r l
   pub from : at < r.end
   pub even : r.to % 2 ≡ 0
   pub near : r.to + 2 * at ≤ to + 2 * r.end + 3
 
 -- the answer of `read_label`; none where there is no label, or one past the limits
 pub record LabelAnswer
-    (text : List ℕ) (at : ℕ) (types : List Name) (pairs : List ℕ) (count : ℕ) (code : List ℕ) (to : ℕ) (write : Bool)
+    (text : List ℕ) (at : ℕ) (types : List Name) (pairs : List ℕ) (count : ℕ) (code : List ℕ) (to : ℕ)
     (after code' : List ℕ) (r : Option (LabelRead numbered.Label)) : Type 0 where
   pub answer : MatchOption r ((x : Read (Label Name)) → label types prop_levels (drop at text) ≡ Some x
       → fits_label (table_names pairs text count) x.value ≡ false)
-      (λ r. (l : Label Name) × LabelGiven text at types pairs count code to write after code' r l)
-  pub dry : write ≡ false → code' ≡ code
+      (λ r. (l : Label Name) × LabelGiven text at types pairs count code to after code' r l)

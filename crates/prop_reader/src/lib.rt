@@ -1,5 +1,5 @@
 // The label of a term, read from strict text: a proposition into prefix code, or a datatype. Each reader gives what it read, or none
-// where it does not stand there or there are too many names. Names are noted in any case; code is stored only where `write` says so.
+// where it does not stand there or there are too many names. Names are noted in any case; of the code, what does not fit is dropped.
 #![tactic(auto)]
 
 ghost use Rattle.std.specs.Prelude.{List, ◌+◌, ◌≤◌, ◌<◌, length, drop, MatchOption};
@@ -23,7 +23,7 @@ use words::{expect, name_end, number_of_name};
 // Twice as many levels as a proposition may nest: brackets take one.
 const LEVELS: usize = 2 * NESTING_LIMIT;
 
-// The readers are given `text`, `names`, `bound`, `code` and the place apart, and `write`, as in atom_reader and prop_frames.
+// The readers are given `text`, `names`, `bound`, `code` and the place apart, as in atom_reader and prop_frames.
 
 // An atom, a sign with what belongs to it, or a proposition in brackets, whose parts are read so many levels deep.
 #[cycle(read_prop_read_unit)]
@@ -34,25 +34,24 @@ fn read_unit(
     code: &mut [u8],
     p: Place,
     levels: usize,
-    write: bool,
 ) -> Option<PropRead>
     requires { Begins text.now names.old bound.old p (levels + 1) 0 }
     ensures { (ns : List Name) →
         Binds ns (table_names names.old text.now p.count) bound.old p.depth →
         PropAnswer (unit (read_prop levels) ns (drop p.at text.now))
-        text.now names.old bound.old code.old p write
+        text.now names.old bound.old code.old p
         names.new bound.new code.new result }
 {
     if let Some(end) = name_end(text, p.at) {
-        return read_atom(text, names, bound, code, p, end, write);
+        return read_atom(text, names, bound, code, p, end);
     }
     match sign_at(text, p.at)? {
-        Sign::Constant(sign) => Some(read_constant(text, code, p, sign, write)),
+        Sign::Constant(sign) => Some(read_constant(text, code, p, sign)),
         Sign::Opening(sign) => {
-            let place = open_front(text, names, bound, code, p, sign, write)?;
+            let place = open_front(text, names, bound, code, p, sign)?;
             let least = part_least(sign);
-            let part = read_prop(text, names, bound, code, place, levels, least, write)?;
-            close_prop(text, code, place.to, sign, part, write)
+            let part = read_prop(text, names, bound, code, place, levels, least)?;
+            close_prop(text, code, place.to, sign, part)
         }
     }
 }
@@ -67,13 +66,12 @@ fn read_prop(
     p: Place,
     levels: usize,
     least: usize,
-    write: bool,
 ) -> Option<PropRead>
     requires { Begins text.now names.old bound.old p levels 0 }
     ensures { (ns : List Name) →
         Binds ns (table_names names.old text.now p.count) bound.old p.depth →
         PropAnswer (read_prop levels least ns (drop p.at text.now))
-        text.now names.old bound.old code.old p write
+        text.now names.old bound.old code.old p
         names.new bound.new code.new result }
 {
     if levels == 0 {
@@ -81,7 +79,7 @@ fn read_prop(
     }
     let to = p.to;
     let depth = p.depth;
-    let mut left = read_unit(text, names, bound, code, p, levels - 1, write)?;
+    let mut left = read_unit(text, names, bound, code, p, levels - 1)?;
     for _ in 1..levels {
         let Some(connective) = goes_on(text, left.end, least) else {
             return Some(left);
@@ -93,8 +91,8 @@ fn read_prop(
             to: to + left.size,
         };
         let asked = connective.right_least();
-        let right = read_prop(text, names, bound, code, place, levels - 1, asked, write)?;
-        left = join(text, code, to, connective, left, right, write)?;
+        let right = read_prop(text, names, bound, code, place, levels - 1, asked)?;
+        left = join(text, code, to, connective, left, right)?;
     }
     Some(left)
 }
@@ -154,10 +152,9 @@ fn read_proposition(
     count: usize,
     code: &mut [u8],
     to: usize,
-    write: bool,
 ) -> Option<LabelRead<Label>>
     requires { LabelBegins text.now at names.old count to }
-    ensures { PropositionAnswer text.now at names.old count code.old to write
+    ensures { PropositionAnswer text.now at names.old count code.old to
         names.new code.new result }
 {
     let mut bound = [0u16; LEVELS];
@@ -167,7 +164,7 @@ fn read_proposition(
         depth: 0,
         to,
     };
-    let read = read_prop(text, names, &mut bound, code, p, LEVELS, 0, write)?;
+    let read = read_prop(text, names, &mut bound, code, p, LEVELS, 0)?;
     let size = read.size;
     if read.own {
         return None;
@@ -195,17 +192,16 @@ pub fn read_label(
     count: usize,
     code: &mut [u8],
     to: usize,
-    write: bool,
 ) -> Option<LabelRead<Label>>
     requires { LabelBegins text.now at names.old count to }
     ensures { LabelAnswer text.now at (names_in types.now) names.old count
-        code.old to write names.new code.new result }
+        code.old to names.new code.new result }
 {
     let Some(end) = lone_end(text, at) else {
-        return read_proposition(text, at, names, count, code, to, write);
+        return read_proposition(text, at, names, count, code, to);
     };
     if is_listed(types, &text[at..end]) {
         return read_datatype(text, at, end, names, count, to);
     }
-    read_proposition(text, at, names, count, code, to, write)
+    read_proposition(text, at, names, count, code, to)
 }

@@ -104,7 +104,7 @@ module _ {z : Scene} {work : Work} {s : Progress} {h : Hand} (held : AtTerm hold
     comes_due = as_due _ _ _ comes_label (due_at ascribed_by held.behind.hand due)
 
     -- no label stands there, or one past the limits
-    pub no_label : {after code' : List ℕ} → LabelAnswer z.text at z.types z.names s.count z.code s.to true after code' None → Refuses z
+    pub no_label : {after code' : List ℕ} → LabelAnswer z.text at z.types z.names s.count z.code s.to after code' None → Refuses z
     unfolding Next met marks standing
     no_label answer =
         unfit comes_due
@@ -113,8 +113,8 @@ module _ {z : Scene} {work : Work} {s : Progress} {h : Hand} (held : AtTerm hold
         label_unfit held.behind.stored l unfit-label (giving held.entries (standing false (TypeAscription held.term.shown l)) v)
         (record { more = node ∷ []; is = simp append_assoc }))
 
-    module _ {after code' : List ℕ} {r : LabelRead numbered.Label} (answer : LabelAnswer z.text at z.types z.names s.count z.code s.to true after code' (Some r)) where
-      label_grows : {l : Label Name} → LabelGiven z.text at z.types z.names s.count z.code s.to true after code' r l
+    module _ {after code' : List ℕ} {r : LabelRead numbered.Label} (answer : LabelAnswer z.text at z.types z.names s.count z.code s.to after code' (Some r)) where
+      label_grows : {l : Label Name} → LabelGiven z.text at z.types z.names s.count z.code s.to after code' r l
           → Grows held.entries (TypeAscription held.term.shown l) (noting z after code') work (further s r.end r.count r.to)
           (node_row (made.TypeAscription (s.used - 1) r.label) (1 + h.tally)) (over Ascription 0 1 h)
       unfolding noting names_met nodes_met limited_met code_met labels_met term_records records_after marks form as_form term_nesting annotation_count node_row root_after seven

@@ -187,7 +187,7 @@ fn ascribe(
         names.new code.new work.new result }
 {
     due(hand, NO_FUNCTION)?;
-    let read = read_label(text, at, types, names, s.count, code, s.to, true)?;
+    let read = read_label(text, at, types, names, s.count, code, s.to)?;
     let behind = Progress {
         at: read.end,
         count: read.count,

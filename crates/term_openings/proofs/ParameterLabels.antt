@@ -1,7 +1,7 @@
 -- The label of a parameter: none where no colon follows, and else the label behind it.
 use Prim.Native.Nat.{ℕ}
 use mathlib.Core.Path.{◌≡◌, refl, ap}
-use mathlib.Core.Bool.{true, false}
+use mathlib.Core.Bool.{false}
 use Rattle.std.specs.Prelude.{Option, None, Some}
 use mathlib.Core.List.{List}
 use native.Mathlib.Omega.{arith}
@@ -67,13 +67,13 @@ module _ {text : List ℕ} {at : ℕ} {types : List Name} {pairs : List ℕ} {co
   }
 
   module _ {place : ℕ} {after code' : List ℕ} (colon : Expected (utf8 ": ") text at place) where
-    pub label_lacks : LabelAnswer text place types pairs count code to true after code' None → ParameterLacks text at types pairs count
+    pub label_lacks : LabelAnswer text place types pairs count code to after code' None → ParameterLacks text at types pairs count
     unfolding parameter_label if_read ◌>>=◌ fits_parameter
     label_lacks answer = λ l rest e.
         behind_colon (label types prop_levels (drop place text)) l rest (λ m. fits_parameter (table_names pairs text count) m ≡ false) answer.answer
         (rw colon.reads at e)
 
-    pub some_label : {r : LabelRead numbered.Label} → LabelAnswer text place types pairs count code to true after code' (Some r)
+    pub some_label : {r : LabelRead numbered.Label} → LabelAnswer text place types pairs count code to after code' (Some r)
         → ThereIs (ParameterGiven text at types pairs count code to after code' (record { end = r.end; label = Some r.label; count = r.count; to = r.to }))
     unfolding parameter_label if_read ◌>>=◌ followed_by yield is_limited_parameter_label parameter_label_names parameter_labels numbered_parameter
     some_label answer =

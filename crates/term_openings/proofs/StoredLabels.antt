@@ -21,7 +21,6 @@ use Rattle.reading_laws.specs.TermMachine.{State}
 use Rattle.reading_laws.specs.Marks.{Mark, called, labelled, node, names_met, limited_met}
 use Rattle.reading_laws.proofs.MarksMet.{After}
 use Rattle.reading_laws.proofs.OnTheWay.{Fits, limited_first}
-use Rattle.output.specs.Wrote.{puts}
 use Rattle.words.specs.Table.{added, number_in, table_names}
 use Rattle.atom_reader.specs.Scope.{Met}
 use Rattle.atom_reader.specs.Reading.{code_over}
@@ -61,25 +60,25 @@ module _ (f g : Name → ℕ) (seen : List Name) (agree : (x : Name) → occurs 
 
 -- What is kept of a label is what the memory asks.
 module _ {seen : List Name} {code : List ℕ} {to : ℕ} {code' : List ℕ} {r : LabelRead numbered.Label} where
-  kept_to : (l : Label Name) → LabelKept seen code to true code' r l → r.to ≡ to + labels_size (l ∷ [])
+  kept_to : (l : Label Name) → LabelKept seen code to code' r l → r.to ≡ to + labels_size (l ∷ [])
   unfolding label_size labels_size
   kept_to (proposition p) (of_proposition is stored next) = omega (arith, next)
   kept_to (datatype t) (of_datatype is stored next) = omega (arith, next)
 
   module _ (number : Name → ℕ) (extends : Extends number seen) where
-    kept_label : (l : Label Name) → LabelKept seen code to true code' r l → Met seen (label_names l) → r.label ≡ numbered_label number to l
+    kept_label : (l : Label Name) → LabelKept seen code to code' r l → Met seen (label_names l) → r.label ≡ numbered_label number to l
     unfolding numbered_label label_names Met
     kept_label (proposition p) (of_proposition is stored next) known = is
     kept_label (datatype t) (of_datatype is stored next) known = is ∙ ap Datatype (sym (extends t known.0))
 
-    kept_code : (l : Label Name) → LabelKept seen code to true code' r l → Met seen (label_names l) → code' ≡ store_labels number to (l ∷ []) code
-    unfolding store_label store_labels label_names puts code_over
+    kept_code : (l : Label Name) → LabelKept seen code to code' r l → Met seen (label_names l) → code' ≡ store_labels number to (l ∷ []) code
+    unfolding store_label store_labels label_names code_over
     kept_code (proposition p) (of_proposition is stored next) known =
         stored ∙ ap (λ q. sets code to (encode q)) (sym (same_prop number (number_in seen) seen extends p known))
     kept_code (datatype t) (of_datatype is stored next) known = stored
 
 module _ {text : List ℕ} {at : ℕ} {types : List Name} {pairs : List ℕ} {count : ℕ} {code : List ℕ} {to : ℕ} {after code' : List ℕ} {r : LabelRead numbered.Label}
-    {l : Label Name} (g : LabelGiven text at types pairs count code to true after code' r l) where
+    {l : Label Name} (g : LabelGiven text at types pairs count code to after code' r l) where
   pub label_limited : is_limited_label l ≡ true
   unfolding fits_label
   label_limited = ((and-eq-true_iff (is_limited_label l) (leb (length (added (table_names pairs text count) (label_names l))) name_limit)).0 g.fits).0

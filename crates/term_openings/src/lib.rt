@@ -172,7 +172,7 @@ fn parameter_label(
             to,
         });
     };
-    let read = read_label(text, start, types, names, count, code, to, true)?;
+    let read = read_label(text, start, types, names, count, code, to)?;
     Some(LabelRead {
         end: read.end,
         label: Some(read.label),

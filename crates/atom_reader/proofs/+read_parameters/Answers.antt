@@ -27,13 +27,13 @@ returns-in_err-end t c ns b =
     let one = c.in_ok-first.ensures ns b in
     let (x, named, given) = one.answer in
     let none : c.from_residual-in_err-end.result ≡ None = search rules in
-    rw none (first_open ns _ (some_more t (goal.at.returns-in_err-end t c).In_ok-first) named given one.dry c.in_default.ensures c.in_err-end.ensures)
+    rw none (first_open ns _ (some_more t (goal.at.returns-in_err-end t c).In_ok-first) named given c.in_default.ensures c.in_err-end.ensures)
 
 pub returns-in_default : goal.returns-in_default
 returns-in_default t c ns b =
     let one = c.in_ok-first.ensures ns b in
     let (x, named, given) = one.answer in
-    first_alone ns _ (some_more t (goal.at.returns-in_default t c).In_ok-first) named given one.dry c.in_default.ensures c.in_ok-end.ensures
+    first_alone ns _ (some_more t (goal.at.returns-in_default t c).In_ok-first) named given c.in_default.ensures c.in_ok-end.ensures
 
 -- the next parameter may begin where it does
 next : (t : ℕ) → (c : In-Some t) → let s = c.args in
@@ -60,7 +60,7 @@ returns-in_err-rest t c ns b =
     let one = c.in_ok-first.ensures ns b in
     let (x, named, given) = one.answer in
     let none : c.from_residual-in_err-rest.result ≡ None = search rules in
-    rw none (rest_not ns _ (some_more t (goal.at.returns-in_err-rest t c).In_ok-first) named given one.dry c.in-Some.ensures
+    rw none (rest_not ns _ (some_more t (goal.at.returns-in_err-rest t c).In_ok-first) named given c.in-Some.ensures
     (c.in_err-rest.ensures ns (binds_noted b given.noted refl)))
 
 -- how many there are, and how large they are, fits
@@ -83,5 +83,5 @@ pub returns : goal.returns
 returns t c ns b =
     let one = c.in_ok-first.ensures ns b in
     let (x, named, given) = one.answer in
-    rest_given ns _ (some_more t (goal.at.returns t c).In_ok-first) named given one.dry c.in-Some.ensures
+    rest_given ns _ (some_more t (goal.at.returns t c).In_ok-first) named given c.in-Some.ensures
     (c.in_ok-rest.ensures ns (binds_noted b given.noted refl))

@@ -1,11 +1,11 @@
 -- The sides agree, and then the connective is put in front of their code.
-use mathlib.Core.Path.{refl, sym, ◌∙◌}
+use mathlib.Core.Path.{sym, ◌∙◌}
 use borrow.Author.Rules.{rules}
 use Rattle.prop_frames.proofs.Sides.{joins_sides}
 use Rattle.prop_frames.proofs.join.Goals as goal
 
 pub returns-then-not-may_join : goal.returns-then-not-may_join
-returns-then-not-may_join c p q m n = record { answer = sym (c.may_join.ensures p q m n) ∙ c.if-not-may_join.true; dry = λ l. refl }
+returns-then-not-may_join c p q m n = record { answer = sym (c.may_join.ensures p q m n) ∙ c.if-not-may_join.true }
 
 pub returns : goal.returns
 returns c p q m n =

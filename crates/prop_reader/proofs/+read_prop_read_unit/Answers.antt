@@ -33,7 +33,7 @@ read_prop-returns-in_err-left t c ns b =
 -- what was read so far
 so_far : (t : ℕ) → (c : read_prop-At-loop t) → let s = c.args in
     (ns : List Name) → Binds ns (table_names s.names.now s.text.now s.p.count) s.bound.now s.p.depth
-    → Joining ns s.text.now s.names.now s.bound.now s.code.now s.p s.levels s.least s.write
+    → Joining ns s.text.now s.names.now s.bound.now s.code.now s.p s.levels s.least
     c.loop.names c.loop.bound c.loop.code c.loop.left (s.levels - c.loop.counter)
 so_far t c ns b =
     c.loop.invariant.keeps ns _ _ _ _ _ b (joining_starts ns _ c.if-levels-eq0.false (c.in_ok-left.ensures ns b))
@@ -219,7 +219,7 @@ read_unit-returns-in_err-part-in-Opening t c ns b =
     let (f, front) = place.answer in
     let least = c.part_least-least.ensures f front.sign_is in
     rw (c.from_residual-in_err-part-in-Opening.ensures, reads t (goal.at.read_unit-returns-in_err-part-in-Opening t c).In-Opening ns, front.reads (read_prop c.args.levels))
-    (part_not front place.bound_kept place.dry (read_prop c.args.levels) least (c.in_err-part-in-Opening.ensures (part_bound f ns) front.binds))
+    (part_not front place.bound_kept (read_prop c.args.levels) least (c.in_err-part-in-Opening.ensures (part_bound f ns) front.binds))
 
 pub read_unit-close_prop-requires : goal.read_unit-close_prop-requires
 read_unit-close_prop-requires t c =
@@ -235,5 +235,5 @@ read_unit-returns-in_ok-part-in-Opening t c ns b =
     let (f, front) = place.answer in
     let least = c.part_least-least.ensures f front.sign_is in
     rw (reads t (goal.at.read_unit-returns-in_ok-part-in-Opening t c).In-Opening ns, front.reads (read_prop c.args.levels))
-    (part_closed front place.bound_kept place.dry (read_prop c.args.levels) least c.close_prop.result
+    (part_closed front place.bound_kept (read_prop c.args.levels) least c.close_prop.result
     (c.in_ok-part-in-Opening.ensures (part_bound f ns) front.binds) (λ q m. c.close_prop.ensures f q front.sign_is m))

@@ -11,4 +11,4 @@ decreases-read_unit l = 2 * l.levels + 1
 
 abbrev pub invariant-read_prop-loop : goal.invariant-read_prop-loop
 invariant-read_prop-loop l =
-    Turned l.text l.levels l.least l.write l.to l.depth l.initial.names l.initial.bound l.initial.code l.initial.left (l.levels - l.initial.counter) l.names l.bound l.code l.left (l.levels - l.counter)
+    Turned l.text l.levels l.least l.to l.depth l.initial.names l.initial.bound l.initial.code l.initial.left (l.levels - l.initial.counter) l.names l.bound l.code l.left (l.levels - l.counter)
