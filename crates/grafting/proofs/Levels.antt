@@ -1,15 +1,15 @@
 -- The steps above a step by the table of sizes.
-use Prim.Native.Nat.{ℕ, suc, ◌+◌, ◌≤◌, ◌<◌}
-use mathlib.Core.Path.{◌≡◌, refl, sym, ◌∙◌}
+use Prim.Native.Nat.{ℕ, zero, suc, ◌+◌, ◌≤◌, ◌<◌}
+use mathlib.Core.Path.{◌≡◌, refl, ◌∙◌}
 use mathlib.Core.Bool.{Bool, true, false, cond}
-use mathlib.Core.List.{List}
+use mathlib.Core.List.{List, ◌∷◌}
 use native.Mathlib.Omega.{arith}
 use native.Mathlib.Decide.{dec_lt}
 use native.Mathlib.Numerals.{add-one}
-use lib.ListN.{get_or, drop}
+use lib.ListN.{get_or, drop, length}
 use lib.Dec.{ltb}
 use borrow.Author.Tests.{lt-ltb, le-ltb}
-use Rattle.std.specs.Int.{from_bool}
+use Rattle.std.specs.List.{filter, range_with_len}
 use Rattle.definitions.specs.Sheet.{step_limit, names, steps, proposition_pairs, code_bytes, step_records, premiss_count}
 use Rattle.definitions.specs.Tree.{step_in, root_of}
 use Rattle.writer_laws.proofs.Checks.{Checks, admitted_checks}
@@ -23,16 +23,31 @@ use Rattle.sheet.specs.declared.header.Sheet.{Sheet}
 use Rattle.sheet.specs.Header.{header_of}
 use Rattle.sheet.proofs.Admitted.{AcceptedSheet}
 
--- the later steps up to a number are counted
-pub record Counting (s : List ℕ) (k count j : ℕ) : Type 0 where
-  pub reached : j ≤ steps s
-  pub later : k < j
-  pub small : count ≤ j
-  pub counted : count ≡ above_in k (stack (steps_of s) (counts_of s) j)
+-- how many of some numbers in a row pass a test
+module _ (passes : ℕ → Bool) where
+  unfoldable pub passed : ℕ → ℕ → ℕ
+  passed from n = length (filter passes (range_with_len from n))
 
-one_if : (b : Bool) → from_bool b ≡ cond b 1 0
-one_if true = refl
-one_if false = refl
+  one_more : (b : Bool) (j : ℕ) (js : List ℕ) → length (cond b (j ∷ js) js) ≡ cond b 1 0 + length js
+  one_more true j js = omega arith
+  one_more false j js = omega arith
+
+  first_passed : (from n : ℕ) → passed from (suc n) ≡ cond (passes from) 1 0 + passed (from + 1) n
+  unfolding passed
+  first_passed from n = one_more (passes from) from (filter passes (range_with_len (from + 1) n))
+
+  none_passed : (from : ℕ) → passed from 0 ≡ 0
+  unfolding passed
+  none_passed from = refl
+
+  at_most_one : (b : Bool) → cond b 1 0 ≤ 1
+  at_most_one true = omega arith
+  at_most_one false = omega arith
+
+  pub few_passed : (from n : ℕ) → passed from n ≤ n
+  unfolding passed
+  few_passed from zero = omega arith
+  few_passed from (suc n) = omega (arith, first_passed from n, at_most_one (passes from), few_passed (from + 1) n)
 
 -- Of an accepted sheet and a step:
 module _ {s : List ℕ} {h : Sheet} (a : AcceptedSheet s h) where
@@ -52,15 +67,6 @@ module _ {s : List ℕ} {h : Sheet} (a : AcceptedSheet s h) where
   numbers i = refl
 
   module _ (k : ℕ) where
-    pub none_counted : k < steps s → Counting s k 0 (k + 1)
-    none_counted l =
-        record {
-          reached = omega arith;
-          later = omega arith;
-          small = omega arith;
-          counted = rw (add-one k) (sym (above_last (steps_of s) (counts_of s) numbers k));
-        }
-
     module _ {table : List ℕ} (sizes : SizeTable (step_records s) (steps s) table) where
       next_counted : (j : ℕ) → k < j → j < steps s
           → above_in k (stack (steps_of s) (counts_of s) (suc j)) ≡ above_in k (stack (steps_of s) (counts_of s) j) + cond (ltb j (k + get_or table j 0)) 1 0
@@ -82,24 +88,21 @@ module _ {s : List ℕ} {h : Sheet} (a : AcceptedSheet s h) where
               rw (le-ltb j (k + get_or table j 0) (omega arith))
               (above_passed (steps_of s) (counts_of s) numbers k j p later below (omega arith) ∙ omega arith)
 
-      pub one_counted : {count j r : ℕ} → Counting s k count j → j < steps s → r ≡ from_bool (ltb j (k + get_or table j 0)) → Counting s k (count + r) (j + 1)
-      one_counted {count} {j} {r} c l e =
-          record {
-            reached = omega arith;
-            later = omega (arith, c.later);
-            small = omega (arith, c.small, at_most_one (ltb j (k + get_or table j 0)), e, one_if (ltb j (k + get_or table j 0)));
-            counted = rw (add-one j, e, one_if, c.counted) (sym (next_counted j c.later l));
-          }
-        where
-          at_most_one : (b : Bool) → cond b 1 0 ≤ 1
-          at_most_one true = omega arith
-          at_most_one false = omega arith
+      -- the tree of a later step reaches step k
+      unfoldable pub reaches : ℕ → Bool
+      reaches j = ltb j (k + get_or table j 0)
 
-    pub all_counted : {count j : ℕ} → Counting s k count j → steps s ≤ j → (count ≡ above k (root_of s)) × (count ≤ 1024)
-    unfolding step_limit
-    all_counted {count} {j} c l =
-        let last : j ≡ steps s = omega (arith, c.reached) in
-        let counted : count ≡ above_in k (stack (steps_of s) (counts_of s) (steps s)) = rw last at c.counted in (
-          counted ∙ above_root (steps_of s) (counts_of s) numbers k (steps s) (root_of s) (omega (arith, c.later)) (one_root s checks),
-          omega (arith, c.small, few_steps),
-        )
+      counted_from : (n j : ℕ) → k < j → j + n ≡ steps s
+          → above_in k (stack (steps_of s) (counts_of s) j) + passed reaches j n ≡ above_in k (stack (steps_of s) (counts_of s) (steps s))
+      unfolding reaches
+      counted_from zero j later e = let last : j ≡ steps s = omega arith in rw last (omega (arith, none_passed reaches (steps s)))
+      counted_from (suc n) j later e =
+          let rest = rw (add-one j) at (counted_from n (j + 1) (omega arith) (omega arith)) in
+          omega (arith, rw (add-one j) at (first_passed reaches j n), next_counted j later (omega arith), rest)
+
+      pub all_counted : (n : ℕ) → k + 1 + n ≡ steps s → passed reaches (k + 1) n ≡ above k (root_of s)
+      all_counted n e =
+          let none : above_in k (stack (steps_of s) (counts_of s) (k + 1)) ≡ 0 = rw (add-one k) (above_last (steps_of s) (counts_of s) numbers k) in
+          let all = counted_from n (k + 1) (omega arith) e in
+          let root = above_root (steps_of s) (counts_of s) numbers k (steps s) (root_of s) (omega arith) (one_root s checks) in
+          omega (arith, none, all, root)

@@ -48,11 +48,9 @@ fn steps_above(host: &SizedSheet, k: usize) -> usize
 {
     let h = host.admitted().header();
     let sizes = host.sizes();
-    let mut count = 0;
-    for j in k + 1..h.steps {
-        count += usize::from(j < k + usize::from(sizes[j]));
-    }
-    count
+    (k + 1..h.steps)
+        .filter(|&j| j < k + usize::from(sizes[j]))
+        .count()
 }
 
 // 28, the levels: the steps above the host step and the donor's levels pass 256.
