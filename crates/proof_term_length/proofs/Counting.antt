@@ -13,6 +13,7 @@ use Rattle.definitions.specs.Term.{rename_term, rename_parameter_label}
 use Rattle.definitions.specs.Display.{wrap, display_parameter_label, display_term}
 use Rattle.proof_term.specs.Records.{field_at, label_of, parameter_label, part_at}
 use Rattle.proof_term.specs.Labels.{has_label}
+use Rattle.prefix_code.proofs.Positions.{entry_below}
 use Rattle.vocabulary.specs.declared.Vocabulary.{Vocabulary}
 use Rattle.vocabulary.specs.Vocabulary.{pairs_in, text_in, name_in, prop_in}
 use Rattle.prop_length.proofs.Lengths.{wrapped_length}
@@ -29,8 +30,7 @@ use Rattle.proof_term.specs.declared.nodes.Label.{Label}
 use Rattle.proof_term.proofs.Views.{LabelRead}
 use Rattle.proof_term.proofs.NodeLabels.{label_is}
 use Rattle.proof_term_display.specs.declared.TermPart.{TermPart}
-use Rattle.proof_term_length.specs.declared.Row.{Row}
-use Rattle.proof_term_length.specs.Measure.{row_of, term_length, name_size, part_size, own_label_length}
+use Rattle.proof_term_length.specs.Measure.{TextRow, row_of, Numbered, total, term_length, name_size, part_size, own_label_length}
 
 -- a number past the names stands for no byte
 pub no_name : (bytes : List ℕ) (v : Vocabulary) (n : ℕ) → v.name_count ≤ n → length (name_in bytes v n) ≡ 0
@@ -48,22 +48,20 @@ no_name bytes v n past =
 module _ (bytes : List ℕ) (v : Vocabulary) (records : List ℕ) (n : ℕ) (s : Style) where
   -- a part that is there
   module _ (which : TermPart) (number : ℕ) (is : number ≡ field_at records n (part_field (part_number which))) where
-    pub unit_size : n ≤ number → 2 ≡ part_size bytes v records n s (Some which)
-    unfolding part_size
+    pub unit_size : n ≤ number → 2 ≡ part_size bytes v records n s which
     unit_size h = ap length (unit_text s bytes v records n (part_number which) number is h)
 
     module _ (h : number < n) where
-      text : part_size bytes v records n s (Some which)
+      text : part_size bytes v records n s which
           ≡ length (wrap (is_bracketed (position_of (part_position (part_number which))) s (form_at (name_in bytes v) (prop_in bytes v) records number)) (term_text s bytes v records number))
-      unfolding part_size
       text = sym (ap length (part_text_lem s bytes v records n (part_number which) number is h))
 
       pub bracketed_size : {b : Bool} → b ≡ is_bracketed (position_of (part_position (part_number which))) s (form_at (name_in bytes v) (prop_in bytes v) records number)
-          → b ≡ true → part_size bytes v records n s (Some which) ≡ 2 + term_length bytes v records s number
+          → b ≡ true → part_size bytes v records n s which ≡ 2 + term_length bytes v records s number
       bracketed_size e f = text ∙ (ap (λ b. length (wrap b (term_text s bytes v records number))) (sym e ∙ f) ∙ wrapped_length _)
 
       pub bare_size : {b : Bool} → b ≡ is_bracketed (position_of (part_position (part_number which))) s (form_at (name_in bytes v) (prop_in bytes v) records number)
-          → b ≡ false → part_size bytes v records n s (Some which) ≡ term_length bytes v records s number
+          → b ≡ false → part_size bytes v records n s which ≡ term_length bytes v records s number
       unfolding wrap
       bare_size e f = text ∙ ap (λ b. length (wrap b (term_text s bytes v records number))) (sym e ∙ f)
 
@@ -97,14 +95,12 @@ module _ (bytes : List ℕ) (v : Vocabulary) (records : List ℕ) (n : ℕ) (s :
       go false = omega arith
 
   -- what a row counts
-  abbrev counted : Row → ℕ
-  counted row =
-      row.own + name_size bytes v records n row.name + name_size bytes v records n row.other_name
-      + (part_size bytes v records n s row.first + part_size bytes v records n s row.second + part_size bytes v records n s row.third)
+  abbrev counted : TextRow → ℕ
+  counted row = row.own + (total (name_size bytes v records n) row.names + total (part_size bytes v records n s) row.parts)
 
   -- the row of a kind counts its format
   rows_count : (k : Kind) → sizes (get_or formats (kind_number k) []) ≡ counted (row_of k) + label (kind_number k)
-  unfolding formats items item_of item_text sizes name_size part_size has_label
+  unfolding formats items item_of item_text sizes total has_label
   rows_count kind.Ident = omega arith
   rows_count kind.Pair = omega arith
   rows_count kind.ProjectFst = omega arith
@@ -128,6 +124,23 @@ module _ (bytes : List ℕ) (v : Vocabulary) (records : List ℕ) (n : ℕ) (s :
       let is = ap (λ t. display_term s (rename_term (name_in bytes v) t)) (at.holds (prop_in bytes v)) in
       let same = ap (λ b. cond b (2 + length (label_text bytes v records n)) 0) (at.labels (field_at records n 3)) in
       omega (arith, ap length (is ∙ sym shown), texts_length (get_or formats (kind_number k) []), rows_count k, same)
+
+-- the numbers of a row's names are numbers of a record
+pub row_numbered : (k : Kind) → Numbered (row_of k).names
+row_numbered kind.Ident = λ i. omega (arith, entry_below (1 ∷ []) i)
+row_numbered kind.Pair = λ i. omega (arith, entry_below [] i)
+row_numbered kind.ProjectFst = λ i. omega (arith, entry_below [] i)
+row_numbered kind.ProjectSnd = λ i. omega (arith, entry_below [] i)
+row_numbered kind.Function = λ i. omega (arith, entry_below (2 ∷ []) i)
+row_numbered kind.Application = λ i. omega (arith, entry_below [] i)
+row_numbered kind.LetIn = λ i. omega (arith, entry_below (3 ∷ 4 ∷ []) i)
+row_numbered kind.OrLeft = λ i. omega (arith, entry_below [] i)
+row_numbered kind.OrRight = λ i. omega (arith, entry_below [] i)
+row_numbered kind.Case = λ i. omega (arith, entry_below (4 ∷ 5 ∷ []) i)
+row_numbered kind.Abort = λ i. omega (arith, entry_below [] i)
+row_numbered kind.TypeAscription = λ i. omega (arith, entry_below [] i)
+row_numbered kind.Unit = λ i. omega (arith, entry_below [] i)
+row_numbered kind.Sorry = λ i. omega (arith, entry_below [] i)
 
 -- by whether the record has a label
 pub label_there : (bytes : List ℕ) (v : Vocabulary) (records : List ℕ) (n : ℕ) {l : Label} → LabelRead records n l

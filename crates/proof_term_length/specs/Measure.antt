@@ -1,5 +1,5 @@
 -- The length of a term's text by the records, what it takes to count it, and what is known on the way.
-use Rattle.std.specs.Prelude.{ℕ, ◌+◌, ◌*◌, ◌/◌, ◌%◌, ◌≤◌, ◌<◌, min, ◌≡◌, cond, List, length, get_or, Option, None, Some}
+use Rattle.std.specs.Prelude.{ℕ, ◌+◌, ◌*◌, ◌/◌, ◌%◌, ◌≤◌, ◌<◌, min, ◌≡◌, cond, List, [], ◌∷◌, length, get_or}
 use Rattle.definitions.specs.declared.Style.{Style}
 use Rattle.proof_term.specs.Records.{record_size, field_at}
 use Rattle.proof_term.specs.Labels.{has_label, LabelsFit}
@@ -16,31 +16,43 @@ use Rattle.proof_term_display.specs.Printable.{term_text}
 use Rattle.proof_term_length.specs.declared.Row.{Row}
 
 -- the bytes of its own that a record's text has, the numbers of its names, and its parts
-abbrev pub make_row : ℕ → Option ℕ → Option ℕ → Option TermPart → Option TermPart → Option TermPart → Row
-make_row own name other_name first second third =
-    record { own = own; name = name; other_name = other_name; first = first; second = second; third = third }
+pub record TextRow : Type 0 where
+  pub own : ℕ
+  pub names : List ℕ
+  pub parts : List TermPart
+
+abbrev pub make_row : ℕ → List ℕ → List TermPart → TextRow
+make_row own names parts = record { own = own; names = names; parts = parts }
+
+-- the code's row, by what its slices hold
+abbrev pub seen : Row → TextRow
+seen row = make_row row.own row.names.now row.parts.now
 
 -- of each kind: the bytes of its own, the numbers of its names, and its parts
-abbrev pub row_of : Kind → Row
-row_of kind.Ident = make_row 0 (Some 1) None None None None
-row_of kind.Pair = make_row 4 None None (Some PairFirst) (Some PairSecond) None
-row_of kind.ProjectFst = make_row 4 None None (Some NamedBody) None None
-row_of kind.ProjectSnd = make_row 4 None None (Some NamedBody) None None
-row_of kind.Function = make_row 7 (Some 2) None (Some First) None None
-row_of kind.Application = make_row 1 None None (Some Function) (Some Argument) None
-row_of kind.LetIn = make_row 15 (Some 3) (Some 4) (Some First) (Some Second) None
-row_of kind.OrLeft = make_row 4 None None (Some NamedBody) None None
-row_of kind.OrRight = make_row 4 None None (Some NamedBody) None None
-row_of kind.Case = make_row 27 (Some 4) (Some 5) (Some First) (Some Second) (Some Third)
-row_of kind.Abort = make_row 6 None None (Some NamedBody) None None
-row_of kind.TypeAscription = make_row 0 None None (Some AscribedBody) None None
-row_of kind.Unit = make_row 2 None None None None None
-row_of kind.Sorry = make_row 5 None None None None None
+abbrev pub row_of : Kind → TextRow
+row_of kind.Ident = make_row 0 (1 ∷ []) []
+row_of kind.Pair = make_row 4 [] (PairFirst ∷ PairSecond ∷ [])
+row_of kind.ProjectFst = make_row 4 [] (NamedBody ∷ [])
+row_of kind.ProjectSnd = make_row 4 [] (NamedBody ∷ [])
+row_of kind.Function = make_row 7 (2 ∷ []) (First ∷ [])
+row_of kind.Application = make_row 1 [] (Function ∷ Argument ∷ [])
+row_of kind.LetIn = make_row 15 (3 ∷ 4 ∷ []) (First ∷ Second ∷ [])
+row_of kind.OrLeft = make_row 4 [] (NamedBody ∷ [])
+row_of kind.OrRight = make_row 4 [] (NamedBody ∷ [])
+row_of kind.Case = make_row 27 (4 ∷ 5 ∷ []) (First ∷ Second ∷ Third ∷ [])
+row_of kind.Abort = make_row 6 [] (NamedBody ∷ [])
+row_of kind.TypeAscription = make_row 0 [] (AscribedBody ∷ [])
+row_of kind.Unit = make_row 2 [] []
+row_of kind.Sorry = make_row 5 [] []
 
--- a number of a record, if there is one
-abbrev pub Numbered : Option ℕ → Type 0
-Numbered None = Prim.Unit {0}
-Numbered (Some i) = i < record_size
+-- numbers of a record
+abbrev pub Numbered : List ℕ → Type 0
+Numbered numbers = (i : ℕ) → get_or numbers i 0 < record_size
+
+-- the sum of a list's sizes
+unfoldable pub total : {A : Type 0} → (A → ℕ) → List A → ℕ
+total size [] = 0
+total size (x ∷ xs) = size x + total size xs
 
 -- two counts are the same as far as the cap
 pub record Agrees (cap a b : ℕ) : Type 0 where
@@ -50,14 +62,12 @@ module _ (bytes : List ℕ) (v : Vocabulary) (records : List ℕ) where
   abbrev pub term_length : Style → ℕ → ℕ
   term_length s n = length (term_text s bytes v records n)
 
-  -- the length of the name in a number of record n, and of a part, if there is one
-  unfoldable pub name_size : ℕ → Option ℕ → ℕ
-  name_size n None = 0
-  name_size n (Some i) = length (name_in bytes v (field_at records n i))
+  -- the length of the name in a number of record n, and of a part
+  abbrev pub name_size : ℕ → ℕ → ℕ
+  name_size n i = length (name_in bytes v (field_at records n i))
 
-  unfoldable pub part_size : ℕ → Style → Option TermPart → ℕ
-  part_size n s None = 0
-  part_size n s (Some which) = length (record_item bytes v records n s (part (part_number which)))
+  abbrev pub part_size : ℕ → Style → TermPart → ℕ
+  part_size n s which = length (record_item bytes v records n s (part (part_number which)))
 
   -- what a label adds, if record n has one: a colon, a blank and the label
   unfoldable pub own_label_length : ℕ → ℕ

@@ -5,7 +5,7 @@ ghost use Rattle.std.specs.Prelude.{◌≡◌, List, ℕ, ◌+◌, ◌*◌, ◌�
 ghost use Rattle.proof_term.specs.Records.{record_size};
 ghost use Rattle.prop.specs.Printing.{prop_text, Printable};
 ghost use Rattle.prop_length.specs.Length.{TextLength};
-ghost use Rattle.proof_term_length.specs.Measure.{make_row, row_of, Numbered, name_size, part_size, term_length, own_label_length, Agrees, Measurable, AllNamed, MeasuredBelow, Known};
+ghost use Rattle.proof_term_length.specs.Measure.{seen, make_row, row_of, Numbered, total, name_size, part_size, term_length, own_label_length, Agrees, Measurable, AllNamed, MeasuredBelow, Known};
 
 use TermPart::{
     Argument, AscribedBody, First, Function, NamedBody, PairFirst, PairSecond, Second, Third,
@@ -33,52 +33,35 @@ const COLON: usize = 2;
 #[derive(Clone, Copy)]
 struct Row {
     own: usize,
-    name: Option<usize>,
-    other_name: Option<usize>,
-    first: Option<TermPart>,
-    second: Option<TermPart>,
-    third: Option<TermPart>,
+    names: &'static [usize],
+    parts: &'static [TermPart],
 }
 
 // A row by what it has, in this order.
-fn make_row(
-    own: usize,
-    name: Option<usize>,
-    other_name: Option<usize>,
-    first: Option<TermPart>,
-    second: Option<TermPart>,
-    third: Option<TermPart>,
-) -> Row
-    ensures { result ≡ make_row own name other_name first second third }
+fn make_row(own: usize, names: &'static [usize], parts: &'static [TermPart]) -> Row
+    ensures { seen result ≡ make_row own names.now parts.now }
 {
-    Row {
-        own,
-        name,
-        other_name,
-        first,
-        second,
-        third,
-    }
+    Row { own, names, parts }
 }
 
 // The row of each kind of record. The formats of the printing say the same byte by byte, and a measure that went through them would look
 // at each byte of a format for each record.
 fn row_of(kind: Kind) -> Row
-    ensures { result ≡ row_of kind }
+    ensures { seen result ≡ row_of kind }
 {
     match kind {
-        Kind::Ident => make_row(0, Some(1), None, None, None, None),
-        Kind::Pair => make_row(4, None, None, Some(PairFirst), Some(PairSecond), None),
-        Kind::ProjectFst | Kind::ProjectSnd => make_row(4, None, None, Some(NamedBody), None, None),
-        Kind::Function => make_row(7, Some(2), None, Some(First), None, None),
-        Kind::Application => make_row(1, None, None, Some(Function), Some(Argument), None),
-        Kind::LetIn => make_row(15, Some(3), Some(4), Some(First), Some(Second), None),
-        Kind::OrLeft | Kind::OrRight => make_row(4, None, None, Some(NamedBody), None, None),
-        Kind::Case => make_row(27, Some(4), Some(5), Some(First), Some(Second), Some(Third)),
-        Kind::Abort => make_row(6, None, None, Some(NamedBody), None, None),
-        Kind::TypeAscription => make_row(0, None, None, Some(AscribedBody), None, None),
-        Kind::Unit => make_row(2, None, None, None, None, None),
-        Kind::Sorry => make_row(5, None, None, None, None, None),
+        Kind::Ident => make_row(0, &[1], &[]),
+        Kind::Pair => make_row(4, &[], &[PairFirst, PairSecond]),
+        Kind::ProjectFst | Kind::ProjectSnd => make_row(4, &[], &[NamedBody]),
+        Kind::Function => make_row(7, &[2], &[First]),
+        Kind::Application => make_row(1, &[], &[Function, Argument]),
+        Kind::LetIn => make_row(15, &[3, 4], &[First, Second]),
+        Kind::OrLeft | Kind::OrRight => make_row(4, &[], &[NamedBody]),
+        Kind::Case => make_row(27, &[4, 5], &[First, Second, Third]),
+        Kind::Abort => make_row(6, &[], &[NamedBody]),
+        Kind::TypeAscription => make_row(0, &[], &[AscribedBody]),
+        Kind::Unit => make_row(2, &[], &[]),
+        Kind::Sorry => make_row(5, &[], &[]),
     }
 }
 
@@ -89,30 +72,47 @@ fn sum(a: usize, b: usize, cap: usize) -> usize
     a.saturating_add(b).min(cap)
 }
 
-// Records, memory, vocabulary, lengths, style and cap stand loose in what follows: three of the functions take each a part of them, and
+// Records, memory, vocabulary, lengths, style and cap stand loose in what follows: five of the functions take each a part of them, and
 // what they ask for speaks of one record, memory or table at a time.
 
-// The length of the name in a number of record `n`, if there is one. A number of no name stands for no byte.
-fn name_in(records: &[u16], n: usize, number: Option<usize>, bytes: &[u8], v: Vocabulary) -> usize
-    requires n_in_bounds { (record_size * (n + 1) ≤ length records.now) × Numbered number }
+// The length of the name in a number of record `n`. A number of no name stands for no byte.
+fn name_in(records: &[u16], n: usize, number: usize, bytes: &[u8], v: Vocabulary) -> usize
+    requires n_in_bounds { (record_size * (n + 1) ≤ length records.now) × (number < record_size) }
     requires all_named { AllNamed bytes.now v }
-    ensures { (result ≡ name_size bytes.now v records.now n number) × (result < 65536) }
+    ensures { result ≡ name_size bytes.now v records.now n number }
 {
-    let Some(i) = number else {
-        return 0;
-    };
-    let name = field(records, n, i);
+    let name = field(records, n, number);
     if v.name_count <= name {
         return 0;
     }
     name_length(bytes, v, name)
 }
 
-// The length of a part of record `n`, if there is one, in brackets where its position asks for them, by the lengths of the records before.
+// The length of the names in some numbers of record `n`.
+fn names_in(
+    records: &[u16],
+    n: usize,
+    numbers: &[usize],
+    bytes: &[u8],
+    v: Vocabulary,
+    cap: usize,
+) -> usize
+    requires n_in_bounds { (record_size * (n + 1) ≤ length records.now) × Numbered numbers.now }
+    requires all_named { AllNamed bytes.now v }
+    ensures { Agrees cap result (total (name_size bytes.now v records.now n) numbers.now) }
+{
+    let mut length = 0;
+    for &number in numbers {
+        length = sum(length, name_in(records, n, number, bytes, v), cap);
+    }
+    length
+}
+
+// The length of a part of record `n`, in brackets where its position asks for them, by the lengths of the records before.
 fn part_in(
     records: &[u16],
     n: usize,
-    part: Option<TermPart>,
+    part: TermPart,
     lengths: &[usize; RECORD_LIMIT],
     style: Style,
     cap: usize,
@@ -122,17 +122,35 @@ fn part_in(
         MeasuredBelow bytes v records.now style cap lengths.now n →
         Agrees cap result (part_size bytes v records.now n style part) }
 {
-    let Some(which) = part else {
-        return 0;
-    };
-    let number = field(records, n, which.field());
+    let number = field(records, n, part.field());
     if n <= number {
         return UNIT_LENGTH;
     }
-    if is_bracketed(records, number, which.position(), style) {
+    if is_bracketed(records, number, part.position(), style) {
         return sum(BRACKETS, lengths[number], cap);
     }
     lengths[number]
+}
+
+// The length of some parts of record `n`.
+fn parts_in(
+    records: &[u16],
+    n: usize,
+    parts: &[TermPart],
+    lengths: &[usize; RECORD_LIMIT],
+    style: Style,
+    cap: usize,
+) -> usize
+    requires { (record_size * (n + 1) ≤ length records.now) × (n < 2048) }
+    ensures { (bytes : List ℕ) (v : Vocabulary) →
+        MeasuredBelow bytes v records.now style cap lengths.now n →
+        Agrees cap result (total (part_size bytes v records.now n style) parts.now) }
+{
+    let mut length = 0;
+    for &part in parts {
+        length = sum(length, part_in(records, n, part, lengths, style, cap), cap);
+    }
+    length
 }
 
 // The length of record `n`'s text but for its label.
@@ -152,13 +170,10 @@ fn bare_length(
         (term_length bytes.now v records.now style n) }
 {
     let row = row_of(kind_at(records, n));
-    let name = name_in(records, n, row.name, bytes, v);
-    let other_name = name_in(records, n, row.other_name, bytes, v);
-    let first = part_in(records, n, row.first, lengths, style, cap);
-    let second = part_in(records, n, row.second, lengths, style, cap);
-    let third = part_in(records, n, row.third, lengths, style, cap);
-    let both = sum(first, second, cap);
-    sum(row.own + name + other_name, sum(both, third, cap), cap)
+    let names = names_in(records, n, row.names, bytes, v, cap);
+    let parts = parts_in(records, n, row.parts, lengths, style, cap);
+    let rest = sum(names, parts, cap);
+    sum(row.own, rest, cap)
 }
 
 // The length of the text of the proposition at `at`, which is found out once, unless a label 4,096 bytes away takes turns with it.

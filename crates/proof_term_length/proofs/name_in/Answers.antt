@@ -1,6 +1,5 @@
 -- The number is that of a name, or stands for no byte.
 use mathlib.Core.Path.{◌≡◌, sym, ap, ◌∙◌}
-use native.Mathlib.Omega.{arith}
 use lib.ListN.{length}
 use Rattle.vocabulary.specs.Vocabulary.{name_in}
 use Rattle.proof_term_length.specs.Measure.{name_size}
@@ -11,17 +10,12 @@ use Rattle.proof_term_length.proofs.name_in.Goals.{After-field-name}
 -- the size is that of the name of the number that was read
 size_is : (c : After-field-name) → let s = c.args in
     name_size s.bytes.now s.v s.records.now s.n s.number ≡ length (name_in s.bytes.now s.v c.field-name.result)
-unfolding name_size
-size_is c = let s = c.args in rw c.in-Some.is (ap (λ k. length (name_in s.bytes.now s.v k)) (sym c.field-name.ensures.0))
-
-pub returns-in_default : goal.returns-in_default
-unfolding name_size
-returns-in_default c = (rw c.in_default.is, omega arith)
+size_is c = let s = c.args in ap (λ k. length (name_in s.bytes.now s.v k)) (sym c.field-name.ensures.0)
 
 pub returns-then-v-name : goal.returns-then-v-name
 returns-then-v-name c =
     let s = c.args in
-    (sym (size_is (goal.at.returns-then-v-name c).After-field-name ∙ no_name s.bytes.now s.v _ c.if-v-name.true), omega arith)
+    sym (size_is (goal.at.returns-then-v-name c).After-field-name ∙ no_name s.bytes.now s.v _ c.if-v-name.true)
 
 pub returns : goal.returns
-returns c = (c.name_length.ensures.is ∙ sym (size_is (goal.at.returns c).After-field-name), c.name_length.ensures.small)
+returns c = c.name_length.ensures.is ∙ sym (size_is (goal.at.returns c).After-field-name)

@@ -3,36 +3,29 @@ use mathlib.Core.Path.{◌≡◌, refl, ap, ◌∙◌}
 use Rattle.proof_term.specs.Records.{field_at}
 use Rattle.proof_term_display.specs.Format.{part_field, part_number}
 use Rattle.proof_term_display.proofs.Tables.{at_position}
-use Rattle.proof_term_length.specs.Measure.{part_size}
 use Rattle.proof_term_length.proofs.Sums.{agree_exactly, agree_as_far, agree_sum}
 use Rattle.proof_term_length.proofs.Counting.{unit_size, bracketed_size, bare_size}
 use Rattle.proof_term_length.proofs.part_in.Goals as goal
 use Rattle.proof_term_length.proofs.part_in.Goals.{After-field-number}
 
 number_is : (c : After-field-number) → let s = c.args in
-    c.field-number.result ≡ field_at s.records.now s.n (part_field (part_number c.in-Some.which))
+    c.field-number.result ≡ field_at s.records.now s.n (part_field (part_number s.part))
 number_is c = c.field-number.ensures.0 ∙ ap (field_at _ _) c.field.ensures
-
-pub returns-in_default : goal.returns-in_default
-unfolding part_size
-returns-in_default c = λ bytes v measured. agree_exactly (rw c.in_default.is)
 
 pub returns-then-n-number : goal.returns-then-n-number
 returns-then-n-number c = λ bytes v measured.
-    rw c.in-Some.is
-    (agree_exactly (unit_size bytes v _ _ c.args.style _ _ (number_is (goal.at.returns-then-n-number c).After-field-number) c.if-n-number.true))
+    agree_exactly (unit_size bytes v _ _ c.args.style _ _ (number_is (goal.at.returns-then-n-number c).After-field-number) c.if-n-number.true)
 
 pub returns-then-is_bracketed : goal.returns-then-is_bracketed
 returns-then-is_bracketed c = λ bytes v measured.
     let s = c.args in
     let bracketed = at_position _ _ _ _ c.position.ensures (c.is_bracketed.ensures _ _) in
     let size = bracketed_size bytes v _ _ s.style _ _ (number_is (goal.at.returns-then-is_bracketed c).After-field-number) c.if-n-number.false bracketed c.if-is_bracketed.true in
-    let part = measured _ c.if-n-number.false in
-    rw (c.in-Some.is, size) (agree_sum (agree_exactly refl) (agree_as_far part) c.sum.ensures)
+    rw size (agree_sum (agree_exactly refl) (agree_as_far (measured _ c.if-n-number.false)) c.sum.ensures)
 
 pub returns : goal.returns
 returns c = λ bytes v measured.
     let s = c.args in
     let bracketed = at_position _ _ _ _ c.position.ensures (c.is_bracketed.ensures _ _) in
     let size = bare_size bytes v _ _ s.style _ _ (number_is (goal.at.returns c).After-field-number) c.if-n-number.false bracketed c.if-is_bracketed.false in
-    rw (c.in-Some.is, size) (agree_as_far (measured _ c.if-n-number.false))
+    rw size (agree_as_far (measured _ c.if-n-number.false))
