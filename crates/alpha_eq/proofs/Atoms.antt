@@ -1,16 +1,17 @@
 -- Two atoms are compared by their names, by their parameter counts, and by their parameters.
 use Rattle.std.specs.Prelude.{Ok, None}
-use Prim.Native.Nat.{ℕ, ◌+◌}
+use Prim.Native.Nat.{ℕ, ◌+◌, ◌≤◌}
 use mathlib.Core.Path.{◌≡◌, refl}
 use mathlib.Core.Bool.{Bool, true, false}
 use mathlib.Core.List.{List}
 use native.Mathlib.Omega.{arith}
-use lib.ListN.{get_or, length-map}
+use lib.ListN.{length, take, get_or, length-map}
 use lib.Dec.{eqb}
 use borrow.Author.Tests.{eq-eqb, ne_eqb}
 use Rattle.definitions.specs.Outcome.{accepted}
 use Rattle.definitions.specs.Name.{eq_name}
 use Rattle.definitions.specs.Sheet.{number_at, marked}
+use Rattle.definitions.specs.Prop.{Applied}
 use Rattle.definitions.specs.Code.{u16, encode, Codable}
 use Rattle.definitions.specs.Comparison.{no, and_also, alpha_eq_atom}
 use Rattle.prefix_code.specs.Scan.{Stands}
@@ -18,6 +19,7 @@ use Rattle.prefix_code.specs.Head.{encode_head, CodableHead}
 use Rattle.prefix_code.proofs.Heads.{AtomBytes, atom_bytes}
 use Rattle.alpha_eq.specs.declared.Pair.{Pair}
 use Rattle.alpha_eq.specs.Comparing.{Compared, compared, alpha_eq_parameters_in, alpha_eq_atom_in, of_applied, form_coding, several_coding, Standing, end_of, Two, Answers}
+use Rattle.alpha_eq.proofs.Bindings.{bindings_cut}
 
 module _ {names : ℕ} {code : List ℕ} {at : ℕ} (s : Standing (form_coding of_applied) names code at) where
   pub atom_at : AtomBytes names code at s.value.atom s.value.parameters s.rest
@@ -73,3 +75,9 @@ module _ (pairs text : List ℕ) (memory : List Pair) (depth : ℕ) (code : List
         rw (atom_outcome two, e, eq-eqb (get_or code (i + 3) 0) (get_or code (j + 3) 0) counted, ← atom_end two.left refl, ← atom_end two.right counted)
         (decided.answer names (two_lists counted two));
   }
+
+-- an atom is compared alike by the bindings cut behind those that count
+pub atom_cut : (pairs text : List ℕ) (memory : List Pair) (depth : ℕ) → depth ≤ length memory → (a b : Applied ℕ)
+    → alpha_eq_atom_in pairs text memory depth a b ≡ alpha_eq_atom_in pairs text (take depth memory) (length (take depth memory)) a b
+unfolding alpha_eq_atom_in
+atom_cut pairs text memory depth room a b = rw (bindings_cut memory depth room (marked pairs text)) refl

@@ -106,7 +106,7 @@ module _ {pairs text : List ℕ} {memory : List Pair} {depth : ℕ} {code : List
             names = asked.forms.names;
             two = two_rights asked.forms.two at.1 at.2;
             named = asked.forms.named;
-            bound = bound_kept kept long asked.forms.bound;
+            bound = bound_kept kept (omega (arith, long, asked.forms.bound.present)) asked.forms.bound;
           };
           room = omega (arith, asked.room);
         }

@@ -3,7 +3,7 @@
 // atoms of one name with different parameter counts are a no, and two unbound parameters refusal 19.
 #![tactic(auto)]
 
-ghost use Rattle.std.specs.Prelude.{◌≡◌, get_or};
+ghost use Rattle.std.specs.Prelude.{◌≡◌, get_or, length};
 ghost use Rattle.definitions.specs.Sheet.{marked};
 ghost use Rattle.number.specs.Pairs.{NameWithin};
 ghost use Rattle.prefix_code.specs.Scan.{proposition_coding, parameter_coding};
@@ -17,9 +17,9 @@ use number::number_at;
 use prefix_code::{Head, ParameterKind};
 use sheet::Sheet;
 
-// Codes, places, names and bindings stand loose below: the two places move with each call, the bindings are written, and in a struct of
-// the three that are lent and stay each clause would read `w.now.code.now` for `code.now`. What is asked and answered is one relation of a
-// coding, `Comparable`, `WithRoom` or `Answers`, and each function names its own coding in it.
+// Codes, places, names and bindings stand loose below: the two places move with each call, a quantifier writes a binding behind the first
+// `depth`, and in a struct of the three that are lent and stay each clause would read `w.now.code.now` for `code.now`. What is asked and
+// answered is one relation of a coding, `Comparable`, `WithRoom` or `Answers`, and each function names its own coding in it.
 
 // What the walk over two codes answers: where both end if they are the same, nothing if they are not, or a refusal.
 pub type Compared = Result<Option<(usize, usize)>, Refusal>;
@@ -34,19 +34,17 @@ pub struct Pair {
 // Two uninstantiated parameters, by the latest binding that has either: 19 where there is none.
 fn bound_alike(
     bindings: &[Pair],
-    depth: usize,
     pairs: &[u8],
     text: &[u8],
     x: usize,
     y: usize,
 ) -> Result<bool, Refusal>
-    requires bound { Bound pairs.now text.now bindings.now depth }
+    requires bound { Bound pairs.now text.now bindings.now (length bindings.now) }
     requires name_within { NameWithin pairs.now text.now x × NameWithin pairs.now text.now y }
     ensures { outcome_of result
-        ≡ bound_alike_in pairs.now text.now bindings.now depth x y }
+        ≡ bound_alike_in pairs.now text.now bindings.now (length bindings.now) x y }
 {
-    for k in (0..depth).rev() {
-        let Pair { left, right } = bindings[k];
+    for &Pair { left, right } in bindings.iter().rev() {
         let binds_x = same_bytes(pairs, text, usize::from(left), x);
         let binds_y = same_bytes(pairs, text, usize::from(right), y);
         if binds_x || binds_y {
@@ -64,11 +62,10 @@ fn alpha_eq_parameter(
     pairs: &[u8],
     text: &[u8],
     bindings: &[Pair],
-    depth: usize,
 ) -> Compared
-    requires { Comparable parameter_coding code.now i j pairs.now text.now bindings.now depth }
+    requires { Comparable parameter_coding code.now i j pairs.now text.now bindings.now (length bindings.now) }
     ensures { Answers parameter_coding code.now i j
-        (alpha_eq_parameter_in pairs.now text.now bindings.now depth) result }
+        (alpha_eq_parameter_in pairs.now text.now bindings.now (length bindings.now)) result }
 {
     let byte = code[i];
     if byte != code[j] {
@@ -81,7 +78,7 @@ fn alpha_eq_parameter(
     let y = number_at(code, j + 1);
     match kind {
         ParameterKind::Uninstantiated => {
-            let same = bound_alike(bindings, depth, pairs, text, x, y)?;
+            let same = bound_alike(bindings, pairs, text, x, y)?;
             Ok(same.then_some((i + 3, j + 3)))
         }
         ParameterKind::Instantiated => {
@@ -102,16 +99,15 @@ fn alpha_eq_parameters(
     pairs: &[u8],
     text: &[u8],
     bindings: &[Pair],
-    depth: usize,
 ) -> Compared
-    requires { Comparable (several_coding count) code.now i j pairs.now text.now bindings.now depth }
+    requires { Comparable (several_coding count) code.now i j pairs.now text.now bindings.now (length bindings.now) }
     ensures { Answers (several_coding count) code.now i j
-        (alpha_eq_parameters_in pairs.now text.now bindings.now depth) result }
+        (alpha_eq_parameters_in pairs.now text.now bindings.now (length bindings.now)) result }
 {
     let mut left = i;
     let mut right = j;
     for _ in 0..count {
-        let next = alpha_eq_parameter(code, left, right, pairs, text, bindings, depth)?;
+        let next = alpha_eq_parameter(code, left, right, pairs, text, bindings)?;
         let Some((left_end, right_end)) = next else {
             return Ok(None);
         };
@@ -129,11 +125,10 @@ fn alpha_eq_atom(
     pairs: &[u8],
     text: &[u8],
     bindings: &[Pair],
-    depth: usize,
 ) -> Compared
-    requires { Comparable (form_coding of_applied) code.now i j pairs.now text.now bindings.now depth }
+    requires { Comparable (form_coding of_applied) code.now i j pairs.now text.now bindings.now (length bindings.now) }
     ensures { Answers (form_coding of_applied) code.now i j
-        (alpha_eq_atom_in pairs.now text.now bindings.now depth) result }
+        (alpha_eq_atom_in pairs.now text.now bindings.now (length bindings.now)) result }
 {
     let a = number_at(code, i + 1);
     let b = number_at(code, j + 1);
@@ -154,7 +149,6 @@ fn alpha_eq_atom(
         pairs,
         text,
         bindings,
-        depth,
     )
 }
 
@@ -237,7 +231,7 @@ pub fn alpha_eq_under(
     match head {
         Head::True | Head::False => Ok(Some((i + 1, j + 1))),
         Head::Binary(_) => alpha_eq_sides(code, i, j, pairs, text, bindings, depth),
-        Head::Atom => alpha_eq_atom(code, i, j, pairs, text, bindings, depth),
+        Head::Atom => alpha_eq_atom(code, i, j, pairs, text, &bindings[..depth]),
         Head::Quantified(_) => alpha_eq_scope(code, i, j, pairs, text, bindings, depth),
     }
 }

@@ -9,7 +9,8 @@ use Rattle.identifier.proofs.Within.{last_within}
 use Rattle.alpha_eq.specs.Comparing.{of_sides, of_applied, of_scope}
 use Rattle.prefix_code.proofs.Fronts.{front_byte, leaf_front, binary_front, quantified_front}
 use Rattle.alpha_eq.proofs.Outcomes.{no_stops, refusal_stops}
-use Rattle.alpha_eq.proofs.Bindings.{kept_all, kept_fewer, kept_trans, kept_pushed}
+use Rattle.alpha_eq.proofs.Atoms.{atom_cut}
+use Rattle.alpha_eq.proofs.Bindings.{bound_cut, kept_all, kept_fewer, kept_trans, kept_pushed}
 use Rattle.alpha_eq.proofs.Forms.{SameForm, inside, known, other_front, same_leaf, same_connective, same_atom, same_quantifier}
 use Rattle.alpha_eq.proofs.Forms.{forms_asked, by_form, sides_under, atom_under, scope_under}
 use Rattle.alpha_eq.proofs.Sides.{sides_inside, lefts_asked, lefts_stop, rights_decide, rights_asked, rights_after}
@@ -166,12 +167,16 @@ alpha_eq_under-returns-in-Binary t c =
 
 pub alpha_eq_under-alpha_eq_atom-requires : goal.alpha_eq_under-alpha_eq_atom-requires
 alpha_eq_under-alpha_eq_atom-requires t c =
-    (forms_asked of_applied (atom t (goal.at.alpha_eq_under-alpha_eq_atom-requires t c).In-Atom) c.requires).forms
+    let asked = (forms_asked of_applied (atom t (goal.at.alpha_eq_under-alpha_eq_atom-requires t c).In-Atom) c.requires).forms in
+    record { names = asked.names; two = asked.two; named = asked.named; bound = bound_cut _ _ asked.bound.present asked.bound }
 
 pub alpha_eq_under-returns-in-Atom : goal.alpha_eq_under-returns-in-Atom
 alpha_eq_under-returns-in-Atom t c =
     let here = atom t (goal.at.alpha_eq_under-returns-in-Atom t c).In-Atom in
-    record { answers = by_form of_applied here _ _ (atom_under _ _ _ _) c.alpha_eq_atom.ensures; kept = kept_all }
+    let room = c.requires.forms.bound.present in record {
+      answers = by_form of_applied here _ _ (λ a b. atom_under _ _ _ _ a b ∙ atom_cut _ _ _ _ room a b) c.alpha_eq_atom.ensures;
+      kept = kept_all;
+    }
 
 pub alpha_eq_under-alpha_eq_scope-requires : goal.alpha_eq_under-alpha_eq_scope-requires
 alpha_eq_under-alpha_eq_scope-requires t c = (
