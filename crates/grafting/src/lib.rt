@@ -5,7 +5,6 @@
 ghost use Rattle.std.specs.Prelude.{◌≡◌, false, ℕ, ◌+◌, ◌≤◌, ◌<◌, length, take, ltb, Ok};
 ghost use Rattle.definitions.specs.Sheet.{name_limit, tree_nesting_limit, names, steps};
 ghost use Rattle.definitions.specs.Tree.{height, root_of};
-ghost use Rattle.definitions.specs.NameIndex.{slot_count};
 ghost use Rattle.definitions.specs.Graft.{not_open, graft, graft_answer};
 ghost use Rattle.graft_laws.specs.Levels.{above};
 ghost use Rattle.graft_laws.specs.Merges.{Merges};
@@ -158,10 +157,9 @@ fn graft_indexed(
     host: &SizedSheet,
     k: usize,
     donor: &SizedSheet,
-    slots: &mut [u16],
+    slots: &mut [u16; SLOT_COUNT],
     out: &mut [u8],
 ) -> Result<usize, Refusal>
-    requires { length slots.old ≡ slot_count }
     ensures fills { Fills (graft host.now donor.now k (length out.old))
         out.old out.new result }
     ensures slots_after { slots.new ≡ slots_after

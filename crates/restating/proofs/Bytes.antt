@@ -15,7 +15,6 @@ use Rattle.definitions.specs.Restate as restate
 use Rattle.definitions.specs.Restate.{new_record, with_step}
 use Rattle.output.specs.Numbers.{u16s}
 use Rattle.output.specs.Wrote.{Wrote, puts}
-use Rattle.steps.specs.Records.{HasStep}
 use Rattle.sheet.specs.declared.header.Sheet.{Sheet}
 use Rattle.sheet.specs.declared.header.Layout.{Layout}
 use Rattle.sheet.specs.Header.{header_of, layout_of, InRange}
@@ -34,10 +33,6 @@ record_bytes g = refl
 record_length : (g : restate.Given) → length (new_record g) ≡ step_size
 unfolding new_record encode_rule encode_identifier u16 step_size
 record_length g = refl
-
-pub has_record : {step : List ℕ} (g : restate.Given) → step ≡ new_record g → HasStep step 0
-unfolding step_size
-has_record g e = rw e (omega (arith, record_length g))
 
 -- a memory that a text fills is the text
 whole_memory : {text before after : List ℕ} {next : ℕ} → Wrote text true before 0 after next → length before ≡ length text

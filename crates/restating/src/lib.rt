@@ -8,12 +8,10 @@ ghost use Rattle.definitions.specs.Sheet.{step_limit, names, propositions, steps
 ghost use Rattle.definitions.specs.Tree.{root_of};
 ghost use Rattle.definitions.specs.Admission.{bad_step};
 ghost use Rattle.definitions.specs.Answers.{is_in_room};
-ghost use Rattle.definitions.specs.NameIndex.{slot_count};
 ghost use Rattle.definitions.specs.Restate.{new_record, no_step_left, restate_answer};
 ghost use Rattle.writer_laws.specs.Restates.{Restates};
 ghost use Rattle.output.specs.Numbers.{u16s};
 ghost use Rattle.output.specs.Written.{Fills};
-ghost use Rattle.steps.specs.Records.{HasStep};
 ghost use Rattle.sheet.specs.Header.{InRange};
 ghost use Rattle.sheet.specs.Admitted.{Accepted};
 ghost use Rattle.sheet.specs.Checks.{outcome_of};
@@ -104,9 +102,9 @@ fn no_step_left(sheet: &SizedSheet) -> bool
 }
 
 // The root's conclusion and that of one more step.
-fn compare_root(sheet: &AdmittedSheet, step: &[u8]) -> Result<bool, Refusal>
-    requires has_step { HasStep step.now 0 }
-    requires step_value { bad_step (names sheet.now) (propositions sheet.now) step.now 0 ≡ false }
+#[tactic(auto, unfolding(definitions::specs::Sheet::step_size))]
+fn compare_root(sheet: &AdmittedSheet, step: &[u8; Sheet::STEP_SIZE]) -> Result<bool, Refusal>
+    requires { bad_step (names sheet.now) (propositions sheet.now) step.now 0 ≡ false }
     ensures { outcome_of result ≡ root_compared sheet.now step.now }
 {
     let h = sheet.header();
@@ -116,8 +114,8 @@ fn compare_root(sheet: &AdmittedSheet, step: &[u8]) -> Result<bool, Refusal>
 }
 
 // 23, 24, and then whether the root's conclusion equals that of one more step.
-fn judge(sheet: &SizedSheet, step: &[u8]) -> Result<bool, Refusal>
-    requires { HasStep step.now 0 }
+#[tactic(auto, unfolding(definitions::specs::Sheet::step_size))]
+fn judge(sheet: &SizedSheet, step: &[u8; Sheet::STEP_SIZE]) -> Result<bool, Refusal>
     ensures value { outcome_of result ≡ judged sheet.now step.now }
     ensures accepted { Accepted sheet.now }
 {
@@ -167,10 +165,9 @@ fn restate_accepted(sheet: &SizedSheet, given: Given, out: &mut [u8]) -> Result<
 fn restate_indexed(
     sheet: &SizedSheet,
     given: Given,
-    slots: &mut [u16],
+    slots: &mut [u16; SLOT_COUNT],
     out: &mut [u8],
 ) -> Result<usize, Refusal>
-    requires { length slots.old ≡ slot_count }
     ensures fills { Fills (restate_answer sheet.now (given_of given) (length out.old))
         out.old out.new result }
     ensures slots_after { slots.new ≡ slots_after

@@ -4,7 +4,6 @@ use native.Mathlib.Omega.{arith}
 use Rattle.std.proofs.Common.{rules}
 use Rattle.std.specs.Prelude.{Ok, Err}
 use Rattle.definitions.specs.declared.Whose.TheVariants.{Neither, Host, Donor}
-use Rattle.definitions.specs.NameIndex.{slot_count}
 use Rattle.sheet.specs.Admitted.{Accepted}
 use Rattle.sheet.proofs.Admitted.{with_header}
 use Rattle.grafting.proofs.Answers.{By, by_mapped, accepted_by, refused_as, told_by, admits_ok, admits_err, host-refused, donor-refused, neither, slots-of-neither, bytes-merge}
@@ -54,10 +53,6 @@ returns-in_err-g c =
       slots_after = slots;
       by_index = bytes-merge _ _ _ _ (λ i. omega (arith, c.type_inv.host i)) (λ i. omega (arith, c.type_inv.donor i)) handed;
     }
-
-pub graft_indexed-written-requires : goal.graft_indexed-written-requires
-unfolding slot_count
-graft_indexed-written-requires c = search rules
 
 pub returns : goal.returns
 returns c =

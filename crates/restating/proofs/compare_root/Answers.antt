@@ -14,7 +14,7 @@ step_at-root-requires c =
 pub compare_conclusions-requires : goal.compare_conclusions-requires
 compare_conclusions-requires c =
     let sheet = beside_header c.header-h.ensures.is c.header-h.ensures.accepted in
-    rw (c.step_at-root.ensures, c.step_at-new.ensures, c.step_records.ensures.is) (root_in sheet, step_in _ _ c.requires.step_value)
+    rw (c.step_at-root.ensures, c.step_at-new.ensures, c.step_records.ensures.is) (root_in sheet, step_in _ _ c.requires)
 
 pub returns : goal.returns
 returns c =

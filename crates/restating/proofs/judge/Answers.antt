@@ -25,9 +25,9 @@ returns-then-no_step_left-clause-value c =
     (judged_full _ _ (sym (tested (goal.at.returns-then-no_step_left-clause-value c).After-bad_step) ∙ c.if-bad_step.false)
     (sym c.no_step_left.ensures ∙ c.if-no_step_left.true))
 
-pub compare_root-requires-clause-step_value : goal.compare_root-requires-clause-step_value
-compare_root-requires-clause-step_value c =
-    rw c.admitted-2.ensures.is (sym (tested (goal.at.compare_root-requires-clause-step_value c).After-bad_step) ∙ c.if-bad_step.false)
+pub compare_root-requires : goal.compare_root-requires
+compare_root-requires c =
+    rw c.admitted-2.ensures.is (sym (tested (goal.at.compare_root-requires c).After-bad_step) ∙ c.if-bad_step.false)
 
 pub returns-clause-value : goal.returns-clause-value
 returns-clause-value c =

@@ -1,7 +1,6 @@
 -- A refused sheet is the answer; of an accepted one the laws hold of the very bytes.
 use mathlib.Core.Path.{refl}
 use borrow.Author.Rules.{rules}
-use Rattle.definitions.specs.NameIndex.{slot_count}
 use Rattle.restating.proofs.Answers.{told, sheet-refused, slots_kept, bytes-restate}
 use Rattle.restating.proofs.restate.Goals as goal
 
@@ -10,10 +9,6 @@ returns-in_err-sheet c =
     let answer = sheet-refused _ _ c.in_err-sheet.ensures _ _ in
     let handed = told answer (search rules) in
     record { fills = handed; slots_after = slots_kept _ _ _ answer refl _; by_index = bytes-restate _ _ _ handed }
-
-pub restate_indexed-requires : goal.restate_indexed-requires
-unfolding slot_count
-restate_indexed-requires c = search rules
 
 pub returns : goal.returns
 returns c =

@@ -1,12 +1,8 @@
 -- The new record is tested, and the sheet with it is written where the tests answer yes.
 use borrow.Author.Rules.{rules}
 use Rattle.restating.proofs.Answers.{told}
-use Rattle.restating.proofs.Bytes.{has_record}
 use Rattle.restating.proofs.Tests.{tests_refused, tests_no, tests_yes, steps_left}
 use Rattle.restating.proofs.restate_accepted.Goals as goal
-
-pub judge-requires : goal.judge-requires
-judge-requires c = has_record _ c.put_record.ensures
 
 pub returns-in_err-same : goal.returns-in_err-same
 returns-in_err-same c =

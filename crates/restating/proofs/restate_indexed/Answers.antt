@@ -1,5 +1,6 @@
 -- A refusal leaves the slots; where a sheet is written, they are the index of the old names, which is the new one's.
 use borrow.Author.Rules.{rules}
+use Rattle.definitions.specs.NameIndex.{slot_count}
 use Rattle.sheet.proofs.Admitted.{with_header}
 use Rattle.restating.proofs.Answers.{told, vocabulary-within, few_names, built, slots_kept, slots-built}
 use Rattle.restating.proofs.restate_indexed.Goals as goal
@@ -10,11 +11,12 @@ returns-in_err-length c =
     record { fills = told answer (search rules); slots_after = slots_kept _ _ _ answer c.in_err-length.was _ }
 
 pub build-requires : goal.build-requires
+unfolding slot_count
 build-requires c =
     let record { is = is; accepted = accepted } = c.vocabulary.ensures in
     rw c.bytes.ensures.is
     record {
-      slots_len = (c.requires, vocabulary-within (with_header accepted) is);
+      slots_len = (search rules, vocabulary-within (with_header accepted) is);
       name_count_bound = few_names (with_header accepted) is;
     }
 
