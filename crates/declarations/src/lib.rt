@@ -28,7 +28,7 @@ use vocabulary::{Vocabulary, code_of};
 const NAME_FLAGS: usize = PARAMETER_LIMIT as usize + 1;
 
 // A declaration: the number of a name, and a count.
-#[derive(Clone, Copy)]
+#[derive(Clone, Copy, Default)]
 pub struct Declaration {
     pub name: u16,
     pub count: u16,
@@ -64,7 +64,7 @@ impl<const N: usize> Declarations<N> {
         ensures { Fresh result }
     {
         Declarations {
-            rows: [Declaration { name: 0, count: 0 }; N],
+            rows: [Declaration::default(); N],
             len: 0,
             seen: [false; N],
             newest: [None; SLOT_COUNT],
