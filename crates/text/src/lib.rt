@@ -1,7 +1,7 @@
 // The text of a sheet's term: the declarations, and then the term (source document 005).
 #![tactic(auto)]
 
-ghost use Rattle.std.specs.Prelude.{◌≡◌, ◌≤◌, ◌<◌, List, ℕ, length, take};
+ghost use Rattle.std.specs.Prelude.{◌≡◌, ◌≤◌, ◌<◌, List, ℕ, length};
 ghost use Rattle.definitions.specs.declared.Version.TheVariants.{First};
 ghost use Rattle.definitions.specs.Outcome.{accepted};
 ghost use Rattle.definitions.specs.Name.{Name};
@@ -29,8 +29,8 @@ use sheet_term::{TERM_NUMBERS, sheet_term};
 // As many declarations as there are names and counts of parameters.
 const DECLARATION_LIMIT: usize = Sheet::NAME_LIMIT * (Sheet::PARAMETER_LIMIT + 1);
 
-// The text of a sheet's term has fewer bytes: 2 to the 42nd.
-const TERM_TEXT_LIMIT: usize = 4398046511104;
+// The text of a sheet's term has fewer bytes.
+const TERM_TEXT_LIMIT: usize = 1 << 42;
 
 // The list whose declarations come first in a version of the heading, and the list whose come second. In this crate the version is looked
 // at here and where the order is chosen, and handed on elsewhere.
@@ -47,17 +47,17 @@ fn lists(version: Version) -> (TermList, TermList)
 // A sheet, the records of its term and the record that holds it are three parameters and no struct: a ghost field takes a fact that has
 // one proof at most, and of `HeldTerm`, which holds for each label the number of a proposition, this is not shown.
 
-// Stores the declarations of a list of the term and then of what the goal adds to it, and says how many there are.
-fn declare(
+// The declarations of a list of the term and then of what the goal adds to it, in lent memory.
+fn declare<'a>(
     sheet: &AdmittedSheet,
     terms: &[u16],
     n: usize,
     list: TermList,
-    declared: &mut [Declaration; DECLARATION_LIMIT],
-) -> usize
+    memory: &'a mut [Declaration; DECLARATION_LIMIT],
+) -> &'a mut [Declaration]
     requires { HeldTerm sheet.now terms.now n }
-    ensures within { result ≤ length declared.new }
-    ensures declares { Declares sheet.now First list (take result declared.new) }
+    ensures few { length result.now < 32768 }
+    ensures declares { Declares sheet.now First list result.now }
 {
     let mut noted = Declarations::<DECLARATION_LIMIT>::new();
     let s = sheet.bytes();
@@ -66,28 +66,9 @@ fn declare(
     let goal = pair_offset(sheet.proposition_pairs(), sheet.header().goal);
     noted.note_entries(s, v, goal, list);
     let all = noted.declared();
-    declared[..all.len()].copy_from_slice(all);
-    all.len()
-}
-
-// Stores the declarations of both lists of a version's heading, and says how many there are of each.
-fn declare_both(
-    sheet: &AdmittedSheet,
-    terms: &[u16],
-    n: usize,
-    version: Version,
-    first: &mut [Declaration; DECLARATION_LIMIT],
-    second: &mut [Declaration; DECLARATION_LIMIT],
-) -> (usize, usize)
-    requires { HeldTerm sheet.now terms.now n }
-    ensures within { (result.0 ≤ length first.new) × (result.1 ≤ length second.new) }
-    ensures declares { Declares sheet.now First (first_list version) (take result.0 first.new) }
-    ensures declares_2 { Declares sheet.now First (second_list version) (take result.1 second.new) }
-{
-    let (upper, lower) = lists(version);
-    let first_count = declare(sheet, terms, n, upper, first);
-    let second_count = declare(sheet, terms, n, lower, second);
-    (first_count, second_count)
+    let declared = &mut memory[..all.len()];
+    declared.copy_from_slice(all);
+    declared
 }
 
 // Puts declarations, as they were first met, into the order of a version.
@@ -206,22 +187,12 @@ fn text_length(
     let mut ends = [0u16; Sheet::CODE_LIMIT];
     fill_sheet_ends(sheet, &mut ends);
     let term = measure_term(sheet, terms, n, style, &ends);
-    let mut first = [Declaration { name: 0, count: 0 }; DECLARATION_LIMIT];
-    let mut second = [Declaration { name: 0, count: 0 }; DECLARATION_LIMIT];
-    let (first_count, second_count) = declare_both(
-        sheet,
-        terms,
-        n,
-        version,
-        &mut first,
-        &mut second,
-    );
-    heading_length(
-        sheet,
-        version,
-        &first[..first_count],
-        &second[..second_count],
-    ) + term
+    let (upper, lower) = lists(version);
+    let mut first_memory = [Declaration::default(); DECLARATION_LIMIT];
+    let mut second_memory = [Declaration::default(); DECLARATION_LIMIT];
+    let first = declare(sheet, terms, n, upper, &mut first_memory);
+    let second = declare(sheet, terms, n, lower, &mut second_memory);
+    heading_length(sheet, version, first, second) + term
 }
 
 // How long the text of a sheet is in a version and a style, or the refusal of the sheet's term, for every sequence of bytes.
@@ -253,18 +224,11 @@ pub fn text(
     if out.len() < term {
         return Err(Reason::Room.at(0));
     }
-    let mut first = [Declaration { name: 0, count: 0 }; DECLARATION_LIMIT];
-    let mut second = [Declaration { name: 0, count: 0 }; DECLARATION_LIMIT];
-    let (first_count, second_count) = declare_both(
-        sheet,
-        terms,
-        n,
-        version,
-        &mut first,
-        &mut second,
-    );
-    let first = &mut first[..first_count];
-    let second = &mut second[..second_count];
+    let (upper, lower) = lists(version);
+    let mut first_memory = [Declaration::default(); DECLARATION_LIMIT];
+    let mut second_memory = [Declaration::default(); DECLARATION_LIMIT];
+    let first = declare(sheet, terms, n, upper, &mut first_memory);
+    let second = declare(sheet, terms, n, lower, &mut second_memory);
     let end = heading_length(sheet, version, first, second) + term;
     if out.len() < end {
         return Err(Reason::Room.at(0));

@@ -1,7 +1,6 @@
 -- Before anything is noted the term's labels can be noted, and then the goal.
 use native.Mathlib.Omega.{arith}
 use borrow.Author.Rules.{rules}
-use lib.Seq.{take-append_seam}
 use Rattle.text.proofs.Accepted.{goal_pair}
 use Rattle.text.proofs.Declaring.{labels_notable, goal_there, declares}
 use Rattle.text.proofs.declare.Goals as goal
@@ -24,12 +23,12 @@ note_entries-requires c =
 pub declared-all-requires : goal.declared-all-requires
 declared-all-requires c = (search rules, c.note_entries.ensures.held.within)
 
-pub slice_bounds-copy_from_slice-end : goal.slice_bounds-copy_from_slice-end
-slice_bounds-copy_from_slice-end c = omega (arith, c.declared-all.ensures.1, c.note_entries.ensures.held.within)
+pub returns-clause-few : goal.returns-clause-few
+returns-clause-few c = omega (arith, c.declared-all.ensures.1, c.note_entries.ensures.held.within)
 
 pub returns-clause-declares : goal.returns-clause-declares
 returns-clause-declares c =
     let v = c.vocabulary-v.ensures in
     let all = declares v.accepted v.is c.proposition_pairs.ensures.is c.header.ensures.is c.pair_offset-goal.ensures c.requires
     c.args.list c.new-noted.ensures (rw c.bytes-s.ensures.is at c.note_term.ensures) (rw c.bytes-s.ensures.is at c.note_entries.ensures) in
-    rw (c.copy_from_slice.ensures.after, take-append_seam, c.declared-all.ensures.0) all
+    rw (c.copy_from_slice.ensures.after, c.declared-all.ensures.0) all
