@@ -36,4 +36,4 @@ pub fill_numbers-requires : goal.fill_numbers-requires
 fill_numbers-requires c = none_numbered _ _ c.requires
 
 pub returns : goal.returns
-returns c = rw c.bytes-s.ensures.is at c.fill_numbers.ensures.numbered_2
+returns c = rw c.bytes-s.ensures.is at c.fill_numbers.ensures.numbered
