@@ -15,10 +15,10 @@ use Rattle.definitions.specs.Code.{Read, Reading, yield, followed_by, ◌>>=◌,
 use Rattle.definitions.specs.Sheet.{name_length_limit}
 use Rattle.definitions.specs.Term.{Label, proposition, datatype, NamedFunction, fst, snd, inl, inr, abort, ProofTerm, Ident, Pair, Named, Function, Application, LetIn, Case, TypeAscription, Unit, Sorry}
 use Rattle.definitions.specs.Text.{occurs}
-use Rattle.definitions.specs.Display.{wrap, display_parameters, display_prop, display_label, display_parameter_label, Form, call, block, ascription, form, Position, function_of, argument_of, body_of, ascribed_by, part_of, within, brackets_of, is_strict, brackets, bracketed, function_text, wraps, display_term}
+use Rattle.definitions.specs.Display.{wrap, display_parameters, display_prop, display_label, display_parameter_label, Form, call, block, ascription, form, function_of, argument_of, body_of, ascribed_by, part_of, within, brackets_of, is_strict, brackets, bracketed, function_text, wraps, display_term}
 use Rattle.definitions.specs.Display as display
 use Rattle.definitions.specs.TermText.{keywords, is_admitted, Admitted, ConventionalParameters, ConventionalProp, OfParameterLabel, Each, lone_label, label_for, ConventionalLabel, term_nesting}
-use Rattle.definitions.specs.TermReader.{Shown, standing, same, due, inner, word, longer, named, name, expect, if_read, or_read, means, connective, strong_enough, goes_on, is_open, Start, no_word, start_of, is_sorry, argument_begins, argument_follows, label, parameter_label, ascribed, closed_or_paired, opened, closed, function, case_of, let_in, started, head, arguments, read_term}
+use Rattle.definitions.specs.TermReader.{Shown, standing, same, due, inner, word, longer, named, name, expect, if_read, or_read, means, connective, strong_enough, goes_on, is_open, start_of, is_sorry, argument_begins, argument_follows, label, parameter_label, ascribed, closed_or_paired, opened, closed, function, case_of, let_in, started, head, arguments, read_term}
 use Rattle.definitions.specs.TermReader as reader
 use Rattle.definitions.proofs.Readings.{given}
 use Rattle.reading_laws.proofs.WordsRead.{stops, word_whole, is_name_lem, read_word, read_name, no_start}
