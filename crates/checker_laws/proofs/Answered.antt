@@ -19,7 +19,7 @@ use Rattle.definitions.specs.CheckingRules.{Context, bind, lookup}
 use Rattle.definitions.specs.Checker.{Judged, stopped, check}
 use Rattle.definitions.specs.CheckAnswers.{named_prop, hypothesis_out, assumed, judgement, sheet_judgement, beside_judgement}
 use Rattle.definitions.proofs.Names.{eq_name_refl}
-use Rattle.definitions.proofs.Either.{neither}
+use Rattle.std.proofs.lemmas.Bool.{or_parts}
 use Rattle.definitions.proofs.Outcomes.{each_accepted}
 use Rattle.checker_laws.specs.Judgements.{Within, goes, stops, Says}
 use Rattle.checker_laws.proofs.CheckerSound.{checks_iff}
@@ -27,7 +27,7 @@ use Rattle.checker_laws.proofs.CheckerNodes.{check_within}
 
 -- a node from 0 on and before the last of the term
 below : {n high : ℕ} {o : Judged (Unit {0})} → Within 0 high o → o ≡ stopped n → n < high
-below goes e = absurd (let z : ◌≡◌ {A = ℕ} 0 1 = cc in omega arith)
+below goes e = absurd (grind arith)
 below {n} (stops {n = m} l h) e = let same : m ≡ n = cc in rw same at h
 
 -- Of a sheet's bytes, hypotheses and a proposition's number:
@@ -72,6 +72,6 @@ unfolding assumed hypothesis_out lookup
 later_hides s [] x p g e = rw (eq_name_refl (name_of s x))
 later_hides s (y ∷ []) x p g e = absurd (true≢false e)
 later_hides s (y ∷ q ∷ hs) x p g e =
-    let (_, e) = neither (leb (names s) y) (leb (propositions s) q || hypothesis_out s hs) e in
-    let (_, e) = neither (leb (propositions s) q) (hypothesis_out s hs) e in
+    let (_, e) = or_parts (leb (names s) y) (leb (propositions s) q || hypothesis_out s hs) e in
+    let (_, e) = or_parts (leb (propositions s) q) (hypothesis_out s hs) e in
     later_hides s hs x p (bind (name_of s y) (named_prop s q) g) e

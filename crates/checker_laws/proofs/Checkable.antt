@@ -2,35 +2,20 @@
 use mathlib.Core.Path.{◌≡◌, refl}
 use mathlib.Core.Bool.{true}
 use Rattle.std.specs.Prelude.{None, Option, Some}
-use mathlib.Core.List.{List, [], ◌∷◌, map}
 use Rattle.definitions.specs.Name.{Name}
-use Rattle.definitions.specs.Prop.{Prop, True, False, Binary, Atom, Quantified, PropParameter, Uninstantiated, Instantiated, rename_parameter, rename_prop}
+use Rattle.definitions.specs.Prop.{Prop}
 use Rattle.definitions.specs.Term as term
 use Rattle.definitions.specs.Term.{Label, proposition, datatype, ProofTerm, Ident, Pair, Named, Function, Application, LetIn, Case, TypeAscription, Sorry, rename_label, rename_parameter_label, rename_term}
 use Rattle.definitions.specs.TermText.{Each, OfParameterLabel}
 use Rattle.definitions.specs.CheckingRules.{Context, Infers, Checks, infer_name, infer_unit, infer_fst, infer_snd, infer_application_lem, infer_ascribed_lem, infer_function_lem, infer_pair, infer_case, check_function, check_pair, check_inl, check_inr, check_case, check_abort, check_sorry, check_inferred}
-use Rattle.definitions.specs.Sound.{all_instantiated, is_quantifier_free}
+use Rattle.definitions.proofs.Shape.{free_same}
 use Rattle.definitions.specs.CheckAnswers.{is_checkable_label, is_checkable_parameter_label, is_checkable}
 
 -- Over other names:
 module _ {N M : Type 0} (f : N → M) where
-  parameters_same : (ps : List (PropParameter N)) → all_instantiated (map (rename_parameter f) ps) ≡ all_instantiated ps
-  unfolding all_instantiated rename_parameter
-  parameters_same [] = refl
-  parameters_same (Uninstantiated x ∷ ps) = refl
-  parameters_same (Instantiated x i ∷ ps) = parameters_same ps
-
-  pub quantifier_free_same : (p : Prop N) → is_quantifier_free (rename_prop f p) ≡ is_quantifier_free p
-  unfolding is_quantifier_free rename_prop
-  quantifier_free_same True = refl
-  quantifier_free_same False = refl
-  quantifier_free_same (Binary c p q) = rw (quantifier_free_same p, quantifier_free_same q)
-  quantifier_free_same (Atom a ps) = parameters_same ps
-  quantifier_free_same (Quantified q x t p) = refl
-
   label_same : (l : Label N) → is_checkable_label (rename_label f l) ≡ is_checkable_label l
   unfolding is_checkable_label rename_label
-  label_same (proposition p) = quantifier_free_same p
+  label_same (proposition p) = free_same f p
   label_same (datatype t) = refl
 
   parameter_label_same : (l : Option (Label N)) → is_checkable_parameter_label (rename_parameter_label f l) ≡ is_checkable_parameter_label l

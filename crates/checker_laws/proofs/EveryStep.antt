@@ -12,7 +12,7 @@ use Rattle.definitions.specs.Sheet.{rule_byte, names, steps, propositions, propo
 use Rattle.definitions.specs.Tree as tree
 use Rattle.definitions.specs.Tree.{ProofTreeConclusion, PropIsTrue, TypeJudgement, Step, ProofTree, over, Premisses, ◌and◌, rules, last_trees, prop_in, identifier_in, conclusion_in, step_in, step_over, trees_before, tree_in, prop_of, tree_of, root_of}
 use Rattle.definitions.specs.Admission.{not_zero, bad_prop_is_true, bad_type_judgement, identifiers, bad_conclusion, bad_column, bad_identifier, bad_step, admitted}
-use Rattle.definitions.proofs.Either.{neither}
+use Rattle.std.proofs.lemmas.Bool.{or_parts}
 use Rattle.definitions.proofs.Lowest.{all_fail}
 use Rattle.writer_laws.proofs.Checks.{admitted_checks, in_range}
 
@@ -84,10 +84,10 @@ module _ (s : List ℕ) (root : ProofTree ℕ) (e : admitted s ≡ accepted root
       let second = bad_identifier n p r k 6 (leb 2 (identifiers n p r k)) in
       let last = bad_conclusion n p r k || bad_column n p r k in
       let all = all_fail (bad_step n p r) (steps s) (admitted_checks s root e).0.fields k l in
-      let (_, after-rule) = neither (leb (length rules) (rule_byte r k)) (first || (second || last)) all in
-      let (_, after_first) = neither first (second || last) after-rule in
-      let (_, after-second) = neither second last after_first in
-      (neither (bad_conclusion n p r k) (bad_column n p r k) after-second).0
+      let (_, after-rule) = or_parts (leb (length rules) (rule_byte r k)) (first || (second || last)) all in
+      let (_, after_first) = or_parts first (second || last) after-rule in
+      let (_, after-second) = or_parts second last after_first in
+      (or_parts (bad_conclusion n p r k) (bad_column n p r k) after-second).0
 
   prop_fits : (k : ℕ) → bad_prop_is_true (names s) (propositions s) (step_records s) k ≡ false → step_number (step_records s) k 12 < propositions s
   unfolding bad_prop_is_true
@@ -95,7 +95,7 @@ module _ (s : List ℕ) (root : ProofTree ℕ) (e : admitted s ≡ accepted root
       let n = names s in
       let p = propositions s in
       let r = step_records s in
-      leb-false p (step_number r k 12) (neither (leb p (step_number r k 12)) (not_zero n p r k 14 || not_zero n p r k 16) fits).0
+      leb-false p (step_number r k 12) (or_parts (leb p (step_number r k 12)) (not_zero n p r k 14 || not_zero n p r k 16) fits).0
 
   -- a conclusion that is a proposition is one of the sheet's
   pub conclusion_of_lem : (k : ℕ) → k < steps s → (P : ProofTreeConclusion ℕ → Type 0)

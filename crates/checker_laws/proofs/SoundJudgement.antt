@@ -25,7 +25,8 @@ use Rattle.writer_laws.proofs.Checks.{admitted_checks}
 use Rattle.reading_laws.proofs.ExportLimits.{apart, GoodStep, GoodTree, GoodTrees, export_each}
 use Rattle.checker_laws.specs.Judgements.{root_number}
 use Rattle.checker_laws.proofs.EveryStep.{Every, EveryPremiss, every_step, some_step, conclusion_of_lem}
-use Rattle.checker_laws.proofs.Checkable.{CheckableLabel, CheckableLabels, quantifier_free_same, checks_checkable}
+use Rattle.definitions.proofs.Shape.{free_same}
+use Rattle.checker_laws.proofs.Checkable.{CheckableLabel, CheckableLabels, checks_checkable}
 
 -- a conclusion that is a proposition is without quantifiers
 abbrev Plain : ProofTreeConclusion Name → Type 0
@@ -107,7 +108,7 @@ module _ (s : List ℕ) (free : (i : ℕ) → i < propositions s → is_quantifi
   plain_root =
       every_step (PlainStep (name_of s)) s root e λ k l.
       conclusion_of_lem s root e k l (λ c. Plain (rename_conclusion (name_of s) c))
-      (λ below. quantifier_free_same (name_of s) (prop_of s (step_number (step_records s) k 12)) ∙ free (step_number (step_records s) k 12) below)
+      (λ below. free_same (name_of s) (prop_of s (step_number (step_records s) k 12)) ∙ free (step_number (step_records s) k 12) below)
       (λ x t. tt)
 
   labels_pass : (u : ProofTerm Name) → named_term s ≡ accepted u → CheckableLabels u
@@ -124,7 +125,7 @@ sound_judgement s d k below same =
     let a = sound_accuracy s d in
     let checkable : is_checkable a.term ≡ true =
     checks_checkable a.is_accepted (labels_pass s d.props d.deduced.root d.deduced.is_admitted a.term a.is_term) in
-    let free : is_quantifier_free (named_prop s k) ≡ true = quantifier_free_same (name_of s) (prop_of s k) ∙ d.props k below in
+    let free : is_quantifier_free (named_prop s k) ≡ true = free_same (name_of s) (prop_of s k) ∙ d.props k below in
     rw (a.is_term, lt-leb _ _ below, checkable, free, same ∙ same_prop s d.deduced) (ap accepted a.judged)
 
 -- the root of a sound sheet concludes the proposition of that number
@@ -140,7 +141,7 @@ root_number_lem s d =
     let some = some_step s root e in
     conclusion_of_lem s root e last (omega arith)
     (λ c. rename_conclusion (name_of s) c ≡ PropIsTrue p → (root_number s < propositions s) × (named_prop s (root_number s) ≡ p))
-    (λ below is. (below, (cc))) (λ x t is. absurd (let z : ◌≡◌ {A = ℕ} 0 1 = cc in omega arith)) (concludes own)
+    (λ below is. (below, (cc))) (λ x t is. absurd (grind arith)) (concludes own)
 
 -- demand 3, of the checker: on a sound sheet it answers yes to the sheet's own term against the root's proposition
 pub sound_yes : (s : List ℕ) → Sound s → sheet_judgement s [] (root_number s) ≡ accepted (derived tt)

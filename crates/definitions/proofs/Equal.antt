@@ -1,10 +1,11 @@
 -- The test of two propositions decides equality: the same shape, name bytes and ids.
 use mathlib.Core.Path.{◌≡◌, refl, sym, ap}
-use mathlib.Core.Bool.{Bool, true, ◌&&◌, true≢false, and-eq-true_iff}
+use mathlib.Core.Bool.{Bool, true, ◌&&◌, true≢false}
 use Rattle.std.specs.Prelude.{Option, None, Some}
 use mathlib.Core.List.{List, [], ◌∷◌}
 use lib.Dec.{eqb}
 use borrow.Author.Tests.{eqb-true, eq-eqb}
+use Rattle.std.proofs.lemmas.Bool.{and_parts}
 use Rattle.definitions.specs.Name.{Name, eq_name}
 use Rattle.definitions.specs.Prop.{Prop, True, False, Binary, Atom, Quantified, PropParameter, Uninstantiated, Instantiated, Connective, eq_connective, Quantifier, eq_quantifier, Sides, Applied, Scope, is_true, is_false, as_binary, as_atom, as_quantified}
 use Rattle.definitions.specs.Equal.{eq_parameter, eq_parameters, eq_sides, eq_applied, eq_scope, eq_prop}
@@ -12,16 +13,13 @@ use Rattle.definitions.proofs.Names.{eq_name_refl, eq_name_true}
 use Rattle.definitions.proofs.Connectives.{eq_connective_true, eq_connective_of_eq, eq_quantifier_true, eq_quantifier_of_eq}
 use Rattle.definitions.proofs.Views.{is_true_true, is_false_true, as_binary_some, as_atom_some, as_quantified_some}
 
-both : (a b : Bool) → (a && b) ≡ true → (a ≡ true) × (b ≡ true)
-both a b e = (and-eq-true_iff a b).0 e
-
 eq_parameter_true : (p q : PropParameter Name) → eq_parameter p q ≡ true → p ≡ q
 unfolding eq_parameter
 eq_parameter_true (Uninstantiated x) (Uninstantiated y) e = ap Uninstantiated (eq_name_true e)
 eq_parameter_true (Uninstantiated x) (Instantiated y j) e = absurd (true≢false (sym e))
 eq_parameter_true (Instantiated x i) (Uninstantiated y) e = absurd (true≢false (sym e))
 eq_parameter_true (Instantiated x i) (Instantiated y j) e =
-    let (a, b) = both (eq_name x y) (eqb i j) e in
+    let (a, b) = and_parts (eq_name x y) (eqb i j) e in
     let same : x ≡ y = eq_name_true a in
     let id : i ≡ j = eqb-true i j b in
     cc
@@ -32,7 +30,7 @@ eq_parameters_true [] [] e = refl
 eq_parameters_true [] (q ∷ qs) e = absurd (true≢false (sym e))
 eq_parameters_true (p ∷ ps) [] e = absurd (true≢false (sym e))
 eq_parameters_true (p ∷ ps) (q ∷ qs) e =
-    let (a, b) = both (eq_parameter p q) (eq_parameters ps qs) e in
+    let (a, b) = and_parts (eq_parameter p q) (eq_parameters ps qs) e in
     let first = eq_parameter_true p q a in
     let rest = eq_parameters_true ps qs b in
     cc
@@ -45,8 +43,8 @@ same_sides : (c : Connective) (f g : Prop Name → Bool) (a : Sides Name) → eq
     → (eq_connective c a.connective ≡ true) × (f a.left ≡ true) × (g a.right ≡ true)
 unfolding eq_sides
 same_sides c f g a e =
-    let (x, y) = both (eq_connective c a.connective) (f a.left && g a.right) e in
-    let (l, r) = both (f a.left) (g a.right) y in
+    let (x, y) = and_parts (eq_connective c a.connective) (f a.left && g a.right) e in
+    let (l, r) = and_parts (f a.left) (g a.right) y in
     (x, l, r)
 
 no_applied : (b : Name) (ps : List (PropParameter Name)) → eq_applied b ps None ≡ true → ⊥
@@ -56,7 +54,7 @@ no_applied b ps e = true≢false (sym e)
 same_applied : (b : Name) (ps : List (PropParameter Name)) (a : Applied Name) → eq_applied b ps (Some a) ≡ true
     → (eq_name b a.atom ≡ true) × (eq_parameters ps a.parameters ≡ true)
 unfolding eq_applied
-same_applied b ps a e = both (eq_name b a.atom) (eq_parameters ps a.parameters) e
+same_applied b ps a e = and_parts (eq_name b a.atom) (eq_parameters ps a.parameters) e
 
 no_scope : (q : Quantifier) (x t : Name) (f : Prop Name → Bool) → eq_scope q x t f None ≡ true → ⊥
 unfolding eq_scope
@@ -66,9 +64,9 @@ same_scope : (q : Quantifier) (x t : Name) (f : Prop Name → Bool) (a : Scope N
     → (eq_quantifier q a.quantifier ≡ true) × (eq_name x a.object ≡ true) × (eq_name t a.datatype ≡ true) × (f a.body ≡ true)
 unfolding eq_scope
 same_scope q x t f a e =
-    let (b, y) = both (eq_quantifier q a.quantifier) (eq_name x a.object && (eq_name t a.datatype && f a.body)) e in
-    let (c, z) = both (eq_name x a.object) (eq_name t a.datatype && f a.body) y in
-    let (d, g) = both (eq_name t a.datatype) (f a.body) z in
+    let (b, y) = and_parts (eq_quantifier q a.quantifier) (eq_name x a.object && (eq_name t a.datatype && f a.body)) e in
+    let (c, z) = and_parts (eq_name x a.object) (eq_name t a.datatype && f a.body) y in
+    let (d, g) = and_parts (eq_name t a.datatype) (f a.body) z in
     (b, c, d, g)
 
 pub eq_prop_true : (p r : Prop Name) → eq_prop p r ≡ true → p ≡ r

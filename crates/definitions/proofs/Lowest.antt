@@ -42,13 +42,19 @@ all_fail test (suc count) e i h = go (lowest test count) (test count) refl refl 
     go : (earlier : Option ℕ) (here : Bool) → lowest test count ≡ earlier → test count ≡ here
         → first_of earlier here count ≡ None
         → (lowest test count ≡ None → (j : ℕ) → j < count → test j ≡ false) → test i ≡ false
-    go (Some j) here same at f below = absurd (let z : ◌≡◌ {A = ℕ} 0 1 = cc in omega arith)
-    go None true same at f below = absurd (let z : ◌≡◌ {A = ℕ} 0 1 = cc in omega arith)
+    go (Some j) here same at f below = absurd (grind arith)
+    go None true same at f below = absurd (grind arith)
     go None false same at f below = choose (dec_lt i count)
       where
         choose : Dec (i < count) → test i ≡ false
         choose (yes k) = below same i k
         choose (no k) = let is : i ≡ count = omega arith in rw is at
+
+-- a search whose test fails everywhere below its count finds none
+pub none_found : (test : ℕ → Bool) (count : ℕ) → ((i : ℕ) → i < count → test i ≡ false) → lowest test count ≡ None
+unfolding lowest first_of
+none_found test zero h = refl
+none_found test (suc count) h = rw (none_found test count (λ i l. h i (omega arith)), h count (omega arith))
 
 -- tests that agree below a count have the same lowest place
 pub same_lowest : (test test' : ℕ → Bool) (count : ℕ) → ((k : ℕ) → k < count → test k ≡ test' k) → lowest test count ≡ lowest test' count

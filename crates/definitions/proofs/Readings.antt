@@ -5,11 +5,12 @@ use mathlib.Core.Bool.{Bool, true, false, cond}
 use Rattle.std.specs.Prelude.{Option, None, Some}
 use mathlib.Core.List.{List, [], ◌∷◌, ◌++◌}
 use native.Mathlib.Omega.{arith}
-use lib.ListN.{length, get_or}
+use lib.ListN.{length, get_or, take, drop}
 use lib.Dec.{eqb, eqb-suc-zero}
+use Rattle.definitions.specs.Sheet.{marked, pair_offset, pair_length, code_start, code_length, code_bytes}
 use Rattle.definitions.specs.Code.{Read, Reading, yield, fail, followed_by, ◌>>=◌, byte, number, whole, u16}
-use Rattle.std.proofs.lemmas.Option.{same_Some}
-use Rattle.std.proofs.lemmas.Option.{none-some}
+use Rattle.std.proofs.lemmas.List.{get_or-drop}
+use Rattle.std.proofs.lemmas.Option.{same_Some, none-some}
 
 -- what a reading gives: a value, and the bytes after it
 abbrev pub given : {A : Type 0} → A → List ℕ → Option (Read A)
@@ -18,6 +19,22 @@ given a rest = Some (record { value = a; rest = rest })
 -- each element is a byte: stated for every index, past the end too, as it is known of a slice of bytes
 abbrev pub Bytes : List ℕ → Type 0
 Bytes s = (i : ℕ) → get_or s i 0 < 256
+
+pub bytes_take : (n : ℕ) (l : List ℕ) → Bytes l → Bytes (take n l)
+bytes_take zero l h i = omega arith
+bytes_take (suc n) [] h i = omega arith
+bytes_take (suc n) (b ∷ l) h zero = h 0
+bytes_take (suc n) (b ∷ l) h (suc i) = bytes_take n l (λ j. h (suc j)) i
+
+pub bytes_drop : (n : ℕ) (l : List ℕ) → Bytes l → Bytes (drop n l)
+bytes_drop n l h i = rw (get_or-drop n l i 0) (h (n + i))
+
+pub marked_bytes : (s : List ℕ) → Bytes s → (pairs : List ℕ) (i : ℕ) → Bytes (marked pairs (code_bytes s) i)
+unfolding marked code_bytes
+marked_bytes s bytes pairs i =
+    bytes_take (pair_length pairs i) (drop (pair_offset pairs i) (take (code_length s) (drop (code_start s) s)))
+    (bytes_drop (pair_offset pairs i) (take (code_length s) (drop (code_start s) s))
+    (bytes_take (code_length s) (drop (code_start s) s) (bytes_drop (code_start s) s bytes)))
 
 -- whatever m reads from s, P holds of it and of the bytes after it
 pub record Reads {A : Type 0} (m : Reading A) (s : List ℕ) (P : A → List ℕ → Type 0) : Type 0 where

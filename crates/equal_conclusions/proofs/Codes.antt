@@ -15,7 +15,7 @@ use Rattle.definitions.proofs.Readings.{Bytes}
 use Rattle.writer_laws.proofs.Checks.{Checks, admitted_checks}
 use Rattle.graft_laws.specs.Numbers.{host_number}
 use Rattle.graft_laws.proofs.MergedSheet.{rename_same, coded}
-use Rattle.graft_laws.proofs.Lengths.{length_renamed}
+use Rattle.definitions.proofs.Shape.{length_renamed}
 use Rattle.graft_laws.proofs.ByNumbers.{equal_by_numbers, host_renumbered}
 use Rattle.number.specs.Pairs.{NameWithin}
 use Rattle.output.specs.Wrote.{puts}

@@ -34,7 +34,7 @@ also s c = record { rule = s.rule ∙ c.rule; conclusion = s.conclusion ∙ c.co
 
 none_read : {ps qs : Premisses Name} → AllAlike ps qs → ps ≡ none → qs ≡ none
 none_read done e = refl
-none_read (next x xs) e = absurd (let z : ◌≡◌ {A = ℕ} 0 1 = cc in omega arith)
+none_read (next x xs) e = absurd (grind arith)
 
 -- a rule with identifiers has the first, and OrElim both
 one_identifier : (r s : ProofTreeRule) → r ≡ s → leb 1 (identifier_count s) ≡ true → leb 1 (identifier_count r) ≡ true
@@ -79,7 +79,7 @@ deduced_alike (alpha_equivalent c p d) (alike s (next x xs)) = alpha_equivalent 
 kept : (has : Bool) (x : Identifier Name) → has ≡ true → tidy_identifier has x ≡ x
 unfolding tidy_identifier
 kept true x e = refl
-kept false x e = absurd (let z : ◌≡◌ {A = ℕ} 0 1 = cc in omega arith)
+kept false x e = absurd (grind arith)
 
 -- a step over names as bytes, with and without the identifiers that its rule lacks, whatever its number
 untidied : (n : ℕ → Name) (z : Step ℕ) → SameStep (named_step n z) (rename_step n z)

@@ -42,7 +42,7 @@ passed test number next b e =
 not_refused : {A : Type 0} (w : Whose) (o : Outcome A) (next : A → Grafted) (m : List ℕ) → by w o next ≡ merged m
     → (a : A) × (o ≡ accepted a) × (next a ≡ merged m)
 unfolding by
-not_refused w (refused r) next m e = absurd (let z : ◌≡◌ {A = ℕ} 0 1 = cc in omega arith)
+not_refused w (refused r) next m e = absurd (grind arith)
 not_refused w (accepted a) next m e = (a, refl, e)
 
 pub record Merged (h d : List ℕ) (k : ℕ) (m : List ℕ) : Type 0 where

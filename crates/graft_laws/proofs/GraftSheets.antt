@@ -163,7 +163,7 @@ module _ {h d : List ℕ} {k : ℕ} (g : Grafts h d k) where
     where
       go : (o : Outcome (ProofTree ℕ)) → admitted s ≡ o → map_outcome (rename_term (name_of s)) (o >>= λ root. export root checking) ≡ accepted u
           → Checks s × (export (rename_tree (name_of s) (root_of s)) checking ≡ accepted u)
-      go (refused r) is f = absurd (let z : ◌≡◌ {A = ℕ} 0 1 = cc in omega arith)
+      go (refused r) is f = absurd (grind arith)
       go (accepted root) is f =
           let (c, same) = admitted_checks s root is in
           (c, export_same (name_of s) (root_of s) checking ∙ (rw (← same) f))

@@ -1,6 +1,6 @@
 -- Ticket 11's law over the trees of three sheets: the merged term is the host's with the donor's in the sorry's position.
 use Prim.Native.Nat.{ℕ, ◌+◌, ◌-◌}
-use mathlib.Core.Path.{◌≡◌, refl, sym, ap, ◌∙◌}
+use mathlib.Core.Path.{◌≡◌, sym, ap, ◌∙◌}
 use Rattle.std.specs.Prelude.{Some}
 use mathlib.Core.List.{List, [], ◌∷◌, ◌++◌, map}
 use native.Mathlib.Omega.{arith}
@@ -9,6 +9,7 @@ use Rattle.definitions.specs.Name.{Name}
 use Rattle.definitions.specs.Tree.{Step, ProofTree, over, none, rename_tree}
 use Rattle.definitions.specs.Term.{Label, ProofTerm}
 use Rattle.definitions.specs.Export.{checking, export}
+use Rattle.definitions.proofs.Outcomes.{was_accepted}
 use Rattle.graft_laws.specs.Splicing.{Spot, reached, labels, bare, replace_at}
 use Rattle.graft_laws.specs.Levels.{occurrences}
 use Rattle.graft_laws.proofs.Trees.{graft_tree, map_tree, named_step, named_tree, renumber_step, renumber_tree, at_place}
@@ -34,13 +35,8 @@ pub record SplicedTrees (sorry : ProofTree Name) (donor_root : ProofTree Name) (
 
 moved_accepted : {A : Type 0} (f : ℕ → ℕ) (o : Outcome A) (a : A) → at_place f o ≡ accepted a → o ≡ accepted a
 unfolding at_place refuse
-moved_accepted f (refused r) a e = absurd (let z : ◌≡◌ {A = ℕ} 0 1 = cc in omega arith)
+moved_accepted f (refused r) a e = absurd (grind arith)
 moved_accepted f (accepted b) a e = e
-
-was_accepted : {A B : Type 0} (f : A → B) (o : Outcome A) (b : B) → map_outcome f o ≡ accepted b → (a : A) × (o ≡ accepted a) × (f a ≡ b)
-unfolding map_outcome
-was_accepted f (refused r) b e = absurd (let z : ◌≡◌ {A = ℕ} 0 1 = cc in omega arith)
-was_accepted f (accepted a) b e = (a, refl, (cc))
 
 pub head_same : {A : Type 0} (a b : A) → a ∷ [] ≡ b ∷ [] → a ≡ b
 head_same a b e = cc

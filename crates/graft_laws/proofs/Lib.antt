@@ -25,6 +25,5 @@ pub mod GraftDeduced
 pub mod SoundMerged
 pub mod MergedNumbers
 pub mod ByNumbers
-pub mod Lengths
 pub mod Above
 pub mod AnswerMerges

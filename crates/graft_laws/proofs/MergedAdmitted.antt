@@ -1,6 +1,6 @@
 -- Ticket 11: the merged sheet is admitted.
 use Prim.Native.Nat.{ℕ, ◌+◌, ◌-◌, ◌≤◌, ◌<◌}
-use mathlib.Core.Path.{◌≡◌, refl, sym, ap, ◌∙◌}
+use mathlib.Core.Path.{◌≡◌, sym, ap, ◌∙◌}
 use mathlib.Core.Bool.{true, false, not}
 use mathlib.Core.List.{List, [], ◌++◌}
 use native.Mathlib.Omega.{arith}
@@ -10,7 +10,7 @@ use lib.Dec.{ltb}
 use borrow.Author.Tests.{ltb-false, le-ltb, eq-eqb, ne_eqb, not-false}
 use Rattle.definitions.specs.Outcome.{accepted}
 use Rattle.definitions.specs.Name.{is_name}
-use Rattle.definitions.specs.Prop.{Prop, True, False, Binary, Atom, Quantified, nesting, rename_prop}
+use Rattle.definitions.specs.Prop.{nesting, rename_prop}
 use Rattle.definitions.specs.Code.{encode, decode}
 use Rattle.definitions.specs.Sheet as sheet
 use Rattle.definitions.specs.Sheet.{header_size, pair_size, tree_nesting_limit, header_out_of_range, name_length_limit, proposition_nesting_limit, text_length, code_length, text_bytes, code_bytes, name_of, marked, pair_offset, pair_length, pair_end, last_end}
@@ -21,22 +21,16 @@ use Rattle.definitions.specs.Graft.{missing, renumbered, donor_codes, merged_par
 use Rattle.definitions.proofs.PrefixCode.{code_nonempty}
 use Rattle.definitions.proofs.Lowest.{all_fail}
 use Rattle.writer_laws.proofs.Checks.{Checks, checks_admitted}
-use Rattle.definitions.proofs.Either.{neither}
-use Rattle.graft_laws.proofs.MergedFields.{either_false}
+use Rattle.std.proofs.lemmas.Bool.{or_parts}
+use Rattle.std.proofs.lemmas.Bool.{or_from}
+use Rattle.definitions.proofs.Lowest.{none_found}
+use Rattle.definitions.proofs.Shape.{nesting_same}
 use Rattle.writer_laws.proofs.Assembling.{name_pairs_assembled}
 use Rattle.graft_laws.proofs.Appending.{placed_all, first_length, second_length, offset_written}
 use Rattle.graft_laws.proofs.MergedNames.{missing_from, each}
 use Rattle.graft_laws.proofs.MergedSheet.{Grafts, merged_propositions, merged_text, merged_code_length, merged_count, fit, length_code, host_name, new_name, host_decoded, donor_decoded, host_prop, donor_prop, name_pairs_length, proposition_pairs_length, codes_length, merged_pairs}
 use Rattle.graft_laws.proofs.MergedFields.{merged_good}
-use Rattle.graft_laws.proofs.MergedChecks.{merged_whole, merged_header, few_none, left_none, deep_none, name_pair, proposition_pair, name_length, no_lowest}
-
-nesting_renamed : (f : ℕ → ℕ) (p : Prop ℕ) → nesting (rename_prop f p) ≡ nesting p
-unfolding nesting rename_prop
-nesting_renamed f True = refl
-nesting_renamed f False = refl
-nesting_renamed f (Binary c p q) = rw (nesting_renamed f p, nesting_renamed f q)
-nesting_renamed f (Atom a ps) = refl
-nesting_renamed f (Quantified q x t p) = rw (nesting_renamed f p)
+use Rattle.graft_laws.proofs.MergedChecks.{merged_whole, merged_header, few_none, left_none, deep_none, name_pair, proposition_pair, name_length}
 
 module _ {h d : List ℕ} {k : ℕ} (g : Grafts h d k) (fits : passes_limit h d k ≡ false) where
   abbrev M : List ℕ
@@ -84,9 +78,9 @@ module _ {h d : List ℕ} {k : ℕ} (g : Grafts h d k) (fits : passes_limit h d 
       (λ j b. ((name_pair h g.host j b).0, (name_pair h g.host j b).1)) (omega (arith, merged_text g)) i (omega (arith, merged_count g)) in
       let y = name_length_in i l in
       let placed = rw (← merged_name_pairs) at x in
-      either_false _ _
-      (either_false _ _ (le-ltb (pair_offset (sheet.name_pairs M) i) (last_end (sheet.name_pairs M) i) placed.0) (le-ltb (text_length M) (pair_end (sheet.name_pairs M) i) placed.1))
-      (either_false _ _ (le-ltb (pair_length (sheet.name_pairs M) i) 1 y.0) (le-ltb name_length_limit (pair_length (sheet.name_pairs M) i) y.1))
+      or_from _ _
+      (or_from _ _ (le-ltb (pair_offset (sheet.name_pairs M) i) (last_end (sheet.name_pairs M) i) placed.0) (le-ltb (text_length M) (pair_end (sheet.name_pairs M) i) placed.1))
+      (or_from _ _ (le-ltb (pair_length (sheet.name_pairs M) i) 1 y.0) (le-ltb name_length_limit (pair_length (sheet.name_pairs M) i) y.1))
 
   is_name_lem : (s : List ℕ) → Checks s → (n : ℕ) → n < sheet.names s → is_name (name_of s n) ≡ true
   unfolding bad_name name_of
@@ -139,8 +133,8 @@ module _ {h d : List ℕ} {k : ℕ} (g : Grafts h d k) (fits : passes_limit h d 
       (proposition_pairs_length g) (λ j b. ((proposition_pair h g.host j b).0, (proposition_pair h g.host j b).1)) (omega (arith, merged_code_length g)) i
       (omega (arith, merged_propositions g, codes_length g)) in
       let placed = rw (← pairs_here) at x in
-      either_false _ _
-      (either_false _ _ (le-ltb (pair_offset (sheet.proposition_pairs M) i) (last_end (sheet.proposition_pairs M) i) placed.0)
+      or_from _ _
+      (or_from _ _ (le-ltb (pair_offset (sheet.proposition_pairs M) i) (last_end (sheet.proposition_pairs M) i) placed.0)
       (le-ltb (code_length M) (pair_end (sheet.proposition_pairs M) i) placed.1))
       (ne_eqb (pair_length (sheet.proposition_pairs M) i) 0 (code_length_lem i l))
 
@@ -170,7 +164,7 @@ module _ {h d : List ℕ} {k : ℕ} (g : Grafts h d k) (fits : passes_limit h d 
           let j = i - sheet.propositions h in
           let z : sheet.propositions h + j ≡ i = omega arith in
           let below : j < sheet.propositions d = omega (arith, merged_propositions g) in
-          rw (← z, donor_prop g j below, nesting_renamed (renumbered h d) (prop_of d j)) (shallow_in d g.donor j below)
+          rw (← z, donor_prop g j below, nesting_same (renumbered h d) (prop_of d j)) (shallow_in d g.donor j below)
 
   good_nesting : (i : ℕ) → i < sheet.propositions M → deep_proposition (sheet.names M) (sheet.proposition_pairs M) (code_bytes M) i ≡ false
   unfolding deep_proposition prop_of
@@ -178,7 +172,7 @@ module _ {h d : List ℕ} {k : ℕ} (g : Grafts h d k) (fits : passes_limit h d 
 
   in_limits : (header_out_of_range M ≡ false) × (ltb tree_nesting_limit (height (root_of M)) ≡ false)
   unfolding passes_limit
-  in_limits = neither (header_out_of_range M) _ fits
+  in_limits = or_parts (header_out_of_range M) _ fits
 
   -- every check passes
   pub merged_checks : Checks M
@@ -187,15 +181,15 @@ module _ {h d : List ℕ} {k : ℕ} (g : Grafts h d k) (fits : passes_limit h d 
         header = le-ltb (length M) header_size (merged_header g);
         range = in_limits.0;
         whole = rw (eq-eqb _ _ (merged_whole g));
-        good_name_pairs = no_lowest _ (sheet.names M) good_name_pair;
-        named = no_lowest _ (sheet.names M) good_name;
-        good_proposition_pairs = no_lowest _ (sheet.propositions M) good_proposition_pair;
-        codes = no_lowest _ (sheet.propositions M) good_code;
-        shallow = no_lowest _ (sheet.propositions M) good_nesting;
-        fields = no_lowest _ (sheet.steps M) (merged_good g);
-        enough = no_lowest _ (sheet.steps M) (few_none g);
+        good_name_pairs = none_found _ (sheet.names M) good_name_pair;
+        named = none_found _ (sheet.names M) good_name;
+        good_proposition_pairs = none_found _ (sheet.propositions M) good_proposition_pair;
+        codes = none_found _ (sheet.propositions M) good_code;
+        shallow = none_found _ (sheet.propositions M) good_nesting;
+        fields = none_found _ (sheet.steps M) (merged_good g);
+        enough = none_found _ (sheet.steps M) (few_none g);
         one = left_none g;
-        nested = no_lowest _ (sheet.steps M) (deep_none g (ltb-false _ _ in_limits.1));
+        nested = none_found _ (sheet.steps M) (deep_none g (ltb-false _ _ in_limits.1));
       }
 
   -- the merged sheet is admitted

@@ -1,8 +1,7 @@
 -- The merged sheet is admitted: each of refusals 1 to 11 passes.
 use Prim.Native.Nat.{ℕ, zero, suc, ◌+◌, ◌-◌, ◌≤◌, ◌<◌, max}
-use mathlib.Core.Path.{◌≡◌, refl, sym, ap, ◌∙◌}
-use mathlib.Core.Bool.{Bool, false}
-use Rattle.std.specs.Prelude.{None}
+use mathlib.Core.Path.{◌≡◌, sym, ap, ◌∙◌}
+use mathlib.Core.Bool.{false}
 use mathlib.Core.List.{List, [], ◌∷◌, map}
 use native.Mathlib.Omega.{arith}
 use native.Mathlib.Decide.{dec_lt}
@@ -10,7 +9,6 @@ use lib.ListN.{length, drop, length-append, length-map, length-drop}
 use lib.Dec.{ltb}
 use lib.Seq.{length-take-le}
 use borrow.Author.Tests.{ltb-false, le-ltb, eqb-false}
-use Rattle.definitions.specs.Outcome.{lowest, first_of}
 use Rattle.definitions.specs.Sheet as sheet
 use Rattle.definitions.specs.Sheet.{header_size, name_length_limit, tree_nesting_limit, text_length, code_length, sheet_length, code_bytes, name_of}
 use Rattle.definitions.specs.Name.{Name}
@@ -20,7 +18,7 @@ use Rattle.definitions.proofs.Lowest.{all_fail}
 use Rattle.graft_laws.proofs.Trees.{graft_tree, map_tree, named_step, named_tree, renumber_tree}
 use Rattle.definitions.specs.Graft.{merged_parts, merged_sheet}
 use Rattle.writer_laws.proofs.Checks.{Checks, in_range}
-use Rattle.definitions.proofs.Either.{neither}
+use Rattle.std.proofs.lemmas.Bool.{or_parts}
 use Rattle.writer_laws.proofs.Assembling.{whole_assembled, length_assembled}
 use Rattle.graft_laws.proofs.MergedSheet.{Grafts, here, fit, length_text}
 use Rattle.graft_laws.proofs.Stack.{stack}
@@ -178,9 +176,9 @@ module _ (s : List ℕ) (c : Checks s) where
   name_pair i l =
       let q = sheet.name_pairs s in
       let e = all_fail (bad_name_pair q (text_length s)) (sheet.names s) c.good_name_pairs i l in
-      let a = neither (misplaced q (text_length s) i) _ e in
-      let b = neither (ltb (sheet.pair_offset q i) (sheet.last_end q i)) (ltb (text_length s) (sheet.pair_end q i)) a.0 in
-      let f = neither (ltb (sheet.pair_length q i) 1) (ltb name_length_limit (sheet.pair_length q i)) a.1 in
+      let a = or_parts (misplaced q (text_length s) i) _ e in
+      let b = or_parts (ltb (sheet.pair_offset q i) (sheet.last_end q i)) (ltb (text_length s) (sheet.pair_end q i)) a.0 in
+      let f = or_parts (ltb (sheet.pair_length q i) 1) (ltb name_length_limit (sheet.pair_length q i)) a.1 in
       (ltb-false _ _ b.0, ltb-false _ _ b.1, ltb-false _ _ f.0, ltb-false _ _ f.1)
 
   pub proposition_pair : (i : ℕ) → i < sheet.propositions s → (sheet.last_end (sheet.proposition_pairs s) i ≤ sheet.pair_offset (sheet.proposition_pairs s) i)
@@ -189,8 +187,8 @@ module _ (s : List ℕ) (c : Checks s) where
   proposition_pair i l =
       let q = sheet.proposition_pairs s in
       let e = all_fail (bad_proposition_pair q (code_length s)) (sheet.propositions s) c.good_proposition_pairs i l in
-      let a = neither (misplaced q (code_length s) i) _ e in
-      let b = neither (ltb (sheet.pair_offset q i) (sheet.last_end q i)) (ltb (code_length s) (sheet.pair_end q i)) a.0 in
+      let a = or_parts (misplaced q (code_length s) i) _ e in
+      let b = or_parts (ltb (sheet.pair_offset q i) (sheet.last_end q i)) (ltb (code_length s) (sheet.pair_end q i)) a.0 in
       (ltb-false _ _ b.0, ltb-false _ _ b.1, eqb-false _ _ a.1)
 
   -- a name has as many bytes as its pair says
@@ -200,8 +198,3 @@ module _ (s : List ℕ) (c : Checks s) where
       let x = name_pair i l in
       length-take-le (sheet.pair_length (sheet.name_pairs s) i) (drop (sheet.pair_offset (sheet.name_pairs s) i) (sheet.text_bytes s))
       (rw (length-drop (sheet.pair_offset (sheet.name_pairs s) i) (sheet.text_bytes s)) (omega (arith, x.1, length_text s c)))
-
-pub no_lowest : (test : ℕ → Bool) (count : ℕ) → ((i : ℕ) → i < count → test i ≡ false) → lowest test count ≡ None
-unfolding lowest first_of
-no_lowest test zero h = refl
-no_lowest test (suc count) h = rw (no_lowest test count (λ i l. h i (omega arith)), h count (omega arith))

@@ -14,7 +14,7 @@ use Rattle.definitions.specs.Tree.{rules, rule_in, identifier_count}
 use Rattle.definitions.specs.Admission.{no_name, not_zero, bad_identifier, bad_prop_is_true, bad_type_judgement, bad_conclusion, bad_column, identifiers, bad_step}
 use Rattle.definitions.specs.Graft.{renumbered, donor_name, donor_record, merged_sheet}
 use Rattle.definitions.proofs.Lowest.{all_fail}
-use Rattle.definitions.proofs.Either.{neither}
+use Rattle.std.proofs.lemmas.Bool.{or_parts, or_from}
 use Rattle.definitions.proofs.PrefixCode.{split_number}
 use Rattle.writer_laws.proofs.Records.{SameStep, same_rule_byte, same_number, same_bad_step}
 use Rattle.graft_laws.proofs.MergedNames.{length_merged, renumbered_right}
@@ -35,18 +35,15 @@ module _ (names propositions : ℕ) (records : List ℕ) (k : ℕ) where
   unfolding bad_step identifiers
   tests e =
       let ids = identifier_count (rule_in records k) in
-      let a = neither (leb (length rules) (rule_byte records k)) _ e in
-      let b = neither (bad_identifier names propositions records k 2 (leb 1 ids)) _ a.1 in
-      let c = neither (bad_identifier names propositions records k 6 (leb 2 ids)) _ b.1 in
-      let f = neither (bad_conclusion names propositions records k) (bad_column names propositions records k) c.1 in
+      let a = or_parts (leb (length rules) (rule_byte records k)) _ e in
+      let b = or_parts (bad_identifier names propositions records k 2 (leb 1 ids)) _ a.1 in
+      let c = or_parts (bad_identifier names propositions records k 6 (leb 2 ids)) _ b.1 in
+      let f = or_parts (bad_conclusion names propositions records k) (bad_column names propositions records k) c.1 in
       record { rule = a.0; first = b.0; second = c.0; conclusion = f.0; column = f.1 }
 
   pub tested : Tests names propositions records k → bad_step names propositions records k ≡ false
   unfolding bad_step identifiers
   tested t = rw (t.rule, t.first, t.second, t.conclusion, t.column)
-
-pub either_false : (a b : Bool) → a ≡ false → b ≡ false → a || b ≡ false
-either_false a b e f = rw (e, f)
 
 -- more names and propositions pass all the more
 module _ (n n' p p' : ℕ) (records : List ℕ) (k : ℕ) (names : n ≤ n') (propositions : p ≤ p') where
@@ -64,11 +61,11 @@ module _ (n n' p p' : ℕ) (records : List ℕ) (k : ℕ) (names : n ≤ n') (pr
           → cond b (leb p' (step_number records k 12) || (not (eqb (step_number records k 14) 0) || not (eqb (step_number records k 16) 0)))
           (cond c (leb n' (step_number records k 12) || leb n' (step_number records k 16)) true) ≡ false
       go true c f =
-          let x = neither (leb p (step_number records k 12)) _ f in
-          either_false _ _ (lt-leb p' (step_number records k 12) (omega (arith, leb-false p (step_number records k 12) x.0))) x.1
+          let x = or_parts (leb p (step_number records k 12)) _ f in
+          or_from _ _ (lt-leb p' (step_number records k 12) (omega (arith, leb-false p (step_number records k 12) x.0))) x.1
       go false true f =
-          let x = neither (leb n (step_number records k 12)) (leb n (step_number records k 16)) f in
-          either_false _ _ (lt-leb n' (step_number records k 12) (omega (arith, leb-false n (step_number records k 12) x.0)))
+          let x = or_parts (leb n (step_number records k 12)) (leb n (step_number records k 16)) f in
+          or_from _ _ (lt-leb n' (step_number records k 12) (omega (arith, leb-false n (step_number records k 12) x.0)))
           (lt-leb n' (step_number records k 16) (omega (arith, leb-false n (step_number records k 16) x.1)))
       go false false f = f
 
@@ -129,19 +126,19 @@ module _ {h d : List ℕ} {k : ℕ} (g : Grafts h d k) where
         go : (b : Bool) → eqb (step_number R j 10) 0 ≡ b → (c : Bool) → eqb (step_number R j 10) 1 ≡ c
             → bad_conclusion (sheet.names d) (sheet.propositions d) R j ≡ false → bad_conclusion N P (sheet.step_records M) m ≡ false
         go true is c is' f =
-            let x = neither (leb (sheet.propositions d) (step_number R j 12)) _ (rw is at f) in
+            let x = or_parts (leb (sheet.propositions d) (step_number R j 12)) _ (rw is at f) in
             let y = leb-false (sheet.propositions d) (step_number R j 12) x.0 in
             rw (number_10 g m j same l, is, number_12 g m j same l, number_14 g m j same l, number_16 g m j same l, is)
-            (either_false _ _ (lt-leb P (sheet.propositions h + step_number R j 12) (omega (arith, merged_propositions g, y))) x.1)
+            (or_from _ _ (lt-leb P (sheet.propositions h + step_number R j 12) (omega (arith, merged_propositions g, y))) x.1)
         go false is true is' f =
-            let x = neither (leb (sheet.names d) (step_number R j 12)) (leb (sheet.names d) (step_number R j 16)) (rw (is, is') at f) in
+            let x = or_parts (leb (sheet.names d) (step_number R j 12)) (leb (sheet.names d) (step_number R j 16)) (rw (is, is') at f) in
             rw (number_10 g m j same l, is, is', number_12 g m j same l, number_16 g m j same l, is)
-            (either_false _ _
+            (or_from _ _
             (lt-leb N (renumbered h d (step_number R j 12)) (below (step_number R j 12) (leb-false (sheet.names d) (step_number R j 12) x.0)))
             (lt-leb N (renumbered h d (step_number R j 16)) (below (step_number R j 16) (leb-false (sheet.names d) (step_number R j 16) x.1))))
         go false is false is' f =
             let bad : true ≡ false = rw (is, is') at f in
-            absurd (let z : ◌≡◌ {A = ℕ} 0 1 = cc in omega arith)
+            absurd (grind arith)
 
     donor_column : bad_column N P (sheet.step_records M) m ≡ false
     unfolding bad_column column donor_record step_number sheet.number_at u16 step_size

@@ -4,7 +4,7 @@ use Prim.Native.Nat.{ℕ, zero, suc, ◌+◌, ◌-◌, ◌≤◌, ◌<◌}
 use mathlib.Core.Path.{◌≡◌, refl, sym, ap, ◌∙◌}
 use mathlib.Core.Bool.{Bool, true, false, ◌||◌, cond}
 use Rattle.std.specs.Prelude.{Option, None, Some}
-use mathlib.Core.List.{List, [], ◌∷◌, ◌++◌, map, append_assoc, append-nil}
+use mathlib.Core.List.{List, [], ◌∷◌, ◌++◌, map, map-append, append_assoc, append-nil}
 use native.Mathlib.Omega.{arith}
 use native.Mathlib.Decide.{dec_lt}
 use native.Mathlib.Numerals.{add-one}
@@ -21,10 +21,6 @@ use Rattle.name_index_laws.specs.Answered.{LowestNumber, is_lowest, there_is_non
 use Rattle.name_index_laws.proofs.PlainSearch.{plain_search_lowest}
 use Rattle.graft_laws.specs.Missing.{missing_below, Numbering, given_before, given_next}
 use Rattle.graft_laws.proofs.MergedNames.{at_occurs, occurs_at, from_list, each, row_length, number_right, renumbered_right, length_merged}
-
-map_append : {A B : Type 0} (f : A → B) (xs ys : List A) → map f (xs ++ ys) ≡ map f xs ++ map f ys
-map_append f [] ys = refl
-map_append f (x ∷ xs) ys = ap (λ zs. f x ∷ zs) (map_append f xs ys)
 
 -- one name more is a first occurrence or was met
 firsts_last : (seen l : List Name) (x : Name)
@@ -117,14 +113,14 @@ module _ (h d : List ℕ) where
   one_more : (n : ℕ) → missing_below h d (n + 1) ≡ missing_below h d n ++ cond (met n) [] (name_of d n ∷ [])
   unfolding missing_below met up_to
   one_more n =
-      rw (add-one n, map_append (name_of d) (up_to n) (n ∷ [])) (firsts_last (names_of h) (map (name_of d) (up_to n)) (name_of d n))
+      rw (add-one n, map-append (name_of d) (up_to n) (n ∷ [])) (firsts_last (names_of h) (map (name_of d) (up_to n)) (name_of d n))
 
   begins_more : (n m : ℕ) → (rest : List Name) × (missing_below h d (n + m) ≡ missing_below h d n ++ rest)
   unfolding missing_below
   begins_more n m =
       let (ms, e) = up_to_begin n m in
       let (rest, f) = firsts_begin (names_of h) (map (name_of d) (up_to n)) (map (name_of d) ms) in
-      (rest, rw (e, map_append (name_of d) (up_to n) ms) f)
+      (rest, rw (e, map-append (name_of d) (up_to n) ms) f)
 
   begins : (n : ℕ) → n ≤ sheet.names d → (rest : List Name) × (missing h d ≡ missing_below h d n ++ rest)
   begins n l =
@@ -175,7 +171,7 @@ module _ (h d : List ℕ) where
         go : (o : Option ℕ) → LowestNumber (name_of h) (sheet.names h) (name_of d n) o → (i : ℕ) → o ≡ Some i
             → (i < sheet.names h) × (name_of h i ≡ name_of d n) × ((j : ℕ) → j < i → name_of h j ≡ name_of d n → ⊥)
         go (Some j) (is_lowest l e f) i is = let z : j ≡ i = cc in rw (← z) (l, e, f)
-        go None (there_is_none f) i is = absurd (let z : ◌≡◌ {A = ℕ} 0 1 = cc in omega arith)
+        go None (there_is_none f) i is = absurd (grind arith)
 
     pub held_number : renumbered h d n ≡ i
     held_number =
@@ -210,7 +206,7 @@ module _ (h d : List ℕ) where
       where
         go : (o : Option ℕ) → LowestNumber (name_of h) (sheet.names h) (name_of d n) o → o ≡ None
             → (i : ℕ) → i < sheet.names h → name_of h i ≡ name_of d n → ⊥
-        go (Some j) (is_lowest l e f) is = absurd (let z : ◌≡◌ {A = ℕ} 0 1 = cc in omega arith)
+        go (Some j) (is_lowest l e f) is = absurd (grind arith)
         go None (there_is_none f) is = f
 
     pub new_missing : missing_below h d (n + 1) ≡ missing_below h d n ++ (name_of d n ∷ [])

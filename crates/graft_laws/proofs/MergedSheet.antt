@@ -7,7 +7,7 @@ use mathlib.Core.List.{List, [], ◌∷◌, ◌++◌, map}
 use native.Mathlib.Omega.{arith}
 use native.Mathlib.Decide.{dec_lt}
 use lib.ListN.{length, get_or, take, drop, length-append, length-drop, get_or-append}
-use lib.Seq.{length-take-le, get_or-drop, get_or-append-add}
+use lib.Seq.{length-take-le, get_or-append-add}
 use lib.Dec.{ltb, leb, eqb}
 use borrow.Author.Tests.{eqb-true, leb-false, ltb-false, not-false}
 use Rattle.definitions.specs.Prop.{Prop, True, False, Binary, Atom, Quantified, PropParameter, Uninstantiated, Instantiated, rename_parameter, rename_prop}
@@ -20,11 +20,11 @@ use Rattle.definitions.specs.Encode.{rule_number, concat, encode_pairs}
 use Rattle.definitions.specs.Assemble.{parts_of}
 use Rattle.writer_laws.specs.Fitting.{Fitting}
 use Rattle.definitions.specs.Graft.{up_to, missing, merged_names, names_of, renumbered, donor_codes, donor_record, donor_records, merged_parts, merged_sheet, not_open}
-use Rattle.definitions.proofs.Readings.{Bytes}
+use Rattle.definitions.proofs.Readings.{Bytes, marked_bytes}
 use Rattle.definitions.proofs.Lowest.{all_fail}
 use Rattle.definitions.proofs.PrefixCode.{decode_encode, encode_decode}
 use Rattle.writer_laws.proofs.Checks.{Checks}
-use Rattle.definitions.proofs.Either.{neither}
+use Rattle.std.proofs.lemmas.Bool.{or_parts}
 use Rattle.writer_laws.proofs.Assembling.{text_assembled, code_assembled, goal_assembled, names_assembled, propositions_assembled, steps_assembled, name_pairs_assembled, proposition_pairs_assembled, text_bytes_assembled, code_bytes_assembled}
 use Rattle.writer_laws.proofs.Records.{SameStep, first_row, second_row, same_steps}
 use Rattle.writer_laws.proofs.Restating.{fitting, is_whole}
@@ -126,23 +126,23 @@ module _ (s : List ℕ) (c : Checks s) where
   unfolding bad_name_pair misplaced
   name_within i l =
       let e = all_fail (bad_name_pair (sheet.name_pairs s) (text_length s)) (sheet.names s) c.good_name_pairs i l in
-      let e₁ = (neither (misplaced (sheet.name_pairs s) (text_length s) i) _ e).0 in
-      ltb-false (text_length s) (pair_end (sheet.name_pairs s) i) (neither (ltb (sheet.pair_offset (sheet.name_pairs s) i) (sheet.last_end (sheet.name_pairs s) i)) _ e₁).1
+      let e₁ = (or_parts (misplaced (sheet.name_pairs s) (text_length s) i) _ e).0 in
+      ltb-false (text_length s) (pair_end (sheet.name_pairs s) i) (or_parts (ltb (sheet.pair_offset (sheet.name_pairs s) i) (sheet.last_end (sheet.name_pairs s) i)) _ e₁).1
 
   pub proposition_within : (i : ℕ) → i < sheet.propositions s → pair_end (sheet.proposition_pairs s) i ≤ code_length s
   unfolding bad_proposition_pair misplaced
   proposition_within i l =
       let e = all_fail (bad_proposition_pair (sheet.proposition_pairs s) (code_length s)) (sheet.propositions s) c.good_proposition_pairs i l in
-      let e₁ = (neither (misplaced (sheet.proposition_pairs s) (code_length s) i) _ e).0 in
+      let e₁ = (or_parts (misplaced (sheet.proposition_pairs s) (code_length s) i) _ e).0 in
       ltb-false (code_length s) (pair_end (sheet.proposition_pairs s) i)
-      (neither (ltb (sheet.pair_offset (sheet.proposition_pairs s) i) (sheet.last_end (sheet.proposition_pairs s) i)) _ e₁).1
+      (or_parts (ltb (sheet.pair_offset (sheet.proposition_pairs s) i) (sheet.last_end (sheet.proposition_pairs s) i)) _ e₁).1
 
   pub decoded : (i : ℕ) → i < sheet.propositions s → decode (sheet.names s) (marked (sheet.proposition_pairs s) (code_bytes s) i) ≡ Some (prop_of s i)
   unfolding bad_code prop_of prop_in is_none
   decoded i l = go (decode (sheet.names s) (marked (sheet.proposition_pairs s) (code_bytes s) i)) (all_fail (bad_code (sheet.names s) (sheet.proposition_pairs s) (code_bytes s)) (sheet.propositions s) c.codes i l)
     where
       go : (x : Option (Prop ℕ)) → is_none x ≡ false → x ≡ Some (unwrap_or x False)
-      go None e = absurd (let z : ◌≡◌ {A = ℕ} 0 1 = cc in omega arith)
+      go None e = absurd (grind arith)
       go (Some p) e = refl
 
   length_part : (from n : ℕ) → from + n ≤ length s → length (take n (drop from s)) ≡ n
@@ -157,23 +157,10 @@ module _ (s : List ℕ) (c : Checks s) where
   length_code = let whole = is_whole s c in length_part (code_start s) (code_length s) (omega arith)
 
   module _ (bytes : Bytes s) where
-    marked_bytes : (pairs : List ℕ) (i : ℕ) → Bytes (marked pairs (code_bytes s) i)
-    unfolding marked code_bytes
-    marked_bytes pairs i j = take_bytes (sheet.pair_length pairs i) (drop (sheet.pair_offset pairs i) (take (code_length s) (drop (code_start s) s))) (drop_bytes (sheet.pair_offset pairs i) (take (code_length s) (drop (code_start s) s)) (take_bytes (code_length s) (drop (code_start s) s) (drop_bytes (code_start s) s bytes))) j
-      where
-        drop_bytes : (n : ℕ) (l : List ℕ) → Bytes l → Bytes (drop n l)
-        drop_bytes n l b i = rw (get_or-drop n l i 0) (b (n + i))
-
-        take_bytes : (n : ℕ) (l : List ℕ) → Bytes l → Bytes (take n l)
-        take_bytes zero l b i = omega arith
-        take_bytes (suc n) [] b i = omega arith
-        take_bytes (suc n) (a ∷ l) b zero = b 0
-        take_bytes (suc n) (a ∷ l) b (suc i) = take_bytes n l (λ j. b (suc j)) i
-
     -- a proposition of the sheet has names below the sheet's count, and its code stands at its pair
     pub coded : (i : ℕ) → i < sheet.propositions s
         → (encode (prop_of s i) ≡ marked (sheet.proposition_pairs s) (code_bytes s) i) × Codable (sheet.names s) (prop_of s i)
-    coded i l = encode_decode (sheet.names s) (marked (sheet.proposition_pairs s) (code_bytes s) i) (prop_of s i) (marked_bytes (sheet.proposition_pairs s) i) (decoded i l)
+    coded i l = encode_decode (sheet.names s) (marked (sheet.proposition_pairs s) (code_bytes s) i) (prop_of s i) (marked_bytes s bytes (sheet.proposition_pairs s) i) (decoded i l)
 
 -- a host and a donor that are admitted, and an open step of the host
 pub record Grafts (h d : List ℕ) (k : ℕ) : Type 0 where
@@ -186,20 +173,20 @@ pub record Grafts (h d : List ℕ) (k : ℕ) : Type 0 where
 module _ {h d : List ℕ} {k : ℕ} (g : Grafts h d k) where
   pub here : k < sheet.steps h
   unfolding not_open
-  here = leb-false (sheet.steps h) k (neither (leb (sheet.steps h) k) _ g.is_open).0
+  here = leb-false (sheet.steps h) k (or_parts (leb (sheet.steps h) k) _ g.is_open).0
 
   pub no_premisses : premiss_count (sheet.step_records h) k ≡ 0
   unfolding not_open
   no_premisses =
-      let e = (neither (leb (sheet.steps h) k) _ g.is_open).1 in
-      let e₁ = (neither (not (eqb (rule_byte (sheet.step_records h) k) (rule_number Sorry))) (not (eqb (premiss_count (sheet.step_records h) k) 0)) e).1 in
+      let e = (or_parts (leb (sheet.steps h) k) _ g.is_open).1 in
+      let e₁ = (or_parts (not (eqb (rule_byte (sheet.step_records h) k) (rule_number Sorry))) (not (eqb (premiss_count (sheet.step_records h) k) 0)) e).1 in
       eqb-true (premiss_count (sheet.step_records h) k) 0 (not-false (eqb (premiss_count (sheet.step_records h) k) 0) e₁)
 
   pub is_sorry_lem : rule_in (sheet.step_records h) k ≡ Sorry
   unfolding not_open rule_in rules rule_number
   is_sorry_lem =
-      let e = (neither (leb (sheet.steps h) k) _ g.is_open).1 in
-      let e₁ = (neither (not (eqb (rule_byte (sheet.step_records h) k) (rule_number Sorry))) _ e).0 in
+      let e = (or_parts (leb (sheet.steps h) k) _ g.is_open).1 in
+      let e₁ = (or_parts (not (eqb (rule_byte (sheet.step_records h) k) (rule_number Sorry))) _ e).0 in
       let byte : rule_byte (sheet.step_records h) k ≡ 15 = eqb-true (rule_byte (sheet.step_records h) k) 15 (not-false _ e₁) in
       rw byte
 

@@ -19,7 +19,7 @@ use Rattle.definitions.proofs.Lowest.{all_fail}
 use Rattle.graft_laws.proofs.Trees.{tidy_identifier, tidy_step, named_step, renumber_step}
 use Rattle.definitions.specs.Graft.{up_to, renumbered, donor_name, donor_record, donor_records, merged_parts, merged_sheet}
 use Rattle.writer_laws.proofs.Checks.{Checks}
-use Rattle.definitions.proofs.Either.{neither}
+use Rattle.std.proofs.lemmas.Bool.{or_parts}
 use Rattle.definitions.proofs.PrefixCode.{split_number}
 use Rattle.writer_laws.proofs.Assembling.{step_records_assembled}
 use Rattle.writer_laws.proofs.Records.{SameStep, same_rule, same_premiss_count, same_number, same_conclusion, first_row, second_row, same_steps}
@@ -42,13 +42,13 @@ good_identifier : (names propositions : ℕ) (records : List ℕ) (k at : ℕ) (
     → has ≡ true → step_number records k at < names
 unfolding bad_identifier no_name
 good_identifier names propositions records k at true e is = leb-false names (step_number records k at) e
-good_identifier names propositions records k at false e is = absurd (let z : ◌≡◌ {A = ℕ} 0 1 = cc in omega arith)
+good_identifier names propositions records k at false e is = absurd (grind arith)
 
 good_kind_0 : (names propositions : ℕ) (records : List ℕ) (k : ℕ) → bad_conclusion names propositions records k ≡ false
     → eqb (step_number records k 10) 0 ≡ true → step_number records k 12 < propositions
 unfolding bad_conclusion bad_prop_is_true
 good_kind_0 names propositions records k e is =
-    leb-false propositions (step_number records k 12) (neither (leb propositions (step_number records k 12)) _ (rw is at e)).0
+    leb-false propositions (step_number records k 12) (or_parts (leb propositions (step_number records k 12)) _ (rw is at e)).0
 
 good_kind_1 : (names propositions : ℕ) (records : List ℕ) (k : ℕ) → bad_conclusion names propositions records k ≡ false
     → eqb (step_number records k 10) 0 ≡ false → (step_number records k 12 < names) × (step_number records k 16 < names)
@@ -58,18 +58,18 @@ good_kind_1 names propositions records k e is = go (eqb (step_number records k 1
     go : (b : Bool) → cond b (leb names (step_number records k 12) || leb names (step_number records k 16)) true ≡ false
         → (step_number records k 12 < names) × (step_number records k 16 < names)
     go true f =
-        let x = neither (leb names (step_number records k 12)) (leb names (step_number records k 16)) f in
+        let x = or_parts (leb names (step_number records k 12)) (leb names (step_number records k 16)) f in
         (leb-false names (step_number records k 12) x.0, leb-false names (step_number records k 16) x.1)
-    go false f = absurd (let z : ◌≡◌ {A = ℕ} 0 1 = cc in omega arith)
+    go false f = absurd (grind arith)
 
 pub good_step : (names propositions : ℕ) (records : List ℕ) (k : ℕ) → bad_step names propositions records k ≡ false → GoodStep names propositions records k
 unfolding bad_step identifiers
 good_step names propositions records k e =
     let ids = identifier_count (rule_in records k) in
-    let a = (neither (leb (length rules) (rule_byte records k)) _ e).1 in
-    let b = neither (bad_identifier names propositions records k 2 (leb 1 ids)) _ a in
-    let c = neither (bad_identifier names propositions records k 6 (leb 2 ids)) _ b.1 in
-    let f = (neither (bad_conclusion names propositions records k) (bad_column names propositions records k) c.1).0 in
+    let a = (or_parts (leb (length rules) (rule_byte records k)) _ e).1 in
+    let b = or_parts (bad_identifier names propositions records k 2 (leb 1 ids)) _ a in
+    let c = or_parts (bad_identifier names propositions records k 6 (leb 2 ids)) _ b.1 in
+    let f = (or_parts (bad_conclusion names propositions records k) (bad_column names propositions records k) c.1).0 in
     record {
       first = good_identifier names propositions records k 2 (leb 1 ids) b.0;
       second = good_identifier names propositions records k 6 (leb 2 ids) c.0;
@@ -264,7 +264,7 @@ module _ {h d : List ℕ} {k : ℕ} (g : Grafts h d k) where
     donor_tidy : (has : Bool) (x : ℕ) → (has ≡ true → x < sheet.names d) → has ≡ true → name_of M (donor_name h d x has) ≡ name_of d x
     unfolding donor_name
     donor_tidy true x below is = donor_name_lem g x (below is)
-    donor_tidy false x below is = absurd (let z : ◌≡◌ {A = ℕ} 0 1 = cc in omega arith)
+    donor_tidy false x below is = absurd (grind arith)
 
     donor_by_kind : (b : Bool) → is_prop ≡ b
         → rename_conclusion (name_of M) (conclusion_in (sheet.names M) (sheet.proposition_pairs M) (code_bytes M) (sheet.step_records M) m)

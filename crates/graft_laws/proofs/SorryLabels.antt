@@ -15,7 +15,7 @@ module _ {N : Type 0} where
       → (ascription_label k c >>= λ l. accepted (TypeAscription term.Sorry l)) ≡ accepted u → labels u ≡ own_labels inferring c
   unfolding ascription_label refuse ◌>>=◌ labels of_labels own_labels
   ascribed k (PropIsTrue p) u e = let z : u ≡ TypeAscription term.Sorry (proposition p) = cc in rw z
-  ascribed k (TypeJudgement x t) u e = absurd (let z : ◌≡◌ {A = ℕ} 0 1 = cc in omega arith)
+  ascribed k (TypeJudgement x t) u e = absurd (grind arith)
 
   pub sorry_labels : (z : Step N) (m : Place) (u : ProofTerm N) → z.rule ≡ tree.Sorry → export (over z none) m ≡ accepted u
       → labels u ≡ own_labels m z.conclusion

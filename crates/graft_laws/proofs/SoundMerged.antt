@@ -2,19 +2,20 @@
 use Prim.Native.Nat.{ℕ, ◌+◌, ◌-◌, ◌<◌}
 use mathlib.Core.Path.{◌≡◌, refl, sym, ap, ◌∙◌}
 use mathlib.Core.Bool.{Bool, true, false, cond}
-use mathlib.Core.List.{List, [], ◌∷◌, map}
+use mathlib.Core.List.{List, []}
 use native.Mathlib.Omega.{arith}
 use native.Mathlib.Decide.{dec_lt}
 use lib.Dec.{eqb}
 use Rattle.definitions.specs.Name.{Name}
-use Rattle.definitions.specs.Prop.{Prop, True, False, Binary, Atom, Quantified, PropParameter, Uninstantiated, Instantiated, rename_parameter, rename_prop}
+use Rattle.definitions.specs.Prop.{Prop}
 use Rattle.definitions.specs.Sheet as sheet
 use Rattle.definitions.specs.Sheet.{step_number, name_of}
 use Rattle.definitions.specs.Tree.{Identifier, PropIsTrue, TypeJudgement, Step, ProofTree, over, Premisses, none, ◌and◌, rename_step, rename_tree, rename_premisses, rule_of, conclusion_in, conclusion_of, prop_of, step_in, step_over, tree_in, tree_of, root_of}
 use Rattle.definitions.specs.Answers.{named_conclusion}
-use Rattle.definitions.specs.Sound.{Deduction, documented, is_propositional, all_instantiated, is_quantifier_free, is_proposition, Deduced, Sound}
+use Rattle.definitions.specs.Sound.{Deduction, documented, is_propositional, is_quantifier_free, is_proposition, Deduced, Sound}
 use Rattle.definitions.specs.Graft.{renumbered, merged_sheet, merged, graft_answer}
 use Rattle.definitions.proofs.Readings.{Bytes}
+use Rattle.definitions.proofs.Shape.{free_same}
 use Rattle.definitions.proofs.Conventions.{concludes}
 use Rattle.graft_laws.specs.Scope.{NoClash}
 use Rattle.graft_laws.proofs.Trees.{graft_tree, named_tree}
@@ -43,21 +44,6 @@ module _ (k : ℕ) (z₀ : Step ℕ) (n : ℕ → Name) where
     all_renamed : (ps : Premisses ℕ) → OnlyAmong k z₀ ps → OnlyAmong k (rename_step n z₀) (rename_premisses n ps)
     all_renamed none only = tt
     all_renamed (t and ps) only = (only_renamed t only.0, all_renamed ps only.1)
-
--- a renamed proposition is as free of quantifiers and uninstantiated parameters
-instantiated_renamed : (f : ℕ → ℕ) (ps : List (PropParameter ℕ)) → all_instantiated (map (rename_parameter f) ps) ≡ all_instantiated ps
-unfolding all_instantiated rename_parameter
-instantiated_renamed f [] = refl
-instantiated_renamed f (Uninstantiated x ∷ ps) = refl
-instantiated_renamed f (Instantiated x i ∷ ps) = instantiated_renamed f ps
-
-free_renamed : (f : ℕ → ℕ) (p : Prop ℕ) → is_quantifier_free (rename_prop f p) ≡ is_quantifier_free p
-unfolding is_quantifier_free rename_prop
-free_renamed f True = refl
-free_renamed f False = refl
-free_renamed f (Binary c p q) = rw (free_renamed f p, free_renamed f q)
-free_renamed f (Atom a ps) = instantiated_renamed f ps
-free_renamed f (Quantified q x t p) = refl
 
 -- a conclusion is a proposition where its kind is 0
 by_kind : (s : List ℕ) (k : ℕ) → is_proposition (conclusion_of s k) ≡ eqb (step_number (sheet.step_records s) k 10) 0
@@ -133,7 +119,7 @@ module _ {h d : List ℕ} {k : ℕ} {m : List ℕ} (a : Merged h d k m) (host : 
           let j = i - sheet.propositions h in
           let z : sheet.propositions h + j ≡ i = omega arith in
           let below : j < sheet.propositions d = omega (arith, merged_propositions g) in
-          rw (← z) (ap is_quantifier_free (donor_prop g j below) ∙ (free_renamed (renumbered h d) (prop_of d j) ∙ donor.props j below))
+          rw (← z) (ap is_quantifier_free (donor_prop g j below) ∙ (free_same (renumbered h d) (prop_of d j) ∙ donor.props j below))
 
   merged_is_sound : Sound M
   merged_is_sound =

@@ -20,7 +20,7 @@ pub record Found (test : ℕ → Bool) (count place : ℕ) : Type 0 where
 
 pub found : (test : ℕ → Bool) (count place : ℕ) → lowest test count ≡ Some place → Found test count place
 unfolding lowest first_of
-found test zero place e = absurd (let z : ◌≡◌ {A = ℕ} 0 1 = cc in omega arith)
+found test zero place e = absurd (grind arith)
 found test (suc count) place e = go (lowest test count) (test count) refl refl e (found test count place)
   where
     go : (o : Option ℕ) (b : Bool) → lowest test count ≡ o → test count ≡ b → first_of o b count ≡ Some place
@@ -31,7 +31,7 @@ found test (suc count) place e = go (lowest test count) (test count) refl refl e
     go None true is here f below =
         let last : count ≡ place = cc in
         record { within = omega arith; holds = rw (← last) here; earlier = λ i l. all_fail test count is i (omega arith) }
-    go None false is here f below = absurd (let z : ◌≡◌ {A = ℕ} 0 1 = cc in omega arith)
+    go None false is here f below = absurd (grind arith)
 
 module _ (name : ℕ → Name) where
   -- the plain search answers the lowest number with equal bytes, or that there is none

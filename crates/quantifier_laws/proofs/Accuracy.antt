@@ -1,40 +1,27 @@
 -- Every sound sheet has the accuracy statement: its root's deduction gives the term, and the answers are that term's.
-use Prim.Native.Nat.{ℕ, ◌≤◌}
-use mathlib.Core.Path.{◌≡◌, refl, sym, ap, ◌∙◌}
+use Prim.Native.Nat.{ℕ}
+use mathlib.Core.Path.{◌≡◌, sym, ap, ◌∙◌}
 use mathlib.Core.List.{List, []}
-use native.Mathlib.Omega.{arith}
-use lib.ListN.{length}
-use borrow.Author.Tests.{le-ltb}
-use Rattle.definitions.specs.Outcome.{Outcome, refused, accepted, ◌>>=◌, map_outcome, refuse_if}
+use Rattle.definitions.specs.Outcome.{accepted, ◌>>=◌, map_outcome}
 use Rattle.definitions.specs.Name.{Name}
 use Rattle.definitions.specs.AlphaEquality.{Nameless}
 use Rattle.definitions.specs.Sheet.{name_of}
 use Rattle.definitions.specs.Term.{ProofTerm, rename_term, annotation_count}
 use Rattle.definitions.specs.Export.{checking, export}
 use Rattle.definitions.specs.Text.{heading, text}
-use Rattle.definitions.specs.Answers.{is_in_room, sheet_term, named_term, goal_prop, sheet_text, text_answer, label_count}
+use Rattle.definitions.specs.Answers.{sheet_term, named_term, goal_prop, sheet_text, text_answer, label_count}
 use Rattle.quantifier_laws.specs.Labels.{total}
 use Rattle.quantifier_laws.specs.Instantiation.{among}
 use Rattle.quantifier_laws.specs.Rules.{objects, Checks}
 use Rattle.quantifier_laws.specs.Sound.{Deduced, Sound, shadowing, context, entries, objects_of, among_entries}
 use Rattle.quantifier_laws.specs.Accuracy.{Accurate}
+use Rattle.definitions.proofs.Outcomes.{was_accepted, in_room}
 use Rattle.definitions.proofs.Renaming.{export_same, annotation_count_same}
 use Rattle.quantifier_laws.proofs.Instantiation.{among_none}
 use Rattle.quantifier_laws.proofs.Labelling.{labels_counted, inferring_tally_same}
 use Rattle.quantifier_laws.proofs.Exporting.{exports, check}
 use Rattle.quantifier_laws.proofs.CheckerComplete.{checks_complete}
 use Rattle.quantifier_laws.proofs.Conventions.{deduced_shadowing}
-
--- an outcome whose changed value is accepted was accepted
-was_accepted : {A B : Type 0} (f : A → B) (o : Outcome A) (b : B) → map_outcome f o ≡ accepted b → (a : A) × (o ≡ accepted a) × (f a ≡ b)
-unfolding map_outcome
-was_accepted f (refused r) b e = absurd (let z : ◌≡◌ {A = ℕ} 0 1 = cc in omega arith)
-was_accepted f (accepted a) b e = (a, refl, (cc))
-
--- what fits in the room is the answer
-in_room : (room : ℕ) (o : Outcome (List ℕ)) (a : List ℕ) → o ≡ accepted a → length a ≤ room → is_in_room room o ≡ accepted a
-unfolding is_in_room ◌>>=◌ refuse_if
-in_room room o a e h = rw (e, le-ltb room (length a) h)
 
 -- from no hypotheses the reading changes nothing
 of_none : {u : ProofTerm Name} {a : Nameless} → Checks (context []) u (among (objects_of []) a) → Checks [] u a

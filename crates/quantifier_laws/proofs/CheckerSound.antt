@@ -23,26 +23,23 @@ use Rattle.quantifier_laws.proofs.Generalising.{Scoped, instantiate_generalised,
 use Rattle.quantifier_laws.proofs.NewNames.{new_sound}
 use Rattle.quantifier_laws.proofs.CheckerComplete.{checks_complete}
 
-clash : {A : Type 0} → ◌≡◌ {A = ℕ} 0 1 → A
-clash e = absurd (omega arith)
-
 module _ (n : ℕ) where
   -- a test that held, and what came next
   tested : {B : Type 0} (test : Bool) (next : Unit {0} → Judged B) (b : B) → (ensure n test >>= next) ≡ derived b
       → (test ≡ true) × (next tt ≡ derived b)
   unfolding ensure ◌>>=◌
   tested true next b e = (refl, e)
-  tested false next b e = clash (cc)
+  tested false next b e = absurd (grind arith)
 
   outside : {B : Type 0} (test : Bool) (next : Unit {0} → Judged B) (b : B) → (ensure n (not test) >>= next) ≡ derived b
       → (test ≡ false) × (next tt ≡ derived b)
   unfolding ensure ◌>>=◌
-  outside true next b e = clash (cc)
+  outside true next b e = absurd (grind arith)
   outside false next b e = (refl, e)
 
   scope_derived : (v : Option Fact) (f : Fact) → in_scope n v ≡ derived f → v ≡ Some f
   unfolding in_scope
-  scope_derived None f e = clash (cc)
+  scope_derived None f e = absurd (grind arith)
   scope_derived (Some g) f e = cc
 
   -- a proposition that was inferred, and what came next
@@ -50,39 +47,39 @@ module _ (n : ℕ) where
       → (a : Nameless) × (o ≡ derived (proves a)) × (next a ≡ derived b)
   unfolding proposed ◌>>=◌
   inferred (derived (proves a)) next b e = (a, refl, e)
-  inferred (derived (object_of d)) next b e = clash (cc)
-  inferred (stopped k) next b e = clash (cc)
+  inferred (derived (object_of d)) next b e = absurd (grind arith)
+  inferred (stopped k) next b e = absurd (grind arith)
 
   and_derived : {A : Type 0} (p : Nameless) (next : Nameless → Nameless → Judged A) (r : A) → of_and n p next ≡ derived r
       → (a : Nameless) × (b : Nameless) × (p ≡ And a b) × (next a b ≡ derived r)
   unfolding of_and
-  and_derived True next r e = clash (cc)
-  and_derived False next r e = clash (cc)
+  and_derived True next r e = absurd (grind arith)
+  and_derived False next r e = absurd (grind arith)
   and_derived (Binary Connective.and a b) next r e = (a, b, refl, e)
-  and_derived (Binary Connective.or a b) next r e = clash (cc)
-  and_derived (Binary Connective.impl a b) next r e = clash (cc)
-  and_derived (Atom p os) next r e = clash (cc)
-  and_derived (Quantified q d c) next r e = clash (cc)
+  and_derived (Binary Connective.or a b) next r e = absurd (grind arith)
+  and_derived (Binary Connective.impl a b) next r e = absurd (grind arith)
+  and_derived (Atom p os) next r e = absurd (grind arith)
+  and_derived (Quantified q d c) next r e = absurd (grind arith)
 
   or_derived : {A : Type 0} (p : Nameless) (next : Nameless → Nameless → Judged A) (r : A) → of_or n p next ≡ derived r
       → (a : Nameless) × (b : Nameless) × (p ≡ Or a b) × (next a b ≡ derived r)
   unfolding of_or
-  or_derived True next r e = clash (cc)
-  or_derived False next r e = clash (cc)
-  or_derived (Binary Connective.and a b) next r e = clash (cc)
+  or_derived True next r e = absurd (grind arith)
+  or_derived False next r e = absurd (grind arith)
+  or_derived (Binary Connective.and a b) next r e = absurd (grind arith)
   or_derived (Binary Connective.or a b) next r e = (a, b, refl, e)
-  or_derived (Binary Connective.impl a b) next r e = clash (cc)
-  or_derived (Atom p os) next r e = clash (cc)
-  or_derived (Quantified q d c) next r e = clash (cc)
+  or_derived (Binary Connective.impl a b) next r e = absurd (grind arith)
+  or_derived (Atom p os) next r e = absurd (grind arith)
+  or_derived (Quantified q d c) next r e = absurd (grind arith)
 
   exists_derived : {A : Type 0} (p : Nameless) (next : Name → Nameless → Judged A) (r : A) → of_exists n p next ≡ derived r
       → (d : Name) × (c : Nameless) × (p ≡ Exists d c) × (next d c ≡ derived r)
   unfolding of_exists
-  exists_derived True next r e = clash (cc)
-  exists_derived False next r e = clash (cc)
-  exists_derived (Binary o a b) next r e = clash (cc)
-  exists_derived (Atom p os) next r e = clash (cc)
-  exists_derived (Quantified Quantifier.for_all d c) next r e = clash (cc)
+  exists_derived True next r e = absurd (grind arith)
+  exists_derived False next r e = absurd (grind arith)
+  exists_derived (Binary o a b) next r e = absurd (grind arith)
+  exists_derived (Atom p os) next r e = absurd (grind arith)
+  exists_derived (Quantified Quantifier.for_all d c) next r e = absurd (grind arith)
   exists_derived (Quantified Quantifier.exists d c) next r e = (d, c, refl, e)
 
   pair_derived : {A : Type 0} (p : Nameless) (pair : Nameless → Nameless → Judged A) (witness : Name → Nameless → Judged A) (r : A)
@@ -90,13 +87,13 @@ module _ (n : ℕ) where
       → ((a : Nameless) × (b : Nameless) × (p ≡ And a b) × (pair a b ≡ derived r))
       ⊎ ((d : Name) × (c : Nameless) × (p ≡ Exists d c) × (witness d c ≡ derived r))
   unfolding of_pair
-  pair_derived True pair witness r e = clash (cc)
-  pair_derived False pair witness r e = clash (cc)
+  pair_derived True pair witness r e = absurd (grind arith)
+  pair_derived False pair witness r e = absurd (grind arith)
   pair_derived (Binary Connective.and a b) pair witness r e = inl (a, b, refl, e)
-  pair_derived (Binary Connective.or a b) pair witness r e = clash (cc)
-  pair_derived (Binary Connective.impl a b) pair witness r e = clash (cc)
-  pair_derived (Atom p os) pair witness r e = clash (cc)
-  pair_derived (Quantified Quantifier.for_all d c) pair witness r e = clash (cc)
+  pair_derived (Binary Connective.or a b) pair witness r e = absurd (grind arith)
+  pair_derived (Binary Connective.impl a b) pair witness r e = absurd (grind arith)
+  pair_derived (Atom p os) pair witness r e = absurd (grind arith)
+  pair_derived (Quantified Quantifier.for_all d c) pair witness r e = absurd (grind arith)
   pair_derived (Quantified Quantifier.exists d c) pair witness r e = inr (d, c, refl, e)
 
   function_derived : {A : Type 0} (p : Nameless) (impl : Nameless → Nameless → Judged A) (for_all : Name → Nameless → Judged A) (r : A)
@@ -104,14 +101,14 @@ module _ (n : ℕ) where
       → ((a : Nameless) × (b : Nameless) × (p ≡ Impl a b) × (impl a b ≡ derived r))
       ⊎ ((d : Name) × (c : Nameless) × (p ≡ ForAll d c) × (for_all d c ≡ derived r))
   unfolding of_function
-  function_derived True impl for_all r e = clash (cc)
-  function_derived False impl for_all r e = clash (cc)
-  function_derived (Binary Connective.and a b) impl for_all r e = clash (cc)
-  function_derived (Binary Connective.or a b) impl for_all r e = clash (cc)
+  function_derived True impl for_all r e = absurd (grind arith)
+  function_derived False impl for_all r e = absurd (grind arith)
+  function_derived (Binary Connective.and a b) impl for_all r e = absurd (grind arith)
+  function_derived (Binary Connective.or a b) impl for_all r e = absurd (grind arith)
   function_derived (Binary Connective.impl a b) impl for_all r e = inl (a, b, refl, e)
-  function_derived (Atom p os) impl for_all r e = clash (cc)
+  function_derived (Atom p os) impl for_all r e = absurd (grind arith)
   function_derived (Quantified Quantifier.for_all d c) impl for_all r e = inr (d, c, refl, e)
-  function_derived (Quantified Quantifier.exists d c) impl for_all r e = clash (cc)
+  function_derived (Quantified Quantifier.exists d c) impl for_all r e = absurd (grind arith)
 
   compared_derived : (a : Nameless) (o : Judged Fact) → compared n a o ≡ derived tt → o ≡ derived (proves a)
   unfolding compared
@@ -122,24 +119,24 @@ module _ (n : ℕ) where
 
   no_object_derived : {A : Type 0} (o : Judged Fact) (x : Name) → no_object n o ≡ derived x → A
   unfolding no_object
-  no_object_derived o x e = let y = bound o _ x e in let f = y.2 in clash (cc)
+  no_object_derived o x e = let y = bound o _ x e in let f = y.2 in absurd (grind arith)
 
 -- a label that says this
 label_proposition : (g : Context) (l : Option (Label Name)) (a : Nameless) → label_is_proposition g l a ≡ true → LabelSays g l (proves a)
 unfolding LabelSays label_fact label_is_proposition
 label_proposition g None a e = tt
 label_proposition g (Some (proposition p)) a e = ap proves (eq_nameless_true (reading g p) a e)
-label_proposition g (Some (datatype d)) a e = clash (cc)
+label_proposition g (Some (datatype d)) a e = absurd (grind arith)
 
 label_datatype : (g : Context) (l : Option (Label Name)) (d : Name) → label_is_datatype l d ≡ true → LabelSays g l (object_of d)
 unfolding LabelSays label_fact label_is_datatype
 label_datatype g None d e = tt
-label_datatype g (Some (proposition p)) d e = clash (cc)
+label_datatype g (Some (proposition p)) d e = absurd (grind arith)
 label_datatype g (Some (datatype c)) d e = ap object_of (eq_name_true e)
 
 is_object : (d : Name) (f : Fact) → is_object_of d f ≡ true → f ≡ object_of d
 unfolding is_object_of
-is_object d (proves a) e = clash (cc)
+is_object d (proves a) e = absurd (grind arith)
 is_object d (object_of c) e = ap object_of (eq_name_true e)
 
 -- each bound object in the hypotheses has its quantifier
@@ -153,13 +150,13 @@ ScopedContext (e ∷ g) = ScopedFact e.fact × ScopedContext g
 
 found_scoped : (x : Name) (g : Context) → ScopedContext g → (a : Nameless) → lookup x g ≡ Some (proves a) → Scoped 0 a
 unfolding lookup
-found_scoped x [] h a e = clash (cc)
+found_scoped x [] h a e = absurd (grind arith)
 found_scoped x (f ∷ g) h a e = go (eq_name f.name x) f.fact h.0 (λ k. found_scoped x g h.1 a k) e
   where
     go : (b : Bool) (k : Fact) → ScopedFact k → (lookup x g ≡ Some (proves a) → Scoped 0 a)
         → cond b (Some k) (lookup x g) ≡ Some (proves a) → Scoped 0 a
     go true (proves c) s rest e = let same : c ≡ a = cc in rw same at s
-    go true (object_of d) s rest e = clash (cc)
+    go true (object_of d) s rest e = absurd (grind arith)
     go false k s rest e = rest e
 
 reading_scoped : (g : Context) (p : Prop Name) → Scoped 0 (reading g p)
@@ -197,9 +194,9 @@ module _ (g : Context) (n : ℕ) where
       let p = part x.0 x.1 in
       let q = rw y.2 at p in
       derives (same_fact y.3) (infer_snd q.rule) q.scoped.1
-  named_inferred NamedFunction.inl t o part a e = clash (cc)
-  named_inferred NamedFunction.inr t o part a e = clash (cc)
-  named_inferred abort t o part a e = clash (cc)
+  named_inferred NamedFunction.inl t o part a e = absurd (grind arith)
+  named_inferred NamedFunction.inr t o part a e = absurd (grind arith)
+  named_inferred abort t o part a e = absurd (grind arith)
 
   named_checked : (f : NamedFunction) (t : ProofTerm Name) (o : Judged Fact) (k : Nameless → Judged (Unit {0}))
       → ((b : Nameless) → o ≡ derived (proves b) → Derives g t b) → ((b : Nameless) → Scoped 0 b → k b ≡ derived tt → Checks g t b)
@@ -245,13 +242,13 @@ module _ (g : Context) (n : ℕ) where
   ascribed_inferred t (proposition p) k body a e =
       let y = bound (k (reading g p)) _ (proves a) e in
       derives (same_fact y.2) (infer_ascribed_lem refl (body (reading g p) (reading_scoped g p) y.1)) (reading_scoped g p)
-  ascribed_inferred t (datatype d) k body a e = clash (cc)
+  ascribed_inferred t (datatype d) k body a e = absurd (grind arith)
 
   function_inferred : (x : Name) (l : Option (Label Name)) (t : ProofTerm Name) (k : Fact → Judged Fact)
       → ((f : Fact) → ScopedFact f → (b : Nameless) → k f ≡ derived (proves b) → Derives (bind x f g) t b)
       → (a : Nameless) → infer_function n g x l k ≡ derived (proves a) → Derives g (Function x l t) a
   unfolding infer_function
-  function_inferred x None t k body a e = clash (cc)
+  function_inferred x None t k body a e = absurd (grind arith)
   function_inferred x (Some (proposition p)) t k body a e =
       let y = inferred n (k (proves (reading g p))) _ (proves a) e in
       let q = body (proves (reading g p)) (reading_scoped g p) y.0 y.1 in
@@ -351,7 +348,7 @@ mutual
   infer_sound (TypeAscription t l) g n h a e =
       ascribed_inferred g n t l (λ p. check t g (n + 1) p) (λ b r k. check_sound t g (n + 1) h b r k) a e
   infer_sound term.Unit g n h a e = derives (same_fact e) infer_unit tt
-  infer_sound Sorry g n h a e = clash (cc)
+  infer_sound Sorry g n h a e = absurd (grind arith)
 
   pub check_sound : (t : ProofTerm Name) (g : Context) (n : ℕ) → ScopedContext g → (a : Nameless) → Scoped 0 a
       → check t g n a ≡ derived tt → Checks g t a
@@ -402,15 +399,15 @@ mutual
       let o = is_object d f.0 v.0 in
       let same : y ≡ x = let z = v.1 in cc in
       (ap Ident same, rw same at (rw o at l))
-  object_sound (Pair s t) g n d x e = clash (cc)
+  object_sound (Pair s t) g n d x e = absurd (grind arith)
   object_sound (Named f t) g n d x e = no_object_derived n (infer_named n f (infer t g (n + 1))) x e
-  object_sound (Function y l t) g n d x e = clash (cc)
+  object_sound (Function y l t) g n d x e = absurd (grind arith)
   object_sound (Application s t) g n d x e = no_object_derived n _ x e
-  object_sound (LetIn y u s t) g n d x e = clash (cc)
-  object_sound (Case r y s z t) g n d x e = clash (cc)
+  object_sound (LetIn y u s t) g n d x e = absurd (grind arith)
+  object_sound (Case r y s z t) g n d x e = absurd (grind arith)
   object_sound (TypeAscription t l) g n d x e = no_object_derived n _ x e
   object_sound term.Unit g n d x e = no_object_derived n (derived (proves True)) x e
-  object_sound Sorry g n d x e = clash (cc)
+  object_sound Sorry g n d x e = absurd (grind arith)
 
 -- yes precisely when the rules derive the judgement, whatever number the node has
 pub checks_iff : (t : ProofTerm Name) (g : Context) (n : ℕ) → ScopedContext g → (a : Nameless) → Scoped 0 a

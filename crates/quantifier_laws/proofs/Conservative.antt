@@ -1,5 +1,4 @@
 -- Of terms and hypotheses without quantifiers the rules derive just what document 01's rules derive.
-use Prim.Native.Nat.{ℕ}
 use mathlib.Core.Path.{◌≡◌, refl, sym, ◌∙◌, ap}
 use mathlib.Core.Logic.{◌↔◌}
 use mathlib.Core.Bool.{Bool, true, false, cond, and-eq-true_iff}
@@ -64,7 +63,7 @@ record Found (x : Name) (h : plain.Context) (a : Nameless) : Type 0 where
 
 found : (x : Name) {h : plain.Context} {g : Context} {a : Nameless} → Same h g → lookup x g ≡ Some (proves a) → Found x h a
 unfolding lookup plain.lookup
-found x none l = absurd (let z : ◌≡◌ {A = ℕ} 0 1 = cc in omega arith)
+found x none l = absurd (grind arith)
 found x {a = a} (one {x = y} {p = p} {a = b} {h = h} {g = g} e f s) l = go (eq_name y x) refl (λ k. found x s k) l
   where
     go : (t : Bool) → eq_name y x ≡ t → (lookup x g ≡ Some (proves a) → Found x h a)
@@ -216,7 +215,7 @@ mutual
 pub found_too : (x : Name) {h : plain.Context} {g : Context} {p : Prop Name} → Same h g → plain.lookup x h ≡ Some p
     → (lookup x g ≡ Some (proves (nameless [] p))) × Free p
 unfolding lookup plain.lookup
-found_too x none l = absurd (let z : ◌≡◌ {A = ℕ} 0 1 = cc in omega arith)
+found_too x none l = absurd (grind arith)
 found_too x {p = p} (one {x = y} {p = q} {a = a} {h = h} {g = g} e f s) l = go (eq_name y x) (λ k. found_too x s k) l
   where
     go : (t : Bool) → (plain.lookup x h ≡ Some p → (lookup x g ≡ Some (proves (nameless [] p))) × Free p)
@@ -230,7 +229,7 @@ says_too : (l : Option (Label Name)) (p : Prop Name) {h : plain.Context} {g : Co
 unfolding LabelSays label_fact plain.LabelIs
 says_too None p s e = tt
 says_too (Some (proposition q)) p s e = let same : q ≡ p = cc in rw same (ap proves (read_plain p s))
-says_too (Some (datatype d)) p s e = absurd (let z : ◌≡◌ {A = ℕ} 0 1 = cc in omega arith)
+says_too (Some (datatype d)) p s e = absurd (grind arith)
 
 pub free_left : (c : Connective) (p q : Prop Name) → Free (prop.Binary c p q) → Free p
 unfolding is_quantifier_free

@@ -1,6 +1,6 @@
 -- A deduction exports, in either place, to a term that the checking rules accept there and that has its labels where they
 -- belong: by recursion on the deduction, one clause for each rule.
-use Prim.Native.Nat.{ℕ, ◌+◌}
+use Prim.Native.Nat.{◌+◌}
 use native.Mathlib.Omega.{arith}
 use borrow.Author.Tests.{le-leb}
 use mathlib.Core.Path.{◌≡◌, refl, sym, ap, ◌∙◌}
@@ -189,11 +189,11 @@ record IsImpl (p : Prop Name) (a b : Nameless) : Type 0 where
 
 is_implication : (p : Prop Name) {a b : Nameless} → nameless [] p ≡ Impl a b → IsImpl p a b
 unfolding nameless
-is_implication prop.True e = absurd (let z : ◌≡◌ {A = ℕ} 0 1 = cc in omega arith)
-is_implication prop.False e = absurd (let z : ◌≡◌ {A = ℕ} 0 1 = cc in omega arith)
+is_implication prop.True e = absurd (grind arith)
+is_implication prop.False e = absurd (grind arith)
 is_implication (prop.Binary c p q) e = record { left = p; right = q; is_impl = cc; is_left = cc }
-is_implication (prop.Atom p ps) e = absurd (let z : ◌≡◌ {A = ℕ} 0 1 = cc in omega arith)
-is_implication (prop.Quantified q x t p) e = absurd (let z : ◌≡◌ {A = ℕ} 0 1 = cc in omega arith)
+is_implication (prop.Atom p ps) e = absurd (grind arith)
+is_implication (prop.Quantified q x t p) e = absurd (grind arith)
 
 record IsForAll (p : Prop Name) (d : Name) : Type 0 where
   object : Name
@@ -202,10 +202,10 @@ record IsForAll (p : Prop Name) (d : Name) : Type 0 where
 
 is_universal : (p : Prop Name) {d : Name} {c : Nameless} → nameless [] p ≡ ForAll d c → IsForAll p d
 unfolding nameless
-is_universal prop.True e = absurd (let z : ◌≡◌ {A = ℕ} 0 1 = cc in omega arith)
-is_universal prop.False e = absurd (let z : ◌≡◌ {A = ℕ} 0 1 = cc in omega arith)
-is_universal (prop.Binary c p q) e = absurd (let z : ◌≡◌ {A = ℕ} 0 1 = cc in omega arith)
-is_universal (prop.Atom p ps) e = absurd (let z : ◌≡◌ {A = ℕ} 0 1 = cc in omega arith)
+is_universal prop.True e = absurd (grind arith)
+is_universal prop.False e = absurd (grind arith)
+is_universal (prop.Binary c p q) e = absurd (grind arith)
+is_universal (prop.Atom p ps) e = absurd (grind arith)
 is_universal (prop.Quantified q x t p) e = record { object = x; body = p; is_for_all = cc }
 
 -- a function, in either place

@@ -1,11 +1,10 @@
 -- Every answer that ticket 5 gives stays: what it does not refuse with 22 holds no quantifier, and there both checkers agree.
 use Prim.Native.Nat.{ℕ}
 use mathlib.Core.Path.{◌≡◌, refl, ap, ◌∙◌}
-use mathlib.Core.Bool.{Bool, true, false, ◌&&◌, ◌||◌, not, and-eq-true_iff}
+use mathlib.Core.Bool.{Bool, true, false, ◌&&◌, ◌||◌, not, and-eq-true_iff, false≢true}
 use Rattle.std.specs.Prelude.{None, Option, Some}
 use mathlib.Core.List.{List, [], ◌∷◌}
 use lib.Dec.{leb}
-use native.Mathlib.Omega.{arith}
 use borrow.Author.Tests.{not-false}
 use Rattle.definitions.specs.Outcome.{accepted, ◌>>=◌, refuse_if}
 use Rattle.definitions.specs.Name.{Name}
@@ -30,9 +29,6 @@ use Rattle.quantifier_laws.proofs.Conservative.{FreeLabel, FreeParameter, FreeTe
 use Rattle.quantifier_laws.proofs.SoundCase.{free_bound}
 use Rattle.quantifier_laws.proofs.SameAnswers.{NoLet, Agree, Passed, check_same}
 
-wrong : {A : Type 0} → false ≡ true → A
-wrong e = absurd (let z : ◌≡◌ {A = ℕ} 0 1 = cc in omega arith)
-
 -- What ticket 5's 22 lets pass, of a label and of a term: propositions without quantifiers, no let, and no unbound parameter.
 record PlainLabel (l : Label Name) : Type 0 where
   is_free : FreeLabel l
@@ -41,7 +37,7 @@ record PlainLabel (l : Label Name) : Type 0 where
 plain_label : (l : Label Name) → is_checkable_label l ≡ true → PlainLabel l
 unfolding is_checkable_label unbound_label
 plain_label (proposition p) e = record { is_free = e; is_bound = free_bound p e }
-plain_label (datatype t) e = wrong e
+plain_label (datatype t) e = absurd (false≢true e)
 
 record PlainParameter (l : Option (Label Name)) : Type 0 where
   is_free : FreeParameter l
@@ -76,7 +72,7 @@ plain_term (Application a b) e =
     let x = plain_term a f in
     let y = plain_term b g in
     record { is_free = (x.is_free, y.is_free); no_let = (x.no_let, y.no_let); is_bound = rw (x.is_bound, y.is_bound) }
-plain_term (LetIn v w a b) e = wrong e
+plain_term (LetIn v w a b) e = absurd (false≢true e)
 plain_term (Case a v b w c) e =
     let (f, rest) = (and-eq-true_iff (is_checkable a) (is_checkable b && is_checkable c)).0 e in
     let (g, h) = (and-eq-true_iff (is_checkable b) (is_checkable c)).0 rest in

@@ -1,5 +1,4 @@
 -- The test whether a name is new decides whether it stands in no hypothesis that a later entry does not hide.
-use Prim.Native.Nat.{ℕ}
 use mathlib.Core.Path.{◌≡◌, refl, ap}
 use mathlib.Core.Bool.{Bool, true, false, ◌||◌, not, cond, and-eq-true_iff}
 use Rattle.std.specs.Prelude.{Option, Some}
@@ -17,24 +16,21 @@ use Rattle.quantifier_laws.proofs.Instantiation.{left_false, right_false}
 abbrev NewAfter : List Name → Name → Context → Type 0
 NewAfter hidden x g = (y : Name) (a : Nameless) → is_among y hidden ≡ false → lookup y g ≡ Some (proves a) → stands x a ≡ false
 
-clash : {A : Type 0} → ◌≡◌ {A = ℕ} 0 1 → A
-clash e = absurd (omega arith)
-
 -- the entry itself
 here : (hidden : List Name) (x : Name) (f : Fact) (a : Nameless) (b : Bool) → b ≡ false → (b || not (stands_in x f)) ≡ true
     → ◌≡◌ {A = Option Fact} (Some f) (Some (proves a)) → stands x a ≡ false
 unfolding stands_in
-here hidden x (proves c) a true h e l = clash (cc)
+here hidden x (proves c) a true h e l = absurd (grind arith)
 here hidden x (proves c) a false h e l = let same : c ≡ a = cc in rw same at (not_true (stands x c) e)
   where
     not_true : (b : Bool) → not b ≡ true → b ≡ false
-    not_true true e = clash (cc)
+    not_true true e = absurd (grind arith)
     not_true false e = refl
-here hidden x (object_of d) a b h e l = clash (cc)
+here hidden x (object_of d) a b h e l = absurd (grind arith)
 
 sound : (hidden : List Name) (x : Name) (g : Context) → is_new_after hidden x g ≡ true → NewAfter hidden x g
 unfolding is_new_after lookup is_among
-sound hidden x [] e y a h l = clash (cc)
+sound hidden x [] e y a h l = absurd (grind arith)
 sound hidden x (f ∷ g) e y a h l =
     let both = (and-eq-true_iff (is_among f.name hidden || not (stands_in x f.fact)) (is_new_after (f.name ∷ hidden) x g)).0 e in
     go (eq_name f.name y) refl both.0 (λ k m. sound (f.name ∷ hidden) x g both.1 y a k m) l

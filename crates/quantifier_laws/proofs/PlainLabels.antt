@@ -34,7 +34,7 @@ tally_same OrElim e = refl
 tally_same FalsumElim e = refl
 tally_same ForAllIntro e = refl
 tally_same ForAllElim e = refl
-tally_same ExistsIntro e = absurd (let z : ◌≡◌ {A = ℕ} 0 1 = cc in omega arith)
+tally_same ExistsIntro e = absurd (grind arith)
 tally_same ExistsElim e = refl
 tally_same tree.Sorry e = refl
 tally_same AlphaEquivalent e = refl
@@ -171,7 +171,7 @@ mutual
       }
   plain_labels h (labels.generalisation {z = z} {x = x} {d = t} {p = a} e f c d v) =
       let whole : Free (prop.ForAll x t a) = rw c at h.0.conclusion in
-      absurd (let z : ◌≡◌ {A = ℕ} 0 1 = cc in omega arith)
+      absurd (grind arith)
 
   all_plain_labels : {N : Type 0} {ms : List Place} {ps : Premisses N} {us : List (ProofTerm N)}
       → PlainPremisses ps → labels.AllLabelled ms ps us → PlainTerms ms ps us

@@ -11,7 +11,8 @@ use Rattle.definitions.specs.Tree.{ProofTreeConclusion, PropIsTrue, TypeJudgemen
 use Rattle.definitions.specs.Admission.{admitted}
 use Rattle.definitions.specs.Sound.{is_propositional, is_proposition, Sound}
 use Rattle.checker_laws.proofs.EveryStep.{Every, EveryPremiss, every_step, conclusion_of_lem}
-use Rattle.quantifier_laws.proofs.QuantifierFree.{Free, free_renamed}
+use Rattle.definitions.proofs.Shape.{free_same}
+use Rattle.quantifier_laws.proofs.QuantifierFree.{Free}
 
 -- a propositional step that concludes a proposition without quantifiers
 abbrev pub PlainConclusion : {N : Type 0} → ProofTreeConclusion N → Type 0
@@ -32,7 +33,7 @@ PlainPremisses ps = EveryPremiss PlainStep ps
 module _ {N M : Type 0} (f : N → M) where
   conclusion_renamed : (c : ProofTreeConclusion N) → PlainConclusion c → PlainConclusion (rename_conclusion f c)
   unfolding rename_conclusion
-  conclusion_renamed (PropIsTrue p) h = free_renamed f p ∙ h
+  conclusion_renamed (PropIsTrue p) h = free_same f p ∙ h
   conclusion_renamed (TypeJudgement x d) h = h
 
   mutual
@@ -55,5 +56,5 @@ sound_plain s d root is_admitted =
       rule = d.rules k l;
       conclusion = conclusion_of_lem s root is_admitted k l (λ c. is_proposition c ≡ true → PlainConclusion c)
           (λ below e. d.props (step_number (step_records s) k 12) below)
-          (λ x t e. absurd (let z : ◌≡◌ {A = ℕ} 0 1 = cc in omega arith)) (d.conclusions k l);
+          (λ x t e. absurd (grind arith)) (d.conclusions k l);
     })

@@ -2,7 +2,7 @@
 -- at the same node.
 use Prim.Native.Nat.{ℕ, ◌+◌}
 use mathlib.Core.Path.{◌≡◌, refl, sym, ap, ◌∙◌}
-use mathlib.Core.Bool.{Bool, true, false, cond}
+use mathlib.Core.Bool.{Bool, true, false, cond, false≢true}
 use Rattle.std.specs.Prelude.{None, Option, Some}
 use mathlib.Core.List.{[]}
 use native.Mathlib.Omega.{arith}
@@ -56,18 +56,15 @@ module _ {S T : Type 0} {R : S → T → Type 0} where
       → Agree R (next tt) (next' tt) → Agree R (five.◌>>=◌ (five.ensure n b) next) (five.◌>>=◌ (five.ensure n c) next')
   unfolding five.◌>>=◌ five.ensure
   tested n true true next next' e r = r
-  tested n true false next next' e r = absurd (let z : ◌≡◌ {A = ℕ} 0 1 = cc in omega arith)
-  tested n false true next next' e r = absurd (let z : ◌≡◌ {A = ℕ} 0 1 = cc in omega arith)
+  tested n true false next next' e r = absurd (grind arith)
+  tested n false true next next' e r = absurd (grind arith)
   tested n false false next next' e r = halt
-
-wrong : {A : Type 0} → false ≡ true → A
-wrong e = absurd (let z : ◌≡◌ {A = ℕ} 0 1 = cc in omega arith)
 
 ensured : (n : ℕ) (b c : Bool) → b ≡ c → Agree Passed (five.ensure n b) (five.ensure n c)
 unfolding five.ensure
 ensured n true true e = go tt
-ensured n true false e = wrong (sym e)
-ensured n false true e = wrong e
+ensured n true false e = absurd (false≢true (sym e))
+ensured n false true e = absurd (false≢true e)
 ensured n false false e = halt
 
 -- the two tests of equality agree
@@ -79,10 +76,10 @@ same_test p q f = cases (eq_prop p q) (grown.eq_nameless (nameless [] p) (namele
     cases false false e d = refl
     cases true false e d =
         let same = eq_prop_true p q e in
-        wrong (sym d ∙ rw same (eq_nameless_refl (nameless [] q)))
+        absurd (false≢true (sym d ∙ rw same (eq_nameless_refl (nameless [] q))))
     cases false true e d =
         let same = same_prop p q f (eq_nameless_true (nameless [] p) (nameless [] q) d) in
-        wrong (sym e ∙ rw same (eq_prop_refl q))
+        absurd (false≢true (sym e ∙ rw same (eq_prop_refl q)))
 
 -- the forms that a proposition must have
 module _ {S T : Type 0} {R : S → T → Type 0} (n : ℕ) where
@@ -120,7 +117,7 @@ module _ {S T : Type 0} {R : S → T → Type 0} (n : ℕ) where
   of_pair (prop.Binary Connective.or p q) pair witness f r = halt
   of_pair (prop.Binary Connective.impl p q) pair witness f r = halt
   of_pair (prop.Atom a ps) pair witness f r = halt
-  of_pair (prop.Quantified k x t p) pair witness f r = wrong f
+  of_pair (prop.Quantified k x t p) pair witness f r = absurd (false≢true f)
 
   of_function : (p : Prop Name) {next : Sides Name → five.Judged S} (implies : Nameless → Nameless → five.Judged T) (for_all : Name → Nameless → five.Judged T) → Free p
       → ((s : Sides Name) → Free s.left → Free s.right → Agree R (next s) (implies (nameless [] s.left) (nameless [] s.right)))
@@ -132,7 +129,7 @@ module _ {S T : Type 0} {R : S → T → Type 0} (n : ℕ) where
   of_function (prop.Binary Connective.or p q) implies for_all f r = halt
   of_function (prop.Binary Connective.impl p q) implies for_all f r = r (record { connective = impl; left = p; right = q }) (free_left impl p q f) (free_right impl p q f)
   of_function (prop.Atom a ps) implies for_all f r = halt
-  of_function (prop.Quantified k x t p) implies for_all f r = wrong f
+  of_function (prop.Quantified k x t p) implies for_all f r = absurd (false≢true f)
 
 -- a name in scope
 in_scope : (n : ℕ) (x : Name) {h : plain.Context} {g : Context} → Same h g → Agree Proved (five.in_scope n (plain.lookup x h)) (grown.in_scope n (lookup x g))

@@ -1,5 +1,4 @@
 -- The context of a scope: its objects, its lookups, and a new object whose name stands in no hypothesis.
-use Prim.Native.Nat.{ℕ}
 use mathlib.Core.Path.{◌≡◌, refl, ◌∙◌, ap}
 use mathlib.Core.Bool.{Bool, true, false, cond}
 use Rattle.std.specs.Prelude.{Option, Some}
@@ -78,13 +77,13 @@ same_proves e = cc
 
 absent_new : (x : Name) (xs : List Name) (hs : Scope) → Absent x hs → New x (among_entries xs (entries hs))
 unfolding New Absent entries among_entries lookup AbsentFact among_fact
-absent_new x xs [] e y a l = absurd (let z : ◌≡◌ {A = ℕ} 0 1 = cc in omega arith)
+absent_new x xs [] e y a l = absurd (grind arith)
 absent_new x xs (h ∷ hs) e y a l = go (eq_name h.identifier.name y) h.fact e.0 (absent_new x xs hs e.1 y a) l
   where
     go : (b : Bool) (f : Fact) → AbsentFact x f → (lookup y (among_entries xs (entries hs)) ≡ Some (proves a) → stands x a ≡ false)
         → cond b (Some (among_fact xs f)) (lookup y (among_entries xs (entries hs))) ≡ Some (proves a) → stands x a ≡ false
     go true (proves c) absent rest l = rw (← same_proves l) (among_stands xs x c ∙ absent)
-    go true (object_of d) absent rest l = absurd (let z : ◌≡◌ {A = ℕ} 0 1 = cc in omega arith)
+    go true (object_of d) absent rest l = absurd (grind arith)
     go false f absent rest l = rest l
 
 pub scope_new : (x : Name) (hs : Scope) → Absent x hs → New x (context hs)
@@ -94,12 +93,12 @@ scope_new x hs e = absent_new x (objects_of hs) hs e
 -- an object that is found is one of the objects in scope
 pub lookup_object : (x : Name) (g : Context) {d : Name} → lookup x g ≡ Some (object_of d) → is_among x (objects g) ≡ true
 unfolding lookup objects object_before is_among
-lookup_object x [] l = absurd (let z : ◌≡◌ {A = ℕ} 0 1 = cc in omega arith)
+lookup_object x [] l = absurd (grind arith)
 lookup_object x (e ∷ g) {d} l = go e.fact (eq_name e.name x) refl (lookup_object x g) l
   where
     go : (f : Fact) (b : Bool) → eq_name e.name x ≡ b → (lookup x g ≡ Some (object_of d) → is_among x (objects g) ≡ true) → cond b (Some f) (lookup x g) ≡ Some (object_of d)
         → is_among x (object_before e.name f (objects g)) ≡ true
-    go (proves a) true same rest l = absurd (let z : ◌≡◌ {A = ℕ} 0 1 = cc in omega arith)
+    go (proves a) true same rest l = absurd (grind arith)
     go (proves a) false same rest l = rest l
     go (object_of d) true same rest l = rw same
     go (object_of d) false same rest l = rw same (rest l)

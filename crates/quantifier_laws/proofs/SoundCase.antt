@@ -1,9 +1,8 @@
 -- A sound sheet of document 01 is a sound sheet of ticket 12.
 use Prim.Native.Nat.{ℕ}
 use mathlib.Core.Path.{◌≡◌, refl, ap, ◌∙◌}
-use mathlib.Core.Bool.{true, false, and-eq-true_iff}
+use mathlib.Core.Bool.{true, false, and-eq-true_iff, false≢true}
 use mathlib.Core.List.{List, [], ◌∷◌, map, Memᴰ}
-use native.Mathlib.Omega.{arith}
 use Rattle.definitions.specs.Name.{Name}
 use Rattle.definitions.specs.Prop as prop
 use Rattle.definitions.specs.Prop.{Prop, PropParameter, Uninstantiated, Instantiated}
@@ -17,11 +16,9 @@ use Rattle.quantifier_laws.specs.Instantiation.{is_unbound, some_unbound, holds_
 use Rattle.quantifier_laws.specs.Rules.{proves}
 use Rattle.quantifier_laws.specs.Sound as sound
 use Rattle.quantifier_laws.specs.Sound.{Assumption, Deduction, documented, Fresh, Sound}
-use Rattle.quantifier_laws.proofs.QuantifierFree.{Free, free_renamed}
+use Rattle.definitions.proofs.Shape.{free_same}
+use Rattle.quantifier_laws.proofs.QuantifierFree.{Free}
 use Rattle.quantifier_laws.proofs.QuantifierFreeCase.{embed, conclude}
-
-wrong : {A : Type 0} → false ≡ true → A
-wrong e = absurd (let z : ◌≡◌ {A = ℕ} 0 1 = cc in omega arith)
 
 embed_one : plain.Hypothesis → Assumption
 embed_one h = record { identifier = h.identifier; fact = proves (nameless [] h.prop) }
@@ -61,7 +58,7 @@ deduction (plain.alpha_equivalent c u d) = sound.alpha_equivalent (conclude c re
 parameters_bound : (ps : List (PropParameter Name)) → all_instantiated ps ≡ true → some_unbound (map (object []) ps) ≡ false
 unfolding all_instantiated object some_unbound is_unbound
 parameters_bound [] e = refl
-parameters_bound (Uninstantiated x ∷ ps) e = wrong e
+parameters_bound (Uninstantiated x ∷ ps) e = absurd (false≢true e)
 parameters_bound (Instantiated x i ∷ ps) e = parameters_bound ps e
 
 pub free_bound : (p : Prop Name) → Free p → holds_unbound (nameless [] p) ≡ false
@@ -72,7 +69,7 @@ free_bound (prop.Binary c p q) e =
     let both = (and-eq-true_iff (is_quantifier_free p) (is_quantifier_free q)).0 e in
     rw (free_bound p both.0, free_bound q both.1)
 free_bound (prop.Atom a ps) e = parameters_bound ps e
-free_bound (prop.Quantified k x t p) e = wrong e
+free_bound (prop.Quantified k x t p) e = absurd (false≢true e)
 
 pub sound_case : (s : List ℕ) → plain.Sound s → Sound s
 unfolding embed named_prop
@@ -84,5 +81,5 @@ sound_case s d =
         prop = d.deduced.prop;
         deduction = deduction d.deduced.deduction;
       };
-      bound = λ i l. free_bound (named_prop s i) (free_renamed (name_of s) (prop_of s i) ∙ d.props i l);
+      bound = λ i l. free_bound (named_prop s i) (free_same (name_of s) (prop_of s i) ∙ d.props i l);
     }

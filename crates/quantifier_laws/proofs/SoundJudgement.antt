@@ -2,7 +2,7 @@
 -- hypotheses; and refusal 22 does not come before, since every uninstantiated parameter is bound.
 use Prim.Native.Nat.{ℕ, zero, suc, ◌<◌}
 use mathlib.Core.Path.{◌≡◌, refl}
-use mathlib.Core.Bool.{Bool, false, ◌||◌}
+use mathlib.Core.Bool.{false, ◌||◌}
 use Rattle.std.specs.Prelude.{None, Option, Some}
 use mathlib.Core.List.{List, [], ◌∷◌}
 use borrow.Author.Tests.{lt-leb}
@@ -24,6 +24,7 @@ use Rattle.quantifier_laws.specs.Sound.{Sound}
 use Rattle.definitions.specs.Checker.{derived}
 use Rattle.quantifier_laws.specs.Checker.{check}
 use Rattle.quantifier_laws.specs.CheckAnswers.{unbound_label, unbound_parameter, unbound_term, unbound_context, assumed, judgement, sheet_judgement}
+use Rattle.std.proofs.lemmas.Bool.{or_from}
 use Rattle.quantifier_laws.proofs.Instantiation.{left_false}
 use Rattle.checker_laws.proofs.EveryStep.{Every, EveryPremiss, every_step, conclusion_of_lem}
 use Rattle.quantifier_laws.proofs.CheckerComplete.{checks_complete}
@@ -41,32 +42,28 @@ BoundConclusion (TypeJudgement x d) = Unit {0}
 abbrev BoundStep : Step Name → Type 0
 BoundStep z = BoundConclusion z.conclusion
 
--- neither part, so not the whole
-neither : (a b : Bool) → a ≡ false → b ≡ false → (a || b) ≡ false
-neither a b e f = rw (e, f)
-
 abbrev BoundTerm : ProofTerm Name → Type 0
 BoundTerm t = unbound_term t ≡ false
 
 rule_bound : (r : ProofTreeRule) (x y : Name) (l : Option (Label Name)) (a b c : ProofTerm Name)
     → unbound_parameter l ≡ false → BoundTerm a → BoundTerm b → BoundTerm c → BoundTerm (rule_term r x y l a b c)
 unfolding rule_term unbound_term
-rule_bound AndIntro x y l a b c k f g h = neither (unbound_term a) (unbound_term b) f g
+rule_bound AndIntro x y l a b c k f g h = or_from (unbound_term a) (unbound_term b) f g
 rule_bound AndElimFst x y l a b c k f g h = f
 rule_bound AndElimSnd x y l a b c k f g h = f
 rule_bound TrueIntro x y l a b c k f g h = refl
-rule_bound ImplIntro x y l a b c k f g h = neither (unbound_parameter l) (unbound_term a) k f
-rule_bound ImplElim x y l a b c k f g h = neither (unbound_term a) (unbound_term b) f g
+rule_bound ImplIntro x y l a b c k f g h = or_from (unbound_parameter l) (unbound_term a) k f
+rule_bound ImplElim x y l a b c k f g h = or_from (unbound_term a) (unbound_term b) f g
 rule_bound tree.Ident x y l a b c k f g h = refl
 rule_bound OrIntroFst x y l a b c k f g h = f
 rule_bound OrIntroSnd x y l a b c k f g h = f
 rule_bound OrElim x y l a b c k f g h =
-    neither (unbound_term a) (unbound_term b || unbound_term c) f (neither (unbound_term b) (unbound_term c) g h)
+    or_from (unbound_term a) (unbound_term b || unbound_term c) f (or_from (unbound_term b) (unbound_term c) g h)
 rule_bound FalsumElim x y l a b c k f g h = f
-rule_bound ForAllIntro x y l a b c k f g h = neither (unbound_parameter l) (unbound_term a) k f
-rule_bound ForAllElim x y l a b c k f g h = neither (unbound_term a) (unbound_term b) f g
-rule_bound ExistsIntro x y l a b c k f g h = neither (unbound_term a) (unbound_term b) f g
-rule_bound ExistsElim x y l a b c k f g h = neither (unbound_term a) (unbound_term b) f g
+rule_bound ForAllIntro x y l a b c k f g h = or_from (unbound_parameter l) (unbound_term a) k f
+rule_bound ForAllElim x y l a b c k f g h = or_from (unbound_term a) (unbound_term b) f g
+rule_bound ExistsIntro x y l a b c k f g h = or_from (unbound_term a) (unbound_term b) f g
+rule_bound ExistsElim x y l a b c k f g h = or_from (unbound_term a) (unbound_term b) f g
 rule_bound tree.Sorry x y l a b c k f g h = refl
 rule_bound AlphaEquivalent x y l a b c k f g h = f
 
@@ -98,7 +95,7 @@ mutual
   term_bound h (labels.unlabelled {z = z} {us = us} e d v) = rw v (step_bound z None us refl (terms_bound h.1 d))
   term_bound h (labels.ascribed {z = z} {us = us} {p = p} e f c d v) =
       rw v
-      (neither (holds_unbound (nameless [] p)) (unbound_term (step_term z None us)) (rw c at h.0)
+      (or_from (holds_unbound (nameless [] p)) (unbound_term (step_term z None us)) (rw c at h.0)
       (step_bound z None us refl (terms_bound h.1 d)))
   term_bound h (labels.function {z = z} {us = us} {p = p} {q = q} e f c d v) =
       rw v (step_bound z (Some (proposition p)) us (left_bound p q (rw c at h.0)) (terms_bound h.1 d))

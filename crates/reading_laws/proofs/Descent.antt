@@ -154,7 +154,7 @@ module _ (types : List Name) where
   turn_descends (reading k s) τ e =
       next_some (Below (left (reading k s))) _ τ e (below_start (left (reading k s)) k (start_of (word s).value) s (word s).rest (word s).value (word_is s) (omega arith))
   turn_descends (holding k a s) τ e = next_some (Below (left (holding k a s))) _ τ e (below_chain (left (holding k a s)) k a s (omega arith))
-  turn_descends (giving [] a s) τ e = absurd (let z : ◌≡◌ {A = ℕ} 0 1 = cc in omega arith)
+  turn_descends (giving [] a s) τ e = absurd (grind arith)
   turn_descends (giving (b ∷ k) a s) τ e = next_some (Below (left (giving (b ∷ k) a s))) _ τ e (below_give (left (giving (b ∷ k) a s)) k b a s (omega arith))
 
   -- so many turns are enough

@@ -9,11 +9,12 @@ use lib.ListN.{length}
 use Rattle.definitions.specs.declared.Style.TheVariants.{Strict}
 use Rattle.definitions.specs.Utf8.{utf8}
 use Rattle.definitions.specs.Name.{Name}
-use Rattle.definitions.specs.Term.{ProofTerm, Ident, Pair, Named, Function, Application, LetIn, Case, TypeAscription, Unit, Sorry}
+use Rattle.definitions.specs.Term.{ProofTerm, Ident, Pair, Unit, Sorry}
 use Rattle.definitions.specs.Display.{form, function_of, argument_of, body_of, ascribed_by, within, brackets_of, is_strict, brackets, bracketed, wraps}
 use Rattle.definitions.specs.TermText.{term_nesting, term_nesting_limit}
 use Rattle.definitions.specs.TermReader.{Shown, standing, word, name, Start, fn_word, case_word, let_word, sorry_word, no_word, call_word, start_of, is_sorry, argument_follows, label, parameter_label, prop_levels}
 use Rattle.reading_laws.specs.TermMachine.{Purpose, as_head, as_argument, as_body, Entry, in_bracket, second, function_body, case_head, case_first, case_second, let_head, let_body, State, reading, holding, giving, used, closed_for, onward, start, chain, give, turn}
+use Rattle.reading_laws.proofs.TermTexts.{term_nests}
 use Rattle.reading_laws.proofs.MachineReads.{Steps, done, next as turned}
 use Rattle.reading_laws.proofs.TermConventions.{NameIn, gives_name, LabelIn, ParameterLabelIn, gives_label, gives_parameter_label}
 use Rattle.reading_laws.proofs.Turns.{Next, next_then, next_if, next_after, next_or, next_due, next_cond, next_some}
@@ -121,19 +122,6 @@ rise_true k n m u h = let b = bit_most u in rise k n m u true h (omega (arith, h
 rise_false : (k : List Entry) (n m : ℕ) (v : Bool) → n ≤ m → deep k n false ≤ deep k m v
 unfolding bit
 rise_false k n m v h = rise k n m false v h (omega (arith, h))
-
-term_nests : (t : ProofTerm Name) → 1 ≤ term_nesting t
-unfolding term_nesting
-term_nests (Ident x) = omega arith
-term_nests (Pair a b) = omega arith
-term_nests (Named f a) = omega arith
-term_nests (Function x l a) = omega arith
-term_nests (Application a b) = omega arith
-term_nests (LetIn x y a b) = omega arith
-term_nests (Case a x b y c) = omega arith
-term_nests (TypeAscription a l) = omega arith
-term_nests Unit = omega arith
-term_nests Sorry = omega arith
 
 -- whoever is applied or ascribed
 applied : (k : List Entry) (own : Bool) (a : ProofTerm Name) (m : ℕ) → 1 + term_nesting a ≤ m → (v : Bool) → deep_own k own a ≤ deep k m v
@@ -288,7 +276,7 @@ module _ (types : List Name) where
   unfolding turn deepest
   turn_deepens (reading k s) τ e = next_some (Above (deep k 1 false)) _ τ e (above_start k (start_of (word s).value) s (word s).rest)
   turn_deepens (holding k a s) τ e = next_some (Above (deep_with k a)) _ τ e (above_chain k a s)
-  turn_deepens (giving [] a s) τ e = absurd (let z : ◌≡◌ {A = ℕ} 0 1 = cc in omega arith)
+  turn_deepens (giving [] a s) τ e = absurd (grind arith)
   turn_deepens (giving (b ∷ k) a s) τ e = next_some (Above (deep_with (b ∷ k) a)) _ τ e (above_give k b a s)
 
   pub steps_deepen : {σ τ : State} → Steps types σ τ → deepest σ ≤ deepest τ

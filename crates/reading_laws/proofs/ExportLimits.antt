@@ -7,33 +7,18 @@ use mathlib.Core.List.{List, [], ◌∷◌}
 use native.Mathlib.Omega.{arith}
 use lib.ListN.{length}
 use borrow.Author.Tests.{eqb-true, leb-true}
-use Rattle.definitions.specs.Outcome.{Outcome, refused, accepted, refuse, ◌>>=◌, refuse_if}
+use Rattle.definitions.specs.Outcome.{refused, accepted, refuse_if}
 use Rattle.definitions.specs.Name.{Name}
 use Rattle.definitions.specs.Tree as tree
 use Rattle.definitions.specs.Tree.{ProofTreeRule, AndIntro, AndElimFst, AndElimSnd, TrueIntro, ImplIntro, ImplElim, OrIntroFst, OrIntroSnd, OrElim, FalsumElim, ForAllIntro, ForAllElim, ExistsIntro, ExistsElim, AlphaEquivalent, identifier_count, Step, ProofTree, over, Premisses, none, ◌and◌, height, heights, count}
 use Rattle.definitions.specs.Term.{Label, ProofTerm, TypeAscription}
 use Rattle.definitions.specs.Export.{Place, checking, inferring, Ending, bare, ascribed, left_labelled, datatype_labelled, premiss_own, admits, row, row_of, admits_count, places, ending, ascription_label, left_label, datatype_label, rule_term, premiss_term, step_term, inferring_term, placed_term, export, export_all}
+use Rattle.definitions.proofs.Outcomes.{each_accepted, test_failed}
 use Rattle.definitions.specs.TermText.{Each, OfParameterLabel, nodes, term_nesting}
 
 -- a refusal is no value
 pub apart : {A : Type 0} (a : A) {r : _} → refused r ≡ accepted a → ⊥
 apart a e = let z : ◌≡◌ {A = ℕ} 0 1 = cc in absurd (omega arith)
-
--- what is accepted after a step was accepted there
-pub record After {A B : Type 0} (o : Outcome A) (next : A → Outcome B) (b : B) : Type 0 where
-  pub value : A
-  pub first : o ≡ accepted value
-  pub second : next value ≡ accepted b
-
-pub accepted_after : {A B : Type 0} (o : Outcome A) (next : A → Outcome B) (b : B) → (o >>= next) ≡ accepted b → After o next b
-unfolding ◌>>=◌
-accepted_after (refused r) next b e = absurd (apart b e)
-accepted_after (accepted a) next b e = record { value = a; first = refl; second = e }
-
-pub passed : (t : Bool) (number place : ℕ) (a : Prim.Unit {0}) → refuse_if t number place ≡ accepted a → t ≡ false
-unfolding refuse_if refuse
-passed true number place a e = absurd (apart a e)
-passed false number place a e = refl
 
 -- the steps of a tree
 module _ {N : Type 0} where
@@ -60,10 +45,10 @@ exported_count none [] us e h = let z : accepted [] ≡ accepted us = e in let y
 exported_count none (m ∷ ms) us e h = absurd (omega arith)
 exported_count (t and ps) [] us e h = let z : accepted [] ≡ accepted us = e in let y : [] ≡ us = cc in rw (← y)
 exported_count (t and ps) (m ∷ ms) us e h =
-    let a = accepted_after (export t m) _ us e in
-    let b = accepted_after (export_all ps ms) _ us a.second in
-    let y : a.value ∷ b.value ≡ us = let z = b.second in cc in
-    rw (← y, exported_count ps ms b.value b.first (omega arith))
+    let a = each_accepted (export t m) _ e in
+    let b = each_accepted (export_all ps ms) _ a.2 in
+    let y : a.0 ∷ b.0 ≡ us = let z = b.2 in cc in
+    rw (← y, exported_count ps ms b.0 b.1 (omega arith))
 
 -- a rule that admits so many premisses reads no more
 reads_few : (r : ProofTreeRule) (m : Place) (n : ℕ) → admits_count r n ≡ true → length (places r m) ≤ n
@@ -150,11 +135,11 @@ unfolding inferring_term
 inferring_placed bare z us u e = same_placed z us _ u e plain
 inferring_placed premiss_own z us u e = same_placed z us _ u e plain
 inferring_placed ascribed z us u e =
-    let a = accepted_after (ascription_label z.number z.conclusion) _ u e in same_placed z us _ u a.second (ascription a.value a.first)
+    let a = each_accepted (ascription_label z.number z.conclusion) _ e in same_placed z us _ u a.2 (ascription a.0 a.1)
 inferring_placed left_labelled z us u e =
-    let a = accepted_after (left_label z.number z.conclusion) _ u e in same_placed z us _ u a.second (labelled a.value a.first)
+    let a = each_accepted (left_label z.number z.conclusion) _ e in same_placed z us _ u a.2 (labelled a.0 a.1)
 inferring_placed datatype_labelled z us u e =
-    let a = accepted_after (datatype_label z.number z.conclusion) _ u e in same_placed z us _ u a.second (typed a.value a.first)
+    let a = each_accepted (datatype_label z.number z.conclusion) _ e in same_placed z us _ u a.2 (typed a.0 a.1)
 
 placed : (m : Place) (z : Step Name) (us : List (ProofTerm Name)) (u : ProofTerm Name) → placed_term m z us ≡ accepted u → Placed z us u
 unfolding placed_term
@@ -179,14 +164,14 @@ pub record Exported (z : Step Name) (ps : Premisses Name) (m : Place) (u : Proof
 exported : (z : Step Name) (ps : Premisses Name) (m : Place) (u : ProofTerm Name) → export (over z ps) m ≡ accepted u → Exported z ps m u
 unfolding export
 exported z ps m u e =
-    let a = accepted_after (refuse_if (not (admits_count z.rule (count ps))) 12 z.number) _ u e in
-    let b = accepted_after (export_all ps (places z.rule m)) _ u a.second in
-    let ok : admits_count z.rule (count ps) ≡ true = admitted (admits_count z.rule (count ps)) (passed _ 12 z.number a.value a.first) in
+    let a = each_accepted (refuse_if (not (admits_count z.rule (count ps))) 12 z.number) _ e in
+    let b = each_accepted (export_all ps (places z.rule m)) _ a.2 in
+    let ok : admits_count z.rule (count ps) ≡ true = admitted (admits_count z.rule (count ps)) (test_failed _ 12 z.number a.1) in
     record {
-      terms = b.value;
-      read = b.first;
-      number = exported_count ps (places z.rule m) b.value b.first (reads_few z.rule m (count ps) ok);
-      given = placed m z b.value u b.second;
+      terms = b.0;
+      read = b.1;
+      number = exported_count ps (places z.rule m) b.0 b.1 (reads_few z.rule m (count ps) ok);
+      given = placed m z b.0 u b.2;
     }
   where
     admitted : (t : Bool) → not t ≡ false → t ≡ true
@@ -207,10 +192,10 @@ mutual
   all_small none ms us e = let y : [] ≡ us = cc in rw (← y) (omega arith)
   all_small (t and ps) [] us e = let y : [] ≡ us = cc in rw (← y) (omega arith)
   all_small (t and ps) (m ∷ ms) us e =
-      let a = accepted_after (export t m) _ us e in
-      let b = accepted_after (export_all ps ms) _ us a.second in
-      let y : a.value ∷ b.value ≡ us = let z = b.second in cc in
-      rw (← y) (omega (arith, export_small t m a.value a.first, all_small ps ms b.value b.first))
+      let a = each_accepted (export t m) _ e in
+      let b = each_accepted (export_all ps ms) _ a.2 in
+      let y : a.0 ∷ b.0 ≡ us = let z = b.2 in cc in
+      rw (← y) (omega (arith, export_small t m a.0 a.1, all_small ps ms b.0 b.1))
 
 -- What holds of the names and labels of each step holds of those of the term.
 module _ (P : Label Name → Type 0) (A : Name → Type 0) where
@@ -281,7 +266,7 @@ module _ (P : Label Name → Type 0) (A : Name → Type 0) where
     all_each none ms us e g = let y : [] ≡ us = cc in rw (← y) tt
     all_each (t and ps) [] us e g = let y : [] ≡ us = cc in rw (← y) tt
     all_each (t and ps) (m ∷ ms) us e g =
-        let a = accepted_after (export t m) _ us e in
-        let b = accepted_after (export_all ps ms) _ us a.second in
-        let y : a.value ∷ b.value ≡ us = let z = b.second in cc in
-        rw (← y) (export_each t m a.value a.first g.0, all_each ps ms b.value b.first g.1)
+        let a = each_accepted (export t m) _ e in
+        let b = each_accepted (export_all ps ms) _ a.2 in
+        let y : a.0 ∷ b.0 ≡ us = let z = b.2 in cc in
+        rw (← y) (export_each t m a.0 a.1 g.0, all_each ps ms b.0 b.1 g.1)

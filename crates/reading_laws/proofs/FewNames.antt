@@ -5,6 +5,7 @@ use mathlib.Core.Bool.{Bool, true, false, ◌||◌, cond, true≢false}
 use mathlib.Core.Logic.{by_cases}
 use mathlib.Core.List.{List, [], ◌∷◌, ◌++◌}
 use native.Mathlib.Omega.{arith}
+use Rattle.std.proofs.lemmas.Bool.{or_parts, or_from}
 use native.Mathlib.Decide.{dec_lt}
 use lib.ListN.{length}
 use Rattle.definitions.specs.Name.{Name, eq_name}
@@ -31,13 +32,6 @@ Apart : List Name → Type 0
 Apart [] = Prim.Unit {0}
 Apart (x ∷ xs) = (occurs eq_name x xs ≡ false) × Apart xs
 
-neither : (a b : Bool) → a || b ≡ false → (a ≡ false) × (b ≡ false)
-neither true b e = absurd (true≢false e)
-neither false b e = (refl, e)
-
-both_false : {a b : Bool} → a ≡ false → b ≡ false → a || b ≡ false
-both_false {a} {b} p q = rw p q
-
 -- a member of one list and not of another differs
 differs : (x a : Name) (seen : List Name) → occurs eq_name x seen ≡ true → occurs eq_name a seen ≡ false → eq_name x a ≡ false
 differs x a seen h k = eq_name_of_ne (λ e. true≢false (sym h ∙ ap (λ y. occurs eq_name y seen) e ∙ k))
@@ -59,7 +53,7 @@ absent x seen (a ∷ l) h = go (occurs eq_name a seen) refl (absent x seen l h) 
     go : (b : Bool) → occurs eq_name a seen ≡ b → occurs eq_name x (firsts_after eq_name seen l) ≡ false → occurs eq_name x (firsts_after eq_name (a ∷ seen) l) ≡ false
         → occurs eq_name x (cond b (firsts_after eq_name seen l) (a ∷ firsts_after eq_name (a ∷ seen) l)) ≡ false
     go true e h₁ h₂ = h₁
-    go false e h₁ h₂ = both_false (differs x a seen h e) h₂
+    go false e h₁ h₂ = or_from _ _ (differs x a seen h e) h₂
 
 here : (a : Name) (seen : List Name) → occurs eq_name a (a ∷ seen) ≡ true
 unfolding occurs
@@ -102,12 +96,12 @@ one_less y (x ∷ xs) = go (eq_name x y) (one_less y xs)
 without_absent : (x y : Name) (l : List Name) → occurs eq_name x l ≡ false → occurs eq_name x (without y l) ≡ false
 unfolding without occurs
 without_absent x y [] h = h
-without_absent x y (a ∷ l) h = go (eq_name a y) (neither (eq_name x a) (occurs eq_name x l) h) (without_absent x y l (neither (eq_name x a) (occurs eq_name x l) h).1)
+without_absent x y (a ∷ l) h = go (eq_name a y) (or_parts (eq_name x a) (occurs eq_name x l) h) (without_absent x y l (or_parts (eq_name x a) (occurs eq_name x l) h).1)
   where
     go : (b : Bool) → (eq_name x a ≡ false) × (occurs eq_name x l ≡ false) → occurs eq_name x (without y l) ≡ false
         → occurs eq_name x (cond b l (a ∷ without y l)) ≡ false
     go true p k = p.1
-    go false p k = both_false p.0 k
+    go false p k = or_from _ _ p.0 k
 
 without_apart : (y : Name) (l : List Name) → Apart l → Apart (without y l)
 unfolding without Apart
@@ -130,7 +124,7 @@ module _ (f : ℕ → Name) (n : ℕ) where
   unfolding occurs All
   others x [] e h k = tt
   others x (a ∷ l) e h k =
-      let p = neither (eq_name x a) (occurs eq_name x l) h in
+      let p = or_parts (eq_name x a) (occurs eq_name x l) h in
       (lower a k.0 (λ same. eq_name_false p.0 (e ∙ sym same)), others x l e p.1 k.1)
 
   without_last : (l : List Name) → Apart l → All (Value f (suc n)) l → All (Value f n) (without (f n) l)

@@ -9,22 +9,14 @@ use Rattle.definitions.specs.declared.Style.TheVariants.{Strict}
 use Rattle.definitions.specs.Utf8.{utf8}
 use Rattle.definitions.specs.Name.{Name}
 use Rattle.definitions.specs.Code.{Read}
-use Rattle.definitions.specs.Term.{NamedFunction, fst, snd, inl, inr, abort, ProofTerm, Ident, Pair, TypeAscription, Unit, Sorry}
+use Rattle.definitions.specs.Term.{ProofTerm, Ident, Pair, TypeAscription, Unit, Sorry}
 use Rattle.definitions.specs.Display.{wrap, display_label, display_parameter_label, form, function_of, argument_of, body_of, ascribed_by, within, function_text, wraps, display_term}
 use Rattle.definitions.specs.TermText.{Admitted, OfParameterLabel, Each, ConventionalLabel, Conventional}
 use Rattle.definitions.specs.TermReader.{Shown, standing, same, word, name, expect, if_read, Start, fn_word, case_word, let_word, sorry_word, no_word, call_word, start_of, is_sorry, argument_follows, label, parameter_label, prop_levels}
 use Rattle.reading_laws.specs.TermMachine.{Purpose, as_head, as_argument, as_body, Entry, in_bracket, second, function_body, case_head, case_first, case_second, let_head, let_body, State, reading, holding, giving, and_then, if_due, used, closed_for, onward, start, chain, give, turn}
 use Rattle.reading_laws.proofs.MachineReads.{Steps, done, next as turned}
 use Rattle.reading_laws.proofs.TermTexts.{part_bare}
-use Rattle.reading_laws.proofs.TermConventions.{Gives, expected, NameIn, gives_name, word_is, call_text, Spelled, spelled, spelled_sorry, LabelIn, ParameterLabelIn, gives_label, gives_parameter_label}
-
-call_spelled : (f : NamedFunction) (s : List ℕ) → function_text f ++ s ≡ call_text f ++ (32 ∷ s)
-unfolding function_text call_text
-call_spelled fst s = refl
-call_spelled snd s = refl
-call_spelled inl s = refl
-call_spelled inr s = refl
-call_spelled abort s = refl
+use Rattle.reading_laws.proofs.TermConventions.{Gives, expected, NameIn, gives_name, word_is, call_spelled, Spelled, spelled, spelled_sorry, LabelIn, ParameterLabelIn, gives_label, gives_parameter_label}
 
 module _ (types : List Name) where
   abbrev T : ProofTerm Name → Type 0
@@ -355,7 +347,7 @@ module _ (types : List Name) where
     -- A turn keeps it.
     fine_some : (x : Option State) (τ : State) → onward x ≡ onward (Some τ) → FineNext x → Fine τ
     unfolding FineNext
-    fine_some None τ e h = absurd (let z : ◌≡◌ {A = ℕ} 0 1 = cc in omega arith)
+    fine_some None τ e h = absurd (grind arith)
     fine_some (Some σ) τ e h = let same : σ ≡ τ = cc in rw (← same) h
 
     fine_turn : (σ τ : State) → turn types σ ≡ onward (Some τ) → Fine σ → Fine τ
@@ -363,7 +355,7 @@ module _ (types : List Name) where
     fine_turn (reading k s) τ e h =
         fine_some _ τ e (fine_start k (start_of (word s).value) s (word s).rest (word s).value h.0 h.1 (word_is s) (spelled (word s).value))
     fine_turn (holding k a s) τ e h = fine_some _ τ e (fine_chain k a s h.0 h.1 h.2)
-    fine_turn (giving [] a s) τ e h = absurd (let z : ◌≡◌ {A = ℕ} 0 1 = cc in omega arith)
+    fine_turn (giving [] a s) τ e h = absurd (grind arith)
     fine_turn (giving (n ∷ k) a s) τ e h = fine_some _ τ e (fine_give k n a s h.0.0 h.0.1 h.1 h.2)
 
     fine_steps : {σ τ : State} → Steps types σ τ → Fine σ → Fine τ

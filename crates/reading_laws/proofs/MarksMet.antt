@@ -196,7 +196,7 @@ module _ (types : List Name) where
   unfolding turn met entries_marks
   turn_adds (reading k s) τ e = next_some (After (entries_marks k)) _ τ e (after_start k (start_of (word s).value) s (word s).rest)
   turn_adds (holding k a s) τ e = next_some (After (met (holding k a s))) _ τ e (after_chain k a s)
-  turn_adds (giving [] a s) τ e = absurd (let z : ◌≡◌ {A = ℕ} 0 1 = cc in omega arith)
+  turn_adds (giving [] a s) τ e = absurd (grind arith)
   turn_adds (giving (b ∷ k) a s) τ e = next_some (After (met (giving (b ∷ k) a s))) _ τ e (after_give k b a s)
 
   pub steps_add : {σ τ : State} → Steps types σ τ → Begins (met σ) (met τ)

@@ -61,7 +61,7 @@ limited_second (called x ∷ a) b h = limited_second a b h
 limited_second (labelled l ∷ a) b h = limited_second a b ((and-eq-true_iff (is_limited_label l) (limited_met (a ++ b))).0 h).1
 limited_second (node ∷ a) b h = limited_second a b h
 
-nodes_label : (l : Option (Label Name)) → nodes_met (label_marks l) ≡ 0
+pub nodes_label : (l : Option (Label Name)) → nodes_met (label_marks l) ≡ 0
 unfolding nodes_met label_marks
 nodes_label None = refl
 nodes_label (Some l) = refl
@@ -87,7 +87,7 @@ nodes_met_lem (TypeAscription a l) = let g = nodes_both (marks a) (labelled l �
 nodes_met_lem Unit = refl
 nodes_met_lem Sorry = refl
 
-names_label : (l : Option (Label Name)) → names_met (label_marks l) ≡ parameter_label_names l
+pub names_label : (l : Option (Label Name)) → names_met (label_marks l) ≡ parameter_label_names l
 unfolding names_met label_marks parameter_label_names
 names_label None = refl
 names_label (Some l) = append-nil (label_names l)
@@ -122,7 +122,7 @@ unfolding limited_met label_marks is_limited_parameter_label
 limited_label None h = refl
 limited_label (Some l) h = ((and-eq-true_iff (is_limited_label l) true).0 h).0
 
-label_limited : (l : Option (Label Name)) → is_limited_parameter_label l ≡ true → limited_met (label_marks l) ≡ true
+pub label_limited : (l : Option (Label Name)) → is_limited_parameter_label l ≡ true → limited_met (label_marks l) ≡ true
 unfolding limited_met label_marks is_limited_parameter_label
 label_limited None h = refl
 label_limited (Some l) h = both h refl
@@ -231,7 +231,7 @@ module _ (types : List Name) (text : List ℕ) where
 
   ends : (a : Shown (ProofTerm Name)) (s : List ℕ) (x : Option State) → turn types (giving [] a s) ≡ onward x → ⊥
   unfolding turn
-  ends a s x e = absurd (let z : ◌≡◌ {A = ℕ} 0 1 = cc in omega arith)
+  ends a s x e = absurd (grind arith)
 
   same_next : (σ τ υ : State) → turn types σ ≡ onward (Some τ) → turn types σ ≡ onward (Some υ) → τ ≡ υ
   same_next σ τ υ e f = cc
@@ -244,7 +244,7 @@ module _ (types : List Name) (text : List ℕ) where
 
   stuck : {σ υ : State} (a : Shown (ProofTerm Name)) → Steps types σ υ → υ ≡ giving [] a [] → turn types σ ≡ onward None → ⊥
   stuck a done q e = ends a [] None (rw q at e)
-  stuck a (turned {τ = τ} f w) q e = absurd (let z : ◌≡◌ {A = ℕ} 0 1 = cc in omega arith)
+  stuck a (turned {τ = τ} f w) q e = absurd (grind arith)
 
   module _ {σ : State} (h : Reached σ) where
     to_term : (t : ProofTerm Name) → TermOf types text t → Steps types σ (giving [] (standing false t) [])

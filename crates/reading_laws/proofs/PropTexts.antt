@@ -18,6 +18,7 @@ use Rattle.definitions.specs.Display.{wrap, connective_precedence, is_negation, 
 use Rattle.definitions.specs.TermText.{is_admitted, ConventionalParameters, ConventionalProp}
 use Rattle.definitions.specs.TermReader.{Shown, standing, same, due, word, named, name, expect, if_read, or_read, means, connective, right_least, strong_enough, goes_on, binder, sign, later_parameters, parameters_of, signed, atom_named, unit, joined, read_prop, is_open}
 use Rattle.definitions.proofs.Readings.{given}
+use Rattle.definitions.proofs.Shape.{nests}
 use Rattle.reading_laws.proofs.WordsRead.{stops, read_name}
 use Rattle.std.proofs.lemmas.Option.{none-some}
 
@@ -413,17 +414,9 @@ module _ (part : ℕ → List Name → Reading (Shown (Prop Name))) (levels : �
   stop least zero p rest e = refl
   stop least (suc k) p rest e = rw e
 
-nested : (p : Prop Name) → 0 < nesting p
-unfolding nesting
-nested True = omega arith
-nested False = omega arith
-nested (Binary c p q) = omega arith
-nested (Atom a ps) = omega arith
-nested (Quantified q x t p) = omega arith
-
 pub read_prop_lem : (levels : ℕ) → Reads (read_prop levels) levels
 unfolding read_prop ◌>>=◌
-read_prop_lem zero least flag p bound rest ok strong free after fits = absurd (omega (arith, nested p))
+read_prop_lem zero least flag p bound rest ok strong free after fits = absurd (omega (arith, nests p))
 read_prop_lem (suc levels) least flag p bound rest ok strong free after fits =
     let part = read_prop levels in
     let reads = read_prop_lem levels in

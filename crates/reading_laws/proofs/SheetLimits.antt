@@ -1,97 +1,45 @@
 -- The term of every sheet is within the limits of ticket 2.
 use Prim.Native.Nat.{ℕ, zero, suc, ◌+◌, ◌-◌, ◌<◌, ◌≤◌}
 use mathlib.Core.Path.{◌≡◌, refl, sym, ap, ◌∙◌}
-use mathlib.Core.Bool.{Bool, true, false, ◌||◌, cond, true≢false}
+use mathlib.Core.Bool.{Bool, true, false, ◌||◌, cond}
 use Rattle.std.specs.Prelude.{unwrap_or, None, Option, Some}
 use mathlib.Core.List.{List, [], ◌∷◌, ◌++◌, map}
 use native.Mathlib.Omega.{arith}
-use native.Mathlib.Decide.{dec_lt}
-use mathlib.Core.Logic.{by_cases}
-use lib.ListN.{length, take, drop, length-append}
+use lib.ListN.{length, take, drop, length-append, length-map, length-take, length-drop}
+use Rattle.std.proofs.lemmas.Bool.{or_parts}
 use lib.Dec.{ltb, leb, eqb}
 use borrow.Author.Tests.{ltb-false, leb-false, le-leb}
-use Rattle.definitions.specs.Outcome.{Outcome, refused, accepted, refuse, map_outcome, first_of, lowest, refuse_at, refuse_lowest}
+use Rattle.definitions.specs.Outcome.{accepted, refuse, map_outcome}
 use Rattle.definitions.specs.Name.{Name}
 use Rattle.definitions.specs.Prop.{Prop, True, False, Binary, Atom, Quantified, PropParameter, Uninstantiated, Instantiated, parameter_name, impl, for_all, as_binary, as_quantified, eq_connective, eq_quantifier, nesting, rename_prop, rename_parameter}
-use Rattle.definitions.specs.Code.{u16, decode, encode_parameter, encode_parameters, encode, CodableParameter, CodableParameters, Codable}
+use Rattle.definitions.specs.Code.{decode, encode, CodableParameter, CodableParameters, Codable}
 use Rattle.definitions.specs.Sheet.{text_limit, name_limit, code_limit, proposition_limit, step_limit, proposition_nesting_limit, tree_nesting_limit, rule_byte, premiss_count, step_number, marked, pair_offset, pair_length, text_length, names, code_length, propositions, steps, goal, header_out_of_range, code_start, proposition_pairs, step_records, name_of}
 use Rattle.definitions.specs.Sheet as sheet
 use Rattle.definitions.specs.Tree.{ProofTreeConclusion, PropIsTrue, TypeJudgement, identifier_count, ProofTree, over, Premisses, none, ◌and◌, height, heights, rename_identifier, rename_conclusion, rename_step, rename_tree, rename_premisses, rules, last_trees, rule_in, prop_in, identifier_in, conclusion_in, step_in, step_over, trees_before, tree_in, tree_of, root_of}
 use Rattle.definitions.specs.Export.{export, checking, ascription_label, implication_label, left_label, universal_label, datatype_label}
 use Rattle.definitions.specs.Answers.{sheet_term, named_term}
-use Rattle.definitions.specs.Admission.{is_none, bad_code, deep_proposition, deep_tree, header_checks, admitted, no_name, not_zero, bad_identifier, bad_prop_is_true, bad_type_judgement, bad_conclusion, bad_column, identifiers, bad_step}
+use Rattle.definitions.specs.Admission.{bad_code, deep_proposition, deep_tree, header_checks, admitted, no_name, not_zero, bad_identifier, bad_prop_is_true, bad_type_judgement, bad_conclusion, bad_column, identifiers, bad_step}
 use Rattle.definitions.specs.Term.{Label, proposition, datatype, ProofTerm, Ident, Pair, Named, Function, Application, LetIn, Case, TypeAscription, Unit, Sorry, rename_term}
 use Rattle.definitions.specs.TermText.{OfParameterLabel, Each, node_limit, term_nesting_limit, prop_names, label_names, parameter_label_names, term_names, code_bytes, LimitedLabel, Limited}
-use Rattle.definitions.proofs.PrefixCode.{Bytes, encode_decode}
+use Rattle.definitions.proofs.Outcomes.{was_accepted, is_some, each_accepted, test_failed, none_lowest}
+use Rattle.definitions.proofs.Lowest.{all_fail}
+use Rattle.definitions.proofs.Shape.{nesting_same, length_twice}
+use Rattle.definitions.proofs.Readings.{Bytes, marked_bytes}
+use Rattle.definitions.proofs.PrefixCode.{encode_decode}
 use Rattle.definitions.proofs.Renaming.{export_same}
 use Rattle.reading_laws.specs.Coded.{FewParameters, Coded}
 use Rattle.reading_laws.proofs.EachLabel.{join_each}
-use Rattle.reading_laws.proofs.ExportLimits.{apart, accepted_after, passed, size, sizes, export_small, GoodStep, GoodTree, GoodTrees, export_each}
+use Rattle.reading_laws.proofs.ExportLimits.{apart, size, sizes, export_small, GoodStep, GoodTree, GoodTrees, export_each}
 use Rattle.reading_laws.proofs.FewNames.{Value, All, all_both, few_names}
-
--- A lowest place that is not there.
-module _ (test : ℕ → Bool) where
-  first_none : (x : Option ℕ) (b : Bool) (place : ℕ) → first_of x b place ≡ None → (x ≡ None) × (b ≡ false)
-  unfolding first_of
-  first_none (Some p) b place e = absurd (let z : ◌≡◌ {A = ℕ} 0 1 = cc in omega arith)
-  first_none None true place e = absurd (let z : ◌≡◌ {A = ℕ} 0 1 = cc in omega arith)
-  first_none None false place e = (refl, refl)
-
-  none_lowest : (count : ℕ) → lowest test count ≡ None → (i : ℕ) → i < count → test i ≡ false
-  unfolding lowest
-  none_lowest zero e i h = absurd (omega arith)
-  none_lowest (suc count) e i h =
-      let parts = first_none (lowest test count) (test count) count e in
-      by_cases (dec_lt i count) (λ k. none_lowest count parts.0 i k) (λ k. let same : i ≡ count = omega arith in rw same parts.1)
-
-  passed_at : (x : Option ℕ) (number : ℕ) (a : Prim.Unit {0}) → refuse_at x number ≡ accepted a → x ≡ None
-  unfolding refuse_at refuse
-  passed_at None number a e = refl
-  passed_at (Some place) number a e = absurd (apart a e)
-
-  passed_lowest : (count number : ℕ) (a : Prim.Unit {0}) → refuse_lowest test count number ≡ accepted a → (i : ℕ) → i < count → test i ≡ false
-  unfolding refuse_lowest
-  passed_lowest count number a e = none_lowest count (passed_at (lowest test count) number a e)
 
 -- Names and limits of a renamed proposition.
 module _ (f : ℕ → Name) (n : ℕ) where
-  nesting_same : (p : Prop ℕ) → nesting (rename_prop f p) ≡ nesting p
-  unfolding nesting rename_prop
-  nesting_same True = refl
-  nesting_same False = refl
-  nesting_same (Binary c p q) = rw (nesting_same p, nesting_same q)
-  nesting_same (Atom a ps) = refl
-  nesting_same (Quantified q x t p) = rw (nesting_same p)
-
-  parameter_code : (p : PropParameter ℕ) → length (encode_parameter (rename_parameter (λ x. 0) (rename_parameter f p))) ≡ length (encode_parameter p)
-  unfolding encode_parameter rename_parameter u16
-  parameter_code (Uninstantiated x) = refl
-  parameter_code (Instantiated x i) = refl
-
-  parameters_code : (ps : List (PropParameter ℕ))
-      → length (encode_parameters (map (rename_parameter (λ x. 0)) (map (rename_parameter f) ps))) ≡ length (encode_parameters ps)
-  unfolding encode_parameters
-  parameters_code [] = refl
-  parameters_code (p ∷ ps) = rw (length-append, length-append, parameter_code p, parameters_code ps)
-
-  code_same : (p : Prop ℕ) → code_bytes (rename_prop f p) ≡ length (encode p)
-  unfolding code_bytes encode rename_prop u16
-  code_same True = refl
-  code_same False = refl
-  code_same (Binary c p q) = rw (length-append, length-append, code_same p, code_same q)
-  code_same (Atom a ps) = rw (parameters_code ps)
-  code_same (Quantified q x t p) = rw (code_same p)
-
-  length_same : (ps : List (PropParameter ℕ)) → length (map (rename_parameter f) ps) ≡ length ps
-  length_same [] = refl
-  length_same (p ∷ ps) = rw (length_same ps)
-
   few_parameters : (p : Prop ℕ) → Codable n p → FewParameters (rename_prop f p)
   unfolding Codable FewParameters rename_prop
   few_parameters True h = tt
   few_parameters False h = tt
   few_parameters (Binary c p q) h = (few_parameters p h.0, few_parameters q h.1)
-  few_parameters (Atom a ps) h = rw (length_same ps) h.1
+  few_parameters (Atom a ps) h = rw length-map h.1
   few_parameters (Quantified q x t p) h = few_parameters p h.2
 
   value : (x : ℕ) → x < n → Value f n (f x)
@@ -120,8 +68,8 @@ module _ (f : ℕ → Name) (n : ℕ) where
   Fine l = LimitedLabel l × All (Value f n) (label_names l) × Coded l
 
   fine_prop : (p : Prop ℕ) → Codable n p → nesting p ≤ 64 → length (encode p) ≤ 8192 → Fine (proposition (rename_prop f p))
-  unfolding LimitedLabel Coded label_names proposition_nesting_limit code_limit
-  fine_prop p ok shallow short = ((rw (nesting_same p) shallow, rw (code_same p) short), prop_values p ok, few_parameters p ok)
+  unfolding LimitedLabel Coded label_names code_bytes proposition_nesting_limit code_limit
+  fine_prop p ok shallow short = ((rw (nesting_same f p) shallow, rw (length_twice f (λ x. 0) p) short), prop_values p ok, few_parameters p ok)
 
   fine_datatype : (x : ℕ) → x < n → Fine (datatype (f x))
   unfolding LimitedLabel Coded label_names All
@@ -174,10 +122,6 @@ module _ (f : ℕ → Name) (n : ℕ) where
   fine_object (PropIsTrue p) h k l e = fine_object_of p h k l e
   fine_object (TypeJudgement x t) h k l e = absurd (apart l e)
 
-neither : (a b : Bool) → a || b ≡ false → (a ≡ false) × (b ≡ false)
-neither true b e = absurd (true≢false e)
-neither false b e = (refl, e)
-
 -- Of a sheet's parts, with what refusals 7, 8 and 9 leave:
 module _ (f : ℕ → Name) (n P : ℕ) (pairs code records : List ℕ) (steps : ℕ)
     (good_step : (k : ℕ) → k < steps → bad_step n P records k ≡ false)
@@ -194,10 +138,10 @@ module _ (f : ℕ → Name) (n P : ℕ) (pairs code records : List ℕ) (steps :
     unfolding bad_step
     tests =
         let last = bad_conclusion n P records k || bad_column n P records k in
-        let one = (neither (leb (length rules) (rule_byte records k)) (I₂ || (I₆ || last)) (good_step k h)).1 in
-        let two = neither I₂ (I₆ || last) one in
-        let three = neither I₆ last two.1 in
-        (two.0, three.0, (neither (bad_conclusion n P records k) (bad_column n P records k) three.1).0)
+        let one = (or_parts (leb (length rules) (rule_byte records k)) (I₂ || (I₆ || last)) (good_step k h)).1 in
+        let two = or_parts I₂ (I₆ || last) one in
+        let three = or_parts I₆ last two.1 in
+        (two.0, three.0, (or_parts (bad_conclusion n P records k) (bad_column n P records k) three.1).0)
 
     fine_first : 1 ≤ identifier_count (rule_in records k) → step_number records k 2 < n
     unfolding bad_identifier no_name identifiers
@@ -218,7 +162,7 @@ module _ (f : ℕ → Name) (n P : ℕ) (pairs code records : List ℕ) (steps :
         go : (b : Bool)
             → cond b (bad_prop_is_true n P records k) (cond (eqb (step_number records k 10) 1) (bad_type_judgement n P records k) true) ≡ false
             → FineConclusion f n (cond b (PropIsTrue (prop_in n pairs code (step_number records k 12))) (TypeJudgement (identifier_in n pairs code records k 12) (step_number records k 16)))
-        go true e = good-prop (step_number records k 12) (leb-false P (step_number records k 12) (neither (leb P (step_number records k 12)) (not_zero n P records k 14 || not_zero n P records k 16) e).0)
+        go true e = good-prop (step_number records k 12) (leb-false P (step_number records k 12) (or_parts (leb P (step_number records k 12)) (not_zero n P records k 14 || not_zero n P records k 16) e).0)
         go false e = tt
 
     fine_step : GoodStep (Fine f n) (Value f n) (rename_step f (step_in n pairs code records k))
@@ -318,38 +262,6 @@ module _ (f : ℕ → Name) (n : ℕ) where
   term_values Unit h = tt
   term_values Sorry h = tt
 
--- Parts of bytes.
-take_short : (k : ℕ) (l : List ℕ) → (length (take k l) ≤ k) × (length (take k l) ≤ length l)
-take_short zero l = omega arith
-take_short (suc k) [] = omega arith
-take_short (suc k) (b ∷ l) = omega (arith, take_short k l)
-
-drop_short : (k : ℕ) (l : List ℕ) → length (drop k l) ≤ length l
-drop_short zero l = omega arith
-drop_short (suc k) [] = omega arith
-drop_short (suc k) (b ∷ l) = omega (arith, drop_short k l)
-
-bytes_take : (k : ℕ) (l : List ℕ) → Bytes l → Bytes (take k l)
-bytes_take zero l h i = omega arith
-bytes_take (suc k) [] h i = omega arith
-bytes_take (suc k) (b ∷ l) h zero = h 0
-bytes_take (suc k) (b ∷ l) h (suc i) = bytes_take k l (λ j. h (suc j)) i
-
-bytes_drop : (k : ℕ) (l : List ℕ) → Bytes l → Bytes (drop k l)
-bytes_drop zero l h = h
-bytes_drop (suc k) [] h = λ i. omega arith
-bytes_drop (suc k) (b ∷ l) h = bytes_drop k l (λ j. h (suc j))
-
-is_some : {A : Type 0} (o : Option A) (d : A) → is_none o ≡ false → o ≡ Some (unwrap_or o d)
-unfolding is_none
-is_some None d e = absurd (true≢false e)
-is_some (Some a) d e = refl
-
-mapped_accepted : {A B : Type 0} (g : A → B) (o : Outcome A) (b : B) → map_outcome g o ≡ accepted b → (a : A) × (o ≡ accepted a)
-unfolding map_outcome
-mapped_accepted g (refused r) b e = absurd (apart b e)
-mapped_accepted g (accepted a) b e = (a, refl)
-
 module _ (s : List ℕ) (bytes : Bytes s) where
   marked_short : (i : ℕ) → length (marked (proposition_pairs s) (sheet.code_bytes s) i) ≤ code_length s
   unfolding marked sheet.code_bytes
@@ -357,17 +269,10 @@ module _ (s : List ℕ) (bytes : Bytes s) where
       let l = take (code_length s) (drop (code_start s) s) in
       omega (
         arith,
-        take_short (pair_length (proposition_pairs s) i) (drop (pair_offset (proposition_pairs s) i) l),
-        drop_short (pair_offset (proposition_pairs s) i) l,
-        take_short (code_length s) (drop (code_start s) s),
+        length-take (pair_length (proposition_pairs s) i) (drop (pair_offset (proposition_pairs s) i) l),
+        length-drop (pair_offset (proposition_pairs s) i) l,
+        length-take (code_length s) (drop (code_start s) s),
       )
-
-  marked_bytes : (i : ℕ) → Bytes (marked (proposition_pairs s) (sheet.code_bytes s) i)
-  unfolding marked sheet.code_bytes
-  marked_bytes i =
-      bytes_take (pair_length (proposition_pairs s) i) (drop (pair_offset (proposition_pairs s) i) (take (code_length s) (drop (code_start s) s)))
-      (bytes_drop (pair_offset (proposition_pairs s) i) (take (code_length s) (drop (code_start s) s))
-      (bytes_take (code_length s) (drop (code_start s) s) (bytes_drop (code_start s) s bytes)))
 
   -- what refusals 7 and 8 leave of a proposition
   fine_proposition : (i : ℕ) → code_length s ≤ 8192 → bad_code (names s) (proposition_pairs s) (sheet.code_bytes s) i ≡ false
@@ -377,7 +282,7 @@ module _ (s : List ℕ) (bytes : Bytes s) where
   fine_proposition i small seven eight =
       let m = marked (proposition_pairs s) (sheet.code_bytes s) i in
       let p = unwrap_or (decode (names s) m) False in
-      let both = encode_decode (names s) m p (marked_bytes i) (is_some (decode (names s) m) False seven) in
+      let both = encode_decode (names s) m p (marked_bytes s bytes (proposition_pairs s) i) (is_some (decode (names s) m) False seven) in
       let same : length (encode p) ≡ length m = ap length both.0 in
       (both.1, ltb-false _ _ eight, omega (arith, marked_short i))
 
@@ -393,25 +298,25 @@ module _ (s : List ℕ) (bytes : Bytes s) where
   sound : (root : ProofTree ℕ) → admitted s ≡ accepted root → Sound root
   unfolding admitted header_checks
   sound root e =
-      let first = accepted_after _ _ root e in
-      let a₁ = accepted_after _ _ _ first.first in
-      let a₂ = accepted_after _ _ _ a₁.second in
-      let a₄ = accepted_after _ _ root first.second in
-      let a₅ = accepted_after _ _ root a₄.second in
-      let a₆ = accepted_after _ _ root a₅.second in
-      let a₇ = accepted_after _ _ root a₆.second in
-      let a₈ = accepted_after _ _ root a₇.second in
-      let a₉ = accepted_after _ _ root a₈.second in
-      let a₁₀ = accepted_after _ _ root a₉.second in
-      let a₁₁ = accepted_after _ _ root a₁₀.second in
-      let a₁₂ = accepted_after _ _ root a₁₁.second in
+      let first = each_accepted _ _ e in
+      let a₁ = each_accepted _ _ first.1 in
+      let a₂ = each_accepted _ _ a₁.2 in
+      let a₄ = each_accepted _ _ first.2 in
+      let a₅ = each_accepted _ _ a₄.2 in
+      let a₆ = each_accepted _ _ a₅.2 in
+      let a₇ = each_accepted _ _ a₆.2 in
+      let a₈ = each_accepted _ _ a₇.2 in
+      let a₉ = each_accepted _ _ a₈.2 in
+      let a₁₀ = each_accepted _ _ a₉.2 in
+      let a₁₁ = each_accepted _ _ a₁₀.2 in
+      let a₁₂ = each_accepted _ _ a₁₁.2 in
       record {
-        header = passed (header_out_of_range s) 2 0 a₂.value a₂.first;
-        codes = passed_lowest _ (propositions s) 7 a₇.value a₇.first;
-        shallow = passed_lowest _ (propositions s) 8 a₈.value a₈.first;
-        steps_fit = passed_lowest _ (steps s) 9 a₉.value a₉.first;
-        trees_low = passed_lowest _ (steps s) 11 a₁₂.value a₁₂.first;
-        is_root = let z = a₁₂.second in cc;
+        header = test_failed (header_out_of_range s) 2 0 a₂.1;
+        codes = all_fail _ (propositions s) (none_lowest _ (propositions s) 7 a₇.1);
+        shallow = all_fail _ (propositions s) (none_lowest _ (propositions s) 8 a₈.1);
+        steps_fit = all_fail _ (steps s) (none_lowest _ (steps s) 9 a₉.1);
+        trees_low = all_fail _ (steps s) (none_lowest _ (steps s) 11 a₁₂.1);
+        is_root = let z = a₁₂.2 in cc;
       }
 
   -- the header's numbers within their ranges
@@ -424,12 +329,12 @@ module _ (s : List ℕ) (bytes : Bytes s) where
       let P = ltb (propositions s) 1 || ltb proposition_limit (propositions s) in
       let S = ltb (steps s) 1 || ltb 1024 (steps s) in
       let G = leb (propositions s) (goal s) in
-      let a = neither (T || N || C || P || S) G e in
-      let b = neither (T || N || C || P) S a.0 in
-      let c = neither (T || N || C) P b.0 in
-      let d = neither (T || N) C c.0 in
-      let f = neither T N d.0 in
-      let g = neither (ltb (steps s) 1) (ltb 1024 (steps s)) b.1 in
+      let a = or_parts (T || N || C || P || S) G e in
+      let b = or_parts (T || N || C || P) S a.0 in
+      let c = or_parts (T || N || C) P b.0 in
+      let d = or_parts (T || N) C c.0 in
+      let f = or_parts T N d.0 in
+      let g = or_parts (ltb (steps s) 1) (ltb 1024 (steps s)) b.1 in
       (ltb-false 512 (names s) f.1, ltb-false 8192 (code_length s) d.1, ltb-false (steps s) 1 g.0, ltb-false 1024 (steps s) g.1)
 
   limited_export : (root : ProofTree ℕ) (t : ProofTerm Name) → admitted s ≡ accepted root → export (rename_tree (name_of s) root) checking ≡ accepted t → Limited t × Each Coded (λ x. Prim.Unit {0}) t
@@ -459,6 +364,6 @@ module _ (s : List ℕ) (bytes : Bytes s) where
   pub sheet_limited : (t : ProofTerm Name) → named_term s ≡ accepted t → Limited t × Each Coded (λ x. Prim.Unit {0}) t
   unfolding named_term sheet_term
   sheet_limited t e =
-      let u = mapped_accepted (rename_term (name_of s)) (sheet_term s) t e in
-      let a = accepted_after (admitted s) (λ root. export root checking) u.0 u.1 in
-      limited_export a.value t a.first (export_same (name_of s) a.value checking ∙ ap (map_outcome (rename_term (name_of s))) a.second ∙ sym (ap (map_outcome (rename_term (name_of s))) u.1) ∙ e)
+      let u = was_accepted (rename_term (name_of s)) (sheet_term s) t e in
+      let a = each_accepted (admitted s) (λ root. export root checking) u.1 in
+      limited_export a.0 t a.1 (export_same (name_of s) a.0 checking ∙ ap (map_outcome (rename_term (name_of s))) a.2 ∙ sym (ap (map_outcome (rename_term (name_of s))) u.1) ∙ e)

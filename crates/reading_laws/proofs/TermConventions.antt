@@ -283,6 +283,14 @@ call_text inl = utf8 "inl"
 call_text inr = utf8 "inr"
 call_text abort = utf8 "abort"
 
+pub call_spelled : (f : NamedFunction) (s : List ℕ) → function_text f ++ s ≡ call_text f ++ (32 ∷ s)
+unfolding function_text call_text
+call_spelled fst s = refl
+call_spelled snd s = refl
+call_spelled inl s = refl
+call_spelled inr s = refl
+call_spelled abort s = refl
+
 unfoldable pub Spelled : List ℕ → Start → Type 0
 Spelled w fn_word = w ≡ utf8 "fn"
 Spelled w case_word = w ≡ utf8 "case"
@@ -513,14 +521,6 @@ module _ (types : List Name) (levels : ℕ) where
               )),
         )
 
-    pub call_text_lem : (f : NamedFunction) (s : List ℕ) → function_text f ++ s ≡ call_text f ++ (32 ∷ s)
-    unfolding function_text call_text
-    call_text_lem fst s = refl
-    call_text_lem snd s = refl
-    call_text_lem inl s = refl
-    call_text_lem inr s = refl
-    call_text_lem abort s = refl
-
     gives_call : (f : NamedFunction) (whole s : List ℕ) → whole ≡ call_text f ++ s → Gives (call types levels part f s) (TermIn whole)
     unfolding call ◌>>=◌ Each standing wrap display_term
     gives_call f whole s e =
@@ -530,7 +530,7 @@ module _ (types : List Name) (levels : ℕ) where
         gives_yield (TermIn whole) (standing false (Named f a.shown)) t (
           h.0,
           rw (← g) (let k = h.1 in let body = wrap a.own (display_term Strict a.shown) in
-              cc (append_assoc (function_text f) body t, call_text_lem f (body ++ t))),
+              cc (append_assoc (function_text f) body t, call_spelled f (body ++ t))),
         )
 
     gives_started : (k : Start) (s rest w : List ℕ) → s ≡ w ++ rest → Spelled w k → Gives (started types levels part k s rest) (TermIn s)

@@ -36,6 +36,19 @@ pub record Ends (rest : List ℕ) : Type 0 where
   pub no_bracket : is_open rest ≡ false
   pub no_connective : goes_on 0 rest ≡ None
 
+pub term_nests : (t : ProofTerm Name) → 0 < term_nesting t
+unfolding term_nesting
+term_nests (Ident x) = omega arith
+term_nests (Pair a b) = omega arith
+term_nests (Named f a) = omega arith
+term_nests (Function x l a) = omega arith
+term_nests (Application a b) = omega arith
+term_nests (LetIn x y a b) = omega arith
+term_nests (Case a x b y c) = omega arith
+term_nests (TypeAscription a l) = omega arith
+term_nests Unit = omega arith
+term_nests Sorry = omega arith
+
 pub after_label : {rest : List ℕ} → Ends rest → After 0 rest
 after_label e = record { ends = e.no_name; bare = e.no_bracket; weak = e.no_connective }
 
@@ -450,21 +463,8 @@ module _ (types : List Name) (levels : ℕ) where
     either true t rest ok ends fits = whole_head (standing true t) _ rest ends (head_bracketed t rest ok (omega arith))
     either false t rest ok ends fits = bare t rest ok ends (omega arith)
 
-  nested : (t : ProofTerm Name) → 0 < term_nesting t
-  unfolding term_nesting
-  nested (Ident x) = omega arith
-  nested (Pair a b) = omega arith
-  nested (Named f a) = omega arith
-  nested (Function x l a) = omega arith
-  nested (Application a b) = omega arith
-  nested (LetIn x y a b) = omega arith
-  nested (Case a x b y c) = omega arith
-  nested (TypeAscription a l) = omega arith
-  nested Unit = omega arith
-  nested Sorry = omega arith
-
   -- the strict text of a term reads back as that term, in twice as many levels as it nests
   pub read_term_lem : (depth : ℕ) → Reads (read_term types levels depth) depth
   unfolding read_term ◌>>=◌
-  read_term_lem zero flag t rest ok ends fits = absurd (omega (arith, nested t))
+  read_term_lem zero flag t rest ok ends fits = absurd (omega (arith, term_nests t))
   read_term_lem (suc depth) flag t rest ok ends fits = either (read_term types levels depth) depth (read_term_lem depth) flag t rest ok ends fits

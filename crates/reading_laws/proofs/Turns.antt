@@ -49,5 +49,5 @@ module _ (P : State → Type 0) where
 
   pub next_some : (x : Option State) (τ : State) → onward x ≡ onward (Some τ) → Next x → P τ
   unfolding Next
-  next_some None τ e h = absurd (let z : ◌≡◌ {A = ℕ} 0 1 = cc in omega arith)
+  next_some None τ e h = absurd (grind arith)
   next_some (Some σ) τ e h = let same : σ ≡ τ = cc in rw (← same) h

@@ -1,9 +1,10 @@
 -- What the reader of strict text finds in front: a word, a name, bytes that are expected.
 use Prim.Native.Nat.{ℕ, zero, suc, ◌<◌}
 use mathlib.Core.Path.{◌≡◌, refl, sym}
-use mathlib.Core.Bool.{Bool, true, false, ◌||◌, not, true≢false, and-eq-true_iff}
+use mathlib.Core.Bool.{Bool, true, false, not, true≢false, and-eq-true_iff}
 use mathlib.Core.List.{List, [], ◌∷◌, ◌++◌}
 use native.Mathlib.Omega.{arith}
+use Rattle.std.proofs.lemmas.Bool.{or_parts}
 use lib.ListN.{length, get_or}
 use lib.Dec.{leb}
 use borrow.Author.Tests.{not-true}
@@ -64,17 +65,12 @@ module _ (x : Name) (admitted : Admitted x) where
   unfolding name named
   read_name rest e = rw (read_word rest e, admitted)
 
--- neither of two
-neither : (a b : Bool) → a || b ≡ false → (a ≡ false) × (b ≡ false)
-neither true b e = absurd (true≢false e)
-neither false b e = (refl, e)
-
 -- each member differs
 member_found : (x : Name) (ks : List Name) (i : ℕ) → i < length ks → occurs eq_name x ks ≡ false → eq_name x (get_or ks i []) ≡ false
 unfolding occurs
 member_found x [] i h e = absurd (omega arith)
-member_found x (k ∷ ks) zero h e = (neither (eq_name x k) (occurs eq_name x ks) e).0
-member_found x (k ∷ ks) (suc i) h e = member_found x ks i (omega arith) (neither (eq_name x k) (occurs eq_name x ks) e).1
+member_found x (k ∷ ks) zero h e = (or_parts (eq_name x k) (occurs eq_name x ks) e).0
+member_found x (k ∷ ks) (suc i) h e = member_found x ks i (omega arith) (or_parts (eq_name x k) (occurs eq_name x ks) e).1
 
 -- an admitted name begins nothing but itself
 module _ (x : Name) (admitted : Admitted x) where

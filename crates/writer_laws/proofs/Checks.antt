@@ -12,7 +12,7 @@ use Rattle.definitions.specs.Sheet as sheet
 use Rattle.definitions.specs.Sheet.{header_size, text_limit, name_limit, code_limit, proposition_limit, step_limit, text_length, names, code_length, propositions, steps, goal, header_out_of_range, sheet_length, name_pairs, proposition_pairs, step_records, text_bytes, code_bytes}
 use Rattle.definitions.specs.Tree.{ProofTree, root_of}
 use Rattle.definitions.proofs.Outcomes.{each_accepted, test_failed, none_lowest}
-use Rattle.definitions.proofs.Either.{neither}
+use Rattle.std.proofs.lemmas.Bool.{or_parts}
 use Rattle.definitions.specs.Admission.{bad_name_pair, bad_name, bad_proposition_pair, bad_code, deep_proposition, bad_step, too_few_trees, trees_left, deep_tree, header_checks, admitted}
 
 -- each check of a sheet passes
@@ -81,13 +81,13 @@ pub record InRange (s : List ℕ) : Type 0 where
 pub in_range : (s : List ℕ) → header_out_of_range s ≡ false → InRange s
 unfolding header_out_of_range
 in_range s e =
-    let (rest, goal) = neither _ _ e in
-    let (rest, steps) = neither _ _ rest in
-    let (rest, propositions) = neither _ _ rest in
-    let (rest, code) = neither _ _ rest in
-    let (text, names) = neither _ _ rest in
-    let (no-proposition, propositions) = neither _ _ propositions in
-    let (no_step, steps) = neither _ _ steps in
+    let (rest, goal) = or_parts _ _ e in
+    let (rest, steps) = or_parts _ _ rest in
+    let (rest, propositions) = or_parts _ _ rest in
+    let (rest, code) = or_parts _ _ rest in
+    let (text, names) = or_parts _ _ rest in
+    let (no-proposition, propositions) = or_parts _ _ propositions in
+    let (no_step, steps) = or_parts _ _ steps in
     record {
       text = ltb-false _ _ text;
       names = ltb-false _ _ names;

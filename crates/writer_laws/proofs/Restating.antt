@@ -28,7 +28,7 @@ use Rattle.definitions.specs.Assemble.{parts_of}
 use Rattle.definitions.specs.Restate.{Given, new_record, with_step, no_step_left, restated_sheet, given_conclusion, bad_given, restated, restate_answer}
 use Rattle.definitions.specs.NameIndex.{index_of}
 use Rattle.definitions.specs.Refusals.{Meets, is_accepted}
-use Rattle.definitions.proofs.Either.{neither}
+use Rattle.std.proofs.lemmas.Bool.{or_parts}
 use Rattle.definitions.proofs.Outcomes.{each_accepted, test_failed}
 use Rattle.definitions.proofs.Lowest.{same_lowest, lowest_passed}
 use Rattle.definitions.proofs.PrefixCode.{split_number}
@@ -162,11 +162,11 @@ module _ (s : List ℕ) (g : Given) (root : ProofTree ℕ) (is_admitted : admitt
 
   steps_left : sheet.steps s < step_limit
   unfolding no_step_left
-  steps_left = leb-false step_limit (sheet.steps s) (neither (leb step_limit (sheet.steps s)) (leb tree_nesting_limit (height root)) room).0
+  steps_left = leb-false step_limit (sheet.steps s) (or_parts (leb step_limit (sheet.steps s)) (leb tree_nesting_limit (height root)) room).0
 
   levels_left : height root < tree_nesting_limit
   unfolding no_step_left
-  levels_left = leb-false tree_nesting_limit (height root) (neither (leb step_limit (sheet.steps s)) (leb tree_nesting_limit (height root)) room).1
+  levels_left = leb-false tree_nesting_limit (height root) (or_parts (leb step_limit (sheet.steps s)) (leb tree_nesting_limit (height root)) room).1
 
   -- the trees before a step of the old sheet, and the old root
   abbrev trees : List ℕ → ℕ → List (ProofTree ℕ)
