@@ -8,14 +8,14 @@ use Rattle.definitions.specs.Term as term
 use Rattle.definitions.specs.Term.{Label, proposition, datatype, ProofTerm, Ident, Pair, Named, Function, Application, LetIn, Case, TypeAscription, Sorry, rename_label, rename_parameter_label, rename_term}
 use Rattle.definitions.specs.TermText.{Each, OfParameterLabel}
 use Rattle.definitions.specs.CheckingRules.{Context, Infers, Checks, infer_name, infer_unit, infer_fst, infer_snd, infer_application_lem, infer_ascribed_lem, infer_function_lem, infer_pair, infer_case, check_function, check_pair, check_inl, check_inr, check_case, check_abort, check_sorry, check_inferred}
-use Rattle.definitions.proofs.Shape.{free_same}
+use Rattle.definitions.proofs.Shape.{quantifier_free_same}
 use Rattle.definitions.specs.CheckAnswers.{is_checkable_label, is_checkable_parameter_label, is_checkable}
 
 -- Over other names:
 module _ {N M : Type 0} (f : N → M) where
   label_same : (l : Label N) → is_checkable_label (rename_label f l) ≡ is_checkable_label l
   unfolding is_checkable_label rename_label
-  label_same (proposition p) = free_same f p
+  label_same (proposition p) = quantifier_free_same f p
   label_same (datatype t) = refl
 
   parameter_label_same : (l : Option (Label N)) → is_checkable_parameter_label (rename_parameter_label f l) ≡ is_checkable_parameter_label l

@@ -25,7 +25,7 @@ use Rattle.writer_laws.proofs.Checks.{admitted_checks}
 use Rattle.reading_laws.proofs.ExportLimits.{apart, GoodStep, GoodTree, GoodTrees, export_each}
 use Rattle.checker_laws.specs.Judgements.{root_number}
 use Rattle.checker_laws.proofs.EveryStep.{Every, EveryPremiss, every_step, some_step, conclusion_of_lem}
-use Rattle.definitions.proofs.Shape.{free_same}
+use Rattle.definitions.proofs.Shape.{quantifier_free_same}
 use Rattle.checker_laws.proofs.Checkable.{CheckableLabel, CheckableLabels, checks_checkable}
 
 -- a conclusion that is a proposition is without quantifiers
@@ -108,7 +108,7 @@ module _ (s : List ℕ) (free : (i : ℕ) → i < propositions s → is_quantifi
   plain_root =
       every_step (PlainStep (name_of s)) s root e λ k l.
       conclusion_of_lem s root e k l (λ c. Plain (rename_conclusion (name_of s) c))
-      (λ below. free_same (name_of s) (prop_of s (step_number (step_records s) k 12)) ∙ free (step_number (step_records s) k 12) below)
+      (λ below. quantifier_free_same (name_of s) (prop_of s (step_number (step_records s) k 12)) ∙ free (step_number (step_records s) k 12) below)
       (λ x t. tt)
 
   labels_pass : (u : ProofTerm Name) → named_term s ≡ accepted u → CheckableLabels u
@@ -125,7 +125,7 @@ sound_judgement s d k below same =
     let a = sound_accuracy s d in
     let checkable : is_checkable a.term ≡ true =
     checks_checkable a.is_accepted (labels_pass s d.props d.deduced.root d.deduced.is_admitted a.term a.is_term) in
-    let free : is_quantifier_free (named_prop s k) ≡ true = free_same (name_of s) (prop_of s k) ∙ d.props k below in
+    let free : is_quantifier_free (named_prop s k) ≡ true = quantifier_free_same (name_of s) (prop_of s k) ∙ d.props k below in
     rw (a.is_term, lt-leb _ _ below, checkable, free, same ∙ same_prop s d.deduced) (ap accepted a.judged)
 
 -- the root of a sound sheet concludes the proposition of that number

@@ -45,13 +45,13 @@ module _ {N M : Type 0} (f : N → M) where
   instantiated_same (Uninstantiated x ∷ ps) = refl
   instantiated_same (Instantiated x i ∷ ps) = instantiated_same ps
 
-  pub free_same : (p : Prop N) → is_quantifier_free (rename_prop f p) ≡ is_quantifier_free p
+  pub quantifier_free_same : (p : Prop N) → is_quantifier_free (rename_prop f p) ≡ is_quantifier_free p
   unfolding is_quantifier_free rename_prop
-  free_same True = refl
-  free_same False = refl
-  free_same (Binary c p q) = rw (free_same p, free_same q)
-  free_same (Atom a ps) = instantiated_same ps
-  free_same (Quantified q x t p) = refl
+  quantifier_free_same True = refl
+  quantifier_free_same False = refl
+  quantifier_free_same (Binary c p q) = rw (quantifier_free_same p, quantifier_free_same q)
+  quantifier_free_same (Atom a ps) = instantiated_same ps
+  quantifier_free_same (Quantified q x t p) = refl
 
   parameters_size_same : (ps : List (PropParameter N)) → parameters_size (map (rename_parameter f) ps) ≡ parameters_size ps
   unfolding parameters_size rename_parameter

@@ -15,7 +15,7 @@ use Rattle.definitions.specs.Answers.{named_conclusion}
 use Rattle.definitions.specs.Sound.{Deduction, documented, is_propositional, is_quantifier_free, is_proposition, Deduced, Sound}
 use Rattle.definitions.specs.Graft.{renumbered, merged_sheet, merged, graft_answer}
 use Rattle.definitions.proofs.Readings.{Bytes}
-use Rattle.definitions.proofs.Shape.{free_same}
+use Rattle.definitions.proofs.Shape.{quantifier_free_same}
 use Rattle.definitions.proofs.Conventions.{concludes}
 use Rattle.graft_laws.specs.Scope.{NoClash}
 use Rattle.graft_laws.proofs.Trees.{graft_tree, named_tree}
@@ -119,7 +119,7 @@ module _ {h d : List ℕ} {k : ℕ} {m : List ℕ} (a : Merged h d k m) (host : 
           let j = i - sheet.propositions h in
           let z : sheet.propositions h + j ≡ i = omega arith in
           let below : j < sheet.propositions d = omega (arith, merged_propositions g) in
-          rw (← z) (ap is_quantifier_free (donor_prop g j below) ∙ (free_same (renumbered h d) (prop_of d j) ∙ donor.props j below))
+          rw (← z) (ap is_quantifier_free (donor_prop g j below) ∙ (quantifier_free_same (renumbered h d) (prop_of d j) ∙ donor.props j below))
 
   merged_is_sound : Sound M
   merged_is_sound =

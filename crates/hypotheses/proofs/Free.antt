@@ -10,7 +10,7 @@ use Rattle.definitions.specs.Sound.{is_quantifier_free}
 use Rattle.definitions.specs.CheckAnswers.{named_prop}
 use Rattle.writer_laws.proofs.Checks.{admitted_checks}
 use Rattle.graft_laws.proofs.MergedSheet.{coded}
-use Rattle.definitions.proofs.Shape.{free_same}
+use Rattle.definitions.proofs.Shape.{quantifier_free_same}
 use Rattle.sheet.specs.declared.header.Sheet.{Sheet}
 use Rattle.sheet.specs.Header.{header_of}
 use Rattle.sheet.specs.Admitted.{Accepted}
@@ -27,4 +27,4 @@ module _ {s : List ℕ} (a : Accepted s) {k : ℕ} (l : k < propositions s) wher
 -- names do not matter to 22
 pub free_named : (s : List ℕ) (k : ℕ) {r : Bool} → r ≡ is_quantifier_free (prop_of s k) → r ≡ is_quantifier_free (named_prop s k)
 unfolding named_prop
-free_named s k e = e ∙ sym (free_same (name_of s) (prop_of s k))
+free_named s k e = e ∙ sym (quantifier_free_same (name_of s) (prop_of s k))

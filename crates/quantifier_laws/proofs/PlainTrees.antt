@@ -11,7 +11,7 @@ use Rattle.definitions.specs.Tree.{ProofTreeConclusion, PropIsTrue, TypeJudgemen
 use Rattle.definitions.specs.Admission.{admitted}
 use Rattle.definitions.specs.Sound.{is_propositional, is_proposition, Sound}
 use Rattle.checker_laws.proofs.EveryStep.{Every, EveryPremiss, every_step, conclusion_of_lem}
-use Rattle.definitions.proofs.Shape.{free_same}
+use Rattle.definitions.proofs.Shape.{quantifier_free_same}
 use Rattle.quantifier_laws.proofs.QuantifierFree.{Free}
 
 -- a propositional step that concludes a proposition without quantifiers
@@ -33,7 +33,7 @@ PlainPremisses ps = EveryPremiss PlainStep ps
 module _ {N M : Type 0} (f : N → M) where
   conclusion_renamed : (c : ProofTreeConclusion N) → PlainConclusion c → PlainConclusion (rename_conclusion f c)
   unfolding rename_conclusion
-  conclusion_renamed (PropIsTrue p) h = free_same f p ∙ h
+  conclusion_renamed (PropIsTrue p) h = quantifier_free_same f p ∙ h
   conclusion_renamed (TypeJudgement x d) h = h
 
   mutual

@@ -16,7 +16,7 @@ use Rattle.quantifier_laws.specs.Instantiation.{is_unbound, some_unbound, holds_
 use Rattle.quantifier_laws.specs.Rules.{proves}
 use Rattle.quantifier_laws.specs.Sound as sound
 use Rattle.quantifier_laws.specs.Sound.{Assumption, Deduction, documented, Fresh, Sound}
-use Rattle.definitions.proofs.Shape.{free_same}
+use Rattle.definitions.proofs.Shape.{quantifier_free_same}
 use Rattle.quantifier_laws.proofs.QuantifierFree.{Free}
 use Rattle.quantifier_laws.proofs.QuantifierFreeCase.{embed, conclude}
 
@@ -81,5 +81,5 @@ sound_case s d =
         prop = d.deduced.prop;
         deduction = deduction d.deduced.deduction;
       };
-      bound = λ i l. free_bound (named_prop s i) (free_same (name_of s) (prop_of s i) ∙ d.props i l);
+      bound = λ i l. free_bound (named_prop s i) (quantifier_free_same (name_of s) (prop_of s i) ∙ d.props i l);
     }
