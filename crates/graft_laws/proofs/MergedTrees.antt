@@ -3,6 +3,7 @@ use Prim.Native.Nat.{ℕ, zero, suc, ◌+◌, ◌-◌, ◌≤◌, ◌<◌}
 use mathlib.Core.Path.{◌≡◌, refl, sym, ap, ap₂, ◌∙◌}
 use mathlib.Core.Bool.{true, false}
 use mathlib.Core.List.{List, [], ◌∷◌, ◌++◌, map, append-nil}
+use native.Mathlib.Nat.{zero-add}
 use native.Mathlib.Omega.{arith}
 use native.Mathlib.Decide.{ℕ_discrete}
 use lib.ListN.{length, drop}
@@ -87,30 +88,27 @@ module _ {step_h step_d step_m : ℕ → Step ℕ} {count_h count_d count_m : �
   unfolding SameChanged donor_change merged_change renumber_tree named_tree map_tree
   donor_step i l ps qs same = ap₂ over (sym (w.donor i l)) same
 
-  zero_add : (i : ℕ) → 0 + i ≡ i
-  zero_add i = omega arith
-
   -- before step k
   pub in_first : (n : ℕ) → n ≤ k → map (merged_change name_m).tree (stack step_m count_m n) ≡ map host_change_lem.tree (stack step_h count_h n)
   unfolding stack
   in_first n h =
-      rw (zero_add n, append-nil) at
+      rw (zero-add, append-nil) at
       (row step_h step_m count_h count_m host_change_lem (merged_change name_m) [] 0 0 n refl
-      (λ i l. rw zero_add (w.first_count i (omega arith)))
-      (λ i l. rw zero_add (w.found i (omega (arith, w.here))))
-      (λ i l. rw zero_add (host_step i i (λ z. omega arith) (w.first i (omega arith)))))
+      (λ i l. rw zero-add (w.first_count i (omega arith)))
+      (λ i l. rw zero-add (w.found i (omega (arith, w.here))))
+      (λ i l. rw zero-add (host_step i i (λ z. omega arith) (w.first i (omega arith)))))
 
   -- among the donor's steps
   pub in_donor : (n : ℕ) → n ≤ size_d → map (merged_change name_m).tree (stack step_m count_m (k + n))
       ≡ map (donor_change k name_d).tree (stack step_d count_d n) ++ map host_change_lem.tree (stack step_h count_h k)
   unfolding stack
   in_donor n h =
-      rw zero_add at
+      rw zero-add at
       (row step_d step_m count_d count_m (donor_change k name_d) (merged_change name_m) (map host_change_lem.tree (stack step_h count_h k)) k 0 n
       (in_first k (omega arith))
-      (λ i l. rw zero_add (w.donor_count i (omega arith)))
-      (λ i l. rw zero_add (w.donor_found i (omega arith)))
-      (λ i l. rw zero_add (donor_step i (omega arith))))
+      (λ i l. rw zero-add (w.donor_count i (omega arith)))
+      (λ i l. rw zero-add (w.donor_found i (omega arith)))
+      (λ i l. rw zero-add (donor_step i (omega arith))))
 
   -- the donor's root stands in place of step k
   at_sorry : host_change_lem.tree (over (step_h k) none) ≡ donor_tree

@@ -4,6 +4,7 @@ use mathlib.Core.Path.{◌≡◌, refl, sym, ap, ◌∙◌}
 use mathlib.Core.Bool.{Bool, true, false, not, cond}
 use Rattle.std.specs.Prelude.{None, Option, Some}
 use mathlib.Core.List.{List, [], ◌∷◌, ◌++◌, map, append_assoc, append-nil}
+use native.Mathlib.Nat.{zero-add}
 use native.Mathlib.Omega.{arith}
 use lib.ListN.{length, get_or, set, take, drop, get_or-map, length-set, length-map}
 use lib.Seq.{set_split, set-get_or, get_or-set_same}
@@ -474,7 +475,7 @@ module _ {N : Type 0} (k : ℕ) (z₀ : Step N) (d : ProofTree N) where
       let host : w.wrap ts ≡ u = same_accepted (sym (w.placed ts) ∙ placed) in
       record {
         spot = record { place = a.spot.place; position = below z.rule i a.spot.position };
-        is_reached = rw is (a.is_reached z.rule 0 ∙ rw zero_add);
+        is_reached = rw is (a.is_reached z.rule 0 ∙ rw zero-add);
         fill = λ v. w.wrap (set ts i (a.fill v));
         own = a.own;
         is_own = a.is_own;
@@ -488,9 +489,6 @@ module _ {N : Type 0} (k : ℕ) (z₀ : Step N) (d : ProofTree N) where
     where
       same_accepted : {a b : ProofTerm N} → ◌≡◌ {A = Outcome (ProofTerm N)} (accepted a) (accepted b) → a ≡ b
       same_accepted e = cc
-
-      zero_add : (n : ℕ) → 0 + n ≡ n
-      zero_add n = omega arith
 
       merge : (o : Outcome (ProofTerm N)) (fill : ProofTerm N → ProofTerm N) (wrap : List (ProofTerm N) → ProofTerm N)
           → ((us : List (ProofTerm N)) → placed_term m z us ≡ accepted (wrap us))

@@ -131,7 +131,7 @@ module _ (name : ℕ → Name) where
         go : (o : Option ℕ) → plain_search name n (name n) ≡ o
             → Indexed name (suc n) (cond (is_none o) (set slots place n) slots)
         go None is = entering is
-        go (Some i) is = repeating (λ f. let z : ◌≡◌ {A = ℕ} 0 1 = cc in omega arith)
+        go (Some i) is = repeating (λ f. grind arith)
 
   empty_slot : (at : ℕ) → slot_at (replicate slot_count free) at ≡ free
   unfolding slot_at slot_count

@@ -18,7 +18,7 @@ use Rattle.definitions.specs.TermText.{Each, OfParameterLabel, nodes, term_nesti
 
 -- a refusal is no value
 pub apart : {A : Type 0} (a : A) {r : _} → refused r ≡ accepted a → ⊥
-apart a e = let z : ◌≡◌ {A = ℕ} 0 1 = cc in absurd (omega arith)
+apart a e = grind arith
 
 -- the steps of a tree
 module _ {N : Type 0} where

@@ -31,7 +31,7 @@ both {a} {b} p q = (and-eq-true_iff a b).1 (p, q)
 -- a refusal is no term
 pub clash : {A : Type 0} (a : A) → refuse 20 0 ≡ accepted a → ⊥
 unfolding refuse
-clash a e = let z : ◌≡◌ {A = ℕ} 0 1 = cc in absurd (omega arith)
+clash a e = grind arith
 
 pub not_own : (own : Bool) → same own false ≡ true → own ≡ false
 unfolding same
