@@ -52,24 +52,8 @@ module _ (n : ℕ) {A B : Type 0} (f : B → A) (g : ℕ → B) (e : ℕ → A) 
   rename_twice (Atom a ps) h = rw (same a h.0, parameters_twice ps h.2)
   rename_twice (Quantified q x t p) h = rw (same x h.0, same t h.1, rename_twice p h.2)
 
-module _ (n : ℕ) {A : Type 0} (f e : ℕ → A) (same : (x : ℕ) → x < n → f x ≡ e x) where
-  parameter_same : (p : PropParameter ℕ) → CodableParameter n p → rename_parameter f p ≡ rename_parameter e p
-  unfolding rename_parameter CodableParameter
-  parameter_same (Uninstantiated x) h = ap Uninstantiated (same x h)
-  parameter_same (Instantiated x i) h = ap (λ y. Instantiated y i) (same x h.0)
-
-  parameters_same : (ps : List (PropParameter ℕ)) → CodableParameters n ps → map (rename_parameter f) ps ≡ map (rename_parameter e) ps
-  unfolding CodableParameters
-  parameters_same [] h = refl
-  parameters_same (p ∷ ps) h = rw (parameter_same p h.0, parameters_same ps h.1)
-
-  pub rename_same : (p : Prop ℕ) → Codable n p → rename_prop f p ≡ rename_prop e p
-  unfolding rename_prop Codable
-  rename_same True h = refl
-  rename_same False h = refl
-  rename_same (Binary c p q) h = rw (rename_same p h.0, rename_same q h.1)
-  rename_same (Atom a ps) h = rw (same a h.0, parameters_same ps h.2)
-  rename_same (Quantified q x t p) h = rw (same x h.0, same t h.1, rename_same p h.2)
+pub rename_same : (n : ℕ) {A : Type 0} (f e : ℕ → A) → ((x : ℕ) → x < n → f x ≡ e x) → (p : Prop ℕ) → Codable n p → rename_prop f p ≡ rename_prop e p
+rename_same n f e same p h = sym (rename_twice n (λ x. x) f f (λ x l. refl) p h) ∙ rename_twice n (λ x. x) f e same p h
 
 -- a proposition over renumbered names has a code
 module _ (n m : ℕ) (g : ℕ → ℕ) (below : (x : ℕ) → x < n → g x < m) where

@@ -1,4 +1,5 @@
 -- Every sound sheet has the accuracy statement: its root's deduction gives the term, and the answers are that term's.
+-- The law of the definitions, of ticket 12's families: these stand beside document 01's until code has them.
 use Prim.Native.Nat.{ℕ}
 use mathlib.Core.Path.{◌≡◌, sym, ap, ◌∙◌}
 use mathlib.Core.List.{List, []}

@@ -1,5 +1,6 @@
 -- The ticket's convention asks for all that accuracy needs: where no two in scope share a name, the hypothesis or the object
 -- of a name and id is the latest of its name.
+-- The law of the definitions, of ticket 12's families: these stand beside document 01's until code has them.
 use Prim.Native.Nat.{ℕ}
 use mathlib.Core.Path.{◌≡◌}
 use mathlib.Core.Bool.{false}

@@ -1,5 +1,6 @@
 -- A deduction exports, in either place, to a term that the checking rules accept there and that has its labels where they
 -- belong: by recursion on the deduction, one clause for each rule.
+-- The law of the definitions, of ticket 12's families: these stand beside document 01's until code has them.
 use Prim.Native.Nat.{◌+◌}
 use native.Mathlib.Omega.{arith}
 use borrow.Author.Tests.{le-leb}

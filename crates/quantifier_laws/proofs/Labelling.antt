@@ -1,5 +1,6 @@
 -- A term that has its labels where they belong has as many as injections, aborts, sorries, functions and witnesses stand in
 -- inferring places.
+-- The law of the definitions, of ticket 12's families: these stand beside document 01's until code has them.
 use Prim.Native.Nat.{ℕ, ◌+◌, ◌*◌}
 use mathlib.Core.Path.{◌≡◌, refl, ap}
 use Rattle.std.specs.Prelude.{None, Option, Some}

@@ -1,4 +1,5 @@
 -- The grown judgements use the refusals that ticket 5's do.
+-- The laws of `checker_laws`, of ticket 12's judgements: these stand beside ticket 5's until code has them.
 use Prim.Native.Nat.{ℕ}
 use mathlib.Core.Path.{◌≡◌, refl}
 use mathlib.Core.Logic.{inl, inr}
