@@ -9,10 +9,9 @@ pub fn lowest<F: Fn(usize) -> bool>(count: usize, test: F) -> Option<usize>
     requires { (k : ℕ) → k < count → F.pre test k }
     ensures { (is : ℕ → Bool) → ((k : ℕ) (r : Bool) → k < count → F.post test k r → r ≡ is k) → result ≡ lowest is count }
 {
-    for i in 0..count {
-        if test(i) {
-            return Some(i);
-        }
-    }
-    None
+    (0..count).find(
+        |&k|
+            requires { F.pre test k }
+        { test(k) },
+    )
 }
