@@ -42,7 +42,7 @@ impl Class {
     }
 }
 
-// The class of each byte.
+// The class of each byte, as the table of 256 entries that document 01 asks for.
 pub const CLASSES: [Class; 256] = [
     // 0 to 47
     Other, Other, Other, Other, Other, Other, Other, Other, Other, Other, Other, Other, Other,
