@@ -1,4 +1,5 @@
 pub mod Table
+pub mod Following
 pub mod Equality
 pub mod Within
 pub mod Comparing

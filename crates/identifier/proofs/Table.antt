@@ -11,6 +11,7 @@ use Rattle.std.specs.Prelude.{slice_index_or}
 use Rattle.definitions.specs.Name.{ByteClass, letter, digit, underscore, other, byte_class}
 use Rattle.identifier.specs.Class.{class_of, ClassTable}
 use Rattle.identifier.specs.declared.classes.Class.{Class}
+use Rattle.identifier.specs.declared.classes.TheConstants.{CLASSES}
 use Rattle.identifier.specs.declared.classes.Class.TheVariants.{Other}
 
 abbrev same_class : ByteClass → ByteClass → Bool
@@ -46,3 +47,8 @@ entry_from (c ∷ cs) i t (suc k) h =
 pub class_table : (table : List Class) → length table ≡ 256 → T (follows 0 table) → ClassTable table
 unfolding ClassTable
 class_table table e right b h = rw zero-add at (entry_from table 0 right b (omega arith))
+
+-- so the constant is one
+pub classes_hold : ClassTable CLASSES
+unfolding byte_class
+classes_hold = class_table CLASSES refl tt

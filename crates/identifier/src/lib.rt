@@ -19,7 +19,7 @@ use std::cmp::Ordering;
 pub const NAME_LENGTH_LIMIT: usize = 32;
 
 // Whether each byte is one that its position allows.
-#[tactic(auto, unfolding(definitions::specs::Name::is_name, definitions::specs::Name::all_may_follow))]
+#[tactic(auto, using(crate::proofs::Table::classes_hold), unfolding(definitions::specs::Name::is_name))]
 pub fn is_name(name: &[u8]) -> bool
     ensures { result ≡ is_name name.now }
 {
@@ -30,12 +30,8 @@ pub fn is_name(name: &[u8]) -> bool
     if !Class::of_byte(&classes, *first).may_begin() {
         return false;
     }
-    for &b in rest {
-        if !Class::of_byte(&classes, b).may_follow() {
-            return false;
-        }
-    }
-    true
+    rest.iter()
+        .all(|&b| Class::of_byte(&classes, b).may_follow())
 }
 
 // How two names stand to each other: by bytes, a name before its own extensions.
