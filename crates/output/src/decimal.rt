@@ -19,6 +19,7 @@ fn digit_count(n: u64) -> usize
 }
 
 // Stores the digits of a number, from the last one back, each in its final position.
+// By index: after a `for` over `out.iter_mut().rev()` a proof knows which places were handed out, and not what was stored in them.
 fn store_digits(out: &mut [u8], n: u64)
     requires { LeastDigits n (length out.old) }
     ensures { out.new ≡ decimal n }
