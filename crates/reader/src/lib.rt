@@ -1,4 +1,4 @@
-// A reader holds a sheet and a position in it. Its functions take it apart, and leave the work to functions of a slice and a position.
+// A reader holds a sheet and a position in it, and is passed by value: reading leaves it where it was, and `moved` is the next one.
 #![tactic(auto)]
 
 ghost use Rattle.std.specs.Prelude.{◌≡◌, ◌*◌};
@@ -6,39 +6,10 @@ ghost use Rattle.reader.specs.Reading.{bytes_after, number_after, position_after
 
 use number::number_at;
 
-#[derive(Drop)]
+#[derive(Clone, Copy)]
 pub struct Reader<'a> {
     pub sheet: &'a [u8],
     pub at: usize,
-}
-
-// How many bytes are left at a position.
-pub fn bytes_after(s: &[u8], at: usize) -> usize
-    ensures { result ≡ bytes_after s.now at }
-{
-    s.len().saturating_sub(at)
-}
-
-// The number at a position, low byte first.
-#[tactic(auto, unfolding(crate::specs::Reading::number_after))]
-pub fn number_after(s: &[u8], at: usize) -> Option<usize>
-    ensures { result ≡ number_after s.now at }
-{
-    if bytes_after(s, at) < 2 {
-        return None;
-    }
-    Some(number_at(s, at))
-}
-
-// The position so many numbers on, or the end where fewer are left.
-#[tactic(auto, unfolding(crate::specs::Reading::position_after))]
-pub fn position_after(s: &[u8], at: usize, numbers: usize) -> usize
-    ensures { result ≡ position_after s.now at numbers }
-{
-    if numbers <= bytes_after(s, at) / 2 {
-        return at + 2 * numbers;
-    }
-    s.len()
 }
 
 impl<'a> Reader<'a> {
@@ -49,28 +20,35 @@ impl<'a> Reader<'a> {
         Reader { sheet, at: 0 }
     }
 
-    // The number at the position; the reader past it is `moved(1)`.
-    pub fn next_number(self) -> Option<usize>
-        ensures { result ≡ number_after self.entry.sheet.now self.entry.at }
-    {
-        number_after(self.sheet, self.at)
-    }
-
-    // The reader moved on by so many numbers, two bytes each, or to the end where fewer are left.
-    pub fn moved(self, numbers: usize) -> Reader<'a>
-        ensures { (result.sheet ≡ self.entry.sheet) × (result.at ≡ position_after self.entry.sheet.now self.entry.at numbers) }
-    {
-        Reader {
-            sheet: self.sheet,
-            at: position_after(self.sheet, self.at, numbers),
-        }
-    }
-
     // How many bytes are left.
     pub fn left(self) -> usize
         ensures { result ≡ bytes_after self.entry.sheet.now self.entry.at }
     {
-        bytes_after(self.sheet, self.at)
+        self.sheet.len().saturating_sub(self.at)
+    }
+
+    // The number at the position, low byte first; the reader past it is `moved(1)`.
+    #[tactic(auto, unfolding(crate::specs::Reading::number_after))]
+    pub fn next_number(self) -> Option<usize>
+        ensures { result ≡ number_after self.entry.sheet.now self.entry.at }
+    {
+        if self.left() < 2 {
+            return None;
+        }
+        Some(number_at(self.sheet, self.at))
+    }
+
+    // The reader moved on by so many numbers, two bytes each, or to the end where fewer are left.
+    #[tactic(auto, unfolding(crate::specs::Reading::position_after))]
+    pub fn moved(self, numbers: usize) -> Reader<'a>
+        ensures { (result.sheet ≡ self.entry.sheet) × (result.at ≡ position_after self.entry.sheet.now self.entry.at numbers) }
+    {
+        if numbers <= self.left() / 2 {
+            let at = self.at + 2 * numbers;
+            return Reader { at, ..self };
+        }
+        let at = self.sheet.len();
+        Reader { at, ..self }
     }
 }
 
