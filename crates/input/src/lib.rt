@@ -7,9 +7,9 @@ use std::fs;
 use std::io::Read;
 use std::rt::Files;
 
-// Reads until the memory is full, the input ends or a read fails, and returns how many bytes came. They stand at the memory's start,
-// which is the caller's, as `Read::read` has it: board lends it no more than a sheet can be long.
-// std's `read_exact` tells no count where the input ends early, and how many turns the loop takes is the system's matter.
+// Reads until the memory is full, the input ends or a read fails, and returns how many bytes came: they stand at the memory's start.
+// std's `read_exact` tells no count where the input ends early. A read may bring fewer bytes than there is room for, so that how many turns
+// the loop takes is the system's matter.
 pub fn read_full(input: &mut impl Read, memory: &mut [u8]) -> usize
     ensures { result ≤ length memory.new }
 {
