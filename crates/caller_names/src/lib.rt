@@ -1,29 +1,15 @@
 // A caller's list of names: pieces of some bytes, divided by newlines.
 #![tactic(auto)]
 
-ghost use Rattle.std.specs.Prelude.{◌≡◌, ◌≤◌, length};
+ghost use Rattle.std.specs.Prelude.{◌≡◌};
 ghost use Rattle.definitions.specs.Name.{eq_name};
 ghost use Rattle.definitions.specs.Text.{occurs};
 ghost use Rattle.definitions.specs.CallerNames.{names_in, well_formed};
-ghost use Rattle.caller_names.specs.Pieces.{NameEnd};
 
 use identifier::{NAME_LENGTH_LIMIT, is_name, same_name};
 
 // The byte between two names.
 const NEWLINE: u8 = 10;
-
-// Where the name that begins at `start` ends: at the next newline, or with the text.
-pub fn name_end(text: &[u8], start: usize) -> usize
-    requires { start ≤ length text.now }
-    ensures { NameEnd text.now start result }
-{
-    for i in start..text.len() {
-        if text[i] == NEWLINE {
-            return i;
-        }
-    }
-    text.len()
-}
 
 // Whether these bytes are a name of document 01.
 #[tactic(auto, unfolding(definitions::specs::CallerNames::well_formed, definitions::specs::Sheet::name_length_limit))]

@@ -1,127 +1,199 @@
--- How many names there are, as each of them is judged.
-use Prim.Native.Nat.{ℕ, ◌+◌, ◌≤◌, ◌<◌}
-use mathlib.Core.Path.{◌≡◌, refl, sym, ◌∙◌}
-use mathlib.Core.Bool.{Bool, true, false, ◌||◌, not, cond}
-use mathlib.Core.List.{List, [], ◌∷◌}
+-- How many names there are, as each of them is judged behind those before it.
+use Prim.Native.Nat.{ℕ, ◌≤◌, ◌<◌}
+use mathlib.Core.Path.{◌≡◌, refl, sym, ◌∙◌, ap, subst}
+use mathlib.Core.Bool.{Bool, true, false, ◌&&◌, ◌||◌, not}
+use mathlib.Core.List.{List, [], ◌∷◌, ◌++◌, append_assoc}
 use native.Mathlib.Omega.{arith}
-use lib.ListN.{length, drop}
+use lib.ListN.{length, length-append}
 use lib.Dec.{ltb}
-use borrow.Author.Tests.{lt-ltb}
+use lib.ListN.{length-map}
+use native.Mathlib.Decide.{dec_lt}
+use mathlib.Core.Logic.{by_cases}
+use mathlib.Core.List.{map, append-nil}
+use denote.Ref.{Bor}
+use lib.Dec.{eqb}
+use Rattle.std.proofs.lemmas.Iterator.{YieldsList}
+use Rattle.std.specs.Iterator.{AlwaysYields, Yields}
+use Rattle.std.specs.List.{slice_split}
+use Rattle.std.specs.Prelude.{Option}
+use Rattle.definitions.specs.CallerNames.{names_in}
+use Rattle.caller_names.proofs.Pieces.{names_pieces, no_names, pieces_split}
+use borrow.Author.Tests.{lt-ltb, le-ltb, ltb-false}
+use Rattle.std.specs.List.{list_any}
 use Rattle.std.specs.Prelude.{None, Some}
 use Rattle.definitions.specs.Name.{Name, eq_name}
 use Rattle.definitions.specs.Text.{occurs}
-use Rattle.definitions.specs.CallerNames.{pieces, names_in, well_formed, all_well_formed}
+use Rattle.definitions.specs.CallerNames.{well_formed, all_well_formed}
 use Rattle.definitions.specs.Exercises.{repeated, exercise_name_limit, bad_names}
-use Rattle.caller_names.specs.Pieces.{piece, Bounds, after, NameEnd}
-use Rattle.caller_names.proofs.Pieces.{after_last, after_more, names_pieces, no_names, some_piece}
-use Rattle.exercises.specs.Names.{Two, count_of}
+use Rattle.exercises.specs.Names.{names_of, with_name, count_of}
 
--- what a call answered, as the test after it tells
-pub told : {r t b : Bool} → r ≡ t → r ≡ b → t ≡ b
-told e h = sym e ∙ h
+formed_more : (names : List Name) (x : Name) → all_well_formed (with_name names x) ≡ (all_well_formed names && well_formed x)
+unfolding all_well_formed
+formed_more [] x = elim (well_formed x) as (λ t. (t && true) ≡ t) [ true ↦ refl | false ↦ refl ]
+formed_more (a ∷ names) x = rw (formed_more names x) (three (well_formed a) (all_well_formed names) (well_formed x))
+  where
+    three : (a b c : Bool) → (a && (b && c)) ≡ ((a && b) && c)
+    three true b c = refl
+    three false b c = refl
 
-by_form : (many twice : Bool) (count : ℕ) → cond (many || not false || twice) None (Some count) ≡ None
-by_form true twice count = refl
-by_form false twice count = refl
+occurs_more : (a : Name) (names : List Name) (x : Name) → occurs eq_name a (with_name names x) ≡ (occurs eq_name a names || eq_name a x)
+unfolding occurs
+occurs_more a [] x = elim (eq_name a x) as (λ t. (t || false) ≡ t) [ true ↦ refl | false ↦ refl ]
+occurs_more a (b ∷ names) x = rw (occurs_more a names x) (three (eq_name a b) (occurs eq_name a names) (eq_name a x))
+  where
+    three : (a b c : Bool) → (a || (b || c)) ≡ ((a || b) || c)
+    three true b c = refl
+    three false b c = refl
 
-by_repeat : (many good : Bool) (count : ℕ) → cond (many || not good || true) None (Some count) ≡ None
-by_repeat true good count = refl
-by_repeat false true count = refl
-by_repeat false false count = refl
+repeated_more : (names : List Name) (x : Name) → repeated (with_name names x) ≡ (repeated names || list_any (λ a. eq_name a x) names)
+unfolding repeated occurs
+repeated_more [] x = refl
+repeated_more (a ∷ names) x =
+    rw (occurs_more a names x, repeated_more names x)
+    (four (occurs eq_name a names) (eq_name a x) (repeated names) (list_any (λ b. eq_name b x) names))
+  where
+    four : (a b c d : Bool) → ((a || b) || (c || d)) ≡ ((a || c) || (b || d))
+    four true b c d = refl
+    four false true true d = refl
+    four false true false d = refl
+    four false false c d = refl
 
-malformed : (l : List Name) → all_well_formed l ≡ false → count_of l ≡ None
-unfolding count_of bad_names
-malformed l h = rw h (by_form (ltb exercise_name_limit (length l)) (repeated l) (length l))
+full : (names : List Name) (x : Name) → 3 ≤ length names → bad_names (with_name names x) ≡ true
+unfolding bad_names exercise_name_limit
+full names x h = rw (lt-ltb 3 (length (with_name names x)) (omega (arith, length-append names (x ∷ [])))) refl
 
-twice : (l : List Name) → repeated l ≡ true → count_of l ≡ None
-unfolding count_of bad_names
-twice l h = rw h (by_repeat (ltb exercise_name_limit (length l)) (all_well_formed l) (length l))
+malformed : (names : List Name) (x : Name) → well_formed x ≡ false → bad_names (with_name names x) ≡ true
+unfolding bad_names
+malformed names x h =
+    rw (formed_more names x, h) (go (ltb exercise_name_limit (length (with_name names x))) (all_well_formed names) (repeated (with_name names x)))
+  where
+    go : (many all twice : Bool) → (many || not (all && false) || twice) ≡ true
+    go true all twice = refl
+    go false true twice = refl
+    go false false twice = refl
 
-too_many : (l : List Name) → 3 < length l → count_of l ≡ None
-unfolding count_of bad_names exercise_name_limit
-too_many l h = rw (lt-ltb 3 (length l) h)
+parts : (many all twice : Bool) → (many || not all || twice) ≡ false → (all ≡ true) × (twice ≡ false)
+parts true all twice e = let z : ◌≡◌ {A = ℕ} 0 1 = cc in absurd (omega arith)
+parts false false twice e = let z : ◌≡◌ {A = ℕ} 0 1 = cc in absurd (omega arith)
+parts false true twice e = (refl, e)
+
+-- behind names that may be asked about there is room for one that differs from them
+judged : (names : List Name) (x : Name) → bad_names names ≡ false → length names < 3 → well_formed x ≡ true
+    → bad_names (with_name names x) ≡ list_any (λ a. eq_name a x) names
+unfolding bad_names exercise_name_limit
+judged names x good room formed =
+    let (all, once) = parts (ltb 3 (length names)) (all_well_formed names) (repeated names) good in
+    let few : length (with_name names x) ≤ 3 = omega (arith, length-append names (x ∷ [])) in
+    rw (le-ltb 3 (length (with_name names x)) few, formed_more names x, repeated_more names x, all, once, formed) refl
+
+still_bad : (names : List Name) (x : Name) → bad_names names ≡ true → bad_names (with_name names x) ≡ true
+unfolding bad_names exercise_name_limit
+still_bad names x bad = by_cases (dec_lt 3 (length names))
+    (λ many. full names x (omega arith))
+    (λ l.
+    let few : ltb 3 (length names) ≡ false = le-ltb 3 (length names) (omega arith) in
+    rw (formed_more names x, repeated_more names x)
+    (keep (ltb 3 (length (with_name names x))) (all_well_formed names) (well_formed x) (repeated names) (list_any (λ a. eq_name a x) names) (rw few at bad)))
+  where
+    keep : (many all formed twice again : Bool) → (not all || twice) ≡ true → (many || not (all && formed) || (twice || again)) ≡ true
+    keep true all formed twice again e = refl
+    keep false false formed twice again e = refl
+    keep false true true true again e = refl
+    keep false true false twice again e = refl
+    keep false true true false again e = let z : ◌≡◌ {A = ℕ} 0 1 = cc in absurd (omega arith)
+
+-- names that may not be asked about stay so, whatever follows them
+bad_front : (names rest : List Name) → bad_names names ≡ true → bad_names (names ++ rest) ≡ true
+bad_front names [] bad = rw append-nil bad
+bad_front names (x ∷ rest) bad = rw append_assoc at (bad_front (with_name names x) rest (still_bad names x bad))
+
+-- where a name may stand behind the names before it
+module _ (earlier : List (Bor (List ℕ))) (x : Name) (good : bad_names (names_of earlier) ≡ false) where
+  pub no_room : 3 ≤ length earlier → false ≡ not (bad_names (with_name (names_of earlier) x))
+  no_room h = rw (full (names_of earlier) x (omega (arith, length-map earlier (λ (a : Bor (List ℕ)). a.now)))) refl
+
+  pub no_name : well_formed x ≡ false → false ≡ not (bad_names (with_name (names_of earlier) x))
+  no_name h = rw (malformed (names_of earlier) x h) refl
+
+  pub judged_by : (r : Bool) → length earlier < 3 → well_formed x ≡ true → r ≡ list_any (λ (a : Bor (List ℕ)). eq_name a.now x) earlier
+      → not r ≡ not (bad_names (with_name (names_of earlier) x))
+  judged_by r room formed any =
+      rw (judged (names_of earlier) x good (omega (arith, length-map earlier (λ (a : Bor (List ℕ)). a.now))) formed, any, in_names earlier) refl
+    where
+      in_names : (slices : List (Bor (List ℕ))) → list_any (λ (a : Bor (List ℕ)). eq_name a.now x) slices ≡ list_any (λ a. eq_name a x) (names_of slices)
+      in_names [] = refl
+      in_names (a ∷ slices) = ap (λ t. eq_name a.now x || t) (in_names slices)
+
+-- what an iterator has given, what it gives next, and what it gave in all
+module _ {S A B : Type 0} (steps : S → Option A → S → Type 0) (v : A → B) where
+  fronts : (xs : List A) (all : List B) (s t : S) → AlwaysYields steps v s all → Yields steps s xs t
+      → (rest : List B) × (all ≡ map v xs ++ rest) × AlwaysYields steps v t rest
+  fronts [] all s t a y = (all, refl, subst (λ u. AlwaysYields steps v u all) y a)
+  fronts (x ∷ xs) [] s t a y = absurd (a x y.0 y.1)
+  fronts (x ∷ xs) (z ∷ all) s t a y =
+      let m = a.1 x y.0 y.1 in
+      let (rest, is, later) = fronts xs all y.0 t m.1 y.2 in
+      (rest, ap (λ b. b ∷ all) (sym m.0) ∙ ap (λ l. v x ∷ l) is, later)
+
+  more : (all : List B) (s u : S) (x : A) → AlwaysYields steps v s all → steps s (Some x) u → (rest : List B) × (all ≡ v x ∷ rest)
+  more [] s u x a y = absurd (a x u y)
+  more (z ∷ all) s u x a y = (all, ap (λ b. b ∷ all) (sym (a.1 x u y).0))
+
+  over : (given left : List B) (s u : S) → AlwaysYields steps v s left → steps s None u → given ++ left ≡ given
+  over given [] s u a y = append-nil given
+  over given (z ∷ left) s u a y = absurd (a.0 u y)
+
+  module _ (xs : List A) (all : List B) (s t u : S) (split : YieldsList steps v s all) (given : Yields steps s xs t) where
+    pub next_given : (x : A) → steps t (Some x) u → (rest : List B) × (all ≡ (map v xs ++ (v x ∷ [])) ++ rest)
+    next_given x z =
+        let (left, is, later) = fronts xs all s t split.runs given in
+        let (rest, begins) = more left t u x later z in
+        (rest, is ∙ (ap (λ l. map v xs ++ l) begins ∙ sym (append_assoc (map v xs) (v x ∷ []) rest)))
+
+    pub all_given : steps t None u → all ≡ map v xs
+    all_given z = let (left, is, later) = fronts xs all s t split.runs given in is ∙ over (map v xs) left t u later z
+
+-- the names of a text are the pieces that std cuts off at newlines
+pub names_split : (text : List ℕ) → (length text ≡ 0 → ⊥) → names_in text ≡ slice_split (λ b. eqb b 10) text
+names_split text some = names_pieces text some ∙ pieces_split text
 
 pub none : (text : List ℕ) → length text ≡ 0 → Some 0 ≡ count_of (names_in text)
 unfolding count_of bad_names exercise_name_limit all_well_formed repeated
-none text h = rw (no_names text h)
+none text h = rw (no_names text h) refl
 
--- the first name is one, and another follows
-pub record One (text : List ℕ) (first : ℕ) : Type 0 where
-  pub is : names_in text ≡ piece text 0 first ∷ pieces (drop (first + 1) text)
-  pub bounds : Bounds text 0 first
-  pub good : well_formed (piece text 0 first) ≡ true
+-- a front that may not be asked about
+pub refused : (text : List ℕ) (names rest : List Name) → names_in text ≡ names ++ rest → bad_names names ≡ true → None ≡ count_of (names_in text)
+unfolding count_of
+refused text names rest is bad = rw (is, bad_front names rest bad) refl
 
-module _ {text : List ℕ} where
-  module _ {first : ℕ} (some : length text ≡ 0 → ⊥) (f : NameEnd text 0 first) where
-    starts : names_in text ≡ piece text 0 first ∷ after text first
-    starts = rw (names_pieces text some) f.is
+-- names that may be asked about
+pub counted : (text : List ℕ) (slices : List (Bor (List ℕ))) (count : ℕ) → names_in text ≡ names_of slices → bad_names (names_of slices) ≡ false
+    → count ≡ length slices → Some count ≡ count_of (names_in text)
+unfolding count_of
+counted text slices count is good size = rw (is, good, size, length-map slices (λ (a : Bor (List ℕ)). a.now)) refl
 
-    pub bad_first : well_formed (piece text 0 first) ≡ false → None ≡ count_of (names_in text)
-    unfolding all_well_formed
-    bad_first bad = rw starts (sym (malformed (piece text 0 first ∷ after text first) (rw bad)))
+-- the verdict on a name behind the slices that are kept
+pub verdict : (kept read : List (Bor (List ℕ))) (x : Name) (r : Bool) → kept ≡ read → bad_names (names_of read) ≡ false
+    → (bad_names (names_of kept) ≡ false → r ≡ not (bad_names (with_name (names_of kept) x))) → bad_names (with_name (names_of read) x) ≡ not r
+verdict kept read x r same good judged =
+    turned (bad_names (with_name (names_of read) x)) r
+    (subst (λ (s : List (Bor (List ℕ))). bad_names (names_of s) ≡ false → r ≡ not (bad_names (with_name (names_of s) x))) same judged good)
+  where
+    turned : (b r : Bool) → r ≡ not b → b ≡ not r
+    turned true r h = rw h refl
+    turned false r h = rw h refl
 
-    pub one : well_formed (piece text 0 first) ≡ true → length text ≤ first → Some 1 ≡ count_of (names_in text)
-    unfolding count_of bad_names exercise_name_limit all_well_formed repeated occurs
-    one good h = rw (starts, after_last text first h, good)
+pub room : (read : List (Bor (List ℕ))) (x : Name) → bad_names (with_name (names_of read) x) ≡ false → length read < 3
+unfolding bad_names exercise_name_limit
+room read x good =
+    let names = with_name (names_of read) x in
+    let few = ltb-false 3 (length names) (first_fails (ltb 3 (length names)) (not (all_well_formed names)) (repeated names) good) in
+    omega (arith, few, length-append (names_of read) (x ∷ []), length-map read (λ (a : Bor (List ℕ)). a.now))
+  where
+    first_fails : (a b c : Bool) → (a || b || c) ≡ false → a ≡ false
+    first_fails true b c e = e
+    first_fails false b c e = refl
 
-  pub first_read : {first : ℕ} → (length text ≡ 0 → ⊥) → NameEnd text 0 first → well_formed (piece text 0 first) ≡ true → first < length text → One text first
-  first_read {first} some f good h = record { is = rw (starts some f, after_more text first h); bounds = f.bounds; good = good }
-
-  module _ {first second : ℕ} (o : One text first) (s : NameEnd text (first + 1) second) where
-    continues : names_in text ≡ piece text 0 first ∷ (piece text (first + 1) second ∷ after text second)
-    continues = rw (o.is, s.is)
-
-    pub bad_second : well_formed (piece text (first + 1) second) ≡ false → None ≡ count_of (names_in text)
-    unfolding all_well_formed
-    bad_second bad = rw continues (sym (malformed (piece text 0 first ∷ (piece text (first + 1) second ∷ after text second)) (rw (o.good, bad))))
-
-    pub same_two : eq_name (piece text 0 first) (piece text (first + 1) second) ≡ true → None ≡ count_of (names_in text)
-    unfolding repeated occurs
-    same_two same = rw continues (sym (twice (piece text 0 first ∷ (piece text (first + 1) second ∷ after text second)) (rw same)))
-
-    pub two : well_formed (piece text (first + 1) second) ≡ true → eq_name (piece text 0 first) (piece text (first + 1) second) ≡ false
-        → length text ≤ second → Some 2 ≡ count_of (names_in text)
-    unfolding count_of bad_names exercise_name_limit all_well_formed repeated occurs
-    two good differ h = rw (continues, after_last text second h, o.good, good, differ)
-
-  pub second_read : {first second : ℕ} → One text first → NameEnd text (first + 1) second → well_formed (piece text (first + 1) second) ≡ true
-      → eq_name (piece text 0 first) (piece text (first + 1) second) ≡ false → second < length text → Two text first second
-  second_read {second = second} o s good differ h = record {
-    is = rw (continues o s, after_more text second h);
-    bounds = o.bounds;
-    bounds_too = s.bounds;
-    good = o.good;
-    good_too = good;
-    differ = differ;
-    more = h;
-  }
-
-  module _ {first second third : ℕ} (t : Two text first second) (e : NameEnd text (second + 1) third) where
-    ends : names_in text ≡ piece text 0 first ∷ (piece text (first + 1) second ∷ (piece text (second + 1) third ∷ after text third))
-    ends = rw (t.is, e.is)
-
-    pub many : third < length text → None ≡ count_of (names_in text)
-    many h =
-        let more : 0 < length (after text third) = rw (after_more text third h) (some_piece (drop (third + 1) text)) in
-        rw ends (sym (too_many (piece text 0 first ∷ (piece text (first + 1) second ∷ (piece text (second + 1) third ∷ after text third))) (omega arith)))
-
-    module _ (h : length text ≤ third) where
-      all : names_in text ≡ piece text 0 first ∷ (piece text (first + 1) second ∷ (piece text (second + 1) third ∷ []))
-      all = rw (ends, after_last text third h)
-
-      pub bad_third : well_formed (piece text (second + 1) third) ≡ false → None ≡ count_of (names_in text)
-      unfolding all_well_formed
-      bad_third bad = rw all (sym (malformed (piece text 0 first ∷ (piece text (first + 1) second ∷ (piece text (second + 1) third ∷ []))) (rw (t.good, t.good_too, bad))))
-
-      pub same_outer : eq_name (piece text 0 first) (piece text (second + 1) third) ≡ true → None ≡ count_of (names_in text)
-      unfolding repeated occurs
-      same_outer same = rw all (sym (twice (piece text 0 first ∷ (piece text (first + 1) second ∷ (piece text (second + 1) third ∷ []))) (rw (t.differ, same))))
-
-      module _ (apart : eq_name (piece text 0 first) (piece text (second + 1) third) ≡ false) where
-        pub same_last : eq_name (piece text (first + 1) second) (piece text (second + 1) third) ≡ true → None ≡ count_of (names_in text)
-        unfolding repeated occurs
-        same_last same = rw all (sym (twice (piece text 0 first ∷ (piece text (first + 1) second ∷ (piece text (second + 1) third ∷ []))) (rw (t.differ, apart, same))))
-
-        pub three : well_formed (piece text (second + 1) third) ≡ true → eq_name (piece text (first + 1) second) (piece text (second + 1) third) ≡ false → Some 3 ≡ count_of (names_in text)
-        unfolding count_of bad_names exercise_name_limit all_well_formed repeated occurs
-        three good differ = rw (all, t.good, t.good_too, good, t.differ, apart, differ)
+pub names_more : (read : List (Bor (List ℕ))) (x : Bor (List ℕ)) → names_of (read ++ (x ∷ [])) ≡ with_name (names_of read) x.now
+names_more [] x = refl
+names_more (a ∷ read) x = ap (λ l. a.now ∷ l) (names_more read x)

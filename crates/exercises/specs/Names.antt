@@ -1,19 +1,17 @@
--- How many of a caller's names there are.
-use Rattle.std.specs.Prelude.{ℕ, ◌+◌, ◌<◌, ◌≡◌, true, false, cond, List, ◌∷◌, length, drop, Option, None, Some}
-use Rattle.definitions.specs.Name.{Name, eq_name}
-use Rattle.definitions.specs.CallerNames.{pieces, names_in, well_formed}
+-- A caller's names, those that were read, and how many there are.
+use Rattle.std.specs.Prelude.{ℕ, cond, List, [], ◌∷◌, ◌++◌, length, Option, None, Some}
+use denote.Ref.{Bor}
+use mathlib.Core.List.{map}
+use Rattle.definitions.specs.Name.{Name}
 use Rattle.definitions.specs.Exercises.{bad_names}
-use Rattle.caller_names.specs.Pieces.{piece, Bounds}
 
--- the first two are names, they differ, and another follows
-pub record Two (text : List ℕ) (first second : ℕ) : Type 0 where
-  pub is : names_in text ≡ piece text 0 first ∷ (piece text (first + 1) second ∷ pieces (drop (second + 1) text))
-  pub bounds : Bounds text 0 first
-  pub bounds_too : Bounds text (first + 1) second
-  pub good : well_formed (piece text 0 first) ≡ true
-  pub good_too : well_formed (piece text (first + 1) second) ≡ true
-  pub differ : eq_name (piece text 0 first) (piece text (first + 1) second) ≡ false
-  pub more : second < length text
+-- the names that some slices are
+abbrev pub names_of : List (Bor (List ℕ)) → List Name
+names_of slices = map (λ slice. slice.now) slices
+
+-- one more, behind them
+abbrev pub with_name : List Name → Name → List Name
+with_name names name = names ++ (name ∷ [])
 
 -- how many names there are, if they are names that may be asked about
 unfoldable pub count_of : List Name → Option ℕ

@@ -1,31 +1,26 @@
 // A caller's names: pieces of some bytes, divided by newlines.
-ghost use Rattle.std.specs.Prelude.{◌≡◌};
+ghost use Rattle.std.specs.Prelude.{◌≡◌, not, false};
 ghost use Rattle.definitions.specs.CallerNames.{names_in};
-ghost use Rattle.exercises.specs.Names.{Two, count_of};
+ghost use Rattle.definitions.specs.Exercises.{bad_names};
+ghost use Rattle.exercises.specs.Names.{names_of, with_name, count_of};
 
-use caller_names::{name_end, well_formed};
+use caller_names::well_formed;
 use identifier::same_name;
 
-// Three, if the last of three names is one and differs from both before it.
-fn third_name(text: &[u8], first: usize, second: usize) -> Option<usize>
-    requires { Two text.now first second }
-    ensures { result ≡ count_of (names_in text.now) }
+// At most so many names.
+const NAME_LIMIT: usize = 3;
+
+// Whether a name may stand behind those before it: there is room for it, it is one, and it differs from all of them.
+fn may_follow(earlier: &[&[u8]], name: &[u8]) -> bool
+    ensures { bad_names (names_of earlier.now) ≡ false → result ≡ not (bad_names (with_name (names_of earlier.now) name.now)) }
 {
-    let third = name_end(text, second + 1);
-    if third < text.len() {
-        return None;
+    if NAME_LIMIT <= earlier.len() {
+        return false;
     }
-    let name = &text[second + 1..third];
     if !well_formed(name) {
-        return None;
+        return false;
     }
-    if same_name(&text[0..first], name) {
-        return None;
-    }
-    if same_name(&text[first + 1..second], name) {
-        return None;
-    }
-    Some(3)
+    !earlier.iter().any(|other| same_name(other, name))
 }
 
 // How many names there are; none, if they are more than three, repeated or malformed.
@@ -35,22 +30,14 @@ pub fn count_names(text: &[u8]) -> Option<usize>
     if text.is_empty() {
         return Some(0);
     }
-    let first = name_end(text, 0);
-    if !well_formed(&text[0..first]) {
-        return None;
+    let mut names = [text; NAME_LIMIT];
+    let mut count = 0;
+    for name in text.split(|b| *b == b'\n') {
+        if !may_follow(&names[..count], name) {
+            return None;
+        }
+        names[count] = name;
+        count += 1;
     }
-    if first == text.len() {
-        return Some(1);
-    }
-    let second = name_end(text, first + 1);
-    if !well_formed(&text[first + 1..second]) {
-        return None;
-    }
-    if same_name(&text[0..first], &text[first + 1..second]) {
-        return None;
-    }
-    if second == text.len() {
-        return Some(2);
-    }
-    third_name(text, first, second)
+    Some(count)
 }

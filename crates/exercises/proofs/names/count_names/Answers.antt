@@ -1,57 +1,61 @@
--- The first two names are read one after the other. What is known of those before is said once, at the place after them.
-use mathlib.Core.Path.{◌≡◌}
+-- The text is cut at its newlines, and each piece is judged behind those before it.
+use mathlib.Core.Path.{◌≡◌, refl, ap, ◌∙◌}
+use mathlib.Core.Bool.{false}
+use mathlib.Core.List.{[], ◌∷◌, ◌++◌}
+use Prim.Native.Nat.{◌<◌}
 use native.Mathlib.Omega.{arith}
-use lib.ListN.{length}
-use borrow.Author.Tests.{eqb-true, eqb-false}
-use Rattle.exercises.proofs.Counting.{told, none, bad_first, one, One, first_read, bad_second, same_two, two, second_read}
-use Rattle.exercises.specs.Names.{Two}
+use native.Mathlib.Numerals.{add-one}
+use lib.Dec.{eqb}
+use lib.ListN.{length, length-append}
+use borrow.Author.Rules.{rules}
+use borrow.Author.Tests.{tests}
+use Rattle.std.proofs.Math.Seq.{take-suc-set}
+use Rattle.std.proofs.lemmas.Iterator.Splits.{YieldsList-from_slice_split}
+use Rattle.definitions.specs.CallerNames.{all_well_formed}
+use Rattle.definitions.specs.Exercises.{repeated, exercise_name_limit, bad_names}
+use Rattle.exercises.proofs.Counting.{next_given, all_given, names_split, none, refused, counted, verdict, room, names_more}
+use Rattle.exercises.specs.Names.{names_of, with_name}
 use Rattle.exercises.proofs.names.count_names.Goals as goal
-use Rattle.exercises.proofs.names.count_names.Goals.{Else-is_empty, Else-first-text, Else-second-text}
-
--- there is some text
-some : (c : Else-is_empty) → length c.args.text.now ≡ 0 → ⊥
-some c = eqb-false _ _ (told c.is_empty.ensures c.if-is_empty.false)
-
--- past the first name, and past the second
-one_read : (c : Else-first-text) → One c.args.text.now c.name_end-first.result
-one_read c =
-    first_read (some (goal.at.Else-first-text c).Else-is_empty) c.name_end-first.ensures (told c.well_formed-2.ensures c.if-not-well_formed.false)
-    (omega (arith, c.name_end-first.ensures.bounds.inside, c.if-first-text.false))
-
-two_read : (c : Else-second-text) → Two c.args.text.now c.name_end-first.result c.name_end-second.result
-two_read c =
-    second_read (one_read (goal.at.Else-second-text c).Else-first-text) c.name_end-second.ensures
-    (told c.well_formed-3.ensures c.if-not-well_formed-2.false)
-    (told c.same_name.ensures c.if-same_name.false)
-    (omega (arith, c.name_end-second.ensures.bounds.inside, c.if-second-text.false))
+use Rattle.exercises.proofs.names.count_names.Goals.{Else-not-may_follow}
 
 pub returns-then-is_empty : goal.returns-then-is_empty
-returns-then-is_empty c = none _ (eqb-true _ _ (told c.is_empty.ensures c.if-is_empty.true))
+returns-then-is_empty c = none _ (search rules)
 
-pub returns-then-not-well_formed : goal.returns-then-not-well_formed
-returns-then-not-well_formed c =
-    bad_first (some (goal.at.returns-then-not-well_formed c).Else-is_empty) c.name_end-first.ensures (told c.well_formed-2.ensures c.if-not-well_formed.true)
+pub loop-name-init : goal.loop-name-init
+unfolding bad_names exercise_name_limit all_well_formed repeated
+loop-name-init c = record { all = refl; kept = refl; good = refl; few = omega arith }
 
-pub returns-then-first-text : goal.returns-then-first-text
-returns-then-first-text c =
-    one (some (goal.at.returns-then-first-text c).Else-is_empty) c.name_end-first.ensures (told c.well_formed-2.ensures c.if-not-well_formed.false) (omega (arith, c.if-first-text.true))
+pub returns-then-not-may_follow : goal.returns-then-not-may_follow
+returns-then-not-may_follow c =
+    let l = c.loop-name in
+    let split = YieldsList-from_slice_split _ (λ b. eqb b 10) c.args.text.now (search rules) (search rules) (search rules) (λ x b q k. search (rules, tests)) in
+    let (rest, is) = next_given _ _ _ _ _ _ c.next.new.self split l.yielded_by c.in-Some.name c.in-Some.ensures.steps in
+    refused c.args.text.now _ rest (names_split _ (search rules) ∙ is)
+    (rw c.if-not-may_follow.true at (verdict _ _ _ _ l.invariant.kept l.invariant.good c.may_follow.ensures))
 
-pub returns-then-not-well_formed-2 : goal.returns-then-not-well_formed-2
-returns-then-not-well_formed-2 c = bad_second (one_read (goal.at.returns-then-not-well_formed-2 c).Else-first-text) c.name_end-second.ensures (told c.well_formed-3.ensures c.if-not-well_formed-2.true)
+-- the verdict on the piece, where it may follow
+follows : (c : Else-not-may_follow) → bad_names (with_name (names_of c.loop-name.yielded) c.in-Some.name.now) ≡ false
+follows c =
+    let l = c.loop-name in
+    rw c.if-not-may_follow.false at (verdict _ _ _ _ l.invariant.kept l.invariant.good c.may_follow.ensures)
 
-pub returns-then-same_name : goal.returns-then-same_name
-returns-then-same_name c =
-    same_two (one_read (goal.at.returns-then-same_name c).Else-first-text) c.name_end-second.ensures (told c.same_name.ensures c.if-same_name.true)
+pub bounds-names-count : goal.bounds-names-count
+bounds-names-count c = omega (arith, room _ _ (follows c), c.loop-name.invariant.all)
 
-pub returns-then-second-text : goal.returns-then-second-text
-returns-then-second-text c =
-    two (one_read (goal.at.returns-then-second-text c).Else-first-text) c.name_end-second.ensures
-    (told c.well_formed-3.ensures c.if-not-well_formed-2.false)
-    (told c.same_name.ensures c.if-same_name.false)
-    (omega (arith, c.if-second-text.true))
-
-pub third_name-requires : goal.third_name-requires
-third_name-requires c = two_read c
+pub loop-name-preserved : goal.loop-name-preserved
+loop-name-preserved c =
+    let l = c.loop-name in
+    let fits = room _ _ (follows c) in
+    let within : l.count < length l.names = omega (arith, fits, l.invariant.all) in
+    record {
+      all = omega (arith, l.invariant.all, length-append l.yielded (c.in-Some.name ∷ []));
+      kept = rw add-one (take-suc-set l.names l.count c.in-Some.name within ∙ ap (λ s. s ++ (c.in-Some.name ∷ [])) l.invariant.kept);
+      good = rw names_more (follows c);
+      few = omega (arith, fits, l.invariant.all);
+    }
 
 pub returns : goal.returns
-returns c = c.third_name.ensures
+returns c =
+    let l = c.loop-name in
+    let split = YieldsList-from_slice_split _ (λ b. eqb b 10) c.args.text.now (search rules) (search rules) (search rules) (λ x b q k. search (rules, tests)) in
+    counted c.args.text.now l.yielded l.count (names_split _ (search rules) ∙ all_given _ _ _ _ _ _ c.next.new.self split l.yielded_by c.in-None.ensures.steps) l.invariant.good l.invariant.all
