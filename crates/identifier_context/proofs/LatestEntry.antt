@@ -7,21 +7,28 @@ use mathlib.Core.List.{List}
 use native.Mathlib.Omega.{arith}
 use Rattle.definitions.specs.IdentifierContext.{len, latest, without_latest}
 use Rattle.definitions.specs.IdentifierContext as definition
+use Rattle.search.specs.Highest.{highest}
 use Rattle.identifier_context.specs.Memory.{entry_of, entry_at, context_of}
 use Rattle.identifier_context.specs.Promises.{latest_at, entry_found}
 use Rattle.identifier_context.proofs.Contexts.{context_length, context_same}
 
 module _ (wanted : definition.Entry → Bool) (entries : List ℕ) where
   -- the search passes an entry that the test refuses
-  pub search_passes : {i j : ℕ} → i ≡ suc j → wanted (entry_of (entry_at entries j)) ≡ false
+  search_passes : {i j : ℕ} → i ≡ suc j → wanted (entry_of (entry_at entries j)) ≡ false
       → latest_at wanted (context_of entries i) ≡ latest_at wanted (context_of entries j)
   unfolding latest_at context_of
   search_passes here e = rw (here, context_of, e)
 
   -- and ends at one that it admits
-  pub search_ends : {i j : ℕ} → i ≡ suc j → wanted (entry_of (entry_at entries j)) ≡ true → latest_at wanted (context_of entries i) ≡ Some j
+  search_ends : {i j : ℕ} → i ≡ suc j → wanted (entry_of (entry_at entries j)) ≡ true → latest_at wanted (context_of entries i) ≡ Some j
   unfolding latest_at context_of len
   search_ends {j} here e = rw (here, context_of, e, context_length entries j)
+
+  -- its index is the highest whose entry the test admits
+  pub latest_highest : (n : ℕ) → highest (λ i. wanted (entry_of (entry_at entries i))) n ≡ latest_at wanted (context_of entries n)
+  unfolding highest latest_at context_of len
+  latest_highest zero = refl
+  latest_highest (suc n) = rw (context_length entries n, latest_highest n) refl
 
   -- the search among so many entries, with the index that it finds
   pub data Search : ℕ → Option ℕ → Type 0 where

@@ -15,9 +15,10 @@ use Rattle.definitions.specs.Name.{Name}
 use Rattle.definitions.specs.Text.{occurs, firsts_after}
 use Rattle.definitions.specs.IdentifierContext.{len, same_name}
 use Rattle.definitions.specs.IdentifierContext as definition
+use Rattle.search.specs.Highest.{highest}
 use Rattle.identifier_context.specs.declared.Lookup.TheVariants.{ByName}
 use Rattle.identifier_context.specs.Memory.{name_at, entry_of, entry_at, context_of}
-use Rattle.identifier_context.specs.Promises.{latest_at, admitted, is_visible, visible_before, latest_visible}
+use Rattle.identifier_context.specs.Promises.{latest_at, admitted, is_visible, visible_before, visible_from, latest_visible, Shows}
 use Rattle.identifier_context.proofs.Firsts.{listed, same_self, passed_over}
 use Rattle.identifier_context.proofs.Contexts.{context_length}
 use Rattle.identifier_context.proofs.LatestEntry.{Search, over, passes, ends, searched}
@@ -88,38 +89,51 @@ module _ (name_of : ℕ → Name) (entries : List ℕ) where
       rw (context_length entries n, dropped n (n - i) (omega arith), back)
 
   -- before the oldest entry there is nothing to list
-  pub visible_none : (n : ℕ) → visible_before name_of (context_of entries n) 0 ≡ []
+  visible_none : (n : ℕ) → visible_before name_of (context_of entries n) 0 ≡ []
   unfolding context_of firsts_after
   visible_none n = visible_before_lem n 0 (omega arith)
 
   -- and past the latest there is no more
-  pub visible_within : (n i : ℕ) → visible_before name_of (context_of entries n) i ≡ visible_before name_of (context_of entries n) (min i n)
+  visible_within : (n i : ℕ) → visible_before name_of (context_of entries n) i ≡ visible_before name_of (context_of entries n) (min i n)
   unfolding visible_before len
   visible_within n i =
       let past : n - i ≡ n - min i n = omega arith in
       rw (context_length entries n, past)
 
-  -- the search for a visible entry passes one that is hidden, and ends at one that is not
-  pub passes_hidden : (n : ℕ) {i j : ℕ} → i ≡ suc j → is_visible name_of entries n j ≡ false
-      → latest_visible name_of entries n i ≡ latest_visible name_of entries n j
-  unfolding latest_visible
-  passes_hidden n here hidden = rw (here, hidden)
-
-  pub ends_shown : (n : ℕ) {i j : ℕ} → i ≡ suc j → is_visible name_of entries n j ≡ true → latest_visible name_of entries n i ≡ Some j
-  unfolding latest_visible
-  ends_shown n here shown = rw (here, shown)
-
   -- an entry that is hidden is passed over, and one that is visible is the next
-  pub visible_passed : (n : ℕ) {i j : ℕ} → i ≡ suc j → j < n → is_visible name_of entries n j ≡ false
+  visible_passed : (n : ℕ) {i j : ℕ} → i ≡ suc j → j < n → is_visible name_of entries n j ≡ false
       → visible_before name_of (context_of entries n) i ≡ visible_before name_of (context_of entries n) j
   unfolding is_visible context_of entry_in later
   visible_passed n {j} here h hidden =
       rw (here, visible_before_lem n (suc j) h, visible_before_lem n j (omega arith), later_more n j h)
       (passed_over name_of (later n (suc j)) (entry_in j) (context_of entries j) (not-false _ hidden))
 
-  pub visible_listed : (n : ℕ) {i j : ℕ} → i ≡ suc j → j < n → is_visible name_of entries n j ≡ true
+  visible_listed : (n : ℕ) {i j : ℕ} → i ≡ suc j → j < n → is_visible name_of entries n j ≡ true
       → visible_before name_of (context_of entries n) i ≡ entry_of (entry_at entries j) ∷ visible_before name_of (context_of entries n) j
   unfolding is_visible context_of entry_in later
   visible_listed n {j} here h shown =
       rw (here, visible_before_lem n (suc j) h, visible_before_lem n j (omega arith), later_more n j h)
       (listed (same_name name_of) (later n (suc j)) (entry_in j) (context_of entries j) (not-true _ shown))
+
+  -- the latest visible index is the highest at which an entry is visible
+  pub visible_highest : (n i : ℕ) → highest (is_visible name_of entries n) i ≡ latest_visible name_of entries n i
+  unfolding highest latest_visible
+  visible_highest n zero = refl
+  visible_highest n (suc i) = rw (visible_highest n i) refl
+
+  shown_from : (n i : ℕ) → i ≤ n → visible_from name_of entries n (latest_visible name_of entries n i) ≡ visible_before name_of (context_of entries n) i
+  unfolding latest_visible visible_from
+  shown_from n zero h = sym (visible_none n)
+  shown_from n (suc i) h = go (is_visible name_of entries n i) refl (shown_from n i (omega arith))
+    where
+      go : (t : Bool) → is_visible name_of entries n i ≡ t
+          → visible_from name_of entries n (latest_visible name_of entries n i) ≡ visible_before name_of (context_of entries n) i
+          → visible_from name_of entries n (latest_visible name_of entries n (suc i)) ≡ visible_before name_of (context_of entries n) (suc i)
+      go true shown before = rw shown (sym (visible_listed n refl (omega arith) shown))
+      go false hidden before = rw hidden (before ∙ sym (visible_passed n refl (omega arith) hidden))
+
+  -- its entry is what is listed next
+  pub shows : (n before : ℕ) {r : Option ℕ} → r ≡ highest (is_visible name_of entries n) (min before n) → Shows name_of entries n before r
+  shows n before found =
+      let index = found ∙ visible_highest n (min before n) in
+      record { index = index; listed = rw index (shown_from n (min before n) (omega arith) ∙ sym (visible_within n before)) }

@@ -12,6 +12,7 @@ ghost use Rattle.identifier_context.specs.Promises.{Inserts, Finds, Removes, nam
 
 use definitions::{Reason, Refusal};
 use identifier::same_bytes;
+use search::highest;
 
 // The numbers of an entry.
 pub const ENTRY_SIZE: usize = 4;
@@ -102,12 +103,7 @@ fn find(entries: &[u16], len: usize, names: Names, lookup: Lookup) -> Option<usi
         × NameWithin names.pairs.now names.text.now (name_asked lookup) }
     ensures { Finds (marked names.entry.pairs.now names.entry.text.now) lookup entries.now len result }
 {
-    for i in (0..len).rev() {
-        if admits(entries, i, names, lookup) {
-            return Some(i);
-        }
-    }
-    None
+    highest(len, |i| admits(entries, i, names, lookup))
 }
 
 // The lookups and the removals, by a name and by a name and an id, are the four operations of the Rust: each is its own function there.
@@ -205,10 +201,5 @@ pub fn next_visible(entries: &[u16], len: usize, names: Names, before: usize) ->
     requires { Holds names.pairs.now names.text.now entries.now len }
     ensures { Shows (marked names.entry.pairs.now names.entry.text.now) entries.now len before result }
 {
-    for i in (0..before.min(len)).rev() {
-        if is_visible(entries, len, names, i) {
-            return Some(i);
-        }
-    }
-    None
+    highest(before.min(len), |i| is_visible(entries, len, names, i))
 }

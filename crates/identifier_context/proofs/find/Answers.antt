@@ -1,29 +1,24 @@
--- Each entry that the search passes is none that the lookup admits, and the one that it meets is the latest.
-use mathlib.Core.Path.{◌≡◌, sym, ◌∙◌}
+-- The highest index whose entry the lookup admits is that of the latest such entry.
+use Prim.Native.Nat.{◌+◌, ◌*◌, ◌≤◌}
+use mathlib.Core.Path.{◌∙◌}
 use native.Mathlib.Omega.{arith}
-use Rattle.identifier_context.specs.Memory.{context_of}
-use Rattle.identifier_context.specs.Promises.{latest_at}
-use Rattle.identifier_context.proofs.LatestEntry.{search_passes, search_ends}
+use lib.ListN.{length}
+use borrow.Author.Rules.{rules}
+use Rattle.definitions.specs.Sheet.{marked}
+use Rattle.identifier_context.specs.Memory.{entry_size, entry_of, entry_at}
+use Rattle.identifier_context.specs.Promises.{admitted}
+use Rattle.identifier_context.proofs.LatestEntry.{latest_highest}
 use Rattle.identifier_context.proofs.Lookups.{finds}
 use Rattle.identifier_context.proofs.find.Goals as goal
 
-pub admits-requires : goal.admits-requires
-admits-requires c =
+pub highest-requires : goal.highest-requires
+highest-requires c = λ k below.
     let holds = c.requires.0 in
-    (omega (arith, holds.present), holds.named _ (omega arith), c.requires.1)
-
-pub returns-then-admits : goal.returns-then-admits
-returns-then-admits c =
-    let admitted = sym c.admits.ensures ∙ c.if-admits.true in
-    finds (sym (c.loop-i.invariant ∙ search_ends _ _ (omega arith) admitted))
-
-pub loop-i-preserved : goal.loop-i-preserved
-loop-i-preserved c =
-    let passed = sym c.admits.ensures ∙ c.if-admits.false in
-    c.loop-i.invariant ∙ search_passes _ _ (omega arith) passed
+    let present : entry_size * (k + 1) ≤ length c.args.entries.now = omega (arith, holds.present) in
+    let named = holds.named k below in
+    search (rules, present, named)
 
 pub returns : goal.returns
-unfolding latest_at context_of
 returns c =
-    let none_left : c.loop-i.i ≡ 0 = omega arith in
-    finds (sym (rw none_left at c.loop-i.invariant))
+    let wanted = admitted (marked c.args.names.pairs.now c.args.names.text.now) c.args.lookup in
+    finds (c.highest.ensures (λ i. wanted (entry_of (entry_at c.args.entries.now i))) (λ k r below called. search rules) ∙ latest_highest wanted c.args.entries.now c.args.len)
