@@ -9,7 +9,6 @@ use native.Mathlib.Nat.{add-zero}
 use lib.ListN.{length, get_or}
 use lib.Seq.{sets, length-sets}
 use lib.Dec.{leb}
-use borrow.Rule.Slice.PartMut.{put_mid}
 use borrow.Author.Tests.{leb-false, le-leb, lt-leb}
 use Rattle.definitions.specs.Outcome.{accepted, ◌>>=◌, refuse, refuse_if}
 use Rattle.definitions.specs.IdentifierContext.{IdentifierContext, len}
@@ -19,7 +18,7 @@ use Rattle.std.specs.Prelude.{Err, Ok}
 use Rattle.number.specs.Pairs.{NameWithin}
 use Rattle.identifier_context.specs.Memory.{entry_size, name_at, entry_at, context_of, Holds}
 use Rattle.identifier_context.specs.Promises.{numbers_of, memory_after, context_after, Inserts}
-use Rattle.identifier_context.proofs.Stores.{sets_before, sets_in, put_mid_sets}
+use Rattle.identifier_context.proofs.Stores.{sets_before, sets_in}
 use Rattle.identifier_context.proofs.Contexts.{context_length, entry_same, context_same}
 
 -- past the room nothing is stored
@@ -61,14 +60,9 @@ module _ (before : List ℕ) (n : ℕ) (e : Entry) (room : n < length before / e
       let others = stored_others in
       record { memory = refl; context = rw (context_length before n, lt-leb _ _ room) (cc) }
 
-  -- the numbers may be written at once
-  pub inserts_entry : {size : ℕ} {part : List ℕ} → size ≡ entry_size → part ≡ numbers_of e
-      → Inserts before (put_mid (entry_size * n) size before part) n e (Ok (suc n))
+  pub inserts_sets : Inserts before (sets before (entry_size * n) (numbers_of e)) n e (Ok (suc n))
   unfolding stored
-  inserts_entry {size} {part} whole written =
-      let together : put_mid (entry_size * n) (length (numbers_of e)) before (numbers_of e) ≡ stored =
-      put_mid_sets (entry_size * n) before (numbers_of e) (omega arith) in
-      rw (written, whole, together) inserts_stored
+  inserts_sets = inserts_stored
 
   -- the entries are there, and their names
   stored_holds : {pairs text : List ℕ} → Holds pairs text before n → NameWithin pairs text e.name → Holds pairs text stored (suc n)

@@ -7,3 +7,4 @@ pub mod Removal
 pub mod Firsts
 pub mod Visibility
 pub mod Laws
+pub mod Lent

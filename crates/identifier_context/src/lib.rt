@@ -1,6 +1,5 @@
 // The name context, after the Rust's identifier_context.rs, in lent memory: four numbers for each entry, the oldest entry first.
-// Names are numbers of the sheet, and equal where their bytes are. The caller keeps the count of entries, and lends the memory to a
-// lookup for reading and to a change for writing: a struct that held the memory with its count would serve only one of the two.
+// Names are numbers of the sheet, and equal where their bytes are.
 #![tactic(auto)]
 
 ghost use Rattle.std.specs.Prelude.{◌≡◌, ◌+◌, ◌-◌, ◌*◌, ◌≤◌, ◌<◌, length};
@@ -8,7 +7,9 @@ ghost use Rattle.definitions.specs.Name.{eq_name};
 ghost use Rattle.definitions.specs.Sheet.{marked};
 ghost use Rattle.number.specs.Pairs.{NameWithin};
 ghost use Rattle.identifier_context.specs.Memory.{Holds, entry_size, name_at, entry_of, entry_at};
-ghost use Rattle.identifier_context.specs.Promises.{Inserts, Finds, Removes, name_asked, admitted, closed, is_visible, Shows};
+ghost use Rattle.identifier_context.specs.Promises.{numbers_of, Finds, name_asked, admitted, closed, is_visible, Shows};
+ghost use Rattle.identifier_context.specs.Lent.{name_in, IsNamed, IsHeld, InsertsInto, RemovesFrom};
+ghost use Rattle.std.proofs.lemmas.List.Edits.{sets};
 
 use definitions::{Reason, Refusal};
 use identifier::same_bytes;
@@ -54,152 +55,143 @@ pub enum Lookup {
     ByIdentifier(u16, u16),
 }
 
-// Makes an entry the latest, unless the lent memory has no room for it.
-pub fn insert(entries: &mut [u16], len: usize, entry: Entry) -> Result<usize, Refusal>
-    ensures { Inserts entries.old entries.new len entry result }
+// Stores the four numbers of an entry, from a place on.
+fn store(entries: &mut [u16], at: usize, entry: Entry)
+    requires { at + entry_size ≤ length entries.old }
+    ensures { entries.new ≡ sets entries.old at (numbers_of entry) }
 {
-    if entries.len() / ENTRY_SIZE <= len {
-        return Err(Reason::Room.at(0));
-    }
-    let at = ENTRY_SIZE * len;
     entries[at..at + ENTRY_SIZE].copy_from_slice(&[entry.name, entry.id, entry.kind, entry.number]);
-    Ok(len + 1)
 }
 
-// The entry of an index.
-#[tactic(auto, unfolding(crate::specs::Memory::entry_at, crate::specs::Memory::name_at))]
-pub fn entry_at(entries: &[u16], i: usize) -> Entry
-    requires { entry_size * (i + 1) ≤ length entries.now }
-    ensures { result ≡ entry_at entries.now i }
-{
-    let at = ENTRY_SIZE * i;
-    Entry {
-        name: entries[at],
-        id: entries[at + 1],
-        kind: entries[at + 2],
-        number: entries[at + 3],
-    }
-}
-
-// Whether a lookup admits the entry of an index.
-#[tactic(auto, using(crate::proofs::Lookups::admits_name), unfolding(crate::specs::Memory::entry_at))]
-fn admits(entries: &[u16], i: usize, names: Names, lookup: Lookup) -> bool
-    requires { (entry_size * (i + 1) ≤ length entries.now)
-        × NameWithin names.pairs.now names.text.now (name_at entries.now i)
-        × NameWithin names.pairs.now names.text.now (name_asked lookup) }
-    ensures { result ≡ admitted (marked names.entry.pairs.now names.entry.text.now) lookup
-        (entry_of (entry_at entries.now i)) }
-{
-    let entry = entry_at(entries, i);
-    match lookup {
-        Lookup::ByName(name) => names.same(name, entry.name),
-        Lookup::ByIdentifier(name, id) => id == entry.id && names.same(name, entry.name),
-    }
-}
-
-// The index of the latest entry that a lookup admits.
-fn find(entries: &[u16], len: usize, names: Names, lookup: Lookup) -> Option<usize>
-    requires { Holds names.pairs.now names.text.now entries.now len
-        × NameWithin names.pairs.now names.text.now (name_asked lookup) }
-    ensures { Finds (marked names.entry.pairs.now names.entry.text.now) lookup entries.now len result }
-{
-    highest(len, |i| admits(entries, i, names, lookup))
-}
-
-// The lookups and the removals, by a name and by a name and an id, are the four operations of the Rust: each is its own function there.
-
-// The index of the latest entry of a name.
-pub fn get_by_name(entries: &[u16], len: usize, names: Names, name: u16) -> Option<usize>
-    requires { Holds names.pairs.now names.text.now entries.now len
-        × NameWithin names.pairs.now names.text.now name }
-    ensures { Finds (marked names.entry.pairs.now names.entry.text.now) (Lookup.ByName name)
-        entries.now len result }
-{
-    find(entries, len, names, Lookup::ByName(name))
-}
-
-// The index of the latest entry of a name and an id.
-pub fn get(entries: &[u16], len: usize, names: Names, name: u16, id: u16) -> Option<usize>
-    requires { Holds names.pairs.now names.text.now entries.now len
-        × NameWithin names.pairs.now names.text.now name }
-    ensures { Finds (marked names.entry.pairs.now names.entry.text.now) (Lookup.ByIdentifier name id)
-        entries.now len result }
-{
-    find(entries, len, names, Lookup::ByIdentifier(name, id))
-}
-
-// Takes out the entry of an index.
+// Moves the entries that are later than that of an index one place down, over it.
 #[tactic(auto, using(crate::proofs::Stores::closed_is))]
-fn take_out(entries: &mut [u16], len: usize, i: usize) -> Entry
+fn close(entries: &mut [u16], len: usize, i: usize)
     requires { (i < len) × (entry_size * len ≤ length entries.old) }
-    ensures { (result ≡ entry_at entries.old i) × (entries.new ≡ closed entries.old len i) }
+    ensures { entries.new ≡ closed entries.old len i }
 {
-    let entry = entry_at(entries, i);
     entries.copy_within(ENTRY_SIZE * (i + 1)..ENTRY_SIZE * len, ENTRY_SIZE * i);
-    entry
 }
 
-// Takes out the latest entry that a lookup admits, and returns it with the count of those that are left.
-fn remove_latest(
-    entries: &mut [u16],
-    len: usize,
-    names: Names,
-    lookup: Lookup,
-) -> Option<(Entry, usize)>
-    requires { Holds names.pairs.now names.text.now entries.old len
-        × NameWithin names.pairs.now names.text.now (name_asked lookup) }
-    ensures { Removes (marked names.entry.pairs.now names.entry.text.now) lookup
-        entries.old entries.new len result }
-{
-    let i = find(entries, len, names, lookup)?;
-    let entry = take_out(entries, len, i);
-    Some((entry, len - 1))
+// Lent memory, how many entries of a context it holds, and what their names are. That each entry's number is a name's is asked of a lookup
+// and is no invariant, since an insertion stores every number.
+#[derive(Drop)]
+pub struct Context<'a> {
+    pub entries: &'a mut [u16],
+    pub len: usize,
+    pub names: Names<'a>,
 }
 
-// Takes out the latest entry of a name.
-pub fn remove_by_name(
-    entries: &mut [u16],
-    len: usize,
-    names: Names,
-    name: u16,
-) -> Option<(Entry, usize)>
-    requires { Holds names.pairs.now names.text.now entries.old len
-        × NameWithin names.pairs.now names.text.now name }
-    ensures { Removes (marked names.entry.pairs.now names.entry.text.now) (Lookup.ByName name)
-        entries.old entries.new len result }
-{
-    remove_latest(entries, len, names, Lookup::ByName(name))
-}
+impl Context<'_> {
+    // Makes an entry the latest, unless the lent memory has no room for it.
+    pub fn insert(&mut self, entry: Entry) -> Result<(), Refusal>
+        ensures { InsertsInto self.old entry result self.new }
+    {
+        if self.entries.len() / ENTRY_SIZE <= self.len {
+            return Err(Reason::Room.at(0));
+        }
+        store(self.entries, ENTRY_SIZE * self.len, entry);
+        self.len += 1;
+        Ok(())
+    }
 
-// Takes out the latest entry of a name and an id.
-pub fn remove(
-    entries: &mut [u16],
-    len: usize,
-    names: Names,
-    name: u16,
-    id: u16,
-) -> Option<(Entry, usize)>
-    requires { Holds names.pairs.now names.text.now entries.old len
-        × NameWithin names.pairs.now names.text.now name }
-    ensures { Removes (marked names.entry.pairs.now names.entry.text.now) (Lookup.ByIdentifier name id)
-        entries.old entries.new len result }
-{
-    remove_latest(entries, len, names, Lookup::ByIdentifier(name, id))
-}
+    // The entry of an index.
+    #[tactic(auto, unfolding(crate::specs::Memory::entry_at, crate::specs::Memory::name_at))]
+    pub fn entry_at(&self, i: usize) -> Entry
+        requires { entry_size * (i + 1) ≤ length self.now.entries.now }
+        ensures { result ≡ entry_at self.now.entries.now i }
+    {
+        let at = ENTRY_SIZE * i;
+        Entry {
+            name: self.entries[at],
+            id: self.entries[at + 1],
+            kind: self.entries[at + 2],
+            number: self.entries[at + 3],
+        }
+    }
 
-// Whether no later entry has the name of the entry of an index.
-fn is_visible(entries: &[u16], len: usize, names: Names, i: usize) -> bool
-    requires { Holds names.pairs.now names.text.now entries.now len × (i < len) }
-    ensures { result ≡ is_visible (marked names.entry.pairs.now names.entry.text.now) entries.now len i }
-{
-    let entry = entry_at(entries, i);
-    find(entries, len, names, Lookup::ByName(entry.name)) == Some(i)
-}
+    // Whether a lookup admits the entry of an index.
+    #[tactic(auto, using(crate::proofs::Lookups::admits_name), unfolding(crate::specs::Memory::entry_at))]
+    fn admits(&self, i: usize, lookup: Lookup) -> bool
+        requires { (entry_size * (i + 1) ≤ length self.now.entries.now)
+            × IsNamed self.now (name_at self.now.entries.now i)
+            × IsNamed self.now (name_asked lookup) }
+        ensures { result ≡ admitted (name_in self.now) lookup (entry_of (entry_at self.now.entries.now i)) }
+    {
+        let entry = self.entry_at(i);
+        match lookup {
+            Lookup::ByName(name) => self.names.same(name, entry.name),
+            Lookup::ByIdentifier(name, id) => id == entry.id && self.names.same(name, entry.name),
+        }
+    }
 
-// The index of the latest visible entry before one: from the count on, this hands out what the Rust's get_all_visible collects.
-pub fn next_visible(entries: &[u16], len: usize, names: Names, before: usize) -> Option<usize>
-    requires { Holds names.pairs.now names.text.now entries.now len }
-    ensures { Shows (marked names.entry.pairs.now names.entry.text.now) entries.now len before result }
-{
-    highest(before.min(len), |i| is_visible(entries, len, names, i))
+    // The index of the latest entry that a lookup admits.
+    fn find(&self, lookup: Lookup) -> Option<usize>
+        requires { IsHeld self.now × IsNamed self.now (name_asked lookup) }
+        ensures { Finds (name_in self.now) lookup self.now.entries.now self.now.«len» result }
+    {
+        highest(self.len, |i| self.admits(i, lookup))
+    }
+
+    // The lookups and the removals, by a name and by a name and an id, are the four operations of the Rust: each is its own function there.
+
+    // The index of the latest entry of a name.
+    pub fn get_by_name(&self, name: u16) -> Option<usize>
+        requires { IsHeld self.now × IsNamed self.now name }
+        ensures { Finds (name_in self.now) (Lookup.ByName name) self.now.entries.now self.now.«len» result }
+    {
+        self.find(Lookup::ByName(name))
+    }
+
+    // The index of the latest entry of a name and an id.
+    pub fn get(&self, name: u16, id: u16) -> Option<usize>
+        requires { IsHeld self.now × IsNamed self.now name }
+        ensures { Finds (name_in self.now) (Lookup.ByIdentifier name id) self.now.entries.now self.now.«len» result }
+    {
+        self.find(Lookup::ByIdentifier(name, id))
+    }
+
+    // Takes out the latest entry that a lookup admits, and returns it.
+    fn remove_latest(&mut self, lookup: Lookup) -> Option<Entry>
+        requires { IsHeld self.old × IsNamed self.old (name_asked lookup) }
+        ensures { RemovesFrom self.old lookup result self.new }
+    {
+        let i = self.find(lookup)?;
+        let entry = self.entry_at(i);
+        close(self.entries, self.len, i);
+        self.len -= 1;
+        Some(entry)
+    }
+
+    // Takes out the latest entry of a name.
+    pub fn remove_by_name(&mut self, name: u16) -> Option<Entry>
+        requires { IsHeld self.old × IsNamed self.old name }
+        ensures { RemovesFrom self.old (Lookup.ByName name) result self.new }
+    {
+        self.remove_latest(Lookup::ByName(name))
+    }
+
+    // Takes out the latest entry of a name and an id.
+    pub fn remove(&mut self, name: u16, id: u16) -> Option<Entry>
+        requires { IsHeld self.old × IsNamed self.old name }
+        ensures { RemovesFrom self.old (Lookup.ByIdentifier name id) result self.new }
+    {
+        self.remove_latest(Lookup::ByIdentifier(name, id))
+    }
+
+    // Whether no later entry has the name of the entry of an index.
+    fn is_visible(&self, i: usize) -> bool
+        requires { IsHeld self.now × (i < self.now.«len») }
+        ensures { result ≡ is_visible (name_in self.now) self.now.entries.now self.now.«len» i }
+    {
+        let entry = self.entry_at(i);
+        self.find(Lookup::ByName(entry.name)) == Some(i)
+    }
+
+    // The index of the latest visible entry before one: from the count on, this hands out what the Rust's get_all_visible collects.
+    pub fn next_visible(&self, before: usize) -> Option<usize>
+        requires { IsHeld self.now }
+        ensures { Shows (name_in self.now) self.now.entries.now self.now.«len» before result }
+    {
+        highest(before.min(self.len), |i| self.is_visible(i))
+    }
 }

@@ -4,12 +4,9 @@
 
 ghost use Rattle.std.specs.Prelude.{◌≡◌, Bool, ◌≤◌};
 ghost use Rattle.number.specs.Pairs.{NameWithin};
-ghost use Rattle.identifier_context.specs.Memory.{Holds};
-ghost use Rattle.identifier_context.specs.Promises.{length_after};
-ghost use Rattle.replay_context.specs.Lengths.{length_inserted};
+ghost use Rattle.identifier_context.specs.Lent.{IsNamed, IsHeld};
 
-use definitions::Refusal;
-use identifier_context::{ENTRY_SIZE, Entry, Names};
+use identifier_context::{Context, ENTRY_SIZE, Entry, Names};
 use input::{read_array, read_u16};
 use number::{PAIR_SIZE, pair_length, pair_offset};
 use std::{fs, io};
@@ -55,25 +52,18 @@ const QUESTIONS: usize = 40;
 // The entry that a question finds or takes out, if any, or a refusal's number.
 type Answer = Result<Option<Entry>, u16>;
 
-// A context's length after a question, the index before which the next visible entry is sought, and the answer. The length stands
-// beside the lent numbers, which are more than the entries, since the operations take it and hand it back so.
+// What came of a question: the index before which the next visible entry is sought, and the answer.
 #[derive(Drop)]
 struct Turn {
-    len: usize,
     before: usize,
     answer: Answer,
 }
 
 impl Turn {
-    // A turn after which all entries are left to be sought.
-    fn new(len: usize, answer: Answer) -> Self
-        ensures { result.«len» ≡ len }
-    {
-        Self {
-            len,
-            before: len,
-            answer,
-        }
+    // A turn after which all entries of a context are left to be sought.
+    fn new(context: &Context, answer: Answer) -> Self {
+        let before = context.len;
+        Self { before, answer }
     }
 }
 
@@ -105,12 +95,12 @@ fn listed(answer: Answer) -> (u16, Entry) {
 }
 
 // The entry of an index that an operation found.
-fn found_entry(entries: &[u16], found: Option<usize>) -> Option<Entry> {
+fn found_entry(context: &Context, found: Option<usize>) -> Option<Entry> {
     let i = found?;
-    if entries.len() / ENTRY_SIZE <= i {
+    if context.entries.len() / ENTRY_SIZE <= i {
         return None;
     }
-    Some(identifier_context::entry_at(entries, i))
+    Some(context.entry_at(i))
 }
 
 // Whether a number has a pair that ends within the text. Both slices are passed, since what bytes are at most is known of a parameter.
@@ -123,135 +113,109 @@ fn is_name(pairs: &[u8], text: &[u8], name: usize) -> bool
     pair_offset(pairs, name) + pair_length(pairs, name) <= text.len()
 }
 
-#[tactic(auto, unfolding(crate::specs::Lengths::length_inserted))]
-fn inserted_turn(len: usize, inserted: Result<usize, Refusal>) -> Turn
-    ensures { result.«len» ≡ length_inserted len inserted }
-{
-    match inserted {
-        Ok(longer) => Turn::new(longer, Ok(None)),
-        Err(refusal) => Turn::new(len, Err(u16::from(refusal.number))),
-    }
-}
-
-#[tactic(auto, unfolding(identifier_context::specs::Promises::length_after))]
-fn removed_turn(len: usize, removed: Option<(Entry, usize)>) -> Turn
-    ensures { result.«len» ≡ length_after len removed }
-{
-    match removed {
-        None => Turn::new(len, Ok(None)),
-        Some((entry, shorter)) => Turn::new(shorter, Ok(Some(entry))),
-    }
-}
-
 // Makes an entry the latest.
-fn insert(entries: &mut [u16], len: usize, names: Names, entry: Entry) -> Turn
-    requires { Holds names.pairs.now names.text.now entries.old len
-        × NameWithin names.pairs.now names.text.now entry.«name» }
-    ensures { Holds names.entry.pairs.now names.entry.text.now entries.new result.«len» }
+fn insert(context: &mut Context, entry: Entry) -> Turn
+    requires { IsHeld context.old × IsNamed context.old entry.«name» }
+    ensures { IsHeld context.new }
 {
-    inserted_turn(len, identifier_context::insert(entries, len, entry))
+    let inserted = context.insert(entry);
+    let answer = inserted
+        .map(|()| None)
+        .map_err(|refusal| u16::from(refusal.number));
+    Turn::new(context, answer)
 }
 
 // Takes out the latest entry of a name.
-fn remove_by_name(entries: &mut [u16], len: usize, names: Names, name: u16) -> Turn
-    requires { Holds names.pairs.now names.text.now entries.old len
-        × NameWithin names.pairs.now names.text.now name }
-    ensures { Holds names.entry.pairs.now names.entry.text.now entries.new result.«len» }
+fn remove_by_name(context: &mut Context, name: u16) -> Turn
+    requires { IsHeld context.old × IsNamed context.old name }
+    ensures { IsHeld context.new }
 {
-    removed_turn(
-        len,
-        identifier_context::remove_by_name(entries, len, names, name),
-    )
+    let removed = context.remove_by_name(name);
+    Turn::new(context, Ok(removed))
 }
 
 // Takes out the latest entry of a name and an id.
-fn remove(entries: &mut [u16], len: usize, names: Names, name: u16, id: u16) -> Turn
-    requires { Holds names.pairs.now names.text.now entries.old len
-        × NameWithin names.pairs.now names.text.now name }
-    ensures { Holds names.entry.pairs.now names.entry.text.now entries.new result.«len» }
+fn remove(context: &mut Context, name: u16, id: u16) -> Turn
+    requires { IsHeld context.old × IsNamed context.old name }
+    ensures { IsHeld context.new }
 {
-    removed_turn(
-        len,
-        identifier_context::remove(entries, len, names, name, id),
-    )
+    let removed = context.remove(name, id);
+    Turn::new(context, Ok(removed))
 }
 
 // The latest visible entry before an index.
-fn visible(entries: &[u16], len: usize, names: Names, before: usize) -> Turn
-    requires { Holds names.pairs.now names.text.now entries.now len }
-    ensures { result.«len» ≡ len }
+fn visible(context: &Context, before: usize) -> Turn
+    requires { IsHeld context.now }
 {
-    let found = identifier_context::next_visible(entries, len, names, before);
+    let found = context.next_visible(before);
     Turn {
-        len,
         before: found.unwrap_or(0),
-        answer: Ok(found_entry(entries, found)),
+        answer: Ok(found_entry(context, found)),
     }
 }
 
 // The turn that a question asks for, with the entry, name or identifier that it is about.
-fn ask(
-    entries: &mut [u16],
-    len: usize,
-    before: usize,
-    names: Names,
-    question: Question,
-    entry: Entry,
-) -> Turn
-    requires { Holds names.pairs.now names.text.now entries.old len
-        × NameWithin names.pairs.now names.text.now entry.«name» }
-    ensures { Holds names.entry.pairs.now names.entry.text.now entries.new result.«len» }
+fn ask(context: &mut Context, before: usize, question: Question, entry: Entry) -> Turn
+    requires { IsHeld context.old × IsNamed context.old entry.«name» }
+    ensures { IsHeld context.new }
 {
     match question {
-        Question::Insert => insert(entries, len, names, entry),
-        Question::RemoveByName => remove_by_name(entries, len, names, entry.name),
-        Question::Remove => remove(entries, len, names, entry.name, entry.id),
-        Question::FirstVisible => visible(entries, len, names, len),
-        Question::NextVisible => visible(entries, len, names, before),
+        Question::Insert => insert(context, entry),
+        Question::RemoveByName => remove_by_name(context, entry.name),
+        Question::Remove => remove(context, entry.name, entry.id),
+        Question::FirstVisible => {
+            let len = context.len;
+            visible(context, len)
+        }
+        Question::NextVisible => visible(context, before),
         Question::Get => {
-            let found = identifier_context::get(entries, len, names, entry.name, entry.id);
-            Turn::new(len, Ok(found_entry(entries, found)))
+            let found = context.get(entry.name, entry.id);
+            Turn::new(context, Ok(found_entry(context, found)))
         }
         Question::GetByName => {
-            let found = identifier_context::get_by_name(entries, len, names, entry.name);
-            Turn::new(len, Ok(found_entry(entries, found)))
+            let found = context.get_by_name(entry.name);
+            Turn::new(context, Ok(found_entry(context, found)))
         }
     }
 }
 
 // The turn of the list's next question.
-fn ask_next(rest: &mut &[u8], entries: &mut [u16], len: usize, before: usize, names: Names) -> Turn
-    requires { Holds names.pairs.now names.text.now entries.old len }
-    ensures { Holds names.entry.pairs.now names.entry.text.now entries.new result.«len» }
+fn ask_next(rest: &mut &[u8], context: &mut Context, before: usize) -> Turn
+    requires { IsHeld context.old }
+    ensures { IsHeld context.new }
 {
     let question = Question::from(read_u16(rest));
     let entry = read_entry(rest);
-    if is_name(names.pairs, names.text, usize::from(entry.name)) {
-        return ask(entries, len, before, names, question, entry);
+    let Names { pairs, text } = context.names;
+    if is_name(pairs, text, usize::from(entry.name)) {
+        return ask(context, before, question, entry);
     }
-    Turn::new(len, Ok(None))
+    Turn::new(context, Ok(None))
 }
 
-// Whether the list's next answer is that of a turn.
-fn agrees(rest: &mut &[u8], turn: Turn) -> bool {
-    let len = usize::from(read_u16(rest));
+// Whether the list's next answer, with the count of entries beside it, is that of a turn.
+fn agrees(rest: &mut &[u8], len: usize, answer: Answer) -> bool {
+    let listed_len = usize::from(read_u16(rest));
     let outcome = read_u16(rest);
     let entry = read_entry(rest);
-    len == turn.len && (outcome, entry) == listed(turn.answer)
+    listed_len == len && (outcome, entry) == listed(answer)
 }
 
 // How many of the answers to a context's questions agree. The context is empty at first.
 fn agreeing(rest: &mut &[u8], entries: &mut [u16], names: Names) -> usize
     ensures { result ≤ 40 }
 {
-    let mut len = 0;
+    let mut context = Context {
+        entries,
+        len: 0,
+        names,
+    };
     let mut before = 0;
     let mut agreed = 0;
     for _ in 0..QUESTIONS {
-        let turn = ask_next(rest, entries, len, before, names);
-        len = turn.len;
+        let turn = ask_next(rest, &mut context, before);
         before = turn.before;
-        agreed += usize::from(agrees(rest, turn));
+        agreed += usize::from(agrees(rest, context.len, turn.answer));
     }
     agreed
 }

@@ -1,8 +1,6 @@
--- What an insertion leaves is a context, of the length that its answer says.
-use Rattle.replay_context.proofs.Insertions.{insertion_holds}
+-- What an insertion leaves is a context.
+use Rattle.identifier_context.proofs.Lent.{held_inserted}
 use Rattle.replay_context.proofs.insert.Goals as goal
 
 pub returns : goal.returns
-returns c =
-    let (holds, named) = c.requires in
-    rw c.inserted_turn.ensures (insertion_holds _ c.insert.ensures holds named)
+returns c = held_inserted c.insert-inserted.result c.insert-inserted.ensures c.requires.0 c.requires.1

@@ -2,7 +2,7 @@
 use mathlib.Core.Path.{sym, ◌∙◌}
 use Rattle.identifier_context.specs.Memory.{entry_at}
 use Rattle.identifier_context.proofs.Visibility.{visible_at}
-use Rattle.identifier_context.proofs.is_visible.Goals as goal
+use Rattle.identifier_context.proofs.Context.is_visible.Goals as goal
 
 pub find-requires : goal.find-requires
 unfolding entry_at

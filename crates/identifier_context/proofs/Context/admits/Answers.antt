@@ -2,7 +2,7 @@
 use borrow.Author.Rules.{rules}
 use borrow.Author.Tests.{tests}
 use Rattle.identifier_context.proofs.Lookups.{admits_identifier, admits_no_other_id}
-use Rattle.identifier_context.proofs.admits.Goals as goal
+use Rattle.identifier_context.proofs.Context.admits.Goals as goal
 
 pub returns-then-id-entry : goal.returns-then-id-entry
 returns-then-id-entry c =
