@@ -50,16 +50,6 @@ pub fn same_name(a: &[u8], b: &[u8]) -> bool
     a == b
 }
 
-// How the names of two numbers stand to each other.
-pub fn compare_bytes(pairs: &[u8], text: &[u8], a: usize, b: usize) -> Ordering
-    requires { NameWithin pairs.now text.now a × NameWithin pairs.now text.now b }
-    ensures { result ≡ compare_name
-        (marked pairs.now text.now a)
-        (marked pairs.now text.now b) }
-{
-    compare_names(marked_bytes(pairs, text, a), marked_bytes(pairs, text, b))
-}
-
 // Whether the names of two numbers have the same bytes. Those of one number have, and are not looked at.
 #[tactic(auto, using(definitions::proofs::Names::eq_name_refl))]
 pub fn same_bytes(pairs: &[u8], text: &[u8], a: usize, b: usize) -> bool
