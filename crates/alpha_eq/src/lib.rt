@@ -13,7 +13,7 @@ ghost use Rattle.sheet.specs.Checks.{outcome_of};
 
 use definitions::{Reason, Refusal};
 use identifier::same_bytes;
-use number::number_at;
+use number::{Marked, number_at};
 use prefix_code::{Head, ParameterKind};
 use sheet::Sheet;
 
@@ -45,8 +45,8 @@ fn bound_alike(
         ≡ bound_alike_in pairs.now text.now bindings.now (length bindings.now) x y }
 {
     for &Pair { left, right } in bindings.iter().rev() {
-        let binds_x = same_bytes(pairs, text, usize::from(left), x);
-        let binds_y = same_bytes(pairs, text, usize::from(right), y);
+        let binds_x = same_bytes(Marked { pairs, bytes: text }, usize::from(left), x);
+        let binds_y = same_bytes(Marked { pairs, bytes: text }, usize::from(right), y);
         if binds_x || binds_y {
             return Ok(binds_x && binds_y);
         }
@@ -82,7 +82,7 @@ fn alpha_eq_parameter(
             Ok(same.then_some((i + 3, j + 3)))
         }
         ParameterKind::Instantiated => {
-            let same_object = same_bytes(pairs, text, x, y);
+            let same_object = same_bytes(Marked { pairs, bytes: text }, x, y);
             let id = number_at(code, i + 3);
             let other_id = number_at(code, j + 3);
             Ok((same_object && id == other_id).then_some((i + 5, j + 5)))
@@ -132,7 +132,7 @@ fn alpha_eq_atom(
 {
     let a = number_at(code, i + 1);
     let b = number_at(code, j + 1);
-    let same_atom = same_bytes(pairs, text, a, b);
+    let same_atom = same_bytes(Marked { pairs, bytes: text }, a, b);
     let count = code[i + 3];
     let other_count = code[j + 3];
     if !same_atom {
@@ -195,7 +195,7 @@ fn alpha_eq_scope(
 {
     let t = number_at(code, i + 3);
     let u = number_at(code, j + 3);
-    if !same_bytes(pairs, text, t, u) {
+    if !same_bytes(Marked { pairs, bytes: text }, t, u) {
         return Ok(None);
     }
     bindings[depth] = Pair {

@@ -12,7 +12,7 @@ ghost use Rattle.comparison.specs.Conclusions.{named_prop, JudgementIn, Conclusi
 
 use definitions::{Reason, Refusal};
 use identifier::same_bytes;
-use number::pair_offset;
+use number::{Marked, pair_offset};
 use sheet::AdmittedSheet;
 use steps::{Conclusion, Judgement, step_at};
 
@@ -22,12 +22,11 @@ fn same_named(sheet: &AdmittedSheet, a: u16, b: u16) -> bool
     requires { (a < names sheet.now) × (b < names sheet.now) }
     ensures { result ≡ eq_name (name_of sheet.now a) (name_of sheet.now b) }
 {
-    same_bytes(
-        sheet.name_pairs(),
-        sheet.text_bytes(),
-        a as usize,
-        b as usize,
-    )
+    let names = Marked {
+        pairs: sheet.name_pairs(),
+        bytes: sheet.text_bytes(),
+    };
+    same_bytes(names, a as usize, b as usize)
 }
 
 // Two type judgements: the names of the objects, by their bytes, their ids, the names of the datatypes. Those of two sheets are

@@ -14,7 +14,7 @@ ghost use Rattle.steps.specs.StepAt.{KnownJudgement};
 ghost use Rattle.equal_conclusions.specs.Equality.{code_over, same_proposition, same_judgement};
 
 use identifier::same_name;
-use number::marked_bytes;
+use number::Marked;
 pub use numbered_sheets::NumberedSheets;
 use output::Writer;
 use renumbering::put_proposition;
@@ -27,7 +27,11 @@ pub fn proposition_code<'a>(sheet: &AdmittedSheet<'a>, i: usize) -> &'a [u8]
     ensures is { result.now ≡ marked (proposition_pairs sheet.now) (code_bytes sheet.now) i }
     ensures accepted { Accepted sheet.now }
 {
-    marked_bytes(sheet.proposition_pairs(), sheet.code_bytes(), i)
+    let propositions = Marked {
+        pairs: sheet.proposition_pairs(),
+        bytes: sheet.code_bytes(),
+    };
+    propositions.piece(i)
 }
 
 // The code of a proposition over other name numbers, in lent memory.

@@ -10,7 +10,7 @@ ghost use Rattle.hypotheses.specs.Pairs.{out_of};
 ghost use Rattle.hypotheses.specs.Entered.{entered, Enterable};
 
 use checkable::is_quantifier_free;
-use number::{marked_bytes, pair_offset};
+use number::{Marked, pair_offset};
 use prop_numbers::NAMES;
 use sheet::AdmittedSheet;
 
@@ -34,7 +34,11 @@ pub fn is_free(sheet: &AdmittedSheet, k: usize) -> bool
     requires { k < propositions sheet.now }
     ensures { result ≡ is_quantifier_free (named_prop sheet.now k) }
 {
-    let code = marked_bytes(sheet.proposition_pairs(), sheet.code_bytes(), k);
+    let propositions = Marked {
+        pairs: sheet.proposition_pairs(),
+        bytes: sheet.code_bytes(),
+    };
+    let code = propositions.piece(k);
     is_quantifier_free(code, sheet.header().names)
 }
 

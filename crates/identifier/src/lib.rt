@@ -11,7 +11,7 @@ ghost use Rattle.number.specs.Pairs.{NameWithin};
 ghost use Rattle.identifier.specs.Pairs.{PairsWithin, same_bytes};
 
 pub use classes::{CLASSES, Class};
-use number::marked_bytes;
+use number::Marked;
 use search::lowest;
 use std::cmp::Ordering;
 
@@ -52,21 +52,21 @@ pub fn same_name(a: &[u8], b: &[u8]) -> bool
 
 // Whether the names of two numbers have the same bytes. Those of one number have, and are not looked at.
 #[tactic(auto, using(definitions::proofs::Names::eq_name_refl))]
-pub fn same_bytes(pairs: &[u8], text: &[u8], a: usize, b: usize) -> bool
-    requires { NameWithin pairs.now text.now a × NameWithin pairs.now text.now b }
+pub fn same_bytes(names: Marked, a: usize, b: usize) -> bool
+    requires { NameWithin names.pairs.now names.bytes.now a × NameWithin names.pairs.now names.bytes.now b }
     ensures { result ≡ eq_name
-        (marked pairs.now text.now a)
-        (marked pairs.now text.now b) }
+        (marked names.entry.pairs.now names.entry.bytes.now a)
+        (marked names.entry.pairs.now names.entry.bytes.now b) }
 {
-    a == b || same_name(marked_bytes(pairs, text, a), marked_bytes(pairs, text, b))
+    a == b || same_name(names.piece(a), names.piece(b))
 }
 
 // The first name before number i with the same bytes as name i. No operation asks for it: it is the plain search that an index of
 // the names (document 02, ticket 14) has to agree with.
 #[tactic(auto, using(definitions::proofs::NameOrder::equal_name))]
-pub fn first_equal(pairs: &[u8], text: &[u8], i: usize) -> Option<usize>
-    requires { PairsWithin pairs.now text.now i }
-    ensures { result ≡ lowest (same_bytes pairs.now text.now i) i }
+pub fn first_equal(names: Marked, i: usize) -> Option<usize>
+    requires { PairsWithin names.pairs.now names.bytes.now i }
+    ensures { result ≡ lowest (same_bytes names.entry.pairs.now names.entry.bytes.now i) i }
 {
-    lowest(i, |j| same_bytes(pairs, text, j, i))
+    lowest(i, |j| same_bytes(names, j, i))
 }

@@ -12,15 +12,15 @@ use Rattle.identifier_context.specs.Promises.{Inserts, Removes}
 
 -- the name of a number
 abbrev pub name_in : Context → ℕ → Name
-name_in a = marked a.names.pairs.now a.names.text.now
+name_in a = marked a.names.pairs.now a.names.bytes.now
 
 -- a number is that of a name
 abbrev pub IsNamed : Context → ℕ → Type 0
-IsNamed a name = NameWithin a.names.pairs.now a.names.text.now name
+IsNamed a name = NameWithin a.names.pairs.now a.names.bytes.now name
 
 -- the entries are there, and their names are names
 abbrev pub IsHeld : Context → Type 0
-IsHeld a = Holds a.names.pairs.now a.names.text.now a.entries.now a.len
+IsHeld a = Holds a.names.pairs.now a.names.bytes.now a.entries.now a.len
 
 -- an answer, with the count that the operation leaves
 unfoldable pub with_count : ℕ → Result (Unit {0}) Refusal → Result ℕ Refusal

@@ -4,8 +4,6 @@
 
 ghost use Rattle.std.specs.Prelude.{◌≡◌, ◌+◌, ◌-◌, ◌*◌, ◌≤◌, ◌<◌, length};
 ghost use Rattle.definitions.specs.Name.{eq_name};
-ghost use Rattle.definitions.specs.Sheet.{marked};
-ghost use Rattle.number.specs.Pairs.{NameWithin};
 ghost use Rattle.identifier_context.specs.Memory.{Holds, entry_size, name_at, entry_of, entry_at};
 ghost use Rattle.identifier_context.specs.Promises.{numbers_of, Finds, name_asked, admitted, closed, is_visible, Shows};
 ghost use Rattle.identifier_context.specs.Lent.{name_in, IsNamed, IsHeld, InsertsInto, RemovesFrom};
@@ -13,6 +11,7 @@ ghost use Rattle.std.proofs.lemmas.List.Edits.{sets};
 
 use definitions::{Reason, Refusal};
 use identifier::same_bytes;
+use number::Marked;
 use search::highest;
 
 // The numbers of an entry.
@@ -26,26 +25,6 @@ pub struct Entry {
     pub id: u16,
     pub kind: u16,
     pub number: u16,
-}
-
-// The names that the numbers of entries stand for: a pair for each, and the text that the pairs mark.
-#[derive(Clone, Copy)]
-pub struct Names<'a> {
-    pub pairs: &'a [u8],
-    pub text: &'a [u8],
-}
-
-impl Names<'_> {
-    // Whether the names of two numbers have the same bytes.
-    fn same(&self, a: u16, b: u16) -> bool
-        requires { NameWithin self.now.pairs.now self.now.text.now a
-            × NameWithin self.now.pairs.now self.now.text.now b }
-        ensures { result ≡ eq_name
-            (marked self.now.pairs.now self.now.text.now a)
-            (marked self.now.pairs.now self.now.text.now b) }
-    {
-        same_bytes(self.pairs, self.text, usize::from(a), usize::from(b))
-    }
 }
 
 // What is looked up: the latest entry of a name, or of a name and an id. The contracts speak of it, where a closure would have no name.
@@ -78,7 +57,7 @@ fn close(entries: &mut [u16], len: usize, i: usize)
 pub struct Context<'a> {
     pub entries: &'a mut [u16],
     pub len: usize,
-    pub names: Names<'a>,
+    pub names: Marked<'a>,
 }
 
 impl Context<'_> {
@@ -109,6 +88,14 @@ impl Context<'_> {
         }
     }
 
+    // Whether the names of two numbers have the same bytes.
+    fn same_name(&self, a: u16, b: u16) -> bool
+        requires { IsNamed self.now a × IsNamed self.now b }
+        ensures { result ≡ eq_name (name_in self.now a) (name_in self.now b) }
+    {
+        same_bytes(self.names, usize::from(a), usize::from(b))
+    }
+
     // Whether a lookup admits the entry of an index.
     #[tactic(auto, using(crate::proofs::Lookups::admits_name), unfolding(crate::specs::Memory::entry_at))]
     fn admits(&self, i: usize, lookup: Lookup) -> bool
@@ -119,8 +106,8 @@ impl Context<'_> {
     {
         let entry = self.entry_at(i);
         match lookup {
-            Lookup::ByName(name) => self.names.same(name, entry.name),
-            Lookup::ByIdentifier(name, id) => id == entry.id && self.names.same(name, entry.name),
+            Lookup::ByName(name) => self.same_name(name, entry.name),
+            Lookup::ByIdentifier(name, id) => id == entry.id && self.same_name(name, entry.name),
         }
     }
 

@@ -35,14 +35,23 @@ pub fn pair_length(pairs: &[u8], i: usize) -> usize
     number_at(pairs, PAIR_SIZE * i + 2)
 }
 
-// The bytes that the pair of a number marks. That they lie within the text is asked of this pair alone: a struct of the pairs and the text
-// would keep it of every pair, which does not hold before a sheet is admitted.
-#[tactic(auto, unfolding(definitions::specs::Sheet::pair_end, definitions::specs::Sheet::marked))]
-pub fn marked_bytes<'a>(pairs: &[u8], bytes: &'a [u8], i: usize) -> &'a [u8]
-    requires { NameWithin pairs.now bytes.now i }
-    ensures { result.now ≡ marked pairs.now bytes.now i }
-{
-    let offset = pair_offset(pairs, i);
-    let end = offset + pair_length(pairs, i);
-    &bytes[offset..end]
+// Bytes, and the pairs of offset and length that mark pieces of them: names in a text, or propositions in code.
+#[derive(Clone, Copy)]
+pub struct Marked<'a> {
+    pub pairs: &'a [u8],
+    pub bytes: &'a [u8],
+}
+
+impl<'a> Marked<'a> {
+    // The piece that pair i marks. That it lies within the bytes is asked of this pair and is no invariant, since it does not hold of every
+    // pair before a sheet is admitted.
+    #[tactic(auto, unfolding(definitions::specs::Sheet::pair_end, definitions::specs::Sheet::marked))]
+    pub fn piece(self, i: usize) -> &'a [u8]
+        requires { NameWithin self.pairs.now self.bytes.now i }
+        ensures { result.now ≡ marked self.entry.pairs.now self.entry.bytes.now i }
+    {
+        let offset = pair_offset(self.pairs, i);
+        let end = offset + pair_length(self.pairs, i);
+        &self.bytes[offset..end]
+    }
 }

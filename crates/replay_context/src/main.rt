@@ -6,9 +6,9 @@ ghost use Rattle.std.specs.Prelude.{◌≡◌, Bool, ◌≤◌};
 ghost use Rattle.number.specs.Pairs.{NameWithin};
 ghost use Rattle.identifier_context.specs.Lent.{IsNamed, IsHeld};
 
-use identifier_context::{Context, ENTRY_SIZE, Entry, Names};
+use identifier_context::{Context, ENTRY_SIZE, Entry};
 use input::{read_array, read_u16};
-use number::{PAIR_SIZE, pair_length, pair_offset};
+use number::{Marked, PAIR_SIZE, pair_length, pair_offset};
 use std::{fs, io};
 
 // What a question asks for. The entry beside it is to be inserted, or has the name and the id that are looked for.
@@ -186,8 +186,8 @@ fn ask_next(rest: &mut &[u8], context: &mut Context, before: usize) -> Turn
 {
     let question = Question::from(read_u16(rest));
     let entry = read_entry(rest);
-    let Names { pairs, text } = context.names;
-    if is_name(pairs, text, usize::from(entry.name)) {
+    let Marked { pairs, bytes } = context.names;
+    if is_name(pairs, bytes, usize::from(entry.name)) {
         return ask(context, before, question, entry);
     }
     Turn::new(context, Ok(None))
@@ -202,7 +202,7 @@ fn agrees(rest: &mut &[u8], len: usize, answer: Answer) -> bool {
 }
 
 // How many of the answers to a context's questions agree. The context is empty at first.
-fn agreeing(rest: &mut &[u8], entries: &mut [u16], names: Names) -> usize
+fn agreeing(rest: &mut &[u8], entries: &mut [u16], names: Marked) -> usize
     ensures { result ≤ 40 }
 {
     let mut context = Context {
@@ -228,9 +228,9 @@ fn ask_all(rest: &mut &[u8]) -> usize
     let text = read_array::<TEXT_BYTES>(rest);
     let mut memory = [0u16; ROOM];
     let lent = usize::from(read_u16(rest)).min(ROOM);
-    let names = Names {
+    let names = Marked {
         pairs: &pairs,
-        text: &text,
+        bytes: &text,
     };
     agreeing(rest, &mut memory[..lent], names)
 }

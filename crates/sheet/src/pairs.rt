@@ -7,7 +7,7 @@ ghost use Rattle.sheet.specs.Pairs.{bad_pair, HasPairs, HasCodes};
 
 use crate::header::Sheet;
 use identifier::is_name;
-use number::{marked_bytes, pair_length, pair_offset};
+use number::{Marked, pair_length, pair_offset};
 use prefix_code::{is_code, is_deep};
 use search::lowest;
 
@@ -36,7 +36,8 @@ pub fn first_bad_name(pairs: &[u8], text: &[u8], count: usize) -> Option<usize>
     requires { HasPairs pairs.now text.now count }
     ensures { result ≡ lowest (bad_name pairs.now text.now) count }
 {
-    lowest(count, |i| !is_name(marked_bytes(pairs, text, i)))
+    let names = Marked { pairs, bytes: text };
+    lowest(count, |i| !is_name(names.piece(i)))
 }
 
 // Refusal 7: the lowest proposition whose code is not exactly one proposition.
@@ -45,7 +46,8 @@ pub fn first_bad_code(pairs: &[u8], code: &[u8], count: usize, names: usize) -> 
     requires { HasPairs pairs.now code.now count }
     ensures { result ≡ lowest (bad_code names pairs.now code.now) count }
 {
-    lowest(count, |i| !is_code(marked_bytes(pairs, code, i), names))
+    let propositions = Marked { pairs, bytes: code };
+    lowest(count, |i| !is_code(propositions.piece(i), names))
 }
 
 // Refusal 8: the lowest proposition that nests too deep.
@@ -59,8 +61,9 @@ pub fn first_deep_proposition(
     requires { HasCodes names pairs.now code.now count }
     ensures { result ≡ lowest (deep_proposition names pairs.now code.now) count }
 {
+    let propositions = Marked { pairs, bytes: code };
     lowest(count, |i| {
-        let proposition = marked_bytes(pairs, code, i);
+        let proposition = propositions.piece(i);
         is_deep(proposition, names, Sheet::PROPOSITION_NESTING_LIMIT)
     })
 }

@@ -3,7 +3,7 @@
 
 ghost use Rattle.standing_code.specs.Over.{Codes, CodeStands};
 
-use number::{marked_bytes, pair_offset};
+use number::{Marked, pair_offset};
 use output::Writer;
 use renumbering::put_proposition;
 
@@ -26,10 +26,11 @@ pub fn put_code(
     requires { Codes names pairs.now code.now count numbers.now out.old }
     ensures { CodeStands names pairs.now code.now count numbers.now out.new }
 {
+    let propositions = Marked { pairs, bytes: code };
     for k in 0..count {
         let to = pair_offset(pairs, k);
         let mut there = Writer { out, to };
-        put_proposition(marked_bytes(pairs, code, k), names, numbers, &mut there);
+        put_proposition(propositions.piece(k), names, numbers, &mut there);
     }
     out[TOP] = prefix_code::TRUE;
     out[BOTTOM] = prefix_code::FALSE;

@@ -6,7 +6,7 @@ ghost use Rattle.std.specs.Prelude.{◌≡◌, ◌+◌, ◌≤◌, length, take,
 ghost use Rattle.definitions.specs.Name.{eq_name, compare_name};
 ghost use Rattle.vocabulary.specs.Vocabulary.{pairs_in, text_in, code_in, name_in, Within, Names, SomeProposition, ShapeIn};
 
-use number::{PAIR_SIZE, marked_bytes};
+use number::{Marked, PAIR_SIZE};
 use prefix_code::{Shape, shape_at};
 use std::cmp::Ordering;
 
@@ -61,7 +61,11 @@ pub fn name(bytes: &[u8], v: Vocabulary, i: usize) -> &[u8]
     requires { Names bytes.now v i }
     ensures { result.now ≡ name_in bytes.now v i }
 {
-    marked_bytes(pairs_of(bytes, v), text_of(bytes, v), i)
+    let names = Marked {
+        pairs: pairs_of(bytes, v),
+        bytes: text_of(bytes, v),
+    };
+    names.piece(i)
 }
 
 // How a name of one memory stands to a name of another.

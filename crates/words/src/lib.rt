@@ -17,7 +17,7 @@ ghost use Rattle.words.specs.Table.{table_size, searched, with_number, with_pair
 use caller_names::{is_listed, well_formed};
 use identifier::{CLASSES, Class, same_name};
 use name_index::{SLOT_COUNT, Slot, probe_by};
-use number::{PAIR_SIZE, marked_bytes, number_at};
+use number::{Marked, PAIR_SIZE, number_at};
 use vocabulary::NAME_LIMIT;
 
 // Where the name bytes from `at` on end.
@@ -189,7 +189,11 @@ fn look(text: &[u8], names: &[u8], count: usize, name: &[u8], slot: usize) -> Sl
     if count <= number {
         return Slot::Free;
     }
-    if same_name(marked_bytes(names, text, number), name) {
+    let known = Marked {
+        pairs: names,
+        bytes: text,
+    };
+    if same_name(known.piece(number), name) {
         return Slot::Equal(number);
     }
     Slot::Other

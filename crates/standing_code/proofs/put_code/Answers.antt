@@ -5,7 +5,7 @@ use Rattle.standing_code.proofs.put_code.Goals as goal
 
 pub loop-k-preserved : goal.loop-k-preserved
 loop-k-preserved c = λ asked.
-    one_more asked (c.loop-k.invariant asked) c.loop-k-test.true c.pair_offset-to.ensures c.marked_bytes.ensures
+    one_more asked (c.loop-k.invariant asked) c.loop-k-test.true c.pair_offset-to.ensures c.piece.ensures
     (λ p codable coded. let put = (c.put_proposition.ensures.put p codable coded).wrote.stored in search rules)
 
 pub returns : goal.returns

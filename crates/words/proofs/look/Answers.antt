@@ -28,9 +28,9 @@ number_at-number-requires c = omega (arith, c.requires.0.room, c.requires.1)
 pub returns-then-count-number : goal.returns-then-count-number
 returns-then-count-number c = free_seen c.requires.0 _ c.requires.1 (stands (goal.at.returns-then-count-number c).After-number_at-number) _ c.if-count-number.true
 
-pub marked_bytes-requires : goal.marked_bytes-requires
+pub piece-requires : goal.piece-requires
 unfolding table_size slot_offset pair_size name_limit
-marked_bytes-requires c =
+piece-requires c =
     let known = c.requires.0 in
     record { present = omega (arith, known.room, known.few, c.if-count-number.false); ends = known.ends _ (omega (arith, c.if-count-number.false)) }
 

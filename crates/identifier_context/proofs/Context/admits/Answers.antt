@@ -6,7 +6,7 @@ use Rattle.identifier_context.proofs.Context.admits.Goals as goal
 
 pub returns-then-id-entry : goal.returns-then-id-entry
 returns-then-id-entry c =
-    rw (c.same-then-id-entry.ensures, ← c.entry_at-entry.ensures)
+    rw (c.same_name-then-id-entry.ensures, ← c.entry_at-entry.ensures)
     (admits_identifier _ _ c.in-ByIdentifier.is (search (rules, tests)))
 
 pub returns-else-id-entry : goal.returns-else-id-entry
