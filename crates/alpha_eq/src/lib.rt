@@ -71,12 +71,9 @@ fn alpha_eq_parameter(
     if byte != code[j] {
         return Ok(None);
     }
-    let Some(kind) = ParameterKind::of_byte(byte) else {
-        unreachable!();
-    };
     let x = number_at(code, i + 1);
     let y = number_at(code, j + 1);
-    match kind {
+    match ParameterKind::of_known(byte) {
         ParameterKind::Uninstantiated => {
             let same = bound_alike(bindings, pairs, text, x, y)?;
             Ok(same.then_some((i + 3, j + 3)))
@@ -225,10 +222,7 @@ pub fn alpha_eq_under(
     if front != code[j] {
         return Ok(None);
     }
-    let Some(head) = Head::of_byte(front) else {
-        unreachable!();
-    };
-    match head {
+    match Head::of_known(front) {
         Head::True | Head::False => Ok(Some((i + 1, j + 1))),
         Head::Binary(_) => alpha_eq_sides(code, i, j, pairs, text, bindings, depth),
         Head::Atom => alpha_eq_atom(code, i, j, pairs, text, &bindings[..depth]),

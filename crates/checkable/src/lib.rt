@@ -43,10 +43,7 @@ fn is_plain_head(code: &[u8], at: usize) -> bool
     ensures { (names : ℕ) (h : heads.Head) (rest : List ℕ)
         → Stands (head_coding names) code.now at h rest → result ≡ is_plain_head h }
 {
-    let Some(head) = Head::of_byte(code[at]) else {
-        unreachable!();
-    };
-    match head {
+    match Head::of_known(code[at]) {
         Head::True | Head::False | Head::Binary(_) => true,
         Head::Atom => are_instantiated(code, at + 4, usize::from(code[at + 3])),
         Head::Quantified(_) => false,

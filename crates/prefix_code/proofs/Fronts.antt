@@ -4,14 +4,13 @@ use mathlib.Core.Path.{◌≡◌, refl, sym, ap, ◌∙◌}
 use mathlib.Core.Logic.{◌⊎◌, inl, inr}
 use native.Mathlib.Omega.{arith}
 use Rattle.definitions.specs.Prop.{connective_byte, quantifier_byte}
-use Rattle.prefix_code.specs.Head.{parts_after}
 use Rattle.prefix_code.specs.Shape.{connective_at, quantifier_at, meant, quantifier_meant, head_byte}
 use Rattle.prefix_code.specs.declared.Connective.{Connective}
 use Rattle.prefix_code.specs.declared.Connective.TheVariants.{And, Or, Impl}
 use Rattle.prefix_code.specs.declared.Quantifier.{Quantifier}
 use Rattle.prefix_code.specs.declared.Quantifier.TheVariants.{ForAll, Exists}
 use Rattle.prefix_code.specs.declared.Head.{Head}
-use Rattle.prefix_code.specs.declared.Head.TheVariants.{True, False, Binary, Atom, Quantified}
+use Rattle.prefix_code.specs.declared.Head.TheVariants.{True, False, Binary, Quantified}
 use Rattle.prefix_code.proofs.Heads.{connective_byte_lem, quantifier_byte_lem}
 
 connective_again : (c : Connective) → connective_at (connective_byte (meant c)) ≡ c
@@ -39,12 +38,6 @@ module _ {b : ℕ} {h : Head} (is : b ≡ head_byte h) where
   pub leaf_front : (h ≡ True) ⊎ (h ≡ False) → b < 2
   leaf_front (inl same) = omega (arith, front_byte same)
   leaf_front (inr same) = omega (arith, front_byte same)
-
-  pub partless_front : (h ≡ True) ⊎ ((h ≡ False) ⊎ (h ≡ Atom)) → 0 ≡ parts_after b
-  unfolding parts_after
-  partless_front (inl same) = rw (front_byte same) refl
-  partless_front (inr (inl same)) = rw (front_byte same) refl
-  partless_front (inr (inr same)) = rw (front_byte same) refl
 
   pub binary_front : {c : Connective} → h ≡ Binary c → (2 ≤ b) × (b < 5) × (c ≡ connective_at b)
   binary_front {c} same =

@@ -63,6 +63,14 @@ impl ParameterKind {
         }
     }
 
+    // The kind of a byte that stands in front of a parameter.
+    pub fn of_known(b: u8) -> ParameterKind
+        requires { b < 2 }
+        ensures { b ≡ kind_byte result }
+    {
+        ParameterKind::of_byte(b).unwrap()
+    }
+
     // Its byte in front.
     pub fn byte(self) -> u8
         ensures { result ≡ kind_byte self }
@@ -166,21 +174,6 @@ pub fn head_end(code: &[u8], at: usize, names: usize) -> usize
     }
 }
 
-// How many propositions follow a head byte.
-pub fn parts_after(head: u8) -> usize
-    requires { head < 8 }
-    ensures { result ≡ parts_after head }
-{
-    let Some(head) = Head::of_byte(head) else {
-        unreachable!();
-    };
-    match head {
-        Head::Binary(_) => 2,
-        Head::Quantified(_) => 1,
-        Head::True | Head::False | Head::Atom => 0,
-    }
-}
-
 // Where the proposition at `at` ends, and past the end of the code if none stands there. How many are still needed grows on the way, so
 // no range counts the turns.
 pub fn scan(code: &[u8], at: usize, names: usize) -> usize
@@ -194,7 +187,7 @@ pub fn scan(code: &[u8], at: usize, names: usize) -> usize
         if code.len() < end {
             return end;
         }
-        needed = needed - 1 + parts_after(code[i]);
+        needed = needed - 1 + Head::of_known(code[i]).parts();
         i = end;
     }
     i
@@ -212,7 +205,7 @@ fn shallow_end(code: &[u8], at: usize, names: usize, depth: usize) -> usize
     if code.len() < i {
         return i;
     }
-    for _ in 0..parts_after(code[at]) {
+    for _ in 0..Head::of_known(code[at]).parts() {
         let end = shallow_end(code, i, names, depth - 1);
         if code.len() < end {
             return end;
@@ -360,6 +353,26 @@ impl Head {
             _ => None,
         }
     }
+
+    // The head of a byte that stands in front of a proposition.
+    pub fn of_known(b: u8) -> Head
+        requires { b < 8 }
+        ensures { b ≡ head_byte result }
+    {
+        Head::of_byte(b).unwrap()
+    }
+
+    // How many propositions follow it.
+    #[tactic(auto, using(crate::proofs::Heads::connective_byte_lem, crate::proofs::Heads::quantifier_byte_lem), unfolding(crate::specs::Head::parts_after))]
+    pub fn parts(self) -> usize
+        ensures { result ≡ parts_after (head_byte self) }
+    {
+        match self {
+            Head::Binary(_) => 2,
+            Head::Quantified(_) => 1,
+            Head::True | Head::False | Head::Atom => 0,
+        }
+    }
 }
 
 // What the proposition at a position is: its form, the numbers that stand behind its byte in front, and where its first part or its
@@ -390,10 +403,7 @@ pub fn shape_at(code: &[u8], at: usize) -> Shape
     requires { SomeProposition code.now at }
     ensures { (names : ℕ) → Present names code.now at → ShapeOf names code.now at result }
 {
-    let Some(head) = Head::of_byte(code[at]) else {
-        unreachable!();
-    };
-    match head {
+    match Head::of_known(code[at]) {
         Head::True => Shape::True,
         Head::False => Shape::False,
         Head::Binary(connective) => Shape::Binary {

@@ -1,5 +1,5 @@
 -- How strongly a proposition binds, by the head that its byte in front stands for.
-use Prim.Native.Nat.{ℕ, ◌≤◌}
+use Prim.Native.Nat.{ℕ}
 use mathlib.Core.Path.{◌≡◌, refl, sym, ◌∙◌}
 use mathlib.Core.Bool.{true, false}
 use mathlib.Core.List.{List}
@@ -8,8 +8,6 @@ use native.Mathlib.Omega.{arith}
 use lib.ListN.{get_or}
 use lib.Dec.{eqb}
 use borrow.Author.Tests.{ne_eqb}
-use Rattle.std.specs.Prelude.{Option, None, Some, MatchOption}
-use Rattle.std.specs.Option.{option_eq}
 use Rattle.definitions.specs.Name.{Name}
 use Rattle.definitions.specs.Prop.{connective_byte, rename_prop}
 use Rattle.definitions.specs.Display.{connective_precedence, precedence}
@@ -26,14 +24,12 @@ use Rattle.prop.specs.Ends.{Known}
 use Rattle.prop.proofs.Shown.{strengths, strength_elsewhere}
 
 -- ⊥ is told by its byte
-pub is_bottom : (b : ℕ) (head : Option Head) → MatchOption head (8 ≤ b) (λ h. b ≡ head_byte h)
-    → option_eq eq-value.it head (Some False) ≡ eqb b 1
-is_bottom b None is = sym (ne_eqb b 1 (λ e. omega arith))
-is_bottom b (Some True) is = rw is refl
-is_bottom b (Some False) is = rw is refl
-is_bottom b (Some (Binary c)) is = sym (ne_eqb b 1 (λ e. omega (arith, is, connective_byte_lem (meant c))))
-is_bottom b (Some Atom) is = rw is refl
-is_bottom b (Some (Quantified q)) is = sym (ne_eqb b 1 (λ e. omega (arith, is, quantifier_byte_lem (quantifier_meant q))))
+pub is_bottom : (b : ℕ) (head : Head) → b ≡ head_byte head → eq-value.it head False ≡ eqb b 1
+is_bottom b True is = rw is refl
+is_bottom b False is = rw is refl
+is_bottom b (Binary c) is = sym (ne_eqb b 1 (λ e. omega (arith, is, connective_byte_lem (meant c))))
+is_bottom b Atom is = rw is refl
+is_bottom b (Quantified q) is = sym (ne_eqb b 1 (λ e. omega (arith, is, quantifier_byte_lem (quantifier_meant q))))
 
 -- an implication is told by its head
 pub is_implication : (h : Head) → eq-value.it h (Binary Impl) ≡ true → head_byte h ≡ 4

@@ -14,9 +14,7 @@ ghost use Rattle.prop.specs.Printing.{quantifier_head, prop_text, part_text, Ato
 
 use number::{number_at, pair_offset};
 use output::Sink;
-use prefix_code::{
-    Connective, Head, Quantifier, Shape, WEAKEST, head_end, parameter_end, parts_after,
-};
+use prefix_code::{Connective, Head, Quantifier, Shape, WEAKEST, head_end, parameter_end};
 use vocabulary::{Vocabulary, code_of, name, shape};
 
 // How strongly an atom binds.
@@ -29,7 +27,7 @@ pub fn fill_ends(code: &[u8], at: usize, names: usize, ends: &mut [u16]) -> usiz
     ensures { Filled (prop_at names code.now at) ends.old at ends.new result }
 {
     let mut i = head_end(code, at, names);
-    for _ in 0..parts_after(code[at]) {
+    for _ in 0..Head::of_known(code[at]).parts() {
         i = fill_ends(code, i, names, ends);
     }
     ends[at] = i as u16;
@@ -54,12 +52,10 @@ pub fn precedence(code: &[u8], ends: &[u16], at: usize) -> usize
     ensures { (names : ℕ) (f : ℕ → Name) → Known names code.now ends.now at →
         result ≡ Rattle.definitions.specs.Display.precedence (rename_prop f (prop_at names code.now at)) }
 {
-    let Some(head) = Head::of_byte(code[at]) else {
-        unreachable!();
-    };
+    let head = Head::of_known(code[at]);
     if head == Head::Binary(Connective::Impl) {
         let right = ends[at + 1] as usize;
-        if Head::of_byte(code[right]) == Some(Head::False) {
+        if Head::of_known(code[right]) == Head::False {
             return ATOM_STRENGTH;
         }
         return Connective::Impl.strength();

@@ -45,10 +45,7 @@ fn next_head(code: &[u8], at: usize, end: usize, names: usize, list: TermList) -
 {
     let mut i = at;
     while i < end {
-        let Some(head) = Head::of_byte(code[i]) else {
-            unreachable!();
-        };
-        if has_entry(list, head) {
+        if has_entry(list, Head::of_known(code[i])) {
             return i;
         }
         i = head_end(code, i, names);

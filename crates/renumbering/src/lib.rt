@@ -41,12 +41,9 @@ fn put_parameter<S: Sink<u8>>(code: &[u8], at: usize, numbers: &[u16], sink: &mu
         Renumbers (parameter_coding names) rename_parameter code.now at numbers.now S.puts sink.old sink.new }
 {
     let byte = code[at];
-    let Some(kind) = ParameterKind::of_byte(byte) else {
-        unreachable!();
-    };
     sink.put(byte);
     put_name(code, at + 1, numbers, sink);
-    match kind {
+    match ParameterKind::of_known(byte) {
         ParameterKind::Uninstantiated => {}
         ParameterKind::Instantiated => put_u16(sink, number_at(code, at + 3) as u16),
     }
@@ -77,11 +74,8 @@ fn put_head<S: Sink<u8>>(code: &[u8], at: usize, names: usize, numbers: &[u16], 
     ensures { Renumbers (head_coding names) rename_head code.now at numbers.now S.puts sink.old sink.new }
 {
     let front = code[at];
-    let Some(head) = Head::of_byte(front) else {
-        unreachable!();
-    };
     sink.put(front);
-    match head {
+    match Head::of_known(front) {
         Head::True | Head::False | Head::Binary(_) => {}
         Head::Atom => {
             let count = code[at + 3];

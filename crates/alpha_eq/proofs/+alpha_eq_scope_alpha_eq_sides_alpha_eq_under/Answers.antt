@@ -140,17 +140,17 @@ alpha_eq_sides-alpha_eq_under-requires t c = (omega (arith, c.decreases, sides_i
 -- `alpha_eq_under` by its places: what stands at both, by the byte in front
 sides : (t : ℕ) → (c : alpha_eq_under-In-Binary t) → let s = c.args in SameForm of_sides s.code.now s.i s.j
 sides t c =
-    let front = binary_front c.in-Some.ensures c.in-Binary.is in
+    let front = binary_front c.of_known.ensures c.in-Binary.is in
     same_connective _ _ _ c.if-front-code.false front.0 front.1
 
 atom : (t : ℕ) → (c : alpha_eq_under-In-Atom t) → let s = c.args in SameForm of_applied s.code.now s.i s.j
-atom t c = same_atom _ _ _ c.if-front-code.false (front_byte c.in-Some.ensures c.in-Atom.is)
+atom t c = same_atom _ _ _ c.if-front-code.false (front_byte c.of_known.ensures c.in-Atom.is)
 
 scope : (t : ℕ) → (c : alpha_eq_under-In-Quantified t) → let s = c.args in SameForm of_scope s.code.now s.i s.j
-scope t c = same_quantifier _ _ _ c.if-front-code.false (quantified_front c.in-Some.ensures c.in-Quantified.is).0
+scope t c = same_quantifier _ _ _ c.if-front-code.false (quantified_front c.of_known.ensures c.in-Quantified.is).0
 
-pub alpha_eq_under-unreachable-requires : goal.alpha_eq_under-unreachable-requires
-alpha_eq_under-unreachable-requires t c = omega (arith, known c.requires, c.in_default.ensures)
+pub alpha_eq_under-of_known-requires : goal.alpha_eq_under-of_known-requires
+alpha_eq_under-of_known-requires t c = known c.requires
 
 pub alpha_eq_under-alpha_eq_sides-requires : goal.alpha_eq_under-alpha_eq_sides-requires
 alpha_eq_under-alpha_eq_sides-requires t c = (
@@ -208,4 +208,4 @@ alpha_eq_under-overflow_add-result-in-True t c = omega (arith, inside c.requires
 
 pub alpha_eq_under-returns-in-True : goal.alpha_eq_under-returns-in-True
 alpha_eq_under-returns-in-True t c =
-    record { answers = same_leaf _ _ _ _ _ _ _ c.if-front-code.false (leaf_front c.in-Some.ensures c.in-True.is); kept = kept_all }
+    record { answers = same_leaf _ _ _ _ _ _ _ c.if-front-code.false (leaf_front c.of_known.ensures c.in-True.is); kept = kept_all }

@@ -16,7 +16,7 @@ use Rattle.alpha_eq.proofs.alpha_eq_parameter.Goals.{After-then_some-in-Instanti
 
 -- the byte in front of both is the kind's
 left_kind : (c : In-Instantiated) → get_or c.args.code.now c.args.i 0 ≡ 1
-left_kind c = c.in-Some.ensures ∙ ap kind_byte c.in-Instantiated.is
+left_kind c = c.of_known.ensures ∙ ap kind_byte c.in-Instantiated.is
 
 right_kind : (c : In-Instantiated) → get_or c.args.code.now c.args.j 0 ≡ 1
 right_kind c = omega (arith, left_kind c, c.if-byte-code.false)
@@ -28,7 +28,7 @@ right_id : (c : In-Instantiated) → let s = c.args in s.j + 5 ≤ length s.code
 right_id c = id_at c.requires.two.right (right_kind c)
 
 bound : (c : In-Uninstantiated) → get_or c.args.code.now c.args.i 0 ≡ 0
-bound c = c.in-Some.ensures ∙ ap kind_byte c.in-Uninstantiated.is
+bound c = c.of_known.ensures ∙ ap kind_byte c.in-Uninstantiated.is
 
 -- the names and the ids are compared
 alike : (c : After-then_some-in-Instantiated)
@@ -95,8 +95,8 @@ overflow_add-j-in-Instantiated c = omega (arith, right_id (goal.at.overflow_add-
 pub number_at-other_id-requires : goal.number_at-other_id-requires
 number_at-other_id-requires c = omega (arith, right_id (goal.at.number_at-other_id-requires c).In-Instantiated)
 
-pub unreachable-requires : goal.unreachable-requires
-unreachable-requires c = omega (arith, (parameter_at c.requires.two.left).kind, c.in_default.ensures)
+pub of_known-requires : goal.of_known-requires
+of_known-requires c = omega (arith, (parameter_at c.requires.two.left).kind)
 
 pub returns-after-same_object : goal.returns-after-same_object
 returns-after-same_object c =

@@ -7,20 +7,20 @@ use Rattle.checkable.proofs.is_plain_head.Goals as goal
 pub bounds-code-at : goal.bounds-code-at
 bounds-code-at c = some_inside _ _ c.requires
 
-pub unreachable-requires : goal.unreachable-requires
-unreachable-requires c = omega (arith, some_known _ _ c.requires, c.in_default.ensures)
+pub of_known-requires : goal.of_known-requires
+of_known-requires c = some_known _ _ c.requires
 
 pub bounds-code-at-in-Atom : goal.bounds-code-at-in-Atom
-bounds-code-at-in-Atom c = omega (arith, (atom_inside _ _ c.requires (front_byte c.in-Some.ensures c.in-Atom.is)).0)
+bounds-code-at-in-Atom c = omega (arith, (atom_inside _ _ c.requires (front_byte c.of_known.ensures c.in-Atom.is)).0)
 
 pub are_instantiated-requires : goal.are_instantiated-requires
-are_instantiated-requires c = rw c.from.ensures (atom_inside _ _ c.requires (front_byte c.in-Some.ensures c.in-Atom.is)).1
+are_instantiated-requires c = rw c.from.ensures (atom_inside _ _ c.requires (front_byte c.of_known.ensures c.in-Atom.is)).1
 
 pub returns-in-True : goal.returns-in-True
-returns-in-True c = plain_bare _ _ (bare_front c.in-Some.ensures c.in-True.is)
+returns-in-True c = plain_bare _ _ (bare_front c.of_known.ensures c.in-True.is)
 
 pub returns-in-Atom : goal.returns-in-Atom
-returns-in-Atom c = plain_atom _ _ (front_byte c.in-Some.ensures c.in-Atom.is) _ (rw c.from.ensures at c.are_instantiated.ensures)
+returns-in-Atom c = plain_atom _ _ (front_byte c.of_known.ensures c.in-Atom.is) _ (rw c.from.ensures at c.are_instantiated.ensures)
 
 pub returns-in-Quantified : goal.returns-in-Quantified
-returns-in-Quantified c = no_plain_quantifier _ _ (quantified_front c.in-Some.ensures c.in-Quantified.is).0
+returns-in-Quantified c = no_plain_quantifier _ _ (quantified_front c.of_known.ensures c.in-Quantified.is).0

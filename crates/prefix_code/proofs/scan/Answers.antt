@@ -2,19 +2,26 @@
 use mathlib.Core.Path.{◌≡◌}
 use mathlib.Core.Logic.Iff
 use native.Mathlib.Omega.{arith}
+use lib.ListN.{get_or}
+use Rattle.prefix_code.specs.Head.{parts_after}
 use Rattle.prefix_code.proofs.Runs.{walk_end}
 use Rattle.prefix_code.proofs.Propositions.{Headed, headed, walk_head, walk_no_head}
 use Rattle.prefix_code.proofs.scan.Goals as goal
-use Rattle.prefix_code.proofs.scan.Goals.{Else-code-end}
+use Rattle.prefix_code.proofs.scan.Goals.{Else-code-end, After-parts}
 
 -- where the head ends inside the code
 head : (c : Else-code-end) → Headed c.args.code.now c.loop-needed.i c.head_end-end.result
 head c = headed _ _ _ _ c.head_end-end.ensures c.if-code-end.false
 
+-- how many parts follow it, by its byte
+counted : (c : After-parts) → c.parts.result ≡ parts_after (get_or c.args.code.now c.loop-needed.i 0)
+counted c = rw c.of_known.ensures c.parts.ensures
+
 pub loop-needed-preserved : goal.loop-needed-preserved
 loop-needed-preserved c =
     let walked = walk_head _ _ _ _ _ _ c.loop-needed.invariant.0 c.loop-needed-test.true c.head_end-end.ensures c.if-code-end.false in
-    (rw c.parts_after.ensures walked, omega (arith, head (goal.at.loop-needed-preserved c).Else-code-end))
+    let count = counted (goal.at.loop-needed-preserved c).After-parts in
+    (rw count walked, omega (arith, count, head (goal.at.loop-needed-preserved c).Else-code-end))
 
 pub returns : goal.returns
 returns c =
@@ -33,11 +40,12 @@ returns-then-code-end c = walk_no_head _ _ _ _ _ _ c.loop-needed.invariant.0 c.l
 pub bounds-code-i : goal.bounds-code-i
 bounds-code-i c = (head (goal.at.bounds-code-i c).Else-code-end).inside
 
-pub parts_after-requires : goal.parts_after-requires
-parts_after-requires c = (head (goal.at.parts_after-requires c).Else-code-end).known
+pub of_known-requires : goal.of_known-requires
+of_known-requires c = (head (goal.at.of_known-requires c).Else-code-end).known
 
 pub overflow_add-needed : goal.overflow_add-needed
-overflow_add-needed c = omega (arith, head (goal.at.overflow_add-needed c).Else-code-end)
+overflow_add-needed c =
+    omega (arith, counted (goal.at.overflow_add-needed c).After-parts, head (goal.at.overflow_add-needed c).Else-code-end)
 
 pub loop-needed-smaller : goal.loop-needed-smaller
 loop-needed-smaller c = omega (arith, head (goal.at.loop-needed-smaller c).Else-code-end)

@@ -12,19 +12,19 @@ use Rattle.prefix_code.proofs.shape_at.Goals.{In-Atom, In-Quantified}
 
 -- an atom has a name, and a quantifier has two
 atom : (c : In-Atom) → get_or c.args.code.now c.args.at 0 ≡ 5
-atom c = front_byte c.in-Some.ensures c.in-Atom.is
+atom c = front_byte c.of_known.ensures c.in-Atom.is
 
 named : (c : In-Atom) → let s = c.args in s.at + 4 ≤ length s.code.now
 named c = one_name c.requires.present (omega (arith, atom c))
 
 twice_named : (c : In-Quantified) → let s = c.args in s.at + 5 ≤ length s.code.now
-twice_named c = two_names c.requires.present (quantified_front c.in-Some.ensures c.in-Quantified.is).0
+twice_named c = two_names c.requires.present (quantified_front c.of_known.ensures c.in-Quantified.is).0
 
 pub bounds-code-at : goal.bounds-code-at
 bounds-code-at c = (inside c.requires.present).start
 
-pub unreachable-requires : goal.unreachable-requires
-unreachable-requires c = omega (arith, (inside c.requires.present).known, c.in_default.ensures)
+pub of_known-requires : goal.of_known-requires
+of_known-requires c = (inside c.requires.present).known
 
 pub overflow_add-result : goal.overflow_add-result
 overflow_add-result c = omega (arith, inside c.requires.present)
@@ -51,14 +51,14 @@ pub overflow_add-result-in-Quantified : goal.overflow_add-result-in-Quantified
 overflow_add-result-in-Quantified c = omega (arith, twice_named (goal.at.overflow_add-result-in-Quantified c).In-Quantified)
 
 pub returns-in-True : goal.returns-in-True
-returns-in-True c names h = true_shape h (front_byte c.in-Some.ensures c.in-True.is)
+returns-in-True c names h = true_shape h (front_byte c.of_known.ensures c.in-True.is)
 
 pub returns-in-False : goal.returns-in-False
-returns-in-False c names h = false_shape h (front_byte c.in-Some.ensures c.in-False.is)
+returns-in-False c names h = false_shape h (front_byte c.of_known.ensures c.in-False.is)
 
 pub returns-in-Binary : goal.returns-in-Binary
 returns-in-Binary c names h =
-    let front = binary_front c.in-Some.ensures c.in-Binary.is in
+    let front = binary_front c.of_known.ensures c.in-Binary.is in
     rw front.2 (binary_shape h front.0 front.1)
 
 pub returns-in-Atom : goal.returns-in-Atom
@@ -66,5 +66,5 @@ returns-in-Atom c names h = rw c.number_at.ensures.0 (atom_shape h (atom (goal.a
 
 pub returns-in-Quantified : goal.returns-in-Quantified
 returns-in-Quantified c names h =
-    let front = quantified_front c.in-Some.ensures c.in-Quantified.is in
+    let front = quantified_front c.of_known.ensures c.in-Quantified.is in
     rw (front.2, c.number_at-in-Quantified.ensures.0, c.number_at-in-Quantified-2.ensures.0) (quantified_shape h front.0)

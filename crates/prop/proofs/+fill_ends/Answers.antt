@@ -8,7 +8,7 @@ use Rattle.prefix_code.specs.Head.{parts_after}
 use Rattle.prefix_code.proofs.Reading.{Inside, inside}
 use Rattle.prop.proofs.Filling.{room_kept, filling_starts, filling_next, filling_steps, filling_ends}
 use Rattle.prop.proofs.+fill_ends.Goals as goal
-use Rattle.prop.proofs.+fill_ends.Goals.{At-loop}
+use Rattle.prop.proofs.+fill_ends.Goals.{At-loop, After-parts-end}
 
 -- the proposition lies within the code, and so its entry within the table
 within : (t : ℕ) → (c : At-loop t) → let s = c.args in Inside s.names s.code.now s.at
@@ -17,14 +17,18 @@ within t c = inside c.requires.present
 entry_inside : (t : ℕ) → (c : At-loop t) → c.args.at < length c.loop.ends
 entry_inside t c = omega (arith, c.loop.invariant.so_far.size, (within t c).start, c.requires.room.long)
 
+-- how many parts follow the head, by its byte
+counted : (t : ℕ) → (c : After-parts-end t) → c.parts-end.result ≡ parts_after (get_or c.args.code.now c.args.at 0)
+counted t c = rw c.of_known.ensures c.parts-end.ensures
+
 pub head_end-i-requires : goal.head_end-i-requires
 head_end-i-requires t c = omega (arith, inside c.requires.present)
 
 pub bounds-code-at : goal.bounds-code-at
 bounds-code-at t c = (inside c.requires.present).start
 
-pub parts_after-end-requires : goal.parts_after-end-requires
-parts_after-end-requires t c = (inside c.requires.present).known
+pub of_known-requires : goal.of_known-requires
+of_known-requires t c = (inside c.requires.present).known
 
 pub loop-init : goal.loop-init
 loop-init t c =
@@ -34,18 +38,18 @@ loop-init t c =
 
 pub fill_ends-i-requires : goal.fill_ends-i-requires
 fill_ends-i-requires t c =
-    let next = filling_next _ _ c.loop.invariant (omega arith) in
+    let next = filling_next _ _ c.loop.invariant (omega (arith, counted t (goal.at.fill_ends-i-requires t c).After-parts-end)) in
     let further = c.loop.invariant.so_far.further in
     let room = room_kept c.loop.invariant.so_far.size c.requires.room in
     (omega (arith, c.decreases, inside next), record { present = next; room = room })
 
 pub loop-preserved : goal.loop-preserved
 loop-preserved t c =
-    filling_steps _ _ c.loop.invariant (omega arith) c.fill_ends-i.auto.ends c.fill_ends-i.ensures
+    filling_steps _ _ c.loop.invariant (omega (arith, counted t (goal.at.loop-preserved t c).After-parts-end)) c.fill_ends-i.auto.ends c.fill_ends-i.ensures
 
 pub returns : goal.returns
 returns t c =
-    let none : parts_after (get_or c.args.code.now c.args.at 0) - c.loop.counter ≡ 0 = omega arith in
+    let none : parts_after (get_or c.args.code.now c.args.at 0) - c.loop.counter ≡ 0 = omega (arith, counted t (goal.at.returns t c).After-parts-end) in
     filling_ends _ _ (rw none at c.loop.invariant) (entry_inside t (goal.at.returns t c).At-loop)
 
 pub overflow_cast-ends : goal.overflow_cast-ends

@@ -10,7 +10,7 @@ use Rattle.prop_lists.proofs.next_head.Goals.{After-head_end-i}
 
 pub returns-then-has_entry : goal.returns-then-has_entry
 returns-then-has_entry c =
-    let has = rw (← c.in-Some.ensures) at (sym c.has_entry.ensures ∙ c.if-has_entry.true) in
+    let has = rw (← c.of_known.ensures) at (sym c.has_entry.ensures ∙ c.if-has_entry.true) in
     record { passed = c.loop-i.invariant; has_entry = λ h. has }
 
 passed : (c : After-head_end-i) → let s = c.args in
@@ -18,10 +18,10 @@ passed : (c : After-head_end-i) → let s = c.args in
     × Passed s.names s.list s.code.now s.at s.end c.head_end-i.result
 passed c =
     walk_on _ _ _ _ _ _ _ c.loop-i.invariant c.loop-i-test.true
-    (rw (← c.in-Some.ensures) at (sym c.has_entry.ensures ∙ c.if-has_entry.false)) c.head_end-i.ensures
+    (rw (← c.of_known.ensures) at (sym c.has_entry.ensures ∙ c.if-has_entry.false)) c.head_end-i.ensures
 
-pub unreachable-requires : goal.unreachable-requires
-unreachable-requires c = omega (arith, known _ _ _ _ c.loop-i.invariant.row c.loop-i-test.true, c.in_default.ensures)
+pub of_known-requires : goal.of_known-requires
+of_known-requires c = known _ _ _ _ c.loop-i.invariant.row c.loop-i-test.true
 
 pub loop-i-init : goal.loop-i-init
 loop-i-init c = walk_start _ _ _ _ _ c.requires

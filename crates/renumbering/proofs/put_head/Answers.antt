@@ -10,13 +10,13 @@ use Rattle.renumbering.proofs.put_head.Goals.{In-Atom, In-Quantified}
 
 -- what stands there, by the byte in front
 byte5 : (g : _) → (c : In-Atom g) → get_or c.args.code.now c.args.at 0 ≡ 5
-byte5 g c = front_byte c.in-Some.ensures c.in-Atom.is
+byte5 g c = front_byte c.of_known.ensures c.in-Atom.is
 
 atom : (g : _) → (c : In-Atom g) → AtomThere c.args.names c.args.code.now c.args.at c.requires.0.value c.requires.0.rest
 atom g c = atom_at _ c.requires.0 (byte5 g c)
 
 high : (g : _) → (c : In-Quantified g) → 5 < get_or c.args.code.now c.args.at 0
-high g c = (quantified_front c.in-Some.ensures c.in-Quantified.is).0
+high g c = (quantified_front c.of_known.ensures c.in-Quantified.is).0
 
 quantifier : (g : _) → (c : In-Quantified g) → QuantifierThere c.args.names c.args.code.now c.args.at c.requires.0.value c.requires.0.rest
 quantifier g c = quantifier_at _ c.requires.0 (high g c)
@@ -24,11 +24,11 @@ quantifier g c = quantifier_at _ c.requires.0 (high g c)
 pub bounds-code-at : goal.bounds-code-at
 bounds-code-at g c = (head_at _ c.requires.0).inside
 
-pub unreachable-requires : goal.unreachable-requires
-unreachable-requires g c = omega (arith, (head_at _ c.requires.0).known, c.in_default.ensures)
+pub of_known-requires : goal.of_known-requires
+of_known-requires g c = (head_at _ c.requires.0).known
 
 pub returns-in-True : goal.returns-in-True
-returns-in-True g c = bare_written _ _ g.met.S.Sink.laws c.put.ensures (bare_front c.in-Some.ensures c.in-True.is)
+returns-in-True g c = bare_written _ _ g.met.S.Sink.laws c.put.ensures (bare_front c.of_known.ensures c.in-True.is)
 
 pub bounds-code-at-in-Atom : goal.bounds-code-at-in-Atom
 bounds-code-at-in-Atom g c = omega (arith, (atom g (goal.at.bounds-code-at-in-Atom g c).In-Atom).bytes.inside)

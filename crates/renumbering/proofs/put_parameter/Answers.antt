@@ -8,13 +8,13 @@ use Rattle.renumbering.proofs.put_parameter.Goals as goal
 use Rattle.renumbering.proofs.put_parameter.Goals.{In-Instantiated}
 
 free : (g : _) → (c : In-Instantiated g) → get_or c.args.code.now c.args.at 0 ≡ 1
-free g c = c.in-Some.ensures ∙ ap kind_byte c.in-Instantiated.is
+free g c = c.of_known.ensures ∙ ap kind_byte c.in-Instantiated.is
 
 pub bounds-code-at : goal.bounds-code-at
 bounds-code-at g c = omega (arith, (parameter_at _ c.requires.1).inside)
 
-pub unreachable-requires : goal.unreachable-requires
-unreachable-requires g c = omega (arith, (parameter_at _ c.requires.1).kind, c.in_default.ensures)
+pub of_known-requires : goal.of_known-requires
+of_known-requires g c = omega (arith, (parameter_at _ c.requires.1).kind)
 
 pub put_name-requires : goal.put_name-requires
 put_name-requires g c =
@@ -26,7 +26,7 @@ number_at-requires g c = omega (arith, ((parameter_at _ c.requires.1).instantiat
 
 pub returns-in-Uninstantiated : goal.returns-in-Uninstantiated
 returns-in-Uninstantiated g c =
-    λ names. uninstantiated_written names _ g.met.S.Sink.laws c.put.ensures c.put_name.ensures (c.in-Some.ensures ∙ ap kind_byte c.in-Uninstantiated.is)
+    λ names. uninstantiated_written names _ g.met.S.Sink.laws c.put.ensures c.put_name.ensures (c.of_known.ensures ∙ ap kind_byte c.in-Uninstantiated.is)
 
 pub returns-in-Instantiated : goal.returns-in-Instantiated
 returns-in-Instantiated g c =
