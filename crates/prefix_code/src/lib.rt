@@ -3,7 +3,7 @@
 
 ghost use Rattle.std.specs.Prelude.{◌≡◌, ℕ, ◌≤◌, ◌<◌, false, not, length, ltb, get_or, MatchOption, unwrap_or};
 ghost use Rattle.definitions.specs.Prop.{False, nesting, connective_byte, quantifier_byte};
-ghost use Rattle.definitions.specs.Display.{connective_precedence, wraps_left, wraps_right};
+ghost use Rattle.definitions.specs.Display.{connective_precedence, wraps_left, wraps_right, connective_text, quantifier_text};
 ghost use Rattle.definitions.specs.TermReader.{right_least};
 ghost use Rattle.definitions.specs.Code.{decode};
 ghost use Rattle.definitions.specs.Admission.{is_none};
@@ -257,6 +257,18 @@ impl Connective {
         self as u8
     }
 
+    // Its text, with a blank on each side.
+    #[tactic(auto, unfolding(definitions::specs::Display::connective_text))]
+    pub fn text(self) -> &'static [u8]
+        ensures { result.now ≡ connective_text (meant self) }
+    {
+        match self {
+            Connective::And => b" \xE2\x88\xA7 ", // ∧
+            Connective::Or => b" \xE2\x88\xA8 ", // ∨
+            Connective::Impl => b" \xE2\x8A\x83 ", // ⊃
+        }
+    }
+
     // How strongly it binds.
     #[tactic(auto, unfolding(definitions::specs::Display::connective_precedence))]
     pub fn strength(self) -> usize
@@ -322,6 +334,17 @@ impl Quantifier {
         ensures { result ≡ quantifier_byte (quantifier_meant self) }
     {
         self as u8
+    }
+
+    // Its sign.
+    #[tactic(auto, unfolding(definitions::specs::Display::quantifier_text))]
+    pub fn sign(self) -> &'static [u8]
+        ensures { result.now ≡ quantifier_text (quantifier_meant self) }
+    {
+        match self {
+            Quantifier::ForAll => b"\xE2\x88\x80", // ∀
+            Quantifier::Exists => b"\xE2\x88\x83", // ∃
+        }
     }
 }
 

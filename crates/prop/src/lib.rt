@@ -5,9 +5,9 @@ ghost use Rattle.std.specs.Prelude.{◌≡◌, ℕ, ◌<◌};
 ghost use Rattle.definitions.specs.Name.{Name};
 ghost use Rattle.definitions.specs.Prop.{rename_prop};
 ghost use Rattle.definitions.specs.Sheet.{pair_offset};
-ghost use Rattle.definitions.specs.Display.{connective_text, quantifier_text};
+ghost use Rattle.definitions.specs.Display;
 ghost use Rattle.prefix_code.specs.PropAt.{prop_at};
-ghost use Rattle.prefix_code.specs.Shape.{meant, quantifier_meant};
+ghost use Rattle.prefix_code.specs.Shape.{quantifier_meant};
 ghost use Rattle.vocabulary.specs.Vocabulary.{name_in, Names};
 ghost use Rattle.prop.specs.Ends.{Known, Fillable, Filled, AllFillable};
 ghost use Rattle.prop.specs.Printing.{quantifier_head, prop_text, part_text, AtomPrintable, Printable, Legible};
@@ -50,7 +50,7 @@ pub fn fill_all_ends(pairs: &[u8], code: &[u8], count: usize, names: usize, ends
 pub fn precedence(code: &[u8], ends: &[u16], at: usize) -> usize
     requires { Legible code.now ends.now at }
     ensures { (names : ℕ) (f : ℕ → Name) → Known names code.now ends.now at →
-        result ≡ Rattle.definitions.specs.Display.precedence (rename_prop f (prop_at names code.now at)) }
+        result ≡ Display.precedence (rename_prop f (prop_at names code.now at)) }
 {
     let head = Head::of_known(code[at]);
     if head == Head::Binary(Connective::Impl) {
@@ -70,29 +70,6 @@ pub fn precedence(code: &[u8], ends: &[u16], at: usize) -> usize
 // The functions that follow take a memory, its vocabulary and its table of ends as they are: of a struct that holds them, each clause
 // would name `p.now.bytes.now`, `p.now.v` and `p.now.ends.now`.
 
-// A connective with a blank on each side. The reader of labels goes the other way, from the bytes of a sign to its connective.
-#[tactic(auto, unfolding(definitions::specs::Display::connective_text))]
-fn put_connective<S: Sink<u8>>(sink: &mut S, c: Connective)
-    ensures { S.puts sink.old (connective_text (meant c)) sink.new }
-{
-    match c {
-        Connective::And => sink.put_all(b" \xE2\x88\xA7 "), // ∧
-        Connective::Or => sink.put_all(b" \xE2\x88\xA8 "), // ∨
-        Connective::Impl => sink.put_all(b" \xE2\x8A\x83 "), // ⊃
-    }
-}
-
-// The sign of a quantifier.
-#[tactic(auto, unfolding(definitions::specs::Display::quantifier_text))]
-fn put_quantifier_sign<S: Sink<u8>>(sink: &mut S, q: Quantifier)
-    ensures { S.puts sink.old (quantifier_text (quantifier_meant q)) sink.new }
-{
-    match q {
-        Quantifier::ForAll => sink.put_all(b"\xE2\x88\x80"), // ∀
-        Quantifier::Exists => sink.put_all(b"\xE2\x88\x83"), // ∃
-    }
-}
-
 // A quantifier with its object and its datatype, up to its body.
 fn put_quantifier<S: Sink<u8>>(
     sink: &mut S,
@@ -105,7 +82,7 @@ fn put_quantifier<S: Sink<u8>>(
     requires { Names bytes.now v object × Names bytes.now v datatype }
     ensures { S.puts sink.old (quantifier_head (name_in bytes.now v) (quantifier_meant q) object datatype) sink.new }
 {
-    put_quantifier_sign(sink, q);
+    sink.put_all(q.sign());
     sink.put_all(name(bytes, v, object));
     sink.put(b':');
     sink.put_all(name(bytes, v, datatype));
@@ -191,7 +168,7 @@ pub fn put_proposition<S: Sink<u8>>(
             }
             let right = ends[left] as usize;
             put_part(sink, bytes, v, ends, left, connective.left_least());
-            put_connective(sink, connective);
+            sink.put_all(connective.text());
             put_part(sink, bytes, v, ends, right, connective.right_least());
         }
     }

@@ -49,27 +49,25 @@ pub struct NameRead {
     pub count: usize,
 }
 
-// Each sign is looked for in turn, with its blanks or its bracket as they stand in a text; in prop a sign's text stands at the arm of
-// the match in which it is put.
-
-// The connective at `at`.
+// The connective at `at`, each looked for in turn: the closure of a `find` would answer whether a text stands there, and lose what `expect`
+// says of the bytes behind it.
 pub fn connective_at(text: &[u8], at: usize) -> Option<Connective>
     requires { at ≤ length text.now }
     ensures { MatchOption result (connective (drop at text.now) ≡ None) (ConnectiveAt text.now at) }
 {
-    if expect(text, at, b" \xE2\x88\xA7 ").is_some() {
+    if expect(text, at, Connective::And.text()).is_some() {
         return Some(Connective::And);
     }
-    if expect(text, at, b" \xE2\x88\xA8 ").is_some() {
+    if expect(text, at, Connective::Or.text()).is_some() {
         return Some(Connective::Or);
     }
-    if expect(text, at, b" \xE2\x8A\x83 ").is_some() {
+    if expect(text, at, Connective::Impl.text()).is_some() {
         return Some(Connective::Impl);
     }
     None
 }
 
-// The sign at `at`.
+// The sign at `at`, each looked for in turn.
 pub fn sign_at(text: &[u8], at: usize) -> Option<Sign>
     requires { at ≤ length text.now }
     ensures { MatchOption result (sign (drop at text.now) ≡ None) (SignAt text.now at) }
@@ -86,10 +84,10 @@ pub fn sign_at(text: &[u8], at: usize) -> Option<Sign>
     if expect(text, at, b"(").is_some() {
         return Some(Sign::Opening(Opening::Bracket));
     }
-    if expect(text, at, b"\xE2\x88\x80").is_some() {
+    if expect(text, at, Quantifier::ForAll.sign()).is_some() {
         return Some(Sign::Opening(Opening::Binder(Quantifier::ForAll)));
     }
-    if expect(text, at, b"\xE2\x88\x83").is_some() {
+    if expect(text, at, Quantifier::Exists.sign()).is_some() {
         return Some(Sign::Opening(Opening::Binder(Quantifier::Exists)));
     }
     None

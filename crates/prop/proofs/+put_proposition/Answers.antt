@@ -164,8 +164,9 @@ put_proposition-returns-else-precedence-eq-ATOM_STRENGTH g t c =
     rw (
       ← (binary_text _ _ _ _ _ b.parts (λ e. c.if-precedence-eq-ATOM_STRENGTH.false (strength_is g t here.After-precedence ∙ e))),
       ← b.same,
+      ← c.text.ensures,
       ← b.left_is,
       ← c.left_least.ensures _,
       ← c.right_least.ensures.wraps _,
     )
-    (laws.then c.put_part-in-Binary.ensures (laws.then c.put_connective.ensures c.put_part-in-Binary-2.ensures))
+    (laws.then c.put_part-in-Binary.ensures (laws.then c.put_all-in-Binary.ensures c.put_part-in-Binary-2.ensures))

@@ -4,8 +4,8 @@ use Rattle.prop.proofs.put_quantifier.Goals as goal
 pub returns : goal.returns
 returns g c =
     let laws = g.met.S.Sink.laws in
-    rw (← c.name.ensures, ← c.name-2.ensures)
-    (laws.then c.put_quantifier_sign.ensures
+    rw (← c.sign.ensures, ← c.name.ensures, ← c.name-2.ensures)
     (laws.then c.put_all.ensures
+    (laws.then c.put_all-2.ensures
     (laws.then c.put.ensures
-    (laws.then c.put_all-2.ensures c.put_all-3.ensures))))
+    (laws.then c.put_all-3.ensures c.put_all-4.ensures))))
