@@ -52,7 +52,7 @@ pub enum ParameterKind {
 }
 
 impl ParameterKind {
-    // The kind of a byte in front.
+    // The kind of a byte in front. A byte fails to be one in one way, so the error of a TryFrom would say no more than None.
     pub fn of_byte(b: u8) -> Option<ParameterKind>
         ensures { MatchOption result (2 ≤ b) (λ k. b ≡ kind_byte k) }
     {
@@ -359,7 +359,7 @@ pub enum Head {
 }
 
 impl Head {
-    // The head of a byte in front.
+    // The head of a byte in front. A byte fails to be one in one way, so the error of a TryFrom would say no more than None.
     #[tactic(auto, unfolding(definitions::specs::Prop::connective_byte, definitions::specs::Prop::quantifier_byte))]
     pub fn of_byte(b: u8) -> Option<Head>
         ensures { MatchOption result (8 ≤ b) (λ h. b ≡ head_byte h) }

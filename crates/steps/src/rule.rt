@@ -25,7 +25,7 @@ pub enum Rule {
 }
 
 impl Rule {
-    // The rule of a byte, if it has one.
+    // The rule of a byte, if it has one. A byte fails to be one in one way, so the error of a TryFrom would say no more than None.
     #[tactic(auto, unfolding(definitions::specs::Tree::rules))]
     pub fn of_byte(byte: u8) -> Option<Rule>
         ensures { RuleAt byte result }
