@@ -1,23 +1,17 @@
 -- A proposition is quantifier-free where each of its heads is plain.
-use Prim.Native.Nat.{ℕ, ◌+◌, ◌-◌, ◌≤◌, ◌<◌}
+use Prim.Native.Nat.{ℕ, ◌+◌, ◌≤◌, ◌<◌}
 use mathlib.Core.Path.{◌≡◌, refl, sym, ap, ◌∙◌}
-use mathlib.Core.Bool.{Bool, true, false, not, ◌&&◌}
+use mathlib.Core.Bool.{Bool, true, false, ◌&&◌}
 use mathlib.Core.List.{List, [], ◌∷◌, ◌++◌}
 use native.Mathlib.Omega.{arith}
 use lib.ListN.{length, drop, get_or, length-append, length-drop}
-use Rattle.std.specs.Prelude.{Option, None, Some, MatchOption}
-use Rattle.std.specs.Option.{option_eq}
-use Rattle.definitions.specs.Prop.{Prop, True, False, Binary, Atom, Quantified, PropParameter, Uninstantiated, Instantiated, connective_byte, Quantifier}
-use Rattle.definitions.specs.Code.{u16, encode, encode_parameter, encode_parameters, CodableParameters, Codable}
+use Rattle.definitions.specs.Prop.{Prop, True, False, Binary, Atom, Quantified, PropParameter, connective_byte, Quantifier}
+use Rattle.definitions.specs.Code.{encode, Codable}
 use Rattle.definitions.specs.Sound.{all_instantiated, is_quantifier_free}
 use Rattle.definitions.proofs.PrefixCode.{code_nonempty}
-use Rattle.prefix_code.specs.Scan.{Stands, Several, Ends, parameters_coding}
+use Rattle.prefix_code.specs.Scan.{Stands, Ends, parameters_coding}
 use Rattle.prefix_code.specs.Head.{Head, TrueHead, FalseHead, BinaryHead, AtomHead, QuantifiedHead, encode_head, head_coding}
-use Rattle.prefix_code.specs.Shape.{kind_byte}
-use Rattle.prefix_code.specs.declared.ParameterKind.{ParameterKind}
-use Rattle.prefix_code.specs.declared.ParameterKind.TheVariants as kinds
-use Rattle.prefix_code.specs.contracts.ParameterKindPartialEq.TheImpl.{eq-value}
-use Rattle.prefix_code.proofs.Positions.{after, extent, byte_at}
+use Rattle.prefix_code.proofs.Positions.{extent, byte_at}
 use Rattle.prefix_code.proofs.Heads.{head_bytes, atom_bytes, quantified_bytes, connective_byte_lem, quantifier_byte_lem}
 use Rattle.prefix_code.proofs.Propositions.{headed}
 use Rattle.renumbering.specs.Renumbered.{Whole}
@@ -47,77 +41,6 @@ module _ (names : ℕ) (before : List ℕ) (at : ℕ) where
   the_quantifier (BinaryHead c) rest s k = absurd (omega (arith, first_byte (connective_byte c) rest s.1, connective_byte_lem c))
   the_quantifier (AtomHead a ps) rest s k = absurd (omega (arith, (atom_bytes names before at a ps rest s).byte))
   the_quantifier (QuantifiedHead q x t) rest s k = (q, x, t, refl)
-
--- a parameter is instantiated where its byte is 1
-pub is_instantiated : (kind : Option ParameterKind) {b : ℕ} → MatchOption kind (2 ≤ b) (λ k. b ≡ kind_byte k)
-    → false ≡ not (option_eq eq-value.it kind (Some kinds.Instantiated)) → b ≡ 1
-is_instantiated (Some kinds.Uninstantiated) is e = cc
-is_instantiated (Some kinds.Instantiated) is e = is
-is_instantiated None is e = cc
-
-pub no_instantiated : (kind : Option ParameterKind) {b : ℕ} → MatchOption kind (2 ≤ b) (λ k. b ≡ kind_byte k)
-    → true ≡ not (option_eq eq-value.it kind (Some kinds.Instantiated)) → b ≡ 1 → ⊥
-no_instantiated (Some kinds.Uninstantiated) is e one = omega arith
-no_instantiated (Some kinds.Instantiated) is e one = cc
-no_instantiated None is e one = omega arith
-
--- The parameters that are left: all are instantiated where these are.
-pub record Left (code : List ℕ) (at count i needed : ℕ) : Type 0 where
-  pub start : i ≤ length code
-  pub left : (names : ℕ) (ps : List (PropParameter ℕ)) (rest : List ℕ) → Stands (parameters_coding names count) code at ps rest
-      → (qs : List (PropParameter ℕ)) × Stands (parameters_coding names needed) code i qs rest × (all_instantiated ps ≡ all_instantiated qs)
-
-pub left_all : (code : List ℕ) (at count : ℕ) → at ≤ length code → Left code at count at count
-left_all code at count h = record { start = h; left = λ names ps rest s. (ps, s, refl) }
-
--- the first of the parameters that are left
-first_left : (names : ℕ) (code : List ℕ) (i needed : ℕ) (qs : List (PropParameter ℕ)) (rest : List ℕ)
-    → Stands (parameters_coding names needed) code i qs rest → 0 < needed → i ≤ length code
-    → (i < length code)
-    × ((get_or code i 0 ≡ 1 → ⊥) → all_instantiated qs ≡ false)
-    × (get_or code i 0 ≡ 1 → (i + 5 ≤ length code) × (more : List (PropParameter ℕ)) × Stands (parameters_coding names (needed - 1)) code (i + 5) more rest
-    × (all_instantiated qs ≡ all_instantiated more))
-unfolding Stands Several CodableParameters encode_parameters encode_parameter all_instantiated u16
-first_left names code i needed [] rest ((g, n), e) z h = absurd (omega arith)
-first_left names code i needed (Uninstantiated x ∷ qs) rest ((g, n), e) z h =
-    let b = byte_at code i (i + 1) 0 (u16 x ++ (encode_parameters qs ++ rest)) refl e in
-    (b.inside, (λ k. refl), λ k. absurd (omega (arith, b.value)))
-first_left names code i needed (Instantiated x d ∷ qs) rest ((g, n), e) z h =
-    let b = byte_at code i (i + 1) 1 (u16 x ++ (u16 d ++ (encode_parameters qs ++ rest))) refl e in
-    let next = after code i (1 ∷ (u16 x ++ u16 d)) (encode_parameters qs ++ rest) e in
-    let long = extent code i (1 ∷ (u16 x ++ u16 d)) (encode_parameters qs ++ rest) h e in
-    (b.inside, (λ k. absurd (k b.value)), λ k. (omega arith, qs, ((g.1, omega arith), next), refl))
-
-module _ {code : List ℕ} {at count i needed : ℕ} (w : Left code at count i needed) where
-  pub left_inside : SomeParameters count code at → 0 < needed → i < length code
-  left_inside s z =
-      let (qs, t, e) = w.left s.names s.value s.rest s.stands in
-      (first_left s.names code i needed qs s.rest t z w.start).0
-
-  pub left_stop : 0 < needed → (get_or code i 0 ≡ 1 → ⊥) → (names : ℕ) (ps : List (PropParameter ℕ)) (rest : List ℕ)
-      → Stands (parameters_coding names count) code at ps rest → false ≡ all_instantiated ps
-  left_stop z k names ps rest s =
-      let (qs, t, e) = w.left names ps rest s in sym (e ∙ (first_left names code i needed qs rest t z w.start).1 k)
-
-  pub left_next : SomeParameters count code at → 0 < needed → get_or code i 0 ≡ 1 → Left code at count (i + 5) (needed - 1)
-  left_next s z k = record {
-    start =
-        let (qs, t, e) = w.left s.names s.value s.rest s.stands in
-        ((first_left s.names code i needed qs s.rest t z w.start).2 k).0;
-    left = λ names ps rest u.
-        let (qs, t, e) = w.left names ps rest u in
-        let (inside, more, v, f) = (first_left names code i needed qs rest t z w.start).2 k in
-        (more, v, e ∙ f);
-  }
-
-  pub left_none : needed ≡ 0 → (names : ℕ) (ps : List (PropParameter ℕ)) (rest : List ℕ)
-      → Stands (parameters_coding names count) code at ps rest → true ≡ all_instantiated ps
-  unfolding Stands Several all_instantiated
-  left_none z names ps rest s = let (qs, ((g, n), e), same) = w.left names ps rest s in sym (same ∙ go qs (n ∙ z))
-    where
-      go : (qs : List (PropParameter ℕ)) → length qs ≡ 0 → all_instantiated qs ≡ true
-      go [] n = refl
-      go (q ∷ qs) n = absurd (omega arith)
 
 -- A head by its byte.
 module _ (code : List ℕ) (at : ℕ) where

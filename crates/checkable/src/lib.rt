@@ -29,12 +29,11 @@ fn are_instantiated(code: &[u8], at: usize, count: usize) -> bool
     ensures { (names : ℕ) (ps : List (PropParameter ℕ)) (rest : List ℕ)
         → Stands (parameters_coding names count) code.now at ps rest → result ≡ all_instantiated ps }
 {
-    for k in 0..count {
-        if ParameterKind::of_byte(code[at + 5 * k]) != Some(ParameterKind::Instantiated) {
-            return false;
-        }
-    }
-    true
+    let instantiated = ParameterKind::Instantiated.byte();
+    code[at..]
+        .chunks(5)
+        .take(count)
+        .all(|parameter| parameter[0] == instantiated)
 }
 
 // Whether the head at `at` is no quantifier and has no uninstantiated parameter.

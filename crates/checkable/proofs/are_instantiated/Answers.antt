@@ -1,33 +1,21 @@
--- One parameter after the other; the first that is uninstantiated decides.
-use Prim.Native.Nat.{◌+◌, ◌-◌, ◌*◌}
-use mathlib.Core.Path.{◌≡◌, sym, ◌∙◌}
-use native.Mathlib.Omega.{arith}
-use Rattle.checkable.proofs.Plain.{is_instantiated, no_instantiated, left_all, left_inside, left_stop, left_next, left_none}
+-- The parameters are cut into chunks of five bytes, each of which has to begin with the byte of an instantiated one.
+use mathlib.Core.Path.{◌∙◌}
+use borrow.Author.Rules.{rules}
+use borrow.Author.Tests.{tests}
+use Rattle.std.proofs.lemmas.Iterator.Adapters.{serves_from_places}
+use Rattle.std.proofs.lemmas.Iterator.Search.{all_from_yields_List}
+use Rattle.checkable.proofs.Fives.{given, is_one, some, first_fives}
 use Rattle.checkable.proofs.are_instantiated.Goals as goal
 
-pub loop-k-init : goal.loop-k-init
-loop-k-init c =
-    let first : c.args.at + 0 ≡ c.args.at = omega arith in
-    let all : c.args.count - 0 ≡ c.args.count = omega arith in
-    rw (first, all) (left_all _ _ _ c.requires.inside)
-
-pub overflow_mul-k : goal.overflow_mul-k
-overflow_mul-k c = omega (arith, left_inside c.loop-k.invariant c.requires (omega arith))
-
-pub overflow_add-at : goal.overflow_add-at
-overflow_add-at c = omega (arith, left_inside c.loop-k.invariant c.requires (omega arith))
-
-pub bounds-code-at : goal.bounds-code-at
-bounds-code-at c = left_inside c.loop-k.invariant c.requires (omega arith)
-
-pub returns-then-ne : goal.returns-then-ne
-returns-then-ne c = left_stop c.loop-k.invariant (omega arith) (no_instantiated _ c.of_byte.ensures (sym c.if-ne.true ∙ c.ne.ensures))
-
-pub loop-k-preserved : goal.loop-k-preserved
-loop-k-preserved c =
-    let next : c.args.at + 5 * (c.loop-k.k + 1) ≡ c.args.at + 5 * c.loop-k.k + 5 = omega arith in
-    let fewer : c.args.count - (c.loop-k.k + 1) ≡ c.args.count - c.loop-k.k - 1 = omega arith in
-    rw (next, fewer) (left_next c.loop-k.invariant c.requires (omega arith) (is_instantiated _ c.of_byte.ensures (sym c.if-ne.false ∙ c.ne.ensures)))
+pub all-requires-clause-callable : goal.all-requires-clause-callable
+all-requires-clause-callable c =
+    serves_from_places (given c.args.count c.args.code.now c.args.at c.take.ensures.source c.take.ensures.count c.chunks.ensures.rest c.chunks.ensures.size)
+    (λ x q k. search (rules, tests))
+    (λ x k l is. let full = some _ _ c.args.count k x.now l in search (rules, is, full))
 
 pub returns : goal.returns
-returns c = left_none c.loop-k.invariant (omega arith)
+returns c names ps rest s =
+    all_from_yields_List is_one _ _ _ c.all.ensures.ran
+    (given c.args.count c.args.code.now c.args.at c.take.ensures.source c.take.ensures.count c.chunks.ensures.rest c.chunks.ensures.size)
+    (λ x b q k. search (rules, tests))
+    ∙ first_fives names c.args.count c.args.code.now c.args.at ps rest s
