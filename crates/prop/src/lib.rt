@@ -46,7 +46,7 @@ pub fn fill_all_ends(pairs: &[u8], code: &[u8], count: usize, names: usize, ends
 }
 
 // How strongly the proposition at `at` binds, whatever its names are. An implication of ⊥ is printed as a negation, and binds as strongly
-// as an atom. The head is all that this and the printing ask for at each part; a Shape would also read the numbers behind it.
+// as an atom. The head is all that is asked for here; a Shape would also read the numbers behind it.
 pub fn precedence(code: &[u8], ends: &[u16], at: usize) -> usize
     requires { Legible code.now ends.now at }
     ensures { (names : ℕ) (f : ℕ → Name) → Known names code.now ends.now at →

@@ -49,7 +49,7 @@ fn put_parameter<S: Sink<u8>>(code: &[u8], at: usize, numbers: &[u16], sink: &mu
     }
 }
 
-// So many parameters from a position on.
+// So many parameters from a position on, gone through by hand, as in prop::put_atom.
 fn put_parameters<S: Sink<u8>>(
     code: &[u8],
     at: usize,
@@ -90,7 +90,7 @@ fn put_head<S: Sink<u8>>(code: &[u8], at: usize, names: usize, numbers: &[u16], 
     }
 }
 
-// The proposition that is all of the code, head by head. The parameters of an atom are gone through by hand, as in prop::put_atom.
+// The proposition that is all of the code, head by head.
 pub fn put_proposition<S: Sink<u8>>(code: &[u8], names: usize, numbers: &[u16], sink: &mut S)
     requires { Whole names code.now × (names ≤ length numbers.now) }
     ensures { PutWhole names code.now numbers.now S.puts sink.old sink.new }
