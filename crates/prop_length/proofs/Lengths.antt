@@ -1,12 +1,11 @@
 -- The length of a proposition's text by its parts, and a bound by the length of its code.
 use Prim.Native.Nat.{ℕ, ◌+◌, ◌*◌, ◌≤◌, ◌<◌}
-use mathlib.Core.Path.{◌≡◌, refl, ap, ◌∙◌}
+use mathlib.Core.Path.{◌≡◌, refl}
 use mathlib.Core.Bool.{Bool, true, false, cond}
 use mathlib.Core.List.{List, [], ◌∷◌, ◌++◌, map}
 use native.Mathlib.Omega.{arith}
 use lib.ListN.{length, get_or, drop, length-append, length-take}
 use lib.Dec.{ltb}
-use Rattle.definitions.specs.Utf8.{utf8}
 use Rattle.definitions.specs.Name.{Name}
 use Rattle.definitions.specs.Prop.{Prop, True, False, Binary, Atom, Quantified, PropParameter, Uninstantiated, Instantiated, parameter_name, Connective, and, or, impl, Quantifier, for_all, exists, rename_parameter, rename_prop}
 use Rattle.definitions.specs.Code.{u16, encode_parameter, encode_parameters, encode}
@@ -31,13 +30,13 @@ unfolding wrap
 wrap_most true t = omega (arith, length-append t (41 ∷ []))
 wrap_most false t = omega arith
 
-pub connective_length : (c : Connective) → length (connective_text c) ≡ 5
+connective_length : (c : Connective) → length (connective_text c) ≡ 5
 unfolding connective_text
 connective_length and = refl
 connective_length or = refl
 connective_length impl = refl
 
-pub quantifier_length : (q : Quantifier) → length (quantifier_text q) ≡ 3
+quantifier_length : (q : Quantifier) → length (quantifier_text q) ≡ 3
 unfolding quantifier_text
 quantifier_length for_all = refl
 quantifier_length exists = refl
@@ -57,7 +56,7 @@ short_name bytes v given n =
 -- Over any names:
 module _ (f : ℕ → Name) where
   -- what parameters add: each its name and two bytes
-  unfoldable pub parameter_sum : List (PropParameter ℕ) → ℕ
+  unfoldable parameter_sum : List (PropParameter ℕ) → ℕ
   parameter_sum [] = 0
   parameter_sum (p ∷ ps) = 2 + length (f (parameter_name p)) + parameter_sum ps
 
@@ -81,11 +80,11 @@ module _ (f : ℕ → Name) where
       rw (renamed_name p)
       (omega (arith, length-append (f (parameter_name p)) (others ++ (41 ∷ [])), length-append others (41 ∷ []), following_length ps))
 
-  pub atom_length : (a : ℕ) (ps : List (PropParameter ℕ)) → length (display_prop (rename_prop f (Atom a ps))) ≡ length (f a) + parameter_sum ps
+  atom_length : (a : ℕ) (ps : List (PropParameter ℕ)) → length (display_prop (rename_prop f (Atom a ps))) ≡ length (f a) + parameter_sum ps
   unfolding rename_prop display_prop
   atom_length a ps = omega (arith, length-append (f a) (display_parameters (map (rename_parameter f) ps)), parameters_length ps)
 
-  pub quantified_length : (q : Quantifier) (x t : ℕ) (p : Prop ℕ) →
+  quantified_length : (q : Quantifier) (x t : ℕ) (p : Prop ℕ) →
       length (display_prop (rename_prop f (Quantified q x t p))) ≡ length (f x) + length (f t) + 6 + length (display_prop (rename_prop f p))
   unfolding rename_prop display_prop
   quantified_length q x t p =
@@ -146,29 +145,3 @@ pub text_fits : (bytes ends : List ℕ) (v : Vocabulary) (at : ℕ) → Bytes by
     → length (prop_text bytes v at) ≤ 1718065560
 unfolding prop_in
 text_fits bytes ends v at given fits k = text_small (name_in bytes v) (short_name bytes v given) fits k
-
--- A text in brackets or not, by what the length is counted by:
-pub bracketed_length : (t : List ℕ) {b : Bool} {r : ℕ} → b ≡ true → r ≡ length t → 2 + r ≡ length (wrap b t)
-bracketed_length t e h = rw e (omega (arith, wrapped_length t))
-
-pub bare_length : (t : List ℕ) {b : Bool} {r : ℕ} → b ≡ false → r ≡ length t → r ≡ length (wrap b t)
-unfolding wrap
-bare_length t e h = rw e h
-
--- a negation, and any other binary proposition, by the lengths of its sides
-pub negation_sum : {side whole : List ℕ} {r : ℕ} → utf8 "¬" ++ side ≡ whole → r ≡ length side → 2 + r ≡ length whole
-negation_sum e h = omega (arith, ap length e)
-
-pub binary_sum : (c : Connective) (p q : List ℕ) {l m : Bool} {whole : List ℕ} {l' m' : Bool} {r s : ℕ}
-    → wrap l p ++ (connective_text c ++ wrap m q) ≡ whole → l' ≡ l → m' ≡ m → r ≡ length (wrap l' p) → s ≡ length (wrap m' q)
-    → r + 5 + s ≡ length whole
-binary_sum c p q {l} {m} e f g h k =
-    let left = h ∙ ap (λ b. length (wrap b p)) f in
-    let right = k ∙ ap (λ b. length (wrap b q)) g in
-    omega (
-      arith,
-      ap length e,
-      length-append (wrap l p) (connective_text c ++ wrap m q),
-      length-append (connective_text c) (wrap m q),
-      connective_length c,
-    )

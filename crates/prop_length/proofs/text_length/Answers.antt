@@ -1,0 +1,9 @@
+-- The text has fewer bytes than a number says, so all of them are counted.
+use native.Mathlib.Omega.{arith}
+use Rattle.prop_length.proofs.Lengths.{text_fits}
+use Rattle.prop_length.proofs.text_length.Goals as goal
+
+pub returns : goal.returns
+returns c =
+    let short = text_fits _ _ _ _ (λ k. omega (arith, c.type_inv.bytes k)) (omega (arith, c.type_inv.ends c.args.at)) c.requires.known in
+    record { is = omega (arith, c.put_proposition.ensures.counted, short); small = omega (arith, c.put_proposition.ensures.counted, short) }
