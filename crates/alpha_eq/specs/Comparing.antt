@@ -10,6 +10,7 @@ use Rattle.prefix_code.specs.Scan.{Coding, Stands, proposition_coding, parameter
 use Rattle.identifier.specs.Pairs.{PairsWithin}
 use Rattle.definitions.specs.declared.Refusal.{Refusal}
 use Rattle.alpha_eq.specs.declared.Pair.{Pair}
+use Rattle.alpha_eq.specs.declared.NamedCode.{NamedCode}
 use Rattle.alpha_eq.specs.Bindings.{bindings_of, Bound}
 use Rattle.sheet.specs.Checks.{outcome_of}
 
@@ -110,6 +111,17 @@ module _ {A : Type 0} (coding : ℕ → Coding A) (code : List ℕ) (i j : ℕ) 
 pub record WithRoom {A : Type 0} (make : A → Prop ℕ) (code : List ℕ) (i j : ℕ) (pairs text : List ℕ) (memory : List Pair) (depth : ℕ) : Type 0 where
   pub forms : Comparable (form_coding make) code i j pairs text memory depth
   pub room : depth + nesting (make forms.two.left.value) ≤ length memory
+
+-- The same of code with its names.
+module _ {A : Type 0} (coding : ℕ → Coding A) (named : NamedCode) (i j : ℕ) where
+  abbrev pub ComparableIn : List Pair → ℕ → Type 0
+  ComparableIn memory depth = Comparable coding named.code.now i j named.names.pairs.now named.names.bytes.now memory depth
+
+  abbrev pub AnswersIn : (List ℕ → List ℕ → List Pair → ℕ → A → A → Outcome Bool) → List Pair → ℕ → Compared → Type 0
+  AnswersIn outcome memory depth r = Answers coding named.code.now i j (outcome named.names.pairs.now named.names.bytes.now memory depth) r
+
+abbrev pub WithRoomIn : {A : Type 0} → (A → Prop ℕ) → NamedCode → ℕ → ℕ → List Pair → ℕ → Type 0
+WithRoomIn make named i j memory depth = WithRoom make named.code.now i j named.names.pairs.now named.names.bytes.now memory depth
 
 -- two propositions, the left one nesting no deeper than those of a sheet do, whose names lie in the text
 pub record TwoPropositions (code : List ℕ) (i j : ℕ) (pairs text : List ℕ) : Type 0 where

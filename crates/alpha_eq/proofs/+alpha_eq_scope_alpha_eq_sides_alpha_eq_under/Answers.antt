@@ -138,16 +138,16 @@ pub alpha_eq_sides-alpha_eq_under-requires : goal.alpha_eq_sides-alpha_eq_under-
 alpha_eq_sides-alpha_eq_under-requires t c = (omega (arith, c.decreases, sides_inside c.requires.with_room), lefts_asked c.requires.with_room)
 
 -- `alpha_eq_under` by its places: what stands at both, by the byte in front
-sides : (t : ℕ) → (c : alpha_eq_under-In-Binary t) → let s = c.args in SameForm of_sides s.code.now s.i s.j
+sides : (t : ℕ) → (c : alpha_eq_under-In-Binary t) → let s = c.args in SameForm of_sides s.named.now.code.now s.i s.j
 sides t c =
     let front = binary_front c.of_known.ensures c.in-Binary.is in
-    same_connective _ _ _ c.if-front-code.false front.0 front.1
+    same_connective _ _ _ c.if-front-named.false front.0 front.1
 
-atom : (t : ℕ) → (c : alpha_eq_under-In-Atom t) → let s = c.args in SameForm of_applied s.code.now s.i s.j
-atom t c = same_atom _ _ _ c.if-front-code.false (front_byte c.of_known.ensures c.in-Atom.is)
+atom : (t : ℕ) → (c : alpha_eq_under-In-Atom t) → let s = c.args in SameForm of_applied s.named.now.code.now s.i s.j
+atom t c = same_atom _ _ _ c.if-front-named.false (front_byte c.of_known.ensures c.in-Atom.is)
 
-scope : (t : ℕ) → (c : alpha_eq_under-In-Quantified t) → let s = c.args in SameForm of_scope s.code.now s.i s.j
-scope t c = same_quantifier _ _ _ c.if-front-code.false (quantified_front c.of_known.ensures c.in-Quantified.is).0
+scope : (t : ℕ) → (c : alpha_eq_under-In-Quantified t) → let s = c.args in SameForm of_scope s.named.now.code.now s.i s.j
+scope t c = same_quantifier _ _ _ c.if-front-named.false (quantified_front c.of_known.ensures c.in-Quantified.is).0
 
 pub alpha_eq_under-of_known-requires : goal.alpha_eq_under-of_known-requires
 alpha_eq_under-of_known-requires t c = known c.requires
@@ -155,7 +155,7 @@ alpha_eq_under-of_known-requires t c = known c.requires
 pub alpha_eq_under-alpha_eq_sides-requires : goal.alpha_eq_under-alpha_eq_sides-requires
 alpha_eq_under-alpha_eq_sides-requires t c = (
   omega arith,
-  (forms_asked of_sides (sides t (goal.at.alpha_eq_under-alpha_eq_sides-requires t c).In-Binary) c.requires, c.if-front-code.false),
+  (forms_asked of_sides (sides t (goal.at.alpha_eq_under-alpha_eq_sides-requires t c).In-Binary) c.requires, c.if-front-named.false),
 )
 
 pub alpha_eq_under-returns-in-Binary : goal.alpha_eq_under-returns-in-Binary
@@ -181,7 +181,7 @@ alpha_eq_under-returns-in-Atom t c =
 pub alpha_eq_under-alpha_eq_scope-requires : goal.alpha_eq_under-alpha_eq_scope-requires
 alpha_eq_under-alpha_eq_scope-requires t c = (
   omega arith,
-  (forms_asked of_scope (scope t (goal.at.alpha_eq_under-alpha_eq_scope-requires t c).In-Quantified) c.requires, c.if-front-code.false),
+  (forms_asked of_scope (scope t (goal.at.alpha_eq_under-alpha_eq_scope-requires t c).In-Quantified) c.requires, c.if-front-named.false),
 )
 
 pub alpha_eq_under-returns-in-Quantified : goal.alpha_eq_under-returns-in-Quantified
@@ -191,14 +191,14 @@ alpha_eq_under-returns-in-Quantified t c =
       kept = answer.kept;
     }
 
-pub alpha_eq_under-bounds-code-i : goal.alpha_eq_under-bounds-code-i
-alpha_eq_under-bounds-code-i t c = omega (arith, inside c.requires)
+pub alpha_eq_under-bounds-named-i : goal.alpha_eq_under-bounds-named-i
+alpha_eq_under-bounds-named-i t c = omega (arith, inside c.requires)
 
-pub alpha_eq_under-bounds-code-j : goal.alpha_eq_under-bounds-code-j
-alpha_eq_under-bounds-code-j t c = omega (arith, inside c.requires)
+pub alpha_eq_under-bounds-named-j : goal.alpha_eq_under-bounds-named-j
+alpha_eq_under-bounds-named-j t c = omega (arith, inside c.requires)
 
-pub alpha_eq_under-returns-then-front-code : goal.alpha_eq_under-returns-then-front-code
-alpha_eq_under-returns-then-front-code t c = record { answers = other_front _ _ _ _ _ _ _ c.if-front-code.true; kept = kept_all }
+pub alpha_eq_under-returns-then-front-named : goal.alpha_eq_under-returns-then-front-named
+alpha_eq_under-returns-then-front-named t c = record { answers = other_front _ _ _ _ _ _ _ c.if-front-named.true; kept = kept_all }
 
 pub alpha_eq_under-overflow_add-result : goal.alpha_eq_under-overflow_add-result
 alpha_eq_under-overflow_add-result t c = omega (arith, inside c.requires)
@@ -208,4 +208,4 @@ alpha_eq_under-overflow_add-result-in-True t c = omega (arith, inside c.requires
 
 pub alpha_eq_under-returns-in-True : goal.alpha_eq_under-returns-in-True
 alpha_eq_under-returns-in-True t c =
-    record { answers = same_leaf _ _ _ _ _ _ _ c.if-front-code.false (leaf_front c.of_known.ensures c.in-True.is); kept = kept_all }
+    record { answers = same_leaf _ _ _ _ _ _ _ c.if-front-named.false (leaf_front c.of_known.ensures c.in-True.is); kept = kept_all }

@@ -47,14 +47,14 @@ number_at-b-requires c = omega (arith, atom_at c.requires.two.right)
 pub overflow_add-count : goal.overflow_add-count
 overflow_add-count c = omega (arith, atom_at c.requires.two.left)
 
-pub bounds-code-i : goal.bounds-code-i
-bounds-code-i c = omega (arith, atom_at c.requires.two.left)
+pub bounds-named-i : goal.bounds-named-i
+bounds-named-i c = omega (arith, atom_at c.requires.two.left)
 
 pub overflow_add-other_count : goal.overflow_add-other_count
 overflow_add-other_count c = omega (arith, atom_at c.requires.two.right)
 
-pub bounds-code-j : goal.bounds-code-j
-bounds-code-j c = omega (arith, atom_at c.requires.two.right)
+pub bounds-named-j : goal.bounds-named-j
+bounds-named-j c = omega (arith, atom_at c.requires.two.right)
 
 pub overflow_add-i-2 : goal.overflow_add-i-2
 overflow_add-i-2 c = omega (arith, atom_at c.requires.two.left)

@@ -15,19 +15,19 @@ use Rattle.alpha_eq.proofs.alpha_eq_parameter.Goals as goal
 use Rattle.alpha_eq.proofs.alpha_eq_parameter.Goals.{After-then_some-in-Instantiated, In-Uninstantiated, In-Instantiated, then-same_object, else-same_object}
 
 -- the byte in front of both is the kind's
-left_kind : (c : In-Instantiated) → get_or c.args.code.now c.args.i 0 ≡ 1
+left_kind : (c : In-Instantiated) → get_or c.args.named.now.code.now c.args.i 0 ≡ 1
 left_kind c = c.of_known.ensures ∙ ap kind_byte c.in-Instantiated.is
 
-right_kind : (c : In-Instantiated) → get_or c.args.code.now c.args.j 0 ≡ 1
-right_kind c = omega (arith, left_kind c, c.if-byte-code.false)
+right_kind : (c : In-Instantiated) → get_or c.args.named.now.code.now c.args.j 0 ≡ 1
+right_kind c = omega (arith, left_kind c, c.if-byte-named.false)
 
-left_id : (c : In-Instantiated) → let s = c.args in s.i + 5 ≤ length s.code.now
+left_id : (c : In-Instantiated) → let s = c.args in s.i + 5 ≤ length s.named.now.code.now
 left_id c = id_at c.requires.two.left (left_kind c)
 
-right_id : (c : In-Instantiated) → let s = c.args in s.j + 5 ≤ length s.code.now
+right_id : (c : In-Instantiated) → let s = c.args in s.j + 5 ≤ length s.named.now.code.now
 right_id c = id_at c.requires.two.right (right_kind c)
 
-bound : (c : In-Uninstantiated) → get_or c.args.code.now c.args.i 0 ≡ 0
+bound : (c : In-Uninstantiated) → get_or c.args.named.now.code.now c.args.i 0 ≡ 0
 bound c = c.of_known.ensures ∙ ap kind_byte c.in-Uninstantiated.is
 
 -- the names and the ids are compared
@@ -44,26 +44,26 @@ pub returns-in_err-same-in-Uninstantiated : goal.returns-in_err-same-in-Uninstan
 unfolding compared
 returns-in_err-same-in-Uninstantiated c =
     let zero = bound (goal.at.returns-in_err-same-in-Uninstantiated c).In-Uninstantiated in
-    uninstantiated_both _ _ _ _ _ _ _ zero (omega (arith, zero, c.if-byte-code.false)) c.number_at-x.ensures.0 c.number_at-y.ensures.0 c.in_err-same-in-Uninstantiated.ensures (search rules)
+    uninstantiated_both _ _ _ _ _ _ _ zero (omega (arith, zero, c.if-byte-named.false)) c.number_at-x.ensures.0 c.number_at-y.ensures.0 c.in_err-same-in-Uninstantiated.ensures (search rules)
 
 pub returns-in_ok-same-in-Uninstantiated : goal.returns-in_ok-same-in-Uninstantiated
 returns-in_ok-same-in-Uninstantiated c =
     let zero = bound (goal.at.returns-in_ok-same-in-Uninstantiated c).In-Uninstantiated in
-    uninstantiated_both _ _ _ _ _ _ _ zero (omega (arith, zero, c.if-byte-code.false)) c.number_at-x.ensures.0 c.number_at-y.ensures.0 c.in_ok-same-in-Uninstantiated.ensures
+    uninstantiated_both _ _ _ _ _ _ _ zero (omega (arith, zero, c.if-byte-named.false)) c.number_at-x.ensures.0 c.number_at-y.ensures.0 c.in_ok-same-in-Uninstantiated.ensures
     (rw c.then_some.ensures (tested _ _ _))
 
 pub same_bytes-same_object-requires : goal.same_bytes-same_object-requires
 same_bytes-same_object-requires c =
     names_within c.requires c.number_at-x.ensures.0 c.number_at-y.ensures.0
 
-pub bounds-code-i : goal.bounds-code-i
-bounds-code-i c = omega (arith, parameter_at c.requires.two.left)
+pub bounds-named-i : goal.bounds-named-i
+bounds-named-i c = omega (arith, parameter_at c.requires.two.left)
 
-pub bounds-code-j : goal.bounds-code-j
-bounds-code-j c = omega (arith, parameter_at c.requires.two.right)
+pub bounds-named-j : goal.bounds-named-j
+bounds-named-j c = omega (arith, parameter_at c.requires.two.right)
 
-pub returns-then-byte-code : goal.returns-then-byte-code
-returns-then-byte-code c = other_kind _ _ _ _ _ _ _ c.if-byte-code.true
+pub returns-then-byte-named : goal.returns-then-byte-named
+returns-then-byte-named c = other_kind _ _ _ _ _ _ _ c.if-byte-named.true
 
 pub overflow_add-i : goal.overflow_add-i
 overflow_add-i c = omega (arith, parameter_at c.requires.two.left)

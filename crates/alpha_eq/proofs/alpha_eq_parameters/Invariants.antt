@@ -6,4 +6,4 @@ use Rattle.alpha_eq.proofs.alpha_eq_parameters.Given as goal
 
 abbrev pub invariant-loop : goal.invariant-loop
 invariant-loop l =
-    Remaining l.pairs l.text l.bindings (length l.bindings) l.code l.i l.j l.count l.left l.right (l.count - l.counter)
+    Remaining l.named.names.pairs.now l.named.names.bytes.now l.bindings (length l.bindings) l.named.code.now l.i l.j l.count l.left l.right (l.count - l.counter)

@@ -13,15 +13,15 @@ use Rattle.alpha_eq.proofs.Bindings.{Latest, latest_binding, latest_within, none
 use Rattle.alpha_eq.proofs.bound_alike.Goals as goal
 use Rattle.alpha_eq.proofs.bound_alike.Goals.{In-Some, After-same_bytes-binds_y}
 
-within : (c : In-Some) → Latest c.args.pairs.now c.args.text.now (iter_rest (rev_source c.next.new.self)) c.in-Some.field-0.now
+within : (c : In-Some) → Latest c.args.names.pairs.now c.args.names.bytes.now (iter_rest (rev_source c.next.new.self)) c.in-Some.field-0.now
 within c = latest_within _ _ c.in-Some.ensures.steps c.loop-left.invariant.0
 
 decided : (c : After-same_bytes-binds_y) → let s = c.args in
     let x = c.same_bytes-binds_x.result in
     let y = c.same_bytes-binds_y.result in
     let earlier = iter_rest (rev_source c.next.new.self) in
-    cond (x || y) (accepted (x && y)) (bound_alike_in s.pairs.now s.text.now earlier (length earlier) s.x s.y)
-    ≡ bound_alike_in s.pairs.now s.text.now s.bindings.now (length s.bindings.now) s.x s.y
+    cond (x || y) (accepted (x && y)) (bound_alike_in s.names.pairs.now s.names.bytes.now earlier (length earlier) s.x s.y)
+    ≡ bound_alike_in s.names.pairs.now s.names.bytes.now s.bindings.now (length s.bindings.now) s.x s.y
 decided c =
     sym (latest_binding _ _ c.in-Some.ensures.steps _ _ _ _ (rw c.from.ensures at c.same_bytes-binds_x.ensures)
     (rw c.from-in-loop-left.ensures at c.same_bytes-binds_y.ensures))

@@ -10,5 +10,5 @@ use Rattle.alpha_eq.proofs.bound_alike.Given as goal
 abbrev pub invariant-loop-left : goal.invariant-loop-left
 invariant-loop-left l =
     let left = iter_rest (rev_source l.left-iterator) in
-    Bound l.pairs l.text left (length left)
-    × (bound_alike_in l.pairs l.text left (length left) l.x l.y ≡ bound_alike_in l.pairs l.text l.bindings (length l.bindings) l.x l.y)
+    Bound l.names.pairs.now l.names.bytes.now left (length left)
+    × (bound_alike_in l.names.pairs.now l.names.bytes.now left (length left) l.x l.y ≡ bound_alike_in l.names.pairs.now l.names.bytes.now l.bindings (length l.bindings) l.x l.y)
