@@ -18,7 +18,7 @@ ghost use Rattle.proof_term_display.specs.Item.{LabelReady, ItemReady, record_it
 use definitions::Style;
 use output::Sink;
 use proof_term::{Form, Kind, Label, field, kind_at, label_at, parameter_at};
-use prop::put_proposition;
+use prop::{Propositions, put_proposition};
 use vocabulary::{Vocabulary, name};
 
 // The positions of parts.
@@ -184,7 +184,10 @@ fn put_label<S: Sink<u8>>(sink: &mut S, label: Label, bytes: &[u8], v: Vocabular
 {
     match label {
         Label::Datatype(datatype) => sink.put_all(name(bytes, v, usize::from(datatype))),
-        Label::Proposition(at) => put_proposition(sink, bytes, v, ends, usize::from(at)),
+        Label::Proposition(at) => {
+            let propositions = Propositions { bytes, v, ends };
+            put_proposition(sink, &propositions, usize::from(at));
+        }
     }
 }
 

@@ -1,3 +1,4 @@
 -- What the functions over propositions say.
 pub mod Ends
 pub mod Printing
+pub mod Propositions

@@ -8,9 +8,9 @@ ghost use Rattle.definitions.specs.Sheet.{pair_offset};
 ghost use Rattle.definitions.specs.Display;
 ghost use Rattle.prefix_code.specs.PropAt.{prop_at};
 ghost use Rattle.prefix_code.specs.Shape.{quantifier_meant};
-ghost use Rattle.vocabulary.specs.Vocabulary.{name_in, Names};
 ghost use Rattle.prop.specs.Ends.{Known, Fillable, Filled, AllFillable};
-ghost use Rattle.prop.specs.Printing.{quantifier_head, prop_text, part_text, AtomPrintable, Printable, Legible};
+ghost use Rattle.prop.specs.Printing.{quantifier_head, Legible};
+ghost use Rattle.prop.specs.Propositions.{names_of, prop_named, text_at, part_at, HasName, HasAtom, HasProposition};
 
 use number::{number_at, pair_offset};
 use output::Sink;
@@ -67,36 +67,58 @@ pub fn precedence(code: &[u8], ends: &[u16], at: usize) -> usize
     }
 }
 
-// The functions that follow take a memory, its vocabulary and its table of ends as they are: of a struct that holds them, each clause
-// would name `p.now.bytes.now`, `p.now.v` and `p.now.ends.now`.
+// The propositions of a memory, with the table of their ends.
+#[derive(Clone, Copy)]
+pub struct Propositions<'a> {
+    pub bytes: &'a [u8],
+    pub v: Vocabulary,
+    pub ends: &'a [u16],
+}
+
+impl Propositions<'_> {
+    // The bytes of a name.
+    fn name(&self, i: usize) -> &[u8]
+        requires { HasName self.now i }
+        ensures { result.now ≡ names_of self.now i }
+    {
+        name(self.bytes, self.v, i)
+    }
+
+    // How strongly the proposition at `at` binds.
+    fn strength(&self, at: usize) -> usize
+        requires { HasProposition self.now at }
+        ensures { result ≡ Display.precedence (prop_named self.now at) }
+    {
+        precedence(code_of(self.bytes, self.v), self.ends, at)
+    }
+}
 
 // A quantifier with its object and its datatype, up to its body.
 fn put_quantifier<S: Sink<u8>>(
     sink: &mut S,
+    propositions: &Propositions,
     q: Quantifier,
-    bytes: &[u8],
-    v: Vocabulary,
     object: usize,
     datatype: usize,
 )
-    requires { Names bytes.now v object × Names bytes.now v datatype }
-    ensures { S.puts sink.old (quantifier_head (name_in bytes.now v) (quantifier_meant q) object datatype) sink.new }
+    requires { HasName propositions.now object × HasName propositions.now datatype }
+    ensures { S.puts sink.old (quantifier_head (names_of propositions.now) (quantifier_meant q) object datatype) sink.new }
 {
     sink.put_all(q.sign());
-    sink.put_all(name(bytes, v, object));
+    sink.put_all(propositions.name(object));
     sink.put(b':');
-    sink.put_all(name(bytes, v, datatype));
+    sink.put_all(propositions.name(datatype));
     sink.put_all(b". ");
 }
 
 // An atom with its parameters. The place moves by hand: an iterator over the parameters would hold the code, the place, the count and the
 // names with the fact that so many stand there, and the loop would still have to say which are written and whether a comma follows.
-fn put_atom<S: Sink<u8>>(sink: &mut S, bytes: &[u8], v: Vocabulary, at: usize)
-    requires { AtomPrintable bytes.now v at }
-    ensures { S.puts sink.old (prop_text bytes.now v at) sink.new }
+fn put_atom<S: Sink<u8>>(sink: &mut S, propositions: &Propositions, at: usize)
+    requires { HasAtom propositions.now at }
+    ensures { S.puts sink.old (text_at propositions.now at) sink.new }
 {
-    let code = code_of(bytes, v);
-    sink.put_all(name(bytes, v, number_at(code, at + 1)));
+    let code = code_of(propositions.bytes, propositions.v);
+    sink.put_all(propositions.name(number_at(code, at + 1)));
     let count = code[at + 3];
     if count == 0 {
         return;
@@ -104,8 +126,8 @@ fn put_atom<S: Sink<u8>>(sink: &mut S, bytes: &[u8], v: Vocabulary, at: usize)
     sink.put(b'(');
     let mut i = at + 4;
     for left in (0..count).rev() {
-        sink.put_all(name(bytes, v, number_at(code, i + 1)));
-        i = parameter_end(code, i, v.name_count);
+        sink.put_all(propositions.name(number_at(code, i + 1)));
+        i = parameter_end(code, i, propositions.v.name_count);
         if 0 < left {
             sink.put_all(b", ");
         }
@@ -115,61 +137,48 @@ fn put_atom<S: Sink<u8>>(sink: &mut S, bytes: &[u8], v: Vocabulary, at: usize)
 
 // The text of the proposition at `at`, in brackets if it binds less strongly than `least`.
 #[cycle(put_proposition)]
-fn put_part<S: Sink<u8>>(
-    sink: &mut S,
-    bytes: &[u8],
-    v: Vocabulary,
-    ends: &[u16],
-    at: usize,
-    least: usize,
-)
-    requires { Printable bytes.now v ends.now at }
-    ensures { S.puts sink.old (part_text bytes.now v at least) sink.new }
+fn put_part<S: Sink<u8>>(sink: &mut S, propositions: &Propositions, at: usize, least: usize)
+    requires { HasProposition propositions.now at }
+    ensures { S.puts sink.old (part_at propositions.now at least) sink.new }
 {
-    if precedence(code_of(bytes, v), ends, at) < least {
+    if propositions.strength(at) < least {
         sink.put(b'(');
-        put_proposition(sink, bytes, v, ends, at);
+        put_proposition(sink, propositions, at);
         sink.put(b')');
         return;
     }
-    put_proposition(sink, bytes, v, ends, at);
+    put_proposition(sink, propositions, at);
 }
 
 // The text of the proposition at `at`.
 #[cycle(put_proposition)]
-pub fn put_proposition<S: Sink<u8>>(
-    sink: &mut S,
-    bytes: &[u8],
-    v: Vocabulary,
-    ends: &[u16],
-    at: usize,
-)
-    requires { Printable bytes.now v ends.now at }
-    ensures { S.puts sink.old (prop_text bytes.now v at) sink.new }
+pub fn put_proposition<S: Sink<u8>>(sink: &mut S, propositions: &Propositions, at: usize)
+    requires { HasProposition propositions.now at }
+    ensures { S.puts sink.old (text_at propositions.now at) sink.new }
 {
-    match shape(bytes, v, at) {
+    match shape(propositions.bytes, propositions.v, at) {
         Shape::True => sink.put_all(b"\xE2\x8A\xA4"), // ⊤
         Shape::False => sink.put_all(b"\xE2\x8A\xA5"), // ⊥
-        Shape::Atom { .. } => put_atom(sink, bytes, v, at),
+        Shape::Atom { .. } => put_atom(sink, propositions, at),
         Shape::Quantified {
             quantifier,
             object,
             datatype,
             body,
         } => {
-            put_quantifier(sink, quantifier, bytes, v, object, datatype);
-            put_proposition(sink, bytes, v, ends, body);
+            put_quantifier(sink, propositions, quantifier, object, datatype);
+            put_proposition(sink, propositions, body);
         }
         Shape::Binary { connective, left } => {
-            if precedence(code_of(bytes, v), ends, at) == ATOM_STRENGTH {
+            if propositions.strength(at) == ATOM_STRENGTH {
                 sink.put_all(b"\xC2\xAC"); // ¬
-                put_part(sink, bytes, v, ends, left, ATOM_STRENGTH);
+                put_part(sink, propositions, left, ATOM_STRENGTH);
                 return;
             }
-            let right = ends[left] as usize;
-            put_part(sink, bytes, v, ends, left, connective.left_least());
+            let right = propositions.ends[left] as usize;
+            put_part(sink, propositions, left, connective.left_least());
             sink.put_all(connective.text());
-            put_part(sink, bytes, v, ends, right, connective.right_least());
+            put_part(sink, propositions, right, connective.right_least());
         }
     }
 }

@@ -1,97 +1,65 @@
 -- The calls end by the position: a part starts further on, and `put_part` stands above `put_proposition` at the same one.
 use Prim.Native.Nat.{ℕ, ◌+◌, ◌-◌, ◌*◌, ◌<◌}
-use mathlib.Core.Path.{◌≡◌, sym, ◌∙◌}
+use mathlib.Core.Path.{sym, ◌∙◌}
 use mathlib.Core.List.{List}
 use native.Mathlib.Omega.{arith}
 use lib.ListN.{length}
 use borrow.Author.Tests.{lt-ltb, le-ltb}
-use Rattle.definitions.specs.Name.{Name}
-use Rattle.definitions.specs.Prop.{rename_prop}
-use Rattle.definitions.specs.Display.{wrap, precedence}
-use Rattle.prefix_code.specs.PropAt.{prop_at}
+use Rattle.definitions.specs.Display.{wrap}
 use Rattle.prefix_code.proofs.Reading.{inside}
 use Rattle.vocabulary.specs.declared.Vocabulary.{Vocabulary}
 use Rattle.vocabulary.specs.Vocabulary.{code_in, name_in, prop_in}
-use Rattle.prop.specs.Ends.{Known}
-use Rattle.prop.specs.Printing.{named_prop, KnownIn, Printable}
+use Rattle.prop.specs.Printing.{KnownIn, Printable}
 use Rattle.prop.proofs.Shapes.{true_text, false_text, atom_byte, Sides, sides, Scope, scope}
 use Rattle.prop.proofs.Shown.{below_as, quantified_text, negation_text, binary_text}
 use Rattle.prop.proofs.+put_proposition.Goals as goal
-use Rattle.prop.proofs.+put_proposition.Goals.{put_part-After-precedence, put_proposition-In-Binary, put_proposition-In-Quantified, put_proposition-After-precedence}
-
--- Of code that was read: what is known, and how strongly the proposition binds.
-module _ {code l : List ℕ} (read : code ≡ l) where
-  known_in : {names : ℕ} {ends : List ℕ} {at : ℕ} → Known names l ends at → Known names code ends at
-  known_in k = rw read k
-
-  strength_in : (f : ℕ → Name) (names at : ℕ) {r : ℕ}
-      → r ≡ precedence (rename_prop f (prop_at names code at)) → r ≡ precedence (rename_prop f (prop_at names l at))
-  strength_in f names at e = rw read at e
+use Rattle.prop.proofs.+put_proposition.Goals.{put_proposition-In-Binary, put_proposition-In-Quantified}
 
 -- a part of what can be printed can be printed
 part_of : {bytes : List ℕ} {v : Vocabulary} {ends : List ℕ} {at i : ℕ}
     → Printable bytes v ends at → KnownIn bytes v ends i → Printable bytes v ends i
 part_of p k = record { within = p.within; known = k; named = p.named }
 
--- `put_part`: how strongly the proposition binds
-part_strength : (g : _) (t : ℕ) → (c : put_part-After-precedence g t) → let s = c.args in
-    c.precedence.result ≡ precedence (named_prop s.bytes.now s.v s.at)
-unfolding prop_in
-part_strength g t c =
-    let s = c.args in
-    strength_in c.code_of.ensures (name_in s.bytes.now s.v) s.v.name_count s.at
-    (c.precedence.ensures _ _ (known_in c.code_of.ensures c.requires.known))
-
-pub put_part-precedence-requires : goal.put_part-precedence-requires
-put_part-precedence-requires g t c = record { names = _; known = known_in c.code_of.ensures c.requires.known }
-
-pub put_part-returns-then-precedence-least : goal.put_part-returns-then-precedence-least
+-- `put_part` by its places
+pub put_part-returns-then-strength-least : goal.put_part-returns-then-strength-least
 unfolding wrap
-put_part-returns-then-precedence-least g t c =
+put_part-returns-then-strength-least g t c =
     let laws = g.met.S.Sink.laws in
-    rw (← (part_strength g t (goal.at.put_part-returns-then-precedence-least g t c).After-precedence), lt-ltb _ _ c.if-precedence-least.true)
-    (laws.then c.put.ensures (laws.then c.put_proposition.ensures c.put-then-precedence-least.ensures))
+    rw (← c.strength.ensures, lt-ltb _ _ c.if-strength-least.true)
+    (laws.then c.put.ensures (laws.then c.put_proposition.ensures c.put-then-strength-least.ensures))
 
 pub put_part-returns : goal.put_part-returns
 unfolding wrap
 put_part-returns g t c =
-    rw (← (part_strength g t (goal.at.put_part-returns g t c).After-precedence), le-ltb _ _ c.if-precedence-least.false) c.put_proposition-2.ensures
+    rw (← c.strength.ensures, le-ltb _ _ c.if-strength-least.false) c.put_proposition-2.ensures
 
 -- `put_proposition`: the shape that was read tells of the parts
 sides_here : (g : _) (t : ℕ) → (c : put_proposition-In-Binary g t) → let s = c.args in
-    Sides {names = s.v.name_count} {l = code_in s.bytes.now s.v} {ends = s.ends.now} {at = s.at} c.requires.known c.in-Binary.connective c.in-Binary.left
+    Sides {names = s.propositions.now.v.name_count} {l = code_in s.propositions.now.bytes.now s.propositions.now.v} {ends = s.propositions.now.ends.now} {at = s.at} c.requires.known c.in-Binary.connective c.in-Binary.left
 sides_here g t c = sides c.requires.known c.in-Binary.ensures
 
 scope_here : (g : _) (t : ℕ) → (c : put_proposition-In-Quantified g t) → let s = c.args in
-    Scope {names = s.v.name_count} {l = code_in s.bytes.now s.v} {ends = s.ends.now} {at = s.at} c.requires.known
+    Scope {names = s.propositions.now.v.name_count} {l = code_in s.propositions.now.bytes.now s.propositions.now.v} {ends = s.propositions.now.ends.now} {at = s.at} c.requires.known
     c.in-Quantified.quantifier c.in-Quantified.object c.in-Quantified.datatype c.in-Quantified.body
 scope_here g t c = scope c.requires.known c.in-Quantified.ensures
 
 -- the left side can be printed, and lies further on
 left_part : (g : _) (t : ℕ) → (c : put_proposition-In-Binary g t) → let s = c.args in
-    (2 * (length (code_in s.bytes.now s.v) - c.in-Binary.left) + 1 < t) × Printable s.bytes.now s.v s.ends.now c.in-Binary.left
+    (2 * (length (code_in s.propositions.now.bytes.now s.propositions.now.v) - c.in-Binary.left) + 1 < t) × Printable s.propositions.now.bytes.now s.propositions.now.v s.propositions.now.ends.now c.in-Binary.left
 left_part g t c =
     let b = sides_here g t c in
     (omega (arith, c.decreases, inside b.parts.left.present, b.left_is), part_of c.requires (rw b.left_is b.parts.left))
-
-strength_is : (g : _) (t : ℕ) → (c : put_proposition-After-precedence g t) → let s = c.args in
-    c.precedence.result ≡ precedence (named_prop s.bytes.now s.v s.at)
-unfolding prop_in
-strength_is g t c =
-    let s = c.args in
-    strength_in c.code_of.ensures (name_in s.bytes.now s.v) s.v.name_count s.at
-    (c.precedence.ensures _ _ (known_in c.code_of.ensures c.requires.known))
 
 pub put_proposition-shape-requires : goal.put_proposition-shape-requires
 put_proposition-shape-requires g t c = record { within = c.requires.within; present = c.requires.known.present }
 
 pub put_proposition-returns-in-True : goal.put_proposition-returns-in-True
 unfolding prop_in
-put_proposition-returns-in-True g t c = rw (← (true_text (name_in c.args.bytes.now c.args.v) c.in-True.ensures)) c.put_all.ensures
+put_proposition-returns-in-True g t c = rw (← (true_text (name_in c.args.propositions.now.bytes.now c.args.propositions.now.v) c.in-True.ensures)) c.put_all.ensures
 
 pub put_proposition-returns-in-False : goal.put_proposition-returns-in-False
 unfolding prop_in
-put_proposition-returns-in-False g t c = rw (← (false_text (name_in c.args.bytes.now c.args.v) c.in-False.ensures)) c.put_all-in-False.ensures
+put_proposition-returns-in-False g t c = rw (← (false_text (name_in c.args.propositions.now.bytes.now c.args.propositions.now.v) c.in-False.ensures)) c.put_all-in-False.ensures
 
 pub put_proposition-put_atom-requires : goal.put_proposition-put_atom-requires
 put_proposition-put_atom-requires g t c =
@@ -116,31 +84,28 @@ put_proposition-returns-in-Quantified g t c =
     rw (← (quantified_text _ _ _ _ _ q.parts), ← q.object_is, ← q.datatype_is, ← q.same, ← q.body_is)
     (g.met.S.Sink.laws.then c.put_quantifier.ensures c.put_proposition.ensures)
 
-pub put_proposition-precedence-requires : goal.put_proposition-precedence-requires
-put_proposition-precedence-requires g t c = record { names = _; known = known_in c.code_of.ensures c.requires.known }
-
 pub put_proposition-put_part-requires : goal.put_proposition-put_part-requires
 put_proposition-put_part-requires g t c =
     let part = left_part g t (goal.at.put_proposition-put_part-requires g t c).In-Binary in
     λ κs lives. (part.0, (lives, part.1))
 
-pub put_proposition-returns-then-precedence-eq-ATOM_STRENGTH : goal.put_proposition-returns-then-precedence-eq-ATOM_STRENGTH
+pub put_proposition-returns-then-strength-eq-ATOM_STRENGTH : goal.put_proposition-returns-then-strength-eq-ATOM_STRENGTH
 unfolding prop_in
-put_proposition-returns-then-precedence-eq-ATOM_STRENGTH g t c =
-    let here = goal.at.put_proposition-returns-then-precedence-eq-ATOM_STRENGTH g t c in
+put_proposition-returns-then-strength-eq-ATOM_STRENGTH g t c =
+    let here = goal.at.put_proposition-returns-then-strength-eq-ATOM_STRENGTH g t c in
     let b = sides_here g t here.In-Binary in
-    let strong = sym (strength_is g t here.After-precedence) ∙ c.if-precedence-eq-ATOM_STRENGTH.true in
+    let strong = sym c.strength.ensures ∙ c.if-strength-eq-ATOM_STRENGTH.true in
     rw (← (negation_text _ _ _ _ _ b.parts strong), ← b.left_is)
-    (g.met.S.Sink.laws.then c.put_all-then-precedence-eq-ATOM_STRENGTH.ensures c.put_part.ensures)
+    (g.met.S.Sink.laws.then c.put_all-then-strength-eq-ATOM_STRENGTH.ensures c.put_part.ensures)
 
-pub put_proposition-offset_bounds-ends-left : goal.put_proposition-offset_bounds-ends-left
-put_proposition-offset_bounds-ends-left g t c =
-    let b = sides_here g t (goal.at.put_proposition-offset_bounds-ends-left g t c).In-Binary in
+pub put_proposition-offset_bounds-propositions-left : goal.put_proposition-offset_bounds-propositions-left
+put_proposition-offset_bounds-propositions-left g t c =
+    let b = sides_here g t (goal.at.put_proposition-offset_bounds-propositions-left g t c).In-Binary in
     omega (arith, (inside b.parts.left.present).start, b.left_is)
 
-pub put_proposition-bounds-ends-left : goal.put_proposition-bounds-ends-left
-put_proposition-bounds-ends-left g t c =
-    let b = sides_here g t (goal.at.put_proposition-bounds-ends-left g t c).In-Binary in
+pub put_proposition-bounds-propositions-left : goal.put_proposition-bounds-propositions-left
+put_proposition-bounds-propositions-left g t c =
+    let b = sides_here g t (goal.at.put_proposition-bounds-propositions-left g t c).In-Binary in
     rw b.left_is b.parts.table
 
 pub put_proposition-put_part-requires-in-Binary : goal.put_proposition-put_part-requires-in-Binary
@@ -155,14 +120,14 @@ put_proposition-put_part-requires-in-Binary-2 g t c =
     let order = rw (← b.left_is) at b.parts.order in
     λ κs lives. (omega (arith, c.decreases, inside right.present, order, b.left_is), (lives, part_of c.requires right))
 
-pub put_proposition-returns-else-precedence-eq-ATOM_STRENGTH : goal.put_proposition-returns-else-precedence-eq-ATOM_STRENGTH
+pub put_proposition-returns-else-strength-eq-ATOM_STRENGTH : goal.put_proposition-returns-else-strength-eq-ATOM_STRENGTH
 unfolding prop_in
-put_proposition-returns-else-precedence-eq-ATOM_STRENGTH g t c =
+put_proposition-returns-else-strength-eq-ATOM_STRENGTH g t c =
     let laws = g.met.S.Sink.laws in
-    let here = goal.at.put_proposition-returns-else-precedence-eq-ATOM_STRENGTH g t c in
+    let here = goal.at.put_proposition-returns-else-strength-eq-ATOM_STRENGTH g t c in
     let b = sides_here g t here.In-Binary in
     rw (
-      ← (binary_text _ _ _ _ _ b.parts (λ e. c.if-precedence-eq-ATOM_STRENGTH.false (strength_is g t here.After-precedence ∙ e))),
+      ← (binary_text _ _ _ _ _ b.parts (λ e. c.if-strength-eq-ATOM_STRENGTH.false (c.strength.ensures ∙ e))),
       ← b.same,
       ← c.text.ensures,
       ← b.left_is,

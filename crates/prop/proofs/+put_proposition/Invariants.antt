@@ -5,7 +5,7 @@ use Rattle.vocabulary.specs.Vocabulary.{code_in}
 use Rattle.prop.proofs.+put_proposition.Given as goal
 
 abbrev pub decreases-put_part : goal.decreases-put_part
-decreases-put_part g l = 2 * (length (code_in l.bytes.now l.v) - l.at) + 1
+decreases-put_part g l = 2 * (length (code_in l.propositions.now.bytes.now l.propositions.now.v) - l.at) + 1
 
 abbrev pub decreases-put_proposition : goal.decreases-put_proposition
-decreases-put_proposition g l = 2 * (length (code_in l.bytes.now l.v) - l.at)
+decreases-put_proposition g l = 2 * (length (code_in l.propositions.now.bytes.now l.propositions.now.v) - l.at)

@@ -25,23 +25,23 @@ present_in : {names at : ℕ} {l m : List ℕ} → l ≡ m → Present names m a
 present_in e h = rw e h
 
 -- an atom stands in the code
-present : (g : _) (c : After-code_of-code g) → let s = c.args in Present s.v.name_count c.code_of-code.result.now s.at
+present : (g : _) (c : After-code_of-code g) → let s = c.args in Present s.propositions.now.v.name_count c.code_of-code.result.now s.at
 present g c = present_in c.code_of-code.ensures c.requires.present
 
 byte : (g : _) (c : After-code_of-code g) → get_or c.code_of-code.result.now c.args.at 0 ≡ 5
 byte g c = ap (λ l. get_or l c.args.at 0) c.code_of-code.ensures ∙ c.requires.byte
 
-its_name : (g : _) (c : After-code_of-code g) → let s = c.args in NameAt s.v.name_count c.code_of-code.result.now s.at 4
+its_name : (g : _) (c : After-code_of-code g) → let s = c.args in NameAt s.propositions.now.v.name_count c.code_of-code.result.now s.at 4
 its_name g c = atom_name (present g c) (byte g c)
 
 -- and its text is the proposition's
 shown : (g : _) (c : After-code_of-code g) → let s = c.args in
-    text_in s.bytes.now s.v s.at c.code_of-code.result.now ≡ prop_text s.bytes.now s.v s.at
+    text_in s.propositions.now.bytes.now s.propositions.now.v s.at c.code_of-code.result.now ≡ prop_text s.propositions.now.bytes.now s.propositions.now.v s.at
 unfolding prop_in
-shown g c = let s = c.args in ap (text_in s.bytes.now s.v s.at) c.code_of-code.ensures
+shown g c = let s = c.args in ap (text_in s.propositions.now.bytes.now s.propositions.now.v s.at) c.code_of-code.ensures
 
 -- a name stands at the parameter that is the next
-parameter : (g : _) (c : In-loop-left g) → NameAt c.args.v.name_count c.code_of-code.result.now c.loop-left.i 3
+parameter : (g : _) (c : In-loop-left g) → NameAt c.args.propositions.now.v.name_count c.code_of-code.result.now c.loop-left.i 3
 parameter g c = parameter_name_lem _ _ _ _ g.met.S.Sink.laws c.loop-left.invariant c.loop-left-test.true
 
 pub number_at-requires : goal.number_at-requires

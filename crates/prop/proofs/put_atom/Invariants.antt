@@ -5,4 +5,4 @@ use Rattle.prop.proofs.put_atom.Given as goal
 
 abbrev pub invariant-loop-left : goal.invariant-loop-left
 invariant-loop-left g l =
-    Listing (name_in l.bytes l.v) l.v.name_count l.code l.at g.S.Sink.puts l.initial.sink l.sink l.i l.left
+    Listing (name_in l.propositions.bytes.now l.propositions.v) l.propositions.v.name_count l.code l.at g.S.Sink.puts l.initial.sink l.sink l.i l.left
