@@ -20,8 +20,7 @@ ghost use Rattle.checkable.specs.Terms.{own_checkable, LabelsPresent};
 use prefix_code::{Head, ParameterKind, head_end, scan};
 use proof_term::{Kind, Label, node_at, parts_at};
 
-// The code and the number of its names stand beside each other, in no struct: a clause says `prop_at names code.now`, and of a struct it
-// would say `prop_at labels.names labels.code.now`.
+// Code and the count of its names stand loose, as in prefix_code.
 
 // Whether each of so many parameters from `at` on is instantiated. As long as they are, each takes five bytes.
 fn are_instantiated(code: &[u8], at: usize, count: usize) -> bool

@@ -38,8 +38,9 @@ pub const FOR_ALL: u8 = Quantifier::ForAll as u8;
 
 pub const EXISTS: u8 = Quantifier::Exists as u8;
 
-// Code, a place in it and the count of its names stand loose: the place moves from call to call, and in a struct of the other two each
-// clause would read `code.bytes.now` and `code.names`. What a function promises of an end is one relation, `Ends`, of its own coding.
+// Code, a place in it and the count of its names stand loose: the place moves from call to call, and of a struct of the other two nearly
+// each use, here and in the crates above, would read `code.bytes`, for the count is only asked for where a number of a name has to be below
+// it. What a function promises of an end is one relation of its own coding, as `Ends (head_coding names) code.now at result`.
 
 // An end below is a position past the end of the code where nothing stands, and no Option: most callers know that something stands,
 // and use the end as it is, where each would have to unwrap it.

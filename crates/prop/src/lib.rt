@@ -17,6 +17,8 @@ use output::Sink;
 use prefix_code::{Connective, Head, Quantifier, Shape, WEAKEST, head_end, parameter_end};
 use vocabulary::{Vocabulary, code_of, name, shape};
 
+// Code, place, count of names and ends stand loose in the filling, as in prefix_code: the ends are what it writes.
+
 // How strongly an atom binds.
 pub const ATOM_STRENGTH: usize = prefix_code::STRONGEST;
 

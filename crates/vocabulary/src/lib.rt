@@ -10,9 +10,9 @@ use number::{Marked, PAIR_SIZE};
 use prefix_code::{Shape, shape_at};
 use std::cmp::Ordering;
 
-// A memory and its vocabulary stand loose: a vocabulary is a plain value that settings of a printing carry too, and a clause on both says
-// `name_in bytes.now v i` where one on a struct of them would say `name_in m.now.bytes.now m.now.vocabulary i`. That the parts lie within
-// the memory is a field of `Names` and of `SomeProposition`, which the functions that read through a vocabulary ask for.
+// A memory and its vocabulary stand loose here. The crates above hold them in structs of their own, each with what it reads beside them: the
+// slots in name_index's `Index`, the ends in prop's `Propositions`. A struct of the two would stand inside those, so that `m.bytes` would be
+// `m.memory.bytes`. That the parts lie within the memory is a field of `Names` and of `SomeProposition`, which those who read ask for.
 
 // A memory has at most so many names.
 pub const NAME_LIMIT: usize = 512;
