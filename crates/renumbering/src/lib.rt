@@ -18,8 +18,7 @@ use output::Sink;
 use output::sink::{put_u16, put_u16s};
 use prefix_code::{Head, ParameterKind, head_end, parameter_end};
 use steps::{
-    Conclusion, Identifier, Judgement, PROP_IS_TRUE, Step, TYPE_JUDGEMENT, identifier_count,
-    step_at,
+    Conclusion, Identifier, Judgement, PROP_IS_TRUE, Rule, Step, TYPE_JUDGEMENT, step_at,
 };
 
 // Code, place and map stand loose in what follows: the place moves from call to call, and what is asked and promised is one relation of a
@@ -113,7 +112,7 @@ fn renumber_identifiers(numbers: &[u16], step: &Step) -> (u16, u16)
 {
     let first = step.first.name;
     let second = step.second.name;
-    match identifier_count(usize::from(step.rule)) {
+    match Rule::of_byte(step.rule).map_or(0, Rule::identifier_count) {
         0 => (first, second),
         1 => (numbers[usize::from(first)], second),
         _ => (numbers[usize::from(first)], numbers[usize::from(second)]),

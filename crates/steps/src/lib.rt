@@ -5,10 +5,9 @@ mod record;
 mod rule;
 mod sized_steps;
 
-ghost use Rattle.std.specs.Prelude.{ℕ, List, ◌≤◌, ◌<◌, ◌≡◌, length, get_or};
+ghost use Rattle.std.specs.Prelude.{ℕ, List, ◌≤◌, ◌<◌, ◌≡◌, length};
 ghost use Rattle.definitions.specs.Outcome.{lowest};
 ghost use Rattle.definitions.specs.Sheet.{step_limit, rule_byte, premiss_count};
-ghost use Rattle.definitions.specs.Tree.{rules, Sorry, identifier_count};
 ghost use Rattle.definitions.specs.Admission.{bad_step, trees_left};
 ghost use Rattle.steps.specs.Records.{HasStep, HasSteps};
 ghost use Rattle.steps.specs.StepAt.{step_at};
@@ -92,15 +91,6 @@ pub fn bad_step(step_records: &[u8], k: usize, names: usize, propositions: usize
     ensures { result ≡ bad_step names propositions step_records.now k }
 {
     StepRecord { step_records, k }.is_bad(names, propositions)
-}
-
-// How many identifiers the rule of a byte has.
-#[tactic(auto, unfolding(definitions::specs::Tree::rules))]
-pub fn identifier_count(rule: usize) -> u8
-    requires { rule < length rules }
-    ensures { result ≡ identifier_count (get_or rules rule Sorry) }
-{
-    Rule::of_byte(rule as u8).map_or(0, Rule::identifier_count)
 }
 
 // Refusal 9: the lowest of the steps that is bad.

@@ -16,8 +16,8 @@ pub struct SizedSteps<'a> {
 }
 
 impl SizedSteps<'_> {
-    // Where the tree of the step behind these starts, if that step finds its premisses: back over each of them by its size. It may stop
-    // at each of them, so the walk is a loop and no fold.
+    // Where the tree of the step behind these starts, if that step finds its premisses: back over each of them by its size. A `try_fold`
+    // leaves open that each turn may subtract and where the last one ends, which are inductions over its turns: the loop has one invariant.
     pub(crate) fn next_start(&self) -> Option<usize>
         requires { HasStep self.now.step_records.now self.now.steps }
         ensures { TreeStart self.now.step_records.now self.now.steps result }
@@ -34,8 +34,8 @@ impl SizedSteps<'_> {
         Some(start)
     }
 
-    // The nesting of the tree of step k: one more than that of its deepest premiss. The place where the next premiss ends goes along
-    // beside the deepest, so the walk is a loop.
+    // The nesting of the tree of step k: one more than that of its deepest premiss. A `fold` over the place and the deepest leaves open
+    // that each turn may subtract, that the sum fits and what it is, as the `try_fold` of `next_start` does.
     fn tree_height(&self, k: usize, heights: &[u16]) -> u16
         requires { (k < self.now.steps) × (k ≤ length heights.now)
             × HeightTable self.now.step_records.now k heights.now }
