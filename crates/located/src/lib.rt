@@ -11,7 +11,7 @@ ghost use Rattle.located.specs.AfterHeader.{AfterHeader};
 use definitions::{Located, Reason, Refusal};
 use output::sink::put_decimal;
 use output::{Sink, Writer};
-use sheet::{Sheet, step_records};
+use sheet::{HeadedSheet, Sheet};
 use steps::step_at;
 
 // The place of refusals 9 to 15 is a step.
@@ -34,7 +34,11 @@ fn column_at(s: &[u8], k: usize) -> u16
     if h.steps <= k {
         return 0;
     }
-    let step = step_at(step_records(s, h), k);
+    let sheet = HeadedSheet {
+        bytes: s,
+        header: h,
+    };
+    let step = step_at(sheet.step_records(), k);
     step.column
 }
 

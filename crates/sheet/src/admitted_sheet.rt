@@ -6,29 +6,28 @@ ghost use Rattle.sheet.specs.Header.{header_of, vocabulary_of};
 ghost use Rattle.sheet.specs.Admitted.{Accepted, Admits};
 
 use crate::header::Sheet;
-use crate::{answer, check, parts};
+use crate::parts::HeadedSheet;
+use crate::{answer, check};
 use definitions::Refusal;
 use std::marker::Model;
 use vocabulary::Vocabulary;
 
-// The bytes, beside their header. What hands out a part also tells what the refusals have shown of the bytes.
+// The bytes with their header. What hands out a part also tells what the refusals have shown of the bytes.
 #[derive(Drop)]
 pub struct AdmittedSheet<'a> {
-    bytes: &'a [u8],
-    header: Sheet,
+    sheet: HeadedSheet<'a>,
 }
 
 impl<'a> Model for AdmittedSheet<'a> {
-    ghost use Rattle.std.specs.Prelude.{◌≡◌, List, ℕ};
+    ghost use Rattle.std.specs.Prelude.{List, ℕ};
 
     ghost Value = { List ℕ };
 
-    ghost use Rattle.sheet.specs.Header.{header_of};
     ghost use Rattle.sheet.specs.Admitted.{Accepted};
 
-    ghost view = { λ a. a.bytes.now };
+    ghost view = { λ a. a.sheet.bytes.now };
 
-    ghost invariant = { λ a. (a.header ≡ header_of a.bytes.now) × Accepted a.bytes.now };
+    ghost invariant = { λ a. Accepted a.sheet.bytes.now };
 }
 
 impl<'a> AdmittedSheet<'a> {
@@ -37,7 +36,8 @@ impl<'a> AdmittedSheet<'a> {
         ensures { Admits bytes.now result }
     {
         let header = answer(bytes)?;
-        Ok(AdmittedSheet { bytes, header })
+        let sheet = HeadedSheet { bytes, header };
+        Ok(AdmittedSheet { sheet })
     }
 
     // The same, and the sizes of its steps' trees: a SizedSheet keeps both.
@@ -49,7 +49,8 @@ impl<'a> AdmittedSheet<'a> {
         ensures sized { IfOk result (λ _. SizeTable (step_records bytes.now) (steps bytes.now) sizes.new) }
     {
         let header = check(bytes, sizes)?;
-        Ok(AdmittedSheet { bytes, header })
+        let sheet = HeadedSheet { bytes, header };
+        Ok(AdmittedSheet { sheet })
     }
 
     // Its bytes.
@@ -57,7 +58,7 @@ impl<'a> AdmittedSheet<'a> {
         ensures is { result.now ≡ self.now }
         ensures accepted { Accepted self.now }
     {
-        self.bytes
+        self.sheet.bytes
     }
 
     // Its header.
@@ -65,7 +66,7 @@ impl<'a> AdmittedSheet<'a> {
         ensures is { result ≡ header_of self.now }
         ensures accepted { Accepted self.now }
     {
-        self.header
+        self.sheet.header
     }
 
     // Where its names and its code lie.
@@ -73,7 +74,7 @@ impl<'a> AdmittedSheet<'a> {
         ensures is { result ≡ vocabulary_of (header_of self.now) }
         ensures accepted { Accepted self.now }
     {
-        parts::vocabulary(self.header)
+        self.sheet.vocabulary()
     }
 
     // The pairs of its names.
@@ -81,7 +82,7 @@ impl<'a> AdmittedSheet<'a> {
         ensures is { result.now ≡ name_pairs self.now }
         ensures accepted { Accepted self.now }
     {
-        parts::name_pairs(self.bytes, self.header)
+        self.sheet.name_pairs()
     }
 
     // The pairs of its propositions.
@@ -89,7 +90,7 @@ impl<'a> AdmittedSheet<'a> {
         ensures is { result.now ≡ proposition_pairs self.now }
         ensures accepted { Accepted self.now }
     {
-        parts::proposition_pairs(self.bytes, self.header)
+        self.sheet.proposition_pairs()
     }
 
     // Its steps.
@@ -97,7 +98,7 @@ impl<'a> AdmittedSheet<'a> {
         ensures is { result.now ≡ step_records self.now }
         ensures accepted { Accepted self.now }
     {
-        parts::step_records(self.bytes, self.header)
+        self.sheet.step_records()
     }
 
     // The text of its names.
@@ -105,7 +106,7 @@ impl<'a> AdmittedSheet<'a> {
         ensures is { result.now ≡ text_bytes self.now }
         ensures accepted { Accepted self.now }
     {
-        parts::text_bytes(self.bytes, self.header)
+        self.sheet.text_bytes()
     }
 
     // The code of its propositions.
@@ -113,6 +114,6 @@ impl<'a> AdmittedSheet<'a> {
         ensures is { result.now ≡ code_bytes self.now }
         ensures accepted { Accepted self.now }
     {
-        parts::code_bytes(self.bytes, self.header)
+        self.sheet.code_bytes()
     }
 }

@@ -92,34 +92,20 @@ impl Sheet {
     }
 
     // Whether a header number lies outside its range.
+    #[tactic(auto, unfolding(definitions::specs::Sheet::text_limit, definitions::specs::Sheet::name_limit, definitions::specs::Sheet::code_limit, definitions::specs::Sheet::proposition_limit, definitions::specs::Sheet::step_limit, definitions::specs::Sheet::header_out_of_range, crate::specs::Header::header_of))]
     pub fn out_of_range(self) -> bool
         ensures { (s : List ℕ) → self ≡ header_of s → result ≡ header_out_of_range s }
     {
-        if Self::TEXT_LIMIT < self.text_length {
-            return true;
-        }
-        if Self::NAME_LIMIT < self.names {
-            return true;
-        }
-        if Self::CODE_LIMIT < self.code_length {
-            return true;
-        }
-        if self.propositions < 1 {
-            return true;
-        }
-        if Self::PROPOSITION_LIMIT < self.propositions {
-            return true;
-        }
-        if self.steps < 1 {
-            return true;
-        }
-        if Self::STEP_LIMIT < self.steps {
-            return true;
-        }
-        self.propositions <= self.goal
+        Self::TEXT_LIMIT < self.text_length
+            || Self::NAME_LIMIT < self.names
+            || Self::CODE_LIMIT < self.code_length
+            || (self.propositions < 1 || Self::PROPOSITION_LIMIT < self.propositions)
+            || (self.steps < 1 || Self::STEP_LIMIT < self.steps)
+            || self.propositions <= self.goal
     }
 
     // Where the parts of a sheet with this header lie.
+    #[tactic(auto, unfolding(definitions::specs::Sheet::text_limit, definitions::specs::Sheet::name_limit, definitions::specs::Sheet::code_limit, definitions::specs::Sheet::proposition_limit, definitions::specs::Sheet::step_limit, definitions::specs::Sheet::header_size, definitions::specs::Sheet::pair_size, definitions::specs::Sheet::step_size, crate::specs::Header::layout_of))]
     pub fn layout(self) -> Layout
         requires { InRange self }
         ensures { result ≡ layout_of self }

@@ -7,12 +7,11 @@ mod pairs;
 mod parts;
 mod sized_sheet;
 
-ghost use Rattle.std.specs.Prelude.{◌≡◌, ◌<◌, ◌≤◌, length, IfSome};
+ghost use Rattle.std.specs.Prelude.{◌≡◌, ◌<◌, IfSome};
 ghost use Rattle.definitions.specs.Reason.{number_of};
 ghost use Rattle.definitions.specs.Outcome.{refuse_at};
-ghost use Rattle.definitions.specs.Sheet.{step_limit};
 ghost use Rattle.definitions.specs.Admission.{header_checks};
-ghost use Rattle.sheet.specs.Header.{header_of, HasHeader};
+ghost use Rattle.sheet.specs.Header.{header_of};
 ghost use Rattle.sheet.specs.Checks.{outcome_of, checked_of, answered, name_checks, proposition_checks, step_checks, tree_checks};
 ghost use Rattle.sheet.specs.Sizes.{steps_finding_trees, sized_steps, Sized};
 
@@ -20,7 +19,7 @@ pub use admitted_sheet::AdmittedSheet;
 use definitions::{Reason, Refusal};
 pub use header::{Layout, Sheet};
 pub use pairs::{first_bad_code, first_bad_name, first_bad_pair, first_deep_proposition};
-pub use parts::{code_bytes, name_pairs, proposition_pairs, step_records, text_bytes, vocabulary};
+pub use parts::{HeadedSheet, vocabulary};
 pub use sized_sheet::SizedSheet;
 use steps::{SizedSteps, fill_sizes, first_bad_step, leaves_trees};
 
@@ -50,75 +49,78 @@ pub fn check_header(s: &[u8]) -> Result<Sheet, Refusal>
     Ok(h)
 }
 
-// The stages behind the header run over bytes that are not admitted yet, so each takes them with their header.
-
-// Refusals 4 and 5: the names.
-fn check_names(s: &[u8], h: Sheet) -> Result<(), Refusal>
-    requires { HasHeader s.now h }
-    ensures { outcome_of result ≡ name_checks s.now }
-{
-    let pairs = name_pairs(s, h);
-    let bad_pair = first_bad_pair(pairs, h.names, h.text_length, Sheet::NAME_LENGTH_LIMIT);
-    refuse_at(bad_pair, Reason::NamePair)?;
-    refuse_at(
-        first_bad_name(pairs, text_bytes(s, h), h.names),
-        Reason::NameByte,
-    )
-}
-
-// Refusals 6 to 8: the propositions.
-fn check_propositions(s: &[u8], h: Sheet) -> Result<(), Refusal>
-    requires { HasHeader s.now h }
-    ensures { outcome_of result ≡ proposition_checks s.now }
-{
-    let pairs = proposition_pairs(s, h);
-    let code = code_bytes(s, h);
-    let bad_pair = first_bad_pair(pairs, h.propositions, h.code_length, h.code_length);
-    refuse_at(bad_pair, Reason::PropositionPair)?;
-    refuse_at(
-        first_bad_code(pairs, code, h.propositions, h.names),
-        Reason::PropositionCode,
-    )?;
-    refuse_at(
-        first_deep_proposition(pairs, code, h.propositions, h.names),
-        Reason::PropositionNesting,
-    )
-}
-
-// Refusal 9: the steps.
-fn check_steps(s: &[u8], h: Sheet) -> Result<(), Refusal>
-    requires { HasHeader s.now h }
-    ensures { outcome_of result ≡ step_checks s.now }
-{
-    let records = step_records(s, h);
-    refuse_at(
-        first_bad_step(records, h.steps, h.names, h.propositions),
-        Reason::StepField,
-    )
-}
-
-// Refusals 10 and 11: the steps' trees.
-fn check_trees(s: &[u8], h: Sheet, sizes: &mut [u16]) -> Result<(), Refusal>
-    requires { (HasHeader s.now h) × (step_limit ≤ length sizes.old) }
-    ensures value { outcome_of result ≡ tree_checks s.now }
-    ensures sized { Sized s.now (steps_finding_trees s.now) sizes.old sizes.new }
-{
-    let records = step_records(s, h);
-    let steps = h.steps;
-    refuse_at(fill_sizes(records, steps, sizes), Reason::TreeCount)?;
-    if leaves_trees(records, steps, sizes) {
-        return Err(Reason::TreeCount.at(steps - 1));
+// The stages behind the header.
+impl HeadedSheet<'_> {
+    // Refusals 4 and 5: the names.
+    #[tactic(auto, using(crate::proofs::Searched::fits, crate::proofs::Searched::searched, crate::proofs::Given::name_pairs_present, crate::proofs::Given::names_fit, crate::proofs::Stages::stopped, crate::proofs::Placed::name_pairs_alike), unfolding(crate::specs::Header::header_of, crate::specs::Checks::name_checks, definitions::specs::Sheet::name_length_limit))]
+    fn check_names(&self) -> Result<(), Refusal>
+        ensures { outcome_of result ≡ name_checks self.now.bytes.now }
+    {
+        let h = self.header;
+        let pairs = self.name_pairs();
+        let bad_pair = first_bad_pair(pairs, h.names, h.text_length, Sheet::NAME_LENGTH_LIMIT);
+        refuse_at(bad_pair, Reason::NamePair)?;
+        refuse_at(
+            first_bad_name(pairs, self.text_bytes(), h.names),
+            Reason::NameByte,
+        )
     }
-    let sized = SizedSteps {
-        step_records: records,
-        steps,
-        sizes,
-    };
-    let mut heights = [0u16; Sheet::STEP_LIMIT];
-    refuse_at(
-        sized.first_deep_tree(&mut heights, Sheet::TREE_NESTING_LIMIT),
-        Reason::TreeNesting,
-    )
+
+    // Refusals 6 to 8: the propositions.
+    #[tactic(auto, using(crate::proofs::Searched::fits, crate::proofs::Searched::searched, crate::proofs::Given::proposition_pairs_present, crate::proofs::Given::propositions_fit, crate::proofs::Stages::stopped, crate::proofs::Placed::proposition_pairs_alike), unfolding(crate::specs::Header::header_of, crate::specs::Checks::proposition_checks))]
+    fn check_propositions(&self) -> Result<(), Refusal>
+        ensures { outcome_of result ≡ proposition_checks self.now.bytes.now }
+    {
+        let h = self.header;
+        let pairs = self.proposition_pairs();
+        let code = self.code_bytes();
+        let bad_pair = first_bad_pair(pairs, h.propositions, h.code_length, h.code_length);
+        refuse_at(bad_pair, Reason::PropositionPair)?;
+        refuse_at(
+            first_bad_code(pairs, code, h.propositions, h.names),
+            Reason::PropositionCode,
+        )?;
+        refuse_at(
+            first_deep_proposition(pairs, code, h.propositions, h.names),
+            Reason::PropositionNesting,
+        )
+    }
+
+    // Refusal 9: the steps.
+    #[tactic(auto, using(crate::proofs::Searched::fits, crate::proofs::Searched::searched, crate::proofs::Given::steps_present, crate::proofs::Given::steps_fit), unfolding(crate::specs::Header::header_of, crate::specs::Checks::step_checks))]
+    fn check_steps(&self) -> Result<(), Refusal>
+        ensures { outcome_of result ≡ step_checks self.now.bytes.now }
+    {
+        let h = self.header;
+        let records = self.step_records();
+        refuse_at(
+            first_bad_step(records, h.steps, h.names, h.propositions),
+            Reason::StepField,
+        )
+    }
+
+    // Refusals 10 and 11: the steps' trees.
+    fn check_trees(&self, sizes: &mut [u16; Sheet::STEP_LIMIT]) -> Result<(), Refusal>
+        ensures value { outcome_of result ≡ tree_checks self.now.bytes.now }
+        ensures sized { Sized self.now.bytes.now (steps_finding_trees self.now.bytes.now) sizes.old sizes.new }
+    {
+        let records = self.step_records();
+        let steps = self.header.steps;
+        refuse_at(fill_sizes(records, steps, sizes), Reason::TreeCount)?;
+        if leaves_trees(records, steps, sizes) {
+            return Err(Reason::TreeCount.at(steps - 1));
+        }
+        let sized = SizedSteps {
+            step_records: records,
+            steps,
+            sizes,
+        };
+        let mut heights = [0u16; Sheet::STEP_LIMIT];
+        refuse_at(
+            sized.first_deep_tree(&mut heights, Sheet::TREE_NESTING_LIMIT),
+            Reason::TreeNesting,
+        )
+    }
 }
 
 // Refusals 1 to 11 in their order. The table gets the sizes of the steps' trees: of all, where the sheet is accepted, and else of
@@ -128,12 +130,13 @@ pub fn check(s: &[u8], sizes: &mut [u16; Sheet::STEP_LIMIT]) -> Result<Sheet, Re
     ensures value { result ≡ checked_of s.now }
     ensures sized { Sized s.now (sized_steps s.now) sizes.old sizes.new }
 {
-    let h = check_header(s)?;
-    check_names(s, h)?;
-    check_propositions(s, h)?;
-    check_steps(s, h)?;
-    check_trees(s, h, sizes)?;
-    Ok(h)
+    let header = check_header(s)?;
+    let sheet = HeadedSheet { bytes: s, header };
+    sheet.check_names()?;
+    sheet.check_propositions()?;
+    sheet.check_steps()?;
+    sheet.check_trees(sizes)?;
+    Ok(header)
 }
 
 // The same where nobody asks for the sizes: a caller's frame has no table then.

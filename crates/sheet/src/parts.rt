@@ -1,4 +1,4 @@
-// The parts of a sheet, as slices of its bytes, and where its names and its code lie.
+// Where the names and the code of a sheet lie, and its parts, as slices of its bytes.
 ghost use Rattle.std.specs.Prelude.{◌≡◌};
 ghost use Rattle.definitions.specs.Sheet.{name_pairs, proposition_pairs, step_records, text_bytes, code_bytes};
 ghost use Rattle.sheet.specs.Header.{InRange, HasHeader, vocabulary_of};
@@ -7,6 +7,7 @@ use crate::header::Sheet;
 use vocabulary::{Vocabulary, code_of, pairs_of, text_of};
 
 // Where the names and the code of a sheet with this header lie.
+#[tactic(auto, unfolding(crate::specs::Header::vocabulary_of, definitions::specs::Sheet::header_size))]
 pub fn vocabulary(h: Sheet) -> Vocabulary
     requires { InRange h }
     ensures { result ≡ vocabulary_of h }
@@ -22,44 +23,61 @@ pub fn vocabulary(h: Sheet) -> Vocabulary
     }
 }
 
-// The names' pairs of a sheet.
-pub fn name_pairs(s: &[u8], h: Sheet) -> &[u8]
-    requires { HasHeader s.now h }
-    ensures { result.now ≡ name_pairs s.now }
-{
-    pairs_of(s, vocabulary(h))
+// Bytes with their header, which lies in its ranges and says how many they are. No refusal has looked at what lies in their parts.
+#[derive(Clone, Copy)]
+pub struct HeadedSheet<'a> {
+    pub bytes: &'a [u8],
+    pub header: Sheet,
+    pub ghost headed: { HasHeader bytes.now header },
 }
 
-// The propositions' pairs.
-pub fn proposition_pairs(s: &[u8], h: Sheet) -> &[u8]
-    requires { HasHeader s.now h }
-    ensures { result.now ≡ proposition_pairs s.now }
-{
-    let layout = h.layout();
-    &s[layout.proposition_pairs..layout.steps]
-}
+impl<'a> HeadedSheet<'a> {
+    // Where its names and its code lie.
+    pub fn vocabulary(&self) -> Vocabulary
+        ensures { result ≡ vocabulary_of self.now.header }
+    {
+        vocabulary(self.header)
+    }
 
-// The steps.
-pub fn step_records(s: &[u8], h: Sheet) -> &[u8]
-    requires { HasHeader s.now h }
-    ensures { result.now ≡ step_records s.now }
-{
-    let layout = h.layout();
-    &s[layout.steps..layout.text]
-}
+    // The pairs of its names.
+    #[tactic(auto, using(crate::proofs::NamesAndCode::within, crate::proofs::NamesAndCode::pairs_are))]
+    pub fn name_pairs(&self) -> &'a [u8]
+        ensures { result.now ≡ name_pairs self.now.bytes.now }
+    {
+        pairs_of(self.bytes, self.vocabulary())
+    }
 
-// The text.
-pub fn text_bytes(s: &[u8], h: Sheet) -> &[u8]
-    requires { HasHeader s.now h }
-    ensures { result.now ≡ text_bytes s.now }
-{
-    text_of(s, vocabulary(h))
-}
+    // The pairs of its propositions.
+    #[tactic(auto, unfolding(crate::specs::Header::layout_of, crate::specs::Header::header_of, definitions::specs::Sheet::proposition_pairs, definitions::specs::Sheet::header_size, definitions::specs::Sheet::pair_size, definitions::specs::Sheet::step_size, definitions::specs::Sheet::name_pairs_start, definitions::specs::Sheet::proposition_pairs_start, definitions::specs::Sheet::steps_start, definitions::specs::Sheet::text_start, definitions::specs::Sheet::code_start, definitions::specs::Sheet::sheet_length))]
+    pub fn proposition_pairs(&self) -> &'a [u8]
+        ensures { result.now ≡ proposition_pairs self.now.bytes.now }
+    {
+        let layout = self.header.layout();
+        &self.bytes[layout.proposition_pairs..layout.steps]
+    }
 
-// The code.
-pub fn code_bytes(s: &[u8], h: Sheet) -> &[u8]
-    requires { HasHeader s.now h }
-    ensures { result.now ≡ code_bytes s.now }
-{
-    code_of(s, vocabulary(h))
+    // Its steps.
+    #[tactic(auto, unfolding(crate::specs::Header::layout_of, crate::specs::Header::header_of, definitions::specs::Sheet::step_records, definitions::specs::Sheet::header_size, definitions::specs::Sheet::pair_size, definitions::specs::Sheet::step_size, definitions::specs::Sheet::name_pairs_start, definitions::specs::Sheet::proposition_pairs_start, definitions::specs::Sheet::steps_start, definitions::specs::Sheet::text_start, definitions::specs::Sheet::code_start, definitions::specs::Sheet::sheet_length))]
+    pub fn step_records(&self) -> &'a [u8]
+        ensures { result.now ≡ step_records self.now.bytes.now }
+    {
+        let layout = self.header.layout();
+        &self.bytes[layout.steps..layout.text]
+    }
+
+    // The text of its names.
+    #[tactic(auto, using(crate::proofs::NamesAndCode::within, crate::proofs::NamesAndCode::text_is))]
+    pub fn text_bytes(&self) -> &'a [u8]
+        ensures { result.now ≡ text_bytes self.now.bytes.now }
+    {
+        text_of(self.bytes, self.vocabulary())
+    }
+
+    // The code of its propositions.
+    #[tactic(auto, using(crate::proofs::NamesAndCode::within, crate::proofs::NamesAndCode::code_is))]
+    pub fn code_bytes(&self) -> &'a [u8]
+        ensures { result.now ≡ code_bytes self.now.bytes.now }
+    {
+        code_of(self.bytes, self.vocabulary())
+    }
 }

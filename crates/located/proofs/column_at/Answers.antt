@@ -18,8 +18,8 @@ pub returns-then-h-k : goal.returns-then-h-k
 returns-then-h-k c =
     sym (no_step c.requires (is_header (goal.at.returns-then-h-k c).In-Ok) _ c.if-h-k.true)
 
-pub step_records-requires : goal.step_records-requires
-step_records-requires c = read_header c.requires (is_header (goal.at.step_records-requires c).In-Ok)
+pub invariant_of-sheet : goal.invariant_of-sheet
+invariant_of-sheet c = record { headed = read_header c.requires (is_header (goal.at.invariant_of-sheet c).In-Ok) }
 
 pub step_at-step-requires : goal.step_at-step-requires
 step_at-step-requires c =

@@ -6,7 +6,7 @@ use native.Mathlib.Omega.{arith}
 use native.Mathlib.Numerals.{add-one}
 use borrow.Author.Tests.{ltb-true, ltb-false}
 use Rattle.definitions.specs.Sheet.{pair_size, number_at, pair_offset, pair_length, pair_end, last_end}
-use Rattle.definitions.proofs.Lowest.{found_here, found_nowhere}
+use Rattle.definitions.proofs.Lowest.{found_here}
 use Rattle.definitions.proofs.Upward.{at_start, onward}
 use Rattle.sheet.proofs.Placed.{good_passes, bad_pair_lem}
 use Rattle.sheet.proofs.pairs.first_bad_pair.Goals as goal
@@ -38,23 +38,3 @@ loop-i-preserved c = (
   onward c.loop-i.invariant.0 c.loop-i-test.true (good_passes _ _ _ _ (omega (arith, ltb-false))),
   rw (add-one, last_end) (omega arith),
 )
-
-pub pair_offset-offset-requires : goal.pair_offset-offset-requires
-unfolding pair_size
-pair_offset-offset-requires c = omega arith
-
-pub pair_length-length-requires : goal.pair_length-length-requires
-unfolding pair_size
-pair_length-length-requires c = omega arith
-
-pub overflow_step-i : goal.overflow_step-i
-unfolding pair_size
-overflow_step-i c = omega arith
-
-pub loop-i-smaller : goal.loop-i-smaller
-unfolding pair_size
-loop-i-smaller c = omega arith
-
-pub returns : goal.returns
-unfolding pair_size
-returns c = found_nowhere _ _ _ c.loop-i.invariant.0.none_below (omega arith)

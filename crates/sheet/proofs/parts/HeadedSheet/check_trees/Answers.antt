@@ -20,8 +20,8 @@ use Rattle.sheet.specs.Sizes.{steps_finding_trees, Sized}
 use Rattle.sheet.proofs.Searched.{fits, searched, no_place}
 use Rattle.sheet.proofs.Given.{steps_present, steps_fit}
 use Rattle.sheet.proofs.Stages.{refused_if, not_refused_if, stops, stopped, passes}
-use Rattle.sheet.proofs.check_trees.Goals as goal
-use Rattle.sheet.proofs.check_trees.Goals.{After-fill_sizes, After-first_deep_tree, After-leaves_trees, After-slice_known-2-1, Else-leaves_trees, In_ok-refuse_at}
+use Rattle.sheet.proofs.parts.HeadedSheet.check_trees.Goals as goal
+use Rattle.sheet.proofs.parts.HeadedSheet.check_trees.Goals.{After-fill_sizes, After-first_deep_tree, After-leaves_trees, Else-leaves_trees, In_ok-refuse_at}
 
 -- What holds of the step records and the steps as the program has them holds of the sheet's.
 module _ (s : List ℕ) {records : List ℕ} {h : Sheet} (same : records ≡ step_records s) (header : h ≡ header_of s) where
@@ -58,7 +58,7 @@ module _ (s : List ℕ) {before after : List ℕ} {r : Option ℕ} (f : FilledSi
   all_of e = rw e at f.table
 
 abbrev sheet : After-fill_sizes → List ℕ
-sheet c = c.args.s.now
+sheet c = c.args.self.now.bytes.now
 
 abbrev sheet_filled : In_ok-refuse_at → List ℕ
 sheet_filled c = sheet (goal.at.In_ok-refuse_at c).After-fill_sizes
@@ -69,7 +69,7 @@ table c = c.fill_sizes.new.sizes
 
 filled : (c : After-fill_sizes)
     → FilledSizes (step_records (sheet c)) (steps (sheet c)) c.args.sizes.now c.fill_sizes.result (table c)
-filled c = filled_of _ c.step_records-records.ensures c.requires.0.header c.fill_sizes.ensures
+filled c = filled_of _ c.step_records-records.ensures c.args.self.now.headed.header c.fill_sizes.ensures
 
 tree_search : (c : After-fill_sizes) →
     let s = sheet c in
@@ -91,21 +91,21 @@ size_table c = all_of _ (filled (goal.at.In_ok-refuse_at c).After-fill_sizes) (n
 
 -- the table as it was filled, over the steps as the program has them
 program_table : (c : In_ok-refuse_at) →
-    SizeTable c.step_records-records.result.now c.args.h.steps (table (goal.at.In_ok-refuse_at c).After-fill_sizes)
+    SizeTable c.step_records-records.result.now c.args.self.now.header.steps (table (goal.at.In_ok-refuse_at c).After-fill_sizes)
 program_table c =
-    table_of _ c.step_records-records.ensures c.requires.0.header (size_table c)
+    table_of _ c.step_records-records.ensures c.args.self.now.headed.header (size_table c)
 
 table_long_enough : (c : In_ok-refuse_at) →
-    c.args.h.steps ≤ length (table (goal.at.In_ok-refuse_at c).After-fill_sizes)
+    c.args.self.now.header.steps ≤ length (table (goal.at.In_ok-refuse_at c).After-fill_sizes)
 unfolding step_limit
 table_long_enough c =
-    omega (arith, c.requires.0.in_range.steps, c.requires.1, c.fill_sizes.auto.sizes)
+    omega (arith, c.args.self.now.headed.in_range.steps, c.fill_sizes.auto.sizes)
 
 trees_test : (c : After-leaves_trees) →
     let s = sheet_filled (goal.at.After-leaves_trees c).In_ok-refuse_at in
     trees_left (names s) (proposition_pairs s) (code_bytes s) (step_records s) (steps s) ≡ c.leaves_trees.result
 trees_test c =
-    left-of _ c.step_records-records.ensures c.requires.0.header (c.leaves_trees.ensures _ _ _)
+    left-of _ c.step_records-records.ensures c.args.self.now.headed.header (c.leaves_trees.ensures _ _ _)
 
 one_left : (c : Else-leaves_trees) →
     let s = sheet_filled (goal.at.Else-leaves_trees c).In_ok-refuse_at in
@@ -117,20 +117,20 @@ height_search : (c : After-first_deep_tree) →
     c.first_deep_tree.result
     ≡ (lowest (deep_tree (names s) (proposition_pairs s) (code_bytes s) (step_records s)) (steps s))
 height_search c =
-    deep_of _ c.step_records-records.ensures c.requires.0.header
+    deep_of _ c.step_records-records.ensures c.args.self.now.headed.header
     (c.first_deep_tree.ensures.found _ _ _)
 
 pub fill_sizes-requires : goal.fill_sizes-requires
 unfolding step_limit
 fill_sizes-requires c =
     rw c.step_records-records.ensures (
-      steps_present c.requires.0,
-      c.requires.0.in_range.steps,
-      omega (arith, c.requires.0.in_range.steps, c.requires.1),
+      steps_present c.args.self.now.headed,
+      c.args.self.now.headed.in_range.steps,
+      omega (arith, c.args.self.now.headed.in_range.steps),
     )
 
 pub refuse_at-requires : goal.refuse_at-requires
-refuse_at-requires c = fits _ _ (tree_search (goal.at.refuse_at-requires c).After-fill_sizes) (steps_fit c.requires.0)
+refuse_at-requires c = fits _ _ (tree_search (goal.at.refuse_at-requires c).After-fill_sizes) (steps_fit c.args.self.now.headed)
 
 pub returns-in_err-refuse_at : goal.returns-in_err-refuse_at
 unfolding tree_checks
@@ -147,7 +147,7 @@ pub invariant_of-sized : goal.invariant_of-sized
 unfolding step_limit
 invariant_of-sized c =
     let passed = (goal.at.invariant_of-sized c).In_ok-refuse_at in
-    let has = c.requires.0 in
+    let has = c.args.self.now.headed in
     record {
       sized = record {
         has_steps = rw c.step_records-records.ensures (steps_present has);
@@ -160,11 +160,11 @@ invariant_of-sized c =
 pub leaves_trees-requires : goal.leaves_trees-requires
 leaves_trees-requires c =
     let passed = (goal.at.leaves_trees-requires c).In_ok-refuse_at in
-    (c.requires.0.in_range.some_step, table_long_enough passed, program_table passed)
+    (c.args.self.now.headed.in_range.some_step, table_long_enough passed, program_table passed)
 
 pub at-requires : goal.at-requires
 unfolding step_limit
-at-requires c = omega (arith, c.requires.0.in_range.steps)
+at-requires c = omega (arith, c.args.self.now.headed.in_range.steps)
 
 pub returns-then-leaves_trees : goal.returns-then-leaves_trees
 unfolding tree_checks header_of
@@ -172,16 +172,16 @@ returns-then-leaves_trees c =
     let at = goal.at.returns-then-leaves_trees c in
     record {
       value = passes _ (trees_passed at.In_ok-refuse_at)
-          (stops _ (refused_if _ _ (trees_test at.After-leaves_trees ∙ c.if-leaves_trees.true) (rw c.requires.0.header at c.at.ensures)));
+          (stops _ (refused_if _ _ (trees_test at.After-leaves_trees ∙ c.if-leaves_trees.true) (rw c.args.self.now.headed.header at c.at.ensures)));
       sized = sized at.After-fill_sizes;
     }
 
 pub first_deep_tree-requires : goal.first_deep_tree-requires
 unfolding step_limit
-first_deep_tree-requires c = c.requires.0.in_range.steps
+first_deep_tree-requires c = c.args.self.now.headed.in_range.steps
 
 pub refuse_at-requires-2 : goal.refuse_at-requires-2
-refuse_at-requires-2 c = fits _ _ (height_search (goal.at.refuse_at-requires-2 c).After-first_deep_tree) (steps_fit c.requires.0)
+refuse_at-requires-2 c = fits _ _ (height_search (goal.at.refuse_at-requires-2 c).After-first_deep_tree) (steps_fit c.args.self.now.headed)
 
 pub returns : goal.returns
 unfolding tree_checks

@@ -8,58 +8,42 @@ use Rattle.definitions.specs.Admission.{bad_proposition_pair, bad_code, deep_pro
 use Rattle.sheet.specs.Header.{header_of}
 use Rattle.sheet.specs.Pairs.{HasPairs}
 use Rattle.sheet.specs.Checks.{proposition_checks}
-use Rattle.sheet.proofs.Searched.{fits, searched, none_bad}
+use Rattle.sheet.proofs.Searched.{searched, none_bad}
 use Rattle.sheet.proofs.Placed.{proposition_pairs_alike}
-use Rattle.sheet.proofs.Given.{proposition_pairs_present, propositions_fit, has_proposition_pairs, has_codes}
+use Rattle.sheet.proofs.Given.{has_proposition_pairs, has_codes}
 use Rattle.sheet.proofs.Stages.{stopped, passes}
-use Rattle.sheet.proofs.check_propositions.Goals as goal
-use Rattle.sheet.proofs.check_propositions.Goals.{After-first_bad_code, After-first_bad_pair-bad_pair, After-first_deep_proposition, In_ok-refuse_at}
+use Rattle.sheet.proofs.parts.HeadedSheet.check_propositions.Goals as goal
+use Rattle.sheet.proofs.parts.HeadedSheet.check_propositions.Goals.{After-first_bad_code, After-first_bad_pair-bad_pair, After-first_deep_proposition, In_ok-refuse_at}
 
 pair_search : (c : After-first_bad_pair-bad_pair) →
-    let s = c.args.s.now in
+    let s = c.args.self.now.bytes.now in
     c.first_bad_pair-bad_pair.result ≡ lowest (bad_proposition_pair (proposition_pairs s) (code_length s)) (propositions s)
 unfolding header_of
 pair_search c =
-    rw (c.proposition_pairs-pairs.ensures, c.requires.header, proposition_pairs_alike _ _ _ (le_refl _))
+    rw (c.proposition_pairs-pairs.ensures, c.args.self.now.headed.header, proposition_pairs_alike _ _ _ (le_refl _))
     at c.first_bad_pair-bad_pair.ensures
 
-pairs_good : (c : In_ok-refuse_at) → HasPairs (proposition_pairs c.args.s.now) (code_bytes c.args.s.now) c.args.h.propositions
+pairs_good : (c : In_ok-refuse_at) → HasPairs (proposition_pairs c.args.self.now.bytes.now) (code_bytes c.args.self.now.bytes.now) c.args.self.now.header.propositions
 pairs_good c =
     let search_it = pair_search (goal.at.In_ok-refuse_at c).After-first_bad_pair-bad_pair in
-    has_proposition_pairs c.requires (none_bad _ _ search_it 6 c.in_ok-refuse_at.ensures)
+    has_proposition_pairs c.args.self.now.headed (none_bad _ _ search_it 6 c.in_ok-refuse_at.ensures)
 
 code_search : (c : After-first_bad_code) →
-    let s = c.args.s.now in
+    let s = c.args.self.now.bytes.now in
     c.first_bad_code.result ≡ lowest (bad_code (names s) (proposition_pairs s) (code_bytes s)) (propositions s)
 unfolding header_of
 code_search c =
-    rw (c.proposition_pairs-pairs.ensures, c.code_bytes-code.ensures, c.requires.header) at c.first_bad_code.ensures
+    rw (c.proposition_pairs-pairs.ensures, c.code_bytes-code.ensures, c.args.self.now.headed.header) at c.first_bad_code.ensures
 
 nesting_search : (c : After-first_deep_proposition) →
-    let s = c.args.s.now in
+    let s = c.args.self.now.bytes.now in
     c.first_deep_proposition.result ≡ lowest (deep_proposition (names s) (proposition_pairs s) (code_bytes s)) (propositions s)
 unfolding header_of
 nesting_search c =
-    rw (c.proposition_pairs-pairs.ensures, c.code_bytes-code.ensures, c.requires.header) at c.first_deep_proposition.ensures
-
-pub first_bad_pair-bad_pair-requires : goal.first_bad_pair-bad_pair-requires
-first_bad_pair-bad_pair-requires c = rw c.proposition_pairs-pairs.ensures (proposition_pairs_present c.requires)
-
-pub refuse_at-requires : goal.refuse_at-requires
-refuse_at-requires c = fits _ _ (pair_search c) (propositions_fit c.requires)
-
-pub returns-in_err-refuse_at : goal.returns-in_err-refuse_at
-unfolding proposition_checks
-returns-in_err-refuse_at c =
-    let search_it = pair_search (goal.at.returns-in_err-refuse_at c).After-first_bad_pair-bad_pair in
-    let same : c.from_residual.result ≡ c.refuse_at.result = search rules in
-    rw same (searched _ _ search_it 6 c.refuse_at.ensures ∙ stopped _ (searched _ _ search_it 6 c.in_err-refuse_at.ensures))
+    rw (c.proposition_pairs-pairs.ensures, c.code_bytes-code.ensures, c.args.self.now.headed.header) at c.first_deep_proposition.ensures
 
 pub first_bad_code-requires : goal.first_bad_code-requires
 first_bad_code-requires c = rw (c.proposition_pairs-pairs.ensures, c.code_bytes-code.ensures) (pairs_good c)
-
-pub refuse_at-requires-2 : goal.refuse_at-requires-2
-refuse_at-requires-2 c = fits _ _ (code_search c) (propositions_fit c.requires)
 
 pub returns-in_err-refuse_at-2 : goal.returns-in_err-refuse_at-2
 unfolding proposition_checks
@@ -74,10 +58,7 @@ pub first_deep_proposition-requires : goal.first_deep_proposition-requires
 first_deep_proposition-requires c =
     let at = goal.at.first_deep_proposition-requires c in
     rw (c.proposition_pairs-pairs.ensures, c.code_bytes-code.ensures)
-    (has_codes c.requires (pairs_good at.In_ok-refuse_at) (none_bad _ _ (code_search at.After-first_bad_code) 7 c.in_ok-refuse_at-2.ensures))
-
-pub refuse_at-requires-3 : goal.refuse_at-requires-3
-refuse_at-requires-3 c = fits _ _ (nesting_search c) (propositions_fit c.requires)
+    (has_codes c.args.self.now.headed (pairs_good at.In_ok-refuse_at) (none_bad _ _ (code_search at.After-first_bad_code) 7 c.in_ok-refuse_at-2.ensures))
 
 pub returns : goal.returns
 unfolding proposition_checks
