@@ -37,9 +37,10 @@ take_stored l s i h =
     ∙ take_at (take i l ++ s) (drop (i + length s) l) (i + length s) n
 
 -- nothing is appended
-pub none_appended : (from : ℕ) {pairs bytes : List ℕ} → Room pairs bytes → Appends from [] pairs bytes (record { count = 0; length = 0 })
+pub none_appended : (from : ℕ) {pairs bytes : List ℕ} {a : Appended} → (a.count ≡ 0) × (a.length ≡ 0) → Room pairs bytes
+    → Appends from [] pairs bytes a
 unfolding encode_pairs concat pair_size
-none_appended from room = record { room = room; count = refl; size = refl; pairs_are = refl; bytes_are = refl }
+none_appended from none room = record { room = room; count = none.0; size = none.1; pairs_are = refl; bytes_are = refl }
 
 -- one piece more
 pub one_appended : {from : ℕ} {ls : List (List ℕ)} {pairs bytes pairs' bytes' : List ℕ} {a : Appended} {size : ℕ} (l : List ℕ)

@@ -46,18 +46,18 @@ pub turned : {bound n from : ℕ} (pieces : ℕ → List (List ℕ)) {pairs₀ b
     → Turning bound n from pieces pairs₀ bytes₀ pairs bytes a → bound ≤ n → Appends from (pieces bound) pairs bytes a
 turned {bound} {n} pieces t l = let same : n ≡ bound = omega (arith, t.reached) in rw same at t.so
 
-pub no_names : (h d : List ℕ) (from : ℕ) {pairs bytes : List ℕ} → Room pairs bytes
-    → Appends from (missing_below h d 0) pairs bytes (record { count = 0; length = 0 })
-no_names h d from room = rw (none_missing h d) (none_appended from room)
+pub no_names : (h d : List ℕ) (from : ℕ) {pairs bytes : List ℕ} {a : Appended} → (a.count ≡ 0) × (a.length ≡ 0) → Room pairs bytes
+    → Appends from (missing_below h d 0) pairs bytes a
+no_names h d from none room = rw (none_missing h d) (none_appended from none room)
 
 pub all_names : (h d : List ℕ) {from : ℕ} {pairs bytes : List ℕ} {a : Appended} → Appends from (missing_below h d (names d)) pairs bytes a
     → Appends from (missing h d) pairs bytes a
 all_names h d so = rw (all_missing h d) at so
 
-pub no_codes : (d numbers : List ℕ) (from : ℕ) {pairs bytes : List ℕ} → Room pairs bytes
-    → Appends from (codes_below d numbers 0) pairs bytes (record { count = 0; length = 0 })
+pub no_codes : (d numbers : List ℕ) (from : ℕ) {pairs bytes : List ℕ} {a : Appended} → (a.count ≡ 0) × (a.length ≡ 0) → Room pairs bytes
+    → Appends from (codes_below d numbers 0) pairs bytes a
 unfolding codes_below up_to
-no_codes d numbers from room = none_appended from room
+no_codes d numbers from none room = none_appended from none room
 
 -- a donor name is appended or not, by its number
 module _ (h d : List ℕ) {from n : ℕ} (below : n < names d) {pairs bytes : List ℕ} {a : Appended} (so : Appends from (missing_below h d n) pairs bytes a) where

@@ -18,7 +18,7 @@ use vocabulary::name;
 
 // How many pieces were appended, and how long they are together. The memories for pairs and bytes stand beside it: a struct that
 // borrowed both would carry what each holds before and after through every clause.
-#[derive(Drop)]
+#[derive(Default, Drop)]
 pub struct Appended {
     pub count: usize,
     pub length: usize,
@@ -75,10 +75,7 @@ pub fn append_names(sheets: &NumberedSheets, pairs: &mut [u8], text: &mut [u8]) 
     ensures { Appends (text_length sheets.now.host.now) (missing sheets.now.host.now sheets.now.donor.now)
         pairs.new text.new result }
 {
-    let mut appended = Appended {
-        count: 0,
-        length: 0,
-    };
+    let mut appended = Appended::default();
     for n in 0..sheets.donor.header().names {
         appended = append_name(sheets, n, appended, pairs, text);
     }
@@ -123,10 +120,7 @@ pub fn append_propositions(
     requires room { Room pairs.old code.old }
     ensures { Appends from (codes_below donor.now numbers.now (propositions donor.now)) pairs.new code.new result }
 {
-    let mut appended = Appended {
-        count: 0,
-        length: 0,
-    };
+    let mut appended = Appended::default();
     for i in 0..donor.header().propositions {
         appended = append_proposition(donor, numbers, i, from, appended, pairs, code);
     }

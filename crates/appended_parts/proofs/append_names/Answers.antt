@@ -12,7 +12,7 @@ all : (c : After-header-n-end) → c.header-n-end.result.names ≡ names c.args.
 all c = name_count (beside_header c.header-n-end.ensures.is c.header-n-end.ensures.accepted)
 
 pub loop-n-init : goal.loop-n-init
-loop-n-init c = record { reached = omega arith; so = no_names _ _ _ c.requires; pair_size = refl; byte_size = refl }
+loop-n-init c = record { reached = omega arith; so = no_names _ _ _ c.default-appended.ensures c.requires; pair_size = refl; byte_size = refl }
 
 pub append_name-appended-requires-clause-n_bound : goal.append_name-appended-requires-clause-n_bound
 append_name-appended-requires-clause-n_bound c =

@@ -12,7 +12,7 @@ all : (c : After-header-i-end) → c.header-i-end.result.propositions ≡ propos
 all c = proposition_count (beside_header c.header-i-end.ensures.is c.header-i-end.ensures.accepted)
 
 pub loop-i-init : goal.loop-i-init
-loop-i-init c = record { reached = omega arith; so = no_codes _ _ _ c.requires.room; pair_size = refl; byte_size = refl }
+loop-i-init c = record { reached = omega arith; so = no_codes _ _ _ c.default-appended.ensures c.requires.room; pair_size = refl; byte_size = refl }
 
 pub append_proposition-appended-requires-clause-i_bound : goal.append_proposition-appended-requires-clause-i_bound
 append_proposition-appended-requires-clause-i_bound c =
