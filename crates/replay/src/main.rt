@@ -139,6 +139,9 @@ fn listed<T>(answer: Result<T, Located>) -> Result<T, Refused> {
     Ok(answer?)
 }
 
+// Bytes and numbers are read and compared by functions of their own: over a type parameter it stays open that an array of it fits memory,
+// and that its `==` may be called.
+
 // Memory as it is to be left: so many bytes of the list, at most the room, and zeros past them. All of it is compared with memory that
 // was lent, which holds zeros past an answer too, so that a slice of the list would say less.
 fn read_memory(rest: &mut &[u8], count: usize) -> [u8; ROOM] {
@@ -321,20 +324,25 @@ fn reading_agrees(rest: &mut &[u8], text: &[u8]) -> bool {
     term_agrees(rest, text, datatypes)
 }
 
-// What a graft answers: a length, or a refusal and whose it is, 0 for neither's, 1 for the host's and 2 for the donor's.
-type GraftAnswer = Result<usize, (u8, Refused)>;
+// What a graft answers: a length, or a refusal and whose it is.
+type GraftAnswer = Result<usize, (Whose, Refused)>;
 
-// The list has the number of a `Whose` among its variants.
 fn grafted_answer(grafted: Result<usize, (Whose, Located)>) -> GraftAnswer {
-    grafted.map_err(|(whose, located)| (whose as u8, Refused::from(located)))
+    grafted.map_err(|(whose, located)| (whose, Refused::from(located)))
+}
+
+// The list's numbers of those whose a refusal is; any other is neither's.
+fn read_whose(rest: &mut &[u8]) -> Whose {
+    match read_byte(rest) {
+        1 => Whose::Host,
+        2 => Whose::Donor,
+        _ => Whose::Neither,
+    }
 }
 
 // Only a refusal is somebody's.
 fn read_graft_answer(rest: &mut &[u8]) -> GraftAnswer {
-    match read_answer(rest) {
-        Ok(length) => Ok(length),
-        Err(refused) => Err((read_byte(rest), refused)),
-    }
+    read_answer(rest).map_err(|refused| (read_whose(rest), refused))
 }
 
 // The host is the first of the entry's bytes, and the donor the first of those behind it.
