@@ -3,13 +3,13 @@
 #![tactic(auto)]
 
 ghost use Rattle.std.specs.Prelude.{◌≡◌, false, ℕ, ◌+◌, ◌≤◌, ◌<◌, length, take, ltb, Ok};
-ghost use Rattle.definitions.specs.Sheet.{name_limit, tree_nesting_limit, names, steps};
+ghost use Rattle.definitions.specs.Sheet.{tree_nesting_limit, names, steps};
 ghost use Rattle.definitions.specs.Tree.{height, root_of};
 ghost use Rattle.definitions.specs.Graft.{not_open, graft, graft_answer};
 ghost use Rattle.graft_laws.specs.Levels.{above};
 ghost use Rattle.graft_laws.specs.Merges.{Merges};
 ghost use Rattle.output.specs.Written.{Fills};
-ghost use Rattle.merged_names.specs.Numbered.{Numbered};
+ghost use Rattle.merged_names.specs.Numbered.{Indexed, Numbered};
 ghost use Rattle.sheet.specs.Admitted.{Accepted};
 ghost use Rattle.restating.specs.Slots.{slots_after};
 ghost use Rattle.merged_sheet.specs.Merging.{Merging};
@@ -62,45 +62,42 @@ fn too_deep(host: &SizedSheet, k: usize, donor: &SizedSheet) -> bool
     (Sheet::TREE_NESTING_LIMIT as usize) < steps_above(host, k) + levels
 }
 
+// The names of a sheet with their index, which is built in lent slots.
+fn index_names<'a, 's: 'a>(sheet: &AdmittedSheet<'s>, slots: &'a mut [u16; SLOT_COUNT]) -> Index<'a>
+    ensures is { result.bytes.now ≡ sheet.now }
+    ensures indexed { Indexed result }
+    ensures accepted { Accepted sheet.now }
+{
+    let s = sheet.bytes();
+    let v = sheet.vocabulary();
+    build(slots, s, v);
+    Index { bytes: s, v, slots }
+}
+
 // Stores the numbers that the host's names and the donor's have in the merged sheet. One index of the host's names serves both, so
 // that the function of `judgement`, which numbers one sheet's names by an index of its own, would build it a second time.
 fn number_names(
     host: &AdmittedSheet,
     donor: &AdmittedSheet,
-    host_numbers: &mut [u16],
-    donor_numbers: &mut [u16],
+    host_numbers: &mut [u16; Sheet::NAME_LIMIT],
+    donor_numbers: &mut [u16; Sheet::NAME_LIMIT],
 )
-    requires { (name_limit ≤ length host_numbers.old) × (name_limit ≤ length donor_numbers.old) }
     ensures numbered { Numbered host.now host.now (names host.now) host_numbers.new }
     ensures numbered_2 { Numbered host.now donor.now (names donor.now)
         donor_numbers.new }
     ensures accepted { Accepted host.now × Accepted donor.now }
 {
-    let s = host.bytes();
-    let v = host.vocabulary();
-    let t = donor.bytes();
-    let w = donor.vocabulary();
     let mut host_slots = [0u16; SLOT_COUNT];
     let mut donor_slots = [0u16; SLOT_COUNT];
-    build(&mut host_slots, s, v);
-    build(&mut donor_slots, t, w);
-    let host_index = Index {
-        bytes: s,
-        v,
-        slots: &host_slots,
-    };
-    let donor_index = Index {
-        bytes: t,
-        v: w,
-        slots: &donor_slots,
-    };
+    let ours = index_names(host, &mut host_slots);
+    let theirs = index_names(donor, &mut donor_slots);
     let one = IndexedSheets {
-        host: host_index,
-        donor: host_index,
+        host: ours,
+        donor: ours,
     };
     let both = IndexedSheets {
-        host: host_index,
-        donor: donor_index,
+        host: ours,
+        donor: theirs,
     };
     fill_numbers(&one, host_numbers);
     fill_numbers(&both, donor_numbers);

@@ -1,12 +1,6 @@
 -- 27, and then the merged sheet.
-use native.Mathlib.Omega.{arith}
-use Rattle.definitions.specs.Sheet.{name_limit}
 use Rattle.grafting.proofs.Tests.{open_step, other_conclusions, same_conclusions}
 use Rattle.grafting.proofs.merge_equal.Goals as goal
-
-pub number_names-requires : goal.number_names-requires
-unfolding name_limit
-number_names-requires c = (omega arith, omega arith)
 
 pub same_conclusion-requires-clause-k_bound : goal.same_conclusion-requires-clause-k_bound
 same_conclusion-requires-clause-k_bound c = open_step _ _ c.requires
