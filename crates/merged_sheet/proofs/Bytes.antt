@@ -8,7 +8,7 @@ use lib.ListN.{length, take, drop, length-append, length-drop}
 use lib.Seq.{take-length}
 use Rattle.definitions.specs.Code.{u16}
 use Rattle.definitions.specs.Sheet as sheet
-use Rattle.definitions.specs.Sheet.{pair_size, step_size, name_limit, text_limit, code_limit, proposition_limit, step_limit, text_length, code_length, header_out_of_range, sheet_length, name_pairs_start, proposition_pairs_start, steps_start, text_start, code_start, name_pairs, proposition_pairs, step_records, text_bytes, code_bytes}
+use Rattle.definitions.specs.Sheet.{step_size, name_limit, text_limit, code_limit, proposition_limit, step_limit, text_length, code_length, header_out_of_range, sheet_length, name_pairs_start, proposition_pairs_start, steps_start, text_start, code_start, name_pairs, proposition_pairs, step_records, text_bytes, code_bytes}
 use Rattle.definitions.specs.Tree.{root_of}
 use Rattle.definitions.specs.Encode.{concat, encode_pairs}
 use Rattle.definitions.specs.Assemble.{header_bytes, assemble}
@@ -29,6 +29,7 @@ use Rattle.sheet.specs.declared.header.Sheet.{Sheet}
 use Rattle.sheet.specs.Header.{header_of, layout_of, InRange}
 use Rattle.sheet.proofs.Ranges.{in_range}
 use Rattle.sheet.proofs.Slices.{lengths}
+use Rattle.sheet.specs.Admitted.{Admitted}
 use Rattle.sheet.proofs.Admitted.{AcceptedSheet}
 use Rattle.restating.specs.Step.{header_numbers}
 use Rattle.appended_parts.specs.declared.Appended.{Appended}
@@ -59,15 +60,17 @@ codes_count s t = row_length _ (sheet.propositions t)
 up_to_end : (l : List ℕ) (n : ℕ) → take (length l - n) (drop n l) ≡ drop n l
 up_to_end l n = rw (← (length-drop n l)) (take-length (drop n l))
 
--- the steps of an accepted sheet
-module _ {s : List ℕ} {h : Sheet} (a : AcceptedSheet s h) where
+-- how many steps an accepted sheet has
+module _ {s : List ℕ} (a : Admitted s) where
   pub few_steps : sheet.steps s ≤ step_limit
   unfolding header_of
-  few_steps = a.sheet.in_range.steps
+  few_steps = a.in_range.steps
 
-  pub records_long : {records : List ℕ} → records ≡ step_records s → length records ≡ step_size * sheet.steps s
-  records_long e = ap length e ∙ (lengths s a.sheet.whole).step_records
+  pub records_long : length (step_records s) ≡ step_size * sheet.steps s
+  records_long = (lengths s a.whole).step_records
 
+-- its steps
+module _ {s : List ℕ} {h : Sheet} (a : AcceptedSheet s h) where
   pub parts_around : (k : ℕ) {records : List ℕ} → records ≡ step_records s
       → (take (step_size * k) records ≡ take (step_size * k) (step_records s))
       × (take (length records - step_size * (k + 1)) (drop (step_size * (k + 1)) records) ≡ drop (step_size * (k + 1)) (step_records s))

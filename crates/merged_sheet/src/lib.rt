@@ -47,6 +47,7 @@ fn put_pairs<S: Sink<u8>>(
 }
 
 // The host's steps, with the donor's in place of step k.
+#[tactic(auto, using(crate::proofs::Bytes::few_steps, crate::proofs::Bytes::records_long), unfolding(definitions::specs::Sheet::step_size, definitions::specs::Sheet::step_limit))]
 fn put_records<S: Sink<u8>>(sink: &mut S, sheets: &NumberedSheets, k: usize)
     requires { k < steps sheets.now.host.now }
     ensures { S.puts sink.old

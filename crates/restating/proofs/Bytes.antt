@@ -19,6 +19,7 @@ use Rattle.sheet.specs.declared.header.Sheet.{Sheet}
 use Rattle.sheet.specs.declared.header.Layout.{Layout}
 use Rattle.sheet.specs.Header.{header_of, layout_of, InRange}
 use Rattle.sheet.proofs.Slices.{lengths}
+use Rattle.sheet.specs.Admitted.{Admitted}
 use Rattle.sheet.proofs.Admitted.{AcceptedSheet}
 use Rattle.restating.specs.declared.Given.{Given}
 use Rattle.restating.specs.Step.{given_of, header_numbers, sheet_with}
@@ -74,20 +75,24 @@ one_more h =
       goal = h.goal;
     }
 
+-- Of an accepted sheet beside its header: the text starts after the header and within the bytes
+module _ {s : List ℕ} {h : Sheet} (is : h ≡ header_of s) (a : Admitted s) where
+  pub after_header : header_size ≤ (layout_of h).text
+  unfolding layout_of header_of text_start steps_start proposition_pairs_start name_pairs_start
+  after_header = omega arith
+
+  pub within : (layout_of h).text ≤ length s
+  unfolding layout_of header_of code_start sheet_length text_start steps_start proposition_pairs_start name_pairs_start
+  within = rw is (omega (arith, a.whole))
+
+  pub its_range : InRange h
+  its_range = rw is a.in_range
+
 -- Of an accepted sheet:
 module _ {s : List ℕ} {h : Sheet} (a : AcceptedSheet s h) where
   pub text_start_lem : (layout_of h).text ≡ text_start s
   unfolding layout_of header_of text_start steps_start proposition_pairs_start name_pairs_start
   text_start_lem = rw a.header
-
-  -- the text starts after the header and within the bytes
-  pub after_header : header_size ≤ (layout_of h).text
-  unfolding text_start steps_start proposition_pairs_start name_pairs_start
-  after_header = rw text_start_lem (omega arith)
-
-  pub within : (layout_of h).text ≤ length s
-  unfolding code_start sheet_length
-  within = rw text_start_lem (omega (arith, a.sheet.whole))
 
   pub in_range_after : steps s < step_limit → InRange (one_more h)
   unfolding header_of
@@ -147,7 +152,7 @@ module _ {s : List ℕ} {h : Sheet} (a : AcceptedSheet s h) where
     sheet_length_with =
         let header : length (u16s (header_numbers (one_more h))) ≡ 12 = refl in
         let parts = simp (length-append, length-take, length-drop) at (ap length sheet_bytes) in
-        omega (arith, parts, after_header, within)
+        omega (arith, parts, after_header a.header a.sheet, within a.header a.sheet)
 
     -- so its parts, from where they lie, are the sheet
     pub sheet_parts : {l : Layout} → l ≡ layout_of h

@@ -72,6 +72,7 @@ pub fn put_header<S: Sink<u8>>(sink: &mut S, h: Sheet)
 }
 
 // The sheet with one more step: its header, all up to the text, the step, and the rest.
+#[tactic(auto, using(crate::proofs::Bytes::after_header, crate::proofs::Bytes::within, crate::proofs::Bytes::its_range), unfolding(definitions::specs::Sheet::header_size, definitions::specs::Sheet::step_limit))]
 fn put_sheet<S: Sink<u8>>(sink: &mut S, sheet: &AdmittedSheet, step: &[u8])
     requires { steps sheet.now < step_limit }
     ensures { S.puts sink.old (sheet_with sheet.now step.now) sink.new }
