@@ -1,11 +1,11 @@
 -- The tests between refusals 11 and 16, and what they make of the answer.
-use Prim.Native.Nat.{ℕ, ◌-◌, ◌≤◌, ◌<◌}
+use Prim.Native.Nat.{ℕ, ◌-◌, ◌<◌}
 use mathlib.Core.Path.{◌≡◌, refl, ap, ◌∙◌}
 use mathlib.Core.Bool.{Bool, true, false, ◌||◌, not}
 use mathlib.Core.List.{List}
 use native.Mathlib.Omega.{arith}
 use lib.Dec.{leb}
-use borrow.Author.Tests.{le-leb, lt-leb, leb-false}
+use borrow.Author.Tests.{leb-false}
 use Rattle.definitions.specs.declared.Refusal.{Refusal}
 use Rattle.std.specs.Prelude.{Result, Err, ℕ}
 use Rattle.definitions.specs.Outcome.{Outcome, refused, accepted, refuse, ◌>>=◌, refuse_if}
@@ -39,15 +39,6 @@ module _ {s : List ℕ} {h : Sheet} (a : AcceptedSheet s h) where
   pub bad_known : (step : List ℕ) {b : Bool} → b ≡ bad_step h.names h.propositions step 0 → b ≡ bad_step (names s) (propositions s) step 0
   unfolding header_of
   bad_known step e = rw a.header at e
-
-  -- 24: the steps, or the root's nesting
-  pub steps_full : step_limit ≤ h.steps → true ≡ no_step_left s (root_of s)
-  unfolding no_step_left header_of
-  steps_full l = let l : step_limit ≤ steps s = rw a.header at l in rw (le-leb step_limit (steps s) l)
-
-  pub levels_decide : h.steps < step_limit → leb tree_nesting_limit (height (root_of s)) ≡ no_step_left s (root_of s)
-  unfolding no_step_left header_of
-  levels_decide l = let few : steps s < step_limit = rw a.header at l in rw (lt-leb step_limit (steps s) few)
 
   -- 25 and 19: the two conclusions
   pub root_in : ConclusionIn s (step_at (step_records s) (h.steps - 1)).conclusion

@@ -93,13 +93,12 @@ fn put_sheet<S: Sink<u8>>(sink: &mut S, sheet: &AdmittedSheet, step: &[u8])
 }
 
 // 24: there are already 1,024 steps or 256 levels.
+#[tactic(auto, unfolding(definitions::specs::Restate::no_step_left, definitions::specs::Sheet::step_limit, definitions::specs::Sheet::tree_nesting_limit, sheet::specs::Header::header_of))]
 fn no_step_left(sheet: &SizedSheet) -> bool
     ensures { result ≡ no_step_left sheet.now (root_of sheet.now) }
 {
-    if Sheet::STEP_LIMIT <= sheet.admitted().header().steps {
-        return true;
-    }
-    Sheet::TREE_NESTING_LIMIT <= sheet.root_height()
+    Sheet::STEP_LIMIT <= sheet.admitted().header().steps
+        || Sheet::TREE_NESTING_LIMIT <= sheet.root_height()
 }
 
 // The root's conclusion and that of one more step.
