@@ -1,17 +1,16 @@
 -- The tests of 26 and 27, and what they make of the answer.
 use Prim.Native.Nat.{ℕ, ◌+◌, ◌-◌, ◌≤◌, ◌<◌}
-use mathlib.Core.Path.{◌≡◌, refl, sym, ap, ◌∙◌}
-use mathlib.Core.Bool.{Bool, true, false, not, true≢false}
+use mathlib.Core.Path.{◌≡◌, refl}
+use mathlib.Core.Bool.{Bool, true, false, true≢false}
 use mathlib.Core.List.{List}
 use native.Mathlib.Omega.{arith}
 use native.Mathlib.Decide.{dec_lt}
 use lib.ListN.{length}
-use lib.Dec.{ltb, eqb}
-use borrow.Author.Tests.{le-leb, lt-leb, eq-eqb, ne_eqb}
+use lib.Dec.{ltb}
+use borrow.Author.Tests.{le-leb}
 use Rattle.definitions.specs.Outcome.{refuse, refuse_if, ◌>>=◌}
-use Rattle.definitions.specs.Sheet.{step_size, name_limit, tree_nesting_limit, steps, step_records, rule_byte, premiss_count}
+use Rattle.definitions.specs.Sheet.{step_size, name_limit, tree_nesting_limit, steps, step_records}
 use Rattle.definitions.specs.Tree.{height, root_of}
-use Rattle.definitions.specs.Encode.{rule_number}
 use Rattle.definitions.specs.Equal.{eq_conclusion}
 use Rattle.definitions.specs.Answers.{named_conclusion}
 use Rattle.definitions.specs.NameIndex.{index_of}
@@ -26,36 +25,18 @@ use Rattle.steps.specs.Records.{HasStep}
 use Rattle.sheet.specs.declared.header.Sheet.{Sheet}
 use Rattle.std.specs.Prelude.{Result, Err}
 use Rattle.sheet.specs.Header.{header_of, vocabulary_of}
+use Rattle.sheet.specs.Admitted.{Admitted}
 use Rattle.sheet.proofs.Admitted.{AcceptedSheet, has_steps, its_header}
 use Rattle.sheet.proofs.NamesAndCode.{count_is, names_are, names_of}
 use Rattle.merged_sheet.specs.Merging.{limited, headed, Merging}
 use Rattle.grafting.specs.Answered.{equal_and_limited}
 use Rattle.definitions.specs.declared.Refusal.{Refusal}
 
--- 26, of an accepted sheet
-module _ {s : List ℕ} {h : Sheet} (a : AcceptedSheet s h) (k : ℕ) where
-  pub past_steps : h.steps ≤ k → true ≡ not_open s k
-  unfolding not_open header_of
-  past_steps l = let l : steps s ≤ k = rw a.header at l in rw (le-leb (steps s) k l)
-
-  pub is_step : k < h.steps → k < steps s
-  unfolding header_of
-  is_step l = rw a.header at l
-
-  module _ (l : k < steps s) {records : List ℕ} (are : records ≡ step_records s) where
-    pub has_step : HasStep records k
-    unfolding step_size
-    has_step = rw are (omega (arith, has_steps a.sheet))
-
-    pub other_rule : {rule : ℕ} → rule ≡ rule_byte records k → (rule ≡ 15 → ⊥) → true ≡ not_open s k
-    unfolding not_open rule_number
-    other_rule e other = rw (lt-leb (steps s) k l, ne_eqb (rule_byte (step_records s) k) 15 (λ q. other (e ∙ (ap (λ r. rule_byte r k) are ∙ q))))
-
-    pub by_premisses : {rule count : ℕ} → rule ≡ rule_byte records k → rule ≡ 15 → count ≡ premiss_count records k → not (eqb count 0) ≡ not_open s k
-    unfolding not_open rule_number
-    by_premisses e is f =
-        let sorry : rule_byte (step_records s) k ≡ 15 = ap (λ r. rule_byte r k) (sym are) ∙ (sym e ∙ is) in
-        rw (lt-leb (steps s) k l, eq-eqb (rule_byte (step_records s) k) 15 sorry, f, are)
+-- a step of an accepted sheet is there
+pub step_there : {s : List ℕ} {h : Sheet} {k : ℕ} {records : List ℕ} → h ≡ header_of s → Admitted s → k < h.steps → records ≡ step_records s
+    → HasStep records k
+unfolding header_of step_size
+step_there {s} {k = k} is a l are = let l : k < steps s = rw is at l in rw are (omega (arith, has_steps a))
 
 -- an open step is one of the steps
 pub open_step : (s : List ℕ) (k : ℕ) → not_open s k ≡ false → k < steps s

@@ -27,17 +27,12 @@ use steps::{Rule, premiss_count, rule_byte};
 const SORRY: u8 = Rule::Sorry as u8;
 
 // 26: the host step is no Sorry without premisses.
+#[tactic(auto, using(crate::proofs::Tests::step_there), unfolding(definitions::specs::Graft::not_open, definitions::specs::Encode::rule_number, sheet::specs::Header::header_of))]
 fn not_open(host: &AdmittedSheet, k: usize) -> bool
     ensures { result ≡ not_open host.now k }
 {
-    if host.header().steps <= k {
-        return true;
-    }
     let records = host.step_records();
-    if rule_byte(records, k) != SORRY {
-        return true;
-    }
-    premiss_count(records, k) != 0
+    host.header().steps <= k || (rule_byte(records, k) != SORRY || premiss_count(records, k) != 0)
 }
 
 // How many steps stand above step k: the later ones whose trees reach it.
