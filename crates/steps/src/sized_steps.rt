@@ -18,6 +18,7 @@ pub struct SizedSteps<'a> {
 impl SizedSteps<'_> {
     // Where the tree of the step behind these starts, if that step finds its premisses: back over each of them by its size. A `try_fold`
     // leaves open that each turn may subtract and where the last one ends, which are inductions over its turns: the loop has one invariant.
+    #[tactic(auto, using(crate::proofs::Walk::walk_within))]
     pub(crate) fn next_start(&self) -> Option<usize>
         requires { HasStep self.now.step_records.now self.now.steps }
         ensures { TreeStart self.now.step_records.now self.now.steps result }
@@ -36,6 +37,7 @@ impl SizedSteps<'_> {
 
     // The nesting of the tree of step k: one more than that of its deepest premiss. A `fold` over the place and the deepest leaves open
     // that each turn may subtract, that the sum fits and what it is, as the `try_fold` of `next_start` does.
+    #[tactic(auto, using(crate::proofs::Walk::walk_within))]
     fn tree_height(&self, k: usize, heights: &[u16]) -> u16
         requires { (k < self.now.steps) × (k ≤ length heights.now)
             × HeightTable self.now.step_records.now k heights.now }

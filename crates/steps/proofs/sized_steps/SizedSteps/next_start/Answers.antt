@@ -1,7 +1,7 @@
 -- The walk back over the premisses by the size table.
 use Prim.Native.Nat.{◌-◌}
 use native.Mathlib.Omega.{arith}
-use Rattle.steps.proofs.Walk.{walk_start, walk_within, size_fits, walk_on, walk_out, walk_done}
+use Rattle.steps.proofs.Walk.{walk_start, size_fits, walk_on, walk_out, walk_done}
 use Rattle.steps.proofs.sized_steps.SizedSteps.next_start.Goals as goal
 
 pub loop-init : goal.loop-init
@@ -17,12 +17,6 @@ pub loop-preserved : goal.loop-preserved
 loop-preserved c =
     let l = c.loop.invariant in
     (walk_on l.0 _ c.args.self.now.sized.sizes (omega arith), omega arith, l.2)
-
-pub offset_bounds-sizes-start : goal.offset_bounds-sizes-start
-offset_bounds-sizes-start c = omega (arith, walk_within c.loop.invariant.0, c.args.self.now.sized.within)
-
-pub bounds-sizes-start : goal.bounds-sizes-start
-bounds-sizes-start c = omega (arith, walk_within c.loop.invariant.0, c.args.self.now.sized.within)
 
 pub overflow_cast-start : goal.overflow_cast-start
 overflow_cast-start c = omega (arith, c.type_inv.sizes (c.loop.start - 1))

@@ -43,14 +43,8 @@ loop-init c = (walk_start _ _, deepest_none _ _, omega arith, c.premiss_count-pr
 pub overflow_sub-last : goal.overflow_sub-last
 overflow_sub-last c = before c
 
-pub offset_bounds-heights-last : goal.offset_bounds-heights-last
-offset_bounds-heights-last c = omega (arith, walk_within c.loop.invariant.0)
-
 pub bounds-heights-last : goal.bounds-heights-last
 bounds-heights-last c = omega (arith, before (goal.at.bounds-heights-last c).In-loop, walk_within c.loop.invariant.0)
-
-pub offset_bounds-sizes-last : goal.offset_bounds-sizes-last
-offset_bounds-sizes-last c = omega (arith, walk_within c.loop.invariant.0, c.args.self.now.sized.within)
 
 pub bounds-sizes-last : goal.bounds-sizes-last
 bounds-sizes-last c =
