@@ -16,19 +16,17 @@ ghost use Rattle.proof_term.specs.Making.{Pushed, Made};
 pub use forms::Form;
 pub use nodes::{Kind, Label, Node, kind_at, label_at, node_at, parameter_at, parts_at};
 
-// The numbers of a record. Records are rows of a memory of u16 and no structs, since the memory of a term that is read comes from C.
+// The numbers of a record. Records are rows of one memory of u16, as C is handed them: its promise and the definitions speak of one list
+// of numbers, into which rows of the type `[u16; RECORD_SIZE]` would have to be flattened in each clause.
 pub const RECORD_SIZE: usize = 7;
 
 // A term has at most so many nodes, and so many records.
 pub const NODE_LIMIT: usize = 2048;
 
 // The number of a record that is its tally, and the most that it says.
-const TALLY: usize = 6;
+pub const TALLY: usize = RECORD_SIZE - 1;
 
 const TALLY_LIMIT: usize = u16::MAX as usize;
-
-// How many kinds there are.
-pub const KINDS: usize = Kind::Sorry as usize + 1;
 
 // The kinds of labels: none, a proposition by the number that stands for it, a datatype by its name.
 pub const NO_LABEL: usize = 0;

@@ -8,10 +8,9 @@ ghost use Rattle.definitions.specs.TermText.{nodes};
 ghost use Rattle.proof_term.specs.Records.{record_size, term_at};
 ghost use Rattle.term_sizes.specs.Sizes.{CountedTo, Sized, part_size, SizesFilled};
 
+// A record's number of nodes stands where its tally stood.
+pub use proof_term::TALLY as SIZE;
 use proof_term::{RECORD_SIZE, field, parts_at, sum_over};
-
-// Which number of a record it is.
-pub const SIZE: usize = RECORD_SIZE - 1;
 
 // The nodes that a part of record m keeps. What is no earlier record counts as a leaf.
 #[tactic(auto, unfolding(crate::specs::Sizes::part_size))]

@@ -18,7 +18,7 @@ use Rattle.proof_term_display.proofs.Progress.{start, ends_past, item_ready, goe
 use Rattle.proof_term_display.proofs.Parts.{unit_text, printable_part}
 use Rattle.proof_term_display.proofs.Ascriptions.{not_after, body_held, body_printable, label_printable, part_written}
 use Rattle.proof_term_display.proofs.+put_node.Goals as goal
-use Rattle.proof_term_display.proofs.+put_node.Goals.{put_part-After-field-number, put_part-Else-n-number, put_part-Then-n-number, put_item-After-field-number, put_item-After-of_letter, put_item-Then-is_between}
+use Rattle.proof_term_display.proofs.+put_node.Goals.{put_part-After-field-number, put_part-Else-n-number, put_item-After-of_letter, put_item-Then-is_between}
 
 -- the part's number, and what it takes to print it
 number_is : (g : _) (t : ℕ) → (c : put_part-After-field-number g t) → let s = c.args in

@@ -18,7 +18,7 @@ use Rattle.proof_tree.proofs.Rows.{reads_all}
 use Rattle.proof_tree.proofs.ReadPremisses.{read_none, read_more, read_refused, room_next, read_parts}
 use Rattle.proof_tree.proofs.Walking.{term_of, refusal_of, refused_as, size_tree, count_refused, Entered, premiss_refused, step_placed}
 use Rattle.proof_tree.proofs.+do_export_as_proof_term.Goals as goal
-use Rattle.proof_tree.proofs.+do_export_as_proof_term.Goals.{Start, After-row_of-row, Else-not-admits_count, In-loop-i}
+use Rattle.proof_tree.proofs.+do_export_as_proof_term.Goals.{Start, After-row_of-row, Else-not-admits_count}
 
 -- the steps, and the tree of step k as the table has it
 module _ (t : ℕ) where
