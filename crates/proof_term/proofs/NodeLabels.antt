@@ -1,14 +1,21 @@
--- The label of a record's node is that of its numbers, where its kind has one.
+-- The label of a record's node is that of its numbers, where its kind has one; and a node has one where its numbers say so.
 use Prim.Native.Nat.{ℕ, ◌≤◌}
 use mathlib.Core.Path.{◌≡◌, refl}
 use mathlib.Core.Bool.{Bool, true, false, not, cond}
 use Rattle.std.specs.Prelude.{Option, None, Some}
 use mathlib.Core.List.{List}
 use native.Mathlib.Omega.{arith}
+use mir.Val.{bool_byte}
 use lib.Dec.{eqb}
+use lib.ListN.{get_or}
+use Rattle.std.specs.Option.{is_some}
 use Rattle.proof_term.specs.Records.{field_at}
 use Rattle.proof_term.specs.Labels.{has_label}
-use Rattle.proof_term.specs.Views.{kind_number, kind_of, label_of_numbers, parameter_of_numbers, node_of, node_at, node_label}
+use Rattle.proof_term.specs.Tally.{own_count}
+use Rattle.proof_term.specs.Views.{kind_number, kind_of, label_of_numbers, parameter_of_numbers, node_of, node_at, node_kind, node_label, node_numbers}
+use Rattle.proof_term.specs.declared.nodes.Node.{Node}
+use Rattle.proof_term.specs.declared.nodes.Node.TheVariants.{Ident, Pair, ProjectFst, ProjectSnd, Function, Application, LetIn, OrLeft, OrRight, Case, Abort, TypeAscription, Unit, Sorry}
+use Rattle.proof_term.specs.declared.nodes.Label.TheVariants.{Proposition, Datatype}
 use Rattle.proof_term.specs.declared.nodes.Kind.{Kind}
 use Rattle.proof_term.specs.declared.nodes.Kind.TheVariants as variant
 use Rattle.proof_term.specs.declared.nodes.Label.{Label}
@@ -54,3 +61,23 @@ module _ (a b c d e : ℕ) where
 pub label_is : (records : List ℕ) (n : ℕ) → node_label (node_at records n) ≡ own_label (field_at records n 0) (field_at records n 3) (field_at records n 4)
 unfolding node_at
 label_is records n = of_numbers (field_at records n 1) (field_at records n 2) (field_at records n 3) (field_at records n 4) (field_at records n 5) (field_at records n 0)
+
+-- a node counts its own label, as the numbers of its record do
+pub own_of_node : (node : Node) → bool_byte (is_some (node_label node)) ≡ own_count (kind_number (node_kind node)) (get_or (node_numbers node) 2 0)
+unfolding own_count has_label
+own_of_node (Ident name) = refl
+own_of_node (Pair first second) = refl
+own_of_node (ProjectFst body) = refl
+own_of_node (ProjectSnd body) = refl
+own_of_node (Function parameter None body) = refl
+own_of_node (Function parameter (Some (Proposition number)) body) = refl
+own_of_node (Function parameter (Some (Datatype name)) body) = refl
+own_of_node (Application function argument) = refl
+own_of_node (LetIn first second head body) = refl
+own_of_node (OrLeft body) = refl
+own_of_node (OrRight body) = refl
+own_of_node (Case head first left second right) = refl
+own_of_node (Abort body) = refl
+own_of_node (TypeAscription body label) = refl
+own_of_node Unit = refl
+own_of_node Sorry = refl

@@ -8,8 +8,8 @@ mod nodes;
 ghost use Rattle.std.specs.Prelude.{◌≡◌, ℕ, ◌+◌, ◌*◌, ◌≤◌, ◌<◌, length, get_or};
 ghost use Rattle.definitions.specs.Prop.{Prop};
 ghost use Rattle.definitions.specs.Term.{annotation_count};
-ghost use Rattle.proof_term.specs.Records.{record_size, field_at, part_count, Each, term_at};
-ghost use Rattle.proof_term.specs.Views.{kind_number, node_term, PartsBelow};
+ghost use Rattle.proof_term.specs.Records.{record_size, field_at, term_at};
+ghost use Rattle.proof_term.specs.Views.{kind_number, node_kind, node_numbers, node_term, PartsBelow};
 ghost use Rattle.proof_term.specs.Tally.{tally_limit, sum_over, tally_over, NodesTallied};
 ghost use Rattle.proof_term.specs.Making.{Pushed, Made};
 
@@ -35,15 +35,18 @@ pub const PROPOSITION: usize = 1;
 
 pub const DATATYPE: usize = 2;
 
-// Stores record `used` and gives the number of the next one. Below, `make` sums the tally. The reader of terms hands its own: what it has
-// in hand counts its labels, and by `make` each of its terms would owe that its parts are earlier records, which keep these counts.
+// Stores record `used` of a node and gives the number of the next one. Below, `make` sums the tally. The reader of terms hands its own:
+// what it has in hand counts its labels, and by `make` each of its terms would owe that its parts are earlier records, which keep these
+// counts.
 #[tactic(auto, using(crate::proofs::Making::stored))]
-pub fn push(records: &mut [u16], used: usize, kind: u16, numbers: [u16; 5], tally: u16) -> usize
+pub fn push(records: &mut [u16], used: usize, node: Node, tally: u16) -> usize
     requires { record_size * (used + 1) ≤ length records.old }
-    ensures { Pushed kind numbers tally records.old used records.new result }
+    ensures { Pushed (kind_number (node_kind node)) (node_numbers node) tally
+        records.old used records.new result }
 {
     let at = RECORD_SIZE * used;
-    let [a, b, c, d, e] = numbers;
+    let kind = node.kind().number();
+    let [a, b, c, d, e] = node.numbers();
     records[at..at + RECORD_SIZE].copy_from_slice(&[kind, a, b, c, d, e, tally]);
     used + 1
 }
@@ -64,17 +67,15 @@ pub fn sum_over<F: Fn(usize) -> usize>(own: usize, parts: &[u16], value: F) -> u
     sum.min(TALLY_LIMIT)
 }
 
-// The tally of a record of this kind over earlier records, by the numbers behind its kind: its own label and the tallies of its parts, as
-// far as the limit.
+// The tally of the record of a node over earlier records: its own label and the tallies of its parts, as far as the limit.
 #[tactic(auto, using(crate::proofs::Records::few_parts))]
-fn tally_over(records: &[u16], used: usize, kind: Kind, numbers: [u16; 5]) -> usize
-    requires used_in_bounds { record_size * used ≤ length records.now }
-    requires each { Each (λ part. part < used) (part_count (kind_number kind))
-        (get_or numbers 0 0) (get_or numbers 1 0) (get_or numbers 2 0) }
-    ensures { (result ≡ tally_over records.now (kind_number kind) numbers) × (result < 65536) }
+fn tally_over(records: &[u16], used: usize, node: Node) -> usize
+    requires { (record_size * used ≤ length records.now) × PartsBelow used node }
+    ensures { (result ≡ tally_over records.now (kind_number (node_kind node)) (node_numbers node)) × (result < 65536) }
 {
-    let own = usize::from(kind.has_label(usize::from(numbers[2])));
-    sum_over(own, &numbers[..kind.part_count()], |part| {
+    let own = usize::from(node.label().is_some());
+    let numbers = node.numbers();
+    sum_over(own, &numbers[..node.kind().part_count()], |part| {
         field(records, part, TALLY)
     })
 }
@@ -86,10 +87,8 @@ pub fn make(records: &mut [u16], used: usize, node: Node) -> usize
     requires { (record_size * (used + 1) ≤ length records.old) × PartsBelow used node }
     ensures { Made (λ props part. node_term props part node) records.old used records.new result }
 {
-    let kind = node.kind();
-    let numbers = node.numbers();
-    let tally = tally_over(records, used, kind, numbers);
-    push(records, used, kind.number(), numbers, tally as u16)
+    let tally = tally_over(records, used, node);
+    push(records, used, node, tally as u16)
 }
 
 // Number `i` of record `n`; number 0 is the kind, number 6 the tally.

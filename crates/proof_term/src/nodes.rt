@@ -1,7 +1,6 @@
 // The kinds of records as values, and a record as a node of its term, with its parts, names and label by name.
-ghost use Rattle.std.specs.Prelude.{◌≡◌, ◌+◌, ◌*◌, ◌≤◌, length};
+ghost use Rattle.std.specs.Prelude.{◌≡◌, ◌+◌, ◌*◌, ◌≤◌, length, get_or};
 ghost use Rattle.proof_term.specs.Records.{record_size, field_at, part_count};
-ghost use Rattle.proof_term.specs.Labels.{has_label};
 ghost use Rattle.proof_term.specs.Views.{label_numbers, node_kind, node_label, node_numbers, kind_number, kind_of, label_of_numbers, parameter_of_numbers, node_of, node_at, PartsOf};
 
 use crate::{DATATYPE, NO_LABEL, PROPOSITION, RECORD_SIZE, field};
@@ -59,18 +58,6 @@ impl Kind {
             Kind::Pair | Kind::Application | Kind::LetIn => 2,
             Kind::Case => 3,
             _ => 1,
-        }
-    }
-
-    // Whether a record of this kind has a label, by the kind of its label: an ascription, or a function whose parameter has one.
-    #[tactic(auto, unfolding(crate::specs::Labels::has_label))]
-    pub fn has_label(self, label: usize) -> bool
-        ensures { result ≡ has_label (kind_number self) label }
-    {
-        match self {
-            Kind::TypeAscription => true,
-            Kind::Function => label != NO_LABEL,
-            _ => false,
         }
     }
 
@@ -189,7 +176,7 @@ impl Node {
         }
     }
 
-    // The numbers of its record behind the kind, as far as the tally.
+    // The numbers of its record behind the kind, as far as the tally: one arm for each kind.
     pub fn numbers(self) -> [u16; 5]
         ensures { result ≡ node_numbers self }
     {
@@ -257,10 +244,11 @@ fn parameter_of_numbers(kind: u16, number: u16) -> Option<Label>
     Some(label_of_numbers(kind, number))
 }
 
-// The node of a kind and five numbers, in the order of a record.
-fn node_of(kind: Kind, a: u16, b: u16, c: u16, d: u16, e: u16) -> Node
-    ensures { result ≡ node_of kind a b c d e }
+// The node of a kind and five numbers, in the order of a record: one arm for each kind.
+fn node_of(kind: Kind, numbers: [u16; 5]) -> Node
+    ensures { result ≡ node_of kind (get_or numbers 0 0) (get_or numbers 1 0) (get_or numbers 2 0) (get_or numbers 3 0) (get_or numbers 4 0) }
 {
+    let [a, b, c, d, e] = numbers;
     match kind {
         Kind::Ident => Node::Ident { name: a },
         Kind::Pair => Node::Pair {
@@ -334,14 +322,14 @@ pub fn node_at(records: &[u16], n: usize) -> Node
     ensures { result ≡ node_at records.now n }
 {
     let at = RECORD_SIZE * n;
-    node_of(
-        kind_at(records, n),
+    let numbers = [
         records[at + 1],
         records[at + 2],
         records[at + 3],
         records[at + 4],
         records[at + 5],
-    )
+    ];
+    node_of(kind_at(records, n), numbers)
 }
 
 // The parts of record `n`.

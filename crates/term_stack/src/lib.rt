@@ -151,14 +151,7 @@ pub fn make(work: &mut Work, s: Progress, node: Node, hand: Hand) -> Option<Prog
     if NODE_LIMIT <= s.used || NESTING_LIMIT < hand.nest {
         return None;
     }
-    let tally = hand.tally as u16;
-    let used = push(
-        &mut work.records,
-        s.used,
-        node.kind().number(),
-        node.numbers(),
-        tally,
-    );
+    let used = push(&mut work.records, s.used, node, hand.tally as u16);
     Some(Progress { used, ..s })
 }
 

@@ -10,6 +10,6 @@ unfolding node_row seven
 returns c = record {
   few = omega (arith, c.if-s-ge-NODE_LIMIT.false);
   shallow = omega (arith, c.if-hand-gt-NESTING_LIMIT.false);
-  stored = rw (c.push-used.ensures.stored, c.number.ensures, c.kind.ensures, c.numbers.ensures) refl;
+  stored = rw c.push-used.ensures.stored refl;
   is = rw c.push-used.ensures.counted;
 }
