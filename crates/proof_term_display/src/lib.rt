@@ -108,29 +108,20 @@ fn form_of(kind: Kind) -> Form
     }
 }
 
-// Whether a part is bracketed, by its position, the style and its form: closed, call, function, block, ascription. It is a table of
-// document 01, with a row for each position and a column for each form.
+// Whether a part in a position is bracketed, by its form: closed, call, function, block, ascription. It is document 01's table of brackets,
+// with a row for each position and a column for each form.
 #[tactic(auto, unfolding(crate::specs::Brackets::is_bracketed, definitions::specs::Display::brackets_of, definitions::specs::Display::is_strict, definitions::specs::Display::brackets, definitions::specs::Display::bracketed))]
 fn brackets_of(position: PartPosition, style: Style) -> [bool; 5]
     ensures { result ≡ bracket_row position style }
 {
-    match style {
-        Style::Plain => match position {
-            PartPosition::FunctionOf => [false, false, true, false, true],
-            PartPosition::ArgumentOf => [false, true, true, false, true],
-            PartPosition::BodyOf => [false, true, true, true, true],
-            PartPosition::AscribedBy => [false, false, true, true, true],
-            PartPosition::PartOf => [false, false, false, false, false],
-            PartPosition::Within => [false, false, false, false, false],
-        },
-        Style::Strict => match position {
-            PartPosition::FunctionOf => [false, false, true, true, true],
-            PartPosition::ArgumentOf => [false, true, true, true, true],
-            PartPosition::BodyOf => [false, true, true, true, true],
-            PartPosition::AscribedBy => [false, false, true, true, true],
-            PartPosition::PartOf => [false, false, false, false, false],
-            PartPosition::Within => [false, false, false, false, true],
-        },
+    let strict = style == Style::Strict;
+    match position {
+        PartPosition::FunctionOf => [false, false, true, strict, true],
+        PartPosition::ArgumentOf => [false, true, true, strict, true],
+        PartPosition::BodyOf => [false, true, true, true, true],
+        PartPosition::AscribedBy => [false, false, true, true, true],
+        PartPosition::PartOf => [false, false, false, false, false],
+        PartPosition::Within => [false, false, false, false, strict],
     }
 }
 
