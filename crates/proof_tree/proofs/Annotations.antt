@@ -22,7 +22,6 @@ use Rattle.prefix_code.specs.declared.Shape.{Shape}
 use Rattle.prefix_code.specs.declared.Shape.TheVariants.{Binary, Quantified}
 use Rattle.prefix_code.specs.Shape.{ShapeOf}
 use Rattle.prefix_code.proofs.Shapes.{implication_at}
-use Rattle.steps.specs.declared.Judgement.{Judgement}
 use Rattle.steps.specs.declared.Conclusion.{Conclusion}
 use Rattle.steps.specs.declared.Conclusion.TheVariants.{PropIsTrue, TypeJudgement}
 use Rattle.proof_term.specs.declared.nodes.Label.TheVariants.{Proposition, Datatype}
@@ -30,8 +29,8 @@ use Rattle.proof_tree.specs.declared.table.Ending.{Ending}
 use Rattle.proof_tree.specs.declared.table.Ending.TheVariants.{Bare, Ascribed, LeftLabelled, DatatypeLabelled, PremissOwn}
 use Rattle.proof_tree.specs.Table.{ending_of}
 use Rattle.proof_tree.specs.Labelling.{left_label_of, datatype_label_of, parameter_label_of, Means, stands, judges, Annotated, labelled, refuses, LeftSide}
-use Rattle.proof_tree.specs.Opening.{Readable}
-use Rattle.proof_tree.proofs.Conclusions.{shaped, left_fits, datatype_fits, implication_label_lem, other_connective, no_binary, universal_label_lem, other_quantifier, no_quantified}
+use Rattle.proof_tree.specs.Opening.{Readable, offset_of}
+use Rattle.proof_tree.proofs.Conclusions.{left_fits, datatype_fits, implication_label_lem, no_implication, universal_label_lem, no_universal}
 
 no_parameter : (e : Ending) (k : ℕ) (c : ProofTreeConclusion ℕ) → (e ≡ Bare) ⊎ ((e ≡ Ascribed) ⊎ (e ≡ PremissOwn))
     → parameter_label_of (ending_of e) k c ≡ accepted None
@@ -56,20 +55,30 @@ pub record Stated (names : ℕ) (pairs code : List ℕ) (p : ℕ) (m : ProofTree
 stated_as : {names : ℕ} {pairs code : List ℕ} {p : ℕ} {m : ProofTreeConclusion ℕ} → Means names pairs code (PropIsTrue p) m → Stated names pairs code p m
 stated_as (stands s) = record { here = s; is = refl }
 
--- a conclusion that was opened: the offset of its proposition, and the shape that stands there
-pub record Opened (pairs code : List ℕ) (c : Conclusion) (p at : ℕ) (s : Shape) : Type 0 where
-  pub concludes : c ≡ PropIsTrue p
-  pub offset : at ≡ pair_offset pairs p
-  pub shape : (names : ℕ) → Present names code at → ShapeOf names code at s
+-- a conclusion that was opened: the proposition that it states, and the shape that stands at its offset
+pub record Opened (pairs code : List ℕ) (c : Conclusion) (s : Shape) : Type 0 where
+  pub proposition : ℕ
+  pub concludes : c ≡ PropIsTrue proposition
+  pub shape : (names : ℕ) → Present names code (pair_offset pairs proposition) → ShapeOf names code (pair_offset pairs proposition) s
+
+pub opened : {pairs code : List ℕ} {at : ℕ} {s : Shape} (c : Conclusion) → offset_of pairs c ≡ Some at
+    → ((names : ℕ) → Present names code at → ShapeOf names code at s) → Opened pairs code c s
+opened {pairs} {at = at} (PropIsTrue p) is shape =
+    let here : at ≡ pair_offset pairs p = cc in record { proposition = p; concludes = refl; shape = rw here at shape }
+opened (TypeJudgement x) is shape = let z : ◌≡◌ {A = ℕ} 0 1 = cc in absurd (omega arith)
 
 -- a type judgement gives no label
-left_judged : {names : ℕ} {pairs code : List ℕ} {x : Judgement} {m : ProofTreeConclusion ℕ} → Means names pairs code (TypeJudgement x) m → (k : ℕ) → left_label k m ≡ refuse 14 k
+left_judged : {names : ℕ} {pairs code : List ℕ} {c : Conclusion} {m : ProofTreeConclusion ℕ} → Means names pairs code c m → offset_of pairs c ≡ None
+    → (k : ℕ) → left_label k m ≡ refuse 14 k
 unfolding left_label
-left_judged judges k = refl
+left_judged judges none k = refl
+left_judged (stands s) none k = let z : ◌≡◌ {A = ℕ} 0 1 = cc in absurd (omega arith)
 
-datatype_judged : {names : ℕ} {pairs code : List ℕ} {x : Judgement} {m : ProofTreeConclusion ℕ} → Means names pairs code (TypeJudgement x) m → (k : ℕ) → datatype_label k m ≡ refuse 15 k
+datatype_judged : {names : ℕ} {pairs code : List ℕ} {c : Conclusion} {m : ProofTreeConclusion ℕ} → Means names pairs code c m → offset_of pairs c ≡ None
+    → (k : ℕ) → datatype_label k m ≡ refuse 15 k
 unfolding datatype_label
-datatype_judged judges k = refl
+datatype_judged judges none k = refl
+datatype_judged (stands s) none k = let z : ◌≡◌ {A = ℕ} 0 1 = cc in absurd (omega arith)
 
 -- Of a conclusion that is taken apart for a label:
 module _ {names : ℕ} {pairs code : List ℕ} {c : Conclusion} {m : ProofTreeConclusion ℕ} (means : Means names pairs code c m) where
@@ -81,76 +90,63 @@ module _ {names : ℕ} {pairs code : List ℕ} {c : Conclusion} {m : ProofTreeCo
   unfolding map_outcome refuse
   refused_label {r = r} e is = refuses {r = r} (rw (e, is))
 
-  pub no_left_judged : {x : Judgement} {k : ℕ} {r : Refusal} → c ≡ TypeJudgement x → r ≡ record { number = 14; place = k }
+  -- a type judgement has no proposition
+  pub no_left_judged : {k : ℕ} {r : Refusal} → offset_of pairs c ≡ None → r ≡ record { number = 14; place = k }
       → Annotated names pairs code c (left_label_of k m) (Err r)
   unfolding left_label_of
-  no_left_judged {k = k} is = refused_label (left_judged (rw is at means) k)
+  no_left_judged {k = k} none = refused_label (left_judged means none k)
 
-  pub no_datatype_judged : {x : Judgement} {k : ℕ} {r : Refusal} → c ≡ TypeJudgement x → r ≡ record { number = 15; place = k }
+  pub no_datatype_judged : {k : ℕ} {r : Refusal} → offset_of pairs c ≡ None → r ≡ record { number = 15; place = k }
       → Annotated names pairs code c (datatype_label_of k m) (Err r)
   unfolding datatype_label_of
-  no_datatype_judged {k = k} is = refused_label (datatype_judged (rw is at means) k)
+  no_datatype_judged {k = k} none = refused_label (datatype_judged means none k)
 
   -- what is said of the label of its proposition
-  module _ {p at : ℕ} {s : Shape} (o : Opened pairs code c p at s) where
-    is_shape : {t : Shape} → s ≡ t → ShapeOf names code (pair_offset pairs p) t
-    is_shape same = shaped o.offset (stated o.concludes).here o.shape same
+  module _ {s : Shape} (o : Opened pairs code c s) where
+    is_shape : ShapeOf names code (pair_offset pairs o.proposition) s
+    is_shape = o.shape names (stated o.concludes).here
 
     no_label : (label : ProofTreeConclusion ℕ → Outcome (term.Label ℕ)) {number k : ℕ} {r : Refusal}
-        → label (tree.PropIsTrue (prop_at names code (pair_offset pairs p))) ≡ refuse number k
+        → label (tree.PropIsTrue (prop_at names code (pair_offset pairs o.proposition))) ≡ refuse number k
         → r ≡ record { number = number; place = k } → Annotated names pairs code c (map_outcome Some (label m)) (Err r)
     no_label label e is = rw (stated o.concludes).is (refused_label e is)
 
-    pub no_left : {k : ℕ} {r : Refusal} → ((connective : Connective) (left : ℕ) → s ≡ Binary connective left → ⊥)
+    pub no_left : {k : ℕ} {r : Refusal} → ((left : ℕ) → s ≡ Binary Impl left → ⊥)
         → r ≡ record { number = 14; place = k } → Annotated names pairs code c (left_label_of k m) (Err r)
     unfolding left_label_of
-    no_left {k} other = no_label (left_label k) (no_binary k (is_shape refl) other)
+    no_left {k} other = no_label (left_label k) (no_implication k is_shape other)
 
-    pub other_left : {connective : Connective} {k left : ℕ} {r : Refusal} → s ≡ Binary connective left → (connective ≡ Impl → ⊥)
-        → r ≡ record { number = 14; place = k } → Annotated names pairs code c (left_label_of k m) (Err r)
-    unfolding left_label_of
-    other_left {k} same other = no_label (left_label k) (other_connective k (is_shape same) other)
-
-    pub left_side : (k : ℕ) {connective : Connective} {left : ℕ} → s ≡ Binary connective left → connective ≡ Impl
-        → Annotated names pairs code c (left_label_of k m) (Ok (Some (Proposition left)))
+    pub left_side : (k : ℕ) {left : ℕ} → s ≡ Binary Impl left → Annotated names pairs code c (left_label_of k m) (Ok (Some (Proposition left)))
     unfolding left_label_of map_outcome
-    left_side k {left = left} same impl =
+    left_side k {left} same =
         let its = stated o.concludes in
+        let shape = rw same at is_shape in
         let implies : LeftSide pairs code c left =
-        record { proposition = p; concludes = o.concludes; implies = implication_at its.here (is_shape (rw impl at same)) } in
+        record { proposition = o.proposition; concludes = o.concludes; implies = implication_at its.here shape } in
         labelled {l = Some (Proposition left)} (record {
-          is = rw (its.is, implication_label_lem k (is_shape same) impl);
+          is = rw (its.is, implication_label_lem k shape refl);
           left = λ number z. let here : left ≡ number = cc in rw here at implies;
         })
 
-    pub no_datatype : {k : ℕ} {r : Refusal} → ((quantifier : Quantifier) (object d body : ℕ) → s ≡ Quantified quantifier object d body → ⊥)
+    pub no_datatype : {k : ℕ} {r : Refusal} → ((object d body : ℕ) → s ≡ Quantified ForAll object d body → ⊥)
         → r ≡ record { number = 15; place = k } → Annotated names pairs code c (datatype_label_of k m) (Err r)
     unfolding datatype_label_of
-    no_datatype {k} other = no_label (datatype_label k) (no_quantified k (is_shape refl) other)
+    no_datatype {k} other = no_label (datatype_label k) (no_universal k is_shape other)
 
-    pub other_datatype : {quantifier : Quantifier} {k object d body : ℕ} {r : Refusal} → s ≡ Quantified quantifier object d body
-        → (quantifier ≡ ForAll → ⊥) → r ≡ record { number = 15; place = k }
-        → Annotated names pairs code c (datatype_label_of k m) (Err r)
-    unfolding datatype_label_of
-    other_datatype {k} same other = no_label (datatype_label k) (other_quantifier k (is_shape same) other)
-
-    pub datatype : (k : ℕ) {quantifier : Quantifier} {object d body : ℕ} → s ≡ Quantified quantifier object d body → quantifier ≡ ForAll
+    pub datatype : (k : ℕ) {object d body : ℕ} → s ≡ Quantified ForAll object d body
         → Annotated names pairs code c (datatype_label_of k m) (Ok (Some (Datatype d)))
     unfolding datatype_label_of map_outcome
-    datatype k {d = d} same universal =
+    datatype k {d = d} same =
         labelled {l = Some (Datatype d)} (record {
-          is = rw ((stated o.concludes).is, universal_label_lem k (is_shape same) universal);
+          is = rw ((stated o.concludes).is, universal_label_lem k (rw same at is_shape) refl);
           left = λ number z. let y : ◌≡◌ {A = ℕ} 0 1 = cc in absurd (omega arith);
         })
 
 -- the left side and the datatype fit a u16
-module _ {pairs code : List ℕ} {c : Conclusion} {p at : ℕ} {s : Shape} (r : Readable pairs code c)
-    (o : Opened pairs code c p at s) where
+module _ {pairs code : List ℕ} {c : Conclusion} {s : Shape} (r : Readable pairs code c) (o : Opened pairs code c s) where
   pub left_small : {connective : Connective} {left : ℕ} → s ≡ Binary connective left → left < 65536
   left_small same =
-      let here = (r.stands p o.concludes).present in
-      left_fits here r.short (shaped o.offset here o.shape same)
+      let here = (r.stands o.proposition o.concludes).present in left_fits here r.short (rw same at (o.shape _ here))
 
   pub datatype_small : Bytes code → {quantifier : Quantifier} {object d body : ℕ} → s ≡ Quantified quantifier object d body → d < 65536
-  datatype_small bytes same =
-      datatype_fits bytes (shaped o.offset (r.stands p o.concludes).present o.shape same)
+  datatype_small bytes same = datatype_fits bytes (rw same at (o.shape _ (r.stands o.proposition o.concludes).present))

@@ -44,21 +44,16 @@ module _ {names : ℕ} {code : List ℕ} {at : ℕ} (k : ℕ) where
   implication_label_lem (is_binary {c = or} is) same = cc
   implication_label_lem (is_binary {c = impl} is) same = rw is
 
-  pub other_connective : {connective : Connective} {left : ℕ} → ShapeOf names code at (Binary connective left) → (connective ≡ Impl → ⊥)
+  pub no_implication : {s : Shape} → ShapeOf names code at s → ((left : ℕ) → s ≡ Binary Impl left → ⊥)
       → left_label k (PropIsTrue (prop_at names code at)) ≡ refuse 14 k
   unfolding left_label implication_label as_binary eq_connective connective_byte
-  other_connective (is_binary {c = and} is) other = rw is
-  other_connective (is_binary {c = or} is) other = rw is
-  other_connective (is_binary {c = impl} is) other = absurd (other refl)
-
-  pub no_binary : {s : Shape} → ShapeOf names code at s → ((connective : Connective) (left : ℕ) → s ≡ Binary connective left → ⊥)
-      → left_label k (PropIsTrue (prop_at names code at)) ≡ refuse 14 k
-  unfolding left_label implication_label as_binary
-  no_binary (is_true is) other = rw is
-  no_binary (is_false is) other = rw is
-  no_binary (is_binary is) other = absurd (other _ _ refl)
-  no_binary (is_atom is count) other = rw is
-  no_binary (is_quantified is) other = rw is
+  no_implication (is_true is) other = rw is
+  no_implication (is_false is) other = rw is
+  no_implication (is_binary {c = and} is) other = rw is
+  no_implication (is_binary {c = or} is) other = rw is
+  no_implication (is_binary {c = impl} is) other = absurd (other _ refl)
+  no_implication (is_atom is count) other = rw is
+  no_implication (is_quantified is) other = rw is
 
   -- a ∀ gives its datatype
   pub universal_label_lem : {quantifier : Quantifier} {object d body : ℕ} → ShapeOf names code at (Quantified quantifier object d body) → quantifier ≡ ForAll
@@ -67,17 +62,12 @@ module _ {names : ℕ} {code : List ℕ} {at : ℕ} (k : ℕ) where
   universal_label_lem (is_quantified {q = for_all} is) same = rw is
   universal_label_lem (is_quantified {q = exists} is) same = cc
 
-  pub other_quantifier : {quantifier : Quantifier} {object d body : ℕ} → ShapeOf names code at (Quantified quantifier object d body) → (quantifier ≡ ForAll → ⊥)
+  pub no_universal : {s : Shape} → ShapeOf names code at s → ((object d body : ℕ) → s ≡ Quantified ForAll object d body → ⊥)
       → datatype_label k (PropIsTrue (prop_at names code at)) ≡ refuse 15 k
   unfolding datatype_label universal_label as_quantified eq_quantifier quantifier_byte
-  other_quantifier (is_quantified {q = for_all} is) other = absurd (other refl)
-  other_quantifier (is_quantified {q = exists} is) other = rw is
-
-  pub no_quantified : {s : Shape} → ShapeOf names code at s → ((quantifier : Quantifier) (object d body : ℕ) → s ≡ Quantified quantifier object d body → ⊥)
-      → datatype_label k (PropIsTrue (prop_at names code at)) ≡ refuse 15 k
-  unfolding datatype_label universal_label as_quantified
-  no_quantified (is_true is) other = rw is
-  no_quantified (is_false is) other = rw is
-  no_quantified (is_binary is) other = rw is
-  no_quantified (is_atom is count) other = rw is
-  no_quantified (is_quantified is) other = absurd (other _ _ _ _ refl)
+  no_universal (is_true is) other = rw is
+  no_universal (is_false is) other = rw is
+  no_universal (is_binary is) other = rw is
+  no_universal (is_atom is count) other = rw is
+  no_universal (is_quantified {q = for_all} is) other = absurd (other _ _ _ refl)
+  no_universal (is_quantified {q = exists} is) other = rw is

@@ -2,7 +2,7 @@
 use Prim.Native.Nat.{ℕ, ◌+◌, ◌-◌, ◌<◌, ◌≤◌}
 use mathlib.Core.Path.{◌≡◌, refl, sym, ap, ◌∙◌}
 use mathlib.Core.Logic.{by_cases}
-use Rattle.std.specs.Prelude.{Option, Some, Result, Ok, Err, ℕ}
+use Rattle.std.specs.Prelude.{Option, None, Some, Result, Ok, Err, ℕ}
 use mathlib.Core.List.{List, [], ◌∷◌}
 use native.Mathlib.Omega.{arith}
 use native.Mathlib.Decide.{dec_lt}
@@ -27,13 +27,14 @@ use Rattle.proof_tree.specs.declared.table.Ending as own-ending
 use Rattle.proof_tree.specs.declared.table.Ending.TheVariants.{Bare, Ascribed, LeftLabelled, DatatypeLabelled, PremissOwn}
 use Rattle.proof_tree.specs.declared.table.Row.{Row}
 use Rattle.steps.specs.declared.Conclusion.{Conclusion}
-use Rattle.steps.specs.declared.Conclusion.TheVariants.{PropIsTrue}
+use Rattle.steps.specs.declared.Conclusion.TheVariants.{PropIsTrue, TypeJudgement}
 use Rattle.steps.specs.declared.Step as view
 use Rattle.steps.specs.StepAt.{identifier_at, step_at}
 use Rattle.proof_tree.specs.Table.{mode_of, ending_of, TableRow}
 use Rattle.prefix_code.specs.PropAt.{prop_at}
 use Rattle.proof_tree.specs.Terms.{HasProposition, term_over, part_terms, Ordered, MadeTerm}
 use Rattle.proof_tree.specs.Exportable.{GoodStep}
+use Rattle.proof_tree.specs.Opening.{Paired, offset_of}
 use Rattle.proof_tree.specs.Labelling.{ending_at, left_label_of, datatype_label_of, parameter_label_of, Means, stands, judges, LabelOf, Annotated, labelled}
 use Rattle.proof_tree.specs.Labelling as labelling
 use Rattle.proof_tree.specs.Wrapping as wrapping
@@ -84,11 +85,21 @@ unascribed LeftLabelled z t h = refl
 unascribed DatatypeLabelled z t h = refl
 unascribed PremissOwn z t h = refl
 
--- the newest term ascribed with the proposition at its pair's offset
-pub wrapped : {pairs before after : List ℕ} {k used next p at : ℕ} {c : Conclusion} → c ≡ PropIsTrue p → at ≡ pair_offset pairs p
+-- the newest term ascribed with the proposition at its pair's offset, if there is one
+pub wrapped : {pairs before after : List ℕ} {k used next at : ℕ} (c : Conclusion) → offset_of pairs c ≡ Some at
     → Made (λ props part. TypeAscription (part (used - 1)) (proposition (props at))) before used after next
     → Wrapped pairs k before used after c (Ok next)
-wrapped concludes is made = rw concludes (ascribes (rw is at made))
+wrapped {pairs} {at = at} (PropIsTrue p) is made = let here : at ≡ pair_offset pairs p = cc in ascribes (rw here at made)
+wrapped (TypeJudgement x) is made = let z : ◌≡◌ {A = ℕ} 0 1 = cc in absurd (omega arith)
+
+pub not_wrapped : {pairs before after : List ℕ} {k used : ℕ} {r : Refusal} (c : Conclusion) → offset_of pairs c ≡ None
+    → r ≡ record { number = 13; place = k } → Wrapped pairs k before used after c (Err r)
+not_wrapped (PropIsTrue p) none is = let z : ◌≡◌ {A = ℕ} 0 1 = cc in absurd (omega arith)
+not_wrapped (TypeJudgement x) none is = wrapping.refuses is
+
+pub offset_fits : {pairs : List ℕ} {at : ℕ} (c : Conclusion) → Paired pairs c → offset_of pairs c ≡ Some at → at < 65536
+offset_fits {pairs} {at} (PropIsTrue p) paired is = let here : at ≡ pair_offset pairs p = cc in rw here (paired.fits p refl)
+offset_fits (TypeJudgement x) paired is = let z : ◌≡◌ {A = ℕ} 0 1 = cc in absurd (omega arith)
 
 -- what ascribing a term comes to
 pub data Ascription (names : ℕ) (pairs code : List ℕ) (k : ℕ) (c : Conclusion) (m : ProofTreeConclusion ℕ) (before : List ℕ) (used : ℕ) (after : List ℕ) : Result ℕ Refusal → Type 0 where

@@ -1,9 +1,14 @@
 -- What is asked of a conclusion that is taken apart for a label.
-use Rattle.std.specs.Prelude.{ℕ, ◌+◌, ◌*◌, ◌≤◌, ◌<◌, ◌≡◌, List, length}
+use Rattle.std.specs.Prelude.{ℕ, ◌+◌, ◌*◌, ◌≤◌, ◌<◌, ◌≡◌, List, length, Option, None, Some}
 use Rattle.definitions.specs.Sheet.{pair_size, pair_offset}
 use Rattle.prefix_code.specs.Shape.{SomeProposition}
 use Rattle.steps.specs.declared.Conclusion.{Conclusion}
-use Rattle.steps.specs.declared.Conclusion.TheVariants.{PropIsTrue}
+use Rattle.steps.specs.declared.Conclusion.TheVariants.{PropIsTrue, TypeJudgement}
+
+-- the offset of its proposition, if it has one
+abbrev pub offset_of : List ℕ → Conclusion → Option ℕ
+offset_of pairs (PropIsTrue p) = Some (pair_offset pairs p)
+offset_of pairs (TypeJudgement x) = None
 
 -- the pair of its proposition, if it has one, is there, and the offset fits a u16
 pub record Paired (pairs : List ℕ) (c : Conclusion) : Type 0 where

@@ -2,7 +2,7 @@
 ghost use Rattle.std.specs.Prelude.{ℕ, ◌<◌, ◌≡◌};
 ghost use Rattle.definitions.specs.Reason.{number_of};
 ghost use Rattle.proof_tree.specs.Table.{ending_of};
-ghost use Rattle.proof_tree.specs.Opening.{Readable};
+ghost use Rattle.proof_tree.specs.Opening.{Paired, Readable, offset_of};
 ghost use Rattle.proof_tree.specs.Labelling.{left_label_of, datatype_label_of, parameter_label_of, label_or, AnnotationOf};
 
 use crate::table::Ending;
@@ -12,21 +12,30 @@ use prefix_code::{Connective, Quantifier, Shape, shape_at};
 use proof_term::Label;
 use steps::Conclusion;
 
+// The offset of the proposition of a conclusion, if it has one.
+pub fn proposition_at(pairs: &[u8], conclusion: Conclusion) -> Option<usize>
+    requires { Paired pairs.now conclusion }
+    ensures { result ≡ offset_of pairs.now conclusion }
+{
+    let Conclusion::PropIsTrue(p) = conclusion else {
+        return None;
+    };
+    Some(pair_offset(pairs, p as usize))
+}
+
 // The left side of an implication, if the conclusion is one.
 fn left_label(pairs: &[u8], code: &[u8], conclusion: Conclusion) -> Option<Label>
     requires { Readable pairs.now code.now conclusion }
     ensures { (k : ℕ) → AnnotationOf (left_label_of k) pairs.now code.now conclusion (label_or 14 k result) }
 {
-    let Conclusion::PropIsTrue(p) = conclusion else {
+    let at = proposition_at(pairs, conclusion)?;
+    let Shape::Binary {
+        connective: Connective::Impl,
+        left,
+    } = shape_at(code, at)
+    else {
         return None;
     };
-    let at = pair_offset(pairs, p as usize);
-    let Shape::Binary { connective, left } = shape_at(code, at) else {
-        return None;
-    };
-    if connective != Connective::Impl {
-        return None;
-    }
     Some(Label::Proposition(left as u16))
 }
 
@@ -35,21 +44,15 @@ fn datatype_label(pairs: &[u8], code: &[u8], conclusion: Conclusion) -> Option<L
     requires { Readable pairs.now code.now conclusion }
     ensures { (k : ℕ) → AnnotationOf (datatype_label_of k) pairs.now code.now conclusion (label_or 15 k result) }
 {
-    let Conclusion::PropIsTrue(p) = conclusion else {
-        return None;
-    };
-    let at = pair_offset(pairs, p as usize);
+    let at = proposition_at(pairs, conclusion)?;
     let Shape::Quantified {
-        quantifier,
+        quantifier: Quantifier::ForAll,
         datatype,
         ..
     } = shape_at(code, at)
     else {
         return None;
     };
-    if quantifier != Quantifier::ForAll {
-        return None;
-    }
     Some(Label::Datatype(datatype as u16))
 }
 

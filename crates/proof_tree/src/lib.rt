@@ -21,9 +21,8 @@ ghost use Rattle.proof_tree.specs.Exportable.{SomeExportable};
 ghost use Rattle.proof_tree.specs.Exporting.{RoomFor, Placed, Exported};
 ghost use Rattle.proof_tree.specs.Wrapping.{Wrapped};
 
-use conclusion::annotation_of;
+use conclusion::{annotation_of, proposition_at};
 use definitions::{Reason, Refusal};
-use number::pair_offset;
 use proof_term::{Label, Node, make};
 use step::premiss;
 use steps::{Conclusion, premiss_count, rule_byte, step_at};
@@ -44,10 +43,9 @@ fn wrap_into_type_ascription(
     ensures { Wrapped pairs.now k term_records.old used
         term_records.new conclusion result }
 {
-    let Conclusion::PropIsTrue(p) = conclusion else {
+    let Some(at) = proposition_at(pairs, conclusion) else {
         return Err(Reason::AscribedJudgement.at(k));
     };
-    let at = pair_offset(pairs, p as usize);
     let ascription = Node::TypeAscription {
         body: (used - 1) as u16,
         label: Label::Proposition(at as u16),

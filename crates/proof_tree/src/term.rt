@@ -6,7 +6,7 @@ use crate::table::RuleTerm;
 use proof_term::{Label, Node, make};
 
 // The node of a rule's term over the records of its parts, with a step's names and the label of a parameter: none where the term is
-// the premiss's own.
+// the premiss's own. It is as long as there are terms, an arm for each.
 fn node_over(
     term: RuleTerm,
     first: u16,

@@ -1,44 +1,30 @@
--- The conclusion is opened, then its proposition, then its quantifier is tested.
-use mathlib.Core.Path.{refl}
+-- The conclusion is opened, then its proposition.
+use mathlib.Core.Path.{refl, sym, ◌∙◌}
 use native.Mathlib.Omega.{arith}
 use borrow.Author.Rules.{rules}
 use borrow.Author.Tests.{tests}
-use Rattle.proof_tree.proofs.Annotations.{Opened, no_datatype_judged, no_datatype, other_datatype, datatype, datatype_small}
+use Rattle.proof_tree.proofs.Annotations.{Opened, opened, no_datatype_judged, no_datatype, datatype, datatype_small}
 use Rattle.proof_tree.proofs.conclusion.datatype_label.Goals as goal
 use Rattle.proof_tree.proofs.conclusion.datatype_label.Goals.{After-shape_at}
 
-opened : (c : After-shape_at) → let s = c.args in
-    Opened s.pairs.now s.code.now s.conclusion c.in-PropIsTrue.p
-    c.pair_offset-at.result c.shape_at.result
-opened c =
-    record {
-      concludes = c.in-PropIsTrue.is;
-      offset = c.pair_offset-at.ensures;
-      shape = c.shape_at.ensures;
-    }
+its : (c : After-shape_at) → let s = c.args in Opened s.pairs.now s.code.now s.conclusion c.shape_at.result
+its c = opened c.args.conclusion (sym c.proposition_at.ensures ∙ c.in_ok-at.was) c.shape_at.ensures
 
-pub pair_offset-at-requires : goal.pair_offset-at-requires
-pair_offset-at-requires c = c.requires.paired.there _ c.in-PropIsTrue.is
-
-pub shape_at-requires : goal.shape_at-requires
-shape_at-requires c =
-    rw c.pair_offset-at.ensures (c.requires.stands _ c.in-PropIsTrue.is)
+pub returns-in_err-at : goal.returns-in_err-at
+returns-in_err-at c k names m means =
+    rw c.from_residual.ensures (no_datatype_judged means (sym c.proposition_at.ensures ∙ c.in_err-at.was) refl)
 
 pub returns-in_default : goal.returns-in_default
-returns-in_default c k names m means = no_datatype_judged means c.in_default.is refl
+returns-in_default c k names m means = no_datatype means (its (goal.at.returns-in_default c).After-shape_at) (search (rules, tests)) refl
 
-pub returns-in_default-shape_at : goal.returns-in_default-shape_at
-returns-in_default-shape_at c k names m means =
-    no_datatype means (opened (goal.at.returns-in_default-shape_at c).After-shape_at) c.in_default-shape_at.not-Quantified refl
-
-pub returns-then-ne : goal.returns-then-ne
-returns-then-ne c k names m means =
-    other_datatype means (opened (goal.at.returns-then-ne c).After-shape_at) c.in-Quantified.is (search (rules, tests)) refl
+pub returns-in_default-2 : goal.returns-in_default-2
+returns-in_default-2 c k names m means = no_datatype means (its (goal.at.returns-in_default-2 c).After-shape_at) (search (rules, tests)) refl
 
 pub overflow_cast-result : goal.overflow_cast-result
 overflow_cast-result c =
-    record { fits = datatype_small c.requires (opened (goal.at.overflow_cast-result c).After-shape_at) (λ i. omega (arith, c.type_inv.code i)) c.in-Quantified.is }
+    record { fits = datatype_small c.requires (its (goal.at.overflow_cast-result c).After-shape_at) (λ i. omega (arith, c.type_inv.code i)) c.in-Quantified-ForAll-default-default-default.is }
 
 pub returns : goal.returns
 returns c k names m means =
-    datatype means (opened (goal.at.returns c).After-shape_at) _ c.in-Quantified.is (search (rules, tests))
+    let universal = c.in-Quantified-ForAll-default-default-default in
+    datatype means (its (goal.at.returns c).After-shape_at) k (rw universal.quantifier-is at universal.is)
