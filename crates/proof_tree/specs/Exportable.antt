@@ -8,7 +8,6 @@ use Rattle.steps.specs.Records.{HasStep}
 use Rattle.steps.specs.Tables.{SizeTable}
 use Rattle.steps.specs.declared.Conclusion.TheVariants.{PropIsTrue}
 use Rattle.steps.specs.StepAt.{step_at}
-use Rattle.proof_tree.specs.declared.walked_steps.WalkedSteps.{WalkedSteps}
 
 -- the pair of a proposition is there, and marks the code of one proposition
 pub record Coded (names : ℕ) (pairs code : List ℕ) (i : ℕ) : Type 0 where
@@ -29,12 +28,3 @@ pub record Exportable (names : ℕ) (pairs code records sizes : List ℕ) (steps
   pub good : (k : ℕ) → k < steps → GoodStep names pairs code records k
   pub table : SizeTable records steps sizes
   pub sized : steps ≤ length sizes
-
--- so it is of all the steps that the walk has, with a count of names
-abbrev pub ExportableWith : ℕ → WalkedSteps → Type 0
-ExportableWith names s = Exportable names s.pairs.now s.code.now s.records.now s.sizes.now s.count
-
--- and with some count of names
-pub record SomeExportable (s : WalkedSteps) : Type 0 where
-  pub names : ℕ
-  pub exportable : ExportableWith names s

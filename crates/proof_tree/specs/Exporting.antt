@@ -16,7 +16,7 @@ use Rattle.proof_term.specs.Making.{Kept}
 use Rattle.prefix_code.specs.PropAt.{prop_at}
 use Rattle.prefix_code.specs.Shape.{ImplicationAt}
 use Rattle.proof_tree.specs.declared.walked_steps.WalkedSteps.{WalkedSteps}
-use Rattle.proof_tree.specs.Exportable.{ExportableWith}
+use Rattle.proof_tree.specs.Exportable.{Exportable}
 use Rattle.proof_tree.specs.Terms.{HasProposition, part_terms, Ordered}
 
 -- the offset of the proposition that a step concludes, or of the left side of such an implication
@@ -65,6 +65,10 @@ StepPlaced names pairs code records k mode reads parts before used after r =
     let ts : (ℕ → Prop ℕ) → List (ProofTerm ℕ) = λ props. part_terms (term_at props before) reads parts in
     Answered names pairs code records k (placed_term mode (step_in names pairs code records k) (ts (prop_at names code))) before used ts
     (used + 1 - reads) (used + 2) after r
+
+-- the steps can be exported with that count of names
+abbrev pub ExportableWith : ℕ → WalkedSteps → Type 0
+ExportableWith names s = Exportable names s.pairs.now s.code.now s.records.now s.sizes.now s.count
 
 -- Of steps that can be exported, with whatever count of names they can be:
 module _ (s : WalkedSteps) where

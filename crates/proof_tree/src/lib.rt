@@ -17,7 +17,6 @@ ghost use Rattle.proof_tree.specs.Table.{mode_of, ending_of, TableRow};
 ghost use Rattle.proof_tree.specs.Opening.{Paired};
 ghost use Rattle.proof_tree.specs.Labelling.{ending_at};
 ghost use Rattle.proof_tree.specs.Terms.{Parts, first_three};
-ghost use Rattle.proof_tree.specs.Exportable.{SomeExportable};
 ghost use Rattle.proof_tree.specs.Exporting.{RoomFor, Placed, Exported};
 ghost use Rattle.proof_tree.specs.Wrapping.{Wrapped};
 
@@ -74,7 +73,7 @@ fn placed_term(
     term_records: &mut [u16],
     used: usize,
 ) -> Result<usize, Refusal>
-    requires exportable { SomeExportable steps.now × (k < steps.now.count) }
+    requires k_in_bounds { k < steps.now.count }
     requires row { TableRow (rule_in steps.now.records.now k) row }
     requires parts { Parts row.term (get_or parts 0 0) (get_or parts 1 0) (get_or parts 2 0) term_records.old used
         × Room term_records.old (used + 1) }
@@ -108,7 +107,7 @@ fn do_export_as_proof_term(
     term_records: &mut [u16],
     used: usize,
 ) -> Result<usize, Refusal>
-    requires exportable { SomeExportable steps.now × (k < steps.now.count) }
+    requires k_in_bounds { k < steps.now.count }
     requires room_for { RoomFor term_records.old (used + 2 * get_or steps.now.sizes.now k 0) }
     ensures { Exported steps.now k (mode_of mode) term_records.old used term_records.new result }
 {
@@ -136,7 +135,7 @@ fn do_export_as_proof_term(
 
 // The sheet's term: what the last step gives in checking mode.
 pub fn export_as_proof_term(steps: &WalkedSteps, term_records: &mut [u16]) -> Result<usize, Refusal>
-    requires exportable { SomeExportable steps.now × (0 < steps.now.count) }
+    requires some_step { 0 < steps.now.count }
     requires room_for { RoomFor term_records.old (2 * steps.now.count) }
     ensures { Exported steps.now (steps.now.count - 1) checking term_records.old 0 term_records.new result }
 {

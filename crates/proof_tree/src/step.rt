@@ -1,7 +1,6 @@
 // Which steps finish a step's premisses.
 ghost use Rattle.std.specs.Prelude.{◌+◌, ◌<◌, ◌≡◌};
 ghost use Rattle.definitions.specs.Sheet.{premiss_count};
-ghost use Rattle.proof_tree.specs.Exportable.{SomeExportable};
 ghost use Rattle.proof_tree.specs.Premisses.{PremissStep};
 
 use crate::walked_steps::WalkedSteps;
@@ -19,7 +18,7 @@ fn later_premisses(count: usize, position: usize) -> usize
 // as long as the size says where the last one ended. The closure of a `fold` would have to say in clauses of its own which step has a
 // tree before it and where that tree starts; the loop needs none beside its invariant.
 pub fn premiss(steps: &WalkedSteps, k: usize, position: usize) -> usize
-    requires exportable { SomeExportable steps.now × (k < steps.now.count) }
+    requires k_in_bounds { k < steps.now.count }
     requires position_in_bounds { position < premiss_count steps.now.records.now k }
     ensures { PremissStep steps.now.records.now k position result }
 {

@@ -1,10 +1,12 @@
 // The steps of a sheet with what the walk reads beside them.
 ghost use Rattle.std.specs.Prelude.{ℕ, ◌<◌, get_or};
+ghost use Rattle.proof_tree.specs.Exportable.{Exportable};
 
-// The pairs and the code of the steps' propositions, the records of the steps, and the sizes of their trees. That the steps can be
-// exported is a clause of each function and no ghost field: a ghost field must be a proposition, and this names a count of names.
+// The pairs and the code of the steps' propositions over so many names, the records of the steps, and the sizes of their trees. The
+// steps are no `SizedSteps`: that holds no more of them than a sheet may have, and the walk asks for no limit but room.
 #[derive(Clone, Copy)]
 pub struct WalkedSteps<'a> {
+    pub names: usize,
     pub pairs: &'a [u8],
     pub code: &'a [u8],
     pub records: &'a [u8],
@@ -12,4 +14,5 @@ pub struct WalkedSteps<'a> {
     pub count: usize,
     // A proof knows this of a parameter, and of a field where the struct says it.
     pub ghost bytes: { (i : ℕ) → get_or code.now i 0 < 256 },
+    pub ghost exportable: { Exportable names pairs.now code.now records.now sizes.now count },
 }

@@ -22,6 +22,7 @@ fn export(sized: &SizedSheet, terms: &mut [u16; TERM_NUMBERS]) -> Result<usize, 
     let sizes = sized.sizes();
     let h = sheet.header();
     let steps = WalkedSteps {
+        names: h.names,
         pairs: sheet.proposition_pairs(),
         code: sheet.code_bytes(),
         records: sheet.step_records(),

@@ -12,7 +12,8 @@ use Rattle.definitions.specs.Tree.{rule_in}
 use Rattle.definitions.specs.Admission.{too_few_trees}
 use Rattle.definitions.specs.Export.{row, admits_count}
 use Rattle.proof_tree.specs.Table.{mode_of, TableRow}
-use Rattle.proof_tree.specs.Exportable.{GoodStep, ExportableWith}
+use Rattle.proof_tree.specs.Exportable.{GoodStep}
+use Rattle.proof_tree.specs.Exporting.{ExportableWith}
 use Rattle.proof_tree.proofs.Counts.{enough}
 use Rattle.proof_tree.proofs.Rows.{reads_all}
 use Rattle.proof_tree.proofs.ReadPremisses.{read_none, read_more, read_refused, room_next, read_parts}
@@ -23,11 +24,11 @@ use Rattle.proof_tree.proofs.+do_export_as_proof_term.Goals.{Start, After-row_of
 -- the steps, and the tree of step k as the table has it
 module _ (t : ℕ) where
   good : (c : Start t) {names : ℕ} → let s = c.args.steps.now in ExportableWith names s → GoodStep names s.pairs.now s.code.now s.records.now c.args.k
-  good c e = e.good c.args.k c.requires.exportable.1
+  good c e = e.good c.args.k c.requires.k_in_bounds
 
   found : (c : Start t) {names : ℕ} → let s = c.args.steps.now in
       ExportableWith names s → too_few_trees names s.pairs.now s.code.now s.records.now c.args.k ≡ false
-  found c e = e.table.enough _ _ _ _ c.requires.exportable.1
+  found c e = e.table.enough _ _ _ _ c.requires.k_in_bounds
 
   is_row : (c : After-row_of-row t) → TableRow (rule_in c.args.steps.now.records.now c.args.k) c.row_of-row.result
   unfolding rule_in
@@ -44,8 +45,8 @@ module _ (t : ℕ) where
       }
 
   entered_some : (c : Else-not-admits_count t) → let s = c.args.steps.now in
-      Entered c.requires.exportable.0.names s.pairs.now s.code.now s.records.now c.args.k c.row_of-row.result
-  entered_some c = entered c c.requires.exportable.0.exportable
+      Entered c.args.steps.now.names s.pairs.now s.code.now s.records.now c.args.k c.row_of-row.result
+  entered_some c = entered c c.args.steps.now.exportable
 
   -- the step has the premisses that are read
   has_premisses : (c : Else-not-admits_count t) → c.row_of-row.result.fewest ≤ premiss_count c.args.steps.now.records.now c.args.k
@@ -53,13 +54,12 @@ module _ (t : ℕ) where
   has_premisses c = let there = entered_some c in omega (arith, there.is_row.fewest_is, enough (row _).premisses _ there.right)
 
   -- what is left of the room for step k's tree
-  sized : (c : Start t) → let s = c.args.steps.now in let e = c.requires.exportable.0 in
-      get_or s.sizes.now c.args.k 0 ≡ 1 + sizes (premisses_from e.names s.pairs.now s.code.now s.records.now c.args.k 0)
+  sized : (c : Start t) → let s = c.args.steps.now in
+      get_or s.sizes.now c.args.k 0 ≡ 1 + sizes (premisses_from s.names s.pairs.now s.code.now s.records.now c.args.k 0)
   sized c =
       let s = c.args.steps.now in
-      let e = c.requires.exportable.0 in
-      e.exportable.table.sizes e.names s.pairs.now s.code.now c.args.k c.requires.exportable.1
-      ∙ size_tree e.names s.pairs.now s.code.now s.records.now c.args.k
+      s.exportable.table.sizes s.names s.pairs.now s.code.now c.args.k c.requires.k_in_bounds
+      ∙ size_tree s.names s.pairs.now s.code.now s.records.now c.args.k
 
 pub returns-then-not-admits_count : goal.returns-then-not-admits_count
 returns-then-not-admits_count t c names e =
@@ -81,15 +81,14 @@ do_export_as_proof_term-requires t c =
     let at = goal.at.do_export_as_proof_term-requires t c in
     let row = (entered_some t at.Else-not-admits_count).is_row in
     let s = c.args.steps.now in
-    let e = c.requires.exportable.0 in
-    let read = c.loop-i.invariant e.names e.exportable in
+    let read = c.loop-i.invariant s.names s.exportable in
     let step = c.premiss.ensures in
     let room = room_next row read (rw (reads_all row) at c.loop-i-test.true) step c.below.ensures in
-    let within : c.premiss.result < s.count = omega (arith, step.earlier, c.requires.exportable.1) in
-    let size = e.exportable.table.sizes e.names s.pairs.now s.code.now c.premiss.result within in (
+    let within : c.premiss.result < s.count = omega (arith, step.earlier, c.requires.k_in_bounds) in
+    let size = s.exportable.table.sizes s.names s.pairs.now s.code.now c.premiss.result within in (
       omega (arith, step.earlier, c.decreases),
       (
-        (e, within),
+        within,
         record {
           room = omega (arith, room, size, sized t at.Start, read.same, c.requires.room_for.room);
           few = omega (arith, room, size, sized t at.Start, c.requires.room_for.few);
@@ -107,15 +106,15 @@ returns-in_err-after t c names e =
 
 pub overflow_sub-parts : goal.overflow_sub-parts
 overflow_sub-parts t c =
-    let e = c.requires.exportable.0 in omega (arith, (term_of (c.in_ok-after.ensures e.names e.exportable) refl).low)
+    let s = c.args.steps.now in omega (arith, (term_of (c.in_ok-after.ensures s.names s.exportable) refl).low)
 
 pub overflow_cast-parts : goal.overflow_cast-parts
 overflow_cast-parts t c =
     let at = goal.at.overflow_cast-parts t c in
     let row = (entered_some t at.Else-not-admits_count).is_row in
-    let e = c.requires.exportable.0 in
-    let room = room_next row (c.loop-i.invariant e.names e.exportable) (rw (reads_all row) at c.loop-i-test.true) c.premiss.ensures c.below.ensures in
-    let read = term_of (c.in_ok-after.ensures e.names e.exportable) refl in
+    let s = c.args.steps.now in
+    let room = room_next row (c.loop-i.invariant s.names s.exportable) (rw (reads_all row) at c.loop-i-test.true) c.premiss.ensures c.below.ensures in
+    let read = term_of (c.in_ok-after.ensures s.names s.exportable) refl in
     record { fits = omega (arith, room, sized t at.Start, read.high, read.low, c.requires.room_for.few) }
 
 pub loop-i-preserved : goal.loop-i-preserved
@@ -134,8 +133,8 @@ pub placed_term-requires-clause-parts : goal.placed_term-requires-clause-parts
 placed_term-requires-clause-parts t c =
     let at = goal.at.placed_term-requires-clause-parts t c in
     let row = (entered_some t at.Else-not-admits_count).is_row in
-    let e = c.requires.exportable.0 in
-    let read = c.loop-i.invariant e.names e.exportable in
+    let s = c.args.steps.now in
+    let read = c.loop-i.invariant s.names s.exportable in
     read_parts row read (omega (arith, c.loop-i-test.false, read.position, reads_all row))
     (omega (arith, read.high, sized t at.Start, read.same, c.requires.room_for.room))
     (omega (arith, read.high, sized t at.Start, c.requires.room_for.few))

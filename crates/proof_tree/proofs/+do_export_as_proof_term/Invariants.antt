@@ -1,7 +1,7 @@
 -- The loop's invariant: what is left of the premisses decides what they all come to. The calls end by the step's number.
 use Prim.Native.Nat.{ℕ, ◌-◌}
 use Rattle.proof_tree.specs.Table.{mode_of}
-use Rattle.proof_tree.specs.Exportable.{ExportableWith}
+use Rattle.proof_tree.specs.Exporting.{ExportableWith}
 use Rattle.proof_tree.proofs.ReadPremisses.{PremissesRead}
 use Rattle.proof_tree.proofs.+do_export_as_proof_term.Given as goal
 

@@ -8,15 +8,14 @@ use Rattle.proof_tree.proofs.export_as_proof_term.Goals as goal
 pub do_export_as_proof_term-requires : goal.do_export_as_proof_term-requires
 do_export_as_proof_term-requires c =
     let s = c.args.steps.now in
-    let e = c.requires.exportable.0 in
     let last = s.count - 1 in
-    let within = size_within e.names s.pairs.now s.code.now s.records.now last in
-    let size = e.exportable.table.sizes e.names s.pairs.now s.code.now last (omega (arith, c.requires.exportable.1)) in
+    let within = size_within s.names s.pairs.now s.code.now s.records.now last in
+    let size = s.exportable.table.sizes s.names s.pairs.now s.code.now last (omega (arith, c.requires.some_step)) in
     record {
-      exportable = (e, omega (arith, c.requires.exportable.1));
+      k_in_bounds = omega (arith, c.requires.some_step);
       room_for = record {
-        room = omega (arith, within, size, c.requires.room_for.room, c.requires.exportable.1);
-        few = omega (arith, within, size, c.requires.room_for.few, c.requires.exportable.1);
+        room = omega (arith, within, size, c.requires.room_for.room, c.requires.some_step);
+        few = omega (arith, within, size, c.requires.room_for.few, c.requires.some_step);
       };
     }
 

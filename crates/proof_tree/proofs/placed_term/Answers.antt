@@ -30,11 +30,11 @@ its_label c good =
     label_of (c.in_ok-label.ensures _ _ (means v.good v.bytes (concluded v)))
 
 pub step_at-step-requires : goal.step_at-step-requires
-step_at-step-requires c = (c.requires.exportable.0.exportable.good _ c.requires.exportable.1).whole
+step_at-step-requires c = (c.args.steps.now.exportable.good _ c.requires.k_in_bounds).whole
 
 pub annotation_of-requires : goal.annotation_of-requires
 annotation_of-requires c =
-    let v = visited c (c.requires.exportable.0.exportable.good _ c.requires.exportable.1) in (v.good.few, readable v.good v.bytes (concluded v))
+    let v = visited c (c.args.steps.now.exportable.good _ c.requires.k_in_bounds) in (v.good.few, readable v.good v.bytes (concluded v))
 
 pub rule_term-next-requires : goal.rule_term-next-requires
 rule_term-next-requires c =
@@ -42,12 +42,12 @@ rule_term-next-requires c =
 
 pub returns-in_default : goal.returns-in_default
 returns-in_default c names e =
-    let good = e.good _ c.requires.exportable.1 in
+    let good = e.good _ c.requires.k_in_bounds in
     term_answer (visited (goal.at.returns-in_default c).After-step_at-step good) (its_label (goal.at.returns-in_default c).In_ok-label good) c.rule_term-next.ensures c.in_default.not-Ascribed
 
 pub wrap_into_type_ascription-requires : goal.wrap_into_type_ascription-requires
 wrap_into_type_ascription-requires c =
-    let v = visited (goal.at.wrap_into_type_ascription-requires c).After-step_at-step (c.requires.exportable.0.exportable.good _ c.requires.exportable.1) in
+    let v = visited (goal.at.wrap_into_type_ascription-requires c).After-step_at-step (c.args.steps.now.exportable.good _ c.requires.k_in_bounds) in
     let made = c.rule_term-next.ensures in
     let room = c.requires.parts.1 in
     let same = c.rule_term-next.auto in (
@@ -59,13 +59,13 @@ wrap_into_type_ascription-requires c =
 
 pub returns-in_err-label : goal.returns-in_err-label
 returns-in_err-label c names e =
-    let good = e.good _ c.requires.exportable.1 in
+    let good = e.good _ c.requires.k_in_bounds in
     let v = visited (goal.at.returns-in_err-label c).After-step_at-step good in
     label_refused v _ (c.in_err-label.ensures _ _ (means v.good v.bytes (concluded v))) (search rules)
 
 pub returns : goal.returns
 returns c names e =
-    let good = e.good _ c.requires.exportable.1 in
+    let good = e.good _ c.requires.k_in_bounds in
     let v = visited (goal.at.returns c).After-step_at-step good in
     ascribed_answer v (its_label (goal.at.returns c).In_ok-label good) c.rule_term-next.ensures c.in-Ascribed.is
     (ascription (means v.good v.bytes (concluded v)) c.wrap_into_type_ascription.ensures)

@@ -27,14 +27,17 @@ walkable c full =
     (ready (its_sheet (goal.at.After-step_records c).After-header-h) full (search rules) c.sizes-sizes.ensures)
 
 pub invariant_of-steps : goal.invariant_of-steps
+unfolding step_limit
 invariant_of-steps c =
-    record { bytes = rw (c.code_bytes.ensures.is, c.admitted-sheet.ensures.is) (code_of_bytes c.args.sized.now c.admitted-sheet.ensures.accepted.bytes) }
+    record {
+      bytes = rw (c.code_bytes.ensures.is, c.admitted-sheet.ensures.is) (code_of_bytes c.args.sized.now c.admitted-sheet.ensures.accepted.bytes);
+      exportable = (walkable (goal.at.invariant_of-steps c).After-step_records (search rules)).0.0;
+    }
 
 pub export_as_proof_term-requires : goal.export_as_proof_term-requires
 unfolding step_limit
 export_as_proof_term-requires c =
-    let w = walkable (goal.at.export_as_proof_term-requires c).After-step_records (search rules) in
-    record { exportable = (record { names = c.header-h.result.names; exportable = w.0.0 }, w.0.1); room_for = w.1 }
+    let w = walkable (goal.at.export_as_proof_term-requires c).After-step_records (search rules) in record { some_step = w.0.1; room_for = w.1 }
 
 pub overflow_sub-result : goal.overflow_sub-result
 unfolding step_limit

@@ -14,10 +14,10 @@ use Rattle.proof_tree.proofs.step.premiss.Goals.{In-loop, Start}
 
 -- the sizes of the trees before step k
 sized : (c : Start) → let s = c.args.steps.now in SizeTable s.records.now c.args.k s.sizes.now
-sized c = size_table_shorter _ _ _ _ (omega arith) c.requires.exportable.0.exportable.table
+sized c = size_table_shorter _ _ _ _ (omega arith) c.args.steps.now.exportable.table
 
 found : (c : Start) → too_few_trees 0 [] [] c.args.steps.now.records.now c.args.k ≡ false
-found c = c.requires.exportable.0.exportable.table.enough 0 [] [] _ (omega arith)
+found c = c.args.steps.now.exportable.table.enough 0 [] [] _ (omega arith)
 
 -- a premiss that is still to be passed ends before the walk's step
 before : (c : In-loop) → 0 < c.loop.start
