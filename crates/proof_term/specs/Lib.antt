@@ -5,3 +5,4 @@ pub mod Labels
 pub mod Tally
 pub mod Making
 pub mod Readable
+pub mod InPlace

@@ -4,6 +4,7 @@
 
 mod forms;
 mod nodes;
+mod term_records;
 
 ghost use Rattle.std.specs.Prelude.{◌≡◌, ℕ, ◌+◌, ◌*◌, ◌≤◌, ◌<◌, length, get_or};
 ghost use Rattle.definitions.specs.Prop.{Prop};
@@ -15,6 +16,7 @@ ghost use Rattle.proof_term.specs.Making.{Pushed, Made};
 
 pub use forms::Form;
 pub use nodes::{Kind, Label, Node, kind_at, label_at, node_at, parameter_at, parts_at};
+pub use term_records::TermRecords;
 
 // The numbers of a record. Records are rows of one memory of u16, as C is handed them: its promise and the definitions speak of one list
 // of numbers, into which rows of the type `[u16; RECORD_SIZE]` would have to be flattened in each clause.
@@ -37,7 +39,8 @@ pub const DATATYPE: usize = 2;
 
 // Stores record `used` of a node and gives the number of the next one. Below, `make` sums the tally. The reader of terms hands its own:
 // what it has in hand counts its labels, and by `make` each of its terms would owe that its parts are earlier records, which keep these
-// counts.
+// counts. It is no method of `TermRecords`: the reader has the memory in its `Work` and the number in a `Progress`, a value that it hands
+// on.
 #[tactic(auto, using(crate::proofs::Making::stored))]
 pub fn push(records: &mut [u16], used: usize, node: Node, tally: u16) -> usize
     requires { record_size * (used + 1) ≤ length records.old }
@@ -80,10 +83,8 @@ fn tally_over(records: &[u16], used: usize, node: Node) -> usize
     })
 }
 
-// Makes record `used` of a node over earlier records, with its tally, and gives the number of the next one. The memory and the number
-// of records stand as two parameters, here and at `push`: the reader of terms has the memory in its `Work`, which it changes in place,
-// and the number in a `Progress`, a value that it hands on.
-pub fn make(records: &mut [u16], used: usize, node: Node) -> usize
+// Makes record `used` of a node over earlier records, with its tally, and gives the number of the next one.
+fn make(records: &mut [u16], used: usize, node: Node) -> usize
     requires { (record_size * (used + 1) ≤ length records.old) × PartsBelow used node }
     ensures { Made (λ props part. node_term props part node) records.old used records.new result }
 {

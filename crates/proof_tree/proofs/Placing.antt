@@ -38,7 +38,7 @@ use Rattle.proof_tree.specs.Opening.{Paired, offset_of}
 use Rattle.proof_tree.specs.Labelling.{ending_at, left_label_of, datatype_label_of, parameter_label_of, Means, stands, judges, LabelOf, Annotated, labelled}
 use Rattle.proof_tree.specs.Labelling as labelling
 use Rattle.proof_tree.specs.Wrapping as wrapping
-use Rattle.proof_tree.specs.Wrapping.{Wrapped, ascribes}
+use Rattle.proof_tree.specs.Wrapping.{Wrapped, ascribes, counted}
 use Rattle.proof_tree.specs.Exporting.{LabelOffset, Answered, gives, refuses}
 use Rattle.proof_tree.proofs.Ordering.{ascribed_ordered}
 use Rattle.proof_tree.proofs.Makers.{same_number}
@@ -121,6 +121,10 @@ label_of (labelled l) = l
 refusal_of : {names : ℕ} {pairs code : List ℕ} {c : Conclusion} {o : Outcome (Option (Label ℕ))} {r : Refusal}
     → Annotated names pairs code c o (Err r) → o ≡ refused r
 refusal_of (labelling.refuses e) = e
+
+-- a refusal counts nothing
+pub counted_refused : {A : Type 0} (next : ℕ) {x : Result A Refusal} {r : Refusal} → x ≡ Err r → counted next x ≡ Err r
+counted_refused next e = rw e
 
 -- step k as a value, its row, and its ending in its mode
 pub record Visited (names : ℕ) (pairs code records : List ℕ) (k : ℕ) (mode : own.ReasoningMode) (row : Row) (e : own-ending.Ending) (z : view.Step) : Type 0 where

@@ -17,6 +17,7 @@ use Rattle.prefix_code.specs.PropAt.{prop_at}
 use Rattle.prefix_code.specs.Shape.{ImplicationAt}
 use Rattle.proof_tree.specs.declared.walked_steps.WalkedSteps.{WalkedSteps}
 use Rattle.proof_tree.specs.Exportable.{Exportable}
+use Rattle.proof_tree.specs.Wrapping.{counted}
 use Rattle.proof_tree.specs.Terms.{HasProposition, part_terms, Ordered}
 
 -- the offset of the proposition that a step concludes, or of the left side of such an implication
@@ -79,3 +80,10 @@ module _ (s : WalkedSteps) where
   abbrev pub Placed : ℕ → Place → ℕ → List ℕ → List ℕ → ℕ → List ℕ → Result ℕ Refusal → Type 0
   Placed k mode reads parts before used after r =
       (names : ℕ) → ExportableWith names s → StepPlaced names s.pairs.now s.code.now s.records.now k mode reads parts before used after r
+
+  -- the same of the memory and the count of its records, before and after
+  abbrev pub ExportedIn : {A : Type 0} → ℕ → Place → Result A Refusal → List ℕ → ℕ → List ℕ → ℕ → Type 0
+  ExportedIn k mode r before used after next = Exported k mode before used after (counted next r)
+
+  abbrev pub PlacedIn : {A : Type 0} → ℕ → Place → ℕ → List ℕ → Result A Refusal → List ℕ → ℕ → List ℕ → ℕ → Type 0
+  PlacedIn k mode reads parts r before used after next = Placed k mode reads parts before used after (counted next r)

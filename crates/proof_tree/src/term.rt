@@ -1,9 +1,10 @@
 // The term that a rule has in source document 000, as a record over those of its premisses.
 ghost use Rattle.std.specs.Prelude.{◌≡◌, get_or};
+ghost use Rattle.proof_term.specs.InPlace.{InPlace};
 ghost use Rattle.proof_tree.specs.Terms.{node_over, Parts, MadeOver};
 
 use crate::table::RuleTerm;
-use proof_term::{Label, Node, make};
+use proof_term::{Label, Node, TermRecords};
 
 // The node of a rule's term over the records of its parts, with a step's names and the label of a parameter: none where the term is
 // the premiss's own. It is as long as there are terms, an arm for each.
@@ -56,22 +57,20 @@ fn node_over(
     }
 }
 
-// Makes the term over the records of its parts, as many as it is over, and gives the number of the next record.
+// Makes the term over the records of its parts, as many as it is over.
 pub fn rule_term(
     term: RuleTerm,
     first: u16,
     second: u16,
     label: Option<Label>,
     parts: [u16; 3],
-    term_records: &mut [u16],
-    used: usize,
-) -> usize
-    requires { Parts term (get_or parts 0 0) (get_or parts 1 0) (get_or parts 2 0) term_records.old used }
-    ensures { MadeOver term first second label parts
-        term_records.old used term_records.new result }
+    terms: &mut TermRecords,
+)
+    requires { Parts term (get_or parts 0 0) (get_or parts 1 0) (get_or parts 2 0)
+        terms.old.numbers.now terms.old.used }
+    ensures { InPlace (MadeOver term first second label parts) terms.old terms.new }
 {
-    let Some(node) = node_over(term, first, second, label, parts) else {
-        return used;
-    };
-    make(term_records, used, node)
+    if let Some(node) = node_over(term, first, second, label, parts) {
+        terms.make(node);
+    }
 }

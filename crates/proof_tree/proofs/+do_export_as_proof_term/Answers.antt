@@ -16,6 +16,7 @@ use Rattle.proof_tree.specs.Exportable.{GoodStep}
 use Rattle.proof_tree.specs.Exporting.{ExportableWith}
 use Rattle.proof_tree.proofs.Counts.{enough}
 use Rattle.proof_tree.proofs.Rows.{reads_all}
+use Rattle.proof_tree.proofs.Placing.{counted_refused}
 use Rattle.proof_tree.proofs.ReadPremisses.{read_none, read_more, read_refused, room_next, read_parts}
 use Rattle.proof_tree.proofs.Walking.{term_of, refusal_of, refused_as, size_tree, count_refused, Entered, premiss_refused, step_placed}
 use Rattle.proof_tree.proofs.+do_export_as_proof_term.Goals as goal
@@ -62,14 +63,18 @@ module _ (t : ℕ) where
       ∙ size_tree s.names s.pairs.now s.code.now s.records.now c.args.k
 
 pub returns-then-not-admits_count : goal.returns-then-not-admits_count
-returns-then-not-admits_count t c names e =
-    count_refused (mode_of _) (found t (goal.at.returns-then-not-admits_count t c).Start e)
-    (rw c.premiss_count.ensures
-    at (sym (c.admits_count.ensures _ (is_row t (goal.at.returns-then-not-admits_count t c).After-row_of-row)) ∙ c.if-not-admits_count.true))
-    c.at.ensures
+returns-then-not-admits_count t c = record {
+  changed = λ names e.
+      count_refused (mode_of _) (found t (goal.at.returns-then-not-admits_count t c).Start e)
+      (rw c.premiss_count.ensures
+      at (sym (c.admits_count.ensures _ (is_row t (goal.at.returns-then-not-admits_count t c).After-row_of-row)) ∙ c.if-not-admits_count.true))
+      c.at.ensures;
+  same_memory = refl;
+  same_length = refl;
+}
 
 pub loop-i-init : goal.loop-i-init
-loop-i-init t c names e = read_none _ _ _ _ _ _ _ _ _
+loop-i-init t c = (λ names e. read_none _ _ _ _ _ _ _ _ _, refl)
 
 pub premiss-requires-clause-position_in_bounds : goal.premiss-requires-clause-position_in_bounds
 premiss-requires-clause-position_in_bounds t c =
@@ -81,7 +86,7 @@ do_export_as_proof_term-requires t c =
     let at = goal.at.do_export_as_proof_term-requires t c in
     let row = (entered_some t at.Else-not-admits_count).is_row in
     let s = c.args.steps.now in
-    let read = c.loop-i.invariant s.names s.exportable in
+    let read = c.loop-i.invariant.0 s.names s.exportable in
     let step = c.premiss.ensures in
     let room = room_next row read (rw (reads_all row) at c.loop-i-test.true) step c.below.ensures in
     let within : c.premiss.result < s.count = omega (arith, step.earlier, c.requires.k_in_bounds) in
@@ -96,35 +101,46 @@ do_export_as_proof_term-requires t c =
       ),
     )
 
-pub returns-in_err-after : goal.returns-in_err-after
-returns-in_err-after t c names e =
-    let there = entered t (goal.at.returns-in_err-after t c).Else-not-admits_count e in
-    refused_as (search rules)
-    (premiss_refused (mode_of _) there
-    (read_refused there.is_row (c.loop-i.invariant names e) (rw (reads_all there.is_row) at c.loop-i-test.true) c.premiss.ensures c.below.ensures
-    (refusal_of (c.in_err-after.ensures names e) refl)))
+pub returns-in_err-do_export_as_proof_term : goal.returns-in_err-do_export_as_proof_term
+returns-in_err-do_export_as_proof_term t c =
+    let refuses = c.in_err-do_export_as_proof_term.ensures in
+    let s = c.args.steps.now in
+    record {
+      changed = λ names e.
+          let there = entered t (goal.at.returns-in_err-do_export_as_proof_term t c).Else-not-admits_count e in
+          refused_as (counted_refused _ (search rules))
+          (premiss_refused (mode_of _) there
+          (read_refused there.is_row (c.loop-i.invariant.0 names e) (rw (reads_all there.is_row) at c.loop-i-test.true) c.premiss.ensures c.below.ensures
+          (refusal_of (refuses.changed names e) refl)));
+      same_memory = refuses.same_memory ∙ c.loop-i.invariant.1;
+      same_length = refuses.same_length ∙ (c.loop-i.invariant.0 s.names s.exportable).same;
+    }
 
 pub overflow_sub-parts : goal.overflow_sub-parts
 overflow_sub-parts t c =
-    let s = c.args.steps.now in omega (arith, (term_of (c.in_ok-after.ensures s.names s.exportable) refl).low)
+    let s = c.args.steps.now in omega (arith, (term_of (c.in_ok-do_export_as_proof_term.ensures.changed s.names s.exportable) refl).low)
 
 pub overflow_cast-parts : goal.overflow_cast-parts
 overflow_cast-parts t c =
     let at = goal.at.overflow_cast-parts t c in
     let row = (entered_some t at.Else-not-admits_count).is_row in
     let s = c.args.steps.now in
-    let room = room_next row (c.loop-i.invariant s.names s.exportable) (rw (reads_all row) at c.loop-i-test.true) c.premiss.ensures c.below.ensures in
-    let read = term_of (c.in_ok-after.ensures s.names s.exportable) refl in
+    let room = room_next row (c.loop-i.invariant.0 s.names s.exportable) (rw (reads_all row) at c.loop-i-test.true) c.premiss.ensures c.below.ensures in
+    let read = term_of (c.in_ok-do_export_as_proof_term.ensures.changed s.names s.exportable) refl in
     record { fits = omega (arith, room, sized t at.Start, read.high, read.low, c.requires.room_for.few) }
 
 pub loop-i-preserved : goal.loop-i-preserved
-loop-i-preserved t c names e =
-    let there = entered t (goal.at.loop-i-preserved t c).Else-not-admits_count e in
+loop-i-preserved t c =
     let step = c.premiss.ensures in
-    read_more there.is_row (c.loop-i.invariant names e) (rw (reads_all there.is_row) at c.loop-i-test.true) step
-    c.below.ensures
-    (term_of (c.in_ok-after.ensures names e) refl)
-    (omega (arith, step.earlier)) c.do_export_as_proof_term.auto.term_records
+    let made = c.in_ok-do_export_as_proof_term.ensures in (
+      λ names e.
+          let there = entered t (goal.at.loop-i-preserved t c).Else-not-admits_count e in
+          read_more there.is_row (c.loop-i.invariant.0 names e) (rw (reads_all there.is_row) at c.loop-i-test.true) step
+          c.below.ensures
+          (term_of (made.changed names e) refl)
+          (omega (arith, step.earlier)) made.same_length,
+      made.same_memory ∙ c.loop-i.invariant.1,
+    )
 
 pub placed_term-requires-clause-row : goal.placed_term-requires-clause-row
 placed_term-requires-clause-row t c = (entered_some t (goal.at.placed_term-requires-clause-row t c).Else-not-admits_count).is_row
@@ -134,14 +150,21 @@ placed_term-requires-clause-parts t c =
     let at = goal.at.placed_term-requires-clause-parts t c in
     let row = (entered_some t at.Else-not-admits_count).is_row in
     let s = c.args.steps.now in
-    let read = c.loop-i.invariant s.names s.exportable in
+    let read = c.loop-i.invariant.0 s.names s.exportable in
     read_parts row read (omega (arith, c.loop-i-test.false, read.position, reads_all row))
     (omega (arith, read.high, sized t at.Start, read.same, c.requires.room_for.room))
     (omega (arith, read.high, sized t at.Start, c.requires.room_for.few))
 
 pub returns : goal.returns
-returns t c names e =
-    let read = c.loop-i.invariant names e in
-    let there = entered t (goal.at.returns t c).Else-not-admits_count e in
-    step_placed (mode_of _) there (omega (arith, c.loop-i-test.false, read.position, reads_all there.is_row)) read
-    (c.placed_term.ensures names e)
+returns t c =
+    let s = c.args.steps.now in
+    let placed = c.placed_term.ensures in
+    record {
+      changed = λ names e.
+          let read = c.loop-i.invariant.0 names e in
+          let there = entered t (goal.at.returns t c).Else-not-admits_count e in
+          step_placed (mode_of _) there (omega (arith, c.loop-i-test.false, read.position, reads_all there.is_row)) read
+          (placed.changed names e);
+      same_memory = placed.same_memory ∙ c.loop-i.invariant.1;
+      same_length = placed.same_length ∙ (c.loop-i.invariant.0 s.names s.exportable).same;
+    }

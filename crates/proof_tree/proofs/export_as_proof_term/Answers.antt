@@ -1,8 +1,11 @@
 -- The last step's tree has at most all the steps.
 use Prim.Native.Nat.{◌-◌}
+use mathlib.Core.Path.{refl}
 use native.Mathlib.Omega.{arith}
+use borrow.Author.Rules.{rules}
 use Rattle.proof_tree.specs.Table.{mode_of}
-use Rattle.proof_tree.proofs.Walking.{size_within}
+use Rattle.proof_tree.specs.Exporting.{refuses}
+use Rattle.proof_tree.proofs.Walking.{size_within, refusal_of, refused_as}
 use Rattle.proof_tree.proofs.export_as_proof_term.Goals as goal
 
 pub do_export_as_proof_term-requires : goal.do_export_as_proof_term-requires
@@ -21,4 +24,13 @@ do_export_as_proof_term-requires c =
 
 pub returns : goal.returns
 unfolding mode_of
-returns c = c.do_export_as_proof_term.ensures
+returns c names e =
+    let made = c.do_export_as_proof_term.ensures in
+    let same = made.same_memory in
+    let told = made.changed names e in
+    search rules
+
+pub returns-in_err-do_export_as_proof_term : goal.returns-in_err-do_export_as_proof_term
+unfolding mode_of
+returns-in_err-do_export_as_proof_term c names e =
+    refused_as (search rules) (refuses (refusal_of (c.in_err-do_export_as_proof_term.ensures.changed names e) refl))

@@ -1,11 +1,12 @@
 -- The label of a parameter first, then the rule's term, then an ascription.
 use Prim.Native.Nat.{ℕ}
+use mathlib.Core.Path.{refl, ◌∙◌}
 use native.Mathlib.Omega.{arith}
 use borrow.Author.Rules.{rules}
 use Rattle.proof_tree.specs.Exportable.{GoodStep}
 use Rattle.proof_tree.specs.Labelling.{LabelOf}
 use Rattle.proof_tree.proofs.Concluding.{means, readable}
-use Rattle.proof_tree.proofs.Placing.{Visited, concluded, label, label_of, label_refused, term_answer, ascription, ascribed_answer}
+use Rattle.proof_tree.proofs.Placing.{Visited, concluded, label, label_of, label_refused, counted_refused, term_answer, ascription, ascribed_answer}
 use Rattle.proof_tree.proofs.placed_term.Goals as goal
 use Rattle.proof_tree.proofs.placed_term.Goals.{After-step_at-step, In_ok-label}
 
@@ -36,21 +37,27 @@ pub annotation_of-requires : goal.annotation_of-requires
 annotation_of-requires c =
     let v = visited c (c.args.steps.now.exportable.good _ c.requires.k_in_bounds) in (v.good.few, readable v.good v.bytes (concluded v))
 
-pub rule_term-next-requires : goal.rule_term-next-requires
-rule_term-next-requires c =
+pub rule_term-requires : goal.rule_term-requires
+rule_term-requires c =
     c.requires.parts.0
 
 pub returns-in_default : goal.returns-in_default
-returns-in_default c names e =
-    let good = e.good _ c.requires.k_in_bounds in
-    term_answer (visited (goal.at.returns-in_default c).After-step_at-step good) (its_label (goal.at.returns-in_default c).In_ok-label good) c.rule_term-next.ensures c.in_default.not-Ascribed
+returns-in_default c =
+    let made = c.rule_term.ensures in
+    record {
+      changed = λ names e.
+          let good = e.good _ c.requires.k_in_bounds in
+          term_answer (visited (goal.at.returns-in_default c).After-step_at-step good) (its_label (goal.at.returns-in_default c).In_ok-label good) made.changed c.in_default.not-Ascribed;
+      same_memory = made.same_memory;
+      same_length = made.same_length;
+    }
 
 pub wrap_into_type_ascription-requires : goal.wrap_into_type_ascription-requires
 wrap_into_type_ascription-requires c =
     let v = visited (goal.at.wrap_into_type_ascription-requires c).After-step_at-step (c.args.steps.now.exportable.good _ c.requires.k_in_bounds) in
-    let made = c.rule_term-next.ensures in
+    let made = c.rule_term.ensures.changed in
     let room = c.requires.parts.1 in
-    let same = c.rule_term-next.auto in (
+    let same = c.rule_term.ensures.same_length in (
       v.good.few,
       record { room = omega (arith, made.few, room.room, same); few = omega (arith, made.few, room.few) },
       made.some_record,
@@ -58,14 +65,25 @@ wrap_into_type_ascription-requires c =
     )
 
 pub returns-in_err-label : goal.returns-in_err-label
-returns-in_err-label c names e =
-    let good = e.good _ c.requires.k_in_bounds in
-    let v = visited (goal.at.returns-in_err-label c).After-step_at-step good in
-    label_refused v _ (c.in_err-label.ensures _ _ (means v.good v.bytes (concluded v))) (search rules)
+returns-in_err-label c = record {
+  changed = λ names e.
+      let good = e.good _ c.requires.k_in_bounds in
+      let v = visited (goal.at.returns-in_err-label c).After-step_at-step good in
+      label_refused v _ (c.in_err-label.ensures _ _ (means v.good v.bytes (concluded v))) (counted_refused _ (search rules));
+  same_memory = refl;
+  same_length = refl;
+}
 
 pub returns : goal.returns
-returns c names e =
-    let good = e.good _ c.requires.k_in_bounds in
-    let v = visited (goal.at.returns c).After-step_at-step good in
-    ascribed_answer v (its_label (goal.at.returns c).In_ok-label good) c.rule_term-next.ensures c.in-Ascribed.is
-    (ascription (means v.good v.bytes (concluded v)) c.wrap_into_type_ascription.ensures)
+returns c =
+    let made = c.rule_term.ensures in
+    let wraps = c.wrap_into_type_ascription.ensures in
+    record {
+      changed = λ names e.
+          let good = e.good _ c.requires.k_in_bounds in
+          let v = visited (goal.at.returns c).After-step_at-step good in
+          ascribed_answer v (its_label (goal.at.returns c).In_ok-label good) made.changed c.in-Ascribed.is
+          (ascription (means v.good v.bytes (concluded v)) wraps.changed);
+      same_memory = wraps.same_memory ∙ made.same_memory;
+      same_length = wraps.same_length ∙ made.same_length;
+    }
