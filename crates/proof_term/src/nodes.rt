@@ -176,7 +176,7 @@ impl Node {
         }
     }
 
-    // The numbers of its record behind the kind, as far as the tally: one arm for each kind.
+    // The numbers of its record behind the kind, as far as the tally. It is as long as there are kinds whose parts, names or labels differ.
     pub fn numbers(self) -> [u16; 5]
         ensures { result ≡ node_numbers self }
     {
@@ -244,9 +244,10 @@ fn parameter_of_numbers(kind: u16, number: u16) -> Option<Label>
     Some(label_of_numbers(kind, number))
 }
 
-// The node of a kind and five numbers, in the order of a record: one arm for each kind.
+// The node of a kind and five numbers, in the order of a record. It is as long as there are kinds, an arm for each.
 fn node_of(kind: Kind, numbers: [u16; 5]) -> Node
-    ensures { result ≡ node_of kind (get_or numbers 0 0) (get_or numbers 1 0) (get_or numbers 2 0) (get_or numbers 3 0) (get_or numbers 4 0) }
+    ensures { result ≡ node_of kind (get_or numbers 0 0) (get_or numbers 1 0) (get_or numbers 2 0)
+        (get_or numbers 3 0) (get_or numbers 4 0) }
 {
     let [a, b, c, d, e] = numbers;
     match kind {
