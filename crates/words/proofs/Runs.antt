@@ -1,30 +1,47 @@
 -- A word ends after its name bytes, and expected bytes stand byte by byte.
-use Prim.Native.Nat.{ℕ, zero, suc, ◌+◌, ◌-◌, ◌<◌, ◌≤◌}
+use Prim.Native.Nat.{ℕ, suc, ◌+◌, ◌-◌, ◌<◌, ◌≤◌}
 use mathlib.Core.Path.{◌≡◌, refl, sym, ap, ◌∙◌}
-use mathlib.Core.Bool.{Bool, true, false, ◌&&◌, cond, true≢false, and-eq-true_iff}
-use Rattle.std.specs.Prelude.{None}
-use Rattle.std.specs.List.{starts_with}
+use mathlib.Core.Bool.{Bool, true, false, not, ◌&&◌, cond, true≢false, and-eq-true_iff}
+use Rattle.std.specs.Prelude.{None, Some}
+use Rattle.std.specs.List.{starts_with, position_or_len}
+use Rattle.std.proofs.lemmas.Grind.{common_steps}
+use Rattle.std.proofs.lemmas.List.Sums.{prefix_len-le-length}
 use mathlib.Core.List.{List, [], ◌∷◌}
 use native.Mathlib.Omega.{arith}
-use lib.ListN.{length, get_or, take, drop, length-drop}
-use lib.Seq.{get_or-drop, drop-drop, take-length}
-use lib.Dec.{eqb}
-use Rattle.definitions.specs.Code.{yield}
+use lib.ListN.{length, take, drop, length-drop}
+use lib.Seq.{drop-drop, take-length}
+use lib.Dec.{eqb, ltb}
+use Rattle.definitions.specs.Code.{Read, yield}
 use Rattle.definitions.specs.Name.{byte_class, may_follow}
 use Rattle.definitions.specs.TermReader.{word, longer, expect}
 use Rattle.definitions.proofs.Readings.{given}
 use Rattle.words.specs.Places.{between, WordEnds, Expected}
 
--- so many name bytes in front, and no more
-word_run : (s : List ℕ) (n : ℕ) → n ≤ length s → ((k : ℕ) → k < n → may_follow (byte_class (get_or s k 0)) ≡ true)
-    → (n < length s → may_follow (byte_class (get_or s n 0)) ≡ false)
-    → word s ≡ record { value = take n s; rest = drop n s }
+-- a byte that may not follow in a name
+abbrev pub stops : ℕ → Bool
+stops b = not (may_follow (byte_class b))
+
+-- the word in front ends at the first such byte, or with the bytes
+word_is : (s : List ℕ) → word s ≡ record { value = take (position_or_len stops s) s; rest = drop (position_or_len stops s) s }
 unfolding word longer
-word_run [] zero le all stop = refl
-word_run [] (suc n) le all stop = absurd (omega arith)
-word_run (b ∷ s) zero le all stop = rw (stop (omega arith))
-word_run (b ∷ s) (suc n) le all stop =
-    rw (all 0 (omega arith), word_run s n (omega arith) (λ k h. all (suc k) (omega arith)) (λ h. stop (omega arith)))
+word_is [] = refl
+word_is (b ∷ s) = either (may_follow (byte_class b)) (word_is s)
+  where
+    either : (t : Bool) → word s ≡ record { value = take (position_or_len stops s) s; rest = drop (position_or_len stops s) s }
+        → ◌≡◌ {A = Read (List ℕ)} (cond t (record { value = b ∷ (word s).value; rest = (word s).rest }) (record { value = []; rest = b ∷ s }))
+        (record { value = take (cond (not (not t)) (1 + position_or_len stops s) 0) (b ∷ s); rest = drop (cond (not (not t)) (1 + position_or_len stops s) 0) (b ∷ s) })
+    either true e =
+        let more : 1 + position_or_len stops s ≡ suc (position_or_len stops s) = omega arith in
+        rw (e, more) refl
+    either false e = refl
+
+-- where the search for it ends
+module _ (first size : ℕ) where
+  none_first : None ≡ cond (ltb first size) (Some first) None → size ≤ first
+  none_first e = grind (arith, common_steps)
+
+  some_first : (n : ℕ) → Some n ≡ cond (ltb first size) (Some first) None → (n ≡ first) × (first < size)
+  some_first n e = grind (arith, common_steps)
 
 -- bytes that stand in front, or others
 expect_is : (what s : List ℕ) → expect what s ≡ cond (starts_with eqb s what) (given tt (drop (length what) s)) None
@@ -48,32 +65,41 @@ module _ (text : List ℕ) (at : ℕ) (start : at ≤ length text) where
   part_length : length (drop at text) ≡ length text - at
   part_length = length-drop at text
 
-  after : (r : ℕ) → at ≤ r → drop (r - at) (drop at text) ≡ drop r text
-  after r le =
-      let sum : at + (r - at) ≡ r = omega arith in
-      rw (drop-drop (r - at) at text, sum)
-
-  -- the word ends where a byte may not follow, or at the end
-  pub word_ends : (r : ℕ) → at ≤ r → r ≤ length text
-      → ((k : ℕ) → k < r → at ≤ k → may_follow (byte_class (get_or text k 0)) ≡ true)
-      → (r < length text → may_follow (byte_class (get_or text r 0)) ≡ false) → WordEnds text at r
-  unfolding between
-  word_ends r le within all stop =
-      let sum : at + (r - at) ≡ r = omega arith in
-      let whole =
-      word_run (drop at text) (r - at)
-      (omega (arith, part_length))
-      (λ k h. rw (get_or-drop at text k 0) (all (at + k) (omega arith) (omega arith)))
-      (λ h. rw (get_or-drop at text (r - at) 0, sum) (stop (omega (arith, part_length)))) in
-      record { from = le; within = within; is = rw (whole, after r le) }
-
-  -- the bytes that are expected stand there, or others
   abbrev front : List ℕ
   front = take (length text - at) (drop at text)
 
   whole : front ≡ drop at text
   whole = rw (← part_length, take-length (drop at text))
 
+  -- what the search for the end of the word finds
+  abbrev size : ℕ
+  size = position_or_len stops front
+
+  word_ends : (n : ℕ) → n ≡ size → WordEnds text at (at + n)
+  unfolding between
+  word_ends n e =
+      let same : n ≡ position_or_len stops (drop at text) = e ∙ ap (λ s. position_or_len stops s) whole in
+      let long : n ≤ length text - at = rw (same, ← part_length) (prefix_len-le-length _ (drop at text)) in
+      let part : at + n - at ≡ n = omega arith in
+      record {
+        from = omega arith;
+        within = omega (arith, long);
+        is = rw (part, same, ← drop-drop (position_or_len stops (drop at text)) at text) (word_is (drop at text));
+      }
+
+  pub word_stops : (n : ℕ) → Some n ≡ cond (ltb size (length front)) (Some size) None → WordEnds text at (at + n)
+  word_stops n e = word_ends n (some_first size (length front) n e).0
+
+  pub word_whole : None ≡ cond (ltb size (length front)) (Some size) None → WordEnds text at (length text)
+  word_whole e =
+      let most = none_first size (length front) e in
+      let few = prefix_len-le-length (λ b. not (stops b)) front in
+      let all : at + (length text - at) ≡ length text = omega arith in
+      let long : length front ≡ length text - at = rw whole part_length in
+      let last : length text - at ≡ size = omega (arith, most, few, long) in
+      rw all at (word_ends (length text - at) last)
+
+  -- the bytes that are expected stand there, or others
   pub expect_found : (what : List ℕ) → starts_with eqb front what ≡ true → Expected what text at (at + length what)
   expect_found what e =
       let starts : starts_with eqb (drop at text) what ≡ true = ap (λ s. starts_with eqb s what) (sym whole) ∙ e in

@@ -8,6 +8,7 @@ ghost use Rattle.definitions.specs.CallerNames.{names_in};
 ghost use Rattle.definitions.specs.Sheet.{marked};
 ghost use Rattle.definitions.specs.NameIndex.{slot_count, index};
 ghost use Rattle.definitions.specs.TermReader.{name, expect, start_of, argument_follows};
+ghost use Rattle.identifier.specs.Class.{ClassTable};
 ghost use Rattle.name_index.specs.Probed.{seen};
 ghost use Rattle.words.specs.Places.{between, WordEnds, NameEnds, Expected};
 ghost use Rattle.words.specs.Starts.{as_start};
@@ -26,12 +27,15 @@ pub fn word_end(text: &[u8], at: usize) -> usize
     ensures { WordEnds text.now at result }
 {
     let classes = CLASSES;
-    for i in at..text.len() {
-        if !Class::of_byte(&classes, text[i]).may_follow() {
-            return i;
-        }
-    }
-    text.len()
+    let Some(length) = text[at..].iter().position(
+        |b|
+            requires { ClassTable classes }
+        { !Class::of_byte(&classes, *b).may_follow() },
+    )
+    else {
+        return text.len();
+    };
+    at + length
 }
 
 // Whether these bytes are a name of a term: one of document 01's that is no keyword.

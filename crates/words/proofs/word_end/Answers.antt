@@ -1,27 +1,26 @@
--- The invariant: the bytes before i are of names.
-use mathlib.Core.Path.{sym, refl, ap, ◌∙◌}
-use native.Mathlib.Omega.{arith}
-use borrow.Author.Count.{below_more}
-use Rattle.definitions.specs.Name.{byte_class, may_follow}
+-- The first byte that may not follow in a name ends the word.
+use mathlib.Core.Path.{refl}
+use borrow.Author.Rules.{rules}
+use borrow.Author.Tests.{tests}
+use Rattle.std.proofs.lemmas.Iterator.{YieldsList-from_slice}
+use Rattle.std.proofs.lemmas.Iterator.Adapters.{serves_from_places}
+use Rattle.std.proofs.lemmas.Iterator.Search.{position_from_yields_List}
+use Rattle.definitions.specs.Name.{byte_class}
 use Rattle.identifier.proofs.Table.{class_table}
-use Rattle.words.proofs.Runs.{word_ends}
+use Rattle.words.proofs.Runs.{stops, word_stops, word_whole}
 use Rattle.words.proofs.word_end.Goals as goal
 
-pub of_byte-requires : goal.of_byte-requires
+pub position-requires-clause-callable : goal.position-requires-clause-callable
 unfolding byte_class
-of_byte-requires c = class_table _ refl tt
+position-requires-clause-callable c =
+    serves_from_places (YieldsList-from_slice _ c.iter.ensures.rest) (λ x q k. search (rules, tests)) (λ x k l is. class_table _ refl tt)
 
-pub returns-then-not-may_follow : goal.returns-then-not-may_follow
-returns-then-not-may_follow c =
-    word_ends _ _ (omega arith) _ (omega arith) (omega arith) c.loop-i.invariant
-    (λ h. sym (ap may_follow c.of_byte.ensures) ∙ sym c.may_follow.ensures ∙ c.if-not-may_follow.true)
-
-pub loop-i-init : goal.loop-i-init
-loop-i-init c = λ k h l. absurd (omega arith)
-
-pub loop-i-preserved : goal.loop-i-preserved
-loop-i-preserved c =
-    below_more _ _ c.loop-i.invariant (λ l. sym (ap may_follow c.of_byte.ensures) ∙ sym c.may_follow.ensures ∙ c.if-not-may_follow.false)
+pub returns-in_default : goal.returns-in_default
+returns-in_default c =
+    word_whole c.args.text.now c.args.at c.requires
+    (position_from_yields_List stops _ _ _ c.in_default.ensures.ran (YieldsList-from_slice _ c.iter.ensures.rest) (λ x b q k. search (rules, tests)))
 
 pub returns : goal.returns
-returns c = word_ends _ _ (omega arith) _ (omega arith) (omega arith) (λ k h. c.loop-i.invariant k (omega arith)) (λ h. absurd (omega arith))
+returns c =
+    word_stops c.args.text.now c.args.at c.requires c.in-Some.length
+    (position_from_yields_List stops _ _ _ c.in-Some.ensures.ran (YieldsList-from_slice _ c.iter.ensures.rest) (λ x b q k. search (rules, tests)))
