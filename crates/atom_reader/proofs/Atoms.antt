@@ -16,9 +16,9 @@ use Rattle.definitions.specs.TermReader.{expect, standing, if_read, parameters_o
 use Rattle.definitions.proofs.Readings.{given}
 use Rattle.reading_laws.proofs.TermConventions.{gives_yield, gives_then}
 use Rattle.std.proofs.lemmas.List.Edits.{sets}
+use Rattle.words.specs.declared.NameTable.{NameTable}
 use Rattle.words.specs.Places.{Expected}
 use Rattle.words.specs.Table.{add_name, added, number_in, table_names, Table, NamePlace, Noted, TooMany, NumberOf}
-use Rattle.words.specs.declared.Numbered.{Numbered}
 use Rattle.words.proofs.Added.{noted_then, met_added}
 use Rattle.atom_reader.specs.declared.Place.{Place}
 use Rattle.atom_reader.specs.declared.ParametersRead.{ParametersRead}
@@ -29,13 +29,13 @@ use Rattle.atom_reader.proofs.Scopes.{added_one_meets, binds_noted, crowded_firs
 use Rattle.atom_reader.proofs.Readings.{gives_any}
 
 -- no names are noted
-pub noted_none : {text pairs : List ℕ} {count : ℕ} → Table pairs text count → Noted [] text pairs count pairs count
+pub noted_none : {text : List ℕ} {held : NameTable} → Table held text → Noted [] text held held
 unfolding added
 noted_none table = record { table = table; names = refl; kept = refl; more = omega arith }
 
 -- where the first parameter begins
-pub parameters_begin : {text pairs bound : List ℕ} {p : Place} {open' : ℕ} → Expected (utf8 "(") text p.at open' → Begins text pairs bound p 0 2
-    → Begins text pairs bound (record { at = open'; count = p.count; depth = p.depth; to = p.to }) 0 2
+pub parameters_begin : {text : List ℕ} {held : NameTable} {bound : List ℕ} {p : Place} {open' : ℕ} → Expected (utf8 "(") text p.at open' → Begins text held bound p 0 2
+    → Begins text held bound (record { at = open'; depth = p.depth; to = p.to }) 0 2
 parameters_begin bracket pre = record {
   short = pre.short;
   within = bracket.within;
@@ -46,10 +46,10 @@ parameters_begin bracket pre = record {
 }
 
 -- Whether a bracket follows the name.
-module _ (names : List Name) {text pairs code : List ℕ} {p : Place} where
-  pub no_parameters : {bound : List ℕ} → expect (utf8 "(") (drop p.at text) ≡ None → Begins text pairs bound p 0 2
-      → ParametersAnswer (parameters_of names (drop p.at text)) parameter_limit 0 text pairs code p pairs code
-      (Some (record { end = p.at; parameters = 0; count = p.count; size = 0 }))
+module _ (names : List Name) {text : List ℕ} {held : NameTable} {code : List ℕ} {p : Place} where
+  pub no_parameters : {bound : List ℕ} → expect (utf8 "(") (drop p.at text) ≡ None → Begins text held bound p 0 2
+      → ParametersAnswer (parameters_of names (drop p.at text)) parameter_limit 0 text held code p held code
+      (Some (record { end = p.at; parameters = 0; size = 0 }))
   unfolding parameters_of if_read yield parameter_code parameter_bytes encode_parameters
   no_parameters e pre = record {
     answer = (
@@ -68,10 +68,10 @@ module _ (names : List Name) {text pairs code : List ℕ} {p : Place} where
     );
   }
 
-  pub some_parameters : {open' : ℕ} {after code' : List ℕ} (r : Option ParametersRead) → Expected (utf8 "(") text p.at open'
-      → ParametersAnswer (parameters_from names parameter_limit (drop open' text)) parameter_limit 1 text pairs code
-      (record { at = open'; count = p.count; depth = p.depth; to = p.to }) after code' r
-      → ParametersAnswer (parameters_of names (drop p.at text)) parameter_limit 0 text pairs code p after code' r
+  pub some_parameters : {open' : ℕ} {after : NameTable} {code' : List ℕ} (r : Option ParametersRead) → Expected (utf8 "(") text p.at open'
+      → ParametersAnswer (parameters_from names parameter_limit (drop open' text)) parameter_limit 1 text held code
+      (record { at = open'; depth = p.depth; to = p.to }) after code' r
+      → ParametersAnswer (parameters_of names (drop p.at text)) parameter_limit 0 text held code p after code' r
   unfolding parameters_of parameters_from if_read
   some_parameters None bracket answer = record { answer = rw bracket.reads answer.answer }
   some_parameters (Some r) bracket answer =
@@ -94,9 +94,9 @@ module _ (names : List Name) {text pairs code : List ℕ} {p : Place} where
       }
 
 -- where the parameters may begin
-pub atom_place : {a : Name} {end : ℕ} {text pairs bound after : List ℕ} {p : Place} {found : Numbered}
-    → NumberOf a text pairs p.count after found → Begins text pairs bound p 0 0 → NamePlace text p.at end
-    → Begins text after bound (record { at = end; count = found.count; depth = p.depth; to = p.to + 4 }) 0 2
+pub atom_place : {a : Name} {end : ℕ} {text : List ℕ} {held : NameTable} {bound : List ℕ} {after : NameTable} {p : Place} {found : ℕ}
+    → NumberOf a text held after found → Begins text held bound p 0 0 → NamePlace text p.at end
+    → Begins text after bound (record { at = end; depth = p.depth; to = p.to + 4 }) 0 2
 atom_place number pre place = record {
   short = pre.short;
   within = place.within;
@@ -124,35 +124,35 @@ atom_stored l to seen a ps e f first second =
     rw (length_renamed (number_in seen) ps, ← e, ← f, second, first) (sets_front (atom_head _ _) l to (parameter_code seen ps))
 
 -- The name's number, and then the parameters.
-pub atom_full : (names : List Name) (a : Name) (end : ℕ) {text pairs bound code : List ℕ} {p : Place} (after : List ℕ)
-    → TooMany a text pairs p.count → PropAnswer (atom_from names a (drop end text)) text pairs bound code p after bound code None
+pub atom_full : (names : List Name) (a : Name) (end : ℕ) {text : List ℕ} {held : NameTable} {bound code : List ℕ} {p : Place} (after : NameTable)
+    → TooMany a text held → PropAnswer (atom_from names a (drop end text)) text held bound code p after bound code None
 unfolding atom_from ◌>>=◌ prop_names added standing
-atom_full names a end {text} {pairs} {p = p} after full = record {
+atom_full names a end {text} {held} {p = p} after full = record {
   answer =
       gives_then _ _ (parameters_of names (drop end text)) _ (gives_any _) λ ps u j.
-      gives_yield _ (standing false (Atom a ps)) u (crowded_first (table_names pairs text p.count) (a ∷ []) (map parameter_name ps) full);
+      gives_yield _ (standing false (Atom a ps)) u (crowded_first (table_names held text) (a ∷ []) (map parameter_name ps) full);
   bound_kept = refl;
 }
 
-module _ (names : List Name) (a : Name) (end : ℕ) {text pairs bound code after : List ℕ} {p : Place} {found : Numbered}
-    (number : NumberOf a text pairs p.count after found) {after' code' : List ℕ} where
+module _ (names : List Name) (a : Name) (end : ℕ) {text : List ℕ} {held : NameTable} {bound code : List ℕ} {after : NameTable} {p : Place} {found : ℕ}
+    (number : NumberOf a text held after found) {after' : NameTable} {code' : List ℕ} where
   pub atom_not : ParametersAnswer (parameters_of names (drop end text)) parameter_limit 0 text after code
-      (record { at = end; count = found.count; depth = p.depth; to = p.to + 4 }) after' code' None
-      → PropAnswer (atom_from names a (drop end text)) text pairs bound code p after' bound code' None
+      (record { at = end; depth = p.depth; to = p.to + 4 }) after' code' None
+      → PropAnswer (atom_from names a (drop end text)) text held bound code p after' bound code' None
   unfolding atom_from ◌>>=◌ prop_names standing
   atom_not read = record {
     answer =
         gives_then _ _ (parameters_of names (drop end text)) _ read.answer λ ps u j.
         gives_yield _ (standing false (Atom a ps)) u
-        (crowded_second (table_names pairs text p.count) (a ∷ []) (map parameter_name ps) (rw number.noted.names at j));
+        (crowded_second (table_names held text) (a ∷ []) (map parameter_name ps) (rw number.noted.names at j));
     bound_kept = refl;
   }
 
   module _ {r : ParametersRead} (read : ParametersAnswer (parameters_of names (drop end text)) parameter_limit 0 text after code
-      (record { at = end; count = found.count; depth = p.depth; to = p.to + 4 }) after' code' (Some r))
-      {code'' : List ℕ} (headed : code'' ≡ sets code' p.to (atom_head found.number r.parameters)) (place : NamePlace text p.at end) where
-    pub atom_given : PropAnswer (atom_from names a (drop end text)) text pairs bound code p after' bound code''
-        (Some (record { end = r.end; count = r.count; size = 4 + r.size; nesting = 1; strength = 999; bottom = false; own = false }))
+      (record { at = end; depth = p.depth; to = p.to + 4 }) after' code' (Some r))
+      {code'' : List ℕ} (headed : code'' ≡ sets code' p.to (atom_head found r.parameters)) (place : NamePlace text p.at end) where
+    pub atom_given : PropAnswer (atom_from names a (drop end text)) text held bound code p after' bound code''
+        (Some (record { end = r.end; size = 4 + r.size; nesting = 1; strength = 999; bottom = false; own = false }))
     unfolding atom_from ◌>>=◌ followed_by yield prop_names nesting precedence is_false standing
     atom_given =
         let (ps, reads, given) = read.answer in
@@ -164,7 +164,7 @@ module _ (names : List Name) (a : Name) (end : ℕ) {text pairs bound code after
               within = given.within;
               noted = noted_then number.noted given.noted;
               stored = atom_stored code p.to _ a ps
-                  (number_later a (table_names pairs text p.count) (map parameter_name ps) number.number_is
+                  (number_later a (table_names held text) (map parameter_name ps) number.number_is
                   ∙ ap (λ seen. number_in seen a) (ap (λ seen. added seen (map parameter_name ps)) (sym number.noted.names) ∙ sym given.noted.names))
                   given.count_is given.stored headed;
               measured = record {

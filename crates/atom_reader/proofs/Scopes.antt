@@ -14,6 +14,7 @@ use Rattle.definitions.specs.Prop.{Prop, True, False, Binary, Atom, Quantified, 
 use Rattle.definitions.specs.Text.{occurs}
 use Rattle.definitions.specs.TermText.{prop_names}
 use Rattle.definitions.proofs.Names.{eq_name_of_eq, eq_name_true}
+use Rattle.words.specs.declared.NameTable.{NameTable}
 use Rattle.words.specs.Table.{add_name, added, number_in, table_names, Noted}
 use Rattle.words.proofs.Added.{added_append, added_more, met_added}
 use Rattle.prop_parts.specs.Found.{bound_numbers}
@@ -149,9 +150,9 @@ module _ {names seen : List Name} {bound : List ℕ} {depth : ℕ} (b : Binds na
   bound_number x h = rw b.numbers (bound_same seen x h names b.met)
 
 -- names are noted, and the numbers stay
-pub binds_noted : {names xs : List Name} {text pairs mid bound after : List ℕ} {count next depth : ℕ}
-    → Binds names (table_names pairs text count) bound depth → Noted xs text pairs count mid next → bound_numbers after depth ≡ bound_numbers bound depth
-    → Binds names (table_names mid text next) after depth
+pub binds_noted : {names xs : List Name} {text : List ℕ} {held mid : NameTable} {bound after : List ℕ} {depth : ℕ}
+    → Binds names (table_names held text) bound depth → Noted xs text held mid → bound_numbers after depth ≡ bound_numbers bound depth
+    → Binds names (table_names mid text) after depth
 binds_noted {xs = xs} b noted e = rw noted.names (binds_more b xs e)
 
 pub bound_set : (bound : List ℕ) (at v depth : ℕ) → depth ≤ at → bound_numbers (set bound at v) depth ≡ bound_numbers bound depth

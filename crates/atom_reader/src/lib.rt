@@ -15,33 +15,30 @@ ghost use Rattle.atom_reader.specs.Reading.{Begins, parameters_from, ParameterAn
 
 use prefix_code::{ATOM, PARAMETER_LIMIT, STRONGEST};
 use prop_parts::{parameter_kind, put, put_parameter, put_u16, read_name};
-use words::{expect, number_of_name};
+use words::{NameTable, expect};
 
-// Where the reading stands: in the text, in the names, under how many quantifiers, and in the code. The reader of terms has three of
-// these numbers among its own; it hands them over one by one, and no quantifier is open then.
+// Where the reading stands: in the text, under how many quantifiers, and in the code. The reader of terms has two of these numbers among
+// its own; it hands them over one by one, and no quantifier is open then.
 #[derive(Clone, Copy)]
 pub struct Place {
     pub at: usize,
-    pub count: usize,
     pub depth: usize,
     pub to: usize,
 }
 
-// The parameters of an atom: where they end, how many they are, how many names there are now, and their size in code.
+// The parameters of an atom: where they end, how many they are, and their size in code.
 #[derive(Clone, Copy)]
 pub struct ParametersRead {
     pub end: usize,
     pub parameters: usize,
-    pub count: usize,
     pub size: usize,
 }
 
-// A proposition that was read: where it ends, how many names there are now, its size in code, its nesting, how strongly it binds,
-// whether it is ⊥, and whether it stood in brackets of its own.
+// A proposition that was read: where it ends, its size in code, its nesting, how strongly it binds, whether it is ⊥, and whether it
+// stood in brackets of its own.
 #[derive(Clone, Copy)]
 pub struct PropRead {
     pub end: usize,
-    pub count: usize,
     pub size: usize,
     pub nesting: usize,
     pub strength: usize,
@@ -55,24 +52,23 @@ pub struct PropRead {
 // One parameter of an atom: a name, bound by a quantifier or not.
 fn read_parameter(
     text: &[u8],
-    names: &mut [u8],
+    names: &mut NameTable,
     bound: &[u16],
     code: &mut [u8],
     p: Place,
 ) -> Option<ParametersRead>
     requires { Begins text.now names.old bound.now p 0 2 }
     ensures { (ns : List Name) →
-        Binds ns (table_names names.old text.now p.count) bound.now p.depth →
+        Binds ns (table_names names.old text.now) bound.now p.depth →
         ParameterAnswer ns text.now names.old code.old p
         names.new code.new result }
 {
-    let name = read_name(text, p.at, names, p.count)?;
+    let name = read_name(text, p.at, names)?;
     let kind = parameter_kind(&bound[..p.depth], name.number);
     let size = put_parameter(code, p.to, name.number, kind);
     Some(ParametersRead {
         end: name.end,
         parameters: 1,
-        count: name.count,
         size,
     })
 }
@@ -80,7 +76,7 @@ fn read_parameter(
 // The parameters of an atom from the first one on, where at most so many more may follow: names with ", " between them, and ")".
 fn read_parameters(
     text: &[u8],
-    names: &mut [u8],
+    names: &mut NameTable,
     bound: &[u16],
     code: &mut [u8],
     p: Place,
@@ -88,7 +84,7 @@ fn read_parameters(
 ) -> Option<ParametersRead>
     requires { Begins text.now names.old bound.now p 0 2 }
     ensures { (ns : List Name) →
-        Binds ns (table_names names.old text.now p.count) bound.now p.depth →
+        Binds ns (table_names names.old text.now) bound.now p.depth →
         ParametersAnswer (parameters_from ns most (drop p.at text.now)) most 1
         text.now names.old code.old p
         names.new code.new result }
@@ -103,15 +99,13 @@ fn read_parameters(
     };
     let place = Place {
         at: more,
-        count: first.count,
-        depth: p.depth,
         to: p.to + first.size,
+        ..p
     };
     let rest = read_parameters(text, names, bound, code, place, most - 1)?;
     Some(ParametersRead {
         end: rest.end,
         parameters: 1 + rest.parameters,
-        count: rest.count,
         size: first.size + rest.size,
     })
 }
@@ -119,14 +113,14 @@ fn read_parameters(
 // The parameters of an atom, after its name, perhaps none.
 fn atom_parameters(
     text: &[u8],
-    names: &mut [u8],
+    names: &mut NameTable,
     bound: &[u16],
     code: &mut [u8],
     p: Place,
 ) -> Option<ParametersRead>
     requires { Begins text.now names.old bound.now p 0 2 }
     ensures { (ns : List Name) →
-        Binds ns (table_names names.old text.now p.count) bound.now p.depth →
+        Binds ns (table_names names.old text.now) bound.now p.depth →
         ParametersAnswer (parameters_of ns (drop p.at text.now)) parameter_limit 0
         text.now names.old code.old p
         names.new code.new result }
@@ -135,7 +129,6 @@ fn atom_parameters(
         return Some(ParametersRead {
             end: p.at,
             parameters: 0,
-            count: p.count,
             size: 0,
         });
     };
@@ -157,7 +150,7 @@ fn put_atom(code: &mut [u8], to: usize, number: usize, parameters: usize)
 // An atom whose name ends at `end`.
 pub fn read_atom(
     text: &[u8],
-    names: &mut [u8],
+    names: &mut NameTable,
     bound: &[u16],
     code: &mut [u8],
     p: Place,
@@ -165,23 +158,21 @@ pub fn read_atom(
 ) -> Option<PropRead>
     requires { Begins text.now names.old bound.now p 0 0 × NamePlace text.now p.at end }
     ensures { (ns : List Name) →
-        Binds ns (table_names names.old text.now p.count) bound.now p.depth →
+        Binds ns (table_names names.old text.now) bound.now p.depth →
         PropAnswer (atom_from ns (between p.at end text.now) (drop end text.now))
         text.now names.old bound.now code.old p
         names.new bound.now code.new result }
 {
-    let found = number_of_name(text, p.at, end, names, p.count)?;
+    let number = names.number_of_name(text, p.at, end)?;
     let place = Place {
         at: end,
-        count: found.count,
-        depth: p.depth,
         to: p.to + 4,
+        ..p
     };
     let read = atom_parameters(text, names, bound, code, place)?;
-    put_atom(code, p.to, found.number, read.parameters);
+    put_atom(code, p.to, number, read.parameters);
     Some(PropRead {
         end: read.end,
-        count: read.count,
         size: 4 + read.size,
         nesting: 1,
         strength: STRONGEST,

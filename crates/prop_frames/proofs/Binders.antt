@@ -15,6 +15,7 @@ use Rattle.definitions.specs.TermReader.{Shown, standing, name, expect, negation
 use Rattle.definitions.proofs.Readings.{given}
 use Rattle.reading_laws.proofs.TermConventions.{gives_yield, gives_none, gives_then, gives_due}
 use Rattle.std.proofs.lemmas.List.Edits.{sets}
+use Rattle.words.specs.declared.NameTable.{NameTable}
 use Rattle.words.specs.Places.{between, Expected}
 use Rattle.words.specs.Table.{added, number_in, table_names}
 use Rattle.words.proofs.Added.{noted_then}
@@ -30,38 +31,38 @@ use Rattle.atom_reader.proofs.Readings.{gives_from, gives_any}
 use Rattle.atom_reader.proofs.Atoms.{noted_none, number_later}
 
 -- The names of a quantifier.
-pub no_object : (text pairs : List ℕ) (at count : ℕ) → NameLacks text at pairs count → BinderLacks text at pairs count
+pub no_object : (text : List ℕ) (held : NameTable) (at : ℕ) → NameLacks text at held → BinderLacks text at held
 unfolding binder_names ◌>>=◌ added
-no_object text pairs at count lacks =
-    gives_then _ _ (name (drop at text)) _ (gives_from (name (drop at text)) (λ x rest. Crowded (table_names pairs text count) (x ∷ [])) lacks) λ x t f.
+no_object text held at lacks =
+    gives_then _ _ (name (drop at text)) _ (gives_from (name (drop at text)) (λ x rest. Crowded (table_names held text) (x ∷ [])) lacks) λ x t f.
     gives_then _ _ (expect (utf8 ":") t) _ (gives_any _) λ u v i.
     gives_then _ _ (name v) _ (gives_any _) λ d w i.
     gives_then _ _ (expect (utf8 ". ") w) _ (gives_any _) λ u z i.
-    gives_yield _ (record { object = x; datatype = d }) z (crowded_first (table_names pairs text count) (x ∷ []) (d ∷ []) f)
+    gives_yield _ (record { object = x; datatype = d }) z (crowded_first (table_names held text) (x ∷ []) (d ∷ []) f)
 
-module _ {text pairs after : List ℕ} {at count : ℕ} {n : NameRead} (object : NameGiven text at pairs count after n) where
-  pub no_colon : expect (utf8 ":") (drop n.end text) ≡ None → BinderLacks text at pairs count
+module _ {text : List ℕ} {held after : NameTable} {at : ℕ} {n : NameRead} (object : NameGiven text at held after n) where
+  pub no_colon : expect (utf8 ":") (drop n.end text) ≡ None → BinderLacks text at held
   unfolding binder_names ◌>>=◌ followed_by
   no_colon e = rw (object.reads, e) (gives_none _)
 
   module _ {colon : ℕ} (first : Expected (utf8 ":") text n.end colon) where
-    pub no_datatype : NameLacks text colon after n.count → BinderLacks text at pairs count
+    pub no_datatype : NameLacks text colon after → BinderLacks text at held
     unfolding binder_names ◌>>=◌ followed_by added
     no_datatype lacks =
         rw (object.reads, first.reads)
         (gives_then _ _ (name (drop colon text)) _
-        (gives_from (name (drop colon text)) (λ x rest. Crowded (table_names after text n.count) (x ∷ [])) lacks) λ d w i.
+        (gives_from (name (drop colon text)) (λ x rest. Crowded (table_names after text) (x ∷ [])) lacks) λ d w i.
         gives_then _ _ (expect (utf8 ". ") w) _ (gives_any _) λ u z j.
         gives_yield _ (record { object = between at n.end text; datatype = d }) z
-        (crowded_second (table_names pairs text count) (between at n.end text ∷ []) (d ∷ []) (rw object.noted.names at i)))
+        (crowded_second (table_names held text) (between at n.end text ∷ []) (d ∷ []) (rw object.noted.names at i)))
 
-    module _ {after' : List ℕ} {m : NameRead} (datatype : NameGiven text colon after n.count after' m) where
-      pub no_dot : expect (utf8 ". ") (drop m.end text) ≡ None → BinderLacks text at pairs count
+    module _ {after' : NameTable} {m : NameRead} (datatype : NameGiven text colon after after' m) where
+      pub no_dot : expect (utf8 ". ") (drop m.end text) ≡ None → BinderLacks text at held
       unfolding binder_names ◌>>=◌ followed_by
       no_dot e = rw (object.reads, first.reads, datatype.reads, e) (gives_none _)
 
       pub binder_read : {dot : ℕ} → Expected (utf8 ". ") text m.end dot
-          → (b : Binder) × BinderGiven text at pairs count after' (record { end = dot; object = n.number; datatype = m.number; count = m.count }) b
+          → (b : Binder) × BinderGiven text at held after' (record { end = dot; object = n.number; datatype = m.number }) b
       unfolding binder_names ◌>>=◌ followed_by yield added
       binder_read {dot} second = (
         record { object = between at n.end text; datatype = between colon m.end text },
@@ -70,7 +71,7 @@ module _ {text pairs after : List ℕ} {at count : ℕ} {n : NameRead} (object :
           reads = rw (object.reads, first.reads, datatype.reads, second.reads) refl;
           noted = noted_then object.noted datatype.noted;
           object_is =
-              number_later (between at n.end text) (table_names pairs text count) (between colon m.end text ∷ []) object.number_is
+              number_later (between at n.end text) (table_names held text) (between colon m.end text ∷ []) object.number_is
               ∙ ap (λ seen. number_in seen (between at n.end text))
               (ap (λ seen. added seen (between colon m.end text ∷ [])) (sym object.noted.names) ∙ sym datatype.noted.names);
           datatype_is = datatype.number_is ∙ ap (λ seen. number_in seen (between colon m.end text)) (sym datatype.noted.names);
@@ -97,10 +98,10 @@ binder_splits part names q s =
     splits_on (name v) _ _ _ λ d w.
     splits_on (expect (utf8 ". ") w) _ _ _ λ u z. refl
 
-module _ {names : List Name} {text pairs bound code : List ℕ} {p : Place}
-    (b : Binds names (table_names pairs text p.count) bound p.depth) (pre : Begins text pairs bound p 1 0) where
+module _ {names : List Name} {text : List ℕ} {held : NameTable} {bound code : List ℕ} {p : Place}
+    (b : Binds names (table_names held text) bound p.depth) (pre : Begins text held bound p 1 0) where
   pub opens_bracket : {at : ℕ} → at ≡ p.at + sign_size bracket → at ≤ length text
-      → FrontAnswer bracket names text pairs bound code p pairs bound code (Some (record { at = at; count = p.count; depth = p.depth; to = p.to }))
+      → FrontAnswer bracket names text held bound code p held bound code (Some (record { at = at; depth = p.depth; to = p.to }))
   unfolding signed ◌>>=◌ sign_size part_least part_bound front_names front_code front_bytes closing
   opens_bracket {at} e h = record {
     answer = (
@@ -123,7 +124,7 @@ module _ {names : List Name} {text pairs bound code : List ℕ} {p : Place}
   }
 
   pub opens_negation : {at : ℕ} {after : List ℕ} → at ≡ p.at + sign_size negation → at ≤ length text → after ≡ sets code p.to (4 ∷ [])
-      → FrontAnswer negation names text pairs bound code p pairs bound after (Some (record { at = at; count = p.count; depth = p.depth; to = p.to + 1 }))
+      → FrontAnswer negation names text held bound code p held bound after (Some (record { at = at; depth = p.depth; to = p.to + 1 }))
   unfolding signed ◌>>=◌ sign_size part_least part_bound front_names front_code front_bytes closing
   opens_negation {at} e h stored = record {
     answer = (
@@ -145,8 +146,8 @@ module _ {names : List Name} {text pairs bound code : List ℕ} {p : Place}
     bound_kept = refl;
   }
 
-  module _ (q : Quantifier) {at : ℕ} (after : List ℕ) (e : at ≡ p.at + sign_size (binder q)) where
-    pub opens_not : BinderLacks text at pairs p.count → FrontAnswer (binder q) names text pairs bound code p after bound code None
+  module _ (q : Quantifier) {at : ℕ} (after : NameTable) (e : at ≡ p.at + sign_size (binder q)) where
+    pub opens_not : BinderLacks text at held → FrontAnswer (binder q) names text held bound code p after bound code None
     unfolding closing prop_names standing
     opens_not lacks = record {
       answer = λ part.
@@ -155,14 +156,14 @@ module _ {names : List Name} {text pairs bound code : List ℕ} {p : Place}
           gives_then _ _ (part 0 (d.object ∷ names) t) _ (gives_any _) λ r u i.
           gives_due _ r.own false _ u λ j.
           gives_yield _ (standing false (Quantified q d.object d.datatype r.shown)) u
-          (crowded_first (table_names pairs text p.count) (d.object ∷ d.datatype ∷ []) (prop_names r.shown) f));
+          (crowded_first (table_names held text) (d.object ∷ d.datatype ∷ []) (prop_names r.shown) f));
       bound_kept = refl;
     }
 
-    pub opens_quantifier : {read : BinderRead} {code' : List ℕ} (d : Binder) → BinderGiven text at pairs p.count after read d
+    pub opens_quantifier : {read : BinderRead} {code' : List ℕ} (d : Binder) → BinderGiven text at held after read d
         → code' ≡ sets code p.to (binder_code (quantifier_byte q) read.object read.datatype)
-        → FrontAnswer (binder q) names text pairs bound code p after (set bound p.depth read.object) code'
-        (Some (record { at = read.end; count = read.count; depth = p.depth + 1; to = p.to + 5 }))
+        → FrontAnswer (binder q) names text held bound code p after (set bound p.depth read.object) code'
+        (Some (record { at = read.end; depth = p.depth + 1; to = p.to + 5 }))
     unfolding sign_size part_least part_bound front_names front_code front_bytes followed_by binder_code Met
     opens_quantifier {read} d given stored = record {
       answer = (
@@ -175,7 +176,7 @@ module _ {names : List Name} {text pairs bound code : List ℕ} {p : Place}
           stored = rw (← given.object_is, ← given.datatype_is) stored;
           to_is = omega arith;
           binds = binds_one d.object (binds_noted b given.noted refl)
-              (rw given.noted.names (added_meets (table_names pairs text p.count) (d.object ∷ d.datatype ∷ [])).0)
+              (rw given.noted.names (added_meets (table_names held text) (d.object ∷ d.datatype ∷ [])).0)
               given.object_is (omega (arith, pre.deep));
           depth = omega arith;
           deeper = omega arith;

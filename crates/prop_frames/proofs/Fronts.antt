@@ -93,7 +93,7 @@ module _ {q : Prop Name} {text code : List ℕ} {to : ℕ} {part : PropRead} (m 
 
   pub closes_bracket : {end : ℕ} → part.own ≡ false → Expected (utf8 ")") text part.end end
       → Closes bracketed q text code to part code
-      (Some (record { end = end; count = part.count; size = part.size; nesting = part.nesting; strength = part.strength; bottom = part.bottom; own = true }))
+      (Some (record { end = end; size = part.size; nesting = part.nesting; strength = part.strength; bottom = part.bottom; own = true }))
   unfolding closing standing ◌>>=◌ followed_by around back_code due same yield
   closes_bracket e x = record {
     answer = record {
@@ -101,7 +101,6 @@ module _ {q : Prop Name} {text code : List ℕ} {to : ℕ} {part : PropRead} (m 
       reads = rw (x.reads, e) refl;
       measured = record { size_is = m.size_is; nesting_is = m.nesting_is; strength_is = m.strength_is; bottom_is = m.bottom_is };
       stored = refl;
-      count_is = refl;
       from = omega (arith, x.after);
     };
   }
@@ -119,7 +118,6 @@ module _ {q : Prop Name} {text code : List ℕ} {to : ℕ} {part : PropRead} (m 
       reads = due_is _ _ _ _ (rw m.strength_is at (sym a ∙ e));
       measured = negation_measured m;
       stored = stored;
-      count_is = refl;
       from = omega arith;
     };
   }
@@ -141,7 +139,6 @@ module _ {q : Prop Name} {text code : List ℕ} {to : ℕ} {part : PropRead} (m 
       reads = due_is _ _ _ _ (rw o refl);
       measured = quantifier_measured m k x t;
       stored = refl;
-      count_is = refl;
       from = omega arith;
     };
   }

@@ -107,7 +107,7 @@ module _ {c : Connective} {p q : Prop Name} {text code after : List ℕ} {to : �
       → after ≡ inserted code to (left.size + right.size) (connective_byte c)
       → deep ≡ max left.nesting right.nesting → strength ≡ connective_precedence c
       → Joins c p q text code to left right after
-      (Some (record { end = right.end; count = right.count; size = 1 + left.size + right.size; nesting = deep + 1; strength = strength; bottom = false; own = false }))
+      (Some (record { end = right.end; size = 1 + left.size + right.size; nesting = deep + 1; strength = strength; bottom = false; own = false }))
   unfolding nesting precedence is_false standing
   joins_sides {t} {deep} {strength} a e stored deeper strong =
       let agrees : sides_agree c (standing left.own p) (standing right.own q) ≡ true = sym a ∙ e in
@@ -116,7 +116,6 @@ module _ {c : Connective} {p q : Prop Name} {text code after : List ℕ} {to : �
           agrees = agrees;
           end_is = refl;
           own_is = refl;
-          count_is = refl;
           measured = record {
             size_is = omega (arith, binary_bytes c p q, m.size_is, n.size_is);
             nesting_is = omega (arith, deeper, m.nesting_is, n.nesting_is);

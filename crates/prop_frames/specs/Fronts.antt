@@ -10,6 +10,7 @@ use Rattle.definitions.specs.TermReader.{Shown, standing, due, expect, Sign, neg
 use Rattle.definitions.proofs.Readings.{given}
 use Rattle.reading_laws.proofs.TermConventions.{Gives}
 use Rattle.std.proofs.lemmas.List.Edits.{sets}
+use Rattle.words.specs.declared.NameTable.{NameTable}
 use Rattle.words.specs.Table.{number_in, table_names, Noted}
 use Rattle.prop_parts.specs.declared.Opening.{Opening}
 use Rattle.prop_parts.specs.Found.{bound_numbers, opening_sign, sign_size}
@@ -91,43 +92,43 @@ binder_names = do
   yield (record { object = x; datatype = t })
 
 -- those that were read, and their numbers
-pub record BinderGiven (text : List ℕ) (at : ℕ) (pairs : List ℕ) (count : ℕ) (after : List ℕ) (r : BinderRead) (b : Binder) : Type 0 where
+pub record BinderGiven (text : List ℕ) (at : ℕ) (held after : NameTable) (r : BinderRead) (b : Binder) : Type 0 where
   pub within : r.end ≤ length text
   pub reads : binder_names (drop at text) ≡ given b (drop r.end text)
-  pub noted : Noted (b.object ∷ b.datatype ∷ []) text pairs count after r.count
-  pub object_is : r.object ≡ number_in (table_names after text r.count) b.object
-  pub datatype_is : r.datatype ≡ number_in (table_names after text r.count) b.datatype
-  pub object_below : r.object < r.count
-  pub datatype_below : r.datatype < r.count
+  pub noted : Noted (b.object ∷ b.datatype ∷ []) text held after
+  pub object_is : r.object ≡ number_in (table_names after text) b.object
+  pub datatype_is : r.datatype ≡ number_in (table_names after text) b.datatype
+  pub object_below : r.object < after.count
+  pub datatype_below : r.datatype < after.count
   pub from : at + 5 ≤ r.end
 
 -- there are none, or too many
-abbrev pub BinderLacks : List ℕ → ℕ → List ℕ → ℕ → Type 0
-BinderLacks text at pairs count =
-    Gives (binder_names (drop at text)) (λ b rest. Crowded (table_names pairs text count) (b.object ∷ b.datatype ∷ []))
+abbrev pub BinderLacks : List ℕ → ℕ → NameTable → Type 0
+BinderLacks text at held =
+    Gives (binder_names (drop at text)) (λ b rest. Crowded (table_names held text) (b.object ∷ b.datatype ∷ []))
 
 -- the code of a quantifier's sign and names
 unfoldable pub binder_code : ℕ → ℕ → ℕ → List ℕ
 binder_code head object datatype = head ∷ (u16 object ++ u16 datatype)
 
 -- a front begins here with this sign
-pub record FrontBegins (text pairs bound : List ℕ) (p : Place) (sign : Opening) : Type 0 where
-  pub begins : Begins text pairs bound p 1 0
+pub record FrontBegins (text : List ℕ) (held : NameTable) (bound : List ℕ) (p : Place) (sign : Opening) : Type 0 where
+  pub begins : Begins text held bound p 1 0
   pub sign_within : p.at + sign_size (opening_sign sign) ≤ length text
 
 -- the front that was read from its sign on, and what became of the memory
 pub record FrontGiven
-    (g : Sign) (names : List Name) (text pairs bound code : List ℕ) (p : Place) (after bound' code' : List ℕ) (r : Place) (f : Front)
+    (g : Sign) (names : List Name) (text : List ℕ) (held : NameTable) (bound code : List ℕ) (p : Place) (after : NameTable) (bound' code' : List ℕ) (r : Place) (f : Front)
     : Type 0 where
   pub within : r.at ≤ length text
   pub reads : (part : Part)
       → signed part names g (drop (p.at + sign_size g) text)
       ≡ followed_by (part (part_least f) (part_bound f names) (drop r.at text)) (closing f)
   pub sign_is : g ≡ front_sign f
-  pub noted : Noted (front_names f) text pairs p.count after r.count
-  pub stored : code' ≡ sets code p.to (front_code (table_names after text r.count) f)
+  pub noted : Noted (front_names f) text held after
+  pub stored : code' ≡ sets code p.to (front_code (table_names after text) f)
   pub to_is : r.to ≡ p.to + front_bytes f
-  pub binds : Binds (part_bound f names) (table_names after text r.count) bound' r.depth
+  pub binds : Binds (part_bound f names) (table_names after text) bound' r.depth
   pub depth : r.depth ≤ p.depth + 1
   pub deeper : p.depth ≤ r.depth
   pub from : p.at < r.at
@@ -135,11 +136,11 @@ pub record FrontGiven
 
 -- the answer of a reader of fronts; none where there is none, or too many names
 pub record FrontAnswer
-    (g : Sign) (names : List Name) (text pairs bound code : List ℕ) (p : Place) (after bound' code' : List ℕ) (r : Option Place)
+    (g : Sign) (names : List Name) (text : List ℕ) (held : NameTable) (bound code : List ℕ) (p : Place) (after : NameTable) (bound' code' : List ℕ) (r : Option Place)
     : Type 0 where
   pub answer : MatchOption r ((part : Part)
-      → Gives (signed part names g (drop (p.at + sign_size g) text)) (λ q rest. Crowded (table_names pairs text p.count) (prop_names q.shown)))
-      (λ r. (f : Front) × FrontGiven g names text pairs bound code p after bound' code' r f)
+      → Gives (signed part names g (drop (p.at + sign_size g) text)) (λ q rest. Crowded (table_names held text) (prop_names q.shown)))
+      (λ r. (f : Front) × FrontGiven g names text held bound code p after bound' code' r f)
   pub bound_kept : bound_numbers bound' p.depth ≡ bound_numbers bound p.depth
 
 -- a part may be closed: its end, and how large it is at most
@@ -153,7 +154,6 @@ unfoldable pub enclosed : PropRead → ℕ → ℕ → PropRead
 enclosed part bytes strength =
     record {
       end = part.end;
-      count = part.count;
       size = part.size + bytes;
       nesting = part.nesting + 1;
       strength = strength;
@@ -167,7 +167,6 @@ pub record ClosedGiven (f : Front) (q : Prop Name) (text code : List ℕ) (to : 
   pub reads : closing f (standing part.own q) (drop part.end text) ≡ given (standing r.own (around f q)) (drop r.end text)
   pub measured : Measured r (around f q)
   pub stored : code' ≡ sets code (to + part.size) (back_code f)
-  pub count_is : r.count ≡ part.count
   pub from : part.end ≤ r.end
 
 -- the whole, or none where the part stands in other brackets than are due

@@ -39,7 +39,6 @@ pub record JoinedGiven
   pub agrees : sides_agree c (standing left.own p) (standing right.own q) ≡ true
   pub end_is : r.end ≡ right.end
   pub own_is : r.own ≡ false
-  pub count_is : r.count ≡ right.count
   pub measured : Measured r (Binary c p q)
   pub stored : code' ≡ inserted code to (left.size + right.size) (connective_byte c)
 

@@ -9,6 +9,7 @@ ghost use Rattle.definitions.specs.Prop.{Prop, quantifier_byte};
 ghost use Rattle.definitions.specs.TermReader.{standing, same, signed, goes_on};
 ghost use Rattle.definitions.specs.TermText.{term_text_limit};
 ghost use Rattle.std.proofs.lemmas.List.Edits.{sets};
+ghost use Rattle.words.specs.declared.NameTable.{NameTable};
 ghost use Rattle.words.specs.Table.{table_names, Table};
 ghost use Rattle.prefix_code.specs.Shape.{meant, quantifier_meant};
 ghost use Rattle.prop_parts.specs.Found.{constant_sign, opening_sign};
@@ -20,15 +21,14 @@ ghost use Rattle.prop_frames.specs.Sides.{GoesOnAt, sides_agree, inserted, Joina
 use atom_reader::{Place, PropRead};
 use prefix_code::{Connective, FALSE, IMPL, Quantifier, STRONGEST, WEAKEST};
 use prop_parts::{CONSTANT_SIZE, Constant, Opening, connective_at, put, put_u16, read_name};
-use words::expect;
+use words::{NameTable, expect};
 
-// The names of a quantifier: where they end, their numbers, and how many names there are now.
+// The names of a quantifier: where they end, and their numbers.
 #[derive(Clone, Copy)]
 pub struct BinderRead {
     pub end: usize,
     pub object: usize,
     pub datatype: usize,
-    pub count: usize,
 }
 
 // Whether something stands in brackets of its own exactly where these are due.
@@ -43,21 +43,20 @@ fn agree(own: bool, due: bool) -> bool
 // the memory `bound` up to the place's depth: memory of fixed size has no push.
 
 // The names of a quantifier, after its sign.
-fn binder_names(text: &[u8], at: usize, names: &mut [u8], count: usize) -> Option<BinderRead>
-    requires { Table names.old text.now count
+fn binder_names(text: &[u8], at: usize, names: &mut NameTable) -> Option<BinderRead>
+    requires { Table names.old text.now
         × (at ≤ length text.now) × (length text.now ≤ term_text_limit) }
-    ensures { MatchOption result (BinderLacks text.now at names.old count)
-        (λ r. (b : Binder) × BinderGiven text.now at names.old count names.new r b) }
+    ensures { MatchOption result (BinderLacks text.now at names.old)
+        (λ r. (b : Binder) × BinderGiven text.now at names.old names.new r b) }
 {
-    let object = read_name(text, at, names, count)?;
+    let object = read_name(text, at, names)?;
     let colon = expect(text, object.end, b":")?;
-    let datatype = read_name(text, colon, names, object.count)?;
+    let datatype = read_name(text, colon, names)?;
     let end = expect(text, datatype.end, b". ")?;
     Some(BinderRead {
         end,
         object: object.number,
         datatype: datatype.number,
-        count: datatype.count,
     })
 }
 
@@ -76,7 +75,7 @@ fn put_binder(code: &mut [u8], to: usize, quantifier: Quantifier, object: usize,
 // What stands before a part: the sign at `p` and what belongs to it. Gives the place of the part.
 pub fn open_front(
     text: &[u8],
-    names: &mut [u8],
+    names: &mut NameTable,
     bound: &mut [u16],
     code: &mut [u8],
     p: Place,
@@ -84,7 +83,7 @@ pub fn open_front(
 ) -> Option<Place>
     requires { FrontBegins text.now names.old bound.old p sign }
     ensures { (ns : List Name) →
-        Binds ns (table_names names.old text.now p.count) bound.old p.depth →
+        Binds ns (table_names names.old text.now) bound.old p.depth →
         FrontAnswer (opening_sign sign) ns text.now names.old bound.old code.old p
         names.new bound.new code.new result }
 {
@@ -102,12 +101,11 @@ pub fn open_front(
             })
         }
         Opening::Binder(quantifier) => {
-            let read = binder_names(text, at, names, p.count)?;
+            let read = binder_names(text, at, names)?;
             put_binder(code, to, quantifier, read.object, read.datatype);
             bound[depth] = read.object as u16;
             Some(Place {
                 at: read.end,
-                count: read.count,
                 depth: depth + 1,
                 to: to + 5,
             })
@@ -184,14 +182,13 @@ pub fn close_prop(
 // ⊤ or ⊥, whose sign stands at `p`.
 pub fn read_constant(text: &[u8], code: &mut [u8], p: Place, sign: Constant) -> PropRead
     requires { (p.at + 3 ≤ length text.now) × (p.to < 200000) × (length text.now ≤ term_text_limit) }
-    ensures { (part : Part) (ns : List Name) (pairs bound : List ℕ) → Table pairs text.now p.count →
+    ensures { (part : Part) (ns : List Name) (held : NameTable) (bound : List ℕ) → Table held text.now →
         PropAnswer (signed part ns (constant_sign sign) (drop (p.at + 3) text.now))
-        text.now pairs bound code.old p pairs bound code.new (Some result) }
+        text.now held bound code.old p held bound code.new (Some result) }
 {
     put(code, p.to, sign.byte());
     PropRead {
         end: p.at + CONSTANT_SIZE,
-        count: p.count,
         size: 1,
         nesting: 1,
         strength: STRONGEST,
@@ -261,7 +258,6 @@ pub fn join(
     insert(code, to, left.size + right.size, connective.byte());
     Some(PropRead {
         end: right.end,
-        count: right.count,
         size: 1 + left.size + right.size,
         nesting: left.nesting.max(right.nesting) + 1,
         strength: connective.strength(),

@@ -9,6 +9,7 @@ use Rattle.definitions.specs.TermReader.{connective, top, bottom, negation, brac
 use Rattle.definitions.proofs.Readings.{given}
 use Rattle.std.proofs.lemmas.List.Edits.{sets}
 use Rattle.words.specs.Places.{between}
+use Rattle.words.specs.declared.NameTable.{NameTable}
 use Rattle.words.specs.Table.{add_name, number_in, table_names, TooMany, Noted}
 use Rattle.prop_parts.specs.declared.NameRead.{NameRead}
 use Rattle.prefix_code.specs.declared.Connective.{Connective}
@@ -60,18 +61,18 @@ pub record SignAt (text : List ℕ) (at : ℕ) (g : Sign) : Type 0 where
   pub reads : sign (drop at text) ≡ given (found_sign g) (drop (at + sign_size (found_sign g)) text)
 
 -- there is no name, or one too many
-abbrev pub NameLacks : List ℕ → ℕ → List ℕ → ℕ → Type 0
-NameLacks text at pairs count = (x : Read Name) → name (drop at text) ≡ Some x → TooMany x.value text pairs count
+abbrev pub NameLacks : List ℕ → ℕ → NameTable → Type 0
+NameLacks text at held = (x : Read Name) → name (drop at text) ≡ Some x → TooMany x.value text held
 
 -- the name at a place, with its number
-pub record NameGiven (text : List ℕ) (at : ℕ) (pairs : List ℕ) (count : ℕ) (after : List ℕ) (r : NameRead) : Type 0 where
+pub record NameGiven (text : List ℕ) (at : ℕ) (held after : NameTable) (r : NameRead) : Type 0 where
   pub within : r.end ≤ length text
   pub reads : name (drop at text) ≡ given (between at r.end text) (drop r.end text)
   pub from : at < r.end
-  pub noted : Noted (between at r.end text ∷ []) text pairs count after r.count
-  pub number_is : r.number ≡ number_in (add_name (table_names pairs text count) (between at r.end text)) (between at r.end text)
-  pub below : r.number < r.count
-  pub marks : marked after text r.number ≡ between at r.end text
+  pub noted : Noted (between at r.end text ∷ []) text held after
+  pub number_is : r.number ≡ number_in (add_name (table_names held text) (between at r.end text)) (between at r.end text)
+  pub below : r.number < after.count
+  pub marks : marked after.pairs text r.number ≡ between at r.end text
 
 -- the numbers that so many quantifiers bind, the innermost in front
 unfoldable pub bound_numbers : List ℕ → ℕ → List ℕ

@@ -14,7 +14,7 @@ ghost use Rattle.prop_parts.specs.Found.{ConnectiveAt, constant_byte, opening_si
 
 use output::{Sink, Writer};
 use prefix_code::{Connective, ParameterKind, Quantifier};
-use words::{expect, name_end, number_of_name};
+use words::{NameTable, expect, name_end};
 
 // ⊤ or ⊥, by the head byte of its code.
 #[derive(Clone, Copy, PartialEq, Eq)]
@@ -41,12 +41,11 @@ pub enum Sign {
 // The bytes of a connective with its blanks.
 pub const CONNECTIVE_SIZE: usize = 5;
 
-// A name that was read: where it ends, its number, and how many names there are now.
+// A name that was read: where it ends, and its number.
 #[derive(Clone, Copy)]
 pub struct NameRead {
     pub end: usize,
     pub number: usize,
-    pub count: usize,
 }
 
 // The connective at `at`, each looked for in turn: the closure of a `find` would answer whether a text stands there, and lose what `expect`
@@ -120,20 +119,16 @@ impl Opening {
     }
 }
 
-// The name at `at`, with its number, the table given in parts as in `words`; none where no name stands there or there are too many.
-pub fn read_name(text: &[u8], at: usize, names: &mut [u8], count: usize) -> Option<NameRead>
-    requires { Table names.old text.now count
+// The name at `at`, with its number; none where no name stands there or there are too many.
+pub fn read_name(text: &[u8], at: usize, names: &mut NameTable) -> Option<NameRead>
+    requires { Table names.old text.now
         × (at ≤ length text.now) × (length text.now ≤ term_text_limit) }
-    ensures { MatchOption result (NameLacks text.now at names.old count)
-        (NameGiven text.now at names.old count names.new) }
+    ensures { MatchOption result (NameLacks text.now at names.old)
+        (NameGiven text.now at names.old names.new) }
 {
     let end = name_end(text, at)?;
-    let found = number_of_name(text, at, end, names, count)?;
-    Some(NameRead {
-        end,
-        number: found.number,
-        count: found.count,
-    })
+    let number = names.number_of_name(text, at, end)?;
+    Some(NameRead { end, number })
 }
 
 // Bytes of code from `to` on.

@@ -15,6 +15,7 @@ use Rattle.definitions.specs.TermReader.{Shown, standing, same, due, if_read, go
 use Rattle.definitions.proofs.Readings.{given}
 use Rattle.reading_laws.proofs.TermConventions.{Gives, gives_yield, gives_none, gives_then, gives_due, gives_if_read}
 use Rattle.std.proofs.lemmas.List.Edits.{sets}
+use Rattle.words.specs.declared.NameTable.{NameTable}
 use Rattle.words.specs.Table.{added, table_names}
 use Rattle.words.proofs.Added.{noted_then}
 use Rattle.prop_parts.specs.Found.{bound_numbers}
@@ -109,29 +110,29 @@ level (suc n) least names s h =
 
 -- the left side that was read so far, what is still to be read after it, and what became of the memory
 pub record Joining
-    (names : List Name) (text pairs bound code : List ℕ) (p : Place) (levels least : ℕ) (after bound' code' : List ℕ) (left : PropRead) (most : ℕ)
+    (names : List Name) (text : List ℕ) (held : NameTable) (bound code : List ℕ) (p : Place) (levels least : ℕ) (after : NameTable) (bound' code' : List ℕ) (left : PropRead) (most : ℕ)
     : Type 0 where
   pub prop : Prop Name
   pub reads : read_prop levels least names (drop p.at text)
       ≡ joined (read_prop (levels - 1)) names most least (standing left.own prop) (drop left.end text)
-  pub read : PropGiven text pairs code p after code' left prop
+  pub read : PropGiven text held code p after code' left prop
   pub bound_kept : bound_numbers bound' p.depth ≡ bound_numbers bound p.depth
 
 -- The first unit.
-module _ (names : List Name) {text pairs bound code after bound' code' : List ℕ} {p : Place} {levels : ℕ} (least : ℕ)
+module _ (names : List Name) {text : List ℕ} {held : NameTable} {bound code : List ℕ} {after : NameTable} {bound' code' : List ℕ} {p : Place} {levels : ℕ} (least : ℕ)
     (deep : levels ≡ 0 → ⊥) where
-  pub unit_fails : PropAnswer (unit (read_prop (levels - 1)) names (drop p.at text)) text pairs bound code p after bound' code' None
-      → PropAnswer (read_prop levels least names (drop p.at text)) text pairs bound code p after bound' code' None
+  pub unit_fails : PropAnswer (unit (read_prop (levels - 1)) names (drop p.at text)) text held bound code p after bound' code' None
+      → PropAnswer (read_prop levels least names (drop p.at text)) text held bound code p after bound' code' None
   unit_fails answer = record {
     answer =
         rw (level levels least names (drop p.at text) deep)
         (gives_then _ _ (unit (read_prop (levels - 1)) names (drop p.at text)) _ answer.answer λ q t k.
-        joined_crowded (read_prop (levels - 1)) names (table_names pairs text p.count) (levels - 1) least q t k);
+        joined_crowded (read_prop (levels - 1)) names (table_names held text) (levels - 1) least q t k);
     bound_kept = answer.bound_kept;
   }
 
-  pub joining_starts : {left : PropRead} → PropAnswer (unit (read_prop (levels - 1)) names (drop p.at text)) text pairs bound code p after bound' code' (Some left)
-      → Joining names text pairs bound code p levels least after bound' code' left (levels - 1)
+  pub joining_starts : {left : PropRead} → PropAnswer (unit (read_prop (levels - 1)) names (drop p.at text)) text held bound code p after bound' code' (Some left)
+      → Joining names text held bound code p levels least after bound' code' left (levels - 1)
   unfolding followed_by
   joining_starts answer =
       let (q, reads, read) = answer.answer in
@@ -143,30 +144,30 @@ module _ (names : List Name) {text pairs bound code after bound' code' : List �
       }
 
 -- Each turn.
-module _ {names : List Name} {text pairs bound code after bound' code' : List ℕ} {p : Place} {levels least : ℕ} {left : PropRead} {most : ℕ}
-    (j : Joining names text pairs bound code p levels least after bound' code' left most) where
+module _ {names : List Name} {text : List ℕ} {held : NameTable} {bound code : List ℕ} {after : NameTable} {bound' code' : List ℕ} {p : Place} {levels least : ℕ} {left : PropRead} {most : ℕ}
+    (j : Joining names text held bound code p levels least after bound' code' left most) where
   ends : read_prop levels least names (drop p.at text) ≡ given (standing left.own j.prop) (drop left.end text)
-      → PropAnswer (read_prop levels least names (drop p.at text)) text pairs bound code p after bound' code' (Some left)
+      → PropAnswer (read_prop levels least names (drop p.at text)) text held bound code p after bound' code' (Some left)
   ends e = record {
     answer = (j.prop, e, j.read);
     bound_kept = j.bound_kept;
   }
 
   -- no more connectives are read
-  pub joining_done : most ≡ 0 → PropAnswer (read_prop levels least names (drop p.at text)) text pairs bound code p after bound' code' (Some left)
+  pub joining_done : most ≡ 0 → PropAnswer (read_prop levels least names (drop p.at text)) text held bound code p after bound' code' (Some left)
   unfolding joined yield
   joining_done e = ends (j.reads ∙ rw e refl)
 
   pub joining_ends : 0 < most → goes_on least (drop left.end text) ≡ None
-      → PropAnswer (read_prop levels least names (drop p.at text)) text pairs bound code p after bound' code' (Some left)
+      → PropAnswer (read_prop levels least names (drop p.at text)) text held bound code p after bound' code' (Some left)
   joining_ends h e =
       let more : most ≡ suc (most - 1) = omega arith in
       ends (j.reads ∙ rw more (joined_ends (read_prop (levels - 1)) names (most - 1) least _ _ e))
 
   -- where the right side may begin
-  pub right_begins : Begins text pairs bound p levels 0 → Binds names (table_names pairs text p.count) bound p.depth → (levels ≡ 0 → ⊥)
+  pub right_begins : Begins text held bound p levels 0 → Binds names (table_names held text) bound p.depth → (levels ≡ 0 → ⊥)
       → length bound' ≡ length bound → left.end + 5 ≤ length text
-      → Begins text after bound' (record { at = left.end + 5; count = left.count; depth = p.depth; to = p.to + left.size }) (levels - 1) 0
+      → Begins text after bound' (record { at = left.end + 5; depth = p.depth; to = p.to + left.size }) (levels - 1) 0
   right_begins pre b deep long h = record {
     short = pre.short;
     within = h;
@@ -179,30 +180,30 @@ module _ {names : List Name} {text pairs bound code after bound' code' : List �
   module _ (some_left : 0 < most) {c : Connective} (goes : goes_on least (drop left.end text) ≡ given c (drop (left.end + 5) text))
       {asked : ℕ} (asked_is : asked ≡ right_least c) where
     -- the answer of the reader of the right side
-    abbrev Right : ℕ → List ℕ → List ℕ → List ℕ → Option PropRead → Type 0
+    abbrev Right : ℕ → NameTable → List ℕ → List ℕ → Option PropRead → Type 0
     Right least after₂ bound₂ code₂ right =
         PropAnswer (read_prop (levels - 1) least names (drop (left.end + 5) text)) text after bound' code'
-        (record { at = left.end + 5; count = left.count; depth = p.depth; to = p.to + left.size }) after₂ bound₂ code₂ right
+        (record { at = left.end + 5; depth = p.depth; to = p.to + left.size }) after₂ bound₂ code₂ right
 
-    abbrev Whole : List ℕ → List ℕ → List ℕ → Option PropRead → Type 0
-    Whole after₂ bound₂ code₃ whole = PropAnswer (read_prop levels least names (drop p.at text)) text pairs bound code p after₂ bound₂ code₃ whole
+    abbrev Whole : NameTable → List ℕ → List ℕ → Option PropRead → Type 0
+    Whole after₂ bound₂ code₃ whole = PropAnswer (read_prop levels least names (drop p.at text)) text held bound code p after₂ bound₂ code₃ whole
 
-    answer : {after₂ bound₂ code₂ : List ℕ} {right : Option PropRead} → Right asked after₂ bound₂ code₂ right → Right (right_least c) after₂ bound₂ code₂ right
+    answer : {after₂ : NameTable} {bound₂ code₂ : List ℕ} {right : Option PropRead} → Right asked after₂ bound₂ code₂ right → Right (right_least c) after₂ bound₂ code₂ right
     answer read = rw asked_is at read
 
-    pub right_not : {after₂ bound₂ code₂ : List ℕ} → Right asked after₂ bound₂ code₂ None → Whole after₂ bound₂ code₂ None
+    pub right_not : {after₂ : NameTable} {bound₂ code₂ : List ℕ} → Right asked after₂ bound₂ code₂ None → Whole after₂ bound₂ code₂ None
     unfolding standing
     right_not read = record {
       answer =
           let more : most ≡ suc (most - 1) = omega arith in
           rw (j.reads, more)
-          (joined_right (read_prop (levels - 1)) names (table_names pairs text p.count) (most - 1) least (standing left.own j.prop) _ _ c goes
+          (joined_right (read_prop (levels - 1)) names (table_names held text) (most - 1) least (standing left.own j.prop) _ _ c goes
           (rw j.read.noted.names at (answer read).answer));
       bound_kept = read.bound_kept ∙ j.bound_kept;
     }
 
-    module _ {after₂ bound₂ code₂ : List ℕ} {right : PropRead} (side : Right asked after₂ bound₂ code₂ (Some right)) where
-      pub joinable : Begins text pairs bound p levels 0 → Joinable text p.to left right
+    module _ {after₂ : NameTable} {bound₂ code₂ : List ℕ} {right : PropRead} (side : Right asked after₂ bound₂ code₂ (Some right)) where
+      pub joinable : Begins text held bound p levels 0 → Joinable text p.to left right
       unfolding term_text_limit
       joinable pre =
           let (q, reads, read) = (answer side).answer in
@@ -233,7 +234,7 @@ module _ {names : List Name} {text pairs bound code after bound' code' : List �
             }
 
         pub joining_on : {whole : PropRead} → ((q : Prop Name) → Measured right q → Joins c j.prop q text code₂ p.to left right code₃ (Some whole))
-            → Joining names text pairs bound code p levels least after₂ bound₂ code₃ whole (most - 1)
+            → Joining names text held bound code p levels least after₂ bound₂ code₃ whole (most - 1)
         unfolding prop_names
         joining_on {whole} joins =
             let (q, reads, read) = (answer side).answer in
@@ -244,11 +245,11 @@ module _ {names : List Name} {text pairs bound code after bound' code' : List �
               reads = rw (made.own_is, made.end_is) (steps q reads ∙ rw made.agrees refl);
               read = record {
                 within = rw made.end_is read.within;
-                noted = rw made.count_is (noted_then j.read.noted read.noted);
+                noted = noted_then j.read.noted read.noted;
                 stored =
-                    rw (made.count_is, read.noted.names)
-                    (chain_stored code p.to (table_names after text left.count) c j.prop q
-                    (rw j.read.noted.names (added_meets (table_names pairs text p.count) (prop_names j.prop)))
+                    rw (read.noted.names)
+                    (chain_stored code p.to (table_names after text) c j.prop q
+                    (rw j.read.noted.names (added_meets (table_names held text) (prop_names j.prop)))
                     j.read.stored j.read.measured.size_is (rw read.noted.names at read.stored) read.measured.size_is made.stored);
                 measured = made.measured;
                 from = omega (arith, j.read.from, read.from, made.end_is);
@@ -274,22 +275,20 @@ no_level least names s e = rw e refl
 
 -- So many turns: what held where they began holds now.
 pub record Turned
-    (text : List ℕ) (levels least : ℕ) (to depth : ℕ) (names bound code : List ℕ) (left : PropRead) (most : ℕ)
-    (names' bound' code' : List ℕ) (left' : PropRead) (most' : ℕ) : Type 0 where
+    (text : List ℕ) (levels least : ℕ) (to depth : ℕ) (names : NameTable) (bound code : List ℕ) (left : PropRead) (most : ℕ)
+    (names' : NameTable) (bound' code' : List ℕ) (left' : PropRead) (most' : ℕ) : Type 0 where
   pub within : left'.end ≤ length text
-  pub names_long : length names' ≡ length names
   pub bound_long : length bound' ≡ length bound
   pub code_long : length code' ≡ length code
-  pub keeps : (ns : List Name) (pairs₀ bound₀ code₀ : List ℕ) (at count : ℕ) → Binds ns (table_names pairs₀ text count) bound₀ depth
-      → Joining ns text pairs₀ bound₀ code₀ (record { at = at; count = count; depth = depth; to = to }) levels least names bound code left most
-      → Joining ns text pairs₀ bound₀ code₀ (record { at = at; count = count; depth = depth; to = to }) levels least names' bound' code' left' most'
+  pub keeps : (ns : List Name) (held₀ : NameTable) (bound₀ code₀ : List ℕ) (at : ℕ) → Binds ns (table_names held₀ text) bound₀ depth
+      → Joining ns text held₀ bound₀ code₀ (record { at = at; depth = depth; to = to }) levels least names bound code left most
+      → Joining ns text held₀ bound₀ code₀ (record { at = at; depth = depth; to = to }) levels least names' bound' code' left' most'
 
-pub turned : {text : List ℕ} {levels least : ℕ} {to depth : ℕ} {names bound code : List ℕ} {left : PropRead} {most : ℕ}
+pub turned : {text : List ℕ} {levels least : ℕ} {to depth : ℕ} {names : NameTable} {bound code : List ℕ} {left : PropRead} {most : ℕ}
     → left.end ≤ length text → Turned text levels least to depth names bound code left most names bound code left most
 turned h = record {
   within = h;
-  names_long = refl;
   bound_long = refl;
   code_long = refl;
-  keeps = λ ns pairs₀ bound₀ code₀ at count b j. j;
+  keeps = λ ns held₀ bound₀ code₀ at b j. j;
 }

@@ -20,9 +20,9 @@ use Rattle.definitions.specs.TermText.{term_text_limit, prop_names, label_names,
 use Rattle.definitions.specs.TermReader.{Shown, standing, same, due, expect, name, connective, read_prop, label, prop_levels, is_limited_label}
 use Rattle.definitions.proofs.Readings.{given}
 use Rattle.reading_laws.proofs.TermConventions.{Gives, gives_yield, gives_then, gives_due}
+use Rattle.words.specs.declared.NameTable.{NameTable}
 use Rattle.words.specs.Places.{between, Expected, NameEnds}
 use Rattle.words.specs.Table.{add_name, added, TooMany, number_in, table_names, NamePlace, Noted, NumberOf}
-use Rattle.words.specs.declared.Numbered.{Numbered}
 use Rattle.words.proofs.Numbers.{names_length}
 use Rattle.prefix_code.specs.declared.Connective as read
 use Rattle.prop_parts.specs.Found.{ConnectiveAt, bound_numbers}
@@ -69,8 +69,8 @@ module _ {text : List ℕ} {at end : ℕ} (ends : NameEnds text at end) where
   lone_there (Some k) found h no_bracket = absurd (true≢false h)
 
 -- The number of a datatype.
-pub datatype_given : {text pairs after : List ℕ} {at end count to : ℕ} {found : Numbered} → NumberOf (between at end text) text pairs count after found
-    → DatatypeGiven text at end pairs count to after (record { end = end; label = Datatype found.number; count = found.count; to = to })
+pub datatype_given : {text : List ℕ} {held after : NameTable} {at end to : ℕ} {found : ℕ} → NumberOf (between at end text) text held after found
+    → DatatypeGiven text at end held to after (record { end = end; label = Datatype found; to = to })
 unfolding added
 datatype_given {text} {at = at} {end = end} number = record {
   end_is = refl;
@@ -85,15 +85,15 @@ unfolding Met bound_numbers
 binds_nothing seen bound = record { met = tt; numbers = refl }
 
 -- a proposition may begin where a label does
-pub prop_begins : {text pairs bound : List ℕ} {at count to : ℕ} → LabelBegins text at pairs count to → length bound ≡ 128
-    → Begins text pairs bound (record { at = at; count = count; depth = 0; to = to }) 128 0
-prop_begins {text} {pairs} {bound} {count = count} pre long = record {
+pub prop_begins : {text : List ℕ} {held : NameTable} {bound : List ℕ} {at to : ℕ} → LabelBegins text at held to → length bound ≡ 128
+    → Begins text held bound (record { at = at; depth = 0; to = to }) 128 0
+prop_begins {text} {held} {bound} pre long = record {
   short = pre.short;
   within = pre.within;
   table = pre.table;
   near = omega (arith, pre.near);
   deep = omega arith;
-  binds = ([], binds_nothing (table_names pairs text count) bound);
+  binds = ([], binds_nothing (table_names held text) bound);
 }
 
 -- Limits.
@@ -128,27 +128,27 @@ unfolding fits_label is_limited_label label_names
 fits_datatype seen a h = rw (le-leb _ _ h) refl
 
 -- noted names are not too many
-few_noted : {xs : List Name} {text pairs after : List ℕ} {count next : ℕ} → Noted xs text pairs count after next
-    → length (added (table_names pairs text count) xs) ≤ name_limit
-few_noted {text = text} {after = after} {next = next} noted = rw (← noted.names) (omega (arith, names_length after text next, noted.table.few))
+few_noted : {xs : List Name} {text : List ℕ} {held after : NameTable} → Noted xs text held after
+    → length (added (table_names held text) xs) ≤ name_limit
+few_noted {text = text} {after = after} noted = rw (← noted.names) (omega (arith, names_length after text, noted.table.few))
 
 -- what was read, taken apart
 shown_same : {p q : Shown (Prop Name)} {s t : List ℕ} → given p s ≡ given q t → p ≡ q
 shown_same {p} {q} {s} {t} e = ap (λ (r : Read (Shown (Prop Name))). r.value) (same_Some (record { value = p; rest = s }) (record { value = q; rest = t }) e)
 
 -- The proposition of a label.
-pub proposition_not : {text pairs code after bound bound' code' : List ℕ} {at count to : ℕ}
-    → PropAnswer (read_prop 128 0 [] (drop at text)) text pairs bound code (record { at = at; count = count; depth = 0; to = to }) after bound' code' None
-    → PropositionAnswer text at pairs count code to after code' None
+pub proposition_not : {text : List ℕ} {held : NameTable} {code : List ℕ} {after : NameTable} {bound bound' code' : List ℕ} {at to : ℕ}
+    → PropAnswer (read_prop 128 0 [] (drop at text)) text held bound code (record { at = at; depth = 0; to = to }) after bound' code' None
+    → PropositionAnswer text at held code to after code' None
 unfolding prop_levels standing
-proposition_not {text} {pairs} {count = count} answer = record {
-  answer = λ p s e. crowded_label (table_names pairs text count) p (gives_holds _ _ (standing false p) s answer.answer e);
+proposition_not {text} {held} answer = record {
+  answer = λ p s e. crowded_label (table_names held text) p (gives_holds _ _ (standing false p) s answer.answer e);
 }
 
-module _ {text pairs code after bound bound' code' : List ℕ} {at count to : ℕ} {read : PropRead}
-    (found : PropAnswer (read_prop 128 0 [] (drop at text)) text pairs bound code (record { at = at; count = count; depth = 0; to = to }) after bound' code' (Some read)) where
+module _ {text : List ℕ} {held : NameTable} {code : List ℕ} {after : NameTable} {bound bound' code' : List ℕ} {at to : ℕ} {read : PropRead}
+    (found : PropAnswer (read_prop 128 0 [] (drop at text)) text held bound code (record { at = at; depth = 0; to = to }) after bound' code' (Some read)) where
   -- what was read stands in brackets of its own, or passes a limit
-  pub proposition_bracketed : read.own ≡ true → PropositionAnswer text at pairs count code to after code' None
+  pub proposition_bracketed : read.own ≡ true → PropositionAnswer text at held code to after code' None
   unfolding prop_levels standing
   proposition_bracketed own =
       let (q, reads, given) = found.answer in
@@ -156,8 +156,8 @@ module _ {text pairs code after bound bound' code' : List ℕ} {at count to : �
         answer = λ p s e. absurd (true≢false (sym own ∙ ap (λ (x : Shown (Prop Name)). x.own) (shown_same (sym reads ∙ e))));
       }
 
-  proposition_past : ((p : Prop Name) → read.size ≡ code_bytes p → read.nesting ≡ prop.nesting p → fits_label (table_names pairs text count) (proposition p) ≡ false)
-      → PropositionAnswer text at pairs count code to after code' None
+  proposition_past : ((p : Prop Name) → read.size ≡ code_bytes p → read.nesting ≡ prop.nesting p → fits_label (table_names held text) (proposition p) ≡ false)
+      → PropositionAnswer text at held code to after code' None
   unfolding prop_levels standing
   proposition_past past =
       let (q, reads, given) = found.answer in
@@ -167,15 +167,15 @@ module _ {text pairs code after bound bound' code' : List ℕ} {at count to : �
             rw is at (past q given.measured.size_is given.measured.nesting_is);
       }
 
-  pub proposition_deep : proposition_nesting_limit < read.nesting → PropositionAnswer text at pairs count code to after code' None
-  proposition_deep deep = proposition_past (λ p size nests. deep_label (table_names pairs text count) p (omega (arith, nests)))
+  pub proposition_deep : proposition_nesting_limit < read.nesting → PropositionAnswer text at held code to after code' None
+  proposition_deep deep = proposition_past (λ p size nests. deep_label (table_names held text) p (omega (arith, nests)))
 
-  pub proposition_large : code_limit < read.size → PropositionAnswer text at pairs count code to after code' None
-  proposition_large large = proposition_past (λ p size nests. large_label (table_names pairs text count) p (omega (arith, size)))
+  pub proposition_large : code_limit < read.size → PropositionAnswer text at held code to after code' None
+  proposition_large large = proposition_past (λ p size nests. large_label (table_names held text) p (omega (arith, size)))
 
-  pub proposition_given : LabelBegins text at pairs count to → read.own ≡ false → read.nesting ≤ proposition_nesting_limit → read.size ≤ code_limit
-      → PropositionAnswer text at pairs count code to after code'
-      (Some (record { end = read.end; label = Proposition (to / 2); count = read.count; to = to + read.size + read.size % 2 }))
+  pub proposition_given : LabelBegins text at held to → read.own ≡ false → read.nesting ≤ proposition_nesting_limit → read.size ≤ code_limit
+      → PropositionAnswer text at held code to after code'
+      (Some (record { end = read.end; label = Proposition (to / 2); to = to + read.size + read.size % 2 }))
   unfolding prop_levels
   proposition_given pre own shallow small =
       let (q, reads, given) = found.answer in
@@ -186,7 +186,7 @@ module _ {text pairs code after bound bound' code' : List ℕ} {at count to : �
           record {
             within = given.within;
             reads = rw own at reads;
-            fits = fits_prop (table_names pairs text count) q (omega (arith, m.nesting_is)) (omega (arith, m.size_is)) (few_noted given.noted);
+            fits = fits_prop (table_names held text) q (omega (arith, m.nesting_is)) (omega (arith, m.size_is)) (few_noted given.noted);
             noted = given.noted;
             label_is = refl;
             stored = given.stored;
@@ -213,10 +213,10 @@ labelled : (types : List Name) (levels : ℕ) (s : List ℕ) (x : Read (Label Na
 labelled types levels s x e = gives_holds (label types levels s) _ x.value x.rest (label_gives types levels s) e
 
 -- the text of a proposition that is no lone listed name
-module _ (types : List Name) {text pairs code after code' : List ℕ} {at count to : ℕ}
+module _ (types : List Name) {text : List ℕ} {held : NameTable} {code : List ℕ} {after : NameTable} {code' : List ℕ} {at to : ℕ}
     (unlisted : (p : Prop Name) (s : List ℕ) → read_prop prop_levels 0 [] (drop at text) ≡ given (standing false p) s → label_for types p ≡ proposition p) where
-  pub proposition_label : (r : Option (LabelRead numbered.Label)) → PropositionAnswer text at pairs count code to after code' r
-      → LabelAnswer text at types pairs count code to after code' r
+  pub proposition_label : (r : Option (LabelRead numbered.Label)) → PropositionAnswer text at held code to after code' r
+      → LabelAnswer text at types held code to after code' r
   unfolding label ◌>>=◌ followed_by due same yield standing label_names
   proposition_label None answer = record {
     answer = λ x e.
@@ -280,22 +280,22 @@ module _ {text : List ℕ} {at r : ℕ} (ends : LoneEnds text at r) where
         rw (← is, sym tested ∙ e) refl
 
     -- which is listed
-    pub lone_listed : {pairs code after : List ℕ} {count to : ℕ} (w : Option (LabelRead numbered.Label)) → t ≡ true → to % 2 ≡ 0
-        → MatchOption w (TooMany (between at r text) text pairs count) (DatatypeGiven text at r pairs count to after)
-        → LabelAnswer text at types pairs count code to after code w
+    pub lone_listed : {held : NameTable} {code : List ℕ} {after : NameTable} {to : ℕ} (w : Option (LabelRead numbered.Label)) → t ≡ true → to % 2 ≡ 0
+        → MatchOption w (TooMany (between at r text) text held) (DatatypeGiven text at r held to after)
+        → LabelAnswer text at types held code to after code w
     unfolding label ◌>>=◌ followed_by due same yield standing label_names
-    lone_listed {pairs} {code} {after} {count} {to} w e even found = go w found
+    lone_listed {held} {code} {after} {to} w e even found = go w found
       where
         reads : label types prop_levels (drop at text) ≡ given (datatype (between at r text)) (drop r text)
         reads = rw lone_prop (ap (λ x. Some (record { value = x; rest = drop r text })) (listed_label types (between at r text) (sym tested ∙ e)))
 
-        go : (w : Option (LabelRead numbered.Label)) → MatchOption w (TooMany (between at r text) text pairs count) (DatatypeGiven text at r pairs count to after)
-            → LabelAnswer text at types pairs count code to after code w
+        go : (w : Option (LabelRead numbered.Label)) → MatchOption w (TooMany (between at r text) text held) (DatatypeGiven text at r held to after)
+            → LabelAnswer text at types held code to after code w
         go None many = record {
           answer = λ x f.
               let is : datatype (between at r text) ≡ x.value =
               ap (λ (y : Read (Label Name)). y.value) (same_Some (record { value = datatype (between at r text); rest = drop r text }) x (sym reads ∙ f)) in
-              rw (← is) (crowded_datatype (table_names pairs text count) (between at r text) many);
+              rw (← is) (crowded_datatype (table_names held text) (between at r text) many);
         }
         go (Some w) named = record {
           answer = (
@@ -303,7 +303,7 @@ module _ {text : List ℕ} {at r : ℕ} (ends : LoneEnds text at r) where
             record {
               within = rw named.end_is ends.within;
               reads = rw named.end_is reads;
-              fits = fits_datatype (table_names pairs text count) (between at r text) (few_noted named.noted);
+              fits = fits_datatype (table_names held text) (between at r text) (few_noted named.noted);
               noted = named.noted;
               kept = of_datatype named.label_is refl named.to_is;
               from = omega (arith, ends.from, named.end_is);

@@ -18,7 +18,7 @@ use prefix_code::{CODE_LIMIT, NESTING_LIMIT};
 use proof_term::Label;
 use prop_frames::{close_prop, goes_on, join, open_front, part_least, read_constant};
 use prop_parts::{CONNECTIVE_SIZE, Sign, connective_at, sign_at};
-use words::{expect, name_end, number_of_name};
+use words::{NameTable, expect, name_end};
 
 // Twice as many levels as a proposition may nest: brackets take one.
 const LEVELS: usize = 2 * NESTING_LIMIT;
@@ -29,7 +29,7 @@ const LEVELS: usize = 2 * NESTING_LIMIT;
 #[cycle(read_prop_read_unit)]
 fn read_unit(
     text: &[u8],
-    names: &mut [u8],
+    names: &mut NameTable,
     bound: &mut [u16],
     code: &mut [u8],
     p: Place,
@@ -37,7 +37,7 @@ fn read_unit(
 ) -> Option<PropRead>
     requires { Begins text.now names.old bound.old p (levels + 1) 0 }
     ensures { (ns : List Name) →
-        Binds ns (table_names names.old text.now p.count) bound.old p.depth →
+        Binds ns (table_names names.old text.now) bound.old p.depth →
         PropAnswer (unit (read_prop levels) ns (drop p.at text.now))
         text.now names.old bound.old code.old p
         names.new bound.new code.new result }
@@ -60,7 +60,7 @@ fn read_unit(
 #[cycle(read_prop_read_unit)]
 fn read_prop(
     text: &[u8],
-    names: &mut [u8],
+    names: &mut NameTable,
     bound: &mut [u16],
     code: &mut [u8],
     p: Place,
@@ -69,7 +69,7 @@ fn read_prop(
 ) -> Option<PropRead>
     requires { Begins text.now names.old bound.old p levels 0 }
     ensures { (ns : List Name) →
-        Binds ns (table_names names.old text.now p.count) bound.old p.depth →
+        Binds ns (table_names names.old text.now) bound.old p.depth →
         PropAnswer (read_prop levels least ns (drop p.at text.now))
         text.now names.old bound.old code.old p
         names.new bound.new code.new result }
@@ -86,7 +86,6 @@ fn read_prop(
         };
         let place = Place {
             at: left.end + CONNECTIVE_SIZE,
-            count: left.count,
             depth,
             to: to + left.size,
         };
@@ -97,13 +96,12 @@ fn read_prop(
     Some(left)
 }
 
-// A label that was read: where it ends, what it is, how many names there are now, and where the next code begins. Where a label may be
-// missing, `L` is an option of one.
+// A label that was read: where it ends, what it is, and where the next code begins. Where a label may be missing, `L` is an option of
+// one.
 #[derive(Clone, Copy)]
 pub struct LabelRead<L> {
     pub end: usize,
     pub label: L,
-    pub count: usize,
     pub to: usize,
 }
 
@@ -127,19 +125,17 @@ fn read_datatype(
     text: &[u8],
     at: usize,
     end: usize,
-    names: &mut [u8],
-    count: usize,
+    names: &mut NameTable,
     to: usize,
 ) -> Option<LabelRead<Label>>
-    requires { Table names.old text.now count × NamePlace text.now at end }
-    ensures { MatchOption result (TooMany (between at end text.now) text.now names.old count)
-        (DatatypeGiven text.now at end names.old count to names.new) }
+    requires { Table names.old text.now × NamePlace text.now at end }
+    ensures { MatchOption result (TooMany (between at end text.now) text.now names.old)
+        (DatatypeGiven text.now at end names.old to names.new) }
 {
-    let name = number_of_name(text, at, end, names, count)?;
+    let number = names.number_of_name(text, at, end)?;
     Some(LabelRead {
         end,
-        label: Label::Datatype(name.number as u16),
-        count: name.count,
+        label: Label::Datatype(number as u16),
         to,
     })
 }
@@ -148,22 +144,16 @@ fn read_datatype(
 fn read_proposition(
     text: &[u8],
     at: usize,
-    names: &mut [u8],
-    count: usize,
+    names: &mut NameTable,
     code: &mut [u8],
     to: usize,
 ) -> Option<LabelRead<Label>>
-    requires { LabelBegins text.now at names.old count to }
-    ensures { PropositionAnswer text.now at names.old count code.old to
+    requires { LabelBegins text.now at names.old to }
+    ensures { PropositionAnswer text.now at names.old code.old to
         names.new code.new result }
 {
     let mut bound = [0u16; LEVELS];
-    let p = Place {
-        at,
-        count,
-        depth: 0,
-        to,
-    };
+    let p = Place { at, depth: 0, to };
     let read = read_prop(text, names, &mut bound, code, p, LEVELS, 0)?;
     let size = read.size;
     if read.own {
@@ -178,7 +168,6 @@ fn read_proposition(
     Some(LabelRead {
         end: read.end,
         label: Label::Proposition((to / 2) as u16),
-        count: read.count,
         to: to + size + size % 2,
     })
 }
@@ -188,20 +177,19 @@ pub fn read_label(
     text: &[u8],
     at: usize,
     types: &[u8],
-    names: &mut [u8],
-    count: usize,
+    names: &mut NameTable,
     code: &mut [u8],
     to: usize,
 ) -> Option<LabelRead<Label>>
-    requires { LabelBegins text.now at names.old count to }
-    ensures { LabelAnswer text.now at (names_in types.now) names.old count
+    requires { LabelBegins text.now at names.old to }
+    ensures { LabelAnswer text.now at (names_in types.now) names.old
         code.old to names.new code.new result }
 {
     let Some(end) = lone_end(text, at) else {
-        return read_proposition(text, at, names, count, code, to);
+        return read_proposition(text, at, names, code, to);
     };
     if is_listed(types, &text[at..end]) {
-        return read_datatype(text, at, end, names, count, to);
+        return read_datatype(text, at, end, names, to);
     }
-    read_proposition(text, at, names, count, code, to)
+    read_proposition(text, at, names, code, to)
 }

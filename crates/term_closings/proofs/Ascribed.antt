@@ -20,6 +20,7 @@ use Rattle.reading_laws.specs.Marks.{labelled, node, marks, entries_marks, met, 
 use Rattle.reading_laws.proofs.Entries.{hand_nesting}
 use Rattle.reading_laws.proofs.OnTheWay.{Fits}
 use Rattle.reading_laws.proofs.Turns.{Next, next_then}
+use Rattle.words.specs.declared.NameTable.{NameTable}
 use Rattle.words.specs.Places.{Expected}
 use Rattle.words.specs.Table.{table_names}
 use Rattle.atom_reader.proofs.Readings.{gives_from}
@@ -81,7 +82,7 @@ module _ {z : Scene} {work : Work} {s : Progress} {h : Hand} (held : AtTerm hold
   comes_label = reads_on (expect (utf8 ": ") (drop s.at z.text)) _ _ tt _ (comes_last held bare) colon.reads
 
   -- a label may begin there
-  pub label_begins : LabelBegins z.text at z.names s.count s.to
+  pub label_begins : LabelBegins z.text at z.names s.to
   unfolding code_met
   label_begins =
       let b = held.behind in
@@ -104,18 +105,18 @@ module _ {z : Scene} {work : Work} {s : Progress} {h : Hand} (held : AtTerm hold
     comes_due = as_due _ _ _ comes_label (due_at ascribed_by held.behind.hand due)
 
     -- no label stands there, or one past the limits
-    pub no_label : {after code' : List ℕ} → LabelAnswer z.text at z.types z.names s.count z.code s.to after code' None → Refuses z
+    pub no_label : {after : NameTable} {code' : List ℕ} → LabelAnswer z.text at z.types z.names z.code s.to after code' None → Refuses z
     unfolding Next met marks standing
     no_label answer =
         unfit comes_due
-        (next_then (λ τ. Fits τ → ⊥) (λ l v. fits_label (table_names z.names z.text s.count) l ≡ false) (label z.types prop_levels (drop at z.text)) _
+        (next_then (λ τ. Fits τ → ⊥) (λ l v. fits_label (table_names z.names z.text) l ≡ false) (label z.types prop_levels (drop at z.text)) _
         (gives_from _ _ answer.answer) λ l v unfit-label.
         label_unfit held.behind.stored l unfit-label (giving held.entries (standing false (TypeAscription held.term.shown l)) v)
         (record { more = node ∷ []; is = simp append_assoc }))
 
-    module _ {after code' : List ℕ} {r : LabelRead numbered.Label} (answer : LabelAnswer z.text at z.types z.names s.count z.code s.to after code' (Some r)) where
-      label_grows : {l : Label Name} → LabelGiven z.text at z.types z.names s.count z.code s.to after code' r l
-          → Grows held.entries (TypeAscription held.term.shown l) (noting z after code') work (further s r.end r.count r.to)
+    module _ {after : NameTable} {code' : List ℕ} {r : LabelRead numbered.Label} (answer : LabelAnswer z.text at z.types z.names z.code s.to after code' (Some r)) where
+      label_grows : {l : Label Name} → LabelGiven z.text at z.types z.names z.code s.to after code' r l
+          → Grows held.entries (TypeAscription held.term.shown l) (noting z after code') work (further s r.end r.to)
           (node_row (made.TypeAscription (s.used - 1) r.label) (1 + h.tally)) (over Ascription 0 1 h)
       unfolding noting names_met nodes_met limited_met code_met labels_met term_records records_after marks form as_form term_nesting annotation_count node_row root_after seven
       label_grows {l} given =
@@ -161,7 +162,7 @@ module _ {z : Scene} {work : Work} {s : Progress} {h : Hand} (held : AtTerm hold
 
       -- the term and its label are whole
       pub ascription_turned : {work' : Work} {t : Progress}
-          → MadeOf (further s r.end r.count r.to) (node_row (made.TypeAscription (s.used - 1) r.label) (1 + h.tally)) (over Ascription 0 1 h) work work' t
+          → MadeOf (further s r.end r.to) (node_row (made.TypeAscription (s.used - 1) r.label) (1 + h.tally)) (over Ascription 0 1 h) work work' t
           → Turned (noting z after code') work' (left_at z.text s 1) (Giving t (over Ascription 0 1 h))
       unfolding noting met hand_nesting standing AtState left_of left_at
       ascription_turned m =

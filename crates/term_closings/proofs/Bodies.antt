@@ -47,7 +47,7 @@ module _ {z : Scene} {work : Work} {s : Progress} {h : Hand} {m n : ℕ} where
       undue for_let g = not_due _ _ _ g.comes (due_at within g.hand d)
 
   names_are : {k : List Entry} {x y : Name} {a : Shown (ProofTerm Name)} → GivesTo k (let_head x y) a z work s h (LetHead m n)
-      → (number : Name → ℕ) → Extends number (table_names z.names z.text s.count) → (m ≡ number x) × (n ≡ number y)
+      → (number : Name → ℕ) → Extends number (table_names z.names z.text) → (m ≡ number x) × (n ≡ number y)
   unfolding entry_after
   names_are g number i = let top = g.top number i in (cc, cc)
 
@@ -66,14 +66,14 @@ module _ {z : Scene} {work : Work} {s : Progress} {h : Hand} {m n : ℕ} where
 
     module _ {end : ℕ} (found : Expected (utf8 " in ") z.text s.at end) {w : Part} (is : w ≡ record { root = s.used - 1; nest = h.nest; tally = h.tally }) where
       let_opens : (k : List Entry) (x y : Name) (a : Shown (ProofTerm Name)) → GivesTo k (let_head x y) a z work s h (LetHead m n)
-          → Opens k (let_body x y a.shown) z work (further s end s.count s.to) (LetBody m n w)
+          → Opens k (let_body x y a.shown) z work (further s end s.to) (LetBody m n w)
       unfolding entry_marks entry_records entry_after
       let_opens k x y a g =
           let ms = entries_marks k in
           let v = ms ++ (called x ∷ called y ∷ []) in
           let on = found.after in
           record {
-            placed = placed_on g.placed end s.count (omega (arith, on)) found.within;
+            placed = placed_on g.placed end (omega (arith, on)) found.within;
             deep = g.deep;
             met = v ++ marks a.shown;
             records = λ number. (stack_records number k ++ []) ++ records_after number v a.shown;
@@ -85,7 +85,7 @@ module _ {z : Scene} {work : Work} {s : Progress} {h : Hand} {m n : ℕ} where
 
       -- the body is to be read
       pub let_turned : (after : Work) (r : Option State) → Gives z work s h (LetHead m n)
-          → MatchOption r (767 ≤ s.depth) (Entered (further s end s.count s.to) (LetBody m n w) work after)
+          → MatchOption r (767 ≤ s.depth) (Entered (further s end s.to) (LetBody m n w) work after)
           → MatchOption r (Refuses z) (Turned z after (left_at z.text s 2))
       unfolding left_at
       let_turned after r g enters = go (entry_for g) g.to

@@ -21,6 +21,7 @@ use Rattle.reading_laws.proofs.MarksMet.{begins_all, begins_as}
 use Rattle.reading_laws.proofs.OnTheWay.{Fits}
 use Rattle.reading_laws.proofs.TermConventions.{gives_yield, gives_none, gives_then}
 use Rattle.reading_laws.proofs.Turns.{Next, next_then}
+use Rattle.words.specs.declared.NameTable.{NameTable}
 use Rattle.words.specs.Places.{between, Expected}
 use Rattle.words.specs.Table.{added, table_names}
 use Rattle.prop_parts.specs.declared.NameRead.{NameRead}
@@ -53,27 +54,27 @@ use Rattle.term_closings.proofs.Tops.{waiting_is}
 use Rattle.term_closings.proofs.Enclosed.{placed_on}
 
 -- The word, the name, the arrow.
-pub branch_no_word : (what text pairs : List ℕ) (at count : ℕ) → expect what (drop at text) ≡ None → BranchLacks what text at pairs count
+pub branch_no_word : (what text : List ℕ) (held : NameTable) (at : ℕ) → expect what (drop at text) ≡ None → BranchLacks what text at held
 unfolding branch ◌>>=◌ followed_by
-branch_no_word what text pairs at count e = rw e (gives_none _)
+branch_no_word what text held at e = rw e (gives_none _)
 
-module _ {what text : List ℕ} {at start : ℕ} (pairs : List ℕ) (count : ℕ) (word : Expected what text at start) where
-  pub branch_no_name : NameLacks text start pairs count → BranchLacks what text at pairs count
+module _ {what text : List ℕ} {at start : ℕ} (held : NameTable) (word : Expected what text at start) where
+  pub branch_no_name : NameLacks text start held → BranchLacks what text at held
   unfolding branch ◌>>=◌ followed_by added
   branch_no_name lacks =
       rw word.reads
       (gives_then _ _ (name (drop start text)) _
-      (gives_from (name (drop start text)) (λ x rest. Crowded (table_names pairs text count) (x ∷ [])) lacks) λ x t crowded.
+      (gives_from (name (drop start text)) (λ x rest. Crowded (table_names held text) (x ∷ [])) lacks) λ x t crowded.
       gives_then _ _ (expect (utf8 " => ") t) _ (gives_any _) λ u v i.
       gives_yield _ x v crowded)
 
-  module _ {after : List ℕ} {n : NameRead} (named : NameGiven text start pairs count after n) where
-    pub branch_no_arrow : expect (utf8 " => ") (drop n.end text) ≡ None → BranchLacks what text at pairs count
+  module _ {after : NameTable} {n : NameRead} (named : NameGiven text start held after n) where
+    pub branch_no_arrow : expect (utf8 " => ") (drop n.end text) ≡ None → BranchLacks what text at held
     unfolding branch ◌>>=◌ followed_by
     branch_no_arrow e = rw (word.reads, named.reads, e) (gives_none _)
 
     pub branch_read : {begin : ℕ} → Expected (utf8 " => ") text n.end begin
-        → (x : Name) × BranchGiven what text at pairs count after (record { end = begin; number = n.number; count = n.count }) x
+        → (x : Name) × BranchGiven what text at held after (record { end = begin; number = n.number }) x
     unfolding branch ◌>>=◌ followed_by yield
     branch_read {begin} arrow = (
       between start n.end text,
@@ -88,8 +89,8 @@ module _ {what text : List ℕ} {at start : ℕ} (pairs : List ℕ) (count : ℕ
     )
 
 -- the number of a branch's name
-pub branch_small : {what text : List ℕ} {at : ℕ} {pairs : List ℕ} {count : ℕ} {after : List ℕ} {r : NameRead} {x : Name}
-    → BranchGiven what text at pairs count after r x → r.number < 512
+pub branch_small : {what text : List ℕ} {at : ℕ} {held after : NameTable} {r : NameRead} {x : Name}
+    → BranchGiven what text at held after r x → r.number < 512
 unfolding name_limit
 branch_small given = omega (arith, given.below, given.noted.table.few)
 
@@ -188,31 +189,31 @@ module _ {z : Scene} {work : Work} {s : Progress} {h : Hand} {what : List ℕ} {
     comes_due = as_due _ _ _ comes_branch (due_at within g.hand due)
 
     -- no branch follows, or one name too many
-    pub branch_stuck : BranchLacks what z.text s.at z.names s.count → Refuses z
+    pub branch_stuck : BranchLacks what z.text s.at z.names → Refuses z
     unfolding Next met entries_marks names_met
     branch_stuck lacks =
         let ms = (entries_marks k ++ entry_marks entry) ++ marks a.shown in
         unfit comes_due
-        (next_then (λ τ. Fits τ → ⊥) (λ x t. Crowded (table_names z.names z.text s.count) (x ∷ [])) (branch what (drop s.at z.text)) _ lacks λ x t crowded.
+        (next_then (λ τ. Fits τ → ⊥) (λ x t. Crowded (table_names z.names z.text) (x ∷ [])) (branch what (drop s.at z.text)) _ lacks λ x t crowded.
         too_many_names (ms ++ (called x ∷ [])) (reading (b.waits x ∷ k) t)
         (crowded_met (called x ∷ []) g.stored crowded)
         (begins_as (begins_all _) (sym (b.is.marks_are x))))
 
-    module _ {after : List ℕ} {r : NameRead} {x : Name} (given : BranchGiven what z.text s.at z.names s.count after r x) where
+    module _ {after : NameTable} {r : NameRead} {x : Name} (given : BranchGiven what z.text s.at z.names after r x) where
       -- the numbers of the names are those of the names before
-      number_then : (number : Name → ℕ) → Extends number (table_names after z.text r.count) → Extends number (table_names z.names z.text s.count) × (r.number ≡ number x)
+      number_then : (number : Name → ℕ) → Extends number (table_names after z.text) → Extends number (table_names z.names z.text) × (r.number ≡ number x)
       unfolding added
       number_then number extends =
-          let seen = table_names z.names z.text s.count in
+          let seen = table_names z.names z.text in
           (extends_fewer seen (x ∷ []) (rw given.noted.names at extends), number_noted x seen [] _ number given.noted.names given.number_is extends)
 
       module _ {w : Part} (is : w ≡ record { root = s.used - 1; nest = h.nest; tally = h.tally }) where
-        branch_opens : Opens k (b.waits x) (noting z after z.code) work (further s r.end r.count s.to) (next w r.number)
+        branch_opens : Opens k (b.waits x) (noting z after z.code) work (further s r.end s.to) (next w r.number)
         unfolding noting
         branch_opens =
             let from = given.from in
             record {
-              placed = let p = placed_on g.placed r.end r.count (omega (arith, from)) given.within in record { within = p.within; near = p.near };
+              placed = let p = placed_on g.placed r.end (omega (arith, from)) given.within in record { within = p.within; near = p.near };
               deep = g.deep;
               met = ((entries_marks k ++ entry_marks entry) ++ marks a.shown) ++ (called x ∷ []);
               records = λ number. (stack_records number k ++ entry_records number (entries_marks k) entry) ++ records_after number (entries_marks k ++ entry_marks entry) a.shown;
@@ -225,7 +226,7 @@ module _ {z : Scene} {work : Work} {s : Progress} {h : Hand} {what : List ℕ} {
             }
 
         -- the branch is to be read
-        pub branch_turned : (work' : Work) (t : Option reader_state.State) → MatchOption t (767 ≤ s.depth) (Entered (further s r.end r.count s.to) (next w r.number) work work')
+        pub branch_turned : (work' : Work) (t : Option reader_state.State) → MatchOption t (767 ≤ s.depth) (Entered (further s r.end s.to) (next w r.number) work work')
             → MatchOption t (Refuses (noting z after z.code)) (Turned (noting z after z.code) work' (left_at z.text s 2))
         unfolding left_at noting
         branch_turned work' t enters =

@@ -56,7 +56,7 @@ module _ {z : Scene} {work : Work} {s : Progress} {h : Hand} (held : AtTerm hold
 
       -- a closed term is to be read
       pub argument_closed : {start : ℕ} {w : Part} → Expected (utf8 " ") z.text s.at start → w ≡ record { root = s.used - 1; nest = h.nest; tally = h.tally }
-          → Closed z work (further s start s.count s.to) (Argument w)
+          → Closed z work (further s start s.to) (Argument w)
       unfolding purpose_marks purpose_records purpose_after term_records
       argument_closed {start} blank is =
           let b = held.behind in

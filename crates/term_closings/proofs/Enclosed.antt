@@ -33,8 +33,8 @@ use Rattle.term_stack.proofs.Opened.{Opens, opens}
 use Rattle.term_openings.proofs.ClosedTerms.{further}
 use Rattle.term_closings.proofs.Tops.{waiting_is}
 
-pub placed_on : {z : Scene} {s : Progress} → Placed z s → (at count : ℕ) → s.at ≤ at → at ≤ length z.text → Placed z (further s at count s.to)
-placed_on p at count from within = record { within = within; near = let n = p.near in omega (arith, n, from) }
+pub placed_on : {z : Scene} {s : Progress} → Placed z s → (at : ℕ) → s.at ≤ at → at ≤ length z.text → Placed z (further s at s.to)
+placed_on p at from within = record { within = within; near = let n = p.near in omega (arith, n, from) }
 
 -- Brackets of its own are due nowhere in brackets.
 pub own_due : (own : Bool) → own ≡ true → same own false ≡ false
@@ -62,7 +62,7 @@ module _ {z : Scene} {work : Work} {s : Progress} {h : Hand} {q : reader.Purpose
 
   purpose_is : {k : List Entry} {p : Purpose} {a : Shown (ProofTerm Name)} → GivesTo k (in_bracket p) a z work s h (Bracket q) → q ≡ purpose_after (entries_marks k) p
   unfolding entry_after
-  purpose_is g = let seen = table_names z.names z.text s.count in let top = g.top (number_in seen) (extends_itself seen) in cc
+  purpose_is g = let seen = table_names z.names z.text in let top = g.top (number_in seen) (extends_itself seen) in cc
 
   module _ (bare : h.own ≡ false) where
     comes_bare : {k : List Entry} {p : Purpose} {a : Shown (ProofTerm Name)} → GivesTo k (in_bracket p) a z work s h (Bracket q)
@@ -73,13 +73,13 @@ module _ {z : Scene} {work : Work} {s : Progress} {h : Hand} {q : reader.Purpose
     -- a comma follows
     module _ {comma : ℕ} (found : Expected (utf8 ", ") z.text s.at comma) {w : Part} (is : w ≡ record { root = s.used - 1; nest = h.nest; tally = h.tally }) where
       pair_opens : (k : List Entry) (p : Purpose) (a : Shown (ProofTerm Name)) → GivesTo k (in_bracket p) a z work s h (Bracket q)
-          → Opens k (second p a.shown) z work (further s comma s.count s.to) (Second q w)
+          → Opens k (second p a.shown) z work (further s comma s.to) (Second q w)
       unfolding entry_marks entry_records entry_after
       pair_opens k p a g =
           let ms = entries_marks k in
           let on = found.after in
           record {
-            placed = placed_on g.placed comma s.count (omega (arith, on)) found.within;
+            placed = placed_on g.placed comma (omega (arith, on)) found.within;
             deep = g.deep;
             met = (ms ++ purpose_marks p) ++ marks a.shown;
             records = λ number. (stack_records number k ++ purpose_records number ms p) ++ records_after number (ms ++ purpose_marks p) a.shown;
@@ -90,7 +90,7 @@ module _ {z : Scene} {work : Work} {s : Progress} {h : Hand} {q : reader.Purpose
           }
 
       pub bracket_opens : (after : Work) (r : Option reader_state.State) → Gives z work s h (Bracket q)
-          → MatchOption r (767 ≤ s.depth) (Entered (further s comma s.count s.to) (Second q w) work after)
+          → MatchOption r (767 ≤ s.depth) (Entered (further s comma s.to) (Second q w) work after)
           → MatchOption r (Refuses z) (Turned z after (left_at z.text s 2))
       unfolding left_at
       bracket_opens after r g enters = go (entry_for g) g.to
@@ -115,12 +115,12 @@ module _ {z : Scene} {work : Work} {s : Progress} {h : Hand} {q : reader.Purpose
 
       -- the bracket closes
       pub bracket_using : {end : ℕ} → Gives z work s h (Bracket q) → Expected (utf8 ")") z.text s.at end
-          → Using z work (further s end s.count s.to) (record h { own = true }) q
+          → Using z work (further s end s.to) (record h { own = true }) q
       unfolding entry_marks entry_records standing
       bracket_using {end} g found = closed (entry_for g) g.to
         where
           closed : {k : List Entry} {entry : Entry} {a : Shown (ProofTerm Name)} → StandsFor (Bracket q) entry → GivesTo k entry a z work s h (Bracket q)
-              → Using z work (further s end s.count s.to) (record h { own = true }) q
+              → Using z work (further s end s.to) (record h { own = true }) q
           closed {k} {a = a} (for_bracket {p = p}) g =
               let ms = entries_marks k in
               let on = found.after in
@@ -131,7 +131,7 @@ module _ {z : Scene} {work : Work} {s : Progress} {h : Hand} {q : reader.Purpose
                 term = standing true a.shown;
                 for = record {
                   comes = goes_on (expect (utf8 ")") (drop s.at z.text)) _ tt _ (comes_closing g) found.reads;
-                  placed = placed_on g.placed end s.count (omega (arith, on)) found.within;
+                  placed = placed_on g.placed end (omega (arith, on)) found.within;
                   deep = g.deep;
                   hand = record { form_is = hand.form_is; own = refl; nest = hand.nest; tally = hand.tally; shallow = hand.shallow };
                   purpose_is = purpose_is g;

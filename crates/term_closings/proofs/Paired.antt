@@ -53,7 +53,7 @@ deep_used k (as_body g) a s h = next_due _ a.own (wraps Strict body_of a.shown) 
 
 -- behind the closed bracket less is left
 pub pair_left : (z : Scene) {work after : Work} {s r : Progress} {h : Hand} {row : List ℕ} {end : ℕ} → Expected (utf8 ")") z.text s.at end
-    → MadeOf (further s end s.count s.to) row h work after r → left_after z r ≤ left_at z.text s 2
+    → MadeOf (further s end s.to) row h work after r → left_after z r ≤ left_at z.text s 2
 unfolding left_after left_at
 pair_left z found m = let on = found.after in rw m.is (omega (arith, on))
 
@@ -69,11 +69,11 @@ module _ {z : Scene} {work : Work} {s : Progress} {h : Hand} {q : reader.Purpose
   module _ {k : List Entry} {p : Purpose} {b : ProofTerm Name} {a : Shown (ProofTerm Name)} (g : GivesTo k (second p b) a z work s h (Second q f)) where
     purpose_is : q ≡ purpose_after (entries_marks k) p
     unfolding entry_after
-    purpose_is = let seen = table_names z.names z.text s.count in let top = g.top (number_in seen) (extends_itself seen) in cc
+    purpose_is = let seen = table_names z.names z.text in let top = g.top (number_in seen) (extends_itself seen) in cc
 
     first_is : f ≡ part_after (entries_marks k ++ purpose_marks p) b
     unfolding entry_after
-    first_is = let seen = table_names z.names z.text s.count in let top = g.top (number_in seen) (extends_itself seen) in cc
+    first_is = let seen = table_names z.names z.text in let top = g.top (number_in seen) (extends_itself seen) in cc
 
     nest_is : f.nest ≡ term_nesting b
     unfolding part_after
@@ -168,7 +168,7 @@ module _ {z : Scene} {work : Work} {s : Progress} {h : Hand} {q : reader.Purpose
           rw (g.stored.used_is, r, pair_tally g, append_assoc (entries_marks k) (purpose_marks p) (marks b)) refl
 
       pub pair_using : {after : Work} {r : Progress} → Gives z work s h (Second q f)
-          → MadeOf (further s end s.count s.to) (node_row (made.Pair f.root (s.used - 1)) (f.tally + h.tally)) (over Closed f.nest f.tally h) work after r
+          → MadeOf (further s end s.to) (node_row (made.Pair f.root (s.used - 1)) (f.tally + h.tally)) (over Closed f.nest f.tally h) work after r
           → Using z after r (over Closed f.nest f.tally h) q
       unfolding entry_marks entry_records records_after marks form as_form annotation_count node_row seven standing
       pair_using {after} {r} g m = using (entry_for g) g.to

@@ -6,6 +6,7 @@ use Rattle.definitions.specs.Code.{Reading, yield, ◌>>=◌}
 use Rattle.definitions.specs.TermReader.{name, expect}
 use Rattle.definitions.proofs.Readings.{given}
 use Rattle.reading_laws.proofs.TermConventions.{Gives}
+use Rattle.words.specs.declared.NameTable.{NameTable}
 use Rattle.words.specs.Table.{add_name, number_in, table_names, Noted}
 use Rattle.prop_parts.specs.declared.NameRead.{NameRead}
 use Rattle.atom_reader.specs.Scope.{Crowded}
@@ -22,17 +23,17 @@ branch what = do
   yield x
 
 -- the branch that begins there, and its name
-pub record BranchGiven (what text : List ℕ) (at : ℕ) (pairs : List ℕ) (count : ℕ) (after : List ℕ) (r : NameRead) (x : Name) : Type 0 where
+pub record BranchGiven (what text : List ℕ) (at : ℕ) (held after : NameTable) (r : NameRead) (x : Name) : Type 0 where
   pub within : r.end ≤ length text
   pub reads : branch what (drop at text) ≡ given x (drop r.end text)
-  pub noted : Noted (x ∷ []) text pairs count after r.count
-  pub number_is : r.number ≡ number_in (add_name (table_names pairs text count) x) x
+  pub noted : Noted (x ∷ []) text held after
+  pub number_is : r.number ≡ number_in (add_name (table_names held text) x) x
   pub from : at < r.end
-  pub below : r.number < r.count
+  pub below : r.number < after.count
 
 -- there is none, or one name too many
-abbrev pub BranchLacks : List ℕ → List ℕ → ℕ → List ℕ → ℕ → Type 0
-BranchLacks what text at pairs count = Gives (branch what (drop at text)) (λ x rest. Crowded (table_names pairs text count) (x ∷ []))
+abbrev pub BranchLacks : List ℕ → List ℕ → ℕ → NameTable → Type 0
+BranchLacks what text at held = Gives (branch what (drop at text)) (λ x rest. Crowded (table_names held text) (x ∷ []))
 
 -- what waits before a branch: the case for its head or, with the head and a name, for its first branch
 abbrev pub branch_entry : Option (Part × ℕ) → Entry

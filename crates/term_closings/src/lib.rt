@@ -23,7 +23,7 @@ use term_stack::{
     Entry, Hand, NO_ASCRIPTION, NO_FUNCTION, Part, Progress, Purpose, State, Work, close_case,
     close_function, close_let, due, enter, make, over, use_for, waiting,
 };
-use words::{argument_follows, expect};
+use words::{NameTable, argument_follows, expect};
 
 // As in `term_openings`, each function is lent the memories that it reads or writes and no others, so that its contract says what stays.
 
@@ -86,22 +86,15 @@ fn give_let(text: &[u8], work: &mut Work, s: Progress, hand: Hand, x: u16, y: u1
     enter(work, Progress { at: body, ..s }, entry)
 }
 
-// What stands before the branch of a case: this word, a name and an arrow. The branch begins at the end of what was read. The names and
-// their count are two parameters, as in `words`.
-fn read_branch(
-    text: &[u8],
-    at: usize,
-    word: &[u8],
-    names: &mut [u8],
-    count: usize,
-) -> Option<NameRead>
-    requires { Table names.old text.now count
+// What stands before the branch of a case: this word, a name and an arrow. The branch begins at the end of what was read.
+fn read_branch(text: &[u8], at: usize, word: &[u8], names: &mut NameTable) -> Option<NameRead>
+    requires { Table names.old text.now
         × (at ≤ length text.now) × (length text.now ≤ term_text_limit) }
-    ensures { MatchOption result (BranchLacks word.now text.now at names.old count)
-        (λ r. (x : Name) × BranchGiven word.now text.now at names.old count names.new r x) }
+    ensures { MatchOption result (BranchLacks word.now text.now at names.old)
+        (λ r. (x : Name) × BranchGiven word.now text.now at names.old names.new r x) }
 {
     let start = expect(text, at, word)?;
-    let name = read_name(text, start, names, count)?;
+    let name = read_name(text, start, names)?;
     let end = expect(text, name.end, b" => ")?;
     Some(NameRead { end, ..name })
 }
@@ -109,7 +102,7 @@ fn read_branch(
 // The head of a case is in hand or, where the head and the name behind it wait, its first branch: then the branch that follows.
 fn give_branch(
     text: &[u8],
-    names: &mut [u8],
+    names: &mut NameTable,
     work: &mut Work,
     s: Progress,
     hand: Hand,
@@ -124,10 +117,9 @@ fn give_branch(
         None => b" of inl ".as_slice(),
         Some(_) => b", inr ".as_slice(),
     };
-    let branch = read_branch(text, s.at, word, names, s.count)?;
+    let branch = read_branch(text, s.at, word, names)?;
     let behind = Progress {
         at: branch.end,
-        count: branch.count,
         ..s
     };
     let part = waiting(s, hand);
@@ -142,7 +134,7 @@ fn give_branch(
 // A whole term is in hand: takes the entry on top off the stack, and does what it waits for.
 pub fn give(
     text: &[u8],
-    names: &mut [u8],
+    names: &mut NameTable,
     work: &mut Work,
     s: Progress,
     hand: Hand,
@@ -172,7 +164,7 @@ pub fn give(
 fn ascribe(
     text: &[u8],
     types: &[u8],
-    names: &mut [u8],
+    names: &mut NameTable,
     code: &mut [u8],
     work: &mut Work,
     s: Progress,
@@ -187,10 +179,9 @@ fn ascribe(
         names.new code.new work.new result }
 {
     due(hand, NO_FUNCTION)?;
-    let read = read_label(text, at, types, names, s.count, code, s.to)?;
+    let read = read_label(text, at, types, names, code, s.to)?;
     let behind = Progress {
         at: read.end,
-        count: read.count,
         to: read.to,
         ..s
     };
@@ -206,7 +197,7 @@ fn ascribe(
 // An argument follows: a closed term, to which the term in hand is applied.
 fn argument(
     text: &[u8],
-    names: &mut [u8],
+    names: &mut NameTable,
     work: &mut Work,
     s: Progress,
     hand: Hand,
@@ -232,7 +223,7 @@ fn argument(
 pub fn chain(
     text: &[u8],
     types: &[u8],
-    names: &mut [u8],
+    names: &mut NameTable,
     code: &mut [u8],
     work: &mut Work,
     s: Progress,

@@ -19,7 +19,7 @@ use Rattle.reading_laws.specs.TermMachine as machine
 use Rattle.reading_laws.specs.TermMachine.{Entry, in_bracket, State, reading, and_then, used, closed_for}
 use Rattle.reading_laws.specs.Marks.{Mark, called, node, marks, purpose_marks, entry_marks, entries_marks, names_met}
 use Rattle.reading_laws.proofs.MarksMet.{begins_by, begins_all, after_used}
-use Rattle.words.specs.declared.Numbered.{Numbered}
+use Rattle.words.specs.declared.NameTable.{NameTable}
 use Rattle.words.specs.Places.{between, WordEnds, NameEnds, Expected}
 use Rattle.words.specs.Table.{add_name, added, number_in, table_names, NamePlace, TooMany, NumberOf}
 use Rattle.words.proofs.Added.{met_added}
@@ -43,9 +43,9 @@ use Rattle.term_stack.proofs.Stores.{stored_as}
 use Rattle.term_openings.specs.Beginning.{Closed, Wordless}
 use Rattle.term_openings.proofs.Noting.{noting, stored_name, crowded_met, many_names}
 
--- the same, further on in the text, the names and the labels' code
-abbrev pub further : Progress → ℕ → ℕ → ℕ → Progress
-further s at count to = record s { at = at; count = count; to = to }
+-- the same, further on in the text and the labels' code
+abbrev pub further : Progress → ℕ → ℕ → Progress
+further s at to = record s { at = at; to = to }
 
 -- what is nearer to the end than this is nearer than what lies before it
 pub turned_within : {z : Scene} {work : Work} {left more : ℕ} {r : reader_state.State} → Turned z work left r → left ≤ more → Turned z work more r
@@ -91,8 +91,8 @@ module _ {z : Scene} {work : Work} {s : Progress} {q : Purpose} (c : Closed z wo
   abbrev before : List Mark
   before = entries_marks c.entries ++ purpose_marks c.purpose
 
-  placed_at : (end count : ℕ) → s.at ≤ end → end ≤ length z.text → Placed z (further s end count s.to)
-  placed_at end count from within = record { within = within; near = let n = c.for.placed.near in omega (arith, n, from) }
+  placed_at : (end : ℕ) → s.at ≤ end → end ≤ length z.text → Placed z (further s end s.to)
+  placed_at end from within = record { within = within; near = let n = c.for.placed.near in omega (arith, n, from) }
 
   pub name_place : {end : ℕ} → NameEnds z.text s.at end → NamePlace z.text s.at end
   name_place ends = record { short = c.for.comes.reached.short; some = ends.from; few = ends.short; within = ends.within }
@@ -104,7 +104,7 @@ module _ {z : Scene} {work : Work} {s : Progress} {q : Purpose} (c : Closed z wo
     name_comes = reads_on (name (drop s.at z.text)) _ _ (between s.at end z.text) (drop end z.text) c.for.comes ends.reads
 
     -- is one too many
-    pub name_full : TooMany (between s.at end z.text) z.text z.names s.count → Refuses z
+    pub name_full : TooMany (between s.at end z.text) z.text z.names → Refuses z
     unfolding standing marks names_met added
     name_full h =
         let x = between s.at end z.text in
@@ -114,8 +114,8 @@ module _ {z : Scene} {work : Work} {s : Progress} {q : Purpose} (c : Closed z wo
         (after_used ms c.entries c.purpose (standing false (Ident x)) (drop end z.text)
         (begins_by ms (node ∷ []) (begins_all ms) (simp append_assoc))))
 
-    pub name_leaf : {after : List ℕ} {n : Numbered} → NumberOf (between s.at end z.text) z.text z.names s.count after n
-        → Leaf (noting z after z.code) work (further s end n.count s.to) (made.Ident n.number) q
+    pub name_leaf : {after : NameTable} {n : ℕ} → NumberOf (between s.at end z.text) z.text z.names after n
+        → Leaf (noting z after z.code) work (further s end s.to) (made.Ident n) q
     unfolding noting standing marks records_after added form term_nesting annotation_count node_row seven
     name_leaf {n = n} number =
         let x = between s.at end z.text in
@@ -125,12 +125,12 @@ module _ {z : Scene} {work : Work} {s : Progress} {q : Purpose} (c : Closed z wo
           term = Ident x;
           names = called x ∷ [];
           comes = name_comes;
-          placed = let p = placed_at end n.count (let f = ends.from in omega (arith, f)) ends.within in record { within = p.within; near = p.near };
+          placed = let p = placed_at end (let f = ends.from in omega (arith, f)) ends.within in record { within = p.within; near = p.near };
           deep = c.for.deep;
           purpose_is = c.for.purpose_is;
           stored = stored_as (stored_name x c.for.stored number.noted) (append_assoc (entries_marks c.entries) (purpose_marks c.purpose) (called x ∷ [])) (λ numbers. refl);
           marks_are = refl;
-          row_is = λ numbers e. let is = number_noted x (table_names z.names z.text s.count) [] _ numbers number.noted.names number.number_is e in rw is refl;
+          row_is = λ numbers e. let is = number_noted x (table_names z.names z.text) [] _ numbers number.noted.names number.number_is e in rw is refl;
           form_is = refl;
           nest_is = refl;
           tally_is = refl;
@@ -139,14 +139,14 @@ module _ {z : Scene} {work : Work} {s : Progress} {q : Purpose} (c : Closed z wo
   -- a leaf without a name
   bare_leaf : (t : ProofTerm Name) (leaf : Node) (end : ℕ) → Comes z.types z.text (used c.entries c.purpose (standing false t) (drop end z.text))
       → s.at ≤ end → end ≤ length z.text → marks t ≡ node ∷ [] → ((number : Name → ℕ) → node_row leaf 0 ≡ records_after number before t)
-      → form t ≡ closed → term_nesting t ≡ 1 → annotation_count t ≡ 0 → Leaf z work (further s end s.count s.to) leaf q
+      → form t ≡ closed → term_nesting t ≡ 1 → annotation_count t ≡ 0 → Leaf z work (further s end s.to) leaf q
   bare_leaf t leaf end comes from within marks_are row_is form_is nest_is tally_is = record {
     entries = c.entries;
     purpose = c.purpose;
     term = t;
     names = [];
     comes = comes;
-    placed = placed_at end s.count from within;
+    placed = placed_at end from within;
     deep = c.for.deep;
     purpose_is = c.for.purpose_is;
     stored = stored_as c.for.stored (rw (append-nil (purpose_marks c.purpose)) refl) (λ number. refl);
@@ -158,7 +158,7 @@ module _ {z : Scene} {work : Work} {s : Progress} {q : Purpose} (c : Closed z wo
   }
 
   pub sorry_leaf : {end : ℕ} → name (drop s.at z.text) ≡ None → is_sorry (start_of (word (drop s.at z.text)).value) ≡ true
-      → WordEnds z.text s.at end → Leaf z work (further s end s.count s.to) made.Sorry q
+      → WordEnds z.text s.at end → Leaf z work (further s end s.to) made.Sorry q
   unfolding closed_for marks records_after form term_nesting annotation_count node_row
   sorry_leaf {end} no_name is ends =
       let rest : (word (drop s.at z.text)).rest ≡ drop end z.text = ap (λ w. w.rest) ends.is in
@@ -178,17 +178,17 @@ module _ {z : Scene} {work : Work} {s : Progress} {q : Purpose} (c : Closed z wo
       opened_comes : Comes z.types z.text (opening c.entries c.purpose tt (drop inside z.text))
       opened_comes = goes_on (expect (utf8 "(") (drop s.at z.text)) (opening c.entries c.purpose) tt (drop inside z.text) bracket_comes bracket.reads
 
-      pub unit_leaf : {end : ℕ} → Expected (utf8 ")") z.text inside end → Leaf z work (further s end s.count s.to) made.Unit q
+      pub unit_leaf : {end : ℕ} → Expected (utf8 ")") z.text inside end → Leaf z work (further s end s.to) made.Unit q
       unfolding opening marks records_after form term_nesting annotation_count node_row
       unit_leaf {end} close =
           bare_leaf Unit made.Unit end (reads_on (expect (utf8 ")") (drop inside z.text)) _ _ tt (drop end z.text) opened_comes close.reads)
           (let a = bracket.after in let b = close.after in omega (arith, a, b)) close.within refl (λ number. refl) refl refl refl
 
-      pub bracket_opens : Opens c.entries (in_bracket c.purpose) z work (further s inside s.count s.to)
+      pub bracket_opens : Opens c.entries (in_bracket c.purpose) z work (further s inside s.to)
           (Bracket q)
       unfolding entry_marks entry_records entry_after
       bracket_opens = record {
-        placed = placed_at inside s.count (let a = bracket.after in omega (arith, a)) bracket.within;
+        placed = placed_at inside (let a = bracket.after in omega (arith, a)) bracket.within;
         deep = c.for.deep;
         met = before;
         records = λ number. stack_records number c.entries ++ purpose_records number (entries_marks c.entries) c.purpose;

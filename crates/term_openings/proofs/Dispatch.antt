@@ -82,7 +82,7 @@ module _ {z : Scene} {work : Work} {s : Progress} {end : ℕ} {r : Start} (at : 
   unfolding turn
   turns_by = rw (ends.is, meant_is (start_of (between s.at end z.text)) is) refl
 
-  pub started_by : (first : reader.Start) → meant r ≡ first → Started first z work (further s end s.count s.to)
+  pub started_by : (first : reader.Start) → meant r ≡ first → Started first z work (further s end s.to)
   started_by first e = record {
     entries = at.entries;
     whole = drop s.at z.text;
@@ -114,7 +114,7 @@ module _ {z : Scene} {work : Work} {s : Progress} {end : ℕ} {r : Start} (at : 
 
 -- what lies behind the word is nearer to the end
 pub ends_from : (z : Scene) (work : Work) (s : Progress) (end : ℕ) (r : Option reader_state.State)
-    → MatchOption r (Refuses z) (Turned z work (left_at z.text (further s end s.count s.to) 0)) → s.at ≤ end
+    → MatchOption r (Refuses z) (Turned z work (left_at z.text (further s end s.to) 0)) → s.at ≤ end
     → MatchOption r (Refuses z) (Turned z work (left_at z.text s 0))
 unfolding left_at
 ends_from z work s end r t from = ends_within z work _ _ r t (omega arith)

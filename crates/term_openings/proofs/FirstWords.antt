@@ -15,6 +15,7 @@ use Rattle.reading_laws.specs.TermMachine.{as_body, Entry, case_head, let_head, 
 use Rattle.reading_laws.specs.Marks.{Mark, called, purpose_marks, entry_marks, entries_marks, met, names_met}
 use Rattle.reading_laws.proofs.OnTheWay.{Fits}
 use Rattle.reading_laws.proofs.Turns.{Next, next_then, next_after}
+use Rattle.words.specs.declared.NameTable.{NameTable}
 use Rattle.words.specs.Places.{between, Expected}
 use Rattle.words.specs.Table.{added, table_names}
 use Rattle.prop_parts.specs.declared.NameRead as reader
@@ -50,7 +51,7 @@ module _ {z : Scene} {work : Work} {s : Progress} (c : Started case_word z work 
     unfolding start
     case_comes = goes_on (expect (utf8 " ") (drop s.at z.text)) _ tt (drop head z.text) c.comes blank.reads
 
-    pub case_opens : Opens c.entries case_head z work (further s head s.count s.to) CaseHead
+    pub case_opens : Opens c.entries case_head z work (further s head s.to) CaseHead
     unfolding entry_marks entry_records entry_after
     case_opens = record {
       placed = record { within = blank.within; near = let n = c.placed.near in let a = blank.after in omega (arith, n, a) };
@@ -70,7 +71,7 @@ module _ {z : Scene} {work : Work} {s : Progress} {function : program.NamedFunct
   body_not e = ends_here (expect (utf8 " ") (drop s.at z.text)) _ c.started.comes e
 
   pub body_closed : {body : ℕ} → Expected (utf8 " ") z.text s.at body
-      → Closed z work (further s body s.count s.to) (Body function)
+      → Closed z work (further s body s.to) (Body function)
   unfolding start purpose_marks purpose_records purpose_after
   body_closed {body} blank = let t = c.started in record {
     entries = t.entries;
@@ -85,16 +86,16 @@ module _ {z : Scene} {work : Work} {s : Progress} {function : program.NamedFunct
   }
 
 -- A name after some bytes.
-pub bytes_not : (what text pairs : List ℕ) (at count : ℕ) → expect what (drop at text) ≡ None → NameLacksAfter what text at pairs count
-bytes_not what text pairs at count e = λ t x rest front there. absurd (none-some _ (sym e ∙ front))
+pub bytes_not : (what text : List ℕ) (held : NameTable) (at : ℕ) → expect what (drop at text) ≡ None → NameLacksAfter what text at held
+bytes_not what text held at e = λ t x rest front there. absurd (none-some _ (sym e ∙ front))
 
-module _ {what text : List ℕ} {at start : ℕ} (pairs : List ℕ) (count : ℕ) (expected : Expected what text at start) where
-  name_lacks : NameLacks text start pairs count → NameLacksAfter what text at pairs count
+module _ {what text : List ℕ} {at start : ℕ} (held : NameTable) (expected : Expected what text at start) where
+  name_lacks : NameLacks text start held → NameLacksAfter what text at held
   name_lacks lacks t x rest before there =
       let same : t ≡ drop start text = ap (λ (r : Read (Prim.Unit {0})). r.rest) (same_Some _ _ (sym before ∙ expected.reads)) in
       lacks (record { value = x; rest = rest }) (rw same at there)
 
-  name_there : {after : List ℕ} {r : reader.NameRead} → NameGiven text start pairs count after r → ThereIs (NameThere what text at pairs count after r)
+  name_there : {after : NameTable} {r : reader.NameRead} → NameGiven text start held after r → ThereIs (NameThere what text at held after r)
   name_there {r = r} read =
       let place : start ≡ at + length what = expected.after in
       record {
@@ -110,21 +111,21 @@ module _ {what text : List ℕ} {at start : ℕ} (pairs : List ℕ) (count : ℕ
         };
       }
 
-  pub name_after : (after : List ℕ) (r : Option reader.NameRead) → MatchOption r (NameLacks text start pairs count) (NameGiven text start pairs count after)
-      → MatchOption r (NameLacksAfter what text at pairs count) (λ r. ThereIs (NameThere what text at pairs count after r))
+  pub name_after : (after : NameTable) (r : Option reader.NameRead) → MatchOption r (NameLacks text start held) (NameGiven text start held after)
+      → MatchOption r (NameLacksAfter what text at held) (λ r. ThereIs (NameThere what text at held after r))
   name_after after None lacks = name_lacks lacks
   name_after after (Some r) read = name_there read
 
 -- the machine goes on behind the name, or there are too many names
-module _ (what : List ℕ) {text : List ℕ} (pairs : List ℕ) (at count : ℕ) {types : List Name} (next : Name → List ℕ → Option State)
+module _ (what : List ℕ) {text : List ℕ} (held : NameTable) (at : ℕ) {types : List Name} (next : Name → List ℕ → Option State)
     (comes : Comes types text (and_then (expect what (drop at text)) (λ u t. and_then (name t) next))) where
-  pub name_on : {after : List ℕ} {r : reader.NameRead} {x : Name} → NameThere what text at pairs count after r x → Comes types text (next x (drop r.end text))
+  pub name_on : {after : NameTable} {r : reader.NameRead} {x : Name} → NameThere what text at held after r x → Comes types text (next x (drop r.end text))
   name_on {r = r} {x = x} there =
       goes_on (name (drop (at + length what) text)) next x (drop r.end text)
       (goes_on (expect what (drop at text)) (λ u t. and_then (name t) next) tt (drop (at + length what) text) comes there.expected) there.reads
 
-  pub name_not : NameLacksAfter what text at pairs count
-      → ((x : Name) (rest : List ℕ) → Crowded (table_names pairs text count) (x ∷ []) → Next (λ τ. Fits τ → ⊥) (next x rest))
+  pub name_not : NameLacksAfter what text at held
+      → ((x : Name) (rest : List ℕ) → Crowded (table_names held text) (x ∷ []) → Next (λ τ. Fits τ → ⊥) (next x rest))
       → read_answer types text ≡ refuse 20 0
   unfolding added
   name_not lacks too_many =
@@ -135,8 +136,8 @@ module _ (what : List ℕ) {text : List ℕ} (pairs : List ℕ) (at count : ℕ)
       too_many x rest (lacks t x rest front there))
 
 -- an entry with too many names
-pub entry_crowded : {ms : List Mark} {records : (Name → ℕ) → List ℕ} {stack : (Name → ℕ) → List stacked.Entry} {z : Scene} {work : Work} {used depth count to : ℕ}
-    → Stored ms records stack z work used depth count to → (more others : List Mark) → Crowded (table_names z.names z.text count) (names_met more)
+pub entry_crowded : {ms : List Mark} {records : (Name → ℕ) → List ℕ} {stack : (Name → ℕ) → List stacked.Entry} {z : Scene} {work : Work} {used depth to : ℕ}
+    → Stored ms records stack z work used depth to → (more others : List Mark) → Crowded (table_names z.names z.text) (names_met more)
     → (k : List Entry) (entry : Entry) (rest : List ℕ) → entries_marks (entry ∷ k) ≡ (ms ++ more) ++ others → Fits (reading (entry ∷ k) rest) → ⊥
 unfolding met
 entry_crowded {ms} st more others h k entry rest e =
@@ -147,42 +148,42 @@ unfoldable let_rest : List Entry → Name → Name → List ℕ → Option State
 let_rest k x y t = and_then (expect (utf8 ") = ") t) (λ u rest. Some (reading (let_head x y ∷ k) rest))
 
 module _ {z : Scene} {work : Work} {s : Progress} (c : Started let_word z work s) where
-  pub first_not : NameLacksAfter (utf8 " (") z.text s.at z.names s.count → Refuses z
+  pub first_not : NameLacksAfter (utf8 " (") z.text s.at z.names → Refuses z
   unfolding start Next entries_marks entry_marks names_met added
   first_not lacks =
-      name_not (utf8 " (") z.names s.at s.count _ c.comes lacks λ x rest crowded.
+      name_not (utf8 " (") z.names s.at _ c.comes lacks λ x rest crowded.
       next_after (λ τ. Fits τ → ⊥) (utf8 ", ") rest _ λ s₁ e₁.
       next_then (λ τ. Fits τ → ⊥) (λ y t. Prim.Unit {0}) (name s₁) _ (gives_any (name s₁)) λ y s₂ u.
       next_after (λ τ. Fits τ → ⊥) (utf8 ") = ") s₂ _ λ s₃ e₃.
       entry_crowded c.stored (called x ∷ []) (called y ∷ []) crowded c.entries (let_head x y) s₃
       (sym (append_assoc (entries_marks c.entries) (called x ∷ []) (called y ∷ [])))
 
-  module _ {after : List ℕ} {first : reader.NameRead} (one : ThereIs (NameThere (utf8 " (") z.text s.at z.names s.count after first)) where
+  module _ {after : NameTable} {first : reader.NameRead} (one : ThereIs (NameThere (utf8 " (") z.text s.at z.names after first)) where
     abbrev x : Name
     x = one.value
 
     first_comes : Comes z.types z.text (and_then (expect (utf8 ", ") (drop first.end z.text)) (λ u t. and_then (name t) (let_rest c.entries x)))
     unfolding start let_rest
-    first_comes = name_on (utf8 " (") z.names s.at s.count _ c.comes one.holds
+    first_comes = name_on (utf8 " (") z.names s.at _ c.comes one.holds
 
     abbrev named_once : Stored (entries_marks c.entries ++ (called x ∷ [])) (λ number. stack_records number c.entries) (λ number. stack_of number c.entries)
-        (noting z after z.code) work s.used s.depth first.count s.to
+        (noting z after z.code) work s.used s.depth s.to
     named_once = stored_name x c.stored one.holds.noted
 
-    pub second_not : NameLacksAfter (utf8 ", ") z.text first.end after first.count → Refuses z
+    pub second_not : NameLacksAfter (utf8 ", ") z.text first.end after → Refuses z
     unfolding let_rest noting Next entries_marks entry_marks names_met added
     second_not lacks =
-        name_not (utf8 ", ") after first.end first.count (let_rest c.entries x) first_comes lacks λ y rest crowded.
+        name_not (utf8 ", ") after first.end (let_rest c.entries x) first_comes lacks λ y rest crowded.
         next_after (λ τ. Fits τ → ⊥) (utf8 ") = ") rest _ λ s₁ e₁.
         entry_crowded named_once (called y ∷ []) [] crowded c.entries (let_head x y) s₁
         (sym (append-nil ((entries_marks c.entries ++ (called x ∷ [])) ++ (called y ∷ [])) ∙ append_assoc (entries_marks c.entries) (called x ∷ []) (called y ∷ [])))
 
-    module _ {after' : List ℕ} {second : reader.NameRead} (two : ThereIs (NameThere (utf8 ", ") z.text first.end after first.count after' second)) where
+    module _ {after' : NameTable} {second : reader.NameRead} (two : ThereIs (NameThere (utf8 ", ") z.text first.end after after' second)) where
       abbrev y : Name
       y = two.value
 
       second_comes : Comes z.types z.text (let_rest c.entries x y (drop second.end z.text))
-      second_comes = name_on (utf8 ", ") after first.end first.count (let_rest c.entries x) first_comes two.holds
+      second_comes = name_on (utf8 ", ") after first.end (let_rest c.entries x) first_comes two.holds
 
       pub let_not : expect (utf8 ") = ") (drop second.end z.text) ≡ None → Refuses z
       unfolding let_rest
@@ -196,12 +197,12 @@ module _ {z : Scene} {work : Work} {s : Progress} (c : Started let_word z work s
         pub let_long : s.at < head
         let_long = let f = one.holds.from in let g = two.holds.from in let a = bracket.after in omega (arith, f, g, a)
 
-        pub let_opens : Opens c.entries (let_head x y) (noting z after' z.code) work (further s head second.count s.to)
+        pub let_opens : Opens c.entries (let_head x y) (noting z after' z.code) work (further s head s.to)
             (LetHead first.number second.number)
         unfolding noting entry_marks entry_records entry_after added
         let_opens =
             let k = entries_marks c.entries in
-            let seen = table_names z.names z.text s.count in
+            let seen = table_names z.names z.text in
             let once = one.holds in
             let twice = two.holds in
             record {
@@ -214,6 +215,6 @@ module _ {z : Scene} {work : Work} {s : Progress} (c : Started let_word z work s
               records_are = λ number. sym (append-nil (stack_records number c.entries));
               entry_is = λ number e.
                   let a = number_noted x seen (y ∷ []) _ number (twice.noted.names ∙ ap (λ l. added l (y ∷ [])) once.noted.names) once.number_is e in
-                  let b = number_noted y (table_names after z.text first.count) [] _ number twice.noted.names twice.number_is e in
+                  let b = number_noted y (table_names after z.text) [] _ number twice.noted.names twice.number_is e in
                   cc (a, b);
             }

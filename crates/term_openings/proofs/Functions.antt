@@ -18,6 +18,7 @@ use Rattle.reading_laws.specs.Marks.{Mark, called, labelled, label_marks, entry_
 use Rattle.reading_laws.proofs.OnTheWay.{Fits}
 use Rattle.reading_laws.proofs.TermAnswer.{both}
 use Rattle.reading_laws.proofs.Turns.{Next, next_then, next_after}
+use Rattle.words.specs.declared.NameTable.{NameTable}
 use Rattle.words.specs.Places.{Expected}
 use Rattle.words.specs.Table.{added, table_names}
 use Rattle.prop_parts.specs.declared.NameRead.{NameRead}
@@ -65,18 +66,18 @@ marks_limited None h = refl
 marks_limited (Some l) h = both h refl
 
 -- what is stored with it
-stored_label : {ms : List Mark} {records : (Name → ℕ) → List ℕ} {stack : (Name → ℕ) → List stacked.Entry} {z : Scene} {work : Work} {used depth count to at : ℕ} {types : List Name}
-    {after code : List ℕ} {r : LabelRead (Option numbered.Label)} {l : Option (Label Name)} → Stored ms records stack z work used depth count to
-    → ParameterGiven z.text at types z.names count z.code to after code r l
-    → Stored (ms ++ label_marks l) records stack (noting z after code) work used depth r.count r.to
+stored_label : {ms : List Mark} {records : (Name → ℕ) → List ℕ} {stack : (Name → ℕ) → List stacked.Entry} {z : Scene} {work : Work} {used depth to at : ℕ} {types : List Name}
+    {after : NameTable} {code : List ℕ} {r : LabelRead (Option numbered.Label)} {l : Option (Label Name)} → Stored ms records stack z work used depth to
+    → ParameterGiven z.text at types z.names z.code to after code r l
+    → Stored (ms ++ label_marks l) records stack (noting z after code) work used depth r.to
 unfolding code_met
 stored_label {l = l} st g =
     stored_met (label_marks l) st (rw (label_names_lem l) g.noted) (label_nodes l) (marks_limited l g.limited) (rw (label_marks_lem l) g.to_is)
     (λ number e. rw (label_marks_lem l) (g.stored number e))
 
 -- a parameter whose label passes the limits
-unfit_parameter : {ms : List Mark} {records : (Name → ℕ) → List ℕ} {stack : (Name → ℕ) → List stacked.Entry} {z : Scene} {work : Work} {used depth count to : ℕ}
-    → Stored ms records stack z work used depth count to → (l : Option (Label Name)) → fits_parameter (table_names z.names z.text count) l ≡ false
+unfit_parameter : {ms : List Mark} {records : (Name → ℕ) → List ℕ} {stack : (Name → ℕ) → List stacked.Entry} {z : Scene} {work : Work} {used depth to : ℕ}
+    → Stored ms records stack z work used depth to → (l : Option (Label Name)) → fits_parameter (table_names z.names z.text) l ≡ false
     → (k : List Entry) (entry : Entry) (rest : List ℕ) → entries_marks (entry ∷ k) ≡ ms ++ label_marks l → Fits (reading (entry ∷ k) rest) → ⊥
 unfolding fits_parameter label_marks met
 unfit_parameter st None h k entry rest e = absurd (true≢false h)
@@ -95,24 +96,24 @@ module _ {z : Scene} {work : Work} {s : Progress} (c : Started fn_word z work s)
   unfolding start label_rest body_rest
   parameter_comes = c.comes
 
-  pub parameter_not : NameLacksAfter (utf8 " ") z.text s.at z.names s.count → Refuses z
+  pub parameter_not : NameLacksAfter (utf8 " ") z.text s.at z.names → Refuses z
   unfolding label_rest body_rest Next entries_marks entry_marks names_met added
   parameter_not lacks =
-      name_not (utf8 " ") z.names s.at s.count (label_rest z.types c.entries) parameter_comes lacks λ x rest crowded.
+      name_not (utf8 " ") z.names s.at (label_rest z.types c.entries) parameter_comes lacks λ x rest crowded.
       next_then (λ τ. Fits τ → ⊥) (λ l t. Prim.Unit {0}) (parameter_label z.types prop_levels rest) _ (gives_any (parameter_label z.types prop_levels rest)) λ l s₁ u.
       next_after (λ τ. Fits τ → ⊥) (utf8 " => ") s₁ _ λ s₂ e₂.
       entry_crowded c.stored (called x ∷ []) (label_marks l) crowded c.entries (function_body x l) s₂
       (sym (append_assoc (entries_marks c.entries) (called x ∷ []) (label_marks l)))
 
-  module _ {after : List ℕ} {named : NameRead} (one : ThereIs (NameThere (utf8 " ") z.text s.at z.names s.count after named)) where
+  module _ {after : NameTable} {named : NameRead} (one : ThereIs (NameThere (utf8 " ") z.text s.at z.names after named)) where
     abbrev x : Name
     x = one.value
 
     abbrev with_name : Stored (entries_marks c.entries ++ (called x ∷ [])) (λ number. stack_records number c.entries) (λ number. stack_of number c.entries)
-        (noting z after z.code) work s.used s.depth named.count s.to
+        (noting z after z.code) work s.used s.depth s.to
     with_name = stored_name x c.stored one.holds.noted
 
-    pub label_place : LabelBegins z.text named.end after named.count s.to
+    pub label_place : LabelBegins z.text named.end after s.to
     unfolding code_met
     label_place = record {
       short = c.comes.reached.short;
@@ -123,9 +124,9 @@ module _ {z : Scene} {work : Work} {s : Progress} (c : Started fn_word z work s)
     }
 
     label_comes : Comes z.types z.text (label_rest z.types c.entries x (drop named.end z.text))
-    label_comes = name_on (utf8 " ") z.names s.at s.count (label_rest z.types c.entries) parameter_comes one.holds
+    label_comes = name_on (utf8 " ") z.names s.at (label_rest z.types c.entries) parameter_comes one.holds
 
-    pub label_not : ParameterLacks z.text named.end z.types after named.count → Refuses z
+    pub label_not : ParameterLacks z.text named.end z.types after → Refuses z
     unfolding label_rest body_rest noting Next entries_marks entry_marks
     label_not lacks =
         let reading-of = parameter_label z.types prop_levels (drop named.end z.text) in
@@ -135,8 +136,8 @@ module _ {z : Scene} {work : Work} {s : Progress} (c : Started fn_word z work s)
         unfit_parameter with_name l (lacks l rest there) c.entries (function_body x l) s₁
         (sym (append_assoc (entries_marks c.entries) (called x ∷ []) (label_marks l))))
 
-    module _ {after' code' : List ℕ} {label : LabelRead (Option numbered.Label)}
-        (two : ThereIs (ParameterGiven z.text named.end z.types after named.count z.code s.to after' code' label)) where
+    module _ {after' : NameTable} {code' : List ℕ} {label : LabelRead (Option numbered.Label)}
+        (two : ThereIs (ParameterGiven z.text named.end z.types after z.code s.to after' code' label)) where
       abbrev l : Option (Label Name)
       l = two.value
 
@@ -159,7 +160,7 @@ module _ {z : Scene} {work : Work} {s : Progress} (c : Started fn_word z work s)
         function_long =
             let f = one.holds.from in let g = two.holds.from in let a = arrow.after in omega (arith, f, g, a)
 
-        pub function_opens : Opens c.entries (function_body x l) (noting z after' code') work (further s body label.count label.to)
+        pub function_opens : Opens c.entries (function_body x l) (noting z after' code') work (further s body label.to)
             (FunctionBody named.number label.label)
         unfolding noting entry_marks entry_records entry_after
         function_opens =
@@ -178,7 +179,7 @@ module _ {z : Scene} {work : Work} {s : Progress} (c : Started fn_word z work s)
               marks_are = append_assoc k (called x ∷ []) (label_marks l);
               records_are = λ number. sym (append-nil (stack_records number c.entries));
               entry_is = λ number e.
-                  let a = number_noted x (table_names z.names z.text s.count) (parameter_label_names l) _ number
+                  let a = number_noted x (table_names z.names z.text) (parameter_label_names l) _ number
                   (twice.noted.names ∙ ap (λ seen. added seen (parameter_label_names l)) once.noted.names) once.number_is e in
                   let to_is : s.to ≡ code_met (k ++ (called x ∷ [])) = c.stored.to_is ∙ sym (code_called k x) in
                   let b : label.label ≡ numbered_parameter number (code_met (k ++ (called x ∷ []))) l =

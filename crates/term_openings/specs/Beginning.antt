@@ -7,6 +7,7 @@ use Rattle.definitions.proofs.Readings.{given}
 use Rattle.reading_laws.specs.TermMachine as machine
 use Rattle.reading_laws.specs.TermMachine.{Entry, closed_for, start}
 use Rattle.reading_laws.specs.Marks.{purpose_marks, entries_marks}
+use Rattle.words.specs.declared.NameTable.{NameTable}
 use Rattle.words.specs.Table.{add_name, number_in, table_names, TooMany, Noted}
 use Rattle.prop_parts.specs.declared.NameRead as reader
 use Rattle.words.specs.declared.NamedFunction as program
@@ -28,7 +29,7 @@ pub record ClosedFor (entries : List Entry) (purpose : machine.Purpose) (z : Sce
   pub purpose_is : q ≡ purpose_after (entries_marks entries) purpose
   pub stored :
       Stored (entries_marks entries ++ purpose_marks purpose) (λ number. stack_records number entries ++ purpose_records number (entries_marks entries) purpose)
-      (λ number. stack_of number entries) z work s.used s.depth s.count s.to
+      (λ number. stack_of number entries) z work s.used s.depth s.to
 
 pub record Closed (z : Scene) (work : Work) (s : Progress) (q : Purpose) : Type 0 where
   pub entries : List Entry
@@ -51,7 +52,7 @@ pub record Started (first : Start) (z : Scene) (work : Work) (s : Progress) : Ty
   pub placed : Placed z s
   pub deep : s.depth ≡ length entries
   pub stored :
-      Stored (entries_marks entries) (λ number. stack_records number entries) (λ number. stack_of number entries) z work s.used s.depth s.count s.to
+      Stored (entries_marks entries) (λ number. stack_records number entries) (λ number. stack_of number entries) z work s.used s.depth s.to
 
 -- the first word is that of a named function
 pub record AtCall (function : program.NamedFunction) (z : Scene) (work : Work) (s : Progress) : Type 0 where
@@ -60,26 +61,26 @@ pub record AtCall (function : program.NamedFunction) (z : Scene) (work : Work) (
   pub started : Started (call_word meant) z work s
 
 -- the name after these bytes, with its number
-pub record NameThere (what text : List ℕ) (at : ℕ) (pairs : List ℕ) (count : ℕ) (after : List ℕ) (r : reader.NameRead) (x : Name) : Type 0 where
+pub record NameThere (what text : List ℕ) (at : ℕ) (held after : NameTable) (r : reader.NameRead) (x : Name) : Type 0 where
   pub within : r.end ≤ length text
   pub expected : expect what (drop at text) ≡ given tt (drop (at + length what) text)
   pub reads : name (drop (at + length what) text) ≡ given x (drop r.end text)
   pub from : at + length what < r.end
-  pub noted : Noted (x ∷ []) text pairs count after r.count
-  pub number_is : r.number ≡ number_in (add_name (table_names pairs text count) x) x
-  pub below : r.number < r.count
+  pub noted : Noted (x ∷ []) text held after
+  pub number_is : r.number ≡ number_in (add_name (table_names held text) x) x
+  pub below : r.number < after.count
 
 -- there is none, or one too many
-abbrev pub NameLacksAfter : List ℕ → List ℕ → ℕ → List ℕ → ℕ → Type 0
-NameLacksAfter what text at pairs count =
-    (t : List ℕ) (x : Name) (rest : List ℕ) → expect what (drop at text) ≡ given tt t → name t ≡ given x rest → TooMany x text pairs count
+abbrev pub NameLacksAfter : List ℕ → List ℕ → ℕ → NameTable → Type 0
+NameLacksAfter what text at held =
+    (t : List ℕ) (x : Name) (rest : List ℕ) → expect what (drop at text) ≡ given tt t → name t ≡ given x rest → TooMany x text held
 
 -- Turns that leave the labels' code alone, or the names too: what they do not see may be anything.
 
 unfoldable pub with_text : Scene → List ℕ → Scene
 with_text z text = record { types = z.types; text = text; names = z.names; before = z.before; code = z.code }
 
-unfoldable pub with_names : Scene → List ℕ → List ℕ → Scene
+unfoldable pub with_names : Scene → List ℕ → NameTable → Scene
 with_names z text names = record { types = z.types; text = text; names = names; before = z.before; code = z.code }
 
 -- a turn that reads text
@@ -91,10 +92,10 @@ TextEnds At more text work s work' r =
     (z : Scene) → At (with_text z text) work s → MatchOption r (Refuses (with_text z text)) (Turned (with_text z text) work' (left_at text s more))
 
 -- a turn that reads text and names
-unfoldable pub NamesBegin : Standpoint → List ℕ → List ℕ → Work → Progress → Type 0
+unfoldable pub NamesBegin : Standpoint → List ℕ → NameTable → Work → Progress → Type 0
 NamesBegin At text names work s = ThereIs (λ (z : Scene). At (with_names z text names) work s)
 
-unfoldable pub NamesEnd : Standpoint → ℕ → List ℕ → List ℕ → Work → Progress → List ℕ → Work → Option State → Type 0
+unfoldable pub NamesEnd : Standpoint → ℕ → List ℕ → NameTable → Work → Progress → NameTable → Work → Option State → Type 0
 NamesEnd At more text names work s names' work' r =
     (z : Scene) → At (with_names z text names) work s
     → MatchOption r (Refuses (with_names z text names')) (Turned (with_names z text names') work' (left_at text s more))

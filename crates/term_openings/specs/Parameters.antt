@@ -6,6 +6,7 @@ use Rattle.definitions.specs.TermText.{parameter_label_names}
 use Rattle.definitions.specs.TermReader.{parameter_label, prop_levels, is_limited_parameter_label}
 use Rattle.definitions.specs.TermMemory.{parameter_labels, labels_size, store_labels}
 use Rattle.definitions.proofs.Readings.{given}
+use Rattle.words.specs.declared.NameTable.{NameTable}
 use Rattle.words.specs.Table.{table_names, Noted}
 use Rattle.proof_term.specs.declared.nodes.Label as numbered
 use Rattle.prop_reader.specs.declared.LabelRead.{LabelRead}
@@ -19,20 +20,20 @@ fits_parameter seen (Some l) = fits_label seen l
 
 -- the label that was read, or none, and what became of the names and the code
 pub record ParameterGiven
-    (text : List ℕ) (at : ℕ) (types : List Name) (pairs : List ℕ) (count : ℕ) (code : List ℕ) (to : ℕ) (after code' : List ℕ)
+    (text : List ℕ) (at : ℕ) (types : List Name) (held : NameTable) (code : List ℕ) (to : ℕ) (after : NameTable) (code' : List ℕ)
     (r : LabelRead (Option numbered.Label)) (l : Option (Label Name)) : Type 0 where
   pub within : r.end ≤ length text
   pub reads : parameter_label types prop_levels (drop at text) ≡ given l (drop r.end text)
   pub limited : is_limited_parameter_label l ≡ true
-  pub noted : Noted (parameter_label_names l) text pairs count after r.count
-  pub label_is : (number : Name → ℕ) → Extends number (table_names after text r.count) → r.label ≡ numbered_parameter number to l
-  pub stored : (number : Name → ℕ) → Extends number (table_names after text r.count) → code' ≡ store_labels number to (parameter_labels l) code
+  pub noted : Noted (parameter_label_names l) text held after
+  pub label_is : (number : Name → ℕ) → Extends number (table_names after text) → r.label ≡ numbered_parameter number to l
+  pub stored : (number : Name → ℕ) → Extends number (table_names after text) → code' ≡ store_labels number to (parameter_labels l) code
   pub to_is : r.to ≡ to + labels_size (parameter_labels l)
   pub from : at ≤ r.end
   pub near : r.to + 2 * at ≤ to + 2 * r.end
 
 -- there is a label past the limits, or none that can be read
-abbrev pub ParameterLacks : List ℕ → ℕ → List Name → List ℕ → ℕ → Type 0
-ParameterLacks text at types pairs count =
+abbrev pub ParameterLacks : List ℕ → ℕ → List Name → NameTable → Type 0
+ParameterLacks text at types held =
     (l : Option (Label Name)) (rest : List ℕ) → parameter_label types prop_levels (drop at text) ≡ given l rest
-    → fits_parameter (table_names pairs text count) l ≡ false
+    → fits_parameter (table_names held text) l ≡ false

@@ -17,7 +17,7 @@ use proof_term::{Label, Node};
 use prop_parts::{NameRead, read_name};
 use prop_reader::{LabelRead, read_label};
 use term_stack::{Entry, Progress, Purpose, State, Work, enter, use_leaf};
-use words::{NamedFunction, Start, expect, name_end, number_of_name, start_of, word_end};
+use words::{NameTable, NamedFunction, Start, expect, name_end, start_of, word_end};
 
 // Each function is lent the memories that it reads or writes and no others, so that its contract says of the others that they stay: over
 // a struct of text, list, names, code and work every clause would speak of all five. What a function asks of them together, as
@@ -26,7 +26,7 @@ use words::{NamedFunction, Start, expect, name_end, number_of_name, start_of, wo
 // A name as a closed term, from `s.at` to `end`, read for a purpose.
 fn name_for(
     text: &[u8],
-    names: &mut [u8],
+    names: &mut NameTable,
     work: &mut Work,
     s: Progress,
     end: usize,
@@ -37,14 +37,10 @@ fn name_for(
     ensures { NamesEnd (AtClosed p) 0 text.now names.old work.old s
         names.new work.new result }
 {
-    let name = number_of_name(text, s.at, end, names, s.count)?;
-    let behind = Progress {
-        at: end,
-        count: name.count,
-        ..s
-    };
+    let number = names.number_of_name(text, s.at, end)?;
+    let behind = Progress { at: end, ..s };
     let leaf = Node::Ident {
-        name: name.number as u16,
+        name: number as u16,
     };
     use_leaf(work, behind, leaf, p)
 }
@@ -66,7 +62,7 @@ fn open_for(text: &[u8], work: &mut Work, s: Progress, p: Purpose) -> Option<Sta
 // A closed term at `s.at`, read for a purpose: a name, `sorry`, unit, or a bracket that opens.
 pub fn closed_for(
     text: &[u8],
-    names: &mut [u8],
+    names: &mut NameTable,
     work: &mut Work,
     s: Progress,
     p: Purpose,
@@ -99,7 +95,7 @@ fn start_case(text: &[u8], work: &mut Work, s: Progress) -> Option<State>
 // alone.
 fn call(
     text: &[u8],
-    names: &mut [u8],
+    names: &mut NameTable,
     work: &mut Work,
     s: Progress,
     function: NamedFunction,
@@ -113,38 +109,27 @@ fn call(
     closed_for(text, names, work, behind, Purpose::Body(function))
 }
 
-// The name after these bytes at `at`, with its number. The names and their count are two parameters, as in `words`, whose fact `Table`
-// ties both to the text; so are the code and where it ends, below.
-fn name_after(
-    text: &[u8],
-    at: usize,
-    what: &[u8],
-    names: &mut [u8],
-    count: usize,
-) -> Option<NameRead>
-    requires { Table names.old text.now count
+// The name after these bytes at `at`, with its number.
+fn name_after(text: &[u8], at: usize, what: &[u8], names: &mut NameTable) -> Option<NameRead>
+    requires { Table names.old text.now
         × (at ≤ length text.now) × (length text.now ≤ term_text_limit) }
-    ensures { MatchOption result (NameLacksAfter what.now text.now at names.old count)
-        (λ r. ThereIs (NameThere what.now text.now at names.old count names.new r)) }
+    ensures { MatchOption result (NameLacksAfter what.now text.now at names.old)
+        (λ r. ThereIs (NameThere what.now text.now at names.old names.new r)) }
 {
     let start = expect(text, at, what)?;
-    read_name(text, start, names, count)
+    read_name(text, start, names)
 }
 
 // After `let`: two names in brackets, and then the head.
-fn start_let(text: &[u8], names: &mut [u8], work: &mut Work, s: Progress) -> Option<State>
+fn start_let(text: &[u8], names: &mut NameTable, work: &mut Work, s: Progress) -> Option<State>
     requires { NamesBegin (Started let_word) text.now names.old work.old s }
     ensures { NamesEnd (Started let_word) 0 text.now names.old work.old s
         names.new work.new result }
 {
-    let first = name_after(text, s.at, b" (", names, s.count)?;
-    let second = name_after(text, first.end, b", ", names, first.count)?;
+    let first = name_after(text, s.at, b" (", names)?;
+    let second = name_after(text, first.end, b", ", names)?;
     let head = expect(text, second.end, b") = ")?;
-    let behind = Progress {
-        at: head,
-        count: second.count,
-        ..s
-    };
+    let behind = Progress { at: head, ..s };
     let entry = Entry::LetHead(first.number as u16, second.number as u16);
     enter(work, behind, entry)
 }
@@ -154,29 +139,26 @@ fn parameter_label(
     text: &[u8],
     at: usize,
     types: &[u8],
-    names: &mut [u8],
-    count: usize,
+    names: &mut NameTable,
     code: &mut [u8],
     to: usize,
 ) -> Option<LabelRead<Option<Label>>>
-    requires { LabelBegins text.now at names.old count to }
-    ensures { MatchOption result (ParameterLacks text.now at (names_in types.now) names.old count)
-        (λ r. ThereIs (ParameterGiven text.now at (names_in types.now) names.old count
+    requires { LabelBegins text.now at names.old to }
+    ensures { MatchOption result (ParameterLacks text.now at (names_in types.now) names.old)
+        (λ r. ThereIs (ParameterGiven text.now at (names_in types.now) names.old
         code.old to names.new code.new r)) }
 {
     let Some(start) = expect(text, at, b": ") else {
         return Some(LabelRead {
             end: at,
             label: None,
-            count,
             to,
         });
     };
-    let read = read_label(text, start, types, names, count, code, to)?;
+    let read = read_label(text, start, types, names, code, to)?;
     Some(LabelRead {
         end: read.end,
         label: Some(read.label),
-        count: read.count,
         to: read.to,
     })
 }
@@ -185,7 +167,7 @@ fn parameter_label(
 fn start_function(
     text: &[u8],
     types: &[u8],
-    names: &mut [u8],
+    names: &mut NameTable,
     code: &mut [u8],
     work: &mut Work,
     s: Progress,
@@ -194,12 +176,11 @@ fn start_function(
     ensures { TurnEnds (Started fn_word) 0 types.now text.now names.old
         code.old work.old s names.new code.new work.new result }
 {
-    let name = name_after(text, s.at, b" ", names, s.count)?;
-    let read = parameter_label(text, name.end, types, names, name.count, code, s.to)?;
+    let name = name_after(text, s.at, b" ", names)?;
+    let read = parameter_label(text, name.end, types, names, code, s.to)?;
     let body = expect(text, read.end, b" => ")?;
     let behind = Progress {
         at: body,
-        count: read.count,
         to: read.to,
         ..s
     };
@@ -214,7 +195,7 @@ fn start_function(
 pub fn start(
     text: &[u8],
     types: &[u8],
-    names: &mut [u8],
+    names: &mut NameTable,
     code: &mut [u8],
     work: &mut Work,
     s: Progress,

@@ -42,15 +42,15 @@ module _ {term : Shown (ProofTerm Name)} {z : Scene} {work : Work} {s : Progress
   abbrev t : ProofTerm Name
   t = term.shown
 
-  names_are : table_names z.names z.text s.count ≡ added [] (term_names t)
+  names_are : table_names z.names z.text ≡ added [] (term_names t)
   unfolding entries_marks
   names_are = b.stored.names_are ∙ ap (added []) (names_met_lem t)
 
-  count_is : s.count ≡ length (different_names t)
+  count_is : z.names.count ≡ length (different_names t)
   unfolding different_names
-  count_is = sym (names_length z.names z.text s.count) ∙ (ap length names_are ∙ added_firsts (term_names t))
+  count_is = sym (names_length z.names z.text) ∙ (ap length names_are ∙ added_firsts (term_names t))
 
-  extends : Extends (place (different_names t)) (table_names z.names z.text s.count)
+  extends : Extends (place (different_names t)) (table_names z.names z.text)
   unfolding different_names
   extends = rw names_are (places_extend (term_names t))
 
@@ -58,11 +58,11 @@ module _ {term : Shown (ProofTerm Name)} {z : Scene} {work : Work} {s : Progress
   unfolding entries_marks
   used_is = b.stored.used_is ∙ nodes_met_lem t
 
-  in_order : reverse (table_names z.names z.text s.count) ≡ different_names t
+  in_order : reverse (table_names z.names z.text) ≡ different_names t
   unfolding different_names
   in_order = ap reverse names_are ∙ different_in_order (term_names t)
 
-  sizes : record { nodes = s.used; names = s.count; code = s.to; labels = h.tally } ≡ size_of t
+  sizes : record { nodes = s.used; names = z.names.count; code = s.to; labels = h.tally } ≡ size_of t
   unfolding entries_marks size_of
   sizes = rw (used_is, count_is, b.stored.to_is, code_met_lem t, b.hand.tally) refl
 
@@ -83,17 +83,18 @@ module _ {term : Shown (ProofTerm Name)} {z : Scene} {work : Work} {s : Progress
         last_accepted z.types z.text term (rw (drop_of_length-le z.text ends) at reached) (sym b.hand.own ∙ bare) fits
 
     whole : WholeTerm t z work
-    unfolding entries_marks term_records stack_records
+    unfolding entries_marks term_records stack_records table_names
     whole =
         let lies = b.stored.lies (place (different_names t)) extends in
         record {
           answer = answer;
           roomy = (b.stored.room, b.stored.places);
           few = let h = b.stored.few in omega (arith, used_is, h);
-          table = rw (← count_is) b.stored.table;
+          table = b.stored.table;
+          count_is = count_is;
           records_are = ap (λ n. take (7 * n) work.records) (sym used_is) ∙ (lies.records_are ∙ all_records (place (different_names t)) t);
           marks = λ i h.
-              sym (marked_in_order z.names z.text s.count i (omega (arith, count_is, h)))
+              sym (marked_in_order z.names.pairs z.text z.names.count i (omega (arith, count_is, h)))
               ∙ ap (λ l. get_or l i []) in_order;
           code_is = lies.code_is ∙ ap (λ ls. store_labels (place (different_names t)) 0 ls z.before) (labels_met_lem t);
         }
@@ -124,7 +125,7 @@ module _ (z : Scene) (work : Work) where
       let b = unwaited there.behind over in
       own_refused z.types z.text there.term (drop s.at z.text) b.reached (sym b.hand.own ∙ own)
 
-  given_term : (state : State) (size : TermSize) → AtState z work state → goes_on state ≡ false → Settled (length z.text) state size → Read z work size
+  given_term : (state : State) (size : TermSize) → AtState z work state → goes_on state ≡ false → Settled (length z.text) z.names.count state size → Read z work size
   unfolding AtState goes_on
   given_term (Reading s) size there over is = elim is [ ]
   given_term (Holding s h) size there over is = elim is [ ]
@@ -133,6 +134,6 @@ module _ (z : Scene) (work : Work) where
       record { term = there.term.shown; whole = whole b ends bare; size_is = sizes b }
 
   pub ended : (state : State) → AtState z work state → goes_on state ≡ false → (r : Option TermSize)
-      → MatchOption r (Unsettled (length z.text) state) (Settled (length z.text) state) → ReadEnds z work r
+      → MatchOption r (Unsettled (length z.text) state) (Settled (length z.text) z.names.count state) → ReadEnds z work r
   ended state there over None why = no_term state there over why
   ended state there over (Some size) is = given_term state size there over is

@@ -12,7 +12,6 @@ use Rattle.definitions.specs.declared.Style.TheVariants.{Strict}
 use Rattle.definitions.specs.Outcome.{Outcome, accepted, refuse, refuse_if, ◌>>=◌}
 use Rattle.definitions.specs.Name.{Name}
 use Rattle.definitions.specs.Sheet.{name_limit, pair_size}
-use Rattle.definitions.specs.NameIndex.{slot_count}
 use Rattle.definitions.specs.Term.{ProofTerm}
 use Rattle.definitions.specs.CallerNames.{names_in}
 use Rattle.definitions.specs.Display.{display_term}
@@ -22,7 +21,7 @@ use Rattle.definitions.specs.TermMemory.{different_names, record_numbers, TermRo
 use Rattle.reading_laws.specs.Restoring.{Restores}
 use Rattle.reading_laws.proofs.Restored.{restored}
 use Rattle.words.proofs.Numbers.{end_kept, marked_kept}
-use Rattle.words.specs.Table.{slot_size, slot_offset, table_size}
+use Rattle.words.specs.declared.NameTable.{NameTable}
 use Rattle.term_stack.specs.declared.Work.{Work}
 use Rattle.term_stack.specs.Standing.{Scene}
 use Rattle.term_stack.specs.Turning.{scene_of}
@@ -83,47 +82,47 @@ module _ {t : ProofTerm Name} {z : Scene} {work : Work} (w : WholeTerm t z work)
   count = length (different_names t)
 
   abbrev pairs : List ℕ
-  pairs = take (4 * count) z.names
+  pairs = take (4 * count) z.names.pairs
 
   names_handed : (names : List ℕ) → 4 * count ≤ length names → PairsOf (different_names t) z.text names (pairs ++ drop (4 * count) names)
-  unfolding pair_size table_size slot_offset slot_size slot_count name_limit
+  unfolding pair_size name_limit
   names_handed names fits =
       let room = w.table.room in
       let few = w.table.few in
-      let long : length pairs ≡ 4 * count = length-take-le (4 * count) z.names (omega (arith, room, few)) in
-      let kept : take (pair_size * count) (pairs ++ drop (4 * count) names) ≡ take (pair_size * count) z.names = take_at pairs (drop (4 * count) names) (4 * count) long in
+      let long : length pairs ≡ 4 * count = length-take-le (4 * count) z.names.pairs (omega (arith, room, few, w.count_is)) in
+      let kept : take (pair_size * count) (pairs ++ drop (4 * count) names) ≡ take (pair_size * count) z.names.pairs = take_at pairs (drop (4 * count) names) (4 * count) long in
       record {
         same =
             let l = length-append pairs (drop (4 * count) names) in
             let d = length-drop (4 * count) names in
             omega (arith, l, d, long, fits);
-        marks = λ i h. marked_kept z.names (pairs ++ drop (4 * count) names) z.text count kept i h ∙ w.marks i h;
-        within = λ i h. rw (end_kept z.names (pairs ++ drop (4 * count) names) z.text count kept i h) (w.table.ends i h);
+        marks = λ i h. marked_kept z.names.pairs (pairs ++ drop (4 * count) names) z.text count kept i h ∙ w.marks i h;
+        within = λ i h. rw (end_kept z.names.pairs (pairs ++ drop (4 * count) names) z.text count kept i h) (w.table.ends i (omega (arith, h, w.count_is)));
         rest = drop_at pairs (drop (4 * count) names) (4 * count) long;
       }
 
 -- the memory of the reading holds its records and pairs
-pub held : {t : ProofTerm Name} {size : TermSize} (names : List ℕ) {work : Work} {z : Scene} → WholeTerm t z work → size ≡ size_of t
-    → z.names ≡ names → Copyable (length work.records) (length names) size
-unfolding table_size slot_offset slot_size slot_count pair_size name_limit size_of
-held names w e same =
+pub held : {t : ProofTerm Name} {size : TermSize} {work : Work} {z : Scene} → WholeTerm t z work → size ≡ size_of t
+    → Copyable (length work.records) (length z.names.pairs) size
+unfolding pair_size name_limit size_of
+held w e =
     let room = w.roomy.0 in
     let few = w.few in
     let table = w.table.room in
     let names_few = w.table.few in
     let used = ap (λ (s : TermSize). s.nodes) e in
     let count = ap (λ (s : TermSize). s.names) e in
-    let long = ap length same in
-    record { records_fit = omega (arith, room, few, used); names_fit = omega (arith, table, names_few, count, long) }
+    let all = w.count_is in
+    record { records_fit = omega (arith, room, few, used); names_fit = omega (arith, table, names_few, count, all) }
 
 -- what is copied of the term that was read is what the definitions ask for
-pub handed : {t : ProofTerm Name} {list text pairs : List ℕ} {work : Work} {records names code : List ℕ} {size : TermSize}
-    (fitting : Fitting t list text pairs work records names code size) (pairs' code' : List ℕ) {work' : Work} {records' names' : List ℕ}
-    → WholeTerm t (scene_of list text pairs' code code') work'
-    → records' ≡ take (7 * size.nodes) work'.records ++ drop (7 * size.nodes) records → names' ≡ take (4 * size.names) pairs' ++ drop (4 * size.names) names
+pub handed : {t : ProofTerm Name} {list text : List ℕ} {table : NameTable} {work : Work} {records names code : List ℕ} {size : TermSize}
+    (fitting : Fitting t list text table work records names code size) (table' : NameTable) (code' : List ℕ) {work' : Work} {records' names' : List ℕ}
+    → WholeTerm t (scene_of list text table' code code') work'
+    → records' ≡ take (7 * size.nodes) work'.records ++ drop (7 * size.nodes) records → names' ≡ take (4 * size.names) table'.pairs ++ drop (4 * size.names) names
     → Answers (accepted t) text records names code records' names' code' (Ok size)
 unfolding answer_of size_of code_by NamesBy scene_of
-handed {t} {records = records} {names = names} {code = code} {size = size} fitting pairs' code' {work'} whole copied stored =
+handed {t} {records = records} {names = names} {code = code} {size = size} fitting table' code' {work'} whole copied stored =
     let e = fitting.size_is in
     let used = ap (λ (s : TermSize). s.nodes) e in
     let count = ap (λ (s : TermSize). s.names) e in
@@ -142,13 +141,14 @@ module _ {z : Scene} {work : Work} {size : TermSize} (read : Read z work size) w
   counted =
       let few = read.whole.few in
       let names_few = read.whole.table.few in
+      let all = read.whole.count_is in
       let used = ap (λ (s : TermSize). s.nodes) read.size_is in
       let count = ap (λ (s : TermSize). s.names) read.size_is in
-      (omega (arith, few, used), omega (arith, names_few, count))
+      (omega (arith, few, used), omega (arith, names_few, all, count))
 
-pub fitting : (list text pairs records names code : List ℕ) {work : Work} {size : TermSize} → ReadBegins list text pairs work
-    → (read : Read (scene_of list text pairs [] []) work size)
-    → short_for (length records) (length names) (length code) size ≡ false → Fitting read.term list text pairs work records names code size
+pub fitting : (list text : List ℕ) (table : NameTable) (records names code : List ℕ) {work : Work} {size : TermSize} → ReadBegins list text work
+    → (read : Read (scene_of list text table [] []) work size)
+    → short_for (length records) (length names) (length code) size ≡ false → Fitting read.term list text table work records names code size
 unfolding scene_of size_of
 fitting list text _ records names code begins read enough = record {
   measured = record { begins = begins; whole = read.whole; size_is = ap (λ (s : TermSize). s.code) read.size_is };
@@ -176,16 +176,16 @@ restores list text records names code answers s t bytes exports shown short list
     rw (answers_term (room_of records names code) types text read enough) at answers
 
 -- what the first pass has read, or that there is none
-pub measures : (list text names : List ℕ) (work : Work) (r : Option TermSize) {e : Refusal} {x : Result TermSize Refusal} → length text ≤ term_text_limit
+pub measures : (list text : List ℕ) (names : NameTable) (work : Work) (r : Option TermSize) {e : Refusal} {x : Result TermSize Refusal} → length text ≤ term_text_limit
     → all_admitted (names_in list) ≡ true → ReadEnds (scene_of list text names [] []) work r → e ≡ record { number = 20; place = 0 } → x ≡ ok_or r e
     → Measures list text names work x
 unfolding scene_of
 measures list text names work None short listed none e is = rw (is, e) (none, refl)
 measures list text names work (Some size) short listed read e is =
-    rw is (read, record { short = short; listed = listed; pairs = read.whole.table.room; roomy = read.whole.roomy })
+    rw is (read, record { short = short; listed = listed; roomy = read.whole.roomy })
 
 -- how large it is
-pub measured_size : (list text names : List ℕ) (work : Work) (r : Result TermSize Refusal) → Measures list text names work r → r ≡ answer_of (read_answer (names_in list) text)
+pub measured_size : (list text : List ℕ) (names : NameTable) (work : Work) (r : Result TermSize Refusal) → Measures list text names work r → r ≡ answer_of (read_answer (names_in list) text)
 unfolding answer_of refuse scene_of
 measured_size list text names work (Ok size) (read, begins) = rw (read.whole.answer, read.size_is) refl
 measured_size list text names work (Err e) (none, is) = rw (none, is) refl

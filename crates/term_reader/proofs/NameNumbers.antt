@@ -12,8 +12,8 @@ use Rattle.definitions.specs.Name.{Name, eq_name}
 use Rattle.definitions.specs.Sheet.{marked}
 use Rattle.definitions.specs.Text.{occurs, firsts_after, firsts}
 use Rattle.definitions.specs.TermMemory.{place}
-use Rattle.words.specs.Table.{add_name, added, number_in, table_names}
-use Rattle.words.proofs.Numbers.{names_length}
+use Rattle.words.specs.Table.{add_name, added, number_in, first_names}
+use Rattle.words.proofs.Numbers.{firsts_length}
 use Rattle.term_stack.specs.Standing.{Extends}
 
 -- the names that were added, the oldest first, are the first occurrences
@@ -92,12 +92,12 @@ pub places_extend : (xs : List Name) → Extends (place (firsts eq_name xs)) (ad
 places_extend xs x met = sym (number_place x (added [] xs) met ∙ ap (λ l. place l x) (different_in_order xs))
 
 -- the pairs of the table, from the first on
-pub marked_in_order : (pairs text : List ℕ) (n i : ℕ) → i < n → get_or (reverse (table_names pairs text n)) i [] ≡ marked pairs text i
-unfolding table_names
+pub marked_in_order : (pairs text : List ℕ) (n i : ℕ) → i < n → get_or (reverse (first_names pairs text n)) i [] ≡ marked pairs text i
+unfolding first_names
 marked_in_order pairs text zero i h = absurd (omega arith)
 marked_in_order pairs text (suc n) i h =
-    let later = table_names pairs text n in
-    let long : length (reverse later) ≡ n = length-reverse later ∙ names_length pairs text n in
+    let later = first_names pairs text n in
+    let long : length (reverse later) ≡ n = length-reverse later ∙ firsts_length pairs text n in
     rw (reverse-cons (marked pairs text n) later)
     (⊎_elim
     (λ e. rw e (get_or_at (reverse later) (marked pairs text n) [] [] n long))

@@ -12,6 +12,7 @@ use Rattle.definitions.specs.TermText.{code_bytes}
 use Rattle.definitions.specs.TermMemory.{different_names, place, text_labels, label_size, labels_size, store_label, store_labels}
 use Rattle.definitions.proofs.PrefixCode.{code_nonempty}
 use Rattle.output.proofs.Writing.{sets_past}
+use Rattle.words.specs.declared.NameTable.{NameTable}
 use Rattle.term_stack.specs.declared.Work.{Work}
 use Rattle.term_stack.specs.Turning.{scene_of}
 use Rattle.std.specs.Prelude.{Option, None, Some}
@@ -40,7 +41,7 @@ no_room number to (proposition p ∷ ls) =
 no_room number to (datatype t ∷ ls) = no_room number (to + label_size (datatype t)) ls
 
 -- what was read without room for code is read as if there were none
-pub measured : (list text names code : List ℕ) (work : Work) (r : Option TermSize)
+pub measured : (list text : List ℕ) (names : NameTable) (code : List ℕ) (work : Work) (r : Option TermSize)
     → ReadEnds (scene_of list text names [] code) work r → ReadEnds (scene_of list text names [] []) work r
 unfolding scene_of
 measured list text names code work None none = none
@@ -54,6 +55,7 @@ measured list text names code work (Some size) read =
         roomy = w.roomy;
         few = w.few;
         table = w.table;
+        count_is = w.count_is;
         records_are = w.records_are;
         marks = w.marks;
         code_is = sym (no_room (place (different_names t)) 0 (text_labels t));
@@ -66,7 +68,7 @@ not_both : {t : ProofTerm Name} {o : Outcome (ProofTerm Name)} → o ≡ accepte
 unfolding refuse
 not_both e f = let z : ◌≡◌ {A = ℕ} 0 1 = cc in omega (arith, z)
 
-module _ {t : ProofTerm Name} {list text names : List ℕ} {work : Work} {size : ℕ} (first : Measured t list text names work size) where
+module _ {t : ProofTerm Name} {list text : List ℕ} {names : NameTable} {work : Work} {size : ℕ} (first : Measured t list text names work size) where
   pub no_labels : size ≡ 0 → (code : List ℕ) → WholeTerm t (scene_of list text names code code) work
   unfolding scene_of
   no_labels e code =
@@ -76,12 +78,13 @@ module _ {t : ProofTerm Name} {list text names : List ℕ} {work : Work} {size :
         roomy = w.roomy;
         few = w.few;
         table = w.table;
+        count_is = w.count_is;
         records_are = w.records_are;
         marks = w.marks;
         code_is = sym (none_stored (place (different_names t)) 0 (text_labels t) code (sym first.size_is ∙ e));
       }
 
-  pub read_again : (names' code code' : List ℕ) (work' : Work) (r : Option TermSize)
+  pub read_again : (names' : NameTable) (code code' : List ℕ) (work' : Work) (r : Option TermSize)
       → ReadEnds (scene_of list text names' code code') work' r
       → WholeTerm t (scene_of list text names' code code') work'
   unfolding scene_of

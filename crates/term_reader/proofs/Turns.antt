@@ -7,7 +7,8 @@ use lib.ListN.{length}
 use Rattle.definitions.specs.TermMemory.{labels_size, store_labels}
 use Rattle.reading_laws.specs.Marks.{entries_marks, nodes_met, names_met, limited_met}
 use Rattle.reading_laws.proofs.OnTheWay.{reached_first}
-use Rattle.words.specs.Table.{added, table_names, Table}
+use Rattle.words.specs.declared.NameTable.{NameTable}
+use Rattle.words.specs.Table.{added, first_names, table_names, NoNames}
 use Rattle.term_stack.specs.declared.State.{State}
 use Rattle.term_stack.specs.declared.State.TheVariants.{Reading}
 use Rattle.term_stack.specs.declared.Work.{Work}
@@ -16,16 +17,15 @@ use Rattle.term_stack.specs.Standing.{AtState}
 use Rattle.term_stack.specs.Turning.{scene_of}
 use Rattle.term_reader.specs.Between.{ReadBegins}
 
--- the loop: the machine is between two turns, and each lent memory is as long as it was
-pub record Looping (list text names₀ code₀ names code : List ℕ) (work : Work) (state : State) : Type 0 where
+-- the loop: the machine is between two turns, and the lent memory is as long as it was
+pub record Looping (list text code₀ : List ℕ) (names : NameTable) (code : List ℕ) (work : Work) (state : State) : Type 0 where
   pub there : AtState (scene_of list text names code₀ code) work state
-  pub names_size : length names ≡ length names₀
   pub code_size : length code ≡ length code₀
 
-pub begun : {list text names cleared : List ℕ} (work : Work) → ReadBegins list text names work → Table cleared text 0 → (code : List ℕ)
-    → AtState (scene_of list text cleared code code) work (Reading (record { at = 0; depth = 0; used = 0; count = 0; to = 0 }))
-unfolding scene_of AtState entries_marks nodes_met code_met labels_met labels_size limited_met names_met added table_names stack_records stack_of store_labels
-begun work b table code = record {
+pub begun : {list text : List ℕ} {cleared : NameTable} (work : Work) → ReadBegins list text work → NoNames cleared → (code : List ℕ)
+    → AtState (scene_of list text cleared code code) work (Reading (record { at = 0; depth = 0; used = 0; to = 0 }))
+unfolding scene_of AtState entries_marks nodes_met code_met labels_met labels_size limited_met names_met added table_names first_names stack_records stack_of store_labels
+begun {text = text} work b empty code = record {
   entries = [];
   before = record {
     reached = reached_first _ _ b.short b.listed;
@@ -39,8 +39,8 @@ begun work b table code = record {
       used_is = refl;
       to_is = refl;
       limited = refl;
-      table = table;
-      names_are = refl;
+      table = empty.table text;
+      names_are = rw empty.none refl;
       lies = λ number e. record { records_are = refl; stack_is = refl; code_is = refl };
     };
   };

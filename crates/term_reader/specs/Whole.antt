@@ -9,6 +9,7 @@ use Rattle.definitions.specs.Term.{ProofTerm, annotation_count}
 use Rattle.definitions.specs.TermText.{nodes}
 use Rattle.definitions.specs.TermReader.{read_answer}
 use Rattle.definitions.specs.TermMemory.{different_names, place, text_labels, labels_size, records_of, store_labels}
+use Rattle.words.specs.declared.NameTable.{NameTable}
 use Rattle.words.specs.Table.{Table}
 use Rattle.term_stack.specs.declared.Progress.{Progress}
 use Rattle.term_stack.specs.declared.Hand.{Hand}
@@ -28,10 +29,10 @@ pub data Unsettled (length : ℕ) : State → Type 0 where
   more : {s : Progress} {h : Hand} → s.at < length → Unsettled length (Giving s h)
   bracketed : {s : Progress} {h : Hand} → h.own ≡ true → Unsettled length (Giving s h)
 
--- the turns have ended with a term, which has these sizes
-pub data Settled (length : ℕ) : State → TermSize → Type 0 where
+-- the turns have ended with a term and so many names; it has these sizes
+pub data Settled (length count : ℕ) : State → TermSize → Type 0 where
   settled : {s : Progress} {h : Hand} → length ≤ s.at → h.own ≡ false
-      → Settled length (Giving s h) (record { nodes = s.used; names = s.count; code = s.to; labels = h.tally })
+      → Settled length count (Giving s h) (record { nodes = s.used; names = count; code = s.to; labels = h.tally })
 
 unfoldable pub size_of : ProofTerm Name → TermSize
 size_of t = record { nodes = nodes t; names = length (different_names t); code = labels_size (text_labels t); labels = annotation_count t }
@@ -41,9 +42,10 @@ pub record WholeTerm (t : ProofTerm Name) (z : Scene) (work : Work) : Type 0 whe
   pub answer : read_answer z.types z.text ≡ accepted t
   pub roomy : Roomy work
   pub few : nodes t ≤ 2048
-  pub table : Table z.names z.text (length (different_names t))
+  pub table : Table z.names z.text
+  pub count_is : z.names.count ≡ length (different_names t)
   pub records_are : take (7 * nodes t) work.records ≡ records_of (place (different_names t)) 0 0 t
-  pub marks : (i : ℕ) → i < length (different_names t) → marked z.names z.text i ≡ get_or (different_names t) i []
+  pub marks : (i : ℕ) → i < length (different_names t) → marked z.names.pairs z.text i ≡ get_or (different_names t) i []
   pub code_is : z.code ≡ store_labels (place (different_names t)) 0 (text_labels t) z.before
 
 pub record Read (z : Scene) (work : Work) (size : TermSize) : Type 0 where
@@ -56,21 +58,21 @@ abbrev pub ReadEnds : Scene → Work → Option TermSize → Type 0
 ReadEnds z work r = MatchOption r (Refuses z) (Read z work)
 
 -- and with it the first pass
-abbrev pub Measures : List ℕ → List ℕ → List ℕ → Work → Result TermSize Refusal → Type 0
+abbrev pub Measures : List ℕ → List ℕ → NameTable → Work → Result TermSize Refusal → Type 0
 Measures list text names work r =
-    MatchResult r (λ size. Read (scene_of list text names [] []) work size × ReadBegins list text names work)
+    MatchResult r (λ size. Read (scene_of list text names [] []) work size × ReadBegins list text work)
     (λ e. (read_answer (names_in list) text ≡ refuse 20 0) × (e ≡ record { number = 20; place = 0 }))
 
 -- the first pass has read the term, and its labels' code has this size
-pub record Measured (t : ProofTerm Name) (list text names : List ℕ) (work : Work) (size : ℕ) : Type 0 where
-  pub begins : ReadBegins list text names work
+pub record Measured (t : ProofTerm Name) (list text : List ℕ) (names : NameTable) (work : Work) (size : ℕ) : Type 0 where
+  pub begins : ReadBegins list text work
   pub whole : WholeTerm t (scene_of list text names [] []) work
   pub size_is : size ≡ labels_size (text_labels t)
 
-unfoldable pub HasRead : List ℕ → List ℕ → List ℕ → Work → ℕ → Type 0
+unfoldable pub HasRead : List ℕ → List ℕ → NameTable → Work → ℕ → Type 0
 HasRead list text names work size = ThereIs (λ (t : ProofTerm Name). Measured t list text names work size)
 
 -- the second pass has read the same term, and its labels' code is stored
-unfoldable pub Rereads : List ℕ → List ℕ → List ℕ → List ℕ → Work → ℕ → List ℕ → List ℕ → Work → Type 0
+unfoldable pub Rereads : List ℕ → List ℕ → NameTable → List ℕ → Work → ℕ → NameTable → List ℕ → Work → Type 0
 Rereads list text names code work size names' code' work' =
     (t : ProofTerm Name) → Measured t list text names work size → WholeTerm t (scene_of list text names' code code') work'

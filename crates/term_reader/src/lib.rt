@@ -4,7 +4,6 @@
 ghost use Rattle.std.specs.Prelude.{◌≡◌, true, [], ◌*◌, ◌<◌, ◌≤◌, ◌++◌, length, take, drop, MatchOption};
 ghost use Rattle.definitions.specs.CallerNames.{names_in};
 ghost use Rattle.definitions.specs.TermReader.{read_answer};
-ghost use Rattle.words.specs.Table.{table_size};
 ghost use Rattle.term_stack.specs.Standing.{Roomy};
 ghost use Rattle.term_stack.specs.Turning.{scene_of};
 ghost use Rattle.term_reader.specs.Between.{goes_on, TurnFollows, GoesOn, ReadBegins};
@@ -18,7 +17,7 @@ use proof_term::RECORD_SIZE;
 use term_closings::{chain, give};
 use term_openings::start;
 use term_stack::{Progress, State, Work};
-use words::{TABLE_SIZE, all_admitted, clear};
+use words::{NameTable, all_admitted};
 
 // A term's text has at most so many bytes; a sheet's text has a limit of its own.
 const TEXT_LIMIT: usize = 65536;
@@ -48,7 +47,7 @@ fn goes_on(state: State) -> bool
 fn turn(
     text: &[u8],
     types: &[u8],
-    names: &mut [u8],
+    names: &mut NameTable,
     code: &mut [u8],
     work: &mut Work,
     state: State,
@@ -65,8 +64,8 @@ fn turn(
 }
 
 // The term that is whole and for which nothing waits: what is left of the text, and brackets around the whole, belong to no term.
-fn settle(text: &[u8], state: State) -> Option<TermSize>
-    ensures { MatchOption result (Unsettled (length text.now) state) (Settled (length text.now) state) }
+fn settle(text: &[u8], names: &NameTable, state: State) -> Option<TermSize>
+    ensures { MatchOption result (Unsettled (length text.now) state) (Settled (length text.now) names.now.count state) }
 {
     let State::Giving(s, hand) = state else {
         return None;
@@ -76,46 +75,45 @@ fn settle(text: &[u8], state: State) -> Option<TermSize>
     }
     Some(TermSize {
         nodes: s.used,
-        names: s.count,
+        names: names.count,
         code: s.to,
         labels: hand.tally,
     })
 }
 
-// The term of a text: its records at the start of `work`, its names' pairs, and its labels' code as far as there is room.
+// The term of a text: its records at the start of `work`, its names in their table, and its labels' code as far as there is room.
 fn read(
     text: &[u8],
     types: &[u8],
-    names: &mut [u8],
+    names: &mut NameTable,
     code: &mut [u8],
     work: &mut Work,
 ) -> Option<TermSize>
-    requires { ReadBegins types.now text.now names.old work.old }
+    requires { ReadBegins types.now text.now work.old }
     ensures { ReadEnds (scene_of types.now text.now names.new code.old code.new) work.new result }
 {
-    clear(names);
+    names.clear();
     let mut state = State::Reading(Progress {
         at: 0,
         depth: 0,
         used: 0,
-        count: 0,
         to: 0,
     });
     // How many turns there are shows only as they are taken.
     while goes_on(state) {
         state = turn(text, types, names, code, work, state)?;
     }
-    settle(text, state)
+    settle(text, names, state)
 }
 
 // The first pass, which stores no code: 20 where there is no term.
 fn measure(
     text: &[u8],
     types: &[u8],
-    names: &mut [u8],
+    names: &mut NameTable,
     work: &mut Work,
 ) -> Result<TermSize, Refusal>
-    requires { (length names.old ≡ table_size) × Roomy work.old }
+    requires { Roomy work.old }
     ensures { Measures types.now text.now names.new work.new result }
 {
     let no_term = Reason::NoTerm.at(0);
@@ -129,7 +127,7 @@ fn measure(
 fn store_code(
     text: &[u8],
     types: &[u8],
-    names: &mut [u8],
+    names: &mut NameTable,
     code: &mut [u8],
     work: &mut Work,
     size: usize,
@@ -153,36 +151,36 @@ fn too_short(records: usize, names: usize, code: usize, size: &TermSize) -> bool
 }
 
 // Copies the records and the pairs of a term of this size.
-fn copy_out(records: &mut [u16], names: &mut [u8], work: &Work, pairs: &[u8], size: &TermSize)
-    requires copyable { Copyable (length work.now.records) (length pairs.now) size.now }
+fn copy_out(records: &mut [u16], names: &mut [u8], work: &Work, table: &NameTable, size: &TermSize)
+    requires copyable { Copyable (length work.now.records) (length table.now.pairs) size.now }
     requires copyable_2 { Copyable (length records.old) (length names.old) size.now }
     ensures records_after { records.new ≡ take (7 * size.now.nodes) work.now.records ++ drop (7 * size.now.nodes) records.old }
-    ensures names_after { names.new ≡ take (4 * size.now.names) pairs.now ++ drop (4 * size.now.names) names.old }
+    ensures names_after { names.new ≡ take (4 * size.now.names) table.now.pairs ++ drop (4 * size.now.names) names.old }
 {
     let numbers = RECORD_SIZE * size.nodes;
     records[..numbers].copy_from_slice(&work.records[..numbers]);
     let bytes = PAIR_SIZE * size.names;
-    names[..bytes].copy_from_slice(&pairs[..bytes]);
+    names[..bytes].copy_from_slice(&table.pairs[..bytes]);
 }
 
 // Hands the term over that was measured, in rooms that hold it.
 fn hand_over(
     text: &[u8],
     types: &[u8],
-    pairs: &mut [u8],
+    table: &mut NameTable,
     work: &mut Work,
     records: &mut [u16],
     names: &mut [u8],
     code: &mut [u8],
     size: &TermSize,
 )
-    requires { HasRoom types.now text.now pairs.old work.old records.old names.old code.old size.now }
-    ensures { HandsOver types.now text.now pairs.old work.old
+    requires { HasRoom types.now text.now table.old work.old records.old names.old code.old size.now }
+    ensures { HandsOver types.now text.now table.old work.old
         records.old names.old code.old size.now
         records.new names.new code.new }
 {
-    store_code(text, types, pairs, code, work, size.code);
-    copy_out(records, names, work, pairs, size);
+    store_code(text, types, table, code, work, size.code);
+    copy_out(records, names, work, table, size);
 }
 
 // How large the term is whose strict text these bytes are, or 20: what `read_term` answers given room.
@@ -190,8 +188,8 @@ pub fn term_size(text: &[u8], types: &[u8]) -> Result<TermSize, Refusal>
     ensures { result ≡ answer_of (read_answer (names_in types.now) text.now) }
 {
     let mut work = Work::new();
-    let mut pairs = [0u8; TABLE_SIZE];
-    measure(text, types, &mut pairs, &mut work)
+    let mut table = NameTable::new();
+    measure(text, types, &mut table, &mut work)
 }
 
 // The term whose strict text these bytes are, without declarations; the datatypes are listed with newlines between their names. Its
@@ -212,13 +210,13 @@ pub fn read_term(
         records.new names.new code.new result }
 {
     let mut work = Work::new();
-    let mut pairs = [0u8; TABLE_SIZE];
-    let size = measure(text, types, &mut pairs, &mut work)?;
+    let mut table = NameTable::new();
+    let size = measure(text, types, &mut table, &mut work)?;
     if too_short(records.len(), names.len(), code.len(), &size) {
         return Err(Reason::Room.at(0));
     }
     hand_over(
-        text, types, &mut pairs, &mut work, records, names, code, &size,
+        text, types, &mut table, &mut work, records, names, code, &size,
     );
     Ok(size)
 }

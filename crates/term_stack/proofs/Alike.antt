@@ -60,5 +60,5 @@ module _ {z : Scene} {work : Work} {s : Progress} {h : Hand} where
 
   pub entry_for : {e : stacked.Entry} (g : Gives z work s h e) → StandsFor e g.entry
   entry_for g =
-      let seen = table_names z.names z.text s.count in
+      let seen = table_names z.names z.text in
       rw (g.to.top (number_in seen) (extends_itself seen)) (stands_for (number_in seen) (entries_marks g.below) g.entry)

@@ -46,10 +46,10 @@ pub record Grows (k : List Entry) (t : ProofTerm Name) (z : Scene) (work : Work)
   pub deep : s.depth ≡ length k
   pub met : List Mark
   pub records : (Name → ℕ) → List ℕ
-  pub stored : Stored met records (λ number. stack_of number k) z work s.used s.depth s.count s.to
+  pub stored : Stored met records (λ number. stack_of number k) z work s.used s.depth s.to
   pub marks_are : met ++ (node ∷ []) ≡ entries_marks k ++ marks t
   pub last : (Name → ℕ) → List ℕ
-  pub row_is : (number : Name → ℕ) → Extends number (table_names z.names z.text s.count) → row ≡ last number
+  pub row_is : (number : Name → ℕ) → Extends number (table_names z.names z.text) → row ≡ last number
   pub long : length row ≡ 7
   pub records_are : (number : Name → ℕ) → records number ++ last number ≡ term_records number k t
   pub form_is : h.form ≡ as_form (form t)

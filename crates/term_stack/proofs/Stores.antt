@@ -24,11 +24,11 @@ sets_here l vs i n fits e =
     let long : length (take i l ++ vs) ≡ n = length-append (take i l) vs ∙ omega (arith, front, e) in
     rw (sets-eq vs l i fits) (take_at (take i l ++ vs) (drop (i + length vs) l) n long)
 
-module _ {ms : List Mark} {records : (Name → ℕ) → List ℕ} {stack : (Name → ℕ) → List Entry} {z : Scene} {work : Work} {used depth count to : ℕ} where
+module _ {ms : List Mark} {records : (Name → ℕ) → List ℕ} {stack : (Name → ℕ) → List Entry} {z : Scene} {work : Work} {used depth to : ℕ} where
   -- a record
-  pub stored_record : (here : (Name → ℕ) → List ℕ) (vs : List ℕ) → Stored ms records stack z work used depth count to → used < 2048 → length vs ≡ 7
-      → ((number : Name → ℕ) → Extends number (table_names z.names z.text count) → vs ≡ here number)
-      → Stored (ms ++ (node ∷ [])) (λ number. records number ++ here number) stack z (record work { records = sets work.records (7 * used) vs }) (used + 1) depth count to
+  pub stored_record : (here : (Name → ℕ) → List ℕ) (vs : List ℕ) → Stored ms records stack z work used depth to → used < 2048 → length vs ≡ 7
+      → ((number : Name → ℕ) → Extends number (table_names z.names z.text) → vs ≡ here number)
+      → Stored (ms ++ (node ∷ [])) (λ number. records number ++ here number) stack z (record work { records = sets work.records (7 * used) vs }) (used + 1) depth to
   unfolding nodes_met names_met limited_met labels_met code_met
   stored_record here vs st h long is =
       let room = st.room in
@@ -53,9 +53,9 @@ module _ {ms : List Mark} {records : (Name → ℕ) → List ℕ} {stack : (Name
       }
 
   -- an entry
-  pub stored_entry : (here : (Name → ℕ) → Entry) (entry : Entry) → Stored ms records stack z work used depth count to → depth < 767
-      → ((number : Name → ℕ) → Extends number (table_names z.names z.text count) → entry ≡ here number)
-      → Stored ms records (λ number. stack number ++ (here number ∷ [])) z (record work { entries = set work.entries depth entry }) used (depth + 1) count to
+  pub stored_entry : (here : (Name → ℕ) → Entry) (entry : Entry) → Stored ms records stack z work used depth to → depth < 767
+      → ((number : Name → ℕ) → Extends number (table_names z.names z.text) → entry ≡ here number)
+      → Stored ms records (λ number. stack number ++ (here number ∷ [])) z (record work { entries = set work.entries depth entry }) used (depth + 1) to
   stored_entry here entry st h is =
       let places = st.places in
       record {
@@ -78,8 +78,8 @@ module _ {ms : List Mark} {records : (Name → ℕ) → List ℕ} {stack : (Name
       }
 
   -- the same, said in another way
-  pub stored_as : {more : List Mark} {others : (Name → ℕ) → List ℕ} → Stored ms records stack z work used depth count to → ms ≡ more
-      → ((number : Name → ℕ) → records number ≡ others number) → Stored more others stack z work used depth count to
+  pub stored_as : {more : List Mark} {others : (Name → ℕ) → List ℕ} → Stored ms records stack z work used depth to → ms ≡ more
+      → ((number : Name → ℕ) → records number ≡ others number) → Stored more others stack z work used depth to
   stored_as {more} {others} st e same = rw (← e) (record {
     room = st.room;
     places = st.places;
@@ -93,12 +93,12 @@ module _ {ms : List Mark} {records : (Name → ℕ) → List ℕ} {stack : (Name
     lies = λ number x. let l = st.lies number x in record { records_are = l.records_are ∙ same number; stack_is = l.stack_is; code_is = l.code_is };
   })
 
-module _ {ms : List Mark} {records : (Name → ℕ) → List ℕ} {z : Scene} {work : Work} {used depth below count to : ℕ} where
+module _ {ms : List Mark} {records : (Name → ℕ) → List ℕ} {z : Scene} {work : Work} {used depth below to : ℕ} where
   -- the entry on top, and what stands without it
   module _ (stack : (Name → ℕ) → List Entry) (here : (Name → ℕ) → Entry)
-      (st : Stored ms records (λ number. stack number ++ (here number ∷ [])) z work used depth count to)
+      (st : Stored ms records (λ number. stack number ++ (here number ∷ [])) z work used depth to)
       (long : (number : Name → ℕ) → length (stack number) ≡ below) (some : depth ≡ below + 1) where
-    pub stored_below : Stored ms records stack z work used below count to
+    pub stored_below : Stored ms records stack z work used below to
     stored_below = record {
       room = st.room;
       places = st.places;
@@ -121,7 +121,7 @@ module _ {ms : List Mark} {records : (Name → ℕ) → List ℕ} {z : Scene} {w
           };
     }
 
-    pub top_is : (d : Entry) (number : Name → ℕ) → Extends number (table_names z.names z.text count) → get_or work.entries below d ≡ here number
+    pub top_is : (d : Entry) (number : Name → ℕ) → Extends number (table_names z.names z.text) → get_or work.entries below d ≡ here number
     top_is d number e =
         let within : below ≡ length (stack number) + 0 = omega (arith, long number) in
         sym (get_or-take depth work.entries below d (omega (arith, some)))

@@ -10,6 +10,7 @@ use Rattle.definitions.specs.TermMemory.{store_labels}
 use Rattle.reading_laws.specs.TermMachine.{Entry, State, reading, holding, giving}
 use Rattle.reading_laws.specs.Marks.{Mark, marks, entries_marks, nodes_met, names_met, limited_met}
 use Rattle.reading_laws.proofs.OnTheWay.{Reached}
+use Rattle.words.specs.declared.NameTable.{NameTable}
 use Rattle.words.specs.Table.{added, number_in, table_names, Table}
 use Rattle.term_stack.specs.declared.Progress.{Progress}
 use Rattle.term_stack.specs.declared.Hand.{Hand}
@@ -20,12 +21,12 @@ use Rattle.term_stack.specs.declared.Work.{Work}
 use Rattle.proof_term.specs.Forms.{as_form}
 use Rattle.term_stack.specs.Numbers.{labels_met, code_met, stack_of, stack_records, term_records}
 
--- what is read, with the caller's list of datatype names, and the memory beside the records: the names' pairs, and the labels' code, as
+-- what is read, with the caller's list of datatype names, and the memory beside the records: the table of names, and the labels' code, as
 -- it was before the reading and as it is
 pub record Scene : Type 0 where
   pub types : List Name
   pub text : List ℕ
-  pub names : List ℕ
+  pub names : NameTable
   pub before : List ℕ
   pub code : List ℕ
 
@@ -49,7 +50,7 @@ abbrev pub Roomy : Work → Type 0
 Roomy work = (length work.records ≡ 14336) × (length work.entries ≡ 767)
 
 -- what was met is in memory
-pub record Stored (ms : List Mark) (records : (Name → ℕ) → List ℕ) (stack : (Name → ℕ) → List reader.Entry) (z : Scene) (work : Work) (used depth count to : ℕ) : Type 0 where
+pub record Stored (ms : List Mark) (records : (Name → ℕ) → List ℕ) (stack : (Name → ℕ) → List reader.Entry) (z : Scene) (work : Work) (used depth to : ℕ) : Type 0 where
   pub room : length work.records ≡ 14336
   pub places : length work.entries ≡ 767
   pub few : used ≤ 2048
@@ -57,9 +58,9 @@ pub record Stored (ms : List Mark) (records : (Name → ℕ) → List ℕ) (stac
   pub used_is : used ≡ nodes_met ms
   pub to_is : to ≡ code_met ms
   pub limited : limited_met ms ≡ true
-  pub table : Table z.names z.text count
-  pub names_are : table_names z.names z.text count ≡ added [] (names_met ms)
-  pub lies : (number : Name → ℕ) → Extends number (table_names z.names z.text count)
+  pub table : Table z.names z.text
+  pub names_are : table_names z.names z.text ≡ added [] (names_met ms)
+  pub lies : (number : Name → ℕ) → Extends number (table_names z.names z.text)
       → Lies number ms (records number) (stack number) z work used depth
 
 -- form, brackets, nesting and label count are those of the term
@@ -81,7 +82,7 @@ pub record Before (entries : List Entry) (z : Scene) (work : Work) (s : Progress
   pub placed : Placed z s
   pub deep : s.depth ≡ length entries
   pub stored :
-      Stored (entries_marks entries) (λ number. stack_records number entries) (λ number. stack_of number entries) z work s.used s.depth s.count s.to
+      Stored (entries_marks entries) (λ number. stack_records number entries) (λ number. stack_of number entries) z work s.used s.depth s.to
 
 pub record AtReading (z : Scene) (work : Work) (s : Progress) : Type 0 where
   pub entries : List Entry
@@ -98,7 +99,7 @@ pub record Behind (state : StateOf) (entries : List Entry) (term : Shown (ProofT
   pub hand : HandOf term h
   pub stored :
       Stored (entries_marks entries ++ marks term.shown) (λ number. term_records number entries term.shown) (λ number. stack_of number entries) z work
-      s.used s.depth s.count s.to
+      s.used s.depth s.to
 
 pub record AtTerm (state : StateOf) (h : Hand) (z : Scene) (work : Work) (s : Progress) : Type 0 where
   pub entries : List Entry

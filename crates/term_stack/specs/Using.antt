@@ -50,7 +50,7 @@ pub record UsedFor (entries : List Entry) (purpose : Purpose) (term : Shown (Pro
   pub stored :
       Stored (entries_marks entries ++ (purpose_marks purpose ++ marks term.shown))
       (λ number. stack_records number entries ++ (purpose_records number (entries_marks entries) purpose ++ records_after number (entries_marks entries ++ purpose_marks purpose) term.shown))
-      (λ number. stack_of number entries) z work s.used s.depth s.count s.to
+      (λ number. stack_of number entries) z work s.used s.depth s.to
 
 pub record Using (z : Scene) (work : Work) (s : Progress) (h : Hand) (q : reader.Purpose) : Type 0 where
   pub entries : List Entry
@@ -70,9 +70,9 @@ pub record Leaf (z : Scene) (work : Work) (s : Progress) (leaf : Node) (q : read
   pub purpose_is : q ≡ purpose_after (entries_marks entries) purpose
   pub stored :
       Stored (entries_marks entries ++ (purpose_marks purpose ++ names)) (λ number. stack_records number entries ++ purpose_records number (entries_marks entries) purpose)
-      (λ number. stack_of number entries) z work s.used s.depth s.count s.to
+      (λ number. stack_of number entries) z work s.used s.depth s.to
   pub marks_are : marks term ≡ names ++ (node ∷ [])
-  pub row_is : (number : Name → ℕ) → Extends number (table_names z.names z.text s.count)
+  pub row_is : (number : Name → ℕ) → Extends number (table_names z.names z.text)
       → node_row leaf 0 ≡ records_after number (entries_marks entries ++ purpose_marks purpose) term
   pub form_is : form term ≡ closed
   pub nest_is : term_nesting term ≡ 1
@@ -87,8 +87,8 @@ pub record GivesTo (k : List Entry) (entry : Entry) (term : Shown (ProofTerm Nam
   pub stored :
       Stored ((entries_marks k ++ entry_marks entry) ++ marks term.shown)
       (λ number. (stack_records number k ++ entry_records number (entries_marks k) entry) ++ records_after number (entries_marks k ++ entry_marks entry) term.shown)
-      (λ number. stack_of number k) z work s.used s.depth s.count s.to
-  pub top : (number : Name → ℕ) → Extends number (table_names z.names z.text s.count) → e ≡ entry_after number (entries_marks k) entry
+      (λ number. stack_of number k) z work s.used s.depth s.to
+  pub top : (number : Name → ℕ) → Extends number (table_names z.names z.text) → e ≡ entry_after number (entries_marks k) entry
 
 pub record Gives (z : Scene) (work : Work) (s : Progress) (h : Hand) (e : entries.Entry) : Type 0 where
   pub below : List Entry

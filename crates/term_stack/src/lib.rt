@@ -12,13 +12,12 @@ ghost use Rattle.term_stack.specs.Using.{Using, Leaf, Gives, Refuses, Turned, le
 use proof_term::{Form, Label, NODE_LIMIT, Node, RECORD_SIZE, push};
 use words::NamedFunction;
 
-// How far the reading is: in the text, in the entries, the records, the names and the labels' code.
+// How far the reading is: in the text, in the entries, the records and the labels' code.
 #[derive(Clone, Copy)]
 pub struct Progress {
     pub at: usize,
     pub depth: usize,
     pub used: usize,
-    pub count: usize,
     pub to: usize,
 }
 

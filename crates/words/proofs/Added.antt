@@ -9,6 +9,7 @@ use lib.Seq.{take-take}
 use Rattle.definitions.specs.Name.{Name, eq_name}
 use Rattle.definitions.specs.Sheet.{pair_size}
 use Rattle.definitions.specs.Text.{occurs, firsts_after, firsts}
+use Rattle.words.specs.declared.NameTable.{NameTable}
 use Rattle.words.specs.Table.{add_name, added, number_in, table_names, Noted}
 
 -- part by part
@@ -68,11 +69,11 @@ kept_twice pairs mid after count some h first second =
     ∙ (ap (take (4 * count)) second ∙ (take-take (4 * count) (4 * some) mid le ∙ first))
 
 -- names are noted and then others
-pub noted_then : {xs ys : List Name} {text pairs mid after : List ℕ} {count some next : ℕ}
-    → Noted xs text pairs count mid some → Noted ys text mid some after next → Noted (xs ++ ys) text pairs count after next
-noted_then {xs} {ys} {text} {pairs} {mid} {after} {count} {some} {next} first second = record {
+pub noted_then : {xs ys : List Name} {text : List ℕ} {held mid after : NameTable} → Noted xs text held mid → Noted ys text mid after
+    → Noted (xs ++ ys) text held after
+noted_then {xs} {ys} {text} {held} {mid} {after} first second = record {
   table = second.table;
-  names = second.names ∙ (ap (λ seen. added seen ys) first.names ∙ sym (added_append (table_names pairs text count) xs ys));
-  kept = kept_twice pairs mid after count some first.more first.kept second.kept;
+  names = second.names ∙ (ap (λ seen. added seen ys) first.names ∙ sym (added_append (table_names held text) xs ys));
+  kept = kept_twice held.pairs mid.pairs after.pairs held.count mid.count first.more first.kept second.kept;
   more = omega (arith, first.more, second.more);
 }

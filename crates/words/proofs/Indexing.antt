@@ -1,27 +1,23 @@
 -- The slots of the table are the index of its names: what they hold, what probing finds by them, and the table without names.
-use Prim.Native.Nat.{ℕ, ◌+◌, ◌%◌, ◌≤◌, ◌<◌}
+use Prim.Native.Nat.{ℕ, ◌*◌, ◌≤◌, ◌<◌}
 use mathlib.Core.Path.{◌≡◌, sym, ap, ◌∙◌}
-use mathlib.Core.Bool.{true, false}
 use Rattle.std.specs.Prelude.{Option, Ok, Err}
 use mathlib.Core.List.{List}
 use native.Mathlib.Omega.{arith}
-use native.Mathlib.Decide.{ℕ_discrete}
-use lib.ListN.{length, get_or, replicate, length-replicate, get_or-replicate}
-use lib.Seq.{drop-cons}
-use lib.Dec.{eqb}
-use borrow.Author.Tests.{eq-eqb, ne_eqb}
+use lib.ListN.{length, replicate}
 use Rattle.definitions.specs.Name.{Name, eq_name}
-use Rattle.definitions.specs.Sheet.{name_limit, pair_size, number_at, marked}
+use Rattle.definitions.specs.Sheet.{name_limit, pair_size, marked}
 use Rattle.definitions.specs.NameIndex.{slot_count, free, slot_at, plain_search, find, index}
 use Rattle.definitions.proofs.Lowest.{same_lowest}
 use Rattle.name_index_laws.specs.Answered.{LowestNumber, is_lowest, there_is_none}
 use Rattle.name_index_laws.proofs.Agreement.{index_agrees, index_answers}
 use Rattle.name_index_laws.proofs.Entering.{indexed}
 use Rattle.name_index_laws.proofs.Onward.{same_index}
-use Rattle.name_index.specs.declared.Slot.TheVariants.{Free, Equal, Other}
-use Rattle.name_index.specs.Probed.{seen, held_or, probed}
-use Rattle.name_index.proofs.Entering.{absent_below}
-use Rattle.words.specs.Table.{Table, searched, slot_size, slot_offset, table_size}
+use Rattle.name_index_laws.specs.Indexed.{Indexed}
+use Rattle.name_index.specs.Probed.{held_or, probed}
+use Rattle.name_index.proofs.Entering.{absent_below, none_entered}
+use Rattle.words.specs.declared.NameTable.{NameTable}
+use Rattle.words.specs.Table.{Table, NoNames, searched}
 
 -- What probing comes to, by what the search finds.
 module _ (name : ℕ → Name) (n : ℕ) (x : Name) where
@@ -31,12 +27,12 @@ module _ (name : ℕ → Name) (n : ℕ) (x : Name) where
     pub same : name i ≡ x
     pub earlier : (j : ℕ) → j < i → name j ≡ x → ⊥
 
-  held : {o : Option ℕ} (slot i : ℕ) → LowestNumber name n x o → held_or o slot ≡ Ok i → FirstName i
+  held_first : {o : Option ℕ} (slot i : ℕ) → LowestNumber name n x o → held_or o slot ≡ Ok i → FirstName i
   unfolding held_or
-  held slot i (is_lowest {j} l same earlier) e =
+  held_first slot i (is_lowest {j} l same earlier) e =
       let here : j ≡ i = cc in
       rw (← here) (record { below = l; same = same; earlier = earlier })
-  held slot i (there_is_none absent) e = absurd (let z : ◌≡◌ {A = ℕ} 0 1 = cc in omega arith)
+  held_first slot i (there_is_none absent) e = absurd (let z : ◌≡◌ {A = ℕ} 0 1 = cc in omega arith)
 
   absent : {o : Option ℕ} (slot place : ℕ) → LowestNumber name n x o → held_or o slot ≡ Err place → (i : ℕ) → i < n → name i ≡ x → ⊥
   unfolding held_or
@@ -55,88 +51,47 @@ module _ (name name' : ℕ → Name) (n : ℕ) (few : n ≤ slot_count) (same : 
   unfolding probed
   same_probed = rw (same_find, same_index name name' n same)
 
-any_default : (l : List ℕ) (i d e : ℕ) → i < length l → get_or l i d ≡ get_or l i e
-any_default l i d e h = let p = drop-cons l i d h in let q = drop-cons l i e h in cc
-
-module _ {pairs text : List ℕ} {count : ℕ} (table : Table pairs text count) where
-  abbrev name : ℕ → Name
-  name = marked pairs text
-
-  abbrev slots : List ℕ
-  slots = index name count
-
-  pub few_names : count ≤ slot_count
+module _ {held : NameTable} {text : List ℕ} (table : Table held text) where
+  pub few_names : held.count ≤ slot_count
   unfolding name_limit slot_count
   few_names = omega (arith, table.few)
 
-  pub slots_size : length slots ≡ slot_count
-  slots_size = (indexed name count few_names).size
+  slots_index : Indexed (marked held.pairs text) held.count held.slots
+  slots_index = rw table.indexed (indexed (marked held.pairs text) held.count few_names)
 
-  -- a slot holds the number of a name, or it is free
-  module _ (slot : ℕ) (inside : slot < slot_count) where
-    slot_holds : slot_at slots slot ≡ get_or slots slot 0
-    unfolding slot_at slot_count
-    slot_holds = let own : slot % 1024 ≡ slot = omega arith in rw own (any_default slots slot free 0 (omega (arith, slots_size)))
+  pub slots_size : length held.slots ≡ slot_count
+  slots_size = slots_index.size
 
-    -- what stands in the table there, as probing sees it
-    module _ {n : ℕ} (stands : n ≡ number_at pairs (slot_offset slot)) (x : Name) where
-      holds : slot_at slots slot ≡ n
-      holds = slot_holds ∙ (sym (table.indexed slot inside) ∙ sym stands)
-
-      pub free_seen : count ≤ n → Free ≡ seen name slots x slot
-      unfolding seen
-      free_seen h = rw (eq-eqb _ _ (go (ℕ_discrete (slot_at slots slot) free)))
-        where
-          go : Dec (slot_at slots slot ≡ free) → slot_at slots slot ≡ free
-          go (yes e) = e
-          go (no d) = absurd (omega (arith, holds, ((indexed name count few_names).entered slot d).0))
-
-      module _ (taken : n < count) where
-        not_free : eqb (slot_at slots slot) free ≡ false
-        unfolding free slot_count
-        not_free = ne_eqb _ _ (λ e. omega (arith, holds, few_names))
-
-        pub equal_seen : eq_name (name n) x ≡ true → Equal n ≡ seen name slots x slot
-        unfolding seen
-        equal_seen same = rw (not_free, holds, same)
-
-        pub other_seen : eq_name (name n) x ≡ false → Other ≡ seen name slots x slot
-        unfolding seen
-        other_seen other = rw (not_free, holds, other)
+  -- a slot that is not free holds the number of a name
+  pub number_below : (slot : ℕ) {n : ℕ} → slot_at held.slots slot ≡ n → (n ≡ free → ⊥) → n < held.count
+  number_below slot holds taken = rw holds at (slots_index.entered slot (λ e. taken (sym holds ∙ e))).0
 
   -- what probing says of the names
   module _ (x : Name) where
-    pub first_held : {i : ℕ} → searched pairs text count x ≡ Ok i → FirstName name count x i
-    unfolding searched probed
-    first_held {i} e = held name count x _ i (index_answers name count x few_names) e
+    answers : LowestNumber (marked held.pairs text) held.count x (find (marked held.pairs text) held.slots x)
+    answers = rw table.indexed (index_answers (marked held.pairs text) held.count x few_names)
 
-    pub none_held : {slot : ℕ} → searched pairs text count x ≡ Err slot → (i : ℕ) → i < count → name i ≡ x → ⊥
+    pub first_held : {i : ℕ} → searched held text x ≡ Ok i → FirstName (marked held.pairs text) held.count x i
     unfolding searched probed
-    none_held {slot} e = absent name count x _ slot (index_answers name count x few_names) e
+    first_held {i} e = held_first (marked held.pairs text) held.count x _ i answers e
 
-    pub slot_inside : {slot : ℕ} → searched pairs text count x ≡ Err slot → slot < slot_count
+    pub none_held : {slot : ℕ} → searched held text x ≡ Err slot → (i : ℕ) → i < held.count → marked held.pairs text i ≡ x → ⊥
+    unfolding searched probed
+    none_held {slot} e = absent (marked held.pairs text) held.count x _ slot answers e
+
+    pub slot_inside : {slot : ℕ} → searched held text x ≡ Err slot → slot < slot_count
     unfolding searched
     slot_inside e = absent_below _ _ _ e
 
--- A table without names: bytes 255, so that every slot is free.
-all_free : (slot : ℕ) → slot < slot_count → number_at (replicate 4096 255) (slot_offset slot) ≡ get_or (replicate slot_count free) slot 0
-unfolding number_at slot_offset slot_size slot_count pair_size name_limit free
-all_free slot l =
-    rw (
-      get_or-replicate {A = ℕ} 4096 (slot_offset slot) 255 0 (omega arith),
-      get_or-replicate {A = ℕ} 4096 (slot_offset slot + 1) 255 0 (omega arith),
-      get_or-replicate {A = ℕ} slot_count slot 65535 0 l,
-    )
-
-pub empty_table : (text : List ℕ) → Table (replicate 4096 255) text 0
-unfolding index table_size slot_offset slot_size slot_count pair_size name_limit
-empty_table text = record {
-  room = length-replicate {A = ℕ} 4096 255;
-  few = omega arith;
-  ends = λ j l. absurd (omega arith);
-  indexed = all_free;
+-- A table without names: every slot is free.
+pub no_names : {held : NameTable} → length held.pairs ≡ pair_size * name_limit → held.slots ≡ replicate slot_count free → held.count ≡ 0 → NoNames held
+unfolding name_limit
+no_names {held} room slots none = record {
+  none = none;
+  table = λ text. record {
+    room = room;
+    few = omega (arith, none);
+    ends = λ j l. absurd (omega (arith, none));
+    indexed = rw none (none_entered (marked held.pairs text) slots);
+  };
 }
-
-pub cleared : (n : ℕ) → n ≡ table_size → (text : List ℕ) → Table (replicate n 255) text 0
-unfolding table_size slot_offset slot_size slot_count pair_size name_limit
-cleared n e text = rw e (empty_table text)

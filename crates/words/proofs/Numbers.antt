@@ -13,34 +13,35 @@ use Rattle.definitions.specs.Sheet.{name_limit, pair_size, number_at, pair_offse
 use Rattle.definitions.specs.Text.{occurs}
 use Rattle.definitions.proofs.Names.{eq_name_of_eq, eq_name_of_ne}
 use Rattle.std.specs.Prelude.{Ok, Err}
-use Rattle.words.specs.Table.{add_name, added, number_in, table_names, Table, searched, TooMany, NumberOf}
+use Rattle.words.specs.declared.NameTable.{NameTable}
+use Rattle.words.specs.Table.{add_name, added, number_in, first_names, table_names, Table, searched, TooMany, NumberOf}
 use Rattle.words.proofs.Indexing.{first_held, none_held}
 
 module _ (pairs text : List ℕ) where
-  pub names_length : (n : ℕ) → length (table_names pairs text n) ≡ n
-  unfolding table_names
-  names_length zero = refl
-  names_length (suc n) = rw (names_length n)
+  pub firsts_length : (n : ℕ) → length (first_names pairs text n) ≡ n
+  unfolding first_names
+  firsts_length zero = refl
+  firsts_length (suc n) = rw (firsts_length n)
 
   -- a name that none of them is
-  pub unmet : (x : Name) (n : ℕ) → ((i : ℕ) → i < n → marked pairs text i ≡ x → ⊥) → occurs eq_name x (table_names pairs text n) ≡ false
-  unfolding table_names occurs
+  pub unmet : (x : Name) (n : ℕ) → ((i : ℕ) → i < n → marked pairs text i ≡ x → ⊥) → occurs eq_name x (first_names pairs text n) ≡ false
+  unfolding first_names occurs
   unmet x zero absent = refl
   unmet x (suc n) absent =
       rw (eq_name_of_ne (λ e. absent n (omega arith) (sym e)), unmet x n (λ i l. absent i (omega arith)))
 
   -- a name that stands at i and nowhere before is among the later ones, and has the number i
-  module _ (x : Name) (i : ℕ) (here : marked pairs text i ≡ x) (first : occurs eq_name x (table_names pairs text i) ≡ false) where
-    at_last : (n : ℕ) → i ≡ n → (occurs eq_name x (table_names pairs text (suc n)) ≡ true) × (number_in (table_names pairs text (suc n)) x ≡ i)
-    unfolding table_names occurs number_in
-    at_last n e = (rw (eq_name_of_eq (sym here ∙ ap (marked pairs text) e)), rw (← e, first) (names_length i))
+  module _ (x : Name) (i : ℕ) (here : marked pairs text i ≡ x) (first : occurs eq_name x (first_names pairs text i) ≡ false) where
+    at_last : (n : ℕ) → i ≡ n → (occurs eq_name x (first_names pairs text (suc n)) ≡ true) × (number_in (first_names pairs text (suc n)) x ≡ i)
+    unfolding first_names occurs number_in
+    at_last n e = (rw (eq_name_of_eq (sym here ∙ ap (marked pairs text) e)), rw (← e, first) (firsts_length i))
 
-    further : (n : ℕ) → (occurs eq_name x (table_names pairs text n) ≡ true) × (number_in (table_names pairs text n) x ≡ i)
-        → (occurs eq_name x (table_names pairs text (suc n)) ≡ true) × (number_in (table_names pairs text (suc n)) x ≡ i)
-    unfolding table_names occurs number_in
+    further : (n : ℕ) → (occurs eq_name x (first_names pairs text n) ≡ true) × (number_in (first_names pairs text n) x ≡ i)
+        → (occurs eq_name x (first_names pairs text (suc n)) ≡ true) × (number_in (first_names pairs text (suc n)) x ≡ i)
+    unfolding first_names occurs number_in
     further n (o, e) = (rw (o, or-true (eq_name x (marked pairs text n))), rw (o) e)
 
-    pub among : (n : ℕ) → i < n → (occurs eq_name x (table_names pairs text n) ≡ true) × (number_in (table_names pairs text n) x ≡ i)
+    pub among : (n : ℕ) → i < n → (occurs eq_name x (first_names pairs text n) ≡ true) × (number_in (first_names pairs text n) x ≡ i)
     among zero h = absurd (omega arith)
     among (suc n) h = ⊎_elim (at_last n) (λ l. further n (among n l)) (eq-or-lt_of_le (le_of_suc-le-suc h))
 
@@ -66,19 +67,23 @@ module _ (pairs after text : List ℕ) (count : ℕ) (kept : take (pair_size * c
     unfolding marked
     marked_kept = rw (offset_kept, length_kept)
 
-  pub names_kept : (n : ℕ) → n ≤ count → table_names after text n ≡ table_names pairs text n
-  unfolding table_names
+  pub names_kept : (n : ℕ) → n ≤ count → first_names after text n ≡ first_names pairs text n
+  unfolding first_names
   names_kept zero h = refl
   names_kept (suc n) h = rw (marked_kept n (omega arith), names_kept n (omega arith))
 
+-- as many names as the table has
+pub names_length : (held : NameTable) (text : List ℕ) → length (table_names held text) ≡ held.count
+unfolding table_names
+names_length held text = firsts_length held.pairs text held.count
+
 -- The name was met before, or there is room for no more.
-module _ {pairs text : List ℕ} {count : ℕ} (table : Table pairs text count) (x : Name) where
-  pub found_again : {i : ℕ} → searched pairs text count x ≡ Ok i
-      → NumberOf x text pairs count pairs (record { number = i; count = count })
-  unfolding added add_name
+module _ {held : NameTable} {text : List ℕ} (table : Table held text) (x : Name) where
+  pub found_again : {i : ℕ} → searched held text x ≡ Ok i → NumberOf x text held held i
+  unfolding added add_name table_names
   found_again {i} e =
       let found = first_held table x e in
-      let all = among pairs text x i found.same (unmet pairs text x i found.earlier) count found.below in
+      let all = among held.pairs text x i found.same (unmet held.pairs text x i found.earlier) held.count found.below in
       record {
         noted = record { table = table; names = rw all.0; kept = refl; more = omega arith };
         number_is = rw all.0 (sym all.1);
@@ -86,9 +91,12 @@ module _ {pairs text : List ℕ} {count : ℕ} (table : Table pairs text count) 
         marks = found.same;
       }
 
-  pub unmet_name : {slot : ℕ} → searched pairs text count x ≡ Err slot → occurs eq_name x (table_names pairs text count) ≡ false
-  unmet_name e = unmet pairs text x count (none_held table x e)
+  pub unmet_name : {slot : ℕ} → searched held text x ≡ Err slot → occurs eq_name x (table_names held text) ≡ false
+  unfolding table_names
+  unmet_name e = unmet held.pairs text x held.count (none_held table x e)
 
-  pub none_more : {slot : ℕ} → searched pairs text count x ≡ Err slot → count ≡ name_limit → TooMany x text pairs count
-  unfolding add_name
-  none_more e all = rw (unmet_name e) (omega (arith, names_length pairs text count))
+  pub none_more : {slot : ℕ} → searched held text x ≡ Err slot → held.count ≡ name_limit → TooMany x text held
+  unfolding add_name table_names
+  none_more e all =
+      let unmet = unmet_name e in
+      rw unmet (omega (arith, firsts_length held.pairs text held.count))

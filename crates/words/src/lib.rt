@@ -2,23 +2,22 @@
 // where that does not stand there.
 #![tactic(auto)]
 
-ghost use Rattle.std.specs.Prelude.{◌≡◌, List, ℕ, ◌+◌, ◌≤◌, ◌<◌, length, drop, None, MatchOption};
+ghost use Rattle.std.specs.Prelude.{◌≡◌, ◌+◌, ◌*◌, ◌≤◌, ◌<◌, length, drop, None, MatchOption};
 ghost use Rattle.definitions.specs.TermText.{is_admitted, all_admitted};
 ghost use Rattle.definitions.specs.CallerNames.{names_in};
-ghost use Rattle.definitions.specs.Sheet.{marked};
-ghost use Rattle.definitions.specs.NameIndex.{slot_count, index};
+ghost use Rattle.definitions.specs.Sheet.{name_limit, pair_size, marked};
+ghost use Rattle.definitions.specs.NameIndex.{slot_count};
 ghost use Rattle.definitions.specs.TermReader.{name, expect, start_of, argument_follows};
 ghost use Rattle.identifier.specs.Class.{ClassTable};
 ghost use Rattle.name_index.specs.Probed.{seen};
 ghost use Rattle.words.specs.Places.{between, WordEnds, NameEnds, Expected};
 ghost use Rattle.words.specs.Starts.{as_start};
-ghost use Rattle.words.specs.Table.{Table, NamePlace, TooMany, NumberOf, PairFits, SlotFits};
-ghost use Rattle.words.specs.Table.{table_size, searched, with_number, with_pair, with_slot};
+ghost use Rattle.words.specs.Table.{Table, NoNames, NamePlace, TooMany, NumberOf, PairFits, searched, with_number, with_pair};
 
 use caller_names::{is_listed, well_formed};
 use identifier::{CLASSES, Class, same_name};
-use name_index::{SLOT_COUNT, Slot, probe_by};
-use number::{Marked, PAIR_SIZE, number_at};
+use name_index::{FREE, SLOT_COUNT, Slot, probe_by};
+use number::{Marked, PAIR_SIZE};
 use vocabulary::NAME_LIMIT;
 
 // Where the name bytes from `at` on end.
@@ -156,122 +155,101 @@ pub fn argument_follows(text: &[u8], at: usize) -> bool
     expect(text, start, b"(").is_some()
 }
 
-// Where the slots of the index begin: behind the pairs of all names.
-const SLOTS: usize = PAIR_SIZE * NAME_LIMIT;
-
-// The bytes of a slot, which holds a number.
-const SLOT_SIZE: usize = 2;
-
-// The bytes of a table: the pairs of all names, and behind them the slots of their index.
-pub const TABLE_SIZE: usize = SLOTS + SLOT_SIZE * SLOT_COUNT;
-
-// The memory of a table is lent, and its count stands in the place that its readers hand on. A struct of both would hold a `&mut`,
-// and each reader above would also have to promise that it stays the same reference: so `text`, `names` and `count` are given apart.
-
-// The table without names: every slot is free, and no pair is looked at.
-pub fn clear(names: &mut [u8])
-    requires { length names.old ≡ table_size }
-    ensures { (text : List ℕ) → Table names.new text 0 }
-{
-    names.fill(255);
-}
-
-// The number of a name, and how many names there are now.
-#[derive(Clone, Copy)]
-pub struct Numbered {
-    pub number: usize,
+// The names met in a text, in the order in which they were met: their pairs, which mark them there, and slots that are their index.
+#[derive(Drop)]
+pub struct NameTable {
+    pub pairs: [u8; PAIR_SIZE * NAME_LIMIT],
+    pub slots: [u16; SLOT_COUNT],
     pub count: usize,
 }
 
-// What a slot of the table holds for a name: a free one holds more than the number of any name.
-fn look(text: &[u8], names: &[u8], count: usize, name: &[u8], slot: usize) -> Slot
-    requires { Table names.now text.now count × (slot < slot_count) }
-    ensures { result ≡ seen (marked names.now text.now)
-        (index (marked names.now text.now) count) name.now slot }
-{
-    let number = number_at(names, SLOTS + SLOT_SIZE * slot);
-    if count <= number {
-        return Slot::Free;
-    }
-    let known = Marked {
-        pairs: names,
-        bytes: text,
-    };
-    if same_name(known.piece(number), name) {
-        return Slot::Equal(number);
-    }
-    Slot::Other
-}
-
-// The number of the name with these bytes, or the slot that it would enter.
-#[tactic(auto, unfolding(crate::specs::Table::searched, crate::specs::Places::between))]
-pub fn find_name(
-    text: &[u8],
-    at: usize,
-    end: usize,
-    names: &[u8],
-    count: usize,
-) -> Result<usize, usize>
-    requires { Table names.now text.now count × (at ≤ end) × (end ≤ length text.now) }
-    ensures { result ≡ searched names.now text.now count
-        (between at end text.now) }
-{
-    let name = &text[at..end];
-    probe_by(name, |slot| look(text, names, count, name, slot))
-}
-
 // Stores a number at an offset, low byte first.
-fn put_number(names: &mut [u8], at: usize, number: usize)
-    requires { (at + 1 < length names.old) × (number < 65536) }
-    ensures { names.new ≡ with_number names.old at number }
+fn put_number(pairs: &mut [u8], at: usize, number: usize)
+    requires { (at + 1 < length pairs.old) × (number < 65536) }
+    ensures { pairs.new ≡ with_number pairs.old at number }
 {
     let [low, high] = (number as u16).to_le_bytes();
-    names[at] = low;
-    names[at + 1] = high;
+    pairs[at] = low;
+    pairs[at + 1] = high;
 }
 
 // Stores the pair of a name that stands from `at` to `end` as number `count`.
-pub fn put_pair(names: &mut [u8], count: usize, at: usize, end: usize)
-    requires { PairFits names.old count at end }
-    ensures { names.new ≡ with_pair names.old count at end }
+fn put_pair(pairs: &mut [u8], count: usize, at: usize, end: usize)
+    requires { PairFits pairs.old count at end }
+    ensures { pairs.new ≡ with_pair pairs.old count at end }
 {
-    put_number(names, PAIR_SIZE * count, at);
-    put_number(names, PAIR_SIZE * count + 2, end - at);
+    put_number(pairs, PAIR_SIZE * count, at);
+    put_number(pairs, PAIR_SIZE * count + 2, end - at);
 }
 
-// Stores the number of a name in a slot of the index.
-fn put_slot(names: &mut [u8], slot: usize, number: usize)
-    requires { SlotFits names.old slot number }
-    ensures { names.new ≡ with_slot names.old slot number }
-{
-    put_number(names, SLOTS + SLOT_SIZE * slot, number);
-}
+impl NameTable {
+    // The table without names: every slot is free, and no pair is looked at.
+    pub fn new() -> NameTable
+        ensures { NoNames result }
+    {
+        NameTable {
+            pairs: [0; PAIR_SIZE * NAME_LIMIT],
+            slots: [FREE; SLOT_COUNT],
+            count: 0,
+        }
+    }
 
-// The number of a name: of the pair that marks the same bytes, or else of a new pair, which enters the index. None where there are
-// too many names.
-pub fn number_of_name(
-    text: &[u8],
-    at: usize,
-    end: usize,
-    names: &mut [u8],
-    count: usize,
-) -> Option<Numbered>
-    requires { Table names.old text.now count × NamePlace text.now at end }
-    ensures { MatchOption result (TooMany (between at end text.now) text.now names.old count)
-        (NumberOf (between at end text.now) text.now names.old count names.new) }
-{
-    match find_name(text, at, end, names, count) {
-        Ok(number) => Some(Numbered { number, count }),
-        Err(slot) => {
-            if count == NAME_LIMIT {
-                return None;
+    // Forgets the names.
+    pub fn clear(&mut self)
+        ensures { NoNames self.new }
+    {
+        self.slots.fill(FREE);
+        self.count = 0;
+    }
+
+    // What a slot holds for a name.
+    fn look(&self, text: &[u8], name: &[u8], slot: usize) -> Slot
+        requires { Table self.now text.now × (slot < slot_count) }
+        ensures { result ≡ seen (marked self.now.pairs text.now) self.now.slots name.now slot }
+    {
+        let held = self.slots[slot];
+        if held == FREE {
+            return Slot::Free;
+        }
+        let number = usize::from(held);
+        let names = Marked {
+            pairs: &self.pairs,
+            bytes: text,
+        };
+        if same_name(names.piece(number), name) {
+            return Slot::Equal(number);
+        }
+        Slot::Other
+    }
+
+    // The number of a name with these bytes, or the slot that the name would enter.
+    #[tactic(auto, unfolding(crate::specs::Table::searched))]
+    fn find(&self, text: &[u8], name: &[u8]) -> Result<usize, usize>
+        requires { Table self.now text.now }
+        ensures { result ≡ searched self.now text.now name.now }
+    {
+        probe_by(name, |slot| self.look(text, name, slot))
+    }
+
+    // The number of the name that stands from `at` to `end`: of the pair that marks the same bytes, or else of a new pair, which enters
+    // the index. None where there are too many names.
+    pub fn number_of_name(&mut self, text: &[u8], at: usize, end: usize) -> Option<usize>
+        requires { Table self.old text.now × NamePlace text.now at end }
+        ensures { MatchOption result (TooMany (between at end text.now) text.now self.old)
+            (NumberOf (between at end text.now) text.now self.old self.new) }
+    {
+        match self.find(text, &text[at..end]) {
+            Ok(number) => Some(number),
+            Err(slot) => {
+                let count = self.count;
+                if count == NAME_LIMIT {
+                    return None;
+                }
+                put_pair(&mut self.pairs, count, at, end);
+                self.slots[slot] = count as u16;
+                self.count = count + 1;
+                Some(count)
             }
-            put_pair(names, count, at, end);
-            put_slot(names, slot, count);
-            Some(Numbered {
-                number: count,
-                count: count + 1,
-            })
         }
     }
 }

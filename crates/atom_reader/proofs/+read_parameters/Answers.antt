@@ -38,7 +38,7 @@ returns-in_default t c ns b =
 -- the next parameter may begin where it does
 next : (t : ℕ) → (c : In-Some t) → let s = c.args in
     Begins s.text.now c.read_parameter.new.names s.bound.now
-    (record { at = c.in-Some.more; count = c.in_ok-first.first.count; depth = s.p.depth; to = s.p.to + c.in_ok-first.first.size }) 0 2
+    (record { at = c.in-Some.more; depth = s.p.depth; to = s.p.to + c.in_ok-first.first.size }) 0 2
 next t c =
     let pre = c.requires in
     let (ns, b) = pre.binds in

@@ -12,10 +12,10 @@ use Rattle.atom_reader.proofs.Atoms.{atom_place, atom_full, atom_not, atom_given
 use Rattle.atom_reader.proofs.read_atom.Goals as goal
 use Rattle.atom_reader.proofs.read_atom.Goals.{In_ok-read}
 
-pub returns-in_err-found : goal.returns-in_err-found
-returns-in_err-found c ns b =
+pub returns-in_err-number : goal.returns-in_err-number
+returns-in_err-number c ns b =
     let none : c.from_residual.result ≡ None = search rules in
-    rw none (atom_full ns _ c.args.end _ c.in_err-found.ensures)
+    rw none (atom_full ns _ c.args.end _ c.in_err-number.ensures)
 
 pub overflow_add-place : goal.overflow_add-place
 unfolding term_text_limit
@@ -26,12 +26,12 @@ overflow_add-place c =
 pub atom_parameters-requires : goal.atom_parameters-requires
 atom_parameters-requires c =
     let pre = c.requires in
-    atom_place c.in_ok-found.ensures pre.0 pre.1
+    atom_place c.in_ok-number.ensures pre.0 pre.1
 
 pub returns-in_err-read : goal.returns-in_err-read
 unfolding parameter_limit
 returns-in_err-read c ns b =
-    let found = c.in_ok-found.ensures in
+    let found = c.in_ok-number.ensures in
     let none : c.from_residual-in_err-read.result ≡ None = search rules in
     rw none (atom_not ns _ c.args.end found (c.in_err-read.ensures ns (binds_noted b found.noted refl)))
 
@@ -41,14 +41,14 @@ unfolding parameter_limit term_text_limit
 few c =
     let pre = c.requires.0 in
     let (ns, b) = pre.binds in
-    let (ps, reads, given) = (c.in_ok-read.ensures ns (binds_noted b c.in_ok-found.ensures.noted refl)).answer in
+    let (ps, reads, given) = (c.in_ok-read.ensures ns (binds_noted b c.in_ok-number.ensures.noted refl)).answer in
     (omega (arith, given.few), omega (arith, given.small, given.within, pre.short))
 
 pub put_atom-requires : goal.put_atom-requires
 unfolding name_limit term_text_limit
 put_atom-requires c =
     let pre = c.requires.0 in
-    let found = c.in_ok-found.ensures in
+    let found = c.in_ok-number.ensures in
     (omega (arith, pre.near, pre.within, pre.short), omega (arith, found.below, found.noted.table.few), (few (goal.at.put_atom-requires c).In_ok-read).0)
 
 pub overflow_add-result : goal.overflow_add-result
@@ -57,5 +57,5 @@ overflow_add-result c = omega (arith, (few (goal.at.overflow_add-result c).In_ok
 pub returns : goal.returns
 unfolding parameter_limit
 returns c ns b =
-    let found = c.in_ok-found.ensures in
+    let found = c.in_ok-number.ensures in
     atom_given ns _ c.args.end found (c.in_ok-read.ensures ns (binds_noted b found.noted refl)) c.put_atom.ensures c.requires.1

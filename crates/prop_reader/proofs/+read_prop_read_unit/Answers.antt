@@ -32,11 +32,11 @@ read_prop-returns-in_err-left t c ns b =
 
 -- what was read so far
 so_far : (t : ℕ) → (c : read_prop-At-loop t) → let s = c.args in
-    (ns : List Name) → Binds ns (table_names s.names.now s.text.now s.p.count) s.bound.now s.p.depth
+    (ns : List Name) → Binds ns (table_names s.names.now s.text.now) s.bound.now s.p.depth
     → Joining ns s.text.now s.names.now s.bound.now s.code.now s.p s.levels s.least
     c.loop.names c.loop.bound c.loop.code c.loop.left (s.levels - c.loop.counter)
 so_far t c ns b =
-    c.loop.invariant.keeps ns _ _ _ _ _ b (joining_starts ns _ c.if-levels-eq0.false (c.in_ok-left.ensures ns b))
+    c.loop.invariant.keeps ns _ _ _ _ b (joining_starts ns _ c.if-levels-eq0.false (c.in_ok-left.ensures ns b))
 
 pub read_prop-returns-in_default : goal.read_prop-returns-in_default
 read_prop-returns-in_default t c ns b =
@@ -46,7 +46,7 @@ read_prop-returns-in_default t c ns b =
 right_place : (t : ℕ) → (c : read_prop-In-Some t) → let loop = c.loop in
     let s = c.args in
     Begins s.text.now loop.names loop.bound
-    (record { at = loop.left.end + 5; count = loop.left.count; depth = s.p.depth; to = s.p.to + loop.left.size }) (s.levels - 1) 0
+    (record { at = loop.left.end + 5; depth = s.p.depth; to = s.p.to + loop.left.size }) (s.levels - 1) 0
 right_place t c =
     let (ns, b) = c.requires.binds in
     right_begins (so_far t (goal.at.read_prop-In-Some t c).At-loop ns b) c.requires b c.if-levels-eq0.false
@@ -95,11 +95,10 @@ read_prop-loop-preserved t c =
     let made = (c.in_ok-left-2.ensures j₀.prop q j₀.read.measured right.measured).answer in
     record {
       within = rw made.end_is right.within;
-      names_long = c.read_prop.auto.names ∙ inv.names_long;
       bound_long = c.read_prop.auto.bound ∙ inv.bound_long;
       code_long = c.join.auto.code ∙ (c.read_prop.auto.code ∙ inv.code_long);
-      keeps = λ ns pairs₀ bound₀ code₀ at count b j₀.
-          let j = inv.keeps ns pairs₀ bound₀ code₀ at count b j₀ in
+      keeps = λ ns held₀ bound₀ code₀ at b j₀.
+          let j = inv.keeps ns held₀ bound₀ code₀ at b j₀ in
           rw (← one_less)
           (joining_on j (omega (arith, c.loop-test.true)) c.in-Some.ensures.reads c.right_least-asked.ensures.is (c.in_ok-right.ensures ns (binds_noted b j.read.noted j.bound_kept))
           (λ q m. c.in_ok-left-2.ensures j.prop q j.read.measured m));
@@ -110,19 +109,18 @@ read_prop-returns t c ns b = joining_done (so_far t (goal.at.read_prop-returns t
 
 -- the lengths are kept up to the loop, and up to the right side
 looped : (t : ℕ) → (c : read_prop-At-loop t) → let s = c.args in
-    (length c.loop.names ≡ length s.names.now) × (length c.loop.bound ≡ length s.bound.now) × (length c.loop.code ≡ length s.code.now)
+    (length c.loop.bound ≡ length s.bound.now) × (length c.loop.code ≡ length s.code.now)
 looped t c =
     let kept = c.read_unit.auto in
     let inv = c.loop.invariant in
-    (inv.names_long ∙ kept.names, inv.bound_long ∙ kept.bound, inv.code_long ∙ kept.code)
+    (inv.bound_long ∙ kept.bound, inv.code_long ∙ kept.code)
 
 sided : (t : ℕ) → (c : read_prop-After-read_prop t) → let s = c.args in
-    (length c.read_prop.new.names ≡ length s.names.now) × (length c.read_prop.new.bound ≡ length s.bound.now)
-    × (length c.read_prop.new.code ≡ length s.code.now)
+    (length c.read_prop.new.bound ≡ length s.bound.now) × (length c.read_prop.new.code ≡ length s.code.now)
 sided t c =
     let kept = c.read_prop.auto in
-    let (names, bound, code) = looped t (goal.at.read_prop-After-read_prop t c).At-loop in
-    (kept.names ∙ names, kept.bound ∙ bound, kept.code ∙ code)
+    let (bound, code) = looped t (goal.at.read_prop-After-read_prop t c).At-loop in
+    (kept.bound ∙ bound, kept.code ∙ code)
 
 pub read_prop-loop-init : goal.read_prop-loop-init
 read_prop-loop-init t c =
@@ -133,41 +131,29 @@ read_prop-loop-init t c =
 pub read_prop-goes_on-requires : goal.read_prop-goes_on-requires
 read_prop-goes_on-requires t c = c.loop.invariant.within
 
-pub read_prop-shape_of-names-in_default : goal.read_prop-shape_of-names-in_default
-read_prop-shape_of-names-in_default t c = (looped t (goal.at.read_prop-shape_of-names-in_default t c).At-loop).0
-
 pub read_prop-shape_of-bound-in_default : goal.read_prop-shape_of-bound-in_default
-read_prop-shape_of-bound-in_default t c = (looped t (goal.at.read_prop-shape_of-bound-in_default t c).At-loop).1
+read_prop-shape_of-bound-in_default t c = (looped t (goal.at.read_prop-shape_of-bound-in_default t c).At-loop).0
 
 pub read_prop-shape_of-code-in_default : goal.read_prop-shape_of-code-in_default
-read_prop-shape_of-code-in_default t c = (looped t (goal.at.read_prop-shape_of-code-in_default t c).At-loop).2
-
-pub read_prop-shape_of-names-in_err-right : goal.read_prop-shape_of-names-in_err-right
-read_prop-shape_of-names-in_err-right t c = (sided t (goal.at.read_prop-shape_of-names-in_err-right t c).After-read_prop).0
+read_prop-shape_of-code-in_default t c = (looped t (goal.at.read_prop-shape_of-code-in_default t c).At-loop).1
 
 pub read_prop-shape_of-bound-in_err-right : goal.read_prop-shape_of-bound-in_err-right
-read_prop-shape_of-bound-in_err-right t c = (sided t (goal.at.read_prop-shape_of-bound-in_err-right t c).After-read_prop).1
+read_prop-shape_of-bound-in_err-right t c = (sided t (goal.at.read_prop-shape_of-bound-in_err-right t c).After-read_prop).0
 
 pub read_prop-shape_of-code-in_err-right : goal.read_prop-shape_of-code-in_err-right
-read_prop-shape_of-code-in_err-right t c = (sided t (goal.at.read_prop-shape_of-code-in_err-right t c).After-read_prop).2
-
-pub read_prop-shape_of-names-in_err-left-2 : goal.read_prop-shape_of-names-in_err-left-2
-read_prop-shape_of-names-in_err-left-2 t c = (sided t (goal.at.read_prop-shape_of-names-in_err-left-2 t c).After-read_prop).0
+read_prop-shape_of-code-in_err-right t c = (sided t (goal.at.read_prop-shape_of-code-in_err-right t c).After-read_prop).1
 
 pub read_prop-shape_of-bound-in_err-left-2 : goal.read_prop-shape_of-bound-in_err-left-2
-read_prop-shape_of-bound-in_err-left-2 t c = (sided t (goal.at.read_prop-shape_of-bound-in_err-left-2 t c).After-read_prop).1
+read_prop-shape_of-bound-in_err-left-2 t c = (sided t (goal.at.read_prop-shape_of-bound-in_err-left-2 t c).After-read_prop).0
 
 pub read_prop-shape_of-code-in_err-left-2 : goal.read_prop-shape_of-code-in_err-left-2
-read_prop-shape_of-code-in_err-left-2 t c = c.join.auto.code ∙ (sided t (goal.at.read_prop-shape_of-code-in_err-left-2 t c).After-read_prop).2
-
-pub read_prop-shape_of-names : goal.read_prop-shape_of-names
-read_prop-shape_of-names t c = (looped t (goal.at.read_prop-shape_of-names t c).At-loop).0
+read_prop-shape_of-code-in_err-left-2 t c = c.join.auto.code ∙ (sided t (goal.at.read_prop-shape_of-code-in_err-left-2 t c).After-read_prop).1
 
 pub read_prop-shape_of-bound : goal.read_prop-shape_of-bound
-read_prop-shape_of-bound t c = (looped t (goal.at.read_prop-shape_of-bound t c).At-loop).1
+read_prop-shape_of-bound t c = (looped t (goal.at.read_prop-shape_of-bound t c).At-loop).0
 
 pub read_prop-shape_of-code : goal.read_prop-shape_of-code
-read_prop-shape_of-code t c = (looped t (goal.at.read_prop-shape_of-code t c).At-loop).2
+read_prop-shape_of-code t c = (looped t (goal.at.read_prop-shape_of-code t c).At-loop).1
 
 pub read_unit-read_atom-requires : goal.read_unit-read_atom-requires
 read_unit-read_atom-requires t c =

@@ -17,11 +17,11 @@ pub argument-requires : goal.argument-requires
 unfolding TurnBegins NamesBegin scene_of with_names
 argument-requires c =
     let pre = c.requires in
-    (record { value = scene_of _ [] [] pre.value _; holds = pre.holds }, sym c.argument_follows.ensures ∙ c.if-argument_follows.true)
+    (record { value = scene_of _ [] c.args.names.now pre.value _; holds = pre.holds }, sym c.argument_follows.ensures ∙ c.if-argument_follows.true)
 
 pub returns-then-argument_follows : goal.returns-then-argument_follows
 unfolding TurnEnds NamesEnd scene_of with_names left_at
-returns-then-argument_follows c before held = ends_within _ _ _ _ _ (c.argument.ensures (scene_of _ [] [] before _) held) (omega arith)
+returns-then-argument_follows c before held = ends_within _ _ _ _ _ (c.argument.ensures (scene_of _ [] c.args.names.now before _) held) (omega arith)
 
 pub expect-requires : goal.expect-requires
 unfolding TurnBegins scene_of

@@ -1,5 +1,4 @@
 -- The code, and then the records and the pairs.
-use mathlib.Core.Path.{refl}
 use Rattle.term_stack.specs.Turning.{scene_of}
 use Rattle.term_reader.specs.Whole.{HasRead, Rereads}
 use Rattle.term_reader.specs.Answered.{HasRoom, HandsOver}
@@ -16,7 +15,7 @@ pub copy_out-requires-clause-copyable : goal.copy_out-requires-clause-copyable
 unfolding Rereads HasRoom scene_of
 copy_out-requires-clause-copyable c =
     let fitting = c.requires.holds in
-    held _ (c.store_code.ensures c.requires.value fitting.measured) fitting.size_is refl
+    held (c.store_code.ensures c.requires.value fitting.measured) fitting.size_is
 
 pub copy_out-requires-clause-copyable_2 : goal.copy_out-requires-clause-copyable_2
 unfolding HasRoom

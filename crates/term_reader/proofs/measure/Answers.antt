@@ -24,8 +24,7 @@ unfolding term_text_limit
 read-requires c = record {
   short = c.if-text-gt-TEXT_LIMIT.false;
   listed = sym c.all_admitted.ensures ∙ c.if-not-all_admitted.false;
-  pairs = c.requires.0;
-  roomy = c.requires.1;
+  roomy = c.requires;
 }
 
 pub returns : goal.returns

@@ -7,13 +7,9 @@ use Rattle.term_reader.proofs.Turns.{begun}
 use Rattle.term_reader.proofs.Ends.{ended}
 use Rattle.term_reader.proofs.read.Goals as goal
 
-pub clear-requires : goal.clear-requires
-clear-requires c = c.requires.pairs
-
 pub loop-names-init : goal.loop-names-init
 loop-names-init c = record {
-  there = begun c.args.work.now c.requires (c.clear.ensures _) _;
-  names_size = refl;
+  there = begun c.args.work.now c.requires c.clear.ensures _;
   code_size = refl;
 }
 
@@ -37,7 +33,6 @@ loop-names-preserved c =
     let inv = c.loop-names.invariant in
     record {
       there = (c.in_ok-state.ensures _ inv.there).there;
-      names_size = omega (arith, inv.names_size);
       code_size = omega (arith, inv.code_size);
     }
 

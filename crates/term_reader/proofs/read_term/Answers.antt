@@ -1,12 +1,7 @@
 -- No term in the first pass is 20, a short room then 16, and else the term is handed over.
-use Prim.Native.Nat.{ℕ}
 use mathlib.Core.Path.{◌≡◌, sym, ◌∙◌}
 use borrow.Author.Rules.{rules}
-use lib.ListN.{length-replicate}
 use Rattle.std.specs.Prelude.{Ok, Err}
-use Rattle.definitions.specs.Sheet.{name_limit, pair_size}
-use Rattle.definitions.specs.NameIndex.{slot_count}
-use Rattle.words.specs.Table.{slot_size, slot_offset, table_size}
 use Rattle.definitions.specs.CallerNames.{names_in}
 use Rattle.term_stack.specs.Turning.{scene_of}
 use Rattle.term_reader.specs.Answered.{HasRoom, HandsOver, ReadsTerm, room_of}
@@ -15,8 +10,7 @@ use Rattle.term_reader.proofs.read_term.Goals as goal
 use Rattle.term_reader.proofs.read_term.Goals.{After-from_residual, After-at, After-hand_over}
 
 pub measure-requires : goal.measure-requires
-unfolding table_size slot_offset slot_size slot_count pair_size name_limit
-measure-requires c = (length-replicate {A = ℕ} 4096 0, c.new-work.ensures)
+measure-requires c = c.new-work.ensures
 
 pub too_short-requires : goal.too_short-requires
 too_short-requires c = counted c.in_ok-size.ensures.0

@@ -27,8 +27,8 @@ pub give-requires : goal.give-requires
 unfolding NamesBegin TurnFollows AtState with_names scene_of goes_on
 give-requires c =
     let (begins, on) = c.requires in
-    (record { value = scene_of _ [] [] begins.value _; holds = rw c.in-Giving.is at begins.holds }, ltb-true 0 _ (rw c.in-Giving.is at on))
+    (record { value = scene_of _ [] c.args.names.now begins.value _; holds = rw c.in-Giving.is at begins.holds }, ltb-true 0 _ (rw c.in-Giving.is at on))
 
 pub returns-in-Giving : goal.returns-in-Giving
 unfolding NamesEnd GoesOn AtState left_of with_names scene_of
-returns-in-Giving c before at = rw c.in-Giving.is (c.give.ensures (scene_of _ [] [] before _) (rw c.in-Giving.is at at))
+returns-in-Giving c before at = rw c.in-Giving.is (c.give.ensures (scene_of _ [] c.args.names.now before _) (rw c.in-Giving.is at at))
