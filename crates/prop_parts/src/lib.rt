@@ -148,12 +148,12 @@ pub fn put(code: &mut [u8], to: usize, b: u8)
 }
 
 // A number of two bytes, low byte first.
-#[tactic(auto, unfolding(definitions::specs::Code::u16))]
+#[tactic(auto, unfolding(output::specs::Wrote::puts))]
 pub fn put_u16(code: &mut [u8], to: usize, n: usize)
     requires { n < 65536 }
     ensures { code.new ≡ sets code.old to (u16 n) }
 {
-    store(code, to, &(n as u16).to_le_bytes());
+    output::sink::put_u16(&mut Writer { out: code, to }, n as u16);
 }
 
 // The kind of a parameter whose name has this number, where quantifiers bind names of these numbers.

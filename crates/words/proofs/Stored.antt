@@ -1,10 +1,11 @@
 -- A number that is stored reads back, and the bytes around it stay.
-use Prim.Native.Nat.{ℕ, ◌+◌, ◌/◌, ◌%◌, ◌≤◌, ◌<◌}
+use Prim.Native.Nat.{ℕ, suc, ◌+◌, ◌/◌, ◌%◌, ◌≤◌, ◌<◌}
 use mathlib.Core.Path.{◌≡◌, ◌∙◌}
 use mathlib.Core.List.{List}
 use native.Mathlib.Omega.{arith}
 use lib.ListN.{length, get_or, set, take, length-set}
 use lib.Seq.{get_or-set_same, get_or-set_other, take-set-le}
+use Rattle.definitions.specs.Code.{u16}
 use Rattle.definitions.specs.Sheet.{number_at}
 use Rattle.words.specs.Table.{with_number}
 
@@ -13,24 +14,25 @@ module _ (memory : List ℕ) (at n : ℕ) where
   low = set memory at (n % 256)
 
   pub stored_length : length (with_number memory at n) ≡ length memory
-  unfolding with_number
-  stored_length = length-set low (at + 1) (n / 256) ∙ length-set memory at (n % 256)
+  unfolding with_number u16
+  stored_length = length-set low (suc at) (n / 256) ∙ length-set memory at (n % 256)
 
   -- the bytes before it
   pub stored_kept : (k : ℕ) → k ≤ at → take k (with_number memory at n) ≡ take k memory
-  unfolding with_number
-  stored_kept k h = take-set-le k low (at + 1) (n / 256) (omega arith) ∙ take-set-le k memory at (n % 256) h
+  unfolding with_number u16
+  stored_kept k h = take-set-le k low (suc at) (n / 256) (omega arith) ∙ take-set-le k memory at (n % 256) h
 
   pub stored_number : at + 1 < length memory → number_at (with_number memory at n) at ≡ n
-  unfolding with_number number_at
+  unfolding with_number u16 number_at
   stored_number room =
-      let first = get_or-set_other low (at + 1) at (n / 256) 0 (λ e. absurd (omega arith)) ∙ get_or-set_same memory at (n % 256) 0 (omega arith) in
-      let second = get_or-set_same low (at + 1) (n / 256) 0 (omega (arith, length-set memory at (n % 256))) in
+      let first = get_or-set_other low (suc at) at (n / 256) 0 (λ e. absurd (omega arith)) ∙ get_or-set_same memory at (n % 256) 0 (omega arith) in
+      let more : at + 1 ≡ suc at = omega arith in
+      let second : get_or (with_number memory at n) (at + 1) 0 ≡ n / 256 = rw more (get_or-set_same low (suc at) (n / 256) 0 (omega (arith, length-set memory at (n % 256)))) in
       rw (first, second) (omega arith)
 
   other_byte : (k : ℕ) → (k ≡ at → ⊥) → (k ≡ at + 1 → ⊥) → get_or (with_number memory at n) k 0 ≡ get_or memory k 0
-  unfolding with_number
-  other_byte k a b = get_or-set_other low (at + 1) k (n / 256) 0 b ∙ get_or-set_other memory at k (n % 256) 0 a
+  unfolding with_number u16
+  other_byte k a b = get_or-set_other low (suc at) k (n / 256) 0 (λ e. b (omega (arith, e))) ∙ get_or-set_other memory at k (n % 256) 0 a
 
   -- a number whose two bytes lie before or behind it
   pub other_number : (k : ℕ) → (k ≤ at + 1 → k + 1 < at) → number_at (with_number memory at n) k ≡ number_at memory k

@@ -1,11 +1,13 @@
 -- The names met in a text: a list with the latest in front, and a table of their pairs of offset and length, and of their index.
-use Rattle.std.specs.Prelude.{ℕ, zero, suc, ◌+◌, ◌-◌, ◌*◌, ◌/◌, ◌%◌, ◌<◌, ◌≤◌, ◌≡◌, cond, List, [], ◌∷◌, length, take, set, Result}
+use Rattle.std.specs.Prelude.{ℕ, zero, suc, ◌+◌, ◌-◌, ◌*◌, ◌<◌, ◌≤◌, ◌≡◌, cond, List, [], ◌∷◌, length, take, Result}
 use Rattle.definitions.specs.Name.{Name, eq_name}
 use Rattle.definitions.specs.Sheet.{name_limit, name_length_limit, pair_size, pair_end, marked}
+use Rattle.definitions.specs.Code.{u16}
 use Rattle.definitions.specs.NameIndex.{index}
 use Rattle.definitions.specs.Text.{occurs}
 use Rattle.definitions.specs.TermText.{term_text_limit}
 use Rattle.name_index.specs.Probed.{probed}
+use Rattle.std.proofs.lemmas.List.Edits.{sets}
 use Rattle.words.specs.declared.NameTable.{NameTable}
 
 -- a name is added where it is new
@@ -48,7 +50,7 @@ pub record PairFits (pairs : List ℕ) (count at end : ℕ) : Type 0 where
 
 -- a number stored at an offset, low byte first
 unfoldable pub with_number : List ℕ → ℕ → ℕ → List ℕ
-with_number memory at n = set (set memory at (n % 256)) (at + 1) (n / 256)
+with_number memory at n = sets memory at (u16 n)
 
 -- the pair of a name stored as number `count`: offset and length
 unfoldable pub with_pair : List ℕ → ℕ → ℕ → ℕ → List ℕ

@@ -18,6 +18,8 @@ use caller_names::{is_listed, well_formed};
 use identifier::{CLASSES, Class, same_name};
 use name_index::{FREE, SLOT_COUNT, Slot, probe_by};
 use number::{Marked, PAIR_SIZE};
+use output::Writer;
+use output::sink::put_u16;
 use vocabulary::NAME_LIMIT;
 
 // Where the name bytes from `at` on end.
@@ -164,13 +166,12 @@ pub struct NameTable {
 }
 
 // Stores a number at an offset, low byte first.
+#[tactic(auto, unfolding(output::specs::Wrote::puts, crate::specs::Table::with_number))]
 fn put_number(pairs: &mut [u8], at: usize, number: usize)
     requires { (at + 1 < length pairs.old) × (number < 65536) }
     ensures { pairs.new ≡ with_number pairs.old at number }
 {
-    let [low, high] = (number as u16).to_le_bytes();
-    pairs[at] = low;
-    pairs[at + 1] = high;
+    put_u16(&mut Writer { out: pairs, to: at }, number as u16);
 }
 
 // Stores the pair of a name that stands from `at` to `end` as number `count`.
