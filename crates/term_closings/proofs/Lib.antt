@@ -1,4 +1,5 @@
 pub mod Tops
+pub mod Taken
 pub mod Enclosed
 pub mod Paired
 pub mod Bodies

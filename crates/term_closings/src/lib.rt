@@ -28,6 +28,7 @@ use words::{NameTable, argument_follows, expect};
 // As in `term_openings`, each function is lent the memories that it reads or writes and no others, so that its contract says what stays.
 
 // The first term after a bracket is in hand: the bracket closes, or the second part of a pair is to be read.
+#[tactic(auto, using(crate::proofs::Taken::taken_within, crate::proofs::Taken::taken_small))]
 fn give_bracket(text: &[u8], work: &mut Work, s: Progress, hand: Hand, p: Purpose) -> Option<State>
     requires { TextBegins (AtEntry hand (Entry.Bracket p)) text.now work.old s }
     ensures { TextEnds (AtEntry hand (Entry.Bracket p)) 2 text.now work.old s work.new result }
@@ -45,6 +46,7 @@ fn give_bracket(text: &[u8], work: &mut Work, s: Progress, hand: Hand, p: Purpos
 }
 
 // The second part of a pair is in hand: the bracket closes, and the pair is used as the bracket was to be.
+#[tactic(auto, using(crate::proofs::Taken::taken_within, crate::proofs::Taken::taken_small))]
 fn give_second(
     text: &[u8],
     work: &mut Work,
@@ -76,6 +78,7 @@ fn give_second(
 }
 
 // The head of a let with these names is in hand, and then its body.
+#[tactic(auto, using(crate::proofs::Taken::taken_within, crate::proofs::Taken::taken_small))]
 fn give_let(text: &[u8], work: &mut Work, s: Progress, hand: Hand, x: u16, y: u16) -> Option<State>
     requires { TextBegins (AtEntry hand (Entry.LetHead x y)) text.now work.old s }
     ensures { TextEnds (AtEntry hand (Entry.LetHead x y)) 2 text.now work.old s work.new result }

@@ -2,7 +2,6 @@
 use native.Mathlib.Omega.{arith}
 use Rattle.term_stack.specs.Standing.{left_at}
 use Rattle.term_stack.specs.Using.{left_after}
-use Rattle.term_stack.proofs.Closes.{given_small}
 use Rattle.term_openings.specs.Beginning.{with_text, TextBegins, TextEnds}
 use Rattle.term_openings.proofs.ClosedTerms.{ends_within}
 use Rattle.term_closings.proofs.Enclosed.{bracket_refused, bracket_opens, bracket_stuck, bracket_using}
@@ -12,21 +11,9 @@ pub returns-then-hand : goal.returns-then-hand
 unfolding TextEnds with_text
 returns-then-hand c z g = bracket_refused g c.if-hand.true
 
-pub expect-requires : goal.expect-requires
-unfolding TextBegins with_text
-expect-requires c = c.requires.holds.to.placed.within
-
-pub waiting-requires : goal.waiting-requires
-unfolding TextBegins with_text
-waiting-requires c = given_small c.requires.holds
-
 pub returns-in-Some : goal.returns-in-Some
 unfolding TextEnds with_text
 returns-in-Some c z g = bracket_opens c.if-hand.false c.in-Some.ensures c.waiting.ensures _ _ g c.enter.ensures
-
-pub expect-requires-2 : goal.expect-requires-2
-unfolding TextBegins with_text
-expect-requires-2 c = c.requires.holds.to.placed.within
 
 pub returns-in_err-end : goal.returns-in_err-end
 unfolding TextEnds with_text

@@ -11,18 +11,10 @@ pub returns-then-hand : goal.returns-then-hand
 unfolding TextEnds with_text
 returns-then-hand c z g = second_refused g c.if-hand.true
 
-pub expect-requires : goal.expect-requires
-unfolding TextBegins with_text
-expect-requires c = c.requires.holds.to.placed.within
-
 pub returns-in_err-end : goal.returns-in_err-end
 unfolding TextEnds with_text
 returns-in_err-end c z g =
     rw c.from_residual.ensures (second_stuck c.if-hand.false g c.in_err-end.ensures)
-
-pub waiting-requires : goal.waiting-requires
-unfolding TextBegins with_text
-waiting-requires c = given_small c.requires.holds
 
 pub over-pair-requires : goal.over-pair-requires
 unfolding TextBegins with_text
