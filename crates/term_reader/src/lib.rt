@@ -107,6 +107,7 @@ fn read(
 }
 
 // The first pass, which stores no code: 20 where there is no term.
+// Tried: with no `requires`, how long the arrays of the lent `work` are stays open, since nothing here makes slices of them.
 fn measure(
     text: &[u8],
     types: &[u8],
