@@ -154,30 +154,40 @@ pub fn expect(code: &[u8], made: &[Made], r: usize, connective: Connective, node
     STOPS + node
 }
 
-// The first side of a conjunction that is inferred, or a stop.
+// The side of a conjunction that is inferred, as the closure finds it, or a stop.
 #[tactic(auto, using(crate::proofs::Halves::expected_space))]
-pub fn first_side(code: &[u8], made: &[Made], r: usize, node: usize) -> usize
-    requires { (r < stops → Space code.now made.now r) × (node < node_limit) }
-    ensures { Projected code.now made.now r (FirstSide made.now) node result }
+fn project<F: FnOnce(usize) -> usize>(
+    code: &[u8],
+    made: &[Made],
+    r: usize,
+    node: usize,
+    side: F,
+) -> usize
+    requires given { (r < stops → Space code.now made.now r) × (node < node_limit) }
+    requires side { (p : ℕ) → Space code.now made.now p → F.pre side p }
+    ensures { Projected code.now made.now r (F.post side) node result }
 {
     let whole = expect(code, made, r, Connective::And, node);
     if STOPS <= whole {
         return whole;
     }
-    left(made, whole)
+    side(whole)
+}
+
+// The first side of a conjunction that is inferred, or a stop.
+pub fn first_side(code: &[u8], made: &[Made], r: usize, node: usize) -> usize
+    requires { (r < stops → Space code.now made.now r) × (node < node_limit) }
+    ensures { Projected code.now made.now r (FirstSide made.now) node result }
+{
+    project(code, made, r, node, |whole| left(made, whole))
 }
 
 // The second side.
-#[tactic(auto, using(crate::proofs::Halves::expected_space))]
 pub fn second_side(code: &[u8], made: &[Made], r: usize, node: usize) -> usize
     requires { (r < stops → Space code.now made.now r) × (node < node_limit) }
     ensures { Projected code.now made.now r (RightOf code.now made.now) node result }
 {
-    let conjunction = expect(code, made, r, Connective::And, node);
-    if STOPS <= conjunction {
-        return conjunction;
-    }
-    right(code, made, conjunction)
+    project(code, made, r, node, |whole| right(code, made, whole))
 }
 
 // Makes a proposition of two, unless the second is a stop.
