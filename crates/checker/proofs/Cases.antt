@@ -29,7 +29,7 @@ use Rattle.checker.specs.Helping.{After, Bound}
 use Rattle.checker.proofs.Forms.{Three, case_view}
 use Rattle.checker.proofs.Sides.{Unopened, Opening, unopened, opening}
 use Rattle.checker.proofs.Inferring.{head_stands_there, head_halves}
-use Rattle.checker.proofs.Steps.{Call, call, few, bound_in, bound_long, restored, answer_space}
+use Rattle.checker.proofs.Steps.{Call, call, few, bound_in, restored, answer_space}
 
 module _ {records code : List ℕ} {stride : ℕ} {scope : List (Option ℕ)} {mades : List Made} {m n : ℕ} (j : Judgeable records code stride scope mades m n)
     {a : ℕ} (ea : a ≡ field_at records m 1) (e : OfKind records m variant.Case) where
@@ -105,9 +105,6 @@ module _ {records code : List ℕ} {stride : ℕ} {scope : List (Option ℕ)} {m
             pub left_call : Call records code stride bound mades₁ m b next
             left_call = call j left_less (bound_in bd left_name.below entries left_stood) (i.kept.long ∙ j.slots) (omega (arith, left_room, j.room))
 
-            pub left_long : {called : List (Option ℕ)} → called ≡ bound → length called ≡ name_space
-            left_long s = ap length s ∙ bound_long bd left_name.below entries
-
             -- Once its binder is taken off again:
             module _ {called : List (Option ℕ)} {mades₂ : List Made} {back : List (Option ℕ)} (s : called ≡ bound) (kept : Kept next (next + nodes (term b)) mades₁ mades₂)
                 (off : back ≡ set called (field_at records m 4) hidden) where
@@ -138,9 +135,6 @@ module _ {records code : List ℕ} {stride : ℕ} {scope : List (Option ℕ)} {m
                   pub right_call : Call records code stride bound₂ mades₂ m c last
                   right_call = call j right_less (bound_in bd₂ right_name.below entries₂ (sides scanned).right) (kept.long ∙ i.kept.long ∙ j.slots)
                       (omega (arith, right_room, j.room))
-
-                  pub right_long : {called₂ : List (Option ℕ)} → called₂ ≡ bound₂ → length called₂ ≡ name_space
-                  right_long s₂ = ap length s₂ ∙ bound_long bd₂ right_name.below entries₂
 
                   pub right_under : {called₂ : List (Option ℕ)} → called₂ ≡ bound₂ → called₂ ≡ set scope (field_at records m 5) (Some side)
                   right_under s₂ = s₂ ∙ bd₂.bound ∙ ap (λ (l : List (Option ℕ)). set l (field_at records m 5) (Some side)) left_back

@@ -26,7 +26,7 @@ use Rattle.checker.specs.Judging.{ChecksAs, Inferred, Checked}
 use Rattle.checker.specs.Helping.{After, LabelTested, Bound, BodySide, BodyTested}
 use Rattle.checker.proofs.Forms.{One, Two, function_view, pair_view, inl_view, inr_view, abort_view, sorry_is, let_is}
 use Rattle.checker.proofs.Checking.{pair_other, function_other, inl_other, inr_other, pair_fails, pair_then, inl_part, inr_part, function_label, function_body, abort_part, sorry_passes, let_fails, case_unopened, case_fails, case_then, Falls, fall_stops, fall_same, fall_differ}
-use Rattle.checker.proofs.Steps.{Call, call, few, bound_in, bound_long, restored, side_halves, side_other, known_answer, checked_at, checks_under}
+use Rattle.checker.proofs.Steps.{Call, call, few, bound_in, restored, side_halves, side_other, known_answer, checked_at, checks_under}
 use Rattle.checker.proofs.Cases.{head_unopened, head_opening, head_half, sides, left_name, right_name, left_under, left_back, left_kept, right_under, right_back, right_kept, right_node, term_is, view}
 
 module _ {records code : List ℕ} {stride : ℕ} {scope : List (Option ℕ)} {mades : List Made} {m n p : ℕ} (j : Judgeable records code stride scope mades m n) (stood : Stood code p)
@@ -87,9 +87,6 @@ module _ {records code : List ℕ} {stride : ℕ} {scope : List (Option ℕ)} {m
         module _ {bound : List (Option ℕ)} {hidden : Option ℕ} (bd : Bound scope (field_at records m 2) (p + 1) bound hidden) where
           pub function_call : Call records code stride bound mades m a (n + 1)
           function_call = call j function_is.less (bound_in bd function_name.below j.entries function_left) j.slots (omega (arith, j.room, function_is.size))
-
-          pub function_long : {called : List (Option ℕ)} → called ≡ bound → length called ≡ name_space
-          function_long s = ap length s ∙ bound_long bd function_name.below j.entries
 
           pub function_done : {called : List (Option ℕ)} {mades' : List Made} {back : List (Option ℕ)} {r : ℕ} → Checked records code stride bound mades a (n + 1) side called mades' r
               → back ≡ set called (field_at records m 2) hidden → At back mades' r

@@ -30,7 +30,7 @@ use Rattle.checker.proofs.Answers.{derives}
 use Rattle.checker.proofs.Sides.{Opening, unopened, opening}
 use Rattle.checker.proofs.Labels.{no_label, a_datatype, a_proposition, some_label}
 use Rattle.checker.proofs.Inferring.{ident_answer, unit_answer, let_stops, sorry_stops, inl_stops, inr_stops, abort_stops, fst_stops, snd_stops, fst_gives, snd_gives, argument_stands, application_stops, application_fails, application_gives, ascription_datatype, ascription_fails, ascription_gives, function_none, function_datatype, function_stops, function_gives, pair_first, pair_second, pair_gives, case_stops, case_left, case_right, case_gives, case_differ}
-use Rattle.checker.proofs.Steps.{Call, call, few, node_low, bound_in, bound_long, restored, known_answer, answer_space, inferred_at, infers_under, checks_under}
+use Rattle.checker.proofs.Steps.{Call, call, few, node_low, bound_in, restored, known_answer, answer_space, inferred_at, infers_under, checks_under}
 use Rattle.checker.proofs.Cases.{head_unopened, head_opening, head_half, sides, left_name, right_name, left_under, left_back, left_kept, left_room, right_room, right_under, right_back, right_kept, right_node, term_is, view}
 
 module _ {records code : List ℕ} {stride : ℕ} {scope : List (Option ℕ)} {mades : List Made} {m n : ℕ} (j : Judgeable records code stride scope mades m n)
@@ -226,9 +226,6 @@ module _ {records code : List ℕ} {stride : ℕ} {scope : List (Option ℕ)} {m
         module _ {bound : List (Option ℕ)} {hidden : Option ℕ} (bd : Bound scope (field_at records m 2) label bound hidden) where
           pub function_call : Call records code stride bound mades m a (n + 1)
           function_call = call j function_is.less (bound_in bd function_name.below j.entries function_stood) j.slots (omega (arith, j.room, function_is.size))
-
-          pub function_long : {called : List (Option ℕ)} → called ≡ bound → length called ≡ name_space
-          function_long s = ap length s ∙ bound_long bd function_name.below j.entries
 
           pub function_done : {called : List (Option ℕ)} {mades' : List Made} {back : List (Option ℕ)} {last : List Made} {r y : ℕ} → Inferred records code stride bound mades a (n + 1) called mades' r
               → back ≡ set called (field_at records m 2) hidden → Makes mades' n Impl label r last y → At back last y

@@ -1,12 +1,12 @@
 -- The small steps between the calls of the two functions: what is asked of a part, and what stays.
 use Prim.Native.Nat.{ℕ, ◌+◌, ◌≤◌, ◌<◌}
-use mathlib.Core.Path.{◌≡◌, ap, ◌∙◌}
+use mathlib.Core.Path.{◌≡◌, ◌∙◌}
 use mathlib.Core.Logic.{by_cases}
 use Rattle.std.specs.Prelude.{Option, Some}
 use mathlib.Core.List.{List}
 use native.Mathlib.Omega.{arith}
 use native.Mathlib.Decide.{ℕ_discrete}
-use lib.ListN.{length, get_or, set, length-set}
+use lib.ListN.{length, get_or, set}
 use Rattle.definitions.specs.Prop.{connective_byte}
 use Rattle.definitions.specs.Term.{ProofTerm}
 use Rattle.definitions.specs.TermText.{nodes}
@@ -69,9 +69,6 @@ node_low {records} {code} {stride} {m = m} j = omega (arith, j.room, some_node (
 module _ {code : List ℕ} {scope bound : List (Option ℕ)} {x p : ℕ} {hidden : Option ℕ} (b : Bound scope x p bound hidden) (low : x < name_space) (s : Entries code scope) where
   pub bound_in : Stood code p → Entries code bound
   bound_in stood = rw b.bound (bound_entries code scope x p low stood s)
-
-  pub bound_long : length bound ≡ name_space
-  bound_long = ap length b.bound ∙ simp length-set s.long
 
   -- bound, called, put back
   pub restored : {called back : List (Option ℕ)} → called ≡ bound → back ≡ set called x hidden → back ≡ scope

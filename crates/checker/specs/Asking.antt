@@ -11,6 +11,8 @@ use Rattle.proof_term.specs.declared.nodes.Kind.{Kind}
 use Rattle.term_sizes.specs.Sizes.{Sized}
 use Rattle.prop_numbers.specs.declared.Made.{Made}
 use Rattle.prop_numbers.specs.Standing.{standing, node_limit, name_space, Stood}
+use Rattle.checker.specs.declared.Terms.{Terms}
+use Rattle.checker.specs.declared.State.{State}
 use Rattle.checker.specs.Scope.{Entries}
 
 -- the proposition of a label: its number counts strides of code
@@ -71,3 +73,7 @@ pub record Judgeable (records code : List ℕ) (stride : ℕ) (scope : List (Opt
   pub slots : length made ≡ node_limit
   pub ends : Ends code
   pub entries : Entries code scope
+
+-- the same of the memory that is lent
+abbrev pub JudgeableTerm : Terms → State → ℕ → ℕ → Type 0
+JudgeableTerm terms state m node = Judgeable terms.records.now terms.code.now terms.stride state.scope state.made m node

@@ -9,6 +9,8 @@ use Rattle.definitions.specs.Checker.{Judged, derived, stopped, infer, check}
 use Rattle.prefix_code.specs.PropAt.{prop_at}
 use Rattle.prop_numbers.specs.declared.Made.{Made}
 use Rattle.prop_numbers.specs.Standing.{stops, name_space, Rep, Kept, Distinct}
+use Rattle.checker.specs.declared.Terms.{Terms}
+use Rattle.checker.specs.declared.State.{State}
 use Rattle.checker.specs.Scope.{Scoped}
 use Rattle.checker.specs.Asking.{term_of}
 
@@ -57,3 +59,10 @@ pub record Checked (records code : List ℕ) (stride : ℕ) (scope : List (Optio
   pub answer : ChecksAs code scope (term_of code stride records m) n p r
   pub same : scope' ≡ scope
   pub kept : Kept n (n + nodes (term_of code stride records m)) made made'
+
+-- the same of the memory that is lent
+abbrev pub InferredTerm : Terms → ℕ → ℕ → State → State → ℕ → Type 0
+InferredTerm terms m n state state' r = Inferred terms.records.now terms.code.now terms.stride state.scope state.made m n state'.scope state'.made r
+
+abbrev pub CheckedTerm : Terms → ℕ → ℕ → ℕ → State → State → ℕ → Type 0
+CheckedTerm terms m n p state state' r = Checked terms.records.now terms.code.now terms.stride state.scope state.made m n p state'.scope state'.made r

@@ -7,85 +7,35 @@ ghost use Rattle.std.specs.Prelude.{◌≡◌, ℕ, ◌+◌, ◌*◌, ◌≤◌,
 ghost use Rattle.proof_term.specs.Records.{record_size, field_at};
 ghost use Rattle.proof_term.specs.declared.nodes.Kind.TheVariants.{Function, Pair, Application, Case};
 ghost use Rattle.prop_numbers.specs.Standing.{standing, node_limit, name_space, Stood};
-ghost use Rattle.checker.specs.Asking.{Few, NameHeld, LabelHeld, OfKind, Judgeable};
-ghost use Rattle.checker.specs.Judging.{Inferred, Checked};
+ghost use Rattle.checker.specs.Asking.{Few, NameHeld, LabelHeld, OfKind, JudgeableTerm};
+ghost use Rattle.checker.specs.Judging.{InferredTerm, CheckedTerm};
 ghost use Rattle.checker.specs.Helping.{After, Found, Bound, Ascribed, Annotated, BodySide};
 
 use prefix_code::{Connective, scan};
 use proof_term::{Kind, Label, NODE_LIMIT, field, kind_at, label_at, parameter_at};
-use prop_numbers::{
-    Made, NAMES, STOPS, agree, expect, first_side, left, make, right, same_code, second_side,
-    side_of,
-};
+use prop_numbers::{Made, NAMES, Propositions, STOPS, make, same_code, side_of};
 use term_sizes::SIZE;
 
-// The node after those of the term of record m, whose own is `node`.
-fn after(records: &[u16], m: usize, node: usize) -> usize
-    requires { Few records.now m node }
-    ensures { After records.now m node result }
-{
-    node + field(records, m, SIZE)
+// The records of terms, and the code that their labels stand in. A label's number times the stride is its offset there: 1 for a sheet's own
+// term, 2 for one that is read beside a sheet, where numbers count pairs of bytes.
+#[derive(Clone, Copy)]
+pub struct Terms<'a> {
+    pub records: &'a [u16],
+    pub code: &'a [u8],
+    pub stride: usize,
 }
 
-// The right side of the implication at p, if it is one and has the label of the function of record m, if that has one, for its left
-// side; else a stop at the node.
-fn body_side(records: &[u16], m: usize, code: &[u8], stride: usize, p: usize, node: usize) -> usize
-    requires m_in_bounds { (record_size * (m + 1) ≤ length records.now) × LabelHeld records.now code.now stride m }
-    requires m_value { OfKind records.now m Function × Stood code.now p
-        × (length code.now ≤ standing) × (node < node_limit) }
-    ensures { BodySide records.now code.now stride m p node result }
-{
-    let side = side_of(code, p, Connective::Impl, node);
-    if STOPS <= side {
-        return side;
-    }
-    match parameter_at(records, m) {
-        None => side,
-        Some(Label::Datatype(_)) => STOPS + node,
-        Some(Label::Proposition(number)) => {
-            if same_code(code, stride * usize::from(number), p + 1) {
-                return side;
-            }
-            STOPS + node
-        }
-    }
-}
-
-// Binds name i of record m to the proposition at p, and gives the entry that this hides.
-fn bind(
-    scope: &mut [Option<u32>; NAMES],
-    records: &[u16],
-    m: usize,
-    i: usize,
-    p: usize,
-) -> Option<u32>
-    requires { NameHeld records.now m i × (p < standing) × (length scope.old ≡ name_space) }
-    ensures { Bound scope.old (field_at records.now m i) p scope.new result }
-{
-    let name = field(records, m, i);
-    let hidden = scope[name];
-    scope[name] = Some(p as u32);
-    hidden
-}
-
-// Puts the hidden entry back.
-fn unbind(
-    scope: &mut [Option<u32>; NAMES],
-    records: &[u16],
-    m: usize,
-    i: usize,
-    hidden: Option<u32>,
-)
-    requires { NameHeld records.now m i × (length scope.old ≡ name_space) }
-    ensures { scope.new ≡ set scope.old (field_at records.now m i) hidden }
-{
-    let name = field(records, m, i);
-    scope[name] = hidden;
+// What changes while a term is judged: where the proposition of each name in scope stands, and what the nodes made. It is a struct of its
+// own, so that no clause has to say that the records and the code stay.
+#[derive(Drop)]
+pub struct State {
+    pub scope: [Option<u32>; NAMES],
+    pub made: [Made; NODE_LIMIT],
 }
 
 // What a name stands for, or a stop at the node.
-fn entry(scope: &[Option<u32>], name: usize, node: usize) -> usize
-    requires { (name < name_space) × (node < node_limit) × (length scope.now ≡ name_space) }
+fn entry(scope: &[Option<u32>; NAMES], name: usize, node: usize) -> usize
+    requires { (name < name_space) × (node < node_limit) }
     ensures { Found (get_or scope.now name None) node result }
 {
     match scope[name] {
@@ -94,357 +44,353 @@ fn entry(scope: &[Option<u32>], name: usize, node: usize) -> usize
     }
 }
 
-// Where the label of record m stands, an ascription's or a function's, if it is a proposition; else a stop at the node.
-#[tactic(auto, using(proof_term::proofs::Views::datatype_read, proof_term::proofs::Views::proposition_read, crate::proofs::Labels::short_stride))]
-fn ascribed(records: &[u16], m: usize, stride: usize, node: usize) -> usize
-    requires { (record_size * (m + 1) ≤ length records.now) × (stride ≤ 2) × (node < node_limit) }
-    ensures { Ascribed records.now stride m node result }
-{
-    match label_at(records, m) {
-        Label::Datatype(_) => STOPS + node,
-        Label::Proposition(number) => stride * usize::from(number),
+// Checking and inferring have an arm for each rule. An arm that binds a name or asks of two parts is a function of its own, which the
+// compiler puts into its one caller, so that each of the 512 levels takes one frame. An answer is a number, as prop_numbers::STOPS says.
+// A kind is a value, but the numbers of a record are read one by one where an arm needs them.
+impl Terms<'_> {
+    // The node after those of the term of record m, whose own is `node`.
+    fn after(&self, m: usize, node: usize) -> usize
+        requires { Few self.now.records.now m node }
+        ensures { After self.now.records.now m node result }
+    {
+        node + field(self.records, m, SIZE)
     }
-}
 
-// The same for a function's label, which may be absent.
-#[tactic(auto, using(proof_term::proofs::Views::no_parameter, proof_term::proofs::Views::parameter_read))]
-fn annotated(records: &[u16], m: usize, stride: usize, node: usize) -> usize
-    requires { (record_size * (m + 1) ≤ length records.now) × (stride ≤ 2) × (node < node_limit) }
-    ensures { Annotated records.now stride m node result }
-{
-    match parameter_at(records, m) {
-        None => STOPS + node,
-        Some(_) => ascribed(records, m, stride, node),
-    }
-}
-
-// Both functions have an arm for each rule. An arm that binds a name or asks of two parts is a function of its own, which the compiler
-// puts into its one caller, so that each of the 512 levels takes one frame. An answer is a number, as prop_numbers::STOPS says. What
-// they work on stands in loose parameters: of a struct that lends the scope and the slots, each clause would say `now`, `old` and `new`
-// of every field. A kind is a value, but the numbers of a record are read one by one where an arm needs them.
-
-// Does the term of record m, a node of that number, check against the proposition at p?
-#[cycle(check_infer)]
-pub fn check(
-    records: &[u16],
-    m: usize,
-    node: usize,
-    code: &[u8],
-    stride: usize,
-    scope: &mut [Option<u32>; NAMES],
-    made: &mut [Made; NODE_LIMIT],
-    p: usize,
-) -> usize
-    requires { Judgeable records.now code.now stride scope.old made.old m node × Stood code.now p }
-    ensures { Checked records.now code.now stride scope.old made.old m node p
-        scope.new made.new result }
-{
-    let kind = kind_at(records, m);
-    let first = field(records, m, 1);
-    match kind {
-        Kind::Function => check_function(records, m, node, code, stride, scope, made, p),
-        Kind::Pair => check_pair(records, m, node, code, stride, scope, made, p),
-        Kind::OrLeft => {
-            let side = side_of(code, p, Connective::Or, node);
-            if STOPS <= side {
-                return side;
+    // The right side of the implication at p, if it is one and has the label of the function of record m, if that has one, for its left
+    // side; else a stop at the node.
+    fn body_side(&self, m: usize, p: usize, node: usize) -> usize
+        requires m_in_bounds { (record_size * (m + 1) ≤ length self.now.records.now)
+            × LabelHeld self.now.records.now self.now.code.now self.now.stride m }
+        requires m_value { OfKind self.now.records.now m Function × Stood self.now.code.now p
+            × (length self.now.code.now ≤ standing) × (node < node_limit) }
+        ensures { BodySide self.now.records.now self.now.code.now self.now.stride m p node result }
+    {
+        let side = side_of(self.code, p, Connective::Impl, node);
+        if STOPS <= side {
+            return side;
+        }
+        match parameter_at(self.records, m) {
+            None => side,
+            Some(Label::Datatype(_)) => STOPS + node,
+            Some(Label::Proposition(number)) => {
+                if same_code(self.code, self.stride * usize::from(number), p + 1) {
+                    return side;
+                }
+                STOPS + node
             }
-            check(records, first, node + 1, code, stride, scope, made, p + 1)
         }
-        Kind::OrRight => {
-            let side = side_of(code, p, Connective::Or, node);
-            if STOPS <= side {
-                return side;
+    }
+
+    // Binds name i of record m to the proposition at p, and gives the entry that this hides.
+    fn bind(&self, scope: &mut [Option<u32>; NAMES], m: usize, i: usize, p: usize) -> Option<u32>
+        requires { NameHeld self.now.records.now m i × (p < standing) }
+        ensures { Bound scope.old (field_at self.now.records.now m i) p scope.new result }
+    {
+        let name = field(self.records, m, i);
+        let hidden = scope[name];
+        scope[name] = Some(p as u32);
+        hidden
+    }
+
+    // Puts the hidden entry back.
+    fn unbind(&self, scope: &mut [Option<u32>; NAMES], m: usize, i: usize, hidden: Option<u32>)
+        requires { NameHeld self.now.records.now m i }
+        ensures { scope.new ≡ set scope.old (field_at self.now.records.now m i) hidden }
+    {
+        let name = field(self.records, m, i);
+        scope[name] = hidden;
+    }
+
+    // Where the label of record m stands, an ascription's or a function's, if it is a proposition; else a stop at the node.
+    #[tactic(auto, using(proof_term::proofs::Views::datatype_read, proof_term::proofs::Views::proposition_read, crate::proofs::Labels::short_stride))]
+    fn ascribed(&self, m: usize, node: usize) -> usize
+        requires { (record_size * (m + 1) ≤ length self.now.records.now) × (self.now.stride ≤ 2) × (node < node_limit) }
+        ensures { Ascribed self.now.records.now self.now.stride m node result }
+    {
+        match label_at(self.records, m) {
+            Label::Datatype(_) => STOPS + node,
+            Label::Proposition(number) => self.stride * usize::from(number),
+        }
+    }
+
+    // The same for a function's label, which may be absent.
+    #[tactic(auto, using(proof_term::proofs::Views::no_parameter, proof_term::proofs::Views::parameter_read))]
+    fn annotated(&self, m: usize, node: usize) -> usize
+        requires { (record_size * (m + 1) ≤ length self.now.records.now) × (self.now.stride ≤ 2) × (node < node_limit) }
+        ensures { Annotated self.now.records.now self.now.stride m node result }
+    {
+        match parameter_at(self.records, m) {
+            None => STOPS + node,
+            Some(_) => self.ascribed(m, node),
+        }
+    }
+
+    // Does the term of record m, a node of that number, check against the proposition at p?
+    #[cycle(check_infer)]
+    pub fn check(&self, state: &mut State, m: usize, node: usize, p: usize) -> usize
+        requires { JudgeableTerm self.now state.old m node × Stood self.now.code.now p }
+        ensures { CheckedTerm self.now m node p state.old state.new result }
+    {
+        let kind = kind_at(self.records, m);
+        let first = field(self.records, m, 1);
+        match kind {
+            Kind::Function => self.check_function(state, m, node, p),
+            Kind::Pair => self.check_pair(state, m, node, p),
+            Kind::OrLeft => {
+                let side = side_of(self.code, p, Connective::Or, node);
+                if STOPS <= side {
+                    return side;
+                }
+                self.check(state, first, node + 1, p + 1)
             }
-            check(records, first, node + 1, code, stride, scope, made, side)
-        }
-        Kind::Case => check_case(records, m, node, code, stride, scope, made, p),
-        Kind::Abort => {
-            let bottom = code.len() - 1;
-            check(records, first, node + 1, code, stride, scope, made, bottom)
-        }
-        Kind::Sorry => 0,
-        Kind::LetIn => STOPS + node,
-        Kind::Ident
-        | Kind::ProjectFst
-        | Kind::ProjectSnd
-        | Kind::Application
-        | Kind::TypeAscription
-        | Kind::Unit => {
-            let r = infer(records, m, node, code, stride, scope, made);
-            agree(code, made, r, p, node, 0)
-        }
-    }
-}
-
-// A function: its body against the right side of an implication, under its name for the left side.
-#[cycle(check_infer)]
-fn check_function(
-    records: &[u16],
-    m: usize,
-    node: usize,
-    code: &[u8],
-    stride: usize,
-    scope: &mut [Option<u32>; NAMES],
-    made: &mut [Made; NODE_LIMIT],
-    p: usize,
-) -> usize
-    requires ready { Judgeable records.now code.now stride scope.old made.old m node × Stood code.now p }
-    requires kind { OfKind records.now m Function }
-    ensures { Checked records.now code.now stride scope.old made.old m node p
-        scope.new made.new result }
-{
-    let first = field(records, m, 1);
-    let side = body_side(records, m, code, stride, p, node);
-    if STOPS <= side {
-        return side;
-    }
-    let hidden = bind(scope, records, m, 2, p + 1);
-    let r = check(records, first, node + 1, code, stride, scope, made, side);
-    unbind(scope, records, m, 2, hidden);
-    r
-}
-
-// A pair: each part against a side of a conjunction.
-#[cycle(check_infer)]
-fn check_pair(
-    records: &[u16],
-    m: usize,
-    node: usize,
-    code: &[u8],
-    stride: usize,
-    scope: &mut [Option<u32>; NAMES],
-    made: &mut [Made; NODE_LIMIT],
-    p: usize,
-) -> usize
-    requires ready { Judgeable records.now code.now stride scope.old made.old m node × Stood code.now p }
-    requires kind { OfKind records.now m Pair }
-    ensures { Checked records.now code.now stride scope.old made.old m node p
-        scope.new made.new result }
-{
-    let first = field(records, m, 1);
-    let side = side_of(code, p, Connective::And, node);
-    if STOPS <= side {
-        return side;
-    }
-    let r = check(records, first, node + 1, code, stride, scope, made, p + 1);
-    if r != 0 {
-        return r;
-    }
-    let second = field(records, m, 2);
-    let next = after(records, first, node + 1);
-    check(records, second, next, code, stride, scope, made, side)
-}
-
-// A case: each branch against p, under its name for a side of the disjunction that the head infers.
-#[cycle(check_infer)]
-fn check_case(
-    records: &[u16],
-    m: usize,
-    node: usize,
-    code: &[u8],
-    stride: usize,
-    scope: &mut [Option<u32>; NAMES],
-    made: &mut [Made; NODE_LIMIT],
-    p: usize,
-) -> usize
-    requires ready { Judgeable records.now code.now stride scope.old made.old m node × Stood code.now p }
-    requires kind { OfKind records.now m Case }
-    ensures { Checked records.now code.now stride scope.old made.old m node p
-        scope.new made.new result }
-{
-    let first = field(records, m, 1);
-    let inferred = infer(records, first, node + 1, code, stride, scope, made);
-    let h = expect(code, made, inferred, Connective::Or, node);
-    if STOPS <= h {
-        return h;
-    }
-    let second = field(records, m, 2);
-    let next = after(records, first, node + 1);
-    let hidden = bind(scope, records, m, 4, h + 1);
-    let r = check(records, second, next, code, stride, scope, made, p);
-    unbind(scope, records, m, 4, hidden);
-    if r != 0 {
-        return r;
-    }
-    let third = field(records, m, 3);
-    let last = after(records, second, next);
-    let side = scan(code, h + 1, NAMES);
-    let hidden = bind(scope, records, m, 5, side);
-    let r = check(records, third, last, code, stride, scope, made, p);
-    unbind(scope, records, m, 5, hidden);
-    r
-}
-
-// What does the term of record m, a node of that number, infer?
-#[cycle(check_infer)]
-pub fn infer(
-    records: &[u16],
-    m: usize,
-    node: usize,
-    code: &[u8],
-    stride: usize,
-    scope: &mut [Option<u32>; NAMES],
-    made: &mut [Made; NODE_LIMIT],
-) -> usize
-    requires { Judgeable records.now code.now stride scope.old made.old m node }
-    ensures { Inferred records.now code.now stride scope.old made.old m node
-        scope.new made.new result }
-{
-    let kind = kind_at(records, m);
-    let first = field(records, m, 1);
-    match kind {
-        Kind::Ident => entry(scope, first, node),
-        Kind::ProjectFst => {
-            let r = infer(records, first, node + 1, code, stride, scope, made);
-            first_side(code, made, r, node)
-        }
-        Kind::ProjectSnd => {
-            let r = infer(records, first, node + 1, code, stride, scope, made);
-            second_side(code, made, r, node)
-        }
-        Kind::Application => infer_application(records, m, node, code, stride, scope, made),
-        Kind::TypeAscription => {
-            let label = ascribed(records, m, stride, node);
-            if STOPS <= label {
-                return label;
+            Kind::OrRight => {
+                let side = side_of(self.code, p, Connective::Or, node);
+                if STOPS <= side {
+                    return side;
+                }
+                self.check(state, first, node + 1, side)
             }
-            let r = check(records, first, node + 1, code, stride, scope, made, label);
-            if r != 0 {
-                return r;
+            Kind::Case => self.check_case(state, m, node, p),
+            Kind::Abort => {
+                let bottom = self.code.len() - 1;
+                self.check(state, first, node + 1, bottom)
             }
-            label
+            Kind::Sorry => 0,
+            Kind::LetIn => STOPS + node,
+            Kind::Ident
+            | Kind::ProjectFst
+            | Kind::ProjectSnd
+            | Kind::Application
+            | Kind::TypeAscription
+            | Kind::Unit => {
+                let r = self.infer(state, m, node);
+                let propositions = Propositions {
+                    code: self.code,
+                    made: &state.made,
+                };
+                propositions.agree(r, p, node, 0)
+            }
         }
-        Kind::Function => infer_function(records, m, node, code, stride, scope, made),
-        Kind::Pair => infer_pair(records, m, node, code, stride, scope, made),
-        Kind::Case => infer_case(records, m, node, code, stride, scope, made),
-        Kind::Unit => code.len() - 2,
-        Kind::LetIn | Kind::OrLeft | Kind::OrRight | Kind::Abort | Kind::Sorry => STOPS + node,
     }
-}
 
-// An application: the right side of the implication that its function infers, if the argument checks against the left side.
-#[cycle(check_infer)]
-fn infer_application(
-    records: &[u16],
-    m: usize,
-    node: usize,
-    code: &[u8],
-    stride: usize,
-    scope: &mut [Option<u32>; NAMES],
-    made: &mut [Made; NODE_LIMIT],
-) -> usize
-    requires ready { Judgeable records.now code.now stride scope.old made.old m node }
-    requires kind { OfKind records.now m Application }
-    ensures { Inferred records.now code.now stride scope.old made.old m node
-        scope.new made.new result }
-{
-    let first = field(records, m, 1);
-    let inferred = infer(records, first, node + 1, code, stride, scope, made);
-    let p = expect(code, made, inferred, Connective::Impl, node);
-    if STOPS <= p {
-        return p;
+    // A function: its body against the right side of an implication, under its name for the left side.
+    #[cycle(check_infer)]
+    fn check_function(&self, state: &mut State, m: usize, node: usize, p: usize) -> usize
+        requires ready { JudgeableTerm self.now state.old m node × Stood self.now.code.now p }
+        requires kind { OfKind self.now.records.now m Function }
+        ensures { CheckedTerm self.now m node p state.old state.new result }
+    {
+        let first = field(self.records, m, 1);
+        let side = self.body_side(m, p, node);
+        if STOPS <= side {
+            return side;
+        }
+        let hidden = self.bind(&mut state.scope, m, 2, p + 1);
+        let r = self.check(state, first, node + 1, side);
+        self.unbind(&mut state.scope, m, 2, hidden);
+        r
     }
-    let second = field(records, m, 2);
-    let next = after(records, first, node + 1);
-    let argument = left(made, p);
-    let side = right(code, made, p);
-    let r = check(records, second, next, code, stride, scope, made, argument);
-    if r != 0 {
-        return r;
-    }
-    side
-}
 
-// A function with a proposition for its label: the implication from that to what its body infers.
-#[cycle(check_infer)]
-fn infer_function(
-    records: &[u16],
-    m: usize,
-    node: usize,
-    code: &[u8],
-    stride: usize,
-    scope: &mut [Option<u32>; NAMES],
-    made: &mut [Made; NODE_LIMIT],
-) -> usize
-    requires ready { Judgeable records.now code.now stride scope.old made.old m node }
-    requires kind { OfKind records.now m Function }
-    ensures { Inferred records.now code.now stride scope.old made.old m node
-        scope.new made.new result }
-{
-    let first = field(records, m, 1);
-    let label = annotated(records, m, stride, node);
-    if STOPS <= label {
-        return label;
+    // A pair: each part against a side of a conjunction.
+    #[cycle(check_infer)]
+    fn check_pair(&self, state: &mut State, m: usize, node: usize, p: usize) -> usize
+        requires ready { JudgeableTerm self.now state.old m node × Stood self.now.code.now p }
+        requires kind { OfKind self.now.records.now m Pair }
+        ensures { CheckedTerm self.now m node p state.old state.new result }
+    {
+        let first = field(self.records, m, 1);
+        let side = side_of(self.code, p, Connective::And, node);
+        if STOPS <= side {
+            return side;
+        }
+        let r = self.check(state, first, node + 1, p + 1);
+        if r != 0 {
+            return r;
+        }
+        let second = field(self.records, m, 2);
+        let next = self.after(first, node + 1);
+        self.check(state, second, next, side)
     }
-    let hidden = bind(scope, records, m, 2, label);
-    let r = infer(records, first, node + 1, code, stride, scope, made);
-    unbind(scope, records, m, 2, hidden);
-    make(made, node, Connective::Impl, label, r)
-}
 
-// A pair: the conjunction of what its parts infer.
-#[cycle(check_infer)]
-fn infer_pair(
-    records: &[u16],
-    m: usize,
-    node: usize,
-    code: &[u8],
-    stride: usize,
-    scope: &mut [Option<u32>; NAMES],
-    made: &mut [Made; NODE_LIMIT],
-) -> usize
-    requires ready { Judgeable records.now code.now stride scope.old made.old m node }
-    requires kind { OfKind records.now m Pair }
-    ensures { Inferred records.now code.now stride scope.old made.old m node
-        scope.new made.new result }
-{
-    let first = field(records, m, 1);
-    let p = infer(records, first, node + 1, code, stride, scope, made);
-    if STOPS <= p {
-        return p;
+    // A case: each branch against p, under its name for a side of the disjunction that the head infers.
+    #[cycle(check_infer)]
+    fn check_case(&self, state: &mut State, m: usize, node: usize, p: usize) -> usize
+        requires ready { JudgeableTerm self.now state.old m node × Stood self.now.code.now p }
+        requires kind { OfKind self.now.records.now m Case }
+        ensures { CheckedTerm self.now m node p state.old state.new result }
+    {
+        let first = field(self.records, m, 1);
+        let inferred = self.infer(state, first, node + 1);
+        let propositions = Propositions {
+            code: self.code,
+            made: &state.made,
+        };
+        let h = propositions.expect(inferred, Connective::Or, node);
+        if STOPS <= h {
+            return h;
+        }
+        let second = field(self.records, m, 2);
+        let next = self.after(first, node + 1);
+        let hidden = self.bind(&mut state.scope, m, 4, h + 1);
+        let r = self.check(state, second, next, p);
+        self.unbind(&mut state.scope, m, 4, hidden);
+        if r != 0 {
+            return r;
+        }
+        let third = field(self.records, m, 3);
+        let last = self.after(second, next);
+        let side = scan(self.code, h + 1, NAMES);
+        let hidden = self.bind(&mut state.scope, m, 5, side);
+        let r = self.check(state, third, last, p);
+        self.unbind(&mut state.scope, m, 5, hidden);
+        r
     }
-    let second = field(records, m, 2);
-    let next = after(records, first, node + 1);
-    let q = infer(records, second, next, code, stride, scope, made);
-    make(made, node, Connective::And, p, q)
-}
 
-// A case: what both branches infer, each under its name for a side of the disjunction that the head infers.
-#[cycle(check_infer)]
-fn infer_case(
-    records: &[u16],
-    m: usize,
-    node: usize,
-    code: &[u8],
-    stride: usize,
-    scope: &mut [Option<u32>; NAMES],
-    made: &mut [Made; NODE_LIMIT],
-) -> usize
-    requires ready { Judgeable records.now code.now stride scope.old made.old m node }
-    requires kind { OfKind records.now m Case }
-    ensures { Inferred records.now code.now stride scope.old made.old m node
-        scope.new made.new result }
-{
-    let first = field(records, m, 1);
-    let inferred = infer(records, first, node + 1, code, stride, scope, made);
-    let h = expect(code, made, inferred, Connective::Or, node);
-    if STOPS <= h {
-        return h;
+    // What does the term of record m, a node of that number, infer?
+    #[cycle(check_infer)]
+    pub fn infer(&self, state: &mut State, m: usize, node: usize) -> usize
+        requires { JudgeableTerm self.now state.old m node }
+        ensures { InferredTerm self.now m node state.old state.new result }
+    {
+        let kind = kind_at(self.records, m);
+        let first = field(self.records, m, 1);
+        match kind {
+            Kind::Ident => entry(&state.scope, first, node),
+            Kind::ProjectFst => {
+                let r = self.infer(state, first, node + 1);
+                let propositions = Propositions {
+                    code: self.code,
+                    made: &state.made,
+                };
+                propositions.first_side(r, node)
+            }
+            Kind::ProjectSnd => {
+                let r = self.infer(state, first, node + 1);
+                let propositions = Propositions {
+                    code: self.code,
+                    made: &state.made,
+                };
+                propositions.second_side(r, node)
+            }
+            Kind::Application => self.infer_application(state, m, node),
+            Kind::TypeAscription => {
+                let label = self.ascribed(m, node);
+                if STOPS <= label {
+                    return label;
+                }
+                let r = self.check(state, first, node + 1, label);
+                if r != 0 {
+                    return r;
+                }
+                label
+            }
+            Kind::Function => self.infer_function(state, m, node),
+            Kind::Pair => self.infer_pair(state, m, node),
+            Kind::Case => self.infer_case(state, m, node),
+            Kind::Unit => self.code.len() - 2,
+            Kind::LetIn | Kind::OrLeft | Kind::OrRight | Kind::Abort | Kind::Sorry => STOPS + node,
+        }
     }
-    let second = field(records, m, 2);
-    let next = after(records, first, node + 1);
-    let hidden = bind(scope, records, m, 4, h + 1);
-    let q = infer(records, second, next, code, stride, scope, made);
-    unbind(scope, records, m, 4, hidden);
-    if STOPS <= q {
-        return q;
+
+    // An application: the right side of the implication that its function infers, if the argument checks against the left side.
+    #[cycle(check_infer)]
+    fn infer_application(&self, state: &mut State, m: usize, node: usize) -> usize
+        requires ready { JudgeableTerm self.now state.old m node }
+        requires kind { OfKind self.now.records.now m Application }
+        ensures { InferredTerm self.now m node state.old state.new result }
+    {
+        let first = field(self.records, m, 1);
+        let inferred = self.infer(state, first, node + 1);
+        let propositions = Propositions {
+            code: self.code,
+            made: &state.made,
+        };
+        let p = propositions.expect(inferred, Connective::Impl, node);
+        if STOPS <= p {
+            return p;
+        }
+        let second = field(self.records, m, 2);
+        let next = self.after(first, node + 1);
+        let argument = propositions.left(p);
+        let side = propositions.right(p);
+        let r = self.check(state, second, next, argument);
+        if r != 0 {
+            return r;
+        }
+        side
     }
-    let third = field(records, m, 3);
-    let last = after(records, second, next);
-    let side = scan(code, h + 1, NAMES);
-    let hidden = bind(scope, records, m, 5, side);
-    let r = infer(records, third, last, code, stride, scope, made);
-    unbind(scope, records, m, 5, hidden);
-    agree(code, made, r, q, node, q)
+
+    // A function with a proposition for its label: the implication from that to what its body infers.
+    #[cycle(check_infer)]
+    fn infer_function(&self, state: &mut State, m: usize, node: usize) -> usize
+        requires ready { JudgeableTerm self.now state.old m node }
+        requires kind { OfKind self.now.records.now m Function }
+        ensures { InferredTerm self.now m node state.old state.new result }
+    {
+        let first = field(self.records, m, 1);
+        let label = self.annotated(m, node);
+        if STOPS <= label {
+            return label;
+        }
+        let hidden = self.bind(&mut state.scope, m, 2, label);
+        let r = self.infer(state, first, node + 1);
+        self.unbind(&mut state.scope, m, 2, hidden);
+        make(&mut state.made, node, Connective::Impl, label, r)
+    }
+
+    // A pair: the conjunction of what its parts infer.
+    #[cycle(check_infer)]
+    fn infer_pair(&self, state: &mut State, m: usize, node: usize) -> usize
+        requires ready { JudgeableTerm self.now state.old m node }
+        requires kind { OfKind self.now.records.now m Pair }
+        ensures { InferredTerm self.now m node state.old state.new result }
+    {
+        let first = field(self.records, m, 1);
+        let p = self.infer(state, first, node + 1);
+        if STOPS <= p {
+            return p;
+        }
+        let second = field(self.records, m, 2);
+        let next = self.after(first, node + 1);
+        let q = self.infer(state, second, next);
+        make(&mut state.made, node, Connective::And, p, q)
+    }
+
+    // A case: what both branches infer, each under its name for a side of the disjunction that the head infers.
+    #[cycle(check_infer)]
+    fn infer_case(&self, state: &mut State, m: usize, node: usize) -> usize
+        requires ready { JudgeableTerm self.now state.old m node }
+        requires kind { OfKind self.now.records.now m Case }
+        ensures { InferredTerm self.now m node state.old state.new result }
+    {
+        let first = field(self.records, m, 1);
+        let inferred = self.infer(state, first, node + 1);
+        let propositions = Propositions {
+            code: self.code,
+            made: &state.made,
+        };
+        let h = propositions.expect(inferred, Connective::Or, node);
+        if STOPS <= h {
+            return h;
+        }
+        let second = field(self.records, m, 2);
+        let next = self.after(first, node + 1);
+        let hidden = self.bind(&mut state.scope, m, 4, h + 1);
+        let q = self.infer(state, second, next);
+        self.unbind(&mut state.scope, m, 4, hidden);
+        if STOPS <= q {
+            return q;
+        }
+        let third = field(self.records, m, 3);
+        let last = self.after(second, next);
+        let side = scan(self.code, h + 1, NAMES);
+        let hidden = self.bind(&mut state.scope, m, 5, side);
+        let r = self.infer(state, third, last);
+        self.unbind(&mut state.scope, m, 5, hidden);
+        let propositions = Propositions {
+            code: self.code,
+            made: &state.made,
+        };
+        propositions.agree(r, q, node, q)
+    }
 }

@@ -15,7 +15,7 @@ ghost use Rattle.judgement.specs.Answered.{judgement_of, Decided, Judges};
 ghost use Rattle.judgement.specs.Asked.{Known, held_term, may_check, ruled, LowestNumbers};
 
 use checkable::is_checkable;
-use checker::check;
+use checker::{State, Terms};
 use definitions::{Reason, Refusal};
 use hypotheses::{are_free, assume, is_free, is_out};
 use merged_names::{IndexedSheets, fill_numbers};
@@ -128,11 +128,18 @@ fn decide(
     stand(sheet, numbers, &mut code);
     renumber_records(terms, n, numbers);
     fill_sizes(terms, n);
-    let mut scope: [Option<u32>; NAMES] = [None; NAMES];
-    assume(hypotheses, numbers, pairs, &mut scope);
-    let mut made = [Made::default(); NODE_LIMIT];
+    let mut state = State {
+        scope: [None; NAMES],
+        made: [Made::default(); NODE_LIMIT],
+    };
+    assume(hypotheses, numbers, pairs, &mut state.scope);
+    let judged = Terms {
+        records: terms,
+        code: &code,
+        stride: 1,
+    };
     let at = pair_offset(pairs, k);
-    let r = check(terms, n, 0, &code, 1, &mut scope, &mut made, at);
+    let r = judged.check(&mut state, n, 0, at);
     stopping_node(r)
 }
 

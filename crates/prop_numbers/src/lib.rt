@@ -42,46 +42,134 @@ pub const NAMES: usize = 2 * NAME_LIMIT;
 // 512 levels deep, and an enum takes twice the frame of a number (docs/DECISIONS.md, 135).
 pub const STOPS: usize = STANDING + NODE_LIMIT;
 
-// Code, slots and node stand in no struct: `Known`, `Space` and `Rep` name what a clause asks of them, and of a struct each clause
-// would spell its fields out. The number of the slots is part of `Space`, since most functions only read them.
-
-// The connective of a proposition, if it is binary.
-#[tactic(auto, using(crate::proofs::Fronts::past_front), unfolding(crate::specs::Standing::connective_of))]
-fn connective_of(code: &[u8], made: &[Made], p: usize) -> Option<Connective>
-    requires { Space code.now made.now p }
-    ensures { result ≡ connective_of code.now made.now p }
-{
-    if p < STANDING {
-        return match Head::of_byte(code[p])? {
-            Head::Binary(connective) => Some(connective),
-            _ => None,
-        };
-    }
-    made[p - STANDING].connective
+// The propositions that have numbers: those that stand in the code, and those that the nodes of a term made. How long both are is a clause
+// and no ghost field: the checker, which changes the slots, would prove it of each struct that it lends, beside `Space` or `Known`.
+#[derive(Clone, Copy)]
+pub struct Propositions<'a> {
+    pub code: &'a [u8],
+    pub made: &'a [Made; NODE_LIMIT],
 }
 
-// The left side of a binary proposition.
-#[tactic(auto, unfolding(crate::specs::Standing::left_of))]
-pub fn left(made: &[Made], p: usize) -> usize
-    requires { (p < stops) × (length made.now ≡ node_limit) }
-    ensures { result ≡ left_of made.now p }
-{
-    if p < STANDING {
-        return p + 1;
+impl Propositions<'_> {
+    // The connective of a proposition, if it is binary.
+    #[tactic(auto, using(crate::proofs::Fronts::past_front), unfolding(crate::specs::Standing::connective_of))]
+    fn connective(&self, p: usize) -> Option<Connective>
+        requires { Space self.now.code.now self.now.made.now p }
+        ensures { result ≡ connective_of self.now.code.now self.now.made.now p }
+    {
+        if p < STANDING {
+            return match Head::of_byte(self.code[p])? {
+                Head::Binary(connective) => Some(connective),
+                _ => None,
+            };
+        }
+        self.made[p - STANDING].connective
     }
-    made[p - STANDING].left as usize
-}
 
-// The right side.
-#[tactic(auto, unfolding(crate::specs::Standing::right_of))]
-pub fn right(code: &[u8], made: &[Made], p: usize) -> usize
-    requires { Space code.now made.now p }
-    ensures { RightOf code.now made.now p result }
-{
-    if p < STANDING {
-        return scan(code, p + 1, NAMES);
+    // The left side of a binary proposition.
+    #[tactic(auto, unfolding(crate::specs::Standing::left_of))]
+    pub fn left(&self, p: usize) -> usize
+        requires { p < stops }
+        ensures { result ≡ left_of self.now.made.now p }
+    {
+        if p < STANDING {
+            return p + 1;
+        }
+        self.made[p - STANDING].left as usize
     }
-    made[p - STANDING].right as usize
+
+    // The right side.
+    #[tactic(auto, unfolding(crate::specs::Standing::right_of))]
+    pub fn right(&self, p: usize) -> usize
+        requires { Space self.now.code.now self.now.made.now p }
+        ensures { RightOf self.now.code.now self.now.made.now p result }
+    {
+        if p < STANDING {
+            return scan(self.code, p + 1, NAMES);
+        }
+        self.made[p - STANDING].right as usize
+    }
+
+    // Whether two propositions are equal. Where one of them is made, both are binary or they differ.
+    fn same(&self, p: usize, q: usize) -> bool
+        requires code_len_bound { (length self.now.code.now ≤ standing) × (length self.now.made.now ≡ node_limit) }
+        requires known { Known self.now.code.now self.now.made.now p × Known self.now.code.now self.now.made.now q }
+        ensures { Alike self.now.code.now self.now.made.now p q result }
+    {
+        if p < STANDING && q < STANDING {
+            return same_code(self.code, p, q);
+        }
+        if self.connective(p) != self.connective(q) {
+            return false;
+        }
+        let left_same = self.same(self.left(p), self.left(q));
+        if !left_same {
+            return false;
+        }
+        self.same(self.right(p), self.right(q))
+    }
+
+    // Where r and p are equal propositions, that answer; else a stop, at the node or where r stops.
+    pub fn agree(&self, r: usize, p: usize, node: usize, answer: usize) -> usize
+        requires code_len_bound { (length self.now.code.now ≤ standing) × (length self.now.made.now ≡ node_limit)
+            × (node < node_limit) }
+        requires known { (r < stops → Known self.now.code.now self.now.made.now r)
+            × Known self.now.code.now self.now.made.now p }
+        ensures { Agreed self.now.code.now self.now.made.now r p node answer result }
+    {
+        if STOPS <= r {
+            return r;
+        }
+        if self.same(r, p) {
+            return answer;
+        }
+        STOPS + node
+    }
+
+    // What an answer of `infer` is, which must have a connective: the answer itself, or a stop at the node.
+    pub fn expect(&self, r: usize, connective: Connective, node: usize) -> usize
+        requires { (r < stops → Space self.now.code.now self.now.made.now r) × (node < node_limit) }
+        ensures { Expected self.now.code.now self.now.made.now r connective node result }
+    {
+        if STOPS <= r {
+            return r;
+        }
+        if self.connective(r) == Some(connective) {
+            return r;
+        }
+        STOPS + node
+    }
+
+    // The side of a conjunction that is inferred, as the closure finds it, or a stop.
+    #[tactic(auto, using(crate::proofs::Halves::expected_space))]
+    fn project<F: Fn(usize) -> usize>(&self, r: usize, node: usize, side: F) -> usize
+        requires given { (r < stops → Space self.now.code.now self.now.made.now r) × (node < node_limit) }
+        requires side { (p : ℕ) → Space self.now.code.now self.now.made.now p → F.pre side p }
+        ensures { Projected self.now.code.now self.now.made.now r (F.post side) node result }
+    {
+        let whole = self.expect(r, Connective::And, node);
+        if STOPS <= whole {
+            return whole;
+        }
+        side(whole)
+    }
+
+    // The first side of a conjunction that is inferred, or a stop.
+    pub fn first_side(&self, r: usize, node: usize) -> usize
+        requires { (r < stops → Space self.now.code.now self.now.made.now r) × (node < node_limit) }
+        ensures { Projected self.now.code.now self.now.made.now r (FirstSide self.now.made.now) node result }
+    {
+        self.project(r, node, |whole| self.left(whole))
+    }
+
+    // The second side.
+    pub fn second_side(&self, r: usize, node: usize) -> usize
+        requires { (r < stops → Space self.now.code.now self.now.made.now r) × (node < node_limit) }
+        ensures { Projected self.now.code.now self.now.made.now r
+            (RightOf self.now.code.now self.now.made.now) node result }
+    {
+        self.project(r, node, |whole| self.right(whole))
+    }
 }
 
 // Whether the codes at i and j are of one proposition.
@@ -95,40 +183,6 @@ pub fn same_code(code: &[u8], i: usize, j: usize) -> bool
     code[i..i_end] == code[j..j_end]
 }
 
-// Whether two propositions are equal. Where one of them is made, both are binary or they differ.
-fn same(code: &[u8], made: &[Made], p: usize, q: usize) -> bool
-    requires code_len_bound { (length code.now ≤ standing) × (length made.now ≡ node_limit) }
-    requires known { Known code.now made.now p × Known code.now made.now q }
-    ensures { Alike code.now made.now p q result }
-{
-    if p < STANDING && q < STANDING {
-        return same_code(code, p, q);
-    }
-    if connective_of(code, made, p) != connective_of(code, made, q) {
-        return false;
-    }
-    let left_same = same(code, made, left(made, p), left(made, q));
-    if !left_same {
-        return false;
-    }
-    same(code, made, right(code, made, p), right(code, made, q))
-}
-
-// Where r and p are equal propositions, that answer; else a stop, at the node or where r stops.
-pub fn agree(code: &[u8], made: &[Made], r: usize, p: usize, node: usize, answer: usize) -> usize
-    requires code_len_bound { (length code.now ≤ standing) × (length made.now ≡ node_limit) × (node < node_limit) }
-    requires known { (r < stops → Known code.now made.now r) × Known code.now made.now p }
-    ensures { Agreed code.now made.now r p node answer result }
-{
-    if STOPS <= r {
-        return r;
-    }
-    if same(code, made, r, p) {
-        return answer;
-    }
-    STOPS + node
-}
-
 // The right side of the proposition that stands at p, if it has that connective; else a stop at the node.
 pub fn side_of(code: &[u8], p: usize, connective: Connective, node: usize) -> usize
     requires { Stood code.now p × (length code.now ≤ standing) × (node < node_limit) }
@@ -140,56 +194,6 @@ pub fn side_of(code: &[u8], p: usize, connective: Connective, node: usize) -> us
     STOPS + node
 }
 
-// What an answer of `infer` is, which must have a connective: the answer itself, or a stop at the node.
-pub fn expect(code: &[u8], made: &[Made], r: usize, connective: Connective, node: usize) -> usize
-    requires { (r < stops → Space code.now made.now r) × (node < node_limit) }
-    ensures { Expected code.now made.now r connective node result }
-{
-    if STOPS <= r {
-        return r;
-    }
-    if connective_of(code, made, r) == Some(connective) {
-        return r;
-    }
-    STOPS + node
-}
-
-// The side of a conjunction that is inferred, as the closure finds it, or a stop.
-#[tactic(auto, using(crate::proofs::Halves::expected_space))]
-fn project<F: FnOnce(usize) -> usize>(
-    code: &[u8],
-    made: &[Made],
-    r: usize,
-    node: usize,
-    side: F,
-) -> usize
-    requires given { (r < stops → Space code.now made.now r) × (node < node_limit) }
-    requires side { (p : ℕ) → Space code.now made.now p → F.pre side p }
-    ensures { Projected code.now made.now r (F.post side) node result }
-{
-    let whole = expect(code, made, r, Connective::And, node);
-    if STOPS <= whole {
-        return whole;
-    }
-    side(whole)
-}
-
-// The first side of a conjunction that is inferred, or a stop.
-pub fn first_side(code: &[u8], made: &[Made], r: usize, node: usize) -> usize
-    requires { (r < stops → Space code.now made.now r) × (node < node_limit) }
-    ensures { Projected code.now made.now r (FirstSide made.now) node result }
-{
-    project(code, made, r, node, |whole| left(made, whole))
-}
-
-// The second side.
-pub fn second_side(code: &[u8], made: &[Made], r: usize, node: usize) -> usize
-    requires { (r < stops → Space code.now made.now r) × (node < node_limit) }
-    ensures { Projected code.now made.now r (RightOf code.now made.now) node result }
-{
-    project(code, made, r, node, |whole| right(code, made, whole))
-}
-
 // Makes a proposition of two, unless the second is a stop.
 #[tactic(auto, unfolding(crate::specs::Standing::slotted))]
 pub fn make(
@@ -199,7 +203,7 @@ pub fn make(
     left: usize,
     right: usize,
 ) -> usize
-    requires { (node < node_limit) × (left < stops) × (length made.old ≡ node_limit) }
+    requires { (node < node_limit) × (left < stops) }
     ensures { Makes made.old node connective left right made.new result }
 {
     if STOPS <= right {

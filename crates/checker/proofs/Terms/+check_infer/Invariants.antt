@@ -1,6 +1,6 @@
 -- The record's number falls, and where it stays, an arm is a function of its own, or what is checked is inferred.
 use Prim.Native.Nat.{◌+◌, ◌*◌}
-use Rattle.checker.proofs.+check_infer.Given as goal
+use Rattle.checker.proofs.Terms.+check_infer.Given as goal
 
 abbrev pub decreases-check : goal.decreases-check
 decreases-check l = 3 * l.m + 2

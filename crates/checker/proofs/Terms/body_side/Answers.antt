@@ -13,11 +13,11 @@ use Rattle.prefix_code.specs.declared.Connective.TheVariants.{Impl}
 use Rattle.prop_numbers.specs.Standing.{Stood}
 use Rattle.prop_numbers.proofs.Halves.{halves}
 use Rattle.checker.proofs.Labels.{tested_none, tested_datatype, tested_prop, body_stop, body_side, not_side, has_connective}
-use Rattle.checker.proofs.body_side.Goals as goal
-use Rattle.checker.proofs.body_side.Goals.{Else-side-ge-STOPS, After-from}
+use Rattle.checker.proofs.Terms.body_side.Goals as goal
+use Rattle.checker.proofs.Terms.body_side.Goals.{Else-side-ge-STOPS, After-from}
 
 -- it is an implication
-implication : (c : Else-side-ge-STOPS) → get_or c.args.code.now c.args.p 0 ≡ connective_byte impl
+implication : (c : Else-side-ge-STOPS) → get_or c.args.self.now.code.now c.args.p 0 ≡ connective_byte impl
 implication c = has_connective c.side_of-side.ensures c.if-side-ge-STOPS.false
 
 -- the label is a proposition, and stands
@@ -27,13 +27,13 @@ record LabelStands (records code : List ℕ) (stride m number : ℕ) : Type 0 wh
   pub is : number ≡ field_at records m 4
   pub stood : Stood code (stride * number)
 
-label_stands : (c : After-from) → let args = c.args in LabelStands args.records.now args.code.now args.stride args.m c.from.result
+label_stands : (c : After-from) → let args = c.args in LabelStands args.self.now.records.now args.self.now.code.now args.self.now.stride args.m c.from.result
 label_stands c =
     let args = c.args in
-    let kind = field_at args.records.now args.m 3 in
+    let kind = field_at args.self.now.records.now args.m 3 in
     let arm = c.in-Some-Proposition in
-    let label = parameter_read kind (field_at args.records.now args.m 4) (sym c.parameter_at.ensures ∙ arm.is ∙ ap Some arm.field-0-is) in
-    let read = proposition_read kind (field_at args.records.now args.m 4) label.1 in
+    let label = parameter_read kind (field_at args.self.now.records.now args.m 4) (sym c.parameter_at.ensures ∙ arm.is ∙ ap Some arm.field-0-is) in
+    let read = proposition_read kind (field_at args.self.now.records.now args.m 4) label.1 in
     record {
       some = eqb-false kind 0 label.0;
       other = read.0;
@@ -46,19 +46,19 @@ returns-then-side-ge-STOPS c = body_stop c.requires.m_value.2 c.requires.m_value
 
 pub returns-in-None : goal.returns-in-None
 returns-in-None c =
-    let none = no_parameter (field_at c.args.records.now c.args.m 3) (field_at c.args.records.now c.args.m 4) (sym c.parameter_at.ensures ∙ c.in-None.is) in
+    let none = no_parameter (field_at c.args.self.now.records.now c.args.m 3) (field_at c.args.self.now.records.now c.args.m 4) (sym c.parameter_at.ensures ∙ c.in-None.is) in
     body_side (tested_none refl none) c.side_of-side.ensures (implication (goal.at.returns-in-None c).Else-side-ge-STOPS)
 
 pub returns-in-Some-Datatype : goal.returns-in-Some-Datatype
 returns-in-Some-Datatype c =
     let arm = c.in-Some-Datatype in
-    let kind = field_at c.args.records.now c.args.m 3 in
-    let number = field_at c.args.records.now c.args.m 4 in
+    let kind = field_at c.args.self.now.records.now c.args.m 3 in
+    let number = field_at c.args.self.now.records.now c.args.m 4 in
     let label = parameter_read kind number (sym c.parameter_at.ensures ∙ arm.is ∙ ap Some arm.field-0-is) in
     not_side (tested_datatype refl (datatype_read kind number label.1).0) (implication (goal.at.returns-in-Some-Datatype c).Else-side-ge-STOPS)
 
-pub overflow_mul-stride : goal.overflow_mul-stride
-overflow_mul-stride c = omega (arith, (label_stands c).stood.low)
+pub overflow_mul-self : goal.overflow_mul-self
+overflow_mul-self c = omega (arith, (label_stands c).stood.low)
 
 pub same_code-requires : goal.same_code-requires
 same_code-requires c =

@@ -1,7 +1,7 @@
 -- The byte in front of what stands says its connective, if it is a connective's.
 use mathlib.Core.Path.{sym, ◌∙◌}
 use Rattle.prop_numbers.proofs.Fronts.{binary_front, other_front, connective_stands}
-use Rattle.prop_numbers.proofs.connective_of.Goals as goal
+use Rattle.prop_numbers.proofs.Propositions.connective.Goals as goal
 
 pub returns-in-Binary : goal.returns-in-Binary
 returns-in-Binary c =

@@ -8,8 +8,8 @@ use Rattle.std.specs.Prelude.{Some}
 use Rattle.prop_numbers.specs.Standing.{standing, connective_of}
 use Rattle.prop_numbers.proofs.Halves.{rep_stands, space_of}
 use Rattle.prop_numbers.proofs.Comparing.{left_lighter, right_lighter, Joined, joined, left_known, right_known, alike_other, alike_standing, alike_left, alike_both}
-use Rattle.prop_numbers.proofs.+same.Goals as goal
-use Rattle.prop_numbers.proofs.+same.Goals.{Else-ne, Joined-else-p-lt-STANDING, Start, else-p-lt-STANDING-via-then-p-lt-STANDING+else-q-lt-STANDING, else-p-lt-STANDING-via-else-p-lt-STANDING}
+use Rattle.prop_numbers.proofs.Propositions.+same.Goals as goal
+use Rattle.prop_numbers.proofs.Propositions.+same.Goals.{Else-ne, Joined-else-p-lt-STANDING, Start, else-p-lt-STANDING-via-then-p-lt-STANDING+else-q-lt-STANDING, else-p-lt-STANDING-via-else-p-lt-STANDING}
 
 -- one of the two is made
 one_made : (t : ℕ) → (c : Joined-else-p-lt-STANDING t) → (standing ≤ c.args.q) ⊎ (standing ≤ c.args.p)
@@ -20,16 +20,16 @@ one_made t c =
     ]
 
 -- and both have one connective,
-one_connective : (t : ℕ) → (c : Else-ne t) → let s = c.args in connective_of s.code.now s.made.now s.p ≡ connective_of s.code.now s.made.now s.q
-one_connective t c = let same : c.connective_of.result ≡ c.connective_of-2.result = search rules in sym c.connective_of.ensures ∙ same ∙ c.connective_of-2.ensures
+one_connective : (t : ℕ) → (c : Else-ne t) → let s = c.args in connective_of s.self.now.code.now s.self.now.made.now s.p ≡ connective_of s.self.now.code.now s.self.now.made.now s.q
+one_connective t c = let same : c.connective.result ≡ c.connective-2.result = search rules in sym c.connective.ensures ∙ same ∙ c.connective-2.ensures
 
 -- so the first has one
-first_joined : (t : ℕ) → (c : Else-ne t) → let s = c.args in Joined s.code.now s.made.now s.p
+first_joined : (t : ℕ) → (c : Else-ne t) → let s = c.args in Joined s.self.now.code.now s.self.now.made.now s.p
 first_joined t c =
     joined c.requires.known.0 c.requires.known.1 (one_connective t c) (one_made t (goal.at.Else-ne t c).Joined-else-p-lt-STANDING)
 
 -- and the second has it too
-second_connective : (t : ℕ) → (c : Else-ne t) → let s = c.args in connective_of s.code.now s.made.now s.q ≡ Some (first_joined t c).connective
+second_connective : (t : ℕ) → (c : Else-ne t) → let s = c.args in connective_of s.self.now.code.now s.self.now.made.now s.q ≡ Some (first_joined t c).connective
 second_connective t c = sym (one_connective t c) ∙ (first_joined t c).head
 
 pub same_code-requires : goal.same_code-requires
@@ -40,7 +40,7 @@ pub returns-then-q-lt-STANDING : goal.returns-then-q-lt-STANDING
 returns-then-q-lt-STANDING t c = alike_standing c.if-p-lt-STANDING.true c.if-q-lt-STANDING.true c.same_code.ensures
 
 pub returns-then-ne : goal.returns-then-ne
-returns-then-ne t c = alike_other (λ e. let other : c.connective_of.result ≡ c.connective_of-2.result → ⊥ = search rules in other (c.connective_of.ensures ∙ e ∙ sym c.connective_of-2.ensures)) (one_made t (goal.at.returns-then-ne t c).Joined-else-p-lt-STANDING)
+returns-then-ne t c = alike_other (λ e. let other : c.connective.result ≡ c.connective-2.result → ⊥ = search rules in other (c.connective.ensures ∙ e ∙ sym c.connective-2.ensures)) (one_made t (goal.at.returns-then-ne t c).Joined-else-p-lt-STANDING)
 
 pub same-left_same-requires : goal.same-left_same-requires
 same-left_same-requires t c =
@@ -73,17 +73,17 @@ returns t c =
     c.right.ensures c.right-2.ensures
     (rw c.if-not-left_same.false at c.same-left_same.ensures) c.same.ensures
 
-pub connective_of-requires : goal.connective_of-requires
-connective_of-requires t c = space_of c.requires.code_len_bound.0 c.requires.code_len_bound.1 c.requires.known.0
+pub connective-requires : goal.connective-requires
+connective-requires t c = space_of c.requires.code_len_bound.0 c.requires.code_len_bound.1 c.requires.known.0
 
-pub connective_of-requires-2 : goal.connective_of-requires-2
-connective_of-requires-2 t c = space_of c.requires.code_len_bound.0 c.requires.code_len_bound.1 c.requires.known.1
+pub connective-requires-2 : goal.connective-requires-2
+connective-requires-2 t c = space_of c.requires.code_len_bound.0 c.requires.code_len_bound.1 c.requires.known.1
 
 pub left-requires : goal.left-requires
-left-requires t c = let s = space_of c.requires.code_len_bound.0 c.requires.code_len_bound.1 c.requires.known.0 in (s.low, s.slots)
+left-requires t c = (space_of c.requires.code_len_bound.0 c.requires.code_len_bound.1 c.requires.known.0).low
 
 pub left-requires-2 : goal.left-requires-2
-left-requires-2 t c = let s = space_of c.requires.code_len_bound.0 c.requires.code_len_bound.1 c.requires.known.1 in (s.low, s.slots)
+left-requires-2 t c = (space_of c.requires.code_len_bound.0 c.requires.code_len_bound.1 c.requires.known.1).low
 
 pub right-requires : goal.right-requires
 right-requires t c = space_of c.requires.code_len_bound.0 c.requires.code_len_bound.1 c.requires.known.0

@@ -10,7 +10,7 @@ use Rattle.definitions.specs.TermText.{nodes}
 use Rattle.proof_term.specs.Records.{field_at, term_at}
 use Rattle.term_sizes.specs.Sizes.{Sized, most}
 use Rattle.checker.specs.Asking.{Few}
-use Rattle.checker.proofs.after.Goals as goal
+use Rattle.checker.proofs.Terms.after.Goals as goal
 
 -- the count of few nodes is exact, whatever the labels stand for
 kept_exactly : {records : List ℕ} {m node : ℕ} → Few records m node → (props : ℕ → Prop ℕ) → field_at records m 6 ≡ nodes (term_at props records m)

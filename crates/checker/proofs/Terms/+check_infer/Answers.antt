@@ -1,15 +1,14 @@
 -- The record's number falls, and where it stays, an arm is asked, or what is checked is inferred. Each answer is one law over the
 -- answers of the parts: the laws of the arms stand in `CheckArms`, `InferArms` and, for the head of a case and its binders, `Cases`.
-use mathlib.Core.Path.{refl, sym, ap, ◌∙◌}
+use mathlib.Core.Path.{refl, sym, ◌∙◌}
 use native.Mathlib.Omega.{arith}
-use lib.ListN.{length}
 use Rattle.prop_numbers.proofs.Halves.{expected_space}
 use Rattle.checker.proofs.Steps.{node_low, known_stood}
 use Rattle.checker.proofs.Fallback.{falls}
 use Rattle.checker.proofs.Cases as cases
 use Rattle.checker.proofs.CheckArms as arms
 use Rattle.checker.proofs.InferArms as inferring
-use Rattle.checker.proofs.+check_infer.Goals as goal
+use Rattle.checker.proofs.Terms.+check_infer.Goals as goal
 
 -- What is checked.
 pub check-returns-then-side-ge-STOPS : goal.check-returns-then-side-ge-STOPS
@@ -87,7 +86,7 @@ check_function-returns-then-side-ge-STOPS t c =
 pub check_function-bind-hidden-requires : goal.check_function-bind-hidden-requires
 check_function-bind-hidden-requires t c =
     let e = c.requires.kind in
-    (arms.function_name c.requires.ready.0 c.requires.ready.1 c.field-first.ensures.0 e, (arms.function_left c.requires.ready.0 c.requires.ready.1 c.field-first.ensures.0 e c.body_side-side.ensures c.if-side-ge-STOPS.false).low, c.requires.ready.0.entries.long)
+    (arms.function_name c.requires.ready.0 c.requires.ready.1 c.field-first.ensures.0 e, (arms.function_left c.requires.ready.0 c.requires.ready.1 c.field-first.ensures.0 e c.body_side-side.ensures c.if-side-ge-STOPS.false).low)
 
 pub check_function-check-r-requires : goal.check_function-check-r-requires
 check_function-check-r-requires t c =
@@ -97,9 +96,7 @@ check_function-check-r-requires t c =
     (omega (arith, c.decreases, call.less), (call.ready, arms.function_side c.requires.ready.0 c.requires.ready.1 c.field-first.ensures.0 e c.body_side-side.ensures l))
 
 pub check_function-unbind-requires : goal.check_function-unbind-requires
-check_function-unbind-requires t c =
-    let e = c.requires.kind in
-    (arms.function_name c.requires.ready.0 c.requires.ready.1 c.field-first.ensures.0 e, arms.function_long c.requires.ready.0 c.requires.ready.1 c.field-first.ensures.0 e c.body_side-side.ensures c.if-side-ge-STOPS.false c.bind-hidden.ensures c.check-r.ensures.same)
+check_function-unbind-requires t c = arms.function_name c.requires.ready.0 c.requires.ready.1 c.field-first.ensures.0 c.requires.kind
 
 pub check_function-returns : goal.check_function-returns
 check_function-returns t c =
@@ -161,7 +158,7 @@ check_case-after-next-requires t c =
 pub check_case-bind-hidden-requires : goal.check_case-bind-hidden-requires
 check_case-bind-hidden-requires t c =
     let e = c.requires.kind in
-    (cases.left_name c.requires.ready.0 c.field-first.ensures.0 e, (cases.left_stood c.requires.ready.0 c.field-first.ensures.0 c.requires.kind c.infer-inferred.ensures c.expect-h.ensures c.if-h-ge-STOPS.false).low, (cases.entries c.requires.ready.0 c.field-first.ensures.0 e c.infer-inferred.ensures).long)
+    (cases.left_name c.requires.ready.0 c.field-first.ensures.0 e, (cases.left_stood c.requires.ready.0 c.field-first.ensures.0 c.requires.kind c.infer-inferred.ensures c.expect-h.ensures c.if-h-ge-STOPS.false).low)
 
 pub check_case-check-r-requires : goal.check_case-check-r-requires
 check_case-check-r-requires t c =
@@ -170,12 +167,7 @@ check_case-check-r-requires t c =
     (omega (arith, c.decreases, call.less), (call.ready, c.requires.ready.1))
 
 pub check_case-unbind-requires : goal.check_case-unbind-requires
-check_case-unbind-requires t c =
-    let e = c.requires.kind in (
-      cases.left_name c.requires.ready.0 c.field-first.ensures.0 e,
-      cases.left_long c.requires.ready.0 c.field-first.ensures.0 e c.infer-inferred.ensures c.expect-h.ensures c.if-h-ge-STOPS.false
-          c.field-second.ensures.0 c.after-next.ensures c.bind-hidden.ensures c.check-r.ensures.same,
-    )
+check_case-unbind-requires t c = cases.left_name c.requires.ready.0 c.field-first.ensures.0 c.requires.kind
 
 pub check_case-returns-then-r-ne0 : goal.check_case-returns-then-r-ne0
 check_case-returns-then-r-ne0 t c =
@@ -195,9 +187,7 @@ pub check_case-bind-hidden-requires-2 : goal.check_case-bind-hidden-requires-2
 check_case-bind-hidden-requires-2 t c =
     let e = c.requires.kind in
     let l = c.if-h-ge-STOPS.false in
-    let back = cases.left_back c.requires.ready.0 c.field-first.ensures.0 e c.infer-inferred.ensures c.expect-h.ensures l
-    c.field-second.ensures.0 c.after-next.ensures c.bind-hidden.ensures c.check-r.ensures.same c.check-r.ensures.kept c.unbind.ensures in
-    (cases.right_name c.requires.ready.0 c.field-first.ensures.0 e, (cases.sides c.requires.ready.0 c.field-first.ensures.0 e c.infer-inferred.ensures c.expect-h.ensures l c.scan-side.ensures).right.low, ap length back ∙ c.requires.ready.0.entries.long)
+    (cases.right_name c.requires.ready.0 c.field-first.ensures.0 e, (cases.sides c.requires.ready.0 c.field-first.ensures.0 e c.infer-inferred.ensures c.expect-h.ensures l c.scan-side.ensures).right.low)
 
 pub check_case-check-r-requires-2 : goal.check_case-check-r-requires-2
 check_case-check-r-requires-2 t c =
@@ -207,13 +197,7 @@ check_case-check-r-requires-2 t c =
     (omega (arith, c.decreases, call.less), (call.ready, c.requires.ready.1))
 
 pub check_case-unbind-requires-2 : goal.check_case-unbind-requires-2
-check_case-unbind-requires-2 t c =
-    let e = c.requires.kind in (
-      cases.right_name c.requires.ready.0 c.field-first.ensures.0 e,
-      cases.right_long c.requires.ready.0 c.field-first.ensures.0 e c.infer-inferred.ensures c.expect-h.ensures c.if-h-ge-STOPS.false
-          c.field-second.ensures.0 c.after-next.ensures c.bind-hidden.ensures c.check-r.ensures.same c.check-r.ensures.kept c.unbind.ensures
-          c.field-third.ensures.0 c.after-last.ensures c.scan-side.ensures c.bind-hidden-2.ensures c.check-r-2.ensures.same,
-    )
+check_case-unbind-requires-2 t c = cases.right_name c.requires.ready.0 c.field-first.ensures.0 c.requires.kind
 
 pub check_case-returns : goal.check_case-returns
 check_case-returns t c =
@@ -224,7 +208,7 @@ check_case-returns t c =
 -- What is inferred.
 pub infer-entry-requires : goal.infer-entry-requires
 infer-entry-requires t c =
-    (inferring.ident_name c.requires c.field-first.ensures.0 (sym c.kind_at-kind.ensures ∙ c.in-Ident.is), node_low c.requires, c.requires.entries.long)
+    (inferring.ident_name c.requires c.field-first.ensures.0 (sym c.kind_at-kind.ensures ∙ c.in-Ident.is), node_low c.requires)
 
 pub infer-returns-in-Ident : goal.infer-returns-in-Ident
 infer-returns-in-Ident t c =
@@ -330,7 +314,7 @@ infer_function-returns-then-label-ge-STOPS t c =
 pub infer_function-bind-hidden-requires : goal.infer_function-bind-hidden-requires
 infer_function-bind-hidden-requires t c =
     let e = c.requires.kind in
-    (inferring.function_name c.requires.ready c.field-first.ensures.0 e, (inferring.function_stood c.requires.ready c.field-first.ensures.0 e c.annotated-label.ensures c.if-label-ge-STOPS.false).low, c.requires.ready.entries.long)
+    (inferring.function_name c.requires.ready c.field-first.ensures.0 e, (inferring.function_stood c.requires.ready c.field-first.ensures.0 e c.annotated-label.ensures c.if-label-ge-STOPS.false).low)
 
 pub infer_function-infer-r-requires : goal.infer_function-infer-r-requires
 infer_function-infer-r-requires t c =
@@ -338,13 +322,11 @@ infer_function-infer-r-requires t c =
     (omega (arith, c.decreases, call.less), call.ready)
 
 pub infer_function-unbind-requires : goal.infer_function-unbind-requires
-infer_function-unbind-requires t c =
-    let e = c.requires.kind in
-    (inferring.function_name c.requires.ready c.field-first.ensures.0 e, inferring.function_long c.requires.ready c.field-first.ensures.0 e c.annotated-label.ensures c.if-label-ge-STOPS.false c.bind-hidden.ensures c.infer-r.ensures.same)
+infer_function-unbind-requires t c = inferring.function_name c.requires.ready c.field-first.ensures.0 c.requires.kind
 
 pub infer_function-make-requires : goal.infer_function-make-requires
 infer_function-make-requires t c =
-    (node_low c.requires.ready, c.if-label-ge-STOPS.false, c.infer-r.ensures.kept.long ∙ c.requires.ready.slots)
+    (node_low c.requires.ready, c.if-label-ge-STOPS.false)
 
 pub infer_function-returns : goal.infer_function-returns
 infer_function-returns t c =
@@ -374,7 +356,7 @@ infer_pair-infer-q-requires t c =
 
 pub infer_pair-make-requires : goal.infer_pair-make-requires
 infer_pair-make-requires t c =
-    (node_low c.requires.ready, c.if-p-ge-STOPS.false, c.infer-q.ensures.kept.long ∙ c.infer-p.ensures.kept.long ∙ c.requires.ready.slots)
+    (node_low c.requires.ready, c.if-p-ge-STOPS.false)
 
 pub infer_pair-returns : goal.infer_pair-returns
 infer_pair-returns t c =
@@ -400,7 +382,7 @@ infer_case-after-next-requires t c =
 
 pub infer_case-bind-hidden-requires : goal.infer_case-bind-hidden-requires
 infer_case-bind-hidden-requires t c =
-    (cases.left_name c.requires.ready c.field-first.ensures.0 c.requires.kind, (cases.left_stood c.requires.ready c.field-first.ensures.0 c.requires.kind c.infer-inferred.ensures c.expect-h.ensures c.if-h-ge-STOPS.false).low, (cases.entries c.requires.ready c.field-first.ensures.0 c.requires.kind c.infer-inferred.ensures).long)
+    (cases.left_name c.requires.ready c.field-first.ensures.0 c.requires.kind, (cases.left_stood c.requires.ready c.field-first.ensures.0 c.requires.kind c.infer-inferred.ensures c.expect-h.ensures c.if-h-ge-STOPS.false).low)
 
 pub infer_case-infer-q-requires : goal.infer_case-infer-q-requires
 infer_case-infer-q-requires t c =
@@ -409,11 +391,7 @@ infer_case-infer-q-requires t c =
     (omega (arith, c.decreases, call.less), call.ready)
 
 pub infer_case-unbind-requires : goal.infer_case-unbind-requires
-infer_case-unbind-requires t c = (
-  cases.left_name c.requires.ready c.field-first.ensures.0 c.requires.kind,
-  cases.left_long c.requires.ready c.field-first.ensures.0 c.requires.kind c.infer-inferred.ensures c.expect-h.ensures c.if-h-ge-STOPS.false
-      c.field-second.ensures.0 c.after-next.ensures c.bind-hidden.ensures c.infer-q.ensures.same,
-)
+infer_case-unbind-requires t c = cases.left_name c.requires.ready c.field-first.ensures.0 c.requires.kind
 
 pub infer_case-returns-then-q-ge-STOPS : goal.infer_case-returns-then-q-ge-STOPS
 infer_case-returns-then-q-ge-STOPS t c =
@@ -432,9 +410,7 @@ infer_case-scan-side-requires t c =
 pub infer_case-bind-hidden-requires-2 : goal.infer_case-bind-hidden-requires-2
 infer_case-bind-hidden-requires-2 t c =
     let l = c.if-h-ge-STOPS.false in
-    let back = cases.left_back c.requires.ready c.field-first.ensures.0 c.requires.kind c.infer-inferred.ensures c.expect-h.ensures l
-    c.field-second.ensures.0 c.after-next.ensures c.bind-hidden.ensures c.infer-q.ensures.same c.infer-q.ensures.kept c.unbind.ensures in
-    (cases.right_name c.requires.ready c.field-first.ensures.0 c.requires.kind, (cases.sides c.requires.ready c.field-first.ensures.0 c.requires.kind c.infer-inferred.ensures c.expect-h.ensures l c.scan-side.ensures).right.low, ap length back ∙ c.requires.ready.entries.long)
+    (cases.right_name c.requires.ready c.field-first.ensures.0 c.requires.kind, (cases.sides c.requires.ready c.field-first.ensures.0 c.requires.kind c.infer-inferred.ensures c.expect-h.ensures l c.scan-side.ensures).right.low)
 
 pub infer_case-infer-r-requires : goal.infer_case-infer-r-requires
 infer_case-infer-r-requires t c =
@@ -444,12 +420,7 @@ infer_case-infer-r-requires t c =
     (omega (arith, c.decreases, call.less), call.ready)
 
 pub infer_case-unbind-requires-2 : goal.infer_case-unbind-requires-2
-infer_case-unbind-requires-2 t c = (
-  cases.right_name c.requires.ready c.field-first.ensures.0 c.requires.kind,
-  cases.right_long c.requires.ready c.field-first.ensures.0 c.requires.kind c.infer-inferred.ensures c.expect-h.ensures c.if-h-ge-STOPS.false
-      c.field-second.ensures.0 c.after-next.ensures c.bind-hidden.ensures c.infer-q.ensures.same c.infer-q.ensures.kept c.unbind.ensures
-      c.field-third.ensures.0 c.after-last.ensures c.scan-side.ensures c.bind-hidden-2.ensures c.infer-r.ensures.same,
-)
+infer_case-unbind-requires-2 t c = cases.right_name c.requires.ready c.field-first.ensures.0 c.requires.kind
 
 pub infer_case-agree-requires : goal.infer_case-agree-requires
 infer_case-agree-requires t c =
