@@ -16,6 +16,19 @@ use proof_term::{Kind, Label, NODE_LIMIT, field, kind_at, label_at, parameter_at
 use prop_numbers::{Made, NAMES, Propositions, STOPS, make, same_code, side_of};
 use term_sizes::SIZE;
 
+// The numbers of a record that the rules read: its parts, or an identifier's name; a function's name; the names of a case's two branches.
+const FIRST: usize = 1;
+
+const SECOND: usize = 2;
+
+const THIRD: usize = 3;
+
+const NAME: usize = 2;
+
+const LEFT_NAME: usize = 4;
+
+const RIGHT_NAME: usize = 5;
+
 // The records of terms, and the code that their labels stand in. A label's number times the stride is its offset there: 1 for a sheet's own
 // term, 2 for one that is read beside a sheet, where numbers count pairs of bytes.
 #[derive(Clone, Copy)]
@@ -46,7 +59,8 @@ fn entry(scope: &[Option<u32>; NAMES], name: usize, node: usize) -> usize
 
 // Checking and inferring have an arm for each rule. An arm that binds a name or asks of two parts is a function of its own, which the
 // compiler puts into its one caller, so that each of the 512 levels takes one frame. An answer is a number, as prop_numbers::STOPS says.
-// A kind is a value, but the numbers of a record are read one by one where an arm needs them.
+// A record is not taken apart as a Node: its numbers would lie in the frame over the calls, 32 bytes more a level (120 for 88 in `check`,
+// 136 for 104 in `infer`, as rustc lays the same text out), and the arm of a case would have ten parameters.
 impl Terms<'_> {
     // The node after those of the term of record m, whose own is `node`.
     fn after(&self, m: usize, node: usize) -> usize
@@ -132,7 +146,7 @@ impl Terms<'_> {
         ensures { CheckedTerm self.now m node p state.old state.new result }
     {
         let kind = kind_at(self.records, m);
-        let first = field(self.records, m, 1);
+        let first = field(self.records, m, FIRST);
         match kind {
             Kind::Function => self.check_function(state, m, node, p),
             Kind::Pair => self.check_pair(state, m, node, p),
@@ -180,14 +194,14 @@ impl Terms<'_> {
         requires kind { OfKind self.now.records.now m Function }
         ensures { CheckedTerm self.now m node p state.old state.new result }
     {
-        let first = field(self.records, m, 1);
+        let first = field(self.records, m, FIRST);
         let side = self.body_side(m, p, node);
         if STOPS <= side {
             return side;
         }
-        let hidden = self.bind(&mut state.scope, m, 2, p + 1);
+        let hidden = self.bind(&mut state.scope, m, NAME, p + 1);
         let r = self.check(state, first, node + 1, side);
-        self.unbind(&mut state.scope, m, 2, hidden);
+        self.unbind(&mut state.scope, m, NAME, hidden);
         r
     }
 
@@ -198,7 +212,7 @@ impl Terms<'_> {
         requires kind { OfKind self.now.records.now m Pair }
         ensures { CheckedTerm self.now m node p state.old state.new result }
     {
-        let first = field(self.records, m, 1);
+        let first = field(self.records, m, FIRST);
         let side = side_of(self.code, p, Connective::And, node);
         if STOPS <= side {
             return side;
@@ -207,7 +221,7 @@ impl Terms<'_> {
         if r != 0 {
             return r;
         }
-        let second = field(self.records, m, 2);
+        let second = field(self.records, m, SECOND);
         let next = self.after(first, node + 1);
         self.check(state, second, next, side)
     }
@@ -219,7 +233,7 @@ impl Terms<'_> {
         requires kind { OfKind self.now.records.now m Case }
         ensures { CheckedTerm self.now m node p state.old state.new result }
     {
-        let first = field(self.records, m, 1);
+        let first = field(self.records, m, FIRST);
         let inferred = self.infer(state, first, node + 1);
         let propositions = Propositions {
             code: self.code,
@@ -229,20 +243,20 @@ impl Terms<'_> {
         if STOPS <= h {
             return h;
         }
-        let second = field(self.records, m, 2);
+        let second = field(self.records, m, SECOND);
         let next = self.after(first, node + 1);
-        let hidden = self.bind(&mut state.scope, m, 4, h + 1);
+        let hidden = self.bind(&mut state.scope, m, LEFT_NAME, h + 1);
         let r = self.check(state, second, next, p);
-        self.unbind(&mut state.scope, m, 4, hidden);
+        self.unbind(&mut state.scope, m, LEFT_NAME, hidden);
         if r != 0 {
             return r;
         }
-        let third = field(self.records, m, 3);
+        let third = field(self.records, m, THIRD);
         let last = self.after(second, next);
         let side = scan(self.code, h + 1, NAMES);
-        let hidden = self.bind(&mut state.scope, m, 5, side);
+        let hidden = self.bind(&mut state.scope, m, RIGHT_NAME, side);
         let r = self.check(state, third, last, p);
-        self.unbind(&mut state.scope, m, 5, hidden);
+        self.unbind(&mut state.scope, m, RIGHT_NAME, hidden);
         r
     }
 
@@ -253,7 +267,7 @@ impl Terms<'_> {
         ensures { InferredTerm self.now m node state.old state.new result }
     {
         let kind = kind_at(self.records, m);
-        let first = field(self.records, m, 1);
+        let first = field(self.records, m, FIRST);
         match kind {
             Kind::Ident => entry(&state.scope, first, node),
             Kind::ProjectFst => {
@@ -299,7 +313,7 @@ impl Terms<'_> {
         requires kind { OfKind self.now.records.now m Application }
         ensures { InferredTerm self.now m node state.old state.new result }
     {
-        let first = field(self.records, m, 1);
+        let first = field(self.records, m, FIRST);
         let inferred = self.infer(state, first, node + 1);
         let propositions = Propositions {
             code: self.code,
@@ -309,7 +323,7 @@ impl Terms<'_> {
         if STOPS <= p {
             return p;
         }
-        let second = field(self.records, m, 2);
+        let second = field(self.records, m, SECOND);
         let next = self.after(first, node + 1);
         let argument = propositions.left(p);
         let side = propositions.right(p);
@@ -327,14 +341,14 @@ impl Terms<'_> {
         requires kind { OfKind self.now.records.now m Function }
         ensures { InferredTerm self.now m node state.old state.new result }
     {
-        let first = field(self.records, m, 1);
+        let first = field(self.records, m, FIRST);
         let label = self.annotated(m, node);
         if STOPS <= label {
             return label;
         }
-        let hidden = self.bind(&mut state.scope, m, 2, label);
+        let hidden = self.bind(&mut state.scope, m, NAME, label);
         let r = self.infer(state, first, node + 1);
-        self.unbind(&mut state.scope, m, 2, hidden);
+        self.unbind(&mut state.scope, m, NAME, hidden);
         make(&mut state.made, node, Connective::Impl, label, r)
     }
 
@@ -345,12 +359,12 @@ impl Terms<'_> {
         requires kind { OfKind self.now.records.now m Pair }
         ensures { InferredTerm self.now m node state.old state.new result }
     {
-        let first = field(self.records, m, 1);
+        let first = field(self.records, m, FIRST);
         let p = self.infer(state, first, node + 1);
         if STOPS <= p {
             return p;
         }
-        let second = field(self.records, m, 2);
+        let second = field(self.records, m, SECOND);
         let next = self.after(first, node + 1);
         let q = self.infer(state, second, next);
         make(&mut state.made, node, Connective::And, p, q)
@@ -363,7 +377,7 @@ impl Terms<'_> {
         requires kind { OfKind self.now.records.now m Case }
         ensures { InferredTerm self.now m node state.old state.new result }
     {
-        let first = field(self.records, m, 1);
+        let first = field(self.records, m, FIRST);
         let inferred = self.infer(state, first, node + 1);
         let propositions = Propositions {
             code: self.code,
@@ -373,20 +387,20 @@ impl Terms<'_> {
         if STOPS <= h {
             return h;
         }
-        let second = field(self.records, m, 2);
+        let second = field(self.records, m, SECOND);
         let next = self.after(first, node + 1);
-        let hidden = self.bind(&mut state.scope, m, 4, h + 1);
+        let hidden = self.bind(&mut state.scope, m, LEFT_NAME, h + 1);
         let q = self.infer(state, second, next);
-        self.unbind(&mut state.scope, m, 4, hidden);
+        self.unbind(&mut state.scope, m, LEFT_NAME, hidden);
         if STOPS <= q {
             return q;
         }
-        let third = field(self.records, m, 3);
+        let third = field(self.records, m, THIRD);
         let last = self.after(second, next);
         let side = scan(self.code, h + 1, NAMES);
-        let hidden = self.bind(&mut state.scope, m, 5, side);
+        let hidden = self.bind(&mut state.scope, m, RIGHT_NAME, side);
         let r = self.infer(state, third, last);
-        self.unbind(&mut state.scope, m, 5, hidden);
+        self.unbind(&mut state.scope, m, RIGHT_NAME, hidden);
         let propositions = Propositions {
             code: self.code,
             made: &state.made,
