@@ -2,13 +2,13 @@
 // are asked, every name gets the lowest number of its bytes, in the term and in the code.
 #![tactic(auto)]
 
-ghost use Rattle.std.specs.Prelude.{◌≡◌, ◌||◌, ◌+◌, ◌≤◌, length, leb, Ok};
+ghost use Rattle.std.specs.Prelude.{◌≡◌, ◌||◌, ◌≤◌, length, leb, Ok};
 ghost use Rattle.definitions.specs.Outcome.{accepted};
 ghost use Rattle.definitions.specs.Sheet.{name_limit, names, propositions, proposition_pairs, code_bytes};
 ghost use Rattle.definitions.specs.Checker.{Judged};
 ghost use Rattle.definitions.specs.CheckAnswers.{hypothesis_out, judgement};
 ghost use Rattle.merged_names.specs.Numbered.{Numbered};
-ghost use Rattle.standing_code.specs.Over.{code_space, CodeStands};
+ghost use Rattle.standing_code.specs.Over.{CodeStands};
 ghost use Rattle.checker.specs.Judging.{Checks};
 ghost use Rattle.sheet_term.specs.Held.{HeldTerm};
 ghost use Rattle.judgement.specs.Answered.{judgement_of, Decided, Judges};
@@ -81,9 +81,8 @@ fn may_check(sheet: &AdmittedSheet, terms: &[u16], n: usize, hypotheses: &[u16],
 }
 
 // The sheet's propositions over the numbers, each where it stands, and then ⊤ and ⊥.
-fn stand(sheet: &AdmittedSheet, numbers: &[u16], code: &mut [u8])
-    requires room { names sheet.now ≤ length numbers.now }
-    requires code_len { length code.old ≡ code_space + 2 }
+fn stand(sheet: &AdmittedSheet, numbers: &[u16], code: &mut [u8; CODE_SIZE])
+    requires { names sheet.now ≤ length numbers.now }
     ensures { CodeStands (names sheet.now) (proposition_pairs sheet.now) (code_bytes sheet.now)
         (propositions sheet.now) numbers.now code.new }
 {
@@ -133,12 +132,14 @@ fn decide(
         made: [Made::default(); NODE_LIMIT],
     };
     assume(hypotheses, numbers, pairs, &mut state.scope);
+    // A label of a sheet's own term has its offset for its number.
     let judged = Terms {
         records: terms,
         code: &code,
         stride: 1,
     };
     let at = pair_offset(pairs, k);
+    // The root is node 0.
     let r = judged.check(&mut state, n, 0, at);
     stopping_node(r)
 }

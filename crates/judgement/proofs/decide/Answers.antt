@@ -12,7 +12,7 @@ use Rattle.judgement.proofs.decide.Goals as goal
 use Rattle.judgement.proofs.decide.Goals.{After-check-r, After-pair_offset-at}
 
 pub stand-requires : goal.stand-requires
-stand-requires c = record { room = omega (arith, c.requires.lowest.long); code_len = search rules }
+stand-requires c = omega (arith, c.requires.lowest.long)
 
 pub assume-requires : goal.assume-requires
 assume-requires c =

@@ -1,11 +1,12 @@
 -- The sheet's propositions stand behind one another within its code.
+use borrow.Author.Rules.{rules}
 use Rattle.judgement.proofs.Standing.{codes, stands_so}
 use Rattle.judgement.proofs.stand.Goals as goal
 
 pub put_code-requires : goal.put_code-requires
 put_code-requires c =
     let header = c.header-h.ensures in
-    codes header.accepted header.is c.proposition_pairs.ensures.is c.code_bytes.ensures.is c.requires.room c.requires.code_len
+    codes header.accepted header.is c.proposition_pairs.ensures.is c.code_bytes.ensures.is c.requires (search rules)
 
 pub returns : goal.returns
 returns c =
