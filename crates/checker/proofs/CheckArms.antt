@@ -17,16 +17,17 @@ use Rattle.proof_term.specs.declared.nodes.Kind.TheVariants as variant
 use Rattle.proof_term.proofs.Views.{number_of_kind}
 use Rattle.proof_term.specs.Records.{field_at, parameter_label}
 use Rattle.prop_numbers.specs.declared.Made.{Made}
-use Rattle.prop_numbers.specs.Standing.{stops, name_space, Stood, Known, Kept}
+use Rattle.prop_numbers.specs.Standing.{stops, name_space, Stood, Known}
 use Rattle.prop_numbers.specs.Answering.{SideOf, Expected, Tested, Agreed}
-use Rattle.prop_numbers.proofs.Reps.{kept_all, kept_wider, kept_then}
+use Rattle.prop_numbers.proofs.Reps.{kept_all, kept_wider}
 use Rattle.prop_numbers.proofs.Halves.{Halves, halves, half}
 use Rattle.checker.specs.Asking.{OfKind, label_prop, term_of, Few, NameHeld, Well, Judgeable}
 use Rattle.checker.specs.Judging.{ChecksAs, Inferred, Checked}
 use Rattle.checker.specs.Helping.{After, LabelTested, Bound, BodySide, BodyTested}
 use Rattle.checker.proofs.Forms.{One, Two, function_view, pair_view, inl_view, inr_view, abort_view, sorry_is, let_is}
 use Rattle.checker.proofs.Checking.{pair_other, function_other, inl_other, inr_other, pair_fails, pair_then, inl_part, inr_part, function_label, function_body, abort_part, sorry_passes, let_fails, case_unopened, case_fails, case_then, Falls, fall_stops, fall_same, fall_differ}
-use Rattle.checker.proofs.Steps.{Call, call, few, bound_in, restored, side_halves, side_other, known_answer, checked_at, checks_under}
+use Rattle.checker.proofs.Steps.{Call, call, bound_in, restored, side_halves, side_other, known_answer, checked_at, checks_under}
+use Rattle.checker.proofs.Parts.{first_call, first_few, first_kept, second_is, second_call, both_kept}
 use Rattle.checker.proofs.Cases.{head_unopened, head_opening, head_half, sides, left_name, right_name, left_under, left_back, left_kept, right_under, right_back, right_kept, right_node, term_is, view}
 
 module _ {records code : List ℕ} {stride : ℕ} {scope : List (Option ℕ)} {mades : List Made} {m n p : ℕ} (j : Judgeable records code stride scope mades m n) (stood : Stood code p)
@@ -102,7 +103,7 @@ module _ {records code : List ℕ} {stride : ℕ} {scope : List (Option ℕ)} {m
     pair_is = pair_view own ea refl e
 
     pub pair_few : Few records a (n + 1)
-    pair_few = few j (n + 1) pair_is.first (omega (arith, j.room, pair_is.size))
+    pair_few = first_few j pair_is
 
     module _ {side : ℕ} (s : SideOf code p And n side) where
       pub pair_stop : stops ≤ side → At scope mades side
@@ -115,26 +116,20 @@ module _ {records code : List ℕ} {stride : ℕ} {scope : List (Option ℕ)} {m
         pair_halves = side_halves j.ends.space stood s l
 
         pub pair_call : Call records code stride scope mades m a (n + 1)
-        pair_call = call j pair_is.first j.entries j.slots (omega (arith, j.room, pair_is.size))
+        pair_call = first_call j pair_is
 
         module _ {scope' : List (Option ℕ)} {mades' : List Made} {r : ℕ} (c : Checked records code stride scope mades a (n + 1) (p + 1) scope' mades' r) where
-          first_kept : Kept n (n + nodes (term m)) mades mades'
-          first_kept = kept_wider n (n + nodes (term m)) (omega arith) (omega (arith, pair_is.size)) c.kept
-
           pub pair_fail : (r ≡ 0 → ⊥) → At scope' mades' r
-          pair_fail x = checked_at pair_is.is (pair_fails pair_halves c.answer x) c.same first_kept
+          pair_fail x = checked_at pair_is.is (pair_fails pair_halves c.answer x) c.same (first_kept j pair_is c.kept)
 
           module _ (ok : r ≡ 0) {b next : ℕ} (eb : b ≡ field_at records m 2) (en : After records a (n + 1) next) where
-            second_room : next + nodes (term b) ≤ n + nodes (term m)
-            second_room = rw (eb, en labels) (omega (arith, pair_is.size))
-
             pub pair_next : Call records code stride scope' mades' m b next
-            pair_next = call j (rw eb pair_is.second) (rw c.same j.entries) (c.kept.long ∙ j.slots) (omega (arith, second_room, j.room))
+            pair_next = second_call j pair_is c.kept eb en c.same
 
             pub pair_done : {scope'' : List (Option ℕ)} {mades'' : List Made} {q : ℕ} → Checked records code stride scope' mades' b next side scope'' mades'' q → At scope'' mades'' q
             pair_done d =
-                checked_at (rw eb pair_is.is) (pair_then pair_halves c.answer ok (checks_under c.same (en labels) d.answer)) (d.same ∙ c.same)
-                (kept_then first_kept (kept_wider n (n + nodes (term m)) (rw (en labels) (omega arith)) second_room d.kept))
+                checked_at (second_is j pair_is c.kept eb en) (pair_then pair_halves c.answer ok (checks_under c.same (en labels) d.answer)) (d.same ∙ c.same)
+                (both_kept j pair_is c.kept eb en d.kept)
 
   -- Injections.
   module _ {side : ℕ} (s : SideOf code p Or n side) where

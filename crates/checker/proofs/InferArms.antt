@@ -30,7 +30,8 @@ use Rattle.checker.proofs.Answers.{derives}
 use Rattle.checker.proofs.Sides.{Opening, unopened, opening}
 use Rattle.checker.proofs.Labels.{no_label, a_datatype, a_proposition, some_label}
 use Rattle.checker.proofs.Inferring.{ident_answer, unit_answer, let_stops, sorry_stops, inl_stops, inr_stops, abort_stops, fst_stops, snd_stops, fst_gives, snd_gives, argument_stands, application_stops, application_fails, application_gives, ascription_datatype, ascription_fails, ascription_gives, function_none, function_datatype, function_stops, function_gives, pair_first, pair_second, pair_gives, case_stops, case_left, case_right, case_gives, case_differ}
-use Rattle.checker.proofs.Steps.{Call, call, few, node_low, bound_in, restored, known_answer, answer_space, inferred_at, infers_under, checks_under}
+use Rattle.checker.proofs.Steps.{Call, call, node_low, bound_in, restored, known_answer, answer_space, inferred_at, infers_under, checks_under}
+use Rattle.checker.proofs.Parts.{first_call, first_few, first_kept, second_is, second_room, second_call, both_kept}
 use Rattle.checker.proofs.Cases.{head_unopened, head_opening, head_half, sides, left_name, right_name, left_under, left_back, left_kept, left_room, right_room, right_under, right_back, right_kept, right_node, term_is, view}
 
 module _ {records code : List ℕ} {stride : ℕ} {scope : List (Option ℕ)} {mades : List Made} {m n : ℕ} (j : Judgeable records code stride scope mades m n)
@@ -78,23 +79,24 @@ module _ {records code : List ℕ} {stride : ℕ} {scope : List (Option ℕ)} {m
     part_kept : {F : ProofTerm ℕ → ProofTerm ℕ} → One records code stride m a F → Kept n (n + nodes (term m)) mades mades'
     part_kept v = kept_wider n (n + nodes (term m)) (omega arith) (omega (arith, v.size)) i.kept
 
+    -- a projection, by what is said of each way in which it ends
+    projected : {F : ProofTerm ℕ → ProofTerm ℕ} {Side : ℕ → ℕ → Type 0} {x : ℕ} (v : One records code stride m a F) (p : Projected code mades' r Side n x)
+        → (stops ≤ p.p → InfersAs code scope mades' (F (term a)) n p.p) → (p.p < stops → InfersAs code scope mades' (F (term a)) n x) → At scope' mades' x
+    projected v p stopped found = by_cases (dec_le stops p.p)
+        (λ l. rw (p.stop l) (inferred_at v.is (stopped l) i.same (part_kept v)))
+        (λ l. inferred_at v.is (found (omega arith)) i.same (part_kept v))
+
     pub fst_done : {x : ℕ} → OfKind records m variant.ProjectFst → Projected code mades' r (FirstSide mades') n x → At scope' mades' x
-    fst_done {x} e p =
+    fst_done e p =
         let v = fst_view own ea e in
-        by_cases (dec_le stops p.p)
-        (λ l. rw (p.stop l) (inferred_at v.is (fst_stops (unopened i.answer p.expected l)) i.same (part_kept v)))
-        (λ l.
-        inferred_at v.is
-        (fst_gives j.ends.space (omega (arith, j.room, v.size)) (opening i.answer p.expected (omega arith)) (p.side (omega arith))) i.same (part_kept v))
+        projected v p (λ l. fst_stops (unopened i.answer p.expected l))
+        (λ l. fst_gives j.ends.space (omega (arith, j.room, v.size)) (opening i.answer p.expected l) (p.side l))
 
     pub snd_done : {x : ℕ} → OfKind records m variant.ProjectSnd → Projected code mades' r (RightOf code mades') n x → At scope' mades' x
-    snd_done {x} e p =
+    snd_done e p =
         let v = snd_view own ea e in
-        by_cases (dec_le stops p.p)
-        (λ l. rw (p.stop l) (inferred_at v.is (snd_stops (unopened i.answer p.expected l)) i.same (part_kept v)))
-        (λ l.
-        inferred_at v.is
-        (snd_gives j.ends.space (omega (arith, j.room, v.size)) (opening i.answer p.expected (omega arith)) (p.side (omega arith))) i.same (part_kept v))
+        projected v p (λ l. snd_stops (unopened i.answer p.expected l))
+        (λ l. snd_gives j.ends.space (omega (arith, j.room, v.size)) (opening i.answer p.expected l) (p.side l))
 
   -- An application.
   module _ (e : OfKind records m variant.Application) where
@@ -102,21 +104,18 @@ module _ {records code : List ℕ} {stride : ℕ} {scope : List (Option ℕ)} {m
     application_is = application_view own ea refl e
 
     pub application_call : Call records code stride scope mades m a (n + 1)
-    application_call = call j application_is.first j.entries j.slots (omega (arith, j.room, application_is.size))
+    application_call = first_call j application_is
 
     pub application_few : Few records a (n + 1)
-    application_few = few j (n + 1) application_is.first (omega (arith, j.room, application_is.size))
+    application_few = first_few j application_is
 
     module _ {scope' : List (Option ℕ)} {mades' : List Made} {r : ℕ} (i : Inferred records code stride scope mades a (n + 1) scope' mades' r) where
       pub application_space : r < stops → Space code mades' r
       application_space = answer_space i.answer j.ends.space (i.kept.long ∙ j.slots) (omega (arith, j.room, application_is.size))
 
-      function_kept : Kept n (n + nodes (term m)) mades mades'
-      function_kept = kept_wider n (n + nodes (term m)) (omega arith) (omega (arith, application_is.size)) i.kept
-
       module _ {p : ℕ} (x : Expected code mades' r Impl n p) where
         pub application_stop : stops ≤ p → At scope' mades' p
-        application_stop l = inferred_at application_is.is (application_stops (unopened i.answer x l)) i.same function_kept
+        application_stop l = inferred_at application_is.is (application_stops (unopened i.answer x l)) i.same (first_kept j application_is i.kept)
 
         module _ (l : p < stops) where
           opened : Opening code scope mades' (term a) (n + 1) Impl p
@@ -127,11 +126,8 @@ module _ {records code : List ℕ} {stride : ℕ} {scope : List (Option ℕ)} {m
             application_argument = argument_stands j.ends.space opened al
 
             module _ {b next : ℕ} (eb : b ≡ field_at records m 2) (en : After records a (n + 1) next) where
-              argument_room : next + nodes (term b) ≤ n + nodes (term m)
-              argument_room = rw (eb, en labels) (omega (arith, application_is.size))
-
               pub application_next : Call records code stride scope' mades' m b next
-              application_next = call j (rw eb application_is.second) (rw i.same j.entries) (i.kept.long ∙ j.slots) (omega (arith, argument_room, j.room))
+              application_next = second_call j application_is i.kept eb en i.same
 
               pub application_done : {scope'' : List (Option ℕ)} {mades'' : List Made} {q y : ℕ} → Checked records code stride scope' mades' b next argument scope'' mades'' q → ((q ≡ 0 → ⊥) → y ≡ q) → (q ≡ 0 → y ≡ side) → At scope'' mades'' y
               application_done {scope''} {mades''} {q} {y} c stop go =
@@ -140,7 +136,7 @@ module _ {records code : List ℕ} {stride : ℕ} {scope : List (Option ℕ)} {m
                   (λ other. rw (stop other) (inferred_at is (application_fails j.ends.space opened al answer other) same kept))
                 where
                   is : term m ≡ Application (term a) (term b)
-                  is = rw eb application_is.is
+                  is = second_is j application_is i.kept eb en
 
                   answer : ChecksAs code scope (term b) (n + 1 + nodes (term a)) argument q
                   answer = checks_under i.same (en labels) c.answer
@@ -149,7 +145,7 @@ module _ {records code : List ℕ} {stride : ℕ} {scope : List (Option ℕ)} {m
                   same = c.same ∙ i.same
 
                   kept : Kept n (n + nodes (term m)) mades mades''
-                  kept = kept_then function_kept (kept_wider n (n + nodes (term m)) (rw (en labels) (omega arith)) argument_room c.kept)
+                  kept = both_kept j application_is i.kept eb en c.kept
 
   -- An ascription.
   module _ (e : OfKind records m variant.TypeAscription) where
@@ -255,24 +251,18 @@ module _ {records code : List ℕ} {stride : ℕ} {scope : List (Option ℕ)} {m
     pair_is = pair_view own ea refl e
 
     pub pair_call : Call records code stride scope mades m a (n + 1)
-    pair_call = call j pair_is.first j.entries j.slots (omega (arith, j.room, pair_is.size))
+    pair_call = first_call j pair_is
 
     pub pair_few : Few records a (n + 1)
-    pair_few = few j (n + 1) pair_is.first (omega (arith, j.room, pair_is.size))
+    pair_few = first_few j pair_is
 
     module _ {scope' : List (Option ℕ)} {mades' : List Made} {p : ℕ} (i : Inferred records code stride scope mades a (n + 1) scope' mades' p) where
-      first_kept : Kept n (n + nodes (term m)) mades mades'
-      first_kept = kept_wider n (n + nodes (term m)) (omega arith) (omega (arith, pair_is.size)) i.kept
-
       pub pair_stop : stops ≤ p → At scope' mades' p
-      pair_stop l = inferred_at pair_is.is (pair_first i.answer l) i.same first_kept
+      pair_stop l = inferred_at pair_is.is (pair_first i.answer l) i.same (first_kept j pair_is i.kept)
 
       module _ (l : p < stops) {b next : ℕ} (eb : b ≡ field_at records m 2) (en : After records a (n + 1) next) where
-        second_room : next + nodes (term b) ≤ n + nodes (term m)
-        second_room = rw (eb, en labels) (omega (arith, pair_is.size))
-
         pub pair_next : Call records code stride scope' mades' m b next
-        pair_next = call j (rw eb pair_is.second) (rw i.same j.entries) (i.kept.long ∙ j.slots) (omega (arith, second_room, j.room))
+        pair_next = second_call j pair_is i.kept eb en i.same
 
         pub pair_done : {scope'' : List (Option ℕ)} {mades'' last : List Made} {q y : ℕ} → Inferred records code stride scope' mades' b next scope'' mades'' q → Makes mades'' n And p q last y → At scope'' last y
         pair_done {scope''} {mades''} {last} {q} {y} d made = by_cases (dec_le stops q)
@@ -280,11 +270,11 @@ module _ {records code : List ℕ} {stride : ℕ} {scope : List (Option ℕ)} {m
             (λ h.
             let low : q < stops = omega arith in
             rw ((made.made low).0, (made.made low).1)
-            (inferred_at is (pair_gives i.answer l answer slots (omega (arith, en labels, second_room, j.room)) (rw (en labels) at d.kept) low) same
+            (inferred_at is (pair_gives i.answer l answer slots (omega (arith, en labels, second_room j pair_is i.kept eb en, j.room)) (rw (en labels) at d.kept) low) same
             (kept_then kept (kept_wider n (n + nodes (term m)) (omega arith) (omega (arith, pair_is.size)) (slot_kept mades'' n And p q slots (node_low j) (n + 1) (omega arith))))))
           where
             is : term m ≡ Pair (term a) (term b)
-            is = rw eb pair_is.is
+            is = second_is j pair_is i.kept eb en
 
             slots : length mades'' ≡ node_limit
             slots = d.kept.long ∙ i.kept.long ∙ j.slots
@@ -296,7 +286,7 @@ module _ {records code : List ℕ} {stride : ℕ} {scope : List (Option ℕ)} {m
             same = d.same ∙ i.same
 
             kept : Kept n (n + nodes (term m)) mades mades''
-            kept = kept_then first_kept (kept_wider n (n + nodes (term m)) (rw (en labels) (omega arith)) second_room d.kept)
+            kept = both_kept j pair_is i.kept eb en d.kept
 
   -- A case, by what its head infers.
   module _ (e : OfKind records m variant.Case) {scope₁ : List (Option ℕ)} {mades₁ : List Made} {r h : ℕ} (i : Inferred records code stride scope mades a (n + 1) scope₁ mades₁ r)

@@ -7,6 +7,7 @@ pub mod Checking
 pub mod Forms
 pub mod Fallback
 pub mod Steps
+pub mod Parts
 pub mod Labels
 pub mod Cases
 pub mod CheckArms

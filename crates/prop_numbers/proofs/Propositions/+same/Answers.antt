@@ -9,7 +9,7 @@ use Rattle.prop_numbers.specs.Standing.{standing, connective_of}
 use Rattle.prop_numbers.proofs.Halves.{rep_stands, space_of}
 use Rattle.prop_numbers.proofs.Comparing.{left_lighter, right_lighter, Joined, joined, left_known, right_known, alike_other, alike_standing, alike_left, alike_both}
 use Rattle.prop_numbers.proofs.Propositions.+same.Goals as goal
-use Rattle.prop_numbers.proofs.Propositions.+same.Goals.{Else-ne, Joined-else-p-lt-STANDING, Start, else-p-lt-STANDING-via-then-p-lt-STANDING+else-q-lt-STANDING, else-p-lt-STANDING-via-else-p-lt-STANDING}
+use Rattle.prop_numbers.proofs.Propositions.+same.Goals.{Else-ne, Joined-else-p-lt-STANDING, else-p-lt-STANDING-via-then-p-lt-STANDING+else-q-lt-STANDING, else-p-lt-STANDING-via-else-p-lt-STANDING}
 
 -- one of the two is made
 one_made : (t : ℕ) → (c : Joined-else-p-lt-STANDING t) → (standing ≤ c.args.q) ⊎ (standing ≤ c.args.p)
